@@ -1,0 +1,12 @@
+//! Rows, keys and their bytes: what every layer of the index builder speaks of.
+//!
+//! A [`Row`] is a list of cells, and a [`KeySpec`] says which of its columns make a key. Key bytes compare, as lists
+//! of bytes, the way the columns compare, and no key of a specification begins another: so the layers above sort,
+//! merge and search bytes, and never look into a key.
+#![tactic(auto)]
+
+mod fault;
+mod rid;
+
+pub use fault::Fault;
+pub use rid::Rid;
