@@ -1,1 +1,4 @@
+pub mod Cells
 pub mod Faults
+pub mod Rows
+pub mod Schemas

@@ -5,8 +5,18 @@
 //! merge and search bytes, and never look into a key.
 #![tactic(auto)]
 
+mod cell;
 mod fault;
+mod kind;
 mod rid;
+mod row;
+mod schema;
+mod text;
 
+pub use cell::{Cell, TEXT_MAX};
 pub use fault::Fault;
+pub use kind::Kind;
 pub use rid::Rid;
+pub use row::{CELLS_MAX, Row};
+pub use schema::{COLUMNS_MAX, Schema};
+pub use text::Text;

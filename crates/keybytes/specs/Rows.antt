@@ -1,0 +1,40 @@
+-- Rows and their bytes.
+use Rattle.std.specs.Prelude.{ℕ, ◌≤◌, ◌<◌, nat_lt, nat_le, Bool, ◌&&◌, List, [], ◌∷◌, length, Option, Some, None, if◌then◌else◌}
+use Rattle.std.specs.List.{All, list_all, flat_map}
+use Rattle.std.specs.Int.{w64, cast_unsigned, to_be_bytes}
+use Rattle.keybytes.specs.Cells.{IsCell, is_short, fits}
+use Rattle.keybytes.specs.declared.cell.Cell.{Cell}
+use Rattle.keybytes.specs.declared.cell.Cell.TheVariants.{Null, Int, Text, Flag}
+use Rattle.keybytes.specs.declared.kind.Kind.{Kind}
+use Rattle.keybytes.specs.declared.fault.Fault.{Fault}
+use Rattle.keybytes.specs.declared.fault.Fault.TheVariants.{RowShape, TextTooLong}
+
+-- a row has 1 to 12 cells, each of which a row may hold
+pub record IsRow (cells : List Cell) : Type 0 where
+  pub some : 0 < length cells
+  pub few : length cells ≤ 12
+  pub each : All IsCell cells
+
+-- whether there are as many cells as a row may have
+abbrev pub has_row_length : List Cell → Bool
+has_row_length cells = nat_lt 0 (length cells) && nat_le (length cells) 12
+
+-- why these cells make no row: their number is looked at before their texts
+abbrev pub row_refusal : List Cell → Option Fault
+row_refusal cells =
+    if has_row_length cells then (if list_all is_short cells then None else Some TextTooLong) else Some RowShape
+
+-- why a table of these columns takes no such row
+abbrev pub shape_refusal : List Kind → List Cell → Option Fault
+shape_refusal kinds cells = if fits kinds cells then None else Some RowShape
+
+-- the bytes of a cell in a row: a tag, and what follows it
+abbrev pub cell_bytes : Cell → List ℕ
+cell_bytes Null = 0 ∷ []
+cell_bytes (Int number) = 1 ∷ to_be_bytes w64 (cast_unsigned w64 number)
+cell_bytes (Text bytes) = 1 ∷ length bytes ∷ bytes
+cell_bytes (Flag flag) = 1 ∷ (if flag then 1 else 0) ∷ []
+
+-- the bytes of a row: its cells', one after the other
+abbrev pub row_bytes : List Cell → List ℕ
+row_bytes cells = flat_map cell_bytes cells

@@ -1,0 +1,7 @@
+/// What a column's cells are, Null aside: every column takes Null.
+#[derive(Clone, Copy, Debug, PartialEq, Eq)]
+pub enum Kind {
+    Int,
+    Text,
+    Flag,
+}
