@@ -1,4 +1,5 @@
 pub mod Cells
 pub mod Faults
+pub mod KeyRoom
 pub mod Rows
 pub mod Schemas

@@ -7,6 +7,7 @@
 
 mod cell;
 mod fault;
+mod key;
 mod kind;
 mod rid;
 mod row;
@@ -15,6 +16,7 @@ mod text;
 
 pub use cell::{Cell, TEXT_MAX};
 pub use fault::Fault;
+pub use key::{KEY_MAX, Key};
 pub use kind::Kind;
 pub use rid::Rid;
 pub use row::{CELLS_MAX, Row};

@@ -1,0 +1,131 @@
+ghost use Rattle.std.specs.Prelude.{◌≡◌, ◌+◌, ◌≤◌, ◌++◌, [], length, take, IsOk, IfOk, IfErr, OnOk, OnErr};
+
+use crate::Fault;
+use smallvec::SmallVec;
+use std::alloc::Global;
+use std::cmp::Ordering;
+use std::marker::Model;
+
+/// The greatest number of bytes of a key: four texts of a hundred bytes 0, each escaped, with a tag and an end mark.
+pub const KEY_MAX: usize = 812;
+
+/// The bytes that a key keeps in place; a longer key lies in memory of its own.
+const INLINE: usize = 24;
+
+/// The bytes of a key, at most [`KEY_MAX`], in the order of lists of bytes. Contracts see the list of the bytes.
+#[derive(Debug, Drop)]
+pub struct Key {
+    bytes: SmallVec<u8, INLINE>,
+}
+
+impl Model for Key {
+    ghost use Rattle.std.specs.Prelude.{ℕ, ◌≤◌, List, length};
+    ghost use Rattle.keybytes.specs.KeyRoom.{HasRoom};
+
+    ghost Value = { List ℕ };
+
+    ghost view = { λ key. key.bytes.items };
+
+    ghost invariant = { λ key. HasRoom (length key.bytes.items) key.bytes.capacity };
+}
+
+impl Key {
+    /// The empty key.
+    pub fn new(alloc: Global) -> Key
+        ensures { result ≡ [] }
+    {
+        Key {
+            bytes: SmallVec::new(alloc),
+        }
+    }
+
+    pub fn bytes(&self) -> &[u8]
+        ensures bytes { result.now ≡ self.now }
+        ensures short { length self.now ≤ 812 }
+    {
+        self.bytes.as_slice()
+    }
+
+    /// Keeps the first `len` bytes.
+    pub fn cut(&mut self, len: usize)
+        requires { len ≤ length self.old }
+        ensures { self.new ≡ take len self.old }
+    {
+        self.bytes.truncate(len);
+    }
+
+    /// Puts bytes behind those that are there; up to 24 in all take no memory.
+    pub fn add(&mut self, bytes: &[u8]) -> Result<(), Fault>
+        requires { length self.old + length bytes.now ≤ 812 }
+        ensures ok { OnOk result (self.new ≡ self.old ++ bytes.now) }
+        ensures memory { IfErr result (λ fault. fault ≡ Fault.Memory) }
+        ensures err { OnErr result (self.new ≡ self.old) }
+        ensures inline { length self.old + length bytes.now ≤ 24 → IsOk result }
+    {
+        self.bytes.extend_from_slice(bytes)?;
+        Ok(())
+    }
+
+    /// A copy; one of up to 24 bytes takes no memory.
+    pub fn clone(&self) -> Result<Key, Fault>
+        ensures same { IfOk result (λ key. key ≡ self.now) }
+        ensures memory { IfErr result (λ fault. fault ≡ Fault.Memory) }
+        ensures inline { length self.now ≤ 24 → IsOk result }
+    {
+        let mut key = Key::new(*self.bytes.allocator());
+        key.add(self.bytes.as_slice())?;
+        Ok(key)
+    }
+}
+
+impl PartialEq for Key {
+    ghost use Rattle.std.specs.Prelude.{nat_eq};
+    ghost use Rattle.std.specs.Cmp.{partial_equiv_from_equiv};
+    ghost use Rattle.std.specs.Cmp.Lexicographic.{pointwise, nat_list_eq_equiv};
+
+    ghost eq = { pointwise nat_eq };
+
+    ghost laws = { partial_equiv_from_equiv nat_list_eq_equiv };
+
+    fn eq(&self, other: &Self) -> bool {
+        self.bytes() == other.bytes()
+    }
+}
+
+impl Eq for Key {
+    ghost use Rattle.std.specs.Cmp.Lexicographic.{nat_list_eq_equiv};
+
+    ghost laws = { nat_list_eq_equiv };
+}
+
+impl PartialOrd for Key {
+    ghost use Rattle.std.specs.Prelude.{Some};
+    ghost use Rattle.std.specs.Ordering.{nat_cmp};
+    ghost use Rattle.std.specs.Cmp.Lexicographic.{slice_cmp, texts_po};
+
+    ghost partial_cmp = { λ key other. Some (slice_cmp nat_cmp key other) };
+
+    ghost laws = { texts_po };
+
+    fn partial_cmp(&self, other: &Self) -> Option<Ordering> {
+        Some(self.cmp(other))
+    }
+}
+
+impl Ord for Key {
+    ghost use Rattle.std.specs.Prelude.{refl};
+    ghost use Rattle.std.specs.Ordering.{nat_cmp};
+    ghost use Rattle.std.specs.Cmp.Lexicographic.{slice_cmp, nat_list_cmp_total, texts_ties};
+
+    ghost cmp = { slice_cmp nat_cmp };
+
+    ghost total = { nat_list_cmp_total };
+
+    ghost matches_partial_cmp = { λ key other. refl };
+
+    ghost matches_eq = { λ key other. texts_ties key other };
+
+    fn cmp(&self, other: &Self) -> Ordering {
+        self.bytes().cmp(&other.bytes())
+    }
+}
