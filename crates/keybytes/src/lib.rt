@@ -11,6 +11,7 @@ mod key;
 mod kind;
 mod rid;
 mod row;
+mod row_bytes;
 mod schema;
 mod text;
 

@@ -1,7 +1,11 @@
-ghost use Rattle.std.specs.Prelude.{◌≡◌, ◌≢◌, ◌≤◌, ◌<◌, length, IfOk, IfErr, OnOk, Some, None};
-ghost use Rattle.keybytes.specs.Rows.{IsRow, row_bytes, row_refusal, shape_refusal};
+ghost use Rattle.std.specs.Prelude.{List, ◌≡◌, ◌≢◌, ◌≤◌, ◌<◌, length, IfOk, IfErr, OnOk, Some, None};
+ghost use Rattle.keybytes.specs.declared.cell.Cell.{Cell};
+ghost use Rattle.keybytes.specs.Rows.{IsRow, row_bytes, row_refusal, shape_refusal, Spells, RefusesRow};
+ghost use Rattle.keybytes.specs.Cells.{fits};
 
-use crate::{Cell, Fault, Schema};
+use crate::row_bytes::{push_cell, read_cell};
+use crate::{Cell, Fault, Kind, Schema};
+use std::alloc::Global;
 use std::marker::Model;
 
 /// The greatest number of cells of a row.
@@ -62,4 +66,65 @@ impl Row {
         }
         Ok(Row { cells })
     }
+
+    /// Whether the row has a table's columns: as many cells, each of its column's kind or Null.
+    pub fn fits(&self, schema: &Schema) -> bool
+        ensures { result ≡ fits schema.now self.now }
+    {
+        cells_fit(schema.kinds(), self.cells())
+    }
+
+    /// The bytes of the row, 1 to 1,224 of them; a row that does not fit the columns is [`Fault::RowShape`].
+    pub fn to_bytes(&self, schema: &Schema) -> Result<Vec<u8>, Fault>
+        ensures ok { IfOk result (λ bytes. bytes.items ≡ row_bytes self.now) }
+        ensures accepted { OnOk result (shape_refusal schema.now self.now ≡ None) }
+        ensures refused { IfErr result (λ fault. fault ≢ Fault.Memory → shape_refusal schema.now self.now ≡ Some fault) }
+        ensures some { IfOk result (λ bytes. 0 < length bytes.items) }
+        ensures size { IfOk result (λ bytes. length bytes.items ≤ 1224) }
+    {
+        if !self.fits(schema) {
+            return Err(Fault::RowShape);
+        }
+        let mut bytes = Vec::new(*self.cells.allocator());
+        for cell in &self.cells {
+            push_cell(&mut bytes, cell)?;
+        }
+        Ok(bytes)
+    }
+
+    /// Reads the bytes of a row that fits the columns. A text's length above 100 is [`Fault::TextTooLong`] where the
+    /// bytes leave the spelling there first; every other departure is [`Fault::RowShape`].
+    pub fn read(alloc: Global, bytes: &[u8], schema: &Schema) -> Result<Row, Fault>
+        ensures ok { IfOk result (λ row. Spells schema.now bytes.now row) }
+        ensures alone { IfOk result (λ row. (cells : List Cell) → Spells schema.now bytes.now cells → cells ≡ row) }
+        ensures refused { IfErr result (λ fault. fault ≢ Fault.Memory → RefusesRow schema.now bytes.now fault) }
+    {
+        let kinds = schema.kinds();
+        let mut cells = Vec::with_capacity(alloc, kinds.len())?;
+        let mut rest = bytes;
+        for kind in kinds {
+            let (cell, after) = read_cell(alloc, *kind, rest)?;
+            cells.push(cell)?;
+            rest = after;
+        }
+        if !rest.is_empty() {
+            return Err(Fault::RowShape);
+        }
+        Ok(Row { cells })
+    }
+}
+
+/// Whether the cells are as many as the kinds, and each of its kind.
+fn cells_fit(kinds: &[Kind], cells: &[Cell]) -> bool
+    ensures { result ≡ fits kinds.now cells.now }
+{
+    if kinds.len() != cells.len() {
+        return false;
+    }
+    for (i, kind) in kinds.iter().enumerate() {
+        if !cells[i].fits(*kind) {
+            return false;
+        }
+    }
+    true
 }
