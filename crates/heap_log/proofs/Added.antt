@@ -1,0 +1,141 @@
+-- Which writes stand once a record is added: those of a transaction, and those at a RID, by one test of the records.
+use Rattle.std.proofs.Common.{◌≡◌, ℕ, ◌+◌, ◌-◌, ◌<◌, ◌≤◌, Bool, true, false, cond, List, [], ◌∷◌, ◌++◌, length, Option, Some, None, refl, sym, ap, ◌∙◌, arith, inl, inr}
+use Rattle.std.specs.Prelude.{◌||◌, ◌&&◌, not}
+use Rattle.std.proofs.lemmas.Bool.{cases_eq, cases_Bool, ne_eqb, eq-eqb, eqb-true, and_right, not_from_true, false≢true, cond-true, cond-false}
+use Rattle.heap_log.specs.declared.record.LogRec.{LogRec}
+use Rattle.heap_log.specs.declared.record.LogRec.TheVariants.{Write, Undo, Commit, Switch}
+use Rattle.heap_log.specs.Standing.{record_at, undone, is_undo_of, is_number, is_write_of, last_below, count_below, newest_standing, standing_count, newest_after, count_after, AddsToStanding, NamesEarlier}
+use Rattle.heap_log.proofs.Last.{IsLast, last_below-more, last_below_agree, last_below_some, last_below_taken, last_below_without, count_below-more, count_below_agree, count_below_taken}
+use Rattle.heap_log.proofs.Grown.{record_at-kept, record_at-added, length-added, undone-added, or_no, or_false, undo_within}
+
+-- whether that number is a standing record that passes the test
+abbrev pub stands_by : (Option LogRec → Bool) → List LogRec → ℕ → Bool
+stands_by test log n = test (record_at log n) && not (undone log n)
+
+-- the newest of them
+abbrev pub newest_by : (Option LogRec → Bool) → List LogRec → Option ℕ
+newest_by test log = last_below (stands_by test log) (length log + 1)
+
+-- how many there are
+abbrev pub count_by_test : (Option LogRec → Bool) → List LogRec → ℕ
+count_by_test test log = count_below (stands_by test log) (length log + 1)
+
+and_true : (b : Bool) → (b && true) ≡ b
+and_true true = refl
+and_true false = refl
+
+or_true : (b : Bool) → (b || true) ≡ true
+or_true true = refl
+or_true false = refl
+
+-- nothing names a record that isn't there yet
+pub undone-fresh : (log : List LogRec) (rec : LogRec) → undone log (length log + 1) ≡ false → NamesEarlier (length log) rec → undone (log ++ rec ∷ []) (length log + 1) ≡ false
+undone-fresh log rec e names =
+    undone-added log rec (length log + 1) ∙ or_false (undone log (length log + 1)) (is_undo_of (length log + 1) rec) e (undo_within (length log) (length log + 1) rec names (omega arith))
+
+-- the new record stands if it passes the test
+seam : (log : List LogRec) (rec : LogRec) (test : Option LogRec → Bool) → undone (log ++ rec ∷ []) (length log + 1) ≡ false → stands_by test (log ++ rec ∷ []) (length log + 1) ≡ test (Some rec)
+seam log rec test e = rw (e, record_at-added log rec) (and_true (test (Some rec)))
+
+-- what the record doesn't undo stands as before
+keeps : (log : List LogRec) (rec : LogRec) (test : Option LogRec → Bool) (k : ℕ) → is_undo_of k rec ≡ false → k < length log + 1 → stands_by test (log ++ rec ∷ []) k ≡ stands_by test log k
+keeps log rec test k none l =
+    rw (record_at-kept log rec k l) (ap (λ b. test (record_at log k) && not b) (undone-added log rec k ∙ ap (λ b. undone log k || b) none ∙ or_no (undone log k)))
+
+undone-now : (log : List LogRec) (txn n : ℕ) → undone (log ++ Undo txn n ∷ []) n ≡ true
+undone-now log txn n = undone-added log (Undo txn n) n ∙ ap (λ b. undone log n || b) (eq-eqb n n refl) ∙ or_true (undone log n)
+
+taken : (log : List LogRec) (test : Option LogRec → Bool) (txn n : ℕ) → stands_by test (log ++ Undo txn n ∷ []) n ≡ false
+taken log test txn n =
+    and_right (test (record_at (log ++ Undo txn n ∷ []) n)) (not (undone (log ++ Undo txn n ∷ []) n)) (not_from_true (undone (log ++ Undo txn n ∷ []) n) (undone-now log txn n))
+
+others : (log : List LogRec) (test : Option LogRec → Bool) (txn n k : ℕ) → k < length log + 1 → (k ≡ n → ⊥) → stands_by test (log ++ Undo txn n ∷ []) k ≡ stands_by test log k
+others log test txn n k l ne = keeps log (Undo txn n) test k (ne_eqb n k (λ e. ne (sym e))) l
+
+newest-seam : (log : List LogRec) (rec : LogRec) (test : Option LogRec → Bool) → undone (log ++ rec ∷ []) (length log + 1) ≡ false → newest_by test (log ++ rec ∷ []) ≡ cond (test (Some rec)) (Some (length log + 1)) (last_below (stands_by test (log ++ rec ∷ [])) (length log + 1))
+newest-seam log rec test e =
+    let new : List LogRec = log ++ rec ∷ [] in
+    let n : ℕ = length log + 1 in
+    ap (λ k. last_below (stands_by test new) (k + 1)) (length-added log rec)
+    ∙ last_below-more (stands_by test new) n
+    ∙ ap (λ b. cond b (Some n) (last_below (stands_by test new) n)) (seam log rec test e)
+
+count-seam : (log : List LogRec) (rec : LogRec) (test : Option LogRec → Bool) → undone (log ++ rec ∷ []) (length log + 1) ≡ false → count_by_test test (log ++ rec ∷ []) ≡ cond (test (Some rec)) (count_below (stands_by test (log ++ rec ∷ [])) (length log + 1) + 1) (count_below (stands_by test (log ++ rec ∷ [])) (length log + 1))
+count-seam log rec test e =
+    let new : List LogRec = log ++ rec ∷ [] in
+    let n : ℕ = length log + 1 in
+    ap (λ k. count_below (stands_by test new) (k + 1)) (length-added log rec)
+    ∙ count_below-more (stands_by test new) n
+    ∙ ap (λ b. cond b (count_below (stands_by test new) n + 1) (count_below (stands_by test new) n)) (seam log rec test e)
+
+-- a record that undoes nothing
+pub newest-plain : (log : List LogRec) (rec : LogRec) (test : Option LogRec → Bool) → undone (log ++ rec ∷ []) (length log + 1) ≡ false → ((k : ℕ) → is_undo_of k rec ≡ false) → newest_by test (log ++ rec ∷ []) ≡ cond (test (Some rec)) (Some (length log + 1)) (newest_by test log)
+newest-plain log rec test e none =
+    newest-seam log rec test e
+    ∙ ap (cond (test (Some rec)) (Some (length log + 1))) (last_below_agree (stands_by test (log ++ rec ∷ [])) (stands_by test log) (length log + 1) (λ k l. keeps log rec test k (none k) l))
+
+pub count-plain : (log : List LogRec) (rec : LogRec) (test : Option LogRec → Bool) → undone (log ++ rec ∷ []) (length log + 1) ≡ false → ((k : ℕ) → is_undo_of k rec ≡ false) → count_by_test test (log ++ rec ∷ []) ≡ cond (test (Some rec)) (count_by_test test log + 1) (count_by_test test log)
+count-plain log rec test e none =
+    count-seam log rec test e
+    ∙ ap (λ c. cond (test (Some rec)) (c + 1) c) (count_below_agree (stands_by test (log ++ rec ∷ [])) (stands_by test log) (length log + 1) (λ k l. keeps log rec test k (none k) l))
+
+pub is_number-true : (n : ℕ) (o : Option ℕ) → is_number n o ≡ true → o ≡ Some n
+is_number-true n None e = absurd (false≢true e)
+is_number-true n (Some m) e = ap Some (eqb-true m n e)
+
+pub is_number-false : (n : ℕ) (o : Option ℕ) → is_number n o ≡ false → o ≡ Some n → ⊥
+is_number-false n o e is = false≢true (sym e ∙ ap (is_number n) is ∙ eq-eqb n n refl)
+
+-- an undo: the newest one gives way to the one before it, and no other is the newest
+pub newest-undo : (log : List LogRec) (txn n : ℕ) (test : Option LogRec → Bool) → undone (log ++ Undo txn n ∷ []) (length log + 1) ≡ false → test (Some (Undo txn n)) ≡ false → newest_by test (log ++ Undo txn n ∷ []) ≡ cond (is_number n (newest_by test log)) (last_below (stands_by test log) n) (newest_by test log)
+newest-undo log txn n test e passed =
+    let old : ℕ → Bool = stands_by test log in
+    let new : ℕ → Bool = stands_by test (log ++ Undo txn n ∷ []) in
+    let below : newest_by test (log ++ Undo txn n ∷ []) ≡ last_below new (length log + 1) =
+    newest-seam log (Undo txn n) test e ∙ cond-false (test (Some (Undo txn n))) (Some (length log + 1)) (last_below new (length log + 1)) passed in
+    elim (cases_Bool (is_number n (newest_by test log))) [
+      | inl hit ↦
+          let last : IsLast old (length log + 1) n = last_below_some old (length log + 1) n (is_number-true n (newest_by test log) hit) in
+          below ∙ last_below_taken old new (length log + 1) n last (taken log test txn n) (others log test txn n)
+          ∙ sym (cond-true (is_number n (newest_by test log)) (last_below old n) (newest_by test log) hit)
+      | inr miss ↦
+          below ∙ last_below_without old new (length log + 1) n (is_number-false n (newest_by test log) miss) (taken log test txn n) (others log test txn n)
+          ∙ sym (cond-false (is_number n (newest_by test log)) (last_below old n) (newest_by test log) miss)
+    ]
+
+pub count-undo : (log : List LogRec) (txn n : ℕ) (test : Option LogRec → Bool) → undone (log ++ Undo txn n ∷ []) (length log + 1) ≡ false → test (Some (Undo txn n)) ≡ false → n ≤ length log → count_by_test test (log ++ Undo txn n ∷ []) ≡ cond (stands_by test log n) (count_by_test test log - 1) (count_by_test test log)
+count-undo log txn n test e passed within =
+    let old : ℕ → Bool = stands_by test log in
+    let new : ℕ → Bool = stands_by test (log ++ Undo txn n ∷ []) in
+    let below : count_by_test test (log ++ Undo txn n ∷ []) ≡ count_below new (length log + 1) =
+    count-seam log (Undo txn n) test e ∙ cond-false (test (Some (Undo txn n))) (count_below new (length log + 1) + 1) (count_below new (length log + 1)) passed in
+    elim (cases_Bool (stands_by test log n)) [
+      | inl hit ↦
+          let less : count_below new (length log + 1) + 1 ≡ count_below old (length log + 1) = count_below_taken old new (length log + 1) n (omega arith) hit (taken log test txn n) (others log test txn n) in
+          let fewer : count_below new (length log + 1) ≡ count_below old (length log + 1) - 1 = omega (arith, less) in
+          below ∙ fewer ∙ sym (cond-true (stands_by test log n) (count_by_test test log - 1) (count_by_test test log) hit)
+      | inr miss ↦
+          below ∙ count_below_agree new old (length log + 1) (λ k l. elim (cases_eq k n) [
+            | inl is ↦ ap new is ∙ taken log test txn n ∙ sym (ap old is ∙ miss)
+            | inr ne ↦ others log test txn n k l ne
+          ]) ∙ sym (cond-false (stands_by test log n) (count_by_test test log - 1) (count_by_test test log) miss)
+    ]
+
+newest-of : (log : List LogRec) (rec : LogRec) (txn : ℕ) → undone log (length log + 1) ≡ false → NamesEarlier (length log) rec → newest_standing (log ++ rec ∷ []) txn ≡ newest_after log rec txn
+newest-of log (Write t rid row) txn e names = newest-plain log (Write t rid row) (is_write_of txn) (undone-fresh log (Write t rid row) e names) (λ k. refl)
+newest-of log (Undo t n) txn e names = newest-undo log t n (is_write_of txn) (undone-fresh log (Undo t n) e names) refl
+newest-of log (Commit t) txn e names = newest-plain log (Commit t) (is_write_of txn) (undone-fresh log (Commit t) e names) (λ k. refl)
+newest-of log (Switch v) txn e names = newest-plain log (Switch v) (is_write_of txn) (undone-fresh log (Switch v) e names) (λ k. refl)
+
+count-of : (log : List LogRec) (rec : LogRec) (txn : ℕ) → undone log (length log + 1) ≡ false → NamesEarlier (length log) rec → standing_count (log ++ rec ∷ []) txn ≡ count_after log rec txn
+count-of log (Write t rid row) txn e names = count-plain log (Write t rid row) (is_write_of txn) (undone-fresh log (Write t rid row) e names) (λ k. refl)
+count-of log (Undo t n) txn e names = count-undo log t n (is_write_of txn) (undone-fresh log (Undo t n) e names) refl names
+count-of log (Commit t) txn e names = count-plain log (Commit t) (is_write_of txn) (undone-fresh log (Commit t) e names) (λ k. refl)
+count-of log (Switch v) txn e names = count-plain log (Switch v) (is_write_of txn) (undone-fresh log (Switch v) e names) (λ k. refl)
+
+-- what a record does to the standing writes of each transaction
+pub adds_to_standing : (log : List LogRec) (rec : LogRec) → undone log (length log + 1) ≡ false → NamesEarlier (length log) rec → AddsToStanding log rec (log ++ rec ∷ [])
+adds_to_standing log rec e names = record {
+  newest = λ txn. newest-of log rec txn e names;
+  count = λ txn. count-of log rec txn e names;
+}

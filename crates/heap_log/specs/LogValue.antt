@@ -1,0 +1,8 @@
+-- The log as its callers see it.
+use Rattle.std.specs.Prelude.{ℕ, List}
+use Rattle.heap_log.specs.declared.record.LogRec.{LogRec}
+
+-- the records in order, and how many more can be added without taking memory
+pub record LogValue : Type 0 where
+  pub records : List LogRec
+  pub room : ℕ

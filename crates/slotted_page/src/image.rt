@@ -1,0 +1,117 @@
+//! The bytes of a page, as a copy of it has them. Numbers have two bytes, the high one first.
+//!
+//! A head of 8 bytes has the magic bytes, the number of slots, the floor below which no row begins, and zeros. Behind it
+//! stands an entry of 6 bytes for each slot: where its row begins, the row's length, and the slot's reserve. A free slot
+//! has three zeros, and a held one the offset 0 with a length that no row has.
+
+ghost use Rattle.std.specs.Prelude.{◌≡◌, ◌+◌, ◌*◌, ◌<◌, ◌≤◌, ◌++◌, length, take, drop, get_or, IfSome, MatchOption};
+ghost use Rattle.std.specs.List.{flat_map};
+ghost use Rattle.slotted_page.specs.Slot.{free, bytes_of, IsRowSize};
+ghost use Rattle.slotted_page.specs.Image.{number_at, entry_bytes, head_bytes, slots_in, KeepsFormat};
+
+use crate::entry::{Entry, MAX_SLOTS};
+use byteorder::{BigEndian, ByteOrder};
+
+/// The bytes of a page.
+pub const PAGE_SIZE: usize = 4096;
+
+/// The bytes before the first slot's entry.
+pub(crate) const HEAD_SIZE: usize = 8;
+/// The bytes of a slot's entry.
+pub(crate) const ENTRY_SIZE: usize = 6;
+
+// Where the numbers of the head stand.
+const COUNT_AT: usize = 2;
+const FLOOR_AT: usize = 4;
+
+// Where the numbers of an entry stand.
+const OFFSET_AT: usize = 0;
+const LENGTH_AT: usize = 2;
+const RESERVE_AT: usize = 4;
+
+/// "SP", as a number.
+const MAGIC: u16 = 0x5350;
+/// The length in a held slot's entry.
+const HELD: u16 = 0xffff;
+
+fn write_at(image: &mut [u8; PAGE_SIZE], at: usize, bytes: &[u8])
+    requires { at + length bytes.now ≤ PAGE_SIZE }
+    ensures { image.new ≡ take at image.old ++ (bytes.now ++ drop (at + length bytes.now) image.old) }
+{
+    image[at..at + bytes.len()].copy_from_slice(bytes);
+}
+
+/// Writes the head.
+pub(crate) fn write_head(image: &mut [u8; PAGE_SIZE], count: u16, floor: u16)
+    ensures { image.new ≡ head_bytes count floor ++ drop 8 image.old }
+{
+    let mut head = [0; HEAD_SIZE];
+    BigEndian::write_u16(&mut head, MAGIC);
+    BigEndian::write_u16(&mut head[COUNT_AT..], count);
+    BigEndian::write_u16(&mut head[FLOOR_AT..], floor);
+    write_at(image, 0, &head);
+}
+
+fn entry_to_bytes(entry: Entry) -> [u8; ENTRY_SIZE]
+    ensures { result ≡ entry_bytes entry }
+{
+    let (offset, length, reserve) = match entry {
+        Entry::Free => (0, 0, 0),
+        Entry::Held { reserve } => (0, HELD, reserve),
+        Entry::Row {
+            offset,
+            length,
+            reserve,
+        } => (offset, length, reserve),
+    };
+    let mut bytes = [0; ENTRY_SIZE];
+    BigEndian::write_u16(&mut bytes[OFFSET_AT..], offset);
+    BigEndian::write_u16(&mut bytes[LENGTH_AT..], length);
+    BigEndian::write_u16(&mut bytes[RESERVE_AT..], reserve);
+    bytes
+}
+
+/// Writes the entries, behind the head.
+pub(crate) fn write_entries(image: &mut [u8; PAGE_SIZE], entries: &[Entry])
+    requires { length entries.now ≤ MAX_SLOTS }
+    ensures { image.new ≡ (take 8 image.old ++ flat_map entry_bytes entries.now) ++ drop (8 + 6 * length entries.now) image.old }
+{
+    for (i, entry) in entries.iter().enumerate() {
+        write_at(image, HEAD_SIZE + ENTRY_SIZE * i, &entry_to_bytes(*entry));
+    }
+}
+
+fn number_in(image: &[u8; PAGE_SIZE], at: usize) -> u16
+    requires { at + 2 ≤ PAGE_SIZE }
+    ensures { result ≡ number_at image.now at }
+{
+    BigEndian::read_u16(&image[at..])
+}
+
+/// The number of slots on a copied page.
+pub fn image_slots(image: &[u8; PAGE_SIZE]) -> u16
+    requires { KeepsFormat image.now }
+    ensures { result ≡ length (slots_in image.now) }
+{
+    number_in(image, COUNT_AT)
+}
+
+/// The row in a slot of a copied page. A slot that is free, held or not on the page has none.
+pub fn image_row(image: &[u8; PAGE_SIZE], slot: u16) -> Option<&[u8]>
+    requires { KeepsFormat image.now }
+    ensures bytes { MatchOption result
+        (bytes_of (get_or (slots_in image.now) slot free) ≡ None)
+        (λ bytes. bytes_of (get_or (slots_in image.now) slot free) ≡ Some bytes.now) }
+    ensures size { IfSome result (λ bytes. IsRowSize (length bytes.now)) }
+{
+    if slot >= image_slots(image) {
+        return None;
+    }
+    let at = HEAD_SIZE + ENTRY_SIZE * slot as usize;
+    let offset = number_in(image, at + OFFSET_AT) as usize;
+    if offset == 0 {
+        return None;
+    }
+    let length = number_in(image, at + LENGTH_AT) as usize;
+    Some(&image[offset..offset + length])
+}

@@ -1,0 +1,348 @@
+ghost use Rattle.std.specs.Prelude.{◌≡◌, ◌↔◌, ◌+◌, ◌^◌, ◌<◌, ◌≤◌, [], length, cond, max, true, false, IsTrue, IfOk, OnErr, IfErr, IfSome, MatchResult, MatchOption, Some, None};
+ghost use Rattle.slotted_page.specs.Slot.{free, held, row, bytes_of, trimmed, total_reserve, rows_from, IsRow, IsHeld, IsTaken, IsRowSize};
+ghost use Rattle.slotted_page.specs.Page.{slot_at, reserve_at, with_slot, taken_bytes, has_room, room_for, fits_at, CanReserve, IsSoundPage};
+ghost use Rattle.slotted_page.specs.Rows.{rows_left};
+ghost use Rattle.slotted_page.specs.Image.{slots_in, KeepsFormat};
+
+use crate::Rows;
+use crate::area::{pack_among, store_among, write_over};
+use crate::entry::{Entry, MAX_ROW_SIZE, MAX_SLOTS, first_free};
+use crate::image::{ENTRY_SIZE, HEAD_SIZE, PAGE_SIZE, write_entries, write_head};
+use keybytes::Fault;
+use std::marker::Model;
+
+/// A page: its slots, and the limit on their number.
+///
+/// Rows are given and read as bytes. Where a call is refused, the page stays as it was.
+#[derive(Drop)]
+pub struct Page {
+    area: [u8; PAGE_SIZE],
+    /// The directory, of which the first `count` entries are slots.
+    entries: [Entry; MAX_SLOTS],
+    count: usize,
+    limit: usize,
+    /// No row's bytes begin below this place of the area.
+    floor: usize,
+    /// The sum of all reserves.
+    reserved: usize,
+}
+
+impl Model for Page {
+    ghost use Rattle.std.specs.Prelude.{take};
+    ghost use Rattle.slotted_page.specs.Page.{PageValue};
+    ghost use Rattle.slotted_page.specs.Entry.{slots_of};
+    ghost use Rattle.slotted_page.specs.Fields.{IsPage};
+
+    ghost Value = { PageValue };
+
+    ghost view = { λ p. record { slots = slots_of p.area (take p.count p.entries); limit = p.limit } };
+
+    ghost invariant = { λ p. IsPage p.area p.entries p.count p.limit p.floor p.reserved };
+}
+
+impl Page {
+    /// A page with no slots, which can have up to `slot_limit` of them. A limit of 0 is refused.
+    pub fn new(slot_limit: u8) -> Result<Page, Fault>
+        ensures limit { MatchResult result (λ _. 0 < slot_limit) (λ _. slot_limit ≡ 0) }
+        ensures empty { IfOk result (λ page. page ≡ record { slots = []; limit = slot_limit }) }
+        ensures bad_count { IfErr result (λ fault. fault ≡ Fault.BadCount) }
+    {
+        if slot_limit == 0 {
+            return Err(Fault::BadCount);
+        }
+        Ok(Page {
+            area: [0; PAGE_SIZE],
+            entries: [Entry::Free; MAX_SLOTS],
+            count: 0,
+            limit: slot_limit as usize,
+            floor: PAGE_SIZE,
+            reserved: 0,
+        })
+    }
+
+    /// Puts a row into the lowest free slot, or else into a new one, and returns the slot. `room` says beforehand which
+    /// it will be.
+    pub fn insert(&mut self, bytes: &[u8]) -> Result<u16, Fault>
+        requires { IsRowSize (length bytes.now) }
+        ensures slot { MatchResult result
+            (λ slot. room_for self.old (length bytes.now) ≡ Some slot)
+            (λ _. room_for self.old (length bytes.now) ≡ None) }
+        ensures inserted { IfOk result
+            (λ slot. self.new ≡ with_slot self.old slot (row bytes.now (length bytes.now))) }
+        ensures page_full { IfErr result (λ fault. fault ≡ Fault.PageFull) }
+        ensures unchanged { OnErr result (self.new ≡ self.old) }
+    {
+        let Some(slot) = self.room(bytes.len()) else {
+            return Err(Fault::PageFull);
+        };
+        self.open_slot(slot as usize);
+        self.put_row(slot as usize, bytes.len() as u16, bytes);
+        Ok(slot)
+    }
+
+    /// Gives a row other bytes. Its reserve grows to their number, and does not shrink. `fits` says beforehand whether
+    /// the page has the room.
+    pub fn update(&mut self, slot: u16, bytes: &[u8]) -> Result<(), Fault>
+        requires is_row { IsRow (slot_at self.old slot) }
+        requires size { IsRowSize (length bytes.now) }
+        ensures fits { MatchResult result
+            (λ _. fits_at self.old slot (length bytes.now) ≡ true)
+            (λ _. fits_at self.old slot (length bytes.now) ≡ false) }
+        ensures updated { IfOk result
+            (λ _. self.new ≡ with_slot self.old slot (row bytes.now (max (reserve_at self.old slot) (length bytes.now)))) }
+        ensures page_full { IfErr result (λ fault. fault ≡ Fault.PageFull) }
+        ensures unchanged { OnErr result (self.new ≡ self.old) }
+    {
+        if !self.fits(slot, bytes.len()) {
+            return Err(Fault::PageFull);
+        }
+        let reserve = self.reserve(slot as usize).max(bytes.len() as u16);
+        self.put_row(slot as usize, reserve, bytes);
+        Ok(())
+    }
+
+    /// Empties a row's slot and keeps its reserve, so that each of its earlier states can be restored.
+    pub fn hold(&mut self, slot: u16)
+        requires { IsRow (slot_at self.old slot) }
+        ensures { self.new ≡ with_slot self.old slot (held (reserve_at self.old slot)) }
+    {
+        let reserve = self.reserve(slot as usize);
+        self.make_held(slot as usize, reserve);
+    }
+
+    /// Puts bytes that fit the slot's reserve back as its row.
+    pub fn restore(&mut self, slot: u16, bytes: &[u8])
+        requires is_taken { IsTaken (slot_at self.old slot) }
+        requires size { IsRowSize (length bytes.now) }
+        requires reserved { length bytes.now ≤ reserve_at self.old slot }
+        ensures { self.new ≡ with_slot self.old slot (row bytes.now (reserve_at self.old slot)) }
+    {
+        let reserve = self.reserve(slot as usize);
+        self.put_row(slot as usize, reserve, bytes);
+    }
+
+    /// Cuts a row's reserve to its length.
+    pub fn trim(&mut self, slot: u16)
+        requires { IsRow (slot_at self.old slot) }
+        ensures { self.new ≡ with_slot self.old slot (trimmed (slot_at self.old slot)) }
+    {
+        let at = slot as usize;
+        if let Entry::Row {
+            offset,
+            length,
+            reserve,
+        } = self.entries[at]
+        {
+            self.entries[at] = Entry::Row {
+                offset,
+                length,
+                reserve: length,
+            };
+            self.reserved = self.reserved - reserve as usize + length as usize;
+        }
+    }
+
+    /// Frees a held slot, and gives its reserve back.
+    pub fn free(&mut self, slot: u16)
+        requires { IsHeld (slot_at self.old slot) }
+        ensures { self.new ≡ with_slot self.old slot free }
+    {
+        let at = slot as usize;
+        let reserve = self.entries[at].reserve() as usize;
+        self.entries[at] = Entry::Free;
+        self.reserved -= reserve;
+    }
+
+    /// The row in a slot. A slot that is free, held or not on the page has none.
+    pub fn row(&self, slot: u16) -> Option<&[u8]>
+        ensures bytes { MatchOption result
+            (bytes_of (slot_at self.now slot) ≡ None)
+            (λ bytes. bytes_of (slot_at self.now slot) ≡ Some bytes.now) }
+        ensures size { IfSome result (λ bytes. IsRowSize (length bytes.now)) }
+    {
+        let at = slot as usize;
+        if at >= self.count {
+            return None;
+        }
+        match self.entries[at] {
+            Entry::Row { offset, length, .. } => {
+                let begin = offset as usize;
+                Some(&self.area[begin..begin + length as usize])
+            }
+            _ => None,
+        }
+    }
+
+    /// The rows, each with its slot, by slot.
+    pub fn rows(&self) -> Rows<'_>
+        ensures { rows_left result ≡ rows_from 0 self.now.slots }
+    {
+        Rows::new(self)
+    }
+
+    /// The number of slots, free ones included.
+    pub fn slots(&self) -> u16
+        ensures count { result ≡ length self.now.slots }
+        ensures sound { IsSoundPage self.now }
+    {
+        self.count as u16
+    }
+
+    /// The slot that an insert of so many bytes takes, if the page has the room.
+    pub fn room(&self, len: usize) -> Option<u16>
+        requires { len ≤ MAX_ROW_SIZE }
+        ensures slot { result ≡ room_for self.now len }
+        ensures sound { IsSoundPage self.now }
+    {
+        let reserved = self.reserved + len;
+        if let Some(slot) = first_free(&self.entries[..self.count]) {
+            return has_room(self.count, reserved).then_some(slot as u16);
+        }
+        if self.count >= self.limit {
+            return None;
+        }
+        has_room(self.count + 1, reserved).then_some(self.count as u16)
+    }
+
+    /// Whether the page has the room for an update of a row to so many bytes.
+    pub fn fits(&self, slot: u16, len: usize) -> bool
+        requires is_row { IsRow (slot_at self.now slot) }
+        requires size { len ≤ MAX_ROW_SIZE }
+        ensures { result ≡ fits_at self.now slot len }
+    {
+        let reserve = self.reserve(slot as usize) as usize;
+        has_room(self.count, self.reserved - reserve + reserve.max(len))
+    }
+
+    /// Writes the page, in the page format, over all of `target`.
+    pub fn copy_to(&self, target: &mut [u8; PAGE_SIZE])
+        ensures slots { slots_in target.new ≡ self.now.slots }
+        ensures format { KeepsFormat target.new }
+    {
+        *target = [0; PAGE_SIZE];
+        let mut table = self.entries;
+        let floor = pack_among(&self.area, &mut table, self.count, target);
+        write_head(target, self.count as u16, floor as u16);
+        write_entries(target, &table[..self.count]);
+    }
+
+    /// The bytes that a slot has been promised.
+    fn reserve(&self, slot: usize) -> u16
+        requires { slot < length self.now.slots }
+        ensures is { result ≡ reserve_at self.now slot }
+        ensures room { taken_bytes (length self.now.slots) (total_reserve self.now.slots) ≤ PAGE_SIZE }
+    {
+        let entries = &self.entries;
+        entries[slot].reserve()
+    }
+
+    /// Adds a slot where `slot` is the next new one, and else leaves the free slot that it is.
+    fn open_slot(&mut self, slot: usize)
+        requires there { slot ≤ length self.old.slots }
+        requires is_free { slot_at self.old slot ≡ free }
+        requires limit { slot ≡ length self.old.slots → slot < self.old.limit }
+        requires room { slot ≡ length self.old.slots → taken_bytes (slot + 1) (total_reserve self.old.slots) ≤ PAGE_SIZE }
+        ensures { self.new ≡ with_slot self.old slot free }
+    {
+        if slot == self.count {
+            self.entries[slot] = Entry::Free;
+            self.count = slot + 1;
+        }
+    }
+
+    /// Gives a slot a row and a reserve.
+    fn put_row(&mut self, slot: usize, reserve: u16, bytes: &[u8])
+        requires there { slot < length self.old.slots }
+        requires room { CanReserve self.old slot reserve }
+        requires size { IsRowSize (length bytes.now) }
+        requires reserved { length bytes.now ≤ reserve }
+        ensures { self.new ≡ with_slot self.old slot (row bytes.now reserve) }
+    {
+        if self.overwrite(slot, reserve, bytes) {
+            return;
+        }
+        self.move_row(slot, reserve, bytes);
+    }
+
+    /// Writes a row over the one in its slot, where that is no shorter. Says whether it was.
+    fn overwrite(&mut self, slot: usize, reserve: u16, bytes: &[u8]) -> bool
+        requires there { slot < length self.old.slots }
+        requires room { CanReserve self.old slot reserve }
+        requires size { IsRowSize (length bytes.now) }
+        requires reserved { length bytes.now ≤ reserve }
+        ensures { self.new ≡ cond result (with_slot self.old slot (row bytes.now reserve)) self.old }
+    {
+        let Entry::Row {
+            offset,
+            length,
+            reserve: was,
+        } = self.entries[slot]
+        else {
+            return false;
+        };
+        if (length as usize) < bytes.len() {
+            return false;
+        }
+        write_over(&mut self.area, offset as usize, bytes);
+        self.entries[slot] = Entry::Row {
+            offset,
+            length: bytes.len() as u16,
+            reserve,
+        };
+        self.reserved = self.reserved - was as usize + reserve as usize;
+        true
+    }
+
+    /// Puts a slot's row into the free part of the area.
+    fn move_row(&mut self, slot: usize, reserve: u16, bytes: &[u8])
+        requires there { slot < length self.old.slots }
+        requires room { CanReserve self.old slot reserve }
+        requires size { IsRowSize (length bytes.now) }
+        requires reserved { length bytes.now ≤ reserve }
+        ensures { self.new ≡ with_slot self.old slot (row bytes.now reserve) }
+    {
+        self.make_held(slot, reserve);
+        self.fill_held(slot, reserve, bytes);
+    }
+
+    /// Makes a slot held, with such a reserve.
+    fn make_held(&mut self, slot: usize, reserve: u16)
+        requires there { slot < length self.old.slots }
+        requires room { CanReserve self.old slot reserve }
+        ensures { self.new ≡ with_slot self.old slot (held reserve) }
+    {
+        let was = self.entries[slot].reserve() as usize;
+        self.entries[slot] = Entry::Held {
+            reserve,
+        };
+        self.reserved = self.reserved - was + reserve as usize;
+    }
+
+    /// Gives a held slot a row within its reserve.
+    fn fill_held(&mut self, slot: usize, reserve: u16, bytes: &[u8])
+        requires there { slot < length self.old.slots }
+        requires is_held { slot_at self.old slot ≡ held reserve }
+        requires size { IsRowSize (length bytes.now) }
+        requires reserved { length bytes.now ≤ reserve }
+        ensures { self.new ≡ with_slot self.old slot (row bytes.now reserve) }
+    {
+        let floor = store_among(
+            &mut self.area,
+            &mut self.entries,
+            self.count,
+            self.floor,
+            slot,
+            reserve,
+            bytes,
+        );
+        self.floor = floor;
+    }
+}
+
+/// Whether the room rule holds of so many slots with so much reserve.
+fn has_room(count: usize, reserved: usize) -> bool
+    requires { taken_bytes count reserved < 2 ^ 64 }
+    ensures { result ≡ has_room count reserved }
+{
+    HEAD_SIZE + ENTRY_SIZE * count + reserved <= PAGE_SIZE
+}
