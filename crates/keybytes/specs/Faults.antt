@@ -1,5 +1,5 @@
 -- The number and the name of each refusal.
-use Rattle.std.specs.Prelude.{ℕ, List, codes}
+use Rattle.std.specs.Prelude.{ℕ, List, codes, Option, Some, None}
 use Rattle.keybytes.specs.declared.fault.Fault.{Fault}
 use Rattle.keybytes.specs.declared.fault.Fault.TheVariants.{BadColumn, TextTooLong, RowShape, TableFull, NoSuchRow, RowHeld, PageFull, NoSuchTxn, TooManyTxns, TxnEnding, Fenced, Duplicate, KeyHeld, BuildRunning, NoBuild, BadRanges, BadCount, SpoolNotEmpty, RangeDone, RingFull, NotScanned, NotLoaded, Behind, Busy, NoPage, Short, BadScript, NotSealed, Memory}
 
@@ -66,3 +66,8 @@ name_of (Short missing) = codes "Short"
 name_of (BadScript place) = codes "BadScript"
 name_of (NotSealed worker) = codes "NotSealed"
 name_of Memory = codes "Memory"
+
+-- the first of two causes, in the order in which they are asked
+abbrev pub first_cause : Option Fault → Option Fault → Option Fault
+first_cause (Some fault) rest = Some fault
+first_cause None rest = rest

@@ -79,6 +79,7 @@ impl Row {
         ensures ok { IfOk result (λ bytes. bytes.items ≡ row_bytes self.now) }
         ensures accepted { OnOk result (shape_refusal schema.now self.now ≡ None) }
         ensures refused { IfErr result (λ fault. fault ≢ Fault.Memory → shape_refusal schema.now self.now ≡ Some fault) }
+        ensures is_row { OnOk result (IsRow self.now) }
         ensures some { IfOk result (λ bytes. 0 < length bytes.items) }
         ensures size { IfOk result (λ bytes. length bytes.items ≤ 1224) }
     {
