@@ -1,1 +1,6 @@
+pub mod KeyExamples
+pub mod KeyLaws
+pub mod KeyOrder
+pub mod KeyReads
+pub mod KeyWrites
 pub mod RowFacts
