@@ -1,5 +1,5 @@
 -- What a key's bytes tell of its columns, and how long they are.
-use Rattle.std.proofs.Common.{◌≡◌, ℕ, zero, suc, ◌+◌, ◌*◌, ◌<◌, ◌≤◌, ℤ, ◌<ℤ◌, nat_lt, true, false, ◌&&◌, List, [], ◌∷◌, ◌++◌, map, length, get_or, slice_index_or, FitsSigned, w64, nat_cmp, int_cmp, Ordering, Less, Equal, Greater, refl, sym, ap, ap₂, ◌∙◌, subst, arith, append-nil, length-append, lit≤}
+use Rattle.std.proofs.Common.{◌≡◌, ℕ, zero, suc, ◌*◌, ◌<◌, ◌≤◌, ℤ, ◌<ℤ◌, nat_lt, true, false, List, [], ◌∷◌, ◌++◌, map, length, get_or, slice_index_or, nat_cmp, int_cmp, Ordering, Equal, refl, sym, ap, ap₂, ◌∙◌, subst, arith, append-nil, length-append, lit≤}
 use Rattle.std.specs.List.{All, flat_map}
 use Rattle.std.specs.Ordering.{MatchOrdering, ordering_then}
 use Rattle.std.specs.Cmp.Lexicographic.{slice_cmp}
@@ -7,7 +7,7 @@ use Rattle.std.proofs.lemmas.Bool.{and_parts, and_from, ltb-true}
 use Rattle.std.proofs.lemmas.Cmp.{ranked, int_ranked, tied_itself, nat_list_cmp_total}
 use Rattle.std.proofs.lemmas.List.Elements.{All-head, All-tail, All-map}
 use Rattle.keybytes.specs.Cells.{IsCell, fits, fits_kind, cell_cmp, columns_cmp}
-use Rattle.keybytes.specs.Keys.{KeySpecValue, are_there, are_key_columns, has_key_length, each_once, escaped, text_key, cell_key, key_bytes, key_columns, key_kinds, key_of, HasKey, IsRowOf, StandsForColumns}
+use Rattle.keybytes.specs.Keys.{KeySpecValue, are_there, are_key_columns, has_key_length, are_distinct, escaped_byte, cell_key, key_bytes, key_columns, key_kinds, key_of, HasKey, IsRowOf, StandsForColumns}
 use Rattle.keybytes.specs.declared.cell.Cell.{Cell}
 use Rattle.keybytes.specs.declared.cell.Cell.TheVariants.{Null, Int, Text, Flag}
 use Rattle.keybytes.specs.declared.kind.Kind.{Kind}
@@ -52,10 +52,6 @@ key-front spec key other rest us vs has_us has_vs front =
     let tied : slice_cmp nat_cmp (key ++ rest) (other ++ []) ≡ Equal = rw (append-nil other, front) (tied_itself nat_list_cmp_total (key ++ rest)) in
     columns-same us vs (tied_first (columns_cmp us vs) _ (sym (keys-order spec key other us vs rest [] has_us has_vs) ∙ tied))
 
--- one key, one list of columns
-pub key-same : (spec : KeySpecValue) (key : List ℕ) (us vs : List Cell) → HasKey spec key us → HasKey spec key vs → us ≡ vs
-key-same spec key us vs has_us has_vs = key-front spec key key [] us vs has_us has_vs (sym (append-nil key))
-
 -- ---- the key's columns of a row
 
 fits-at : (kinds : List Kind) (row : List Cell) (i : ℕ) → fits kinds row ≡ true → i < length kinds → fits_kind (get_or kinds i IntKind) (get_or row i Null) ≡ true
@@ -83,7 +79,7 @@ picked-cells row columns held =
 
 pub there-part : (kinds : List Kind) (columns : List ℕ) → are_key_columns kinds columns ≡ true → are_there kinds columns ≡ true
 there-part kinds columns held =
-    (and_parts (each_once columns) (are_there kinds columns) (and_parts (has_key_length columns) _ held).1).1
+    (and_parts (are_distinct columns) (are_there kinds columns) (and_parts (has_key_length columns) _ held).1).1
 
 pub has-key : (spec : KeySpecValue) (row : List Cell) → are_key_columns spec.kinds spec.columns ≡ true → IsRowOf spec row → HasKey spec (key_of spec row) (key_columns spec row)
 has-key spec row held is_row = record {
@@ -103,15 +99,15 @@ key_of-laws spec row held is_row =
 
 -- ---- how long keys are
 
-length-escaped : (bytes : List ℕ) → length (flat_map escaped bytes) ≤ 2 * length bytes
-length-escaped [] = lit≤ tt
-length-escaped (zero ∷ bytes) = omega (arith, length-escaped bytes)
-length-escaped (suc b ∷ bytes) = omega (arith, length-escaped bytes)
+length-escaped_byte : (bytes : List ℕ) → length (flat_map escaped_byte bytes) ≤ 2 * length bytes
+length-escaped_byte [] = lit≤ tt
+length-escaped_byte (zero ∷ bytes) = omega (arith, length-escaped_byte bytes)
+length-escaped_byte (suc b ∷ bytes) = omega (arith, length-escaped_byte bytes)
 
 pub length-cell_key : (cell : Cell) → IsCell cell → length (cell_key cell) ≤ 203
 length-cell_key Null held = lit≤ tt
 length-cell_key (Int number) held = lit≤ tt
-length-cell_key (Text bytes) held = omega (arith, length-append (flat_map escaped bytes) (0 ∷ 1 ∷ []), length-escaped bytes, held.1)
+length-cell_key (Text bytes) held = omega (arith, length-append (flat_map escaped_byte bytes) (0 ∷ 1 ∷ []), length-escaped_byte bytes, held.1)
 length-cell_key (Flag true) held = lit≤ tt
 length-cell_key (Flag false) held = lit≤ tt
 

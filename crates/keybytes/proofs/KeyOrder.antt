@@ -1,20 +1,20 @@
 -- The bytes of keys compare as the columns do.
-use Rattle.std.proofs.Common.{◌≡◌, ℕ, zero, suc, ◌+◌, ◌*◌, ◌/◌, ◌%◌, ◌^◌, ◌<◌, ◌<ℤ◌, ℤ, pos, negsuc, true, false, ◌&&◌, List, [], ◌∷◌, ◌++◌, FitsSigned, w64, nat_cmp, int_cmp, Ordering, Less, Equal, Greater, refl, sym, ap, ap₂, ◌∙◌, subst, arith, append_assoc, append-nil, pow-suc, mod-eq_of_lt, div-one, lit<}
+use Rattle.std.proofs.Common.{◌≡◌, ℕ, zero, suc, ◌+◌, ◌*◌, ◌/◌, ◌%◌, ◌^◌, ◌<◌, ◌<ℤ◌, ℤ, pos, negsuc, true, false, List, [], ◌∷◌, ◌++◌, FitsSigned, w64, nat_cmp, int_cmp, Ordering, Less, Equal, Greater, refl, sym, ap, ap₂, ◌∙◌, arith, append_assoc, pow-suc, mod-eq_of_lt, div-one, lit<}
 use Rattle.std.specs.List.{All}
 use Rattle.std.specs.Int.{bytes_high_first, byte_at, to_be_bytes}
-use Rattle.std.specs.Ordering.{MatchOrdering, ordering_then, bool_cmp}
+use Rattle.std.specs.Ordering.{MatchOrdering, ordering_then}
 use Rattle.std.specs.Cmp.{nat_cmp_is, int_cmp_is}
 use Rattle.std.specs.Cmp.Lexicographic.{slice_cmp}
 use Rattle.std.proofs.Math.Arith.{mod-mul}
 use Rattle.std.proofs.Math.Nat.{mod-one, pow-succ'}
 use Rattle.std.proofs.lemmas.Bool.{and_parts}
 use Rattle.std.proofs.lemmas.Bool.Decides.{nat_tests}
-use Rattle.std.proofs.lemmas.Cmp.{ranked, int_ranked, tied_itself, nat_list_cmp_total}
+use Rattle.std.proofs.lemmas.Cmp.{ranked}
 use Rattle.std.proofs.lemmas.Int.{ints}
 use Rattle.std.proofs.lemmas.List.Elements.{All-head, All-tail}
 use Rattle.std.proofs.lemmas.Nat.{mul-add-lt, mod_below}
 use Rattle.keybytes.specs.Cells.{IsCell, fits, fits_kind, cell_cmp, columns_cmp}
-use Rattle.keybytes.specs.Keys.{raised, escaped, text_key, cell_key, key_bytes}
+use Rattle.keybytes.specs.Keys.{raised_number, text_key, cell_key, key_bytes}
 use Rattle.keybytes.specs.declared.cell.Cell.{Cell}
 use Rattle.keybytes.specs.declared.cell.Cell.TheVariants.{Null, Int, Text, Flag}
 use Rattle.keybytes.specs.declared.kind.Kind.{Kind}
@@ -87,7 +87,7 @@ bytes_high_first-order (suc k) m n xs ys =
     ∙ ap (λ o. ordering_then o (slice_cmp nat_cmp xs ys)) (nat_cmp-bytes k m n)
 
 -- numbers compare as they do moved up
-raised_match : (m n : ℤ) → FitsSigned w64 m → FitsSigned w64 n → (o : Ordering) → MatchOrdering o (raised m < raised n) (raised m ≡ raised n) (raised n < raised m) → MatchOrdering o (m <ℤ n) (m ≡ n) (n <ℤ m)
+raised_match : (m n : ℤ) → FitsSigned w64 m → FitsSigned w64 n → (o : Ordering) → MatchOrdering o (raised_number m < raised_number n) (raised_number m ≡ raised_number n) (raised_number n < raised_number m) → MatchOrdering o (m <ℤ n) (m ≡ n) (n <ℤ m)
 raised_match (pos m) (pos n) fits_m fits_n Less h = omega (arith, ints)
 raised_match (pos m) (pos n) fits_m fits_n Equal h = ap pos (omega arith)
 raised_match (pos m) (pos n) fits_m fits_n Greater h = omega (arith, ints)
@@ -101,19 +101,19 @@ raised_match (negsuc m) (negsuc n) fits_m fits_n Less h = omega (arith, ints, fi
 raised_match (negsuc m) (negsuc n) fits_m fits_n Equal h = ap negsuc (omega (arith, fits_m.sfits, fits_n.sfits))
 raised_match (negsuc m) (negsuc n) fits_m fits_n Greater h = omega (arith, ints, fits_m.sfits, fits_n.sfits)
 
-raised-order : (m n : ℤ) → FitsSigned w64 m → FitsSigned w64 n → nat_cmp (raised m) (raised n) ≡ int_cmp m n
-raised-order m n fits_m fits_n = int_cmp_is m n _ (raised_match m n fits_m fits_n _ (ranked (raised m) (raised n) _ refl))
+raised_number-order : (m n : ℤ) → FitsSigned w64 m → FitsSigned w64 n → nat_cmp (raised_number m) (raised_number n) ≡ int_cmp m n
+raised_number-order m n fits_m fits_n = int_cmp_is m n _ (raised_match m n fits_m fits_n _ (ranked (raised_number m) (raised_number n) _ refl))
 
-pub raised-lt : (n : ℤ) → FitsSigned w64 n → raised n < 2 ^ 64
-raised-lt (pos n) fits_n = omega (arith, fits_n.sfits)
-raised-lt (negsuc n) fits_n = omega (arith, fits_n.sfits)
+pub raised_number-lt : (n : ℤ) → FitsSigned w64 n → raised_number n < 2 ^ 64
+raised_number-lt (pos n) fits_n = omega (arith, fits_n.sfits)
+raised_number-lt (negsuc n) fits_n = omega (arith, fits_n.sfits)
 
-int_key-order : (m n : ℤ) (xs ys : List ℕ) → FitsSigned w64 m → FitsSigned w64 n → slice_cmp nat_cmp (to_be_bytes w64 (raised m) ++ xs) (to_be_bytes w64 (raised n) ++ ys) ≡ ordering_then (int_cmp m n) (slice_cmp nat_cmp xs ys)
+int_key-order : (m n : ℤ) (xs ys : List ℕ) → FitsSigned w64 m → FitsSigned w64 n → slice_cmp nat_cmp (to_be_bytes w64 (raised_number m) ++ xs) (to_be_bytes w64 (raised_number n) ++ ys) ≡ ordering_then (int_cmp m n) (slice_cmp nat_cmp xs ys)
 int_key-order m n xs ys fits_m fits_n =
-    let whole_m : raised m % 256 ^ 8 ≡ raised m = mod-eq_of_lt (raised-lt m fits_m) in
-    let whole_n : raised n % 256 ^ 8 ≡ raised n = mod-eq_of_lt (raised-lt n fits_n) in
-    bytes_high_first-order 8 (raised m) (raised n) xs ys
-    ∙ ap (λ o. ordering_then o (slice_cmp nat_cmp xs ys)) (ap₂ nat_cmp whole_m whole_n ∙ raised-order m n fits_m fits_n)
+    let whole_m : raised_number m % 256 ^ 8 ≡ raised_number m = mod-eq_of_lt (raised_number-lt m fits_m) in
+    let whole_n : raised_number n % 256 ^ 8 ≡ raised_number n = mod-eq_of_lt (raised_number-lt n fits_n) in
+    bytes_high_first-order 8 (raised_number m) (raised_number n) xs ys
+    ∙ ap (λ o. ordering_then o (slice_cmp nat_cmp xs ys)) (ap₂ nat_cmp whole_m whole_n ∙ raised_number-order m n fits_m fits_n)
 
 -- ---- texts
 

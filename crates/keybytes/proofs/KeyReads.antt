@@ -1,6 +1,6 @@
 -- What is left of a key while its columns are read back.
-use Rattle.std.proofs.Common.{◌≡◌, ℕ, zero, suc, ◌+◌, ◌-◌, ◌*◌, ◌%◌, ◌^◌, ◌<◌, ◌≤◌, ℤ, pos, negsuc, Bool, true, false, List, [], ◌∷◌, ◌++◌, length, take, drop, get_or, not, eqb, FitsSigned, IsUtf8, w64, if◌then◌else◌, refl, sym, ap, ◌∙◌, subst, arith, append_assoc, append-nil, get_or-drop, drop-drop, drop_at, length-append, length-drop}
-use Rattle.std.specs.List.{All, flat_map}
+use Rattle.std.proofs.Common.{◌≡◌, ℕ, zero, suc, ◌+◌, ◌-◌, ◌%◌, ◌^◌, ◌≤◌, ℤ, pos, negsuc, Bool, true, false, List, [], ◌∷◌, ◌++◌, length, take, drop, get_or, not, eqb, FitsSigned, IsUtf8, w64, if◌then◌else◌, refl, sym, ap, ◌∙◌, arith, append_assoc, append-nil, get_or-drop, drop-drop, drop_at, length-append, length-drop}
+use Rattle.std.specs.List.{All}
 use Rattle.std.specs.Int.{to_be_bytes, cast_signed, cast_unsigned}
 use Rattle.std.proofs.lemmas.Int.{to_z-of_z}
 use Rattle.std.proofs.lemmas.Bool.{and_parts}
@@ -9,12 +9,12 @@ use Rattle.std.proofs.lemmas.List.{take_rest}
 use Rattle.byteorder.specs.Endian.{big_number}
 use Rattle.byteorder.specs.Numbers.{big_number-reads_back}
 use Rattle.keybytes.specs.Cells.{IsCell, fits, fits_kind}
-use Rattle.keybytes.specs.Keys.{raised, text_key, cell_key, key_bytes, BeginsWith}
+use Rattle.keybytes.specs.Keys.{raised_number, text_key, cell_key, key_bytes, BeginsWith}
 use Rattle.keybytes.specs.declared.cell.Cell.{Cell}
 use Rattle.keybytes.specs.declared.cell.Cell.TheVariants.{Null, Int, Text, Flag}
 use Rattle.keybytes.specs.declared.kind.Kind.{Kind}
 use Rattle.keybytes.specs.declared.kind.Kind.TheVariants.{Int as IntKind, Text as TextKind, Flag as FlagKind}
-use Rattle.keybytes.proofs.KeyOrder.{raised-lt}
+use Rattle.keybytes.proofs.KeyOrder.{raised_number-lt}
 
 -- ---- what stands at a place
 
@@ -80,12 +80,12 @@ text_end text rest bytes read at was first apart = none_more text rest bytes rea
 
 -- ---- a cell
 
-bits-raised : (n : ℤ) → FitsSigned w64 n → (raised n + (2 ^ 64 - 2 ^ 63)) % 2 ^ 64 ≡ cast_unsigned w64 n
-bits-raised (pos n) fits_n = omega (arith, fits_n.sfits)
-bits-raised (negsuc n) fits_n = omega (arith, fits_n.sfits)
+bits-raised_number : (n : ℤ) → FitsSigned w64 n → (raised_number n + (2 ^ 64 - 2 ^ 63)) % 2 ^ 64 ≡ cast_unsigned w64 n
+bits-raised_number (pos n) fits_n = omega (arith, fits_n.sfits)
+bits-raised_number (negsuc n) fits_n = omega (arith, fits_n.sfits)
 
-pub lowered-raised : (n : ℤ) → FitsSigned w64 n → cast_signed w64 ((raised n + (2 ^ 64 - 2 ^ 63)) % 2 ^ 64) ≡ n
-lowered-raised n fits_n = ap (cast_signed w64) (bits-raised n fits_n) ∙ to_z-of_z w64 n fits_n
+pub lowered-raised_number : (n : ℤ) → FitsSigned w64 n → cast_signed w64 ((raised_number n + (2 ^ 64 - 2 ^ 63)) % 2 ^ 64) ≡ n
+lowered-raised_number n fits_n = ap (cast_signed w64) (bits-raised_number n fits_n) ∙ to_z-of_z w64 n fits_n
 
 -- bytes that begin with the key of a cell that is not Null, by the column's kind
 
@@ -93,7 +93,7 @@ pub record IntFront (cell : Cell) (rest bytes : List ℕ) : Type 0 where
   pub number : ℤ
   pub is_cell : cell ≡ Int number
   pub valid : FitsSigned w64 number
-  pub behind : drop 1 bytes ≡ to_be_bytes w64 (raised number) ++ rest
+  pub behind : drop 1 bytes ≡ to_be_bytes w64 (raised_number number) ++ rest
 
 pub record TextFront (cell : Cell) (rest bytes : List ℕ) : Type 0 where
   pub text : List ℕ
@@ -133,16 +133,6 @@ text_front kind cell rest bytes is_kind begins apart = text_front_at cell (rw is
 
 pub flag_front : (kind : Kind) (cell : Cell) (rest bytes : List ℕ) → kind ≡ FlagKind → BeginsWith kind cell rest bytes → (get_or bytes 0 0 ≡ 0 → ⊥) → FlagFront cell rest bytes
 flag_front kind cell rest bytes is_kind begins apart = flag_front_at cell (rw is_kind at begins.of_kind) begins.valid begins.front apart
-
--- a tag 0 is Null's alone
-null_at : (cell : Cell) (rest bytes : List ℕ) → bytes ≡ cell_key cell ++ rest → get_or bytes 0 0 ≡ 0 → cell ≡ Null
-null_at Null rest bytes front tag = refl
-null_at (Int number) rest bytes front tag = let one : get_or bytes 0 0 ≡ 1 = ap (λ (xs : List ℕ). get_or xs 0 0) front in absurd (omega arith)
-null_at (Text text) rest bytes front tag = let one : get_or bytes 0 0 ≡ 1 = ap (λ (xs : List ℕ). get_or xs 0 0) front in absurd (omega arith)
-null_at (Flag flag) rest bytes front tag = let one : get_or bytes 0 0 ≡ 1 = ap (λ (xs : List ℕ). get_or xs 0 0) front in absurd (omega arith)
-
-pub null_front : (kind : Kind) (cell : Cell) (rest bytes : List ℕ) → BeginsWith kind cell rest bytes → get_or bytes 0 0 ≡ 0 → cell ≡ Null
-null_front kind cell rest bytes begins tag = null_at cell rest bytes begins.front tag
 
 -- ---- the columns
 
@@ -191,20 +181,12 @@ pub columns_more : (columns read : List Cell) (kind : Kind) (kinds : List Kind) 
 columns_more columns read kind kinds bytes at was next len tells =
     columns_more_at columns read kind kinds bytes at was.left was.whole was.fits_kinds was.each was.behind was.within next len tells
 
-none_left : (columns read left : List Cell) → columns ≡ read ++ left → fits [] left ≡ true → columns ≡ read
-none_left columns read [] whole fit = whole ∙ append-nil read
-none_left columns read (cell ∷ left) whole fit = absurd cc
-
--- every cell is read
-pub columns_end : (columns read : List Cell) (bytes : List ℕ) (at : ℕ) → ColumnsLeft columns read [] bytes at → columns ≡ read
-columns_end columns read bytes at was = none_left columns read was.left was.whole was.fits_kinds
-
 -- ---- what is read behind a tag
 
 pub read-number : (cell : Cell) (rest bytes : List ℕ) → IntFront cell rest bytes → (read : ℕ) → read ≡ big_number 8 (take (length bytes - 1) (drop 1 bytes)) → (number : ℤ) → number ≡ cast_signed w64 ((read + (2 ^ 64 - 2 ^ 63)) % 2 ^ 64) → Int (cast_signed w64 (cast_unsigned w64 number)) ≡ cell
 read-number cell rest bytes front read is_read number is_number =
-    let whole : read ≡ raised front.number = is_read ∙ ap (big_number 8) (take_rest bytes 1 ∙ front.behind) ∙ big_number-reads_back 8 (raised front.number) rest (raised-lt front.number front.valid) in
-    let same : number ≡ front.number = is_number ∙ ap (λ (n : ℕ). cast_signed w64 ((n + (2 ^ 64 - 2 ^ 63)) % 2 ^ 64)) whole ∙ lowered-raised front.number front.valid in
+    let whole : read ≡ raised_number front.number = is_read ∙ ap (big_number 8) (take_rest bytes 1 ∙ front.behind) ∙ big_number-reads_back 8 (raised_number front.number) rest (raised_number-lt front.number front.valid) in
+    let same : number ≡ front.number = is_number ∙ ap (λ (n : ℕ). cast_signed w64 ((n + (2 ^ 64 - 2 ^ 63)) % 2 ^ 64)) whole ∙ lowered-raised_number front.number front.valid in
     ap (λ (n : ℤ). Int (cast_signed w64 (cast_unsigned w64 n))) same ∙ ap Int (to_z-of_z w64 front.number front.valid) ∙ sym front.is_cell
 
 flag-read : (flag : Bool) (xs rest : List ℕ) → xs ≡ (if flag then 1 else 0) ∷ rest → Flag (not (eqb (get_or xs 0 0) 0)) ≡ Flag flag

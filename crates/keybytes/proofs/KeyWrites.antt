@@ -1,12 +1,12 @@
 -- How a key grows while its columns are written.
-use Rattle.std.proofs.Common.{◌≡◌, ℕ, zero, suc, ◌+◌, ◌*◌, ◌<◌, ◌≤◌, nat_lt, Bool, true, ◌&&◌, List, [], ◌∷◌, ◌++◌, map, length, take, drop, get_or, slice_index_or, refl, sym, ap, ap₂, ◌∙◌, subst, arith, append-nil, length-append, lit≤}
+use Rattle.std.proofs.Common.{◌≡◌, ℕ, zero, suc, ◌+◌, ◌<◌, ◌≤◌, nat_lt, true, List, [], ◌∷◌, ◌++◌, map, length, take, drop, get_or, slice_index_or, refl, sym, ap, ap₂, ◌∙◌, arith, append-nil, length-append, lit≤}
 use Rattle.std.specs.List.{All, flat_map}
 use Rattle.std.proofs.lemmas.Bool.{and_parts, ltb-true, leb-true}
 use Rattle.std.proofs.lemmas.List.{map_more, take-map, get_or-map, length-map, drop_more, get_or_read}
 use Rattle.std.proofs.lemmas.List.Concat.{flat_map-append}
 use Rattle.std.proofs.lemmas.List.Folds.{length-flat_map-take}
 use Rattle.keybytes.specs.Cells.{IsCell, fits, fits_kind}
-use Rattle.keybytes.specs.Keys.{KeySpecValue, are_there, are_key_columns, has_key_length, each_once, escaped, text_key, cell_key, key_bytes, key_kinds, key_columns, key_of, IsRowOf}
+use Rattle.keybytes.specs.Keys.{KeySpecValue, are_there, are_key_columns, has_key_length, escaped_byte, text_key, cell_key, key_bytes, key_columns, key_of}
 use Rattle.keybytes.specs.declared.cell.Cell.{Cell}
 use Rattle.keybytes.specs.declared.cell.Cell.TheVariants.{Null}
 use Rattle.keybytes.specs.declared.kind.Kind.{Kind}
@@ -15,23 +15,23 @@ use Rattle.keybytes.proofs.KeyLaws.{there-part, picked-cells, length-key_bytes}
 
 -- ---- a text
 
-length-escaped-some : (b : ℕ) → 1 ≤ length (escaped b)
-length-escaped-some zero = lit≤ tt
-length-escaped-some (suc b) = lit≤ tt
+length-escaped_byte-some : (b : ℕ) → 1 ≤ length (escaped_byte b)
+length-escaped_byte-some zero = lit≤ tt
+length-escaped_byte-some (suc b) = lit≤ tt
 
 -- the room that is left for a byte of the text and its end
-byte-room : (old key text : List ℕ) (i : ℕ) → key ≡ old ++ flat_map escaped (take i text) → i < length text → length key + length (escaped (get_or text i 0)) + 2 ≤ length old + length (text_key text)
+byte-room : (old key text : List ℕ) (i : ℕ) → key ≡ old ++ flat_map escaped_byte (take i text) → i < length text → length key + length (escaped_byte (get_or text i 0)) + 2 ≤ length old + length (text_key text)
 byte-room old key text i written within =
-    omega (arith, ap length written, length-append old (flat_map escaped (take i text)), length-append (flat_map escaped text) (0 ∷ 1 ∷ []), length-flat_map-take escaped text i 0 within)
+    omega (arith, ap length written, length-append old (flat_map escaped_byte (take i text)), length-append (flat_map escaped_byte text) (0 ∷ 1 ∷ []), length-flat_map-take escaped_byte text i 0 within)
 
-pub zero-room : (old key text : List ℕ) (i : ℕ) → key ≡ old ++ flat_map escaped (take i text) → i < length text → get_or text i 0 ≡ 0 → length key + 2 ≤ length old + length (text_key text)
+pub zero-room : (old key text : List ℕ) (i : ℕ) → key ≡ old ++ flat_map escaped_byte (take i text) → i < length text → get_or text i 0 ≡ 0 → length key + 2 ≤ length old + length (text_key text)
 zero-room old key text i written within is_zero =
-    let two : length (escaped (get_or text i 0)) ≡ 2 = ap (λ (b : ℕ). length (escaped b)) is_zero in
+    let two : length (escaped_byte (get_or text i 0)) ≡ 2 = ap (λ (b : ℕ). length (escaped_byte b)) is_zero in
     omega (arith, byte-room old key text i written within)
 
-pub other-room : (old key text : List ℕ) (i : ℕ) → key ≡ old ++ flat_map escaped (take i text) → i < length text → length key + 1 ≤ length old + length (text_key text)
+pub other-room : (old key text : List ℕ) (i : ℕ) → key ≡ old ++ flat_map escaped_byte (take i text) → i < length text → length key + 1 ≤ length old + length (text_key text)
 other-room old key text i written within =
-    omega (arith, byte-room old key text i written within, length-escaped-some (get_or text i 0))
+    omega (arith, byte-room old key text i written within, length-escaped_byte-some (get_or text i 0))
 
 -- ---- the columns
 

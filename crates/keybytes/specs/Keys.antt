@@ -20,9 +20,9 @@ pub record KeySpecValue : Type 0 where
   pub unique : Bool
 
 -- whether no column is named twice
-abbrev pub each_once : List ℕ → Bool
-each_once [] = true
-each_once (column ∷ columns) = not (list_any (λ other. nat_eq other column) columns) && each_once columns
+abbrev pub are_distinct : List ℕ → Bool
+are_distinct [] = true
+are_distinct (column ∷ columns) = not (list_any (λ other. nat_eq other column) columns) && are_distinct columns
 
 -- whether the columns are of a table with these kinds
 abbrev pub are_there : List Kind → List ℕ → Bool
@@ -34,30 +34,30 @@ has_key_length columns = nat_lt 0 (length columns) && nat_le (length columns) 4
 
 -- whether these make a key: 1 to 4 of the table's columns, each once
 abbrev pub are_key_columns : List Kind → List ℕ → Bool
-are_key_columns kinds columns = has_key_length columns && (each_once columns && are_there kinds columns)
+are_key_columns kinds columns = has_key_length columns && (are_distinct columns && are_there kinds columns)
 
 -- why a table of these kinds has no key of these columns
 abbrev pub key_columns_refusal : List Kind → List ℕ → Option Fault
 key_columns_refusal kinds columns = if are_key_columns kinds columns then None else Some BadColumn
 
 -- the number moved up by 2^63, so that the least of 64 bits is 0
-abbrev pub raised : ℤ → ℕ
-raised (pos n) = 2 ^ 63 + n
-raised (negsuc n) = 2 ^ 63 - 1 - n
+abbrev pub raised_number : ℤ → ℕ
+raised_number (pos n) = 2 ^ 63 + n
+raised_number (negsuc n) = 2 ^ 63 - 1 - n
 
 -- a byte of a text in a key: a byte 0 is followed by 255
-abbrev pub escaped : ℕ → List ℕ
-escaped zero = 0 ∷ 255 ∷ []
-escaped (suc n) = suc n ∷ []
+abbrev pub escaped_byte : ℕ → List ℕ
+escaped_byte zero = 0 ∷ 255 ∷ []
+escaped_byte (suc n) = suc n ∷ []
 
 -- the bytes of a text in a key: its own, and the end
 abbrev pub text_key : List ℕ → List ℕ
-text_key bytes = flat_map escaped bytes ++ 0 ∷ 1 ∷ []
+text_key bytes = flat_map escaped_byte bytes ++ 0 ∷ 1 ∷ []
 
 -- the bytes of a column in a key: a tag, and what follows it
 abbrev pub cell_key : Cell → List ℕ
 cell_key Null = 0 ∷ []
-cell_key (Int number) = 1 ∷ to_be_bytes w64 (raised number)
+cell_key (Int number) = 1 ∷ to_be_bytes w64 (raised_number number)
 cell_key (Text bytes) = 1 ∷ text_key bytes
 cell_key (Flag flag) = 1 ∷ (if flag then 1 else 0) ∷ []
 

@@ -4,7 +4,7 @@
 //! numbers compare as their bytes do. A text has no length in front, which would sort short texts first: it runs to an
 //! end mark instead, and since the mark's first byte is 0, each byte 0 of the text is followed by a byte above the
 //! mark's second one.
-ghost use Rattle.std.specs.Prelude.{◌≡◌, ◌≢◌, ◌+◌, ◌≤◌, ◌++◌, ℕ, List, length, IsUtf8, IsOk, IfOk, IfErr, OnOk};
+ghost use Rattle.std.specs.Prelude.{◌≡◌, ◌+◌, ◌≤◌, ◌++◌, List, ℕ, length, IsOk, IfOk, IfErr, OnOk};
 ghost use Rattle.keybytes.specs.Keys.{cell_key, text_key, BeginsWith, BeginsWithText};
 ghost use Rattle.keybytes.specs.declared.cell.Cell.{Cell};
 

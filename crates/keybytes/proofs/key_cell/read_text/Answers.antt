@@ -1,6 +1,6 @@
-use Rattle.std.proofs.Common.{◌≡◌, ◌∙◌, sym, ap, subst, vec_items, IsUtf8}
+use Rattle.std.proofs.Common.{◌∙◌, sym, ap, subst, vec_items, IsUtf8}
 use Rattle.std.proofs.lemmas.Bool.{false≢true}
-use Rattle.keybytes.proofs.KeyReads.{TextLeft, text_zero_more, text_other_more, text_end}
+use Rattle.keybytes.proofs.KeyReads.{text_zero_more, text_other_more, text_end}
 use Rattle.keybytes.proofs.key_cell.read_text.Goals as goal
 use Rattle.keybytes.proofs.key_cell.read_text.Goals.{then-bytes-at-ne0, else-bytes-at-ne0+then-bytes-at, then-bytes-at-eq0, else-bytes-at-eq0}
 

@@ -1,4 +1,4 @@
-use Rattle.std.proofs.Common.{◌≡◌, ℕ, ◌+◌, ◌<◌, true, ◌-◌, List, [], ◌∷◌, length, take, drop, get_or, sym, ap, ap₂, ◌∙◌, subst, arith}
+use Rattle.std.proofs.Common.{◌≡◌, ℕ, ◌+◌, ◌<◌, true, ◌-◌, List, ◌∷◌, length, take, drop, get_or, sym, ap, ap₂, ◌∙◌, subst, arith}
 use Rattle.std.proofs.lemmas.List.{take_rest, get_or_read}
 use Rattle.keybytes.specs.Keys.{KeySpecValue, are_key_columns, key_kinds, BeginsWith}
 use Rattle.keybytes.specs.declared.cell.Cell.{Cell}

@@ -1,4 +1,4 @@
-use Rattle.std.proofs.Common.{◌≡◌, ◌∙◌, Bool, true, false, Decides, sym, ap, refl}
+use Rattle.std.proofs.Common.{◌≡◌, ◌∙◌, Decides, sym, ap, refl}
 use Rattle.std.proofs.lemmas.Bool.{false≢true}
 use Rattle.std.proofs.lemmas.Slice.Eq.{slice_eq-Decides}
 use Rattle.keybytes.specs.Keys.{KeySpecValue}
