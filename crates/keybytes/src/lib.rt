@@ -8,6 +8,8 @@
 mod cell;
 mod fault;
 mod key;
+mod key_cell;
+mod key_spec;
 mod kind;
 mod rid;
 mod row;
@@ -18,6 +20,7 @@ mod text;
 pub use cell::{Cell, TEXT_MAX};
 pub use fault::Fault;
 pub use key::{KEY_MAX, Key};
+pub use key_spec::{KEY_COLUMNS_MAX, KeySpec};
 pub use kind::Kind;
 pub use rid::Rid;
 pub use row::{CELLS_MAX, Row};

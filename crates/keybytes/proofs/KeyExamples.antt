@@ -1,0 +1,40 @@
+-- Keys written out: the definition of their bytes, at values that a reader can check by hand.
+use Rattle.std.proofs.Common.{◌≡◌, pos, negsuc, true, false, [], ◌∷◌, refl}
+use Rattle.keybytes.specs.Keys.{cell_key, key_bytes}
+use Rattle.keybytes.specs.declared.cell.Cell.TheVariants.{Null, Int, Text, Flag}
+
+-- -5
+below_zero : cell_key (Int (negsuc 4)) ≡ 1 ∷ 0x7F ∷ 0xFF ∷ 0xFF ∷ 0xFF ∷ 0xFF ∷ 0xFF ∷ 0xFF ∷ 0xFB ∷ []
+below_zero = refl
+
+-- the least number of 64 bits, and the greatest
+least : cell_key (Int (negsuc 9223372036854775807)) ≡ 1 ∷ 0 ∷ 0 ∷ 0 ∷ 0 ∷ 0 ∷ 0 ∷ 0 ∷ 0 ∷ []
+least = refl
+
+greatest : cell_key (Int (pos 9223372036854775807)) ≡ 1 ∷ 0xFF ∷ 0xFF ∷ 0xFF ∷ 0xFF ∷ 0xFF ∷ 0xFF ∷ 0xFF ∷ 0xFF ∷ []
+greatest = refl
+
+minus_one : cell_key (Int (negsuc 0)) ≡ 1 ∷ 0x7F ∷ 0xFF ∷ 0xFF ∷ 0xFF ∷ 0xFF ∷ 0xFF ∷ 0xFF ∷ 0xFF ∷ []
+minus_one = refl
+
+zero_number : cell_key (Int (pos 0)) ≡ 1 ∷ 0x80 ∷ 0 ∷ 0 ∷ 0 ∷ 0 ∷ 0 ∷ 0 ∷ 0 ∷ []
+zero_number = refl
+
+two_columns : key_bytes (Null ∷ Flag false ∷ []) ≡ 0 ∷ 1 ∷ 0 ∷ []
+two_columns = refl
+
+flag_true : key_bytes (Flag true ∷ []) ≡ 1 ∷ 1 ∷ []
+flag_true = refl
+
+-- the texts '', 'a', 'a' with a byte 0, and 'ab'
+empty_text : cell_key (Text []) ≡ 1 ∷ 0 ∷ 1 ∷ []
+empty_text = refl
+
+text_a : cell_key (Text (0x61 ∷ [])) ≡ 1 ∷ 0x61 ∷ 0 ∷ 1 ∷ []
+text_a = refl
+
+text_a_zero : cell_key (Text (0x61 ∷ 0 ∷ [])) ≡ 1 ∷ 0x61 ∷ 0 ∷ 0xFF ∷ 0 ∷ 1 ∷ []
+text_a_zero = refl
+
+text_ab : cell_key (Text (0x61 ∷ 0x62 ∷ [])) ≡ 1 ∷ 0x61 ∷ 0x62 ∷ 0 ∷ 1 ∷ []
+text_ab = refl

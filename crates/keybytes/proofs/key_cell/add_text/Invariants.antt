@@ -1,0 +1,7 @@
+use Rattle.std.proofs.Common.{◌≡◌, ◌++◌, take}
+use Rattle.std.specs.List.{flat_map}
+use Rattle.keybytes.specs.Keys.{escaped_byte}
+use Rattle.keybytes.proofs.key_cell.add_text.Given as goal
+
+abbrev pub invariant-loop-byte : goal.invariant-loop-byte
+invariant-loop-byte l = l.key ≡ l.initial.key ++ flat_map escaped_byte (take l.byte-index l.text)

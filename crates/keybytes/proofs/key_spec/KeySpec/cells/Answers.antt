@@ -1,0 +1,42 @@
+use Rattle.std.proofs.Common.{◌≡◌, ℕ, ◌+◌, ◌<◌, true, ◌-◌, List, ◌∷◌, length, take, drop, get_or, sym, ap, ap₂, ◌∙◌, subst, arith}
+use Rattle.std.proofs.lemmas.List.{take_rest, get_or_read}
+use Rattle.keybytes.specs.Keys.{KeySpecValue, are_key_columns, key_kinds, BeginsWith}
+use Rattle.keybytes.specs.declared.cell.Cell.{Cell}
+use Rattle.keybytes.specs.declared.kind.Kind.{Kind}
+use Rattle.keybytes.specs.declared.kind.Kind.TheVariants.{Int as IntKind}
+use Rattle.keybytes.proofs.KeyReads.{ColumnsLeft, columns_begin, columns_more}
+use Rattle.keybytes.proofs.KeyWrites.{column-within, kinds-more}
+use Rattle.keybytes.proofs.key_spec.KeySpec.cells.Goals as goal
+
+-- the next column is of the kind that the table says
+next_left : (spec inside : KeySpecValue) (items : List ℕ) (i : ℕ) (kind : Kind) (columns read : List Cell) (bytes : List ℕ) (at : ℕ) → inside ≡ spec → are_key_columns inside.kinds inside.columns ≡ true → items ≡ inside.columns → i < length items → kind ≡ get_or inside.kinds (get_or items i 0) kind → ColumnsLeft columns read (drop i (key_kinds spec)) bytes at → ColumnsLeft columns read (kind ∷ drop (i + 1) (key_kinds spec)) bytes at
+next_left spec inside items i kind columns read bytes at is_spec held is_items within is_kind was =
+    let own : items ≡ spec.columns = is_items ∙ ap (λ (s : KeySpecValue). s.columns) is_spec in
+    let there : get_or items i 0 < length inside.kinds = rw is_items (column-within inside.kinds inside.columns i held (rw is_items at within)) in
+    let same : kind ≡ get_or spec.kinds (get_or spec.columns i 0) IntKind =
+    get_or_read inside.kinds (get_or items i 0) kind there is_kind IntKind
+    ∙ ap₂ (λ (kinds : List Kind) (xs : List ℕ). get_or kinds (get_or xs i 0) IntKind) (ap (λ (s : KeySpecValue). s.kinds) is_spec) own in
+    subst (λ (kinds : List Kind). ColumnsLeft columns read kinds bytes at)
+    (kinds-more spec.kinds spec.columns i (rw own at within) ∙ ap (λ (kind : Kind). kind ∷ drop (i + 1) (key_kinds spec)) (sym same)) was
+
+-- what reading a cell tells, for the bytes as the code cuts them
+from_there : (kind : Kind) (cell : Cell) (rest bytes : List ℕ) (at : ℕ) → BeginsWith kind cell rest (drop at bytes) → BeginsWith kind cell rest (take (length bytes - at) (drop at bytes))
+from_there kind cell rest bytes at begins = subst (BeginsWith kind cell rest) (sym (take_rest bytes at)) begins
+
+pub read_cell-requires : goal.read_cell-requires
+read_cell-requires c =
+    let was = next_left c.args.self.now _ _ _ _ _ _ _ _ c.self.view_is c.self.invariant c.deref-column-items.ensures.value c.loop-column-test.true c.index.ensures (c.loop-column.invariant c.requires.0 c.requires.1) in
+    let begun = columns_begin _ _ _ _ _ _ was in
+    (begun.0, begun.1, from_there _ _ _ c.bytes-bytes.result.now c.loop-column.at begun.2)
+
+pub overflow_add-at : goal.overflow_add-at
+overflow_add-at c =
+    let was = next_left c.args.self.now _ _ _ _ _ _ _ _ c.self.view_is c.self.invariant c.deref-column-items.ensures.value c.loop-column-test.true c.index.ensures (c.loop-column.invariant c.requires.0 c.requires.1) in
+    let more = columns_more _ _ _ _ _ _ was c.in_ok-cell.cell c.in_ok-cell.len (λ cell rest begins. (c.in_ok-cell.ensures.cell cell rest (from_there _ _ _ c.bytes-bytes.result.now c.loop-column.at begins), c.in_ok-cell.ensures.len cell rest (from_there _ _ _ c.bytes-bytes.result.now c.loop-column.at begins))) in
+    omega (arith, more.within, c.bytes-bytes.ensures.short, ap length c.bytes-bytes.ensures.bytes)
+
+pub loop-column-preserved : goal.loop-column-preserved
+loop-column-preserved c columns has =
+    let was = next_left c.args.self.now _ _ _ _ _ _ _ _ c.self.view_is c.self.invariant c.deref-column-items.ensures.value c.loop-column-test.true c.index.ensures (c.loop-column.invariant columns has) in
+    rw c.in_ok-push.ensures.items
+    (columns_more _ _ _ _ _ _ was c.in_ok-cell.cell c.in_ok-cell.len (λ cell rest begins. (c.in_ok-cell.ensures.cell cell rest (from_there _ _ _ c.bytes-bytes.result.now c.loop-column.at begins), c.in_ok-cell.ensures.len cell rest (from_there _ _ _ c.bytes-bytes.result.now c.loop-column.at begins))))

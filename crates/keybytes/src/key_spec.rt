@@ -1,0 +1,255 @@
+ghost use Rattle.std.specs.Prelude.{◌≡◌, ◌≤◌, ◌↔◌, List, IsTrue, IsOk, IfOk, IfErr, OnOk, true, None, length, unwrap_or};
+ghost use Rattle.keybytes.specs.Cells.{fits};
+ghost use Rattle.keybytes.specs.Keys.{are_key_columns, key_columns_refusal, key_of, HasKey, IsKeyOf, StandsForColumns};
+ghost use Rattle.keybytes.specs.declared.cell.Cell.{Cell};
+
+use crate::key_cell::{add_cell, read_cell};
+use crate::{Cell, Fault, Key, Kind, Row, Schema};
+use std::alloc::Global;
+use std::marker::Model;
+
+/// The greatest number of columns of a key.
+pub const KEY_COLUMNS_MAX: usize = 4;
+
+/// Which columns of a table make the key of an index, and whether the index is unique.
+///
+/// Keys of one specification compare as their columns do, and none begins another.
+#[derive(Debug, Drop)]
+pub struct KeySpec {
+    kinds: Vec<Kind>,
+    columns: Vec<usize>,
+    unique: bool,
+}
+
+impl Model for KeySpec {
+    ghost use Rattle.std.specs.Prelude.{◌≡◌, true};
+    ghost use Rattle.keybytes.specs.Keys.{KeySpecValue, are_key_columns};
+
+    ghost Value = { KeySpecValue };
+
+    ghost view = { λ spec. record { kinds = spec.kinds.items; columns = spec.columns.items; unique = spec.unique } };
+
+    ghost invariant = { λ spec. are_key_columns spec.kinds.items spec.columns.items ≡ true };
+}
+
+impl KeySpec {
+    /// The specification of these columns of the schema, in that order. No columns, more than [`KEY_COLUMNS_MAX`], one
+    /// that is named twice or one that the schema lacks is [`Fault::BadColumn`].
+    pub fn new(
+        alloc: Global,
+        schema: &Schema,
+        columns: Vec<usize>,
+        unique: bool,
+    ) -> Result<KeySpec, Fault>
+        ensures kinds { IfOk result (λ spec. spec.kinds ≡ schema.now) }
+        ensures columns { IfOk result (λ spec. spec.columns ≡ columns.items) }
+        ensures unique { IfOk result (λ spec. spec.unique ≡ unique) }
+        ensures accepted { OnOk result (key_columns_refusal schema.now columns.items ≡ None) }
+        ensures refused { IfErr result (λ fault. fault ≡ unwrap_or (key_columns_refusal schema.now columns.items) Fault.Memory) }
+    {
+        if !are_key_columns(schema.kinds(), columns.as_slice()) {
+            return Err(Fault::BadColumn);
+        }
+        let kinds = schema.kinds().to_vec(alloc)?;
+        Ok(KeySpec {
+            kinds,
+            columns,
+            unique,
+        })
+    }
+
+    /// The places of the key's columns among the table's, in the key's order.
+    pub fn columns(&self) -> &[usize]
+        ensures columns { result.now ≡ self.now.columns }
+        ensures key { are_key_columns self.now.kinds self.now.columns ≡ true }
+    {
+        self.columns.as_slice()
+    }
+
+    pub fn unique(&self) -> bool
+        ensures { result ≡ self.now.unique }
+    {
+        self.unique
+    }
+
+    /// Whether it was made for a table of these columns.
+    pub fn is_of(&self, schema: &Schema) -> bool
+        ensures { IsTrue result ↔ (self.now.kinds ≡ schema.now) }
+    {
+        self.kinds.as_slice() == schema.kinds()
+    }
+
+    pub fn clone(&self) -> Result<KeySpec, Fault>
+        ensures same { IfOk result (λ spec. spec ≡ self.now) }
+        ensures memory { IfErr result (λ fault. fault ≡ Fault.Memory) }
+    {
+        let kinds = self.kinds.clone()?;
+        let columns = self.columns.clone()?;
+        Ok(KeySpec {
+            kinds,
+            columns,
+            unique: self.unique,
+        })
+    }
+
+    /// The row's key; one of up to 24 bytes takes no memory.
+    pub fn key(&self, row: &Row) -> Result<Key, Fault>
+        requires { fits self.now.kinds row.now ≡ true }
+        ensures value { IfOk result (λ key. key ≡ key_of self.now row.now) }
+        ensures size { IfOk result (λ key. length key ≤ 812) }
+        ensures laws { IfOk result (StandsForColumns self.now row.now) }
+        ensures is_key { IfOk result (IsKeyOf self.now) }
+        ensures memory { IfErr result (λ fault. fault ≡ Fault.Memory) }
+        ensures inline { length (key_of self.now row.now) ≤ 24 → IsOk result }
+    {
+        let cells = row.cells();
+        let mut key = Key::new(*self.kinds.allocator());
+        for column in &self.columns {
+            add_cell(&mut key, &cells[*column])?;
+        }
+        Ok(key)
+    }
+
+    /// The key's columns, in the key's order.
+    pub fn cells(&self, key: &Key) -> Result<Vec<Cell>, Fault>
+        requires { IsKeyOf self.now key.now }
+        ensures columns { IfOk result (λ cells. HasKey self.now key.now cells.items) }
+        ensures only { IfOk result (λ cells. (columns : List Cell) → HasKey self.now key.now columns → columns ≡ cells.items) }
+        ensures memory { IfErr result (λ fault. fault ≡ Fault.Memory) }
+    {
+        let alloc = *self.kinds.allocator();
+        let bytes = key.bytes();
+        let mut at = 0;
+        let mut cells = Vec::with_capacity(alloc, self.columns.len())?;
+        for column in &self.columns {
+            let (cell, len) = read_cell(alloc, self.kinds[*column], &bytes[at..])?;
+            cells.push(cell)?;
+            at += len;
+        }
+        Ok(cells)
+    }
+}
+
+fn are_key_columns(kinds: &[Kind], columns: &[usize]) -> bool
+    ensures { result ≡ are_key_columns kinds.now columns.now }
+{
+    if columns.is_empty() || columns.len() > KEY_COLUMNS_MAX {
+        return false;
+    }
+    for (place, column) in columns.iter().enumerate() {
+        if *column >= kinds.len() || columns[place + 1..].contains(column) {
+            return false;
+        }
+    }
+    true
+}
+
+#[cfg(test)]
+mod tests {
+    use super::*;
+    use crate::Text;
+    use std::test::Fail;
+
+    // The key that a row of these cells has by the given columns.
+    fn key_by(
+        alloc: Global,
+        kinds: Vec<Kind>,
+        columns: Vec<usize>,
+        cells: Vec<Cell>,
+    ) -> Result<Key, Fault>
+        requires { fits kinds.items cells.items ≡ true }
+    {
+        let schema = Schema::new(kinds)?;
+        let spec = KeySpec::new(alloc, &schema, columns, false)?;
+        let row = Row::new(cells)?;
+        spec.key(&row)
+    }
+
+    #[test]
+    fn numbers(rt: HostRuntime) -> Result<(), Fail> {
+        let alloc = rt.alloc();
+        let cases: [(i64, [u8; 9]); 5] = [
+            (-5, [1, 0x7F, 0xFF, 0xFF, 0xFF, 0xFF, 0xFF, 0xFF, 0xFB]),
+            (i64::MIN, [1, 0, 0, 0, 0, 0, 0, 0, 0]),
+            (-1, [1, 0x7F, 0xFF, 0xFF, 0xFF, 0xFF, 0xFF, 0xFF, 0xFF]),
+            (0, [1, 0x80, 0, 0, 0, 0, 0, 0, 0]),
+            (
+                i64::MAX,
+                [1, 0xFF, 0xFF, 0xFF, 0xFF, 0xFF, 0xFF, 0xFF, 0xFF],
+            ),
+        ];
+        for (number, bytes) in cases {
+            let kinds = vec![in alloc; Kind::Int]?;
+            let key = key_by(
+                alloc,
+                kinds,
+                vec![in alloc; 0]?,
+                vec![in alloc; Cell::Int(number)]?,
+            )?;
+            assert_eq!(rt; key.bytes(), &bytes[..]);
+        }
+        Ok(())
+    }
+
+    #[test]
+    fn texts(rt: HostRuntime) -> Result<(), Fail> {
+        let alloc = rt.alloc();
+        let cases: [(&str, &[u8]); 4] = [
+            ("", &[1, 0, 1]),
+            ("a", &[1, 0x61, 0, 1]),
+            ("a\0", &[1, 0x61, 0, 0xFF, 0, 1]),
+            ("ab", &[1, 0x61, 0x62, 0, 1]),
+        ];
+        for (text, bytes) in cases {
+            let cell = Cell::Text(Text::new(text.to_string(alloc)?));
+            let kinds = vec![in alloc; Kind::Text]?;
+            let key = key_by(alloc, kinds, vec![in alloc; 0]?, vec![in alloc; cell]?)?;
+            assert_eq!(rt; key.bytes(), bytes);
+        }
+        Ok(())
+    }
+
+    #[test]
+    fn two_columns_there_and_back(rt: HostRuntime) -> Result<(), Fail> {
+        let alloc = rt.alloc();
+        let schema = Schema::new(vec![in alloc; Kind::Flag, Kind::Text, Kind::Int]?)?;
+        let spec = KeySpec::new(alloc, &schema, vec![in alloc; 2, 0]?, true)?.clone()?;
+        assert!(rt; spec.unique() && spec.is_of(&schema));
+        assert_eq!(rt; spec.columns(), &[2, 0][..]);
+        let other = Schema::new(vec![in alloc; Kind::Flag]?)?;
+        assert!(rt; !spec.is_of(&other));
+        let text = Cell::Text(Text::new("b".to_string(alloc)?));
+        let row = Row::new(vec![in alloc; Cell::Flag(false), text, Cell::Null]?)?;
+        let key = spec.key(&row)?;
+        assert_eq!(rt; key.bytes(), &[0, 1, 0][..]);
+        match spec.cells(&key)?.as_slice() {
+            [Cell::Null, Cell::Flag(false)] => Ok(()),
+            _ => panic!(rt; "other columns"),
+        }
+    }
+
+    #[test]
+    fn columns_refused(rt: HostRuntime) -> Result<(), Fail> {
+        let alloc = rt.alloc();
+        let schema = Schema::new(vec![in alloc;
+            Kind::Int,
+            Kind::Int,
+            Kind::Int,
+            Kind::Int,
+            Kind::Int,
+        ]?)?;
+        let cases = [
+            vec![in alloc; 0; 0]?,
+            vec![in alloc; 0, 1, 2, 3, 4]?,
+            vec![in alloc; 1, 1]?,
+            vec![in alloc; 5]?,
+        ];
+        for columns in cases {
+            match KeySpec::new(alloc, &schema, columns, false) {
+                Err(Fault::BadColumn) => {}
+                _ => panic!(rt; "not refused"),
+            }
+        }
+        Ok(())
+    }
+}
