@@ -1,22 +1,19 @@
 -- Which writes stand once a record is added: those of a transaction, and those at a RID, by one test of the records.
 use Rattle.std.proofs.Common.{◌≡◌, ℕ, ◌+◌, ◌-◌, ◌<◌, ◌≤◌, Bool, true, false, cond, List, [], ◌∷◌, ◌++◌, length, Option, Some, None, refl, sym, ap, ◌∙◌, arith, inl, inr}
 use Rattle.std.specs.Prelude.{◌||◌, ◌&&◌, not}
-use Rattle.std.proofs.lemmas.Bool.{cases_eq, cases_Bool, ne_eqb, eq-eqb, eqb-true, and_right, not_from_true, false≢true, cond-true, cond-false}
+use Rattle.std.proofs.lemmas.Bool.{cases_eq, cases_Bool, ne_eqb, eq-eqb, eqb-true, and_right, not_from_true, false≢true, false_from_ne_true, cond-true, cond-false}
 use Rattle.heap_log.specs.declared.record.LogRec.{LogRec}
 use Rattle.heap_log.specs.declared.record.LogRec.TheVariants.{Write, Undo, Commit, Switch}
+use Rattle.heap_log.specs.Links.{stands_by}
 use Rattle.heap_log.specs.Standing.{record_at, undone, is_undo_of, is_number, is_write_of, last_below, count_below, newest_standing, standing_count, newest_after, count_after, AddsToStanding, NamesEarlier}
 use Rattle.heap_log.proofs.Last.{IsLast, last_below-more, last_below_agree, last_below_some, last_below_taken, last_below_without, count_below-more, count_below_agree, count_below_taken}
-use Rattle.heap_log.proofs.Grown.{record_at-kept, record_at-added, length-added, undone-added, or_no, or_false, undo_within}
+use Rattle.heap_log.proofs.Records.{record_at-kept, record_at-added, length-added, undone-added, or_no, or_false, undo_within}
 
--- whether that number is a standing record that passes the test
-abbrev pub stands_by : (Option LogRec → Bool) → List LogRec → ℕ → Bool
-stands_by test log n = test (record_at log n) && not (undone log n)
-
--- the newest of them
+-- the newest standing record that passes the test
 abbrev pub newest_by : (Option LogRec → Bool) → List LogRec → Option ℕ
 newest_by test log = last_below (stands_by test log) (length log + 1)
 
--- how many there are
+-- how many such records there are
 abbrev pub count_by_test : (Option LogRec → Bool) → List LogRec → ℕ
 count_by_test test log = count_below (stands_by test log) (length log + 1)
 
@@ -121,6 +118,17 @@ count-undo log txn n test e passed within =
           ]) ∙ sym (cond-false (stands_by test log n) (count_by_test test log - 1) (count_by_test test log) miss)
     ]
 
+-- the undo of a record that doesn't stand, by the test
+pub newest-unmoved : (log : List LogRec) (txn n : ℕ) (test : Option LogRec → Bool) → undone (log ++ Undo txn n ∷ []) (length log + 1) ≡ false → test (Some (Undo txn n)) ≡ false → stands_by test log n ≡ false → newest_by test (log ++ Undo txn n ∷ []) ≡ newest_by test log
+newest-unmoved log txn n test e passed miss =
+    newest-undo log txn n test e passed
+    ∙ cond-false (is_number n (newest_by test log)) (last_below (stands_by test log) n) (newest_by test log)
+    (false_from_ne_true (is_number n (newest_by test log)) (λ hit. false≢true (sym miss ∙ (last_below_some (stands_by test log) (length log + 1) n (is_number-true n (newest_by test log) hit)).passes)))
+
+pub count-unmoved : (log : List LogRec) (txn n : ℕ) (test : Option LogRec → Bool) → undone (log ++ Undo txn n ∷ []) (length log + 1) ≡ false → test (Some (Undo txn n)) ≡ false → n ≤ length log → stands_by test log n ≡ false → count_by_test test (log ++ Undo txn n ∷ []) ≡ count_by_test test log
+count-unmoved log txn n test e passed within miss =
+    count-undo log txn n test e passed within ∙ cond-false (stands_by test log n) (count_by_test test log - 1) (count_by_test test log) miss
+
 newest-of : (log : List LogRec) (rec : LogRec) (txn : ℕ) → undone log (length log + 1) ≡ false → NamesEarlier (length log) rec → newest_standing (log ++ rec ∷ []) txn ≡ newest_after log rec txn
 newest-of log (Write t rid row) txn e names = newest-plain log (Write t rid row) (is_write_of txn) (undone-fresh log (Write t rid row) e names) (λ k. refl)
 newest-of log (Undo t n) txn e names = newest-undo log t n (is_write_of txn) (undone-fresh log (Undo t n) e names) refl
@@ -129,7 +137,7 @@ newest-of log (Switch v) txn e names = newest-plain log (Switch v) (is_write_of 
 
 count-of : (log : List LogRec) (rec : LogRec) (txn : ℕ) → undone log (length log + 1) ≡ false → NamesEarlier (length log) rec → standing_count (log ++ rec ∷ []) txn ≡ count_after log rec txn
 count-of log (Write t rid row) txn e names = count-plain log (Write t rid row) (is_write_of txn) (undone-fresh log (Write t rid row) e names) (λ k. refl)
-count-of log (Undo t n) txn e names = count-undo log t n (is_write_of txn) (undone-fresh log (Undo t n) e names) refl names
+count-of log (Undo t n) txn e names = count-undo log t n (is_write_of txn) (undone-fresh log (Undo t n) e names) refl names.1
 count-of log (Commit t) txn e names = count-plain log (Commit t) (is_write_of txn) (undone-fresh log (Commit t) e names) (λ k. refl)
 count-of log (Switch v) txn e names = count-plain log (Switch v) (is_write_of txn) (undone-fresh log (Switch v) e names) (λ k. refl)
 

@@ -1,7 +1,7 @@
 -- The greatest number below n that passes a test.
 use Rattle.std.proofs.Common.{◌≡◌, ℕ, zero, suc, ◌+◌, ◌<◌, ◌≤◌, Bool, true, false, Option, Some, None, refl, sym, ap, ◌∙◌, arith, add-one, inl, inr}
 use Rattle.std.specs.Prelude.{if◌then◌else◌}
-use Rattle.std.proofs.lemmas.Bool.{cases_eq, cond-true, cond-false, cases_Bool}
+use Rattle.std.proofs.lemmas.Bool.{cases_eq, cond-true, cond-false, cases_Bool, false≢true}
 use Rattle.heap_log.specs.Standing.{last_below, count_below}
 
 pub last_below-more : (p : ℕ → Bool) (n : ℕ) → last_below p (n + 1) ≡ (if p n then Some n else last_below p n)
@@ -103,7 +103,7 @@ last_below_without p q n m other miss same = at (last_below p n) refl
         }) ∙ sym e
 
 pub count_below-more : (p : ℕ → Bool) (n : ℕ) → count_below p (n + 1) ≡ (if p n then count_below p n + 1 else count_below p n)
-count_below-more p n = rw add-one refl
+count_below-more p n = rw (add-one n) refl
 
 pub count_below_agree : (p q : ℕ → Bool) (n : ℕ) → ((k : ℕ) → k < n → p k ≡ q k) → count_below p n ≡ count_below q n
 count_below_agree p q zero h = refl
@@ -129,4 +129,26 @@ count_below_taken p q (suc n) m l hit miss same =
             | inl yes' ↦ rw (here, yes') (ap (λ c. c + 1) rest)
             | inr no' ↦ rw (here, no') rest
           ]
+    ]
+
+-- where 0 doesn't pass, there are fewer than n
+pub count_below-le : (p : ℕ → Bool) (n : ℕ) → p 0 ≡ false → count_below p (n + 1) ≤ n
+count_below-le p zero none = rw (count_below-more p 0, none) (omega arith)
+count_below-le p (suc n) none =
+    let rest : count_below p (n + 1) ≤ n = count_below-le p n none in
+    let next : suc n ≡ n + 1 = omega arith in
+    elim (cases_Bool (p (n + 1))) [
+      | inl hit ↦ rw (next, count_below-more p (n + 1), hit) (omega (arith, rest))
+      | inr miss ↦ rw (next, count_below-more p (n + 1), miss) (omega (arith, rest))
+    ]
+
+-- where one passes, there is one
+pub count_below-some : (p : ℕ → Bool) (n m : ℕ) → m < n → p m ≡ true → 0 < count_below p n
+count_below-some p zero m l e = absurd (omega arith)
+count_below-some p (suc n) m l e =
+    elim (cases_Bool (p n)) [
+      | inl hit ↦ rw hit (omega arith)
+      | inr miss ↦
+          let apart : m ≡ n → ⊥ = λ is. false≢true (sym miss ∙ ap p (sym is) ∙ e) in
+          rw miss (count_below-some p n m (omega arith) e)
     ]

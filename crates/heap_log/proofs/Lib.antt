@@ -1,5 +1,7 @@
 pub mod Added
-pub mod Grown
+pub mod Headed
 pub mod Last
+pub mod Linked
 pub mod Live
-pub mod Walk
+pub mod Numbers
+pub mod Records

@@ -1,17 +1,16 @@
 -- The row that stands at a RID once a record is added.
 use Rattle.std.proofs.Common.{◌≡◌, ℕ, ◌+◌, ◌≤◌, Bool, true, false, cond, List, [], ◌∷◌, ◌++◌, length, Option, Some, None, refl, sym, ap, ◌∙◌, arith, inl, inr}
 use Rattle.std.specs.Prelude.{if◌then◌else◌, not}
-use Rattle.std.proofs.lemmas.Bool.{cases_Bool, and_parts, false≢true, cond-true, cond-false}
+use Rattle.std.proofs.lemmas.Bool.{cases_Bool, and_parts, cond-true, cond-false}
 use Rattle.keybytes.specs.declared.cell.Cell.{Cell}
 use Rattle.keybytes.specs.declared.rid.Rid.{Rid}
 use Rattle.heap_log.specs.declared.outcome.Outcome.{Outcome}
 use Rattle.heap_log.specs.declared.record.LogRec.{LogRec}
 use Rattle.heap_log.specs.declared.record.LogRec.TheVariants.{Write, Undo, Commit, Switch}
-use Rattle.heap_log.specs.Standing.{record_at, undone, is_undo_of, is_write_at, is_number, last_below, stands_at, newest_at, live_at, live_after, row_at, row_of, rid_of, same_rid, standing_before, AddsToLive, NamesEarlier}
+use Rattle.heap_log.specs.Standing.{record_at, undone, is_undo_of, is_write_at, is_number, last_below, stands_at, newest_at, live_at, live_after, row_at, row_of, same_rid, standing_before, AddsToLive, NamesEarlier}
 use Rattle.heap_log.proofs.Last.{IsLast, last_below_some}
-use Rattle.heap_log.proofs.Grown.{record_at-kept, record_at-added}
+use Rattle.heap_log.proofs.Records.{record_at-kept, record_at-added, rid_of-write}
 use Rattle.heap_log.proofs.Added.{undone-fresh, newest-plain, newest-undo, is_number-true}
-use Rattle.heap_log.proofs.Walk.{same_rid-true}
 
 -- the row of an old write is the old row
 row_at-kept : (log : List LogRec) (rec : LogRec) (p : ℕ → Bool) (n : ℕ) (o : Option ℕ) → n ≤ length log + 1 → last_below p n ≡ o → row_at (log ++ rec ∷ []) o ≡ row_at log o
@@ -37,14 +36,6 @@ live-plain log rec place e none =
     ∙ ap (λ x. cond hit (row_of x) (row_at new (newest_at log place))) (record_at-added log rec)
     ∙ ap (cond hit (row_of (Some rec))) (row_at-newest log rec place)
 
--- the RID of a write there
-pub rid_of-write : (place : Rid) (rec : Option LogRec) → is_write_at place rec ≡ true → rid_of rec ≡ place
-rid_of-write place None e = absurd (false≢true e)
-rid_of-write place (Some (Write t rid row)) e = same_rid-true rid place e
-rid_of-write place (Some (Undo t n)) e = absurd (false≢true e)
-rid_of-write place (Some (Commit t)) e = absurd (false≢true e)
-rid_of-write place (Some (Switch v)) e = absurd (false≢true e)
-
 pub live-write : (log : List LogRec) (txn : ℕ) (rid : Rid) (row : Option (List Cell)) (place : Rid) → undone log (length log + 1) ≡ false → live_at (log ++ Write txn rid row ∷ []) place ≡ (if same_rid rid place then row else live_at log place)
 live-write log txn rid row place e = live-plain log (Write txn rid row) place (undone-fresh log (Write txn rid row) e tt) (λ k. refl)
 
@@ -55,7 +46,7 @@ pub live-switch : (log : List LogRec) (verdicts : List Outcome) (place : Rid) �
 live-switch log verdicts place e = live-plain log (Switch verdicts) place (undone-fresh log (Switch verdicts) e tt) (λ k. refl)
 
 -- the undo of the newest standing write at a RID brings back the row of the one before it, and all else stays
-pub live-undo : (log : List LogRec) (txn n : ℕ) (place : Rid) → undone log (length log + 1) ≡ false → n ≤ length log → live_at (log ++ Undo txn n ∷ []) place ≡ (if is_number n (newest_at log place) then row_at log (standing_before log n) else live_at log place)
+pub live-undo : (log : List LogRec) (txn n : ℕ) (place : Rid) → undone log (length log + 1) ≡ false → NamesEarlier (length log) (Undo txn n) → live_at (log ++ Undo txn n ∷ []) place ≡ (if is_number n (newest_at log place) then row_at log (standing_before log n) else live_at log place)
 live-undo log txn n place e names =
     let new : List LogRec = log ++ Undo txn n ∷ [] in
     let hit : Bool = is_number n (newest_at log place) in
@@ -67,7 +58,7 @@ live-undo log txn n place e names =
           let last : IsLast (stands_at log place) (length log + 1) n = last_below_some (stands_at log place) (length log + 1) n (is_number-true n (newest_at log place) is) in
           let there : is_write_at place (record_at log n) ≡ true = (and_parts (is_write_at place (record_at log n)) (not (undone log n)) last.passes).0 in
           start ∙ cond-true hit (row_at new before) (row_at new (newest_at log place)) is
-          ∙ row_at-kept log (Undo txn n) (stands_at log place) n before (omega arith) refl
+          ∙ row_at-kept log (Undo txn n) (stands_at log place) n before (omega (arith, names.1)) refl
           ∙ ap (λ r. row_at log (last_below (stands_at log r) n)) (sym (rid_of-write place (record_at log n) there))
           ∙ sym (cond-true hit (row_at log (standing_before log n)) (live_at log place) is)
       | inr miss ↦

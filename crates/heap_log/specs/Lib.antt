@@ -1,3 +1,4 @@
+pub mod Heads
 pub mod Links
 pub mod LogValue
 pub mod Standing

@@ -1,32 +1,42 @@
 -- What a log keeps beside its records.
-use Rattle.std.specs.declared.alloc.Global.{Global}
-use Rattle.std.specs.Prelude.{Vec, vec_len, vec_capacity, ◌≡◌, ℕ, ◌+◌, ◌≤◌, ◌<◌, Bool, List, Option, Some, None, length, slice_index_or, false, ◌&&◌, ◌||◌, not}
+use Rattle.std.specs.Prelude.{◌≡◌, ℕ, ◌+◌, ◌≤◌, ◌<◌, Bool, true, false, ◌&&◌, ◌||◌, not, List, length, Option, Some, None, IsSome, slice_index_or}
 use Rattle.heap_log.specs.declared.record.LogRec.{LogRec}
-use Rattle.heap_log.specs.declared.record.LogRec.TheVariants.{Write, Undo, Commit, Switch}
 use Rattle.heap_log.specs.declared.link.Link.{Link}
-use Rattle.heap_log.specs.Standing.{undone, record_at, last_of, last_at, last_below, is_undo_of}
+use Rattle.heap_log.specs.declared.link.Chain.{Chain}
+use Rattle.heap_log.specs.declared.link.Chain.TheVariants.{OfTxn, AtRid}
+use Rattle.heap_log.specs.Standing.{undone, record_at, is_undo_of, is_write_of, is_write_at, place_of, txn_of, rid_of}
 
--- a link leads to the write before, of the same transaction and at the same place, standing or not
-abbrev pub LeadsBack : List LogRec → ℕ → Link → Option LogRec → Type 0
-LeadsBack log n link (Some (Write txn rid row)) = (link.of_txn ≡ last_of log txn n) × (link.at_rid ≡ last_at log rid n)
-LeadsBack log n link (Some (Undo txn m)) = Unit {0}
-LeadsBack log n link (Some (Commit txn)) = Unit {0}
-LeadsBack log n link (Some (Switch verdicts)) = Unit {0}
-LeadsBack log n link None = Unit {0}
+-- whether a record is a write on the same chain as that write
+abbrev pub on_chain : Chain → Option LogRec → Option LogRec → Bool
+on_chain OfTxn write = is_write_of (txn_of write)
+on_chain AtRid write = is_write_at (rid_of write)
 
+-- where a link leads along the chain
+abbrev pub link_before : Chain → Link → Option ℕ
+link_before OfTxn link = link.of_txn
+link_before AtRid link = link.at_rid
+
+-- whether that number is a standing record that passes the test
+abbrev pub stands_by : (Option LogRec → Bool) → List LogRec → ℕ → Bool
+stands_by passes log n = passes (record_at log n) && not (undone log n)
+
+-- the first number past the place
+abbrev pub end_of : Option ℕ → ℕ
+end_of None = 0
+end_of (Some n) = n + 1
+
+-- no record that passes stands between the place and n; the record at the place, if there is one, passes, standing or not
+pub record LeadsTo (passes : Option LogRec → Bool) (log : List LogRec) (n : ℕ) (place : Option ℕ) : Type 0 where
+  pub there : (k : ℕ) → place ≡ Some k → (k < n) × (passes (record_at log k) ≡ true)
+  pub passed : (k : ℕ) → end_of place ≤ k → k < n → stands_by passes log k ≡ false
+
+-- the links go with the records
 pub record AreLinks (log : List LogRec) (links : List Link) : Type 0 where
   pub lengths : length links ≡ length log
   pub flags : (i : ℕ) (d : Link) → i < length log → (slice_index_or links i d).undone ≡ undone log (i + 1)
-  pub back : (i : ℕ) (d : Link) → i < length log → LeadsBack log (i + 1) (slice_index_or links i d) (record_at log (i + 1))
+  pub back : (i : ℕ) (d : Link) (chain : Chain) → i < length log → IsSome (place_of (record_at log (i + 1))) → LeadsTo (on_chain chain (record_at log (i + 1))) log (i + 1) (link_before chain (slice_index_or links i d))
   -- no undo names what isn't there
   pub earlier : (n : ℕ) → length log < n → undone log n ≡ false
-
--- a walk down the links has come to that place: what stands below n stands below where it is now
-pub record HasWalked (written gone : ℕ → Bool) (n : ℕ) (place : Option ℕ) : Type 0 where
-  pub from : ℕ
-  pub within : from ≤ n
-  pub is : place ≡ last_below written from
-  pub same : last_below (λ k. written k && not (gone k)) n ≡ last_below (λ k. written k && not (gone k)) from
 
 -- the same links, with those that the record undoes marked
 pub record AreMarked (added : LogRec) (old new : List Link) : Type 0 where
@@ -35,8 +45,7 @@ pub record AreMarked (added : LogRec) (old new : List Link) : Type 0 where
   pub at_rid : (i : ℕ) (d : Link) → i < length old → (slice_index_or new i d).at_rid ≡ (slice_index_or old i d).at_rid
   pub flags : (i : ℕ) (d : Link) → i < length old → (slice_index_or new i d).undone ≡ ((slice_index_or old i d).undone || is_undo_of (i + 1) added)
 
--- the links go with the records, and there is room for that many more of each
-pub record IsKept (entries : Vec LogRec Global) (beside : Vec Link Global) (room : ℕ) : Type 0 where
-  pub links : AreLinks entries.items beside.items
-  pub records_room : vec_len entries + room ≤ vec_capacity entries
-  pub links_room : vec_len beside + room ≤ vec_capacity beside
+-- the link of a record that comes next
+pub record IsLinkOf (log : List LogRec) (added : LogRec) (link : Link) : Type 0 where
+  pub stands : link.undone ≡ false
+  pub back : (chain : Chain) → IsSome (place_of (Some added)) → LeadsTo (on_chain chain (Some added)) log (length log + 1) (link_before chain link)

@@ -1,5 +1,5 @@
 -- Which writes of a log stand, and what they leave. A record's number is its place in the log, from 1.
-use Rattle.std.specs.Prelude.{◌≡◌, ℕ, zero, suc, ◌+◌, ◌-◌, ◌≤◌, Bool, false, ◌&&◌, not, ◌==◌, if◌then◌else◌, List, length, take, Option, Some, None}
+use Rattle.std.specs.Prelude.{◌≡◌, ℕ, zero, suc, ◌+◌, ◌-◌, ◌≤◌, Bool, false, ◌&&◌, not, ◌==◌, if◌then◌else◌, List, length, take, Option, Some, None, IsSome}
 use Rattle.std.specs.List.{slice_get, list_any}
 use Rattle.keybytes.specs.declared.cell.Cell.{Cell}
 use Rattle.keybytes.specs.declared.rid.Rid.{Rid}
@@ -92,6 +92,14 @@ place_of (Some (Undo txn n)) = None
 place_of (Some (Commit txn)) = None
 place_of (Some (Switch verdicts)) = None
 
+-- the transaction of a write
+abbrev pub txn_of : Option LogRec → ℕ
+txn_of None = 0
+txn_of (Some (Write txn rid row)) = txn
+txn_of (Some (Undo txn n)) = 0
+txn_of (Some (Commit txn)) = 0
+txn_of (Some (Switch verdicts)) = 0
+
 -- the RID of a write
 abbrev pub rid_of : Option LogRec → Rid
 rid_of None = record { page = 0; slot = 0 }
@@ -121,10 +129,16 @@ row_at log (Some n) = row_of (record_at log n)
 abbrev pub live_at : List LogRec → Rid → Option (List Cell)
 live_at log rid = row_at log (newest_at log rid)
 
+-- the number is that of a write
+pub record IsWrite (log : List LogRec) (n : ℕ) : Type 0 where
+  pub low : 1 ≤ n
+  pub high : n ≤ length log
+  pub write : IsSome (place_of (record_at log n))
+
 -- an undo names a record that is there already
 abbrev pub NamesEarlier : ℕ → LogRec → Type 0
 NamesEarlier count (Write txn rid row) = Unit {0}
-NamesEarlier count (Undo txn n) = n ≤ count
+NamesEarlier count (Undo txn n) = (1 ≤ n) × (n ≤ count)
 NamesEarlier count (Commit txn) = Unit {0}
 NamesEarlier count (Switch verdicts) = Unit {0}
 

@@ -8,10 +8,13 @@
 //! indexes, an [`Outcome`] each.
 #![tactic(auto)]
 
+mod heads;
 mod link;
 mod log;
 mod outcome;
 mod record;
+#[cfg(test)]
+mod tests;
 mod verdicts;
 
 pub use keybytes::Rid;

@@ -1,10 +1,57 @@
-/// What the log keeps beside a record.
+ghost use Rattle.std.specs.Prelude.{◌≡◌, None, false, vec_len, vec_capacity};
+ghost use Rattle.heap_log.specs.Links.{link_before, AreMarked};
+ghost use Rattle.heap_log.specs.Standing.{NamesEarlier};
+
+use crate::LogRec;
+
+/// The writes that belong together: those of one transaction, or those at one RID.
+#[derive(Clone, Copy)]
+pub(crate) enum Chain {
+    OfTxn,
+    AtRid,
+}
+
+/// What the log keeps beside a record. A write's links lead to the writes that were the newest standing ones when it
+/// came; those may be undone since.
 #[derive(Clone, Copy)]
 pub(crate) struct Link {
-    /// The write of the same transaction before this one.
     pub of_txn: Option<usize>,
-    /// The write at the same RID before this one.
     pub at_rid: Option<usize>,
     /// An undo names this record.
     pub undone: bool,
+}
+
+impl Link {
+    /// The link of a record that is no write.
+    pub fn none() -> Link
+        ensures { result ≡ record { of_txn = None; at_rid = None; undone = false } }
+    {
+        Link {
+            of_txn: None,
+            at_rid: None,
+            undone: false,
+        }
+    }
+
+    /// Where the chain leads from here.
+    pub fn before(self, chain: Chain) -> Option<usize>
+        ensures { result ≡ link_before chain self }
+    {
+        match chain {
+            Chain::OfTxn => self.of_txn,
+            Chain::AtRid => self.at_rid,
+        }
+    }
+}
+
+/// Marks what the record undoes.
+pub(crate) fn mark_undone(links: &mut Vec<Link>, added: &LogRec)
+    requires { NamesEarlier (vec_len links.old) added.now }
+    ensures marked { AreMarked added.now links.old.items links.new.items }
+    ensures len { vec_len links.new ≡ vec_len links.old }
+    ensures capacity { vec_capacity links.new ≡ vec_capacity links.old }
+{
+    if let LogRec::Undo { undone, .. } = added {
+        links[*undone - 1].undone = true;
+    }
 }

@@ -1,11 +1,16 @@
-ghost use Rattle.std.specs.Prelude.{◌≡◌, ◌<◌, ◌≤◌, ◌+◌, ◌++◌, ◌∷◌, [], length, Some, None, false, vec_len, vec_capacity, IsSome, IsOk, IfErr, OnOk, OnErr};
-ghost use Rattle.heap_log.specs.Links.{LeadsBack, AreMarked};
-ghost use Rattle.heap_log.specs.Standing.{record_at, place_of, is_write_at, is_write_of, last_at, last_of, newest_standing, standing_before, standing_count, NamesEarlier, AddsToLive, AddsToStanding};
+ghost use Rattle.std.specs.Prelude.{◌≡◌, ℕ, ◌<◌, ◌≤◌, ◌+◌, ◌-◌, ◌++◌, ◌∷◌, [], length, Some, None, true, vec_len, vec_capacity, if◌then◌else◌, IsSome, IfSome, IsOk, IfErr, OnOk, OnErr};
+ghost use Rattle.heap_log.specs.Heads.{txn_head, rid_head, AreHeadsAfter};
+ghost use Rattle.heap_log.specs.Links.{on_chain, stands_by, IsLinkOf};
+ghost use Rattle.heap_log.specs.Standing.{record_at, place_of, is_number, last_below, last_at, stands_of, stands_at, newest_at, newest_standing, standing_before, standing_count, IsWrite, NamesEarlier, AddsToLive, AddsToStanding};
 
 use crate::LogRec;
-use crate::link::Link;
+use crate::heads::{
+    Heads, RidHead, RidHeads, TxnHead, TxnHeads, rid_head, set_rid_head, set_txn_head, txn_head,
+};
+use crate::link::{Chain, Link, mark_undone};
 use keybytes::{Fault, Rid};
 use std::alloc::Global;
+use std::collections::HashMap;
 use std::marker::Model;
 
 /// The log. Contracts see its records in order, and its room: how many more it can take without memory.
@@ -13,6 +18,8 @@ use std::marker::Model;
 pub struct Log {
     records: Vec<LogRec>,
     links: Vec<Link>,
+    txns: TxnHeads,
+    rids: RidHeads,
     room: usize,
 }
 
@@ -21,103 +28,19 @@ impl Model for Log {
 
     ghost Value = { LogValue };
 
-    ghost use Rattle.heap_log.specs.Links.{IsKept};
+    ghost use Rattle.heap_log.specs.Heads.{IsKept};
 
     ghost view = { λ log. record { records = log.records.items; room = log.room } };
 
-    ghost invariant = { λ log. IsKept log.records log.links log.room };
+    ghost invariant = { λ log. IsKept log.records log.links log.txns log.rids log.room };
 }
 
-fn writes_at(record: &LogRec, rid: Rid) -> bool
-    ensures { result ≡ is_write_at rid (Some record.now) }
+fn is_number(place: Option<usize>, number: usize) -> bool
+    ensures { result ≡ is_number number place }
 {
-    match record {
-        LogRec::Write { rid: place, .. } => place.page == rid.page && place.slot == rid.slot,
-        LogRec::Undo { .. } => false,
-        LogRec::Commit { .. } => false,
-        LogRec::Switch { .. } => false,
-    }
-}
-
-fn writes_of(record: &LogRec, txn: u64) -> bool
-    ensures { result ≡ is_write_of txn (Some record.now) }
-{
-    match record {
-        LogRec::Write { txn: writer, .. } => *writer == txn,
-        LogRec::Undo { .. } => false,
-        LogRec::Commit { .. } => false,
-        LogRec::Switch { .. } => false,
-    }
-}
-
-/// The last write at the place.
-fn last_write_at(records: &[LogRec], rid: Rid) -> Option<usize>
-    ensures { result ≡ last_at records.now rid (length records.now + 1) }
-{
-    let mut number = records.len();
-    while number > 0 {
-        if writes_at(&records[number - 1], rid) {
-            return Some(number);
-        }
-        number -= 1;
-    }
-    None
-}
-
-/// The last write of the transaction.
-fn last_write_of(records: &[LogRec], txn: u64) -> Option<usize>
-    ensures { result ≡ last_of records.now txn (length records.now + 1) }
-{
-    let mut number = records.len();
-    while number > 0 {
-        if writes_of(&records[number - 1], txn) {
-            return Some(number);
-        }
-        number -= 1;
-    }
-    None
-}
-
-/// The link of a record that comes next.
-fn link_of(records: &[LogRec], added: &LogRec) -> Link
-    ensures back { LeadsBack records.now (length records.now + 1) result (Some added.now) }
-    ensures stands { result.undone ≡ false }
-{
-    match added {
-        LogRec::Write { txn, rid, .. } => Link {
-            of_txn: last_write_of(records, *txn),
-            at_rid: last_write_at(records, *rid),
-            undone: false,
-        },
-        LogRec::Undo { .. } => Link {
-            of_txn: None,
-            at_rid: None,
-            undone: false,
-        },
-        LogRec::Commit { .. } => Link {
-            of_txn: None,
-            at_rid: None,
-            undone: false,
-        },
-        LogRec::Switch { .. } => Link {
-            of_txn: None,
-            at_rid: None,
-            undone: false,
-        },
-    }
-}
-
-/// Marks what the record undoes.
-fn mark_undone(links: &mut Vec<Link>, added: &LogRec)
-    requires { NamesEarlier (vec_len links.old) added.now }
-    ensures marked { AreMarked added.now links.old.items links.new.items }
-    ensures len { vec_len links.new ≡ vec_len links.old }
-    ensures capacity { vec_capacity links.new ≡ vec_capacity links.old }
-{
-    if let LogRec::Undo { undone, .. } = added {
-        if *undone > 0 {
-            links[*undone - 1].undone = true;
-        }
+    match place {
+        Some(other) => other == number,
+        None => false,
     }
 }
 
@@ -129,6 +52,8 @@ impl Log {
         Log {
             records: Vec::new(alloc),
             links: Vec::new(alloc),
+            txns: HashMap::new(alloc),
+            rids: HashMap::new(alloc),
             room: 0,
         }
     }
@@ -147,6 +72,8 @@ impl Log {
         }
         self.records.reserve(additional)?;
         self.links.reserve(additional)?;
+        self.txns.reserve(additional)?;
+        self.rids.reserve(additional)?;
         self.room = additional;
         Ok(())
     }
@@ -169,53 +96,34 @@ impl Log {
 
     /// The number of the transaction's newest standing write.
     pub fn newest(&self, txn: u64) -> Option<usize>
-        ensures { result ≡ newest_standing self.now.records txn }
+        ensures value { result ≡ newest_standing self.now.records txn }
+        ensures write { IfSome result (IsWrite self.now.records) }
     {
-        let mut place = last_write_of(&self.records, txn);
-        while let Some(number) = place {
-            let link = self.links[number - 1];
-            if !link.undone {
-                return place;
-            }
-            place = link.of_txn;
-        }
-        None
-    }
-
-    /// The number of the last write at the RID, standing or not.
-    pub fn last(&self, rid: Rid) -> Option<usize>
-        ensures { result ≡ last_at self.now.records rid (length self.now.records + 1) }
-    {
-        last_write_at(&self.records, rid)
-    }
-
-    /// The number of the newest standing write before that write, at the same RID.
-    pub fn before(&self, number: usize) -> Option<usize>
-        requires { IsSome (place_of (record_at self.now.records number)) }
-        ensures { result ≡ standing_before self.now.records number }
-    {
-        let mut place = self.links[number - 1].at_rid;
-        while let Some(earlier) = place {
-            let link = self.links[earlier - 1];
-            if !link.undone {
-                return place;
-            }
-            place = link.at_rid;
-        }
-        None
+        self.txn_head(txn).newest
     }
 
     /// How many writes of the transaction stand.
     pub fn standing(&self, txn: u64) -> usize
         ensures { result ≡ standing_count self.now.records txn }
     {
-        let mut count = 0;
-        for i in 0..self.records.len() {
-            if writes_of(&self.records[i], txn) && !self.links[i].undone {
-                count += 1;
-            }
-        }
-        count
+        self.txn_head(txn).standing
+    }
+
+    /// The number of the last write at the RID, standing or not.
+    pub fn last(&self, rid: Rid) -> Option<usize>
+        ensures value { result ≡ last_at self.now.records rid (length self.now.records + 1) }
+        ensures write { IfSome result (IsWrite self.now.records) }
+    {
+        self.rid_head(rid).last
+    }
+
+    /// The number of the newest standing write before that write, at the same RID.
+    pub fn before(&self, number: usize) -> Option<usize>
+        requires { IsSome (place_of (record_at self.now.records number)) }
+        ensures value { result ≡ standing_before self.now.records number }
+        ensures write { IfSome result (IsWrite self.now.records) }
+    {
+        self.before_on(Chain::AtRid, number)
     }
 
     /// Appends a record. Takes no memory.
@@ -227,10 +135,149 @@ impl Log {
         ensures live { AddsToLive self.old.records added self.new.records }
         ensures standing { AddsToStanding self.old.records added self.new.records }
     {
-        let link = link_of(&self.records, &added);
+        let link = self.link_of(&added);
+        let heads = self.heads_after(&added);
         mark_undone(&mut self.links, &added);
+        set_txn_head(&mut self.txns, heads);
+        set_rid_head(&mut self.rids, heads);
         self.records.push_reserved(added);
         self.links.push_reserved(link);
         self.room -= 1;
+    }
+
+    fn txn_head(&self, txn: u64) -> TxnHead
+        ensures { result ≡ txn_head self.now.records txn }
+    {
+        txn_head(&self.txns, txn)
+    }
+
+    fn rid_head(&self, rid: Rid) -> RidHead
+        ensures { result ≡ rid_head self.now.records rid }
+    {
+        rid_head(&self.rids, rid)
+    }
+
+    /// The newest standing write before that write, on the chain. Links lead past all but those undone since.
+    fn before_on(&self, chain: Chain, number: usize) -> Option<usize>
+        requires { IsSome (place_of (record_at self.now.records number)) }
+        ensures { result ≡ last_below (stands_by (on_chain chain (record_at self.now.records number)) self.now.records) number }
+    {
+        let mut place = self.links[number - 1].before(chain);
+        while let Some(earlier) = place {
+            let link = self.links[earlier - 1];
+            if !link.undone {
+                return place;
+            }
+            place = link.before(chain);
+        }
+        None
+    }
+
+    /// The link of a record that comes next.
+    fn link_of(&self, added: &LogRec) -> Link
+        ensures { IsLinkOf self.now.records added.now result }
+    {
+        match added {
+            LogRec::Write { txn, rid, .. } => Link {
+                of_txn: self.txn_head(*txn).newest,
+                at_rid: self.rid_head(*rid).newest,
+                undone: false,
+            },
+            LogRec::Undo { .. } => Link::none(),
+            LogRec::Commit { .. } => Link::none(),
+            LogRec::Switch { .. } => Link::none(),
+        }
+    }
+
+    /// The heads that the record changes.
+    fn heads_after(&self, added: &LogRec) -> Option<Heads>
+        requires { NamesEarlier (length self.now.records) added.now }
+        ensures { AreHeadsAfter self.now.records (self.now.records ++ added.now ∷ []) result }
+    {
+        let number = self.records.len() + 1;
+        match added {
+            LogRec::Write { txn, rid, .. } => Some(self.heads_with(number, *txn, *rid)),
+            LogRec::Undo { undone, .. } => self.heads_without(*undone),
+            LogRec::Commit { .. } => None,
+            LogRec::Switch { .. } => None,
+        }
+    }
+
+    /// The heads of the two, with a write of that number that comes next.
+    fn heads_with(&self, number: usize, txn: u64, rid: Rid) -> Heads
+        requires { number ≡ length self.now.records + 1 }
+        ensures txn { result.txn ≡ txn }
+        ensures of_txn { result.of_txn ≡ record { newest = Some number; standing = standing_count self.now.records txn + 1 } }
+        ensures rid { result.rid ≡ rid }
+        ensures at_rid { result.at_rid ≡ record { last = Some number; newest = Some number } }
+    {
+        Heads {
+            txn,
+            of_txn: TxnHead {
+                newest: Some(number),
+                standing: self.standing(txn) + 1,
+            },
+            rid,
+            at_rid: RidHead {
+                last: Some(number),
+                newest: Some(number),
+            },
+        }
+    }
+
+    /// The heads of a standing write's transaction and RID, once it is undone; none for another record.
+    fn heads_without(&self, number: usize) -> Option<Heads>
+        requires low { 1 ≤ number }
+        requires high { number ≤ length self.now.records }
+        ensures { (txn : ℕ) → AreHeadsAfter self.now.records (self.now.records ++ LogRec.Undo txn number ∷ []) result }
+    {
+        if self.links[number - 1].undone {
+            return None;
+        }
+        match &self.records[number - 1] {
+            LogRec::Write { txn, rid, .. } => Some(Heads {
+                txn: *txn,
+                of_txn: self.txn_head_without(*txn, number),
+                rid: *rid,
+                at_rid: self.rid_head_without(*rid, number),
+            }),
+            LogRec::Undo { .. } => None,
+            LogRec::Commit { .. } => None,
+            LogRec::Switch { .. } => None,
+        }
+    }
+
+    /// The head of the transaction once that standing write of it is undone.
+    fn txn_head_without(&self, txn: u64, number: usize) -> TxnHead
+        requires { stands_of self.now.records txn number ≡ true }
+        ensures newest { result.newest ≡ (if is_number number (newest_standing self.now.records txn) then last_below (stands_of self.now.records txn) number else newest_standing self.now.records txn) }
+        ensures standing { result.standing ≡ standing_count self.now.records txn - 1 }
+    {
+        let head = self.txn_head(txn);
+        TxnHead {
+            standing: head.standing - 1,
+            newest: if is_number(head.newest, number) {
+                self.before_on(Chain::OfTxn, number)
+            } else {
+                head.newest
+            },
+        }
+    }
+
+    /// The head of the RID once that standing write there is undone.
+    fn rid_head_without(&self, rid: Rid, number: usize) -> RidHead
+        requires { stands_at self.now.records rid number ≡ true }
+        ensures last { result.last ≡ last_at self.now.records rid (length self.now.records + 1) }
+        ensures newest { result.newest ≡ (if is_number number (newest_at self.now.records rid) then last_below (stands_at self.now.records rid) number else newest_at self.now.records rid) }
+    {
+        let head = self.rid_head(rid);
+        RidHead {
+            last: head.last,
+            newest: if is_number(head.newest, number) {
+                self.before(number)
+            } else {
+                head.newest
+            },
+        }
     }
 }

@@ -1,19 +1,21 @@
-use Rattle.std.proofs.Common.{◌≡◌, ℕ, ◌+◌, ◌-◌, ◌*◌, ◌/◌, ◌%◌, ◌≤◌, ◌<◌, suc, zero, List, [], ◌∷◌, ◌++◌, length, get_or, take, drop, refl, sym, ap, ◌∙◌, arith, subst, inl, Bool, true, false, cond, append_assoc}
+use Rattle.std.proofs.Common.{◌≡◌, ℕ, ◌+◌, ◌-◌, ◌*◌, ◌≤◌, ◌<◌, suc, zero, List, [], ◌∷◌, ◌++◌, length, get_or, take, drop, refl, sym, ap, ◌∙◌, arith, subst, inl, Bool, true, false, cond, append_assoc}
 use Rattle.std.specs.Prelude.{nat_eq, slice_range, Some, None}
-use Rattle.std.specs.List.{All, AllPairs, flat_map}
+use Rattle.std.specs.List.{All, AllPairs, flat_map, sum_by}
 use Rattle.std.proofs.lemmas.Bool.{ne_eqb}
-use Rattle.std.proofs.lemmas.List.{get_or-map, get_or-drop, drop-drop, length-map, length-append, length-drop, take_at, take_more, flat_map_more, length-take-le}
+use Rattle.std.proofs.lemmas.List.{get_or-map, drop-drop, length-map, length-append, length-drop, take_at, take_more, flat_map_more, length-take-le}
 use Rattle.std.proofs.lemmas.List.Elements.{All-get_or}
 use Rattle.std.proofs.lemmas.Slice.{drop-append-drop}
 use Rattle.byteorder.specs.Endian.{big_bytes, big_number}
 use Rattle.byteorder.specs.Numbers.{big_number-reads_back}
 use Rattle.std.proofs.lemmas.List.Sums.{sum_by-cons}
 use Rattle.slotted_page.specs.Slot.{held, reserve_of, free, bytes_of, total_reserve}
-use Rattle.slotted_page.specs.Entry.{slot_of, slots_of, IsPlaced, Stacked}
+use Rattle.slotted_page.specs.Page.{PageValue}
+use Rattle.slotted_page.specs.Entry.{slot_of, slots_of, length_of, IsPlaced, Stacked}
 use Rattle.slotted_page.specs.Image.{number_at, three, entry_bytes, head_bytes, entry_from, first_entry, read_entries, image_entries, slots_in, KeepsFormat}
 use Rattle.slotted_page.specs.Entry.{Apart}
 use Rattle.slotted_page.specs.declared.entry.Entry.{Entry}
 use Rattle.slotted_page.specs.declared.entry.Entry.TheVariants.{Free, Held, Row}
+use Rattle.slotted_page.proofs.PageFields.{PageFacts, lengths_le}
 use Rattle.slotted_page.proofs.Packing.{placed_from_stacked, slots_same, stacked_within, placed_at}
 
 pub length_entry : (e : Entry) → length (entry_bytes e) ≡ 6
@@ -29,7 +31,8 @@ length_flat (e ∷ es) =
     let a = length-append (entry_bytes e) (flat_map entry_bytes es) in
     omega (arith, h, t, a)
 
-pub entries_step : (old now next : List ℕ) (es : List Entry) (i : ℕ) (e d : Entry) → i < length es → length es ≤ 255 → length old ≡ 4096 → get_or es i d ≡ e →
+pub entries_step : (old now next : List ℕ) (es : List Entry) (i : ℕ) (e d : Entry) → i < length es → length es ≤ 255 → length old ≡ 4096 →
+    get_or es i d ≡ e →
     now ≡ (take 8 old ++ flat_map entry_bytes (take i es)) ++ drop (8 + 6 * i) old →
     next ≡ take (8 + 6 * i) now ++ (entry_bytes e ++ drop (8 + 6 * i + 6) now) →
     next ≡ (take 8 old ++ flat_map entry_bytes (take (i + 1) es)) ++ drop (8 + 6 * (i + 1)) old
@@ -64,7 +67,8 @@ first_held : (r : ℕ) (rest : List ℕ) → r < 65536 → first_entry (three 0 
 first_held r rest h = ap Held (number_back r rest h)
 
 -- the entries of a page are read back from their bytes
-pub read_back : (area : List ℕ) (floor : ℕ) (es : List Entry) (rest : List ℕ) → 0 < floor → Stacked floor es → total_reserve (slots_of area es) ≤ 4096 →
+pub read_back : (area : List ℕ) (floor : ℕ) (es : List Entry) (rest : List ℕ) → 0 < floor → Stacked floor es →
+    total_reserve (slots_of area es) ≤ 4096 →
     read_entries (length es) (flat_map entry_bytes es ++ rest) ≡ es
 read_back area floor [] rest p s t = refl
 read_back area floor (Free ∷ es) rest p s t =
@@ -110,14 +114,31 @@ pub record Copied (packed : List ℕ) (es : List Entry) (count floor : ℕ) : Ty
   pub above : 8 + 6 * count ≤ floor
   pub room : 8 + 6 * count + total_reserve (slots_of packed es) ≤ 4096
 
+-- the rows of a page, packed for a copy of it
+pub copied_page : {page : PageValue} {area : List ℕ} {table : List Entry} {count limit floor reserved : ℕ} →
+    PageFacts page area table count limit floor reserved → (packed : List ℕ) (entries : List Entry) (bottom : ℕ) →
+    length packed ≡ 4096 → length entries ≡ length table → Stacked bottom (take count entries) →
+    bottom + sum_by length_of (take count table) ≡ 4096 →
+    slots_of packed (take count entries) ≡ slots_of area (take count table) → Copied packed (take count entries) count bottom
+copied_page {area = area} {table = table} {count = count} {floor = floor} f packed entries bottom long same stacked sum rows =
+    let m = lengths_le area floor (take count table) f.keeps.placed in
+    record {
+      long = long;
+      counted = length-take-le count entries (omega (arith, same, f.keeps.long, f.keeps.counted, f.keeps.limited));
+      stacked = stacked;
+      above = omega (arith, m, f.keeps.total, f.keeps.room, sum);
+      room = omega (arith, ap total_reserve rows, f.keeps.total, f.keeps.room);
+    }
+
 copy_count : (count floor : ℕ) (es : List Entry) (rest : List ℕ) → count < 65536 → number_at (whole count floor es rest) 2 ≡ count
 copy_count count floor es rest h = number_back count (drop 4 (whole count floor es rest)) h
 
 copy_floor : (count floor : ℕ) (es : List Entry) (rest : List ℕ) → floor < 65536 → number_at (whole count floor es rest) 4 ≡ floor
 copy_floor count floor es rest h = number_back floor (drop 6 (whole count floor es rest)) h
 
-pub copy_entries : (packed : List ℕ) (es : List Entry) (count floor : ℕ) (rest : List ℕ) → Copied packed es count floor → image_entries (whole count floor es rest) ≡ es
-copy_entries packed es count floor rest k =
+copy_entries : {packed : List ℕ} {es : List Entry} {count floor : ℕ} → Copied packed es count floor → (rest : List ℕ) →
+    image_entries (whole count floor es rest) ≡ es
+copy_entries {packed = packed} {es = es} {count = count} {floor = floor} k rest =
     let w = stacked_within floor es k.stacked in
     ap (λ (n : ℕ). read_entries n (flat_map entry_bytes es ++ rest)) (copy_count count floor es rest (omega (arith, w, k.above)) ∙ sym k.counted)
     ∙ read_back packed floor es rest (omega (arith, k.above)) k.stacked (omega (arith, k.room))
@@ -125,44 +146,54 @@ copy_entries packed es count floor rest k =
 head_length : (count floor : ℕ) (es : List Entry) → length (head_bytes count floor ++ flat_map entry_bytes es) ≡ 8 + 6 * length es
 head_length count floor es = omega (arith, length-append (head_bytes count floor) (flat_map entry_bytes es), length_flat es)
 
-pub copy_slots : (packed : List ℕ) (es : List Entry) (count floor : ℕ) → Copied packed es count floor →
+pub copy_slots : {packed : List ℕ} {es : List Entry} {count floor : ℕ} → Copied packed es count floor →
     slots_in (whole count floor es (drop (8 + 6 * count) packed)) ≡ slots_of packed es
-copy_slots packed es count floor k =
+copy_slots {packed = packed} {es = es} {count = count} {floor = floor} k =
     let image = whole count floor es (drop (8 + 6 * count) packed) in
     let n : length (head_bytes count floor ++ flat_map entry_bytes es) ≡ 8 + 6 * count = omega (arith, head_length count floor es, k.counted) in
     let d : drop floor image ≡ drop floor packed =
     drop-append-drop (8 + 6 * count) packed (head_bytes count floor ++ flat_map entry_bytes es) floor k.above n in
-    ap (slots_of image) (copy_entries packed es count floor (drop (8 + 6 * count) packed) k)
+    ap (slots_of image) (copy_entries k (drop (8 + 6 * count) packed))
     ∙ slots_same image packed floor es d (placed_from_stacked floor es k.stacked)
 
-pub copied_form : (packed t1 t2 : List ℕ) (es : List Entry) (count floor : ℕ) → t1 ≡ head_bytes count floor ++ drop 8 packed →
-    t2 ≡ (take 8 t1 ++ flat_map entry_bytes es) ++ drop (8 + 6 * length es) t1 → length es ≡ count → t2 ≡ whole count floor es (drop (8 + 6 * count) packed)
-copied_form packed t1 t2 es count floor a b n =
+-- what is written over the packed rows: the head, and then the entries
+pub copied_form : {packed : List ℕ} {es : List Entry} {count floor : ℕ} → Copied packed es count floor → (t1 t2 : List ℕ) →
+    t1 ≡ head_bytes count floor ++ drop 8 packed →
+    t2 ≡ (take 8 t1 ++ flat_map entry_bytes es) ++ drop (8 + 6 * length es) t1 → t2 ≡ whole count floor es (drop (8 + 6 * count) packed)
+copied_form {packed = packed} {count = count} {floor = floor} k t1 t2 a b =
     let x : take 8 t1 ≡ head_bytes count floor = ap (take 8) a in
     let y : drop (8 + 6 * count) t1 ≡ drop (8 + 6 * count) packed =
     ap (drop (8 + 6 * count)) a ∙ drop-append-drop 8 packed (head_bytes count floor) (8 + 6 * count) (omega arith) refl in
-    b ∙ rw (n, x, y) refl
+    b ∙ rw (k.counted, x, y) refl
 
-pub copy_format : (packed : List ℕ) (es : List Entry) (count floor : ℕ) → Copied packed es count floor →
+stacked_empty : (floor : ℕ) (es : List Entry) → length es ≡ 0 → Stacked floor es → floor ≡ 4096
+stacked_empty floor [] n s = s
+stacked_empty floor (e ∷ es) n s = absurd (omega arith)
+
+pub copy_format : {packed : List ℕ} {es : List Entry} {count floor : ℕ} → Copied packed es count floor →
     KeepsFormat (whole count floor es (drop (8 + 6 * count) packed))
-copy_format packed es count floor k =
+copy_format {packed = packed} {es = es} {count = count} {floor = floor} k =
     let rest = drop (8 + 6 * count) packed in
     let image = whole count floor es rest in
     let w = stacked_within floor es k.stacked in
     let c = copy_count count floor es rest (omega (arith, w, k.above)) in
     let f = copy_floor count floor es rest (omega (arith, w)) in
-    let e = copy_entries packed es count floor rest k in
-    let s = copy_slots packed es count floor k in
+    let e = copy_entries k rest in
+    let s = copy_slots k in
     let h : length (head_bytes count floor ++ flat_map entry_bytes es) ≡ 8 + 6 * count = omega (arith, head_length count floor es, k.counted) in
     let r : length rest ≡ 4096 - (8 + 6 * count) = length-drop (8 + 6 * count) packed ∙ ap (λ (x : ℕ). x - (8 + 6 * count)) k.long in
     let t : total_reserve (slots_in image) ≡ total_reserve (slots_of packed es) = ap total_reserve s in
+    let q : take (6 * number_at image 2) (drop 8 image) ≡ flat_map entry_bytes es =
+    take_at (flat_map entry_bytes es) rest (6 * number_at image 2) (omega (arith, length_flat es, k.counted, c)) in
     let a : AllPairs Apart (image_entries image) = subst (AllPairs Apart) (sym e) (stacked_apart floor es k.stacked) in
     let p : All (IsPlaced floor) (image_entries image) = subst (All (IsPlaced floor)) (sym e) (placed_from_stacked floor es k.stacked) in
     record {
       long = omega (arith, length-append (head_bytes count floor ++ flat_map entry_bytes es) rest, h, r, w, k.above);
       magic = refl;
       zeros = refl;
+      entries = q ∙ ap (flat_map entry_bytes) (sym e);
       floor = omega (arith, c, f, k.above);
+      empty = λ z. f ∙ stacked_empty floor es (omega (arith, c, z, k.counted)) k.stacked;
       placed = subst (λ (x : ℕ). All (IsPlaced x) (image_entries image)) (sym f) p;
       apart = a;
       room = omega (arith, c, t, k.room);
@@ -212,7 +243,8 @@ no_row : (image : List ℕ) (b : Bool) (r : ℕ) → bytes_of (slot_of image (co
 no_row image true r = refl
 no_row image false r = refl
 
-pub none_at : (image : List ℕ) (s : ℕ) → s < number_at image 2 → number_at image (8 + 6 * s) ≡ 0 → bytes_of (get_or (slots_in image) s free) ≡ None
+pub none_at : (image : List ℕ) (s : ℕ) → s < number_at image 2 → number_at image (8 + 6 * s) ≡ 0 →
+    bytes_of (get_or (slots_in image) s free) ≡ None
 none_at image s lt z =
     ap bytes_of (slot_of_image image s lt)
     ∙ ap (λ (o : ℕ). bytes_of (slot_of image (entry_from o (number_at image (8 + 6 * s + 2)) (number_at image (8 + 6 * s + 4))))) z
@@ -222,21 +254,24 @@ pub entry_is_row : (image : List ℕ) (s : ℕ) → (number_at image (8 + 6 * s)
     entry_at image s ≡ Row (number_at image (8 + 6 * s)) (number_at image (8 + 6 * s + 2)) (number_at image (8 + 6 * s + 4))
 entry_is_row image s nz = rw (ne_eqb (number_at image (8 + 6 * s)) 0 nz) refl
 
-pub row_at : (image : List ℕ) (s o l : ℕ) → s < number_at image 2 → o ≡ number_at image (8 + 6 * s) → l ≡ number_at image (8 + 6 * s + 2) → (o ≡ 0 → ⊥) →
+pub row_at : (image : List ℕ) (s o l : ℕ) → s < number_at image 2 → o ≡ number_at image (8 + 6 * s) → l ≡ number_at image (8 + 6 * s + 2) →
+    (o ≡ 0 → ⊥) →
     bytes_of (get_or (slots_in image) s free) ≡ Some (slice_range image o (o + l))
 row_at image s o l lt a b nz =
     let e = entry_is_row image s (λ z. nz (a ∙ z)) in
     ap bytes_of (slot_of_image image s lt ∙ ap (slot_of image) e) ∙ rw (a, b) refl
 
 -- a slot of a copy, and where its entry ends
-pub slot_in_image : {image : List ℕ} {s n : ℕ} → KeepsFormat image → n ≡ length (slots_in image) → s < n → (s < number_at image 2) × (8 + 6 * s + 6 ≤ 4096)
+pub slot_in_image : {image : List ℕ} {s n : ℕ} → KeepsFormat image → n ≡ length (slots_in image) → s < n →
+    (s < number_at image 2) × (8 + 6 * s + 6 ≤ 4096)
 slot_in_image {image = image} k e lt = let n = slots_count image in (omega (arith, n, e, lt), omega (arith, n, e, lt, k.room))
 
 -- where a copied row's bytes end, and how many they are
-pub row_in_image : {image : List ℕ} {s o l : ℕ} → KeepsFormat image → s < number_at image 2 → o ≡ number_at image (8 + 6 * s) → l ≡ number_at image (8 + 6 * s + 2) → (o ≡ 0 → ⊥) →
+pub row_in_image : {image : List ℕ} {s o l : ℕ} → KeepsFormat image → s < number_at image 2 → o ≡ number_at image (8 + 6 * s) →
+    l ≡ number_at image (8 + 6 * s + 2) → (o ≡ 0 → ⊥) →
     (o + l ≤ 4096) × (0 < l) × (l ≤ 1224)
 row_in_image {image = image} {s = s} k lt a b nz =
     let e = entry_of_image image s Free lt ∙ entry_is_row image s (λ z. nz (a ∙ z)) in
-    let p = placed_at (number_at image 4) (image_entries image) s (number_at image (8 + 6 * s)) (number_at image (8 + 6 * s + 2)) (number_at image (8 + 6 * s + 4)) Free
+    let p = placed_at (number_at image 4) (image_entries image) s (number_at image (8 + 6 * s)) (number_at image (8 + 6 * s + 2)) (number_at image (8 + 6 * s + 4))
     (omega (arith, length_read (number_at image 2) (drop 8 image), lt)) e k.placed in
     (omega (arith, p.1, a, b), omega (arith, p.2, b), omega (arith, p.3, b))

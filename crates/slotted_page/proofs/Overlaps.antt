@@ -51,7 +51,8 @@ set_one e x [] s a h = tt
 set_one e x (y ∷ ys) zero a h = (a, h.1)
 set_one e x (y ∷ ys) (suc s) a h = (h.0, set_one e x ys s a h.1)
 
-pub apart_store : (floor : ℕ) (es : List Entry) (s o l r : ℕ) → o + l ≤ floor → All (IsPlaced floor) es → AllApart es → AllApart (set es s (Row o l r))
+pub apart_store : (floor : ℕ) (es : List Entry) (s o l r : ℕ) → o + l ≤ floor → All (IsPlaced floor) es → AllApart es →
+    AllApart (set es s (Row o l r))
 apart_store floor [] s o l r le p a = tt
 apart_store floor (e ∷ es) zero o l r le p a = (above_all floor o l r es le (All-tail (IsPlaced floor) e es p), a.1)
 apart_store floor (e ∷ es) (suc s) o l r le p a =
@@ -127,7 +128,8 @@ slot_before a b o l r n (Held s) le k h = refl
 slot_before a b o l r n (Row p m s) le k h =
     ap (λ xs. row xs s) (same_range a b o n p m k (elim h [ inl x ↦ inr x | inr x ↦ inl (omega arith) ]))
 
-slots_after : (a b : List ℕ) (o l r n : ℕ) (es : List Entry) → n ≤ l → SameBut a b o n → ApartAll (Row o l r) es → slots_of b es ≡ slots_of a es
+slots_after : (a b : List ℕ) (o l r n : ℕ) (es : List Entry) → n ≤ l → SameBut a b o n → ApartAll (Row o l r) es →
+    slots_of b es ≡ slots_of a es
 slots_after a b o l r n [] le k h = refl
 slots_after a b o l r n (e ∷ es) le k h =
     let x = slot_after a b o l r n e le k h.0 in
@@ -140,7 +142,8 @@ apart_at e (x ∷ xs) zero lt h = h.0
 apart_at e (x ∷ xs) (suc s) lt h = apart_at e xs s (omega arith) h.1
 
 -- a write over a row's own bytes leaves the other slots
-pub over_same : (a b : List ℕ) (o l r n : ℕ) (es : List Entry) (s : ℕ) (x : Slot) → n ≤ l → SameBut a b o n → s < length es → get_or es s Free ≡ Row o l r → AllApart es →
+pub over_same : (a b : List ℕ) (o l r n : ℕ) (es : List Entry) (s : ℕ) (x : Slot) → n ≤ l → SameBut a b o n → s < length es →
+    get_or es s Free ≡ Row o l r → AllApart es →
     set (slots_of b es) s x ≡ set (slots_of a es) s x
 over_same a b o l r n [] s x le k lt is h = absurd (omega arith)
 over_same a b o l r n (e ∷ es) zero x le k lt is h =

@@ -1,7 +1,7 @@
 use Rattle.std.proofs.Common.{◌≡◌, ℕ, ◌+◌, ◌-◌, ◌≤◌, ◌<◌, List, [], ◌∷◌, length, get_or, set, take, drop, refl, sym, ap, ◌∙◌, arith, subst}
 use Rattle.std.specs.Prelude.{slice_range}
 use Rattle.std.specs.List.{All, sum_by}
-use Rattle.std.proofs.lemmas.List.{drop-drop, get_or-take, drop-set, drop_more}
+use Rattle.std.proofs.lemmas.List.{drop-drop, get_or-take, drop-set, drop_more, take-set, take-take}
 use Rattle.std.proofs.lemmas.List.Elements.{All-head, All-tail, All-cons, All-nil, All-get_or}
 use Rattle.std.proofs.lemmas.List.Edits.{length-between}
 use Rattle.std.proofs.lemmas.List.Sums.{sum_by-drop_more, sum_by-take-drop}
@@ -23,7 +23,8 @@ slot_same a b floor (Held r) d p = refl
 slot_same a b floor (Row o l r) d p = ap (λ xs. row (take ((o + l) - o) xs) r) (same_drop a b floor o p.0 d)
 
 -- rows at or above the floor read the same in any area that is the same there
-pub slots_same : (a b : List ℕ) (floor : ℕ) (es : List Entry) → drop floor a ≡ drop floor b → All (IsPlaced floor) es → slots_of a es ≡ slots_of b es
+pub slots_same : (a b : List ℕ) (floor : ℕ) (es : List Entry) → drop floor a ≡ drop floor b → All (IsPlaced floor) es →
+    slots_of a es ≡ slots_of b es
 slots_same a b floor [] d p = refl
 slots_same a b floor (e ∷ es) d p =
     let h = slot_same a b floor e d (All-head (IsPlaced floor) e es p) in
@@ -56,65 +57,71 @@ placed_from_stacked floor (Row o l r ∷ es) s =
     All-cons (IsPlaced floor) (Row o l r) es (omega arith, h, s.1, s.2, s.3)
     (all_lower floor (o + l) es (omega arith) (placed_from_stacked (o + l) es s.4))
 
-pub same_at : (entries old : List Entry) (i j : ℕ) (d : Entry) → j < i → take i entries ≡ take i old → get_or old j d ≡ get_or entries j d
-same_at entries old i j d h e =
-    sym (get_or-take i old j d h) ∙ ap (λ (xs : List Entry). get_or xs j d) (sym e) ∙ get_or-take i entries j d h
+-- a row's entry at j, the last that is not packed yet: up to i the entries are as they were
+pub record PacksRow (entries old : List Entry) (i j o l r : ℕ) : Type 0 where
+  pub next : j + 1 ≡ i
+  pub within : j < length entries
+  pub old_within : j < length old
+  pub front : take i entries ≡ take i old
+  pub is : get_or entries j Free ≡ Row o l r
 
-pub slot_next : (from to : List ℕ) (o l r next floor : ℕ) → next + l ≡ floor → slice_range to next floor ≡ slice_range from o (o + l) → slot_of to (Row next l r) ≡ slot_of from (Row o l r)
+pub row_was : {entries old : List Entry} {i j o l r : ℕ} → PacksRow entries old i j o l r → get_or old j Free ≡ Row o l r
+row_was {entries = entries} {old = old} {i = i} {j = j} k =
+    let lt : j < i = omega (arith, k.next) in
+    sym (get_or-take i old j Free lt) ∙ ap (λ (xs : List Entry). get_or xs j Free) (sym k.front) ∙ get_or-take i entries j Free lt ∙ k.is
+
+-- the entries from j on, with the row's new place
+packed_drop : {entries old : List Entry} {i j o l r : ℕ} → PacksRow entries old i j o l r → (next : ℕ) →
+    drop j (set entries j (Row next l r)) ≡ Row next l r ∷ drop i entries
+packed_drop {entries = entries} {j = j} {l = l} {r = r} k next = rw (← k.next) (drop-set entries j (Row next l r) k.within)
+
+slot_next : (from to : List ℕ) (o l r next floor : ℕ) → next + l ≡ floor → slice_range to next floor ≡ slice_range from o (o + l) →
+    slot_of to (Row next l r) ≡ slot_of from (Row o l r)
 slot_next from to o l r next floor e w = rw e (ap (λ xs. row xs r) w)
 
-pub rows_step : (from to to' : List ℕ) (entries old : List Entry) (i j o l r floor next : ℕ) (d : Entry) →
-    j + 1 ≡ i → j < length entries → j < length old → take i entries ≡ take i old → get_or entries j d ≡ Row o l r →
+pub rows_step : {entries old : List Entry} {i j o l r : ℕ} → PacksRow entries old i j o l r → (from to to' : List ℕ) (floor next : ℕ) →
     slots_of to (drop i entries) ≡ slots_of from (drop i old) → Stacked floor (drop i entries) → next + l ≡ floor →
     slice_range to' next floor ≡ slice_range from o (o + l) → drop floor to' ≡ drop floor to →
     slots_of to' (drop j (set entries j (Row next l r))) ≡ slots_of from (drop j old)
-rows_step from to to' entries old i j o l r floor next d e h h' front is rows stacked n w kept =
+rows_step {entries = entries} {old = old} {i = i} {j = j} {o = o} {l = l} {r = r} k from to to' floor next rows stacked n w kept =
     let x = slot_next from to' o l r next floor n w in
-    let lt : j < i = omega arith in
-    let was : get_or old j d ≡ Row o l r = same_at entries old i j d lt front ∙ is in
-    let a : drop j (set entries j (Row next l r)) ≡ Row next l r ∷ drop i entries =
-    rw (← e) (drop-set entries j (Row next l r) h) in
-    let b : drop j old ≡ get_or old j d ∷ drop i old = rw (← e) (drop_more old j d h') in
+    let b : drop j old ≡ get_or old j Free ∷ drop i old = rw (← k.next) (drop_more old j Free k.old_within) in
     let same : slots_of to' (drop i entries) ≡ slots_of to (drop i entries) =
     slots_same to' to floor (drop i entries) kept (placed_from_stacked floor (drop i entries) stacked) in
-    rw (a, b, was) (cc (x, same, rows))
+    rw (packed_drop k next, b, row_was k) (cc (x, same, rows))
 
-pub placed_at : (floor : ℕ) (es : List Entry) (j o l r : ℕ) (d : Entry) → j < length es → get_or es j d ≡ Row o l r → All (IsPlaced floor) es → IsPlaced floor (Row o l r)
-placed_at floor es j o l r d h is placed = subst (IsPlaced floor) is (All-get_or (IsPlaced floor) es j d h placed)
+pub placed_at : (floor : ℕ) (es : List Entry) (j o l r : ℕ) → j < length es → get_or es j Free ≡ Row o l r → All (IsPlaced floor) es →
+    IsPlaced floor (Row o l r)
+placed_at floor es j o l r h is placed = subst (IsPlaced floor) is (All-get_or (IsPlaced floor) es j Free h placed)
 
-pub stacked_step : (entries old : List Entry) (i j o l r floor next : ℕ) (d : Entry) →
-    j + 1 ≡ i → j < length entries → j < length old → take i entries ≡ take i old → get_or entries j d ≡ Row o l r →
-    All (IsPlaced 0) old → Stacked floor (drop i entries) → next + l ≡ floor →
-    Stacked next (drop j (set entries j (Row next l r)))
-stacked_step entries old i j o l r floor next d e h h' front is placed stacked n =
-    let lt : j < i = omega arith in
-    let was : get_or old j d ≡ Row o l r = same_at entries old i j d lt front ∙ is in
-    let p = placed_at 0 old j o l r d h' was placed in
-    let a : drop j (set entries j (Row next l r)) ≡ Row next l r ∷ drop i entries =
-    rw (← e) (drop-set entries j (Row next l r) h) in
-    rw a (refl, p.2, p.3, p.4, rw n stacked)
+pub stacked_step : {entries old : List Entry} {i j o l r : ℕ} → PacksRow entries old i j o l r → (floor next : ℕ) →
+    All (IsPlaced 0) old → Stacked floor (drop i entries) → next + l ≡ floor → Stacked next (drop j (set entries j (Row next l r)))
+stacked_step {entries = entries} {old = old} {j = j} {o = o} {l = l} {r = r} k floor next placed stacked n =
+    let p = placed_at 0 old j o l r k.old_within (row_was k) placed in
+    rw (packed_drop k next) (refl, p.2, p.3, p.4, rw n stacked)
 
--- what is below: the record at j, and all those behind it
-pub lengths_step : (entries old : List Entry) (i j o l r : ℕ) (d : Entry) →
-    j + 1 ≡ i → j < length old → take i entries ≡ take i old → get_or entries j d ≡ Row o l r →
+-- the lengths from j on: the row's, and all those behind it
+pub lengths_step : {entries old : List Entry} {i j o l r : ℕ} → PacksRow entries old i j o l r →
     sum_by length_of (drop j old) ≡ l + sum_by length_of (drop i old)
-lengths_step entries old i j o l r d e h' front is =
-    let lt : j < i = omega arith in
-    let was : get_or old j d ≡ Row o l r = same_at entries old i j d lt front ∙ is in
-    let p : length_of (get_or old j d) ≡ l = ap length_of was in
-    let s : sum_by length_of (drop j old) ≡ length_of (get_or old j d) + sum_by length_of (drop (j + 1) old) = sum_by-drop_more length_of old j d h' in
-    let t : sum_by length_of (drop j old) ≡ length_of (get_or old j d) + sum_by length_of (drop i old) = rw e at s in
+lengths_step {old = old} {i = i} {j = j} {l = l} k =
+    let p : length_of (get_or old j Free) ≡ l = ap length_of (row_was k) in
+    let s : sum_by length_of (drop j old) ≡ length_of (get_or old j Free) + sum_by length_of (drop (j + 1) old) = sum_by-drop_more length_of old j Free k.old_within in
+    let t : sum_by length_of (drop j old) ≡ length_of (get_or old j Free) + sum_by length_of (drop i old) = rw k.next at s in
     rw p at t
 
--- the record at j of the old entries
-pub record_at : (area : List ℕ) (entries old : List Entry) (i j o l r : ℕ) (d : Entry) →
-    j + 1 ≡ i → j < length old → take i entries ≡ take i old → get_or entries j d ≡ Row o l r → length area ≡ 4096 →
+-- the length of the row's bytes
+pub bytes_step : {entries old : List Entry} {i j o l r : ℕ} → PacksRow entries old i j o l r → (area : List ℕ) → length area ≡ 4096 →
     All (IsPlaced 0) old → length (slice_range area o (o + l)) ≡ l
-record_at area entries old i j o l r d e h' front is long placed =
-    let lt : j < i = omega arith in
-    let p = placed_at 0 old j o l r d h' (same_at entries old i j d lt front ∙ is) placed in
-    let le : o + l ≤ length area = omega arith in
+bytes_step {old = old} {j = j} {o = o} {l = l} {r = r} k area long placed =
+    let p = placed_at 0 old j o l r k.old_within (row_was k) placed in
+    let le : o + l ≤ length area = omega (arith, p.1, long) in
     omega (arith, length-between area o (o + l) le)
+
+pub front_less : {entries old : List Entry} {i j o l r : ℕ} → PacksRow entries old i j o l r → (x : Entry) →
+    take j (set entries j x) ≡ take j old
+front_less {entries = entries} {old = old} {i = i} {j = j} k x =
+    let le : j ≤ i = omega (arith, k.next) in
+    take-set entries j x ∙ sym (take-take j i entries le) ∙ ap (take j) k.front ∙ take-take j i old le
 
 pub lengths_tail : (old : List Entry) (j : ℕ) → sum_by length_of (drop j old) ≤ sum_by length_of old
 lengths_tail old j = omega (arith, sum_by-take-drop length_of old j)

@@ -8,7 +8,7 @@ use Rattle.std.proofs.lemmas.List.Sums.{sum_by-cons, sum_by-set, get_or-le-sum_b
 use Rattle.std.proofs.Math.Seq.{take-set-lt}
 use Rattle.std.proofs.lemmas.List.Edits.{length-between}
 use Rattle.slotted_page.specs.Slot.{IsSoundSlot, Slot, free, held, row, reserve_of, total_reserve, put}
-use Rattle.slotted_page.specs.Page.{PageValue, slot_at, reserve_at, taken_bytes, CanReserve, IsSoundPage}
+use Rattle.slotted_page.specs.Page.{PageValue, slot_at, reserve_at, CanReserve, IsSoundPage}
 use Rattle.slotted_page.specs.Entry.{slot_of, slots_of, length_of, IsPlaced, entry_reserve}
 use Rattle.slotted_page.specs.Fields.{IsPage}
 use Rattle.slotted_page.specs.declared.entry.Entry.{Entry}
@@ -26,7 +26,8 @@ pub record PageFacts (page : PageValue) (area : List ℕ) (table : List Entry) (
   pub count_is : length page.slots ≡ count
   pub total_is : total_reserve page.slots ≡ reserved
 
-pub page_facts : {page : PageValue} {area : List ℕ} {table : List Entry} {count limit floor reserved : ℕ} → IsPage area table count limit floor reserved →
+pub page_facts : {page : PageValue} {area : List ℕ} {table : List Entry} {count limit floor reserved : ℕ} →
+    IsPage area table count limit floor reserved →
     record { slots = slots_of area (take count table); limit = limit } ≡ page → PageFacts page area table count limit floor reserved
 page_facts {area = area} {table = table} {count = count} k v =
     let w = ap (λ (p : PageValue). p.slots) v in
@@ -46,22 +47,25 @@ reserve_same area (Held r) = refl
 reserve_same area (Row o l r) = refl
 
 -- the slot that an entry stands for
-pub slot_is : {page : PageValue} {area : List ℕ} {table : List Entry} {count limit floor reserved : ℕ} → PageFacts page area table count limit floor reserved →
+pub slot_is : {page : PageValue} {area : List ℕ} {table : List Entry} {count limit floor reserved : ℕ} →
+    PageFacts page area table count limit floor reserved →
     (s : ℕ) → s < length page.slots → slot_at page s ≡ slot_of area (get_or table s Free)
 slot_is {area = area} {table = table} {count = count} f s lt =
     ap (λ (slots : List Slot). get_or slots s free) (sym f.slots_are) ∙ get_or-map (slot_of area) (take count table) s Free free (omega (arith, lt, f.count_is, f.taken_is))
     ∙ ap (slot_of area) (get_or-take count table s Free (omega (arith, lt, f.count_is)))
 
 -- the reserve that an entry has
-pub reserve_is : {page : PageValue} {area : List ℕ} {table : List Entry} {count limit floor reserved : ℕ} → PageFacts page area table count limit floor reserved →
+pub reserve_is : {page : PageValue} {area : List ℕ} {table : List Entry} {count limit floor reserved : ℕ} →
+    PageFacts page area table count limit floor reserved →
     (s : ℕ) → s < length page.slots → entry_reserve (get_or table s Free) ≡ reserve_at page s
 reserve_is {area = area} {table = table} f s lt = reserve_same area (get_or table s Free) ∙ ap reserve_of (sym (slot_is f s lt))
 
 -- the place of an entry's row
-pub placed_here : {page : PageValue} {area : List ℕ} {table : List Entry} {count limit floor reserved : ℕ} → PageFacts page area table count limit floor reserved →
+pub placed_here : {page : PageValue} {area : List ℕ} {table : List Entry} {count limit floor reserved : ℕ} →
+    PageFacts page area table count limit floor reserved →
     (s o l r : ℕ) → s < length page.slots → get_or table s Free ≡ Row o l r → IsPlaced floor (Row o l r)
 placed_here {table = table} {count = count} {floor = floor} f s o l r lt e =
-    placed_at floor (take count table) s o l r Free (omega (arith, lt, f.count_is, f.taken_is)) (get_or-take count table s Free (omega (arith, lt, f.count_is)) ∙ e) f.keeps.placed
+    placed_at floor (take count table) s o l r (omega (arith, lt, f.count_is, f.taken_is)) (get_or-take count table s Free (omega (arith, lt, f.count_is)) ∙ e) f.keeps.placed
 
 length_le_reserve : (area : List ℕ) (floor : ℕ) (e : Entry) → IsPlaced floor e → length_of e ≤ reserve_of (slot_of area e)
 length_le_reserve area floor Free p = omega arith
@@ -69,7 +73,8 @@ length_le_reserve area floor (Held r) p = omega arith
 length_le_reserve area floor (Row o l r) p = p.4
 
 -- rows take no more than all reserves
-pub lengths_le : (area : List ℕ) (floor : ℕ) (es : List Entry) → All (IsPlaced floor) es → sum_by length_of es ≤ total_reserve (slots_of area es)
+pub lengths_le : (area : List ℕ) (floor : ℕ) (es : List Entry) → All (IsPlaced floor) es →
+    sum_by length_of es ≤ total_reserve (slots_of area es)
 lengths_le area floor [] p = omega arith
 lengths_le area floor (e ∷ es) p =
     let h = length_le_reserve area floor e (All-head (IsPlaced floor) e es p) in
@@ -102,15 +107,18 @@ lengths_held area floor (e ∷ es) (suc s) r p lt h =
     omega (arith, g, t, a, b)
 
 -- the bytes that a held slot has been promised have room beside all rows
-pub held_fits : {page : PageValue} {area : List ℕ} {table : List Entry} {count limit floor reserved : ℕ} → PageFacts page area table count limit floor reserved →
+pub held_fits : {page : PageValue} {area : List ℕ} {table : List Entry} {count limit floor reserved : ℕ} →
+    PageFacts page area table count limit floor reserved →
     (s r n : ℕ) → s < length page.slots → slot_at page s ≡ held r → n ≤ r → n + sum_by length_of (take count table) ≤ 4096
 held_fits {area = area} {table = table} {count = count} {floor = floor} f s r n lt h le =
     let t = lengths_held area floor (take count table) s r f.keeps.placed (omega (arith, lt, f.count_is, f.taken_is)) (ap (λ (slots : List Slot). get_or slots s free) f.slots_are ∙ h) in
     omega (arith, t, f.keeps.total, f.keeps.room, le)
 
 -- a row in a held slot leaves the sum of the reserves
-pub held_total : {page : PageValue} {area : List ℕ} {table : List Entry} {count limit floor reserved : ℕ} → PageFacts page area table count limit floor reserved →
-    (now : List Slot) (s : ℕ) (bytes : List ℕ) (r : ℕ) → now ≡ set (slots_of area (take count table)) s (row bytes r) → s < length page.slots → slot_at page s ≡ held r →
+pub held_total : {page : PageValue} {area : List ℕ} {table : List Entry} {count limit floor reserved : ℕ} →
+    PageFacts page area table count limit floor reserved →
+    (now : List Slot) (s : ℕ) (bytes : List ℕ) (r : ℕ) → now ≡ set (slots_of area (take count table)) s (row bytes r) →
+    s < length page.slots → slot_at page s ≡ held r →
     total_reserve now ≡ reserved
 held_total {page = page} f now s bytes r e lt h =
     ap total_reserve e ∙ ap (λ (slots : List Slot). total_reserve (set slots s (row bytes r))) f.slots_are ∙ same_total page.slots s (row bytes r) lt (ap reserve_of h) ∙ f.total_is
@@ -122,7 +130,8 @@ set_total area es s e lt =
     ap (λ (xs : List Slot). total_reserve xs + reserve_of (get_or (slots_of area es) s free)) (map-set (slot_of area) es s e) ∙ sum_by-set reserve_of (slots_of area es) s (slot_of area e) free h
 
 -- the fields with another entry at s, which takes no byte that s did not have
-pub set_page : {page : PageValue} {area : List ℕ} {table : List Entry} {count limit floor reserved : ℕ} → PageFacts page area table count limit floor reserved →
+pub set_page : {page : PageValue} {area : List ℕ} {table : List Entry} {count limit floor reserved : ℕ} →
+    PageFacts page area table count limit floor reserved →
     (s was : ℕ) (e : Entry) → s < length page.slots → IsPlaced floor e → Within e (get_or table s Free) →
     was ≡ entry_reserve (get_or table s Free) → CanReserve page s (entry_reserve e) →
     IsPage area (set table s e) count limit floor (reserved - was + entry_reserve e)
@@ -148,7 +157,8 @@ set_page {page = page} {area = area} {table = table} {count = count} {floor = fl
     }
 
 -- the slots with another entry at s
-pub set_slots : {page : PageValue} {area : List ℕ} {table : List Entry} {count limit floor reserved : ℕ} → PageFacts page area table count limit floor reserved →
+pub set_slots : {page : PageValue} {area : List ℕ} {table : List Entry} {count limit floor reserved : ℕ} →
+    PageFacts page area table count limit floor reserved →
     (s : ℕ) (e : Entry) → s < length page.slots → slots_of area (take count (set table s e)) ≡ put page.slots s (slot_of area e)
 set_slots {page = page} {area = area} {table = table} {count = count} f s e lt =
     rw (take-set-lt count table s e (omega (arith, lt, f.count_is)))
@@ -165,7 +175,8 @@ total_same a b (e ∷ es) =
     omega (arith, x, y, z, u, v)
 
 -- what a page keeps does not hang on the bytes
-pub page_area : {a : List ℕ} {table : List Entry} {count limit floor reserved : ℕ} → (b : List ℕ) → IsPage a table count limit floor reserved → IsPage b table count limit floor reserved
+pub page_area : {a : List ℕ} {table : List Entry} {count limit floor reserved : ℕ} → (b : List ℕ) →
+    IsPage a table count limit floor reserved → IsPage b table count limit floor reserved
 page_area {a = a} {table = table} {count = count} b k = record {
   long = k.long;
   within = k.within;
@@ -178,8 +189,10 @@ page_area {a = a} {table = table} {count = count} b k = record {
 }
 
 -- the slots after a row is written over the one at s
-pub over_slots : {page : PageValue} {area : List ℕ} {table : List Entry} {count limit floor reserved : ℕ} → PageFacts page area table count limit floor reserved →
-    (b : List ℕ) (s o l was n r : ℕ) (bytes : List ℕ) → s < length page.slots → get_or table s Free ≡ Row o l was → n ≤ l → SameBut area b o n → slice_range b o (o + n) ≡ bytes →
+pub over_slots : {page : PageValue} {area : List ℕ} {table : List Entry} {count limit floor reserved : ℕ} →
+    PageFacts page area table count limit floor reserved →
+    (b : List ℕ) (s o l was n r : ℕ) (bytes : List ℕ) → s < length page.slots → get_or table s Free ≡ Row o l was → n ≤ l →
+    SameBut area b o n → slice_range b o (o + n) ≡ bytes →
     slots_of b (take count (set table s (Row o n r))) ≡ put page.slots s (row bytes r)
 over_slots {page = page} {area = area} {table = table} {count = count} f b s o l was n r bytes lt is le same written =
     let es = take count table in
@@ -191,7 +204,8 @@ over_slots {page = page} {area = area} {table = table} {count = count} f b s o l
     ∙ ap (λ (slots : List Slot). set slots s (row bytes r)) f.slots_are ∙ sym (put_is_set page.slots s (row bytes r) lt))
 
 -- the length of a row's bytes
-pub row_length : (area : List ℕ) (floor o l r : ℕ) → length area ≡ 4096 → IsPlaced floor (Row o l r) → length (slice_range area o (o + l)) ≡ l
+pub row_length : (area : List ℕ) (floor o l r : ℕ) → length area ≡ 4096 → IsPlaced floor (Row o l r) →
+    length (slice_range area o (o + l)) ≡ l
 row_length area floor o l r long p =
     let le : o + l ≤ length area = omega (arith, p.1, long) in
     omega (arith, length-between area o (o + l) le)
@@ -204,14 +218,16 @@ sound_slot area floor (Row o l r) long p =
     let some = p.2 in let size = p.3 in let reserved = p.4 in
     ((omega arith, omega arith), omega arith)
 
-sound_slots : (area : List ℕ) (floor : ℕ) (es : List Entry) → length area ≡ 4096 → All (IsPlaced floor) es → All IsSoundSlot (slots_of area es)
+sound_slots : (area : List ℕ) (floor : ℕ) (es : List Entry) → length area ≡ 4096 → All (IsPlaced floor) es →
+    All IsSoundSlot (slots_of area es)
 sound_slots area floor [] long p = All-nil IsSoundSlot
 sound_slots area floor (e ∷ es) long p =
     All-cons IsSoundSlot (slot_of area e) (slots_of area es) (sound_slot area floor e long (All-head (IsPlaced floor) e es p))
     (sound_slots area floor es long (All-tail (IsPlaced floor) e es p))
 
 -- the page that the fields stand for is sound
-pub sound_page : {page : PageValue} {area : List ℕ} {table : List Entry} {count limit floor reserved : ℕ} → PageFacts page area table count limit floor reserved →
+pub sound_page : {page : PageValue} {area : List ℕ} {table : List Entry} {count limit floor reserved : ℕ} →
+    PageFacts page area table count limit floor reserved →
     length area ≡ 4096 → IsSoundPage page
 sound_page {area = area} {table = table} {count = count} {floor = floor} f long = record {
   counted = omega (arith, f.count_is, f.limit_is, f.keeps.counted);

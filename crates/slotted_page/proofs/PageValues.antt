@@ -35,7 +35,8 @@ get_put [] (suc s) x le = absurd (omega arith)
 get_put (z ∷ slots) zero x le = refl
 get_put (z ∷ slots) (suc s) x le = get_put slots s x (omega arith)
 
-pub get_put_other : (slots : List Slot) (s t : ℕ) (x : Slot) → s ≤ length slots → (s ≡ t → ⊥) → get_or (put slots s x) t free ≡ get_or slots t free
+pub get_put_other : (slots : List Slot) (s t : ℕ) (x : Slot) → s ≤ length slots → (s ≡ t → ⊥) →
+    get_or (put slots s x) t free ≡ get_or slots t free
 get_put_other [] zero zero x le ne = absurd (ne refl)
 get_put_other [] zero (suc t) x le ne = refl
 get_put_other [] (suc s) t x le ne = absurd (omega arith)
@@ -53,27 +54,32 @@ within_put [] (suc s) x le = absurd (omega arith)
 within_put (y ∷ slots) zero x le = omega arith
 within_put (y ∷ slots) (suc s) x le = let h = within_put slots s x (omega arith) in omega arith
 
-pub put_total : (slots : List Slot) (s : ℕ) (x : Slot) → s < length slots → total_reserve (put slots s x) + reserve_of (get_or slots s free) ≡ total_reserve slots + reserve_of x
+pub put_total : (slots : List Slot) (s : ℕ) (x : Slot) → s < length slots →
+    total_reserve (put slots s x) + reserve_of (get_or slots s free) ≡ total_reserve slots + reserve_of x
 put_total slots s x lt =
     let h = sum_by-set reserve_of slots s x free lt in
     let e = ap total_reserve (put_is_set slots s x lt) in omega (arith, h, e)
 
 -- a slot with the same reserve leaves the sum
-pub same_total : (slots : List Slot) (s : ℕ) (x : Slot) → s < length slots → reserve_of (get_or slots s free) ≡ reserve_of x → total_reserve (set slots s x) ≡ total_reserve slots
+pub same_total : (slots : List Slot) (s : ℕ) (x : Slot) → s < length slots → reserve_of (get_or slots s free) ≡ reserve_of x →
+    total_reserve (set slots s x) ≡ total_reserve slots
 same_total slots s x lt e = let h = sum_by-set reserve_of slots s x free lt in omega (arith, h, e)
 
 -- a slot put twice
-pub with_with : (page next : PageValue) (s : ℕ) (x y : Slot) → s ≤ length page.slots → next ≡ with_slot page s x → with_slot next s y ≡ with_slot page s y
+pub with_with : (page next : PageValue) (s : ℕ) (x y : Slot) → s ≤ length page.slots → next ≡ with_slot page s x →
+    with_slot next s y ≡ with_slot page s y
 with_with page next s x y le e =
     ap (λ (p : PageValue). with_slot p s y) e ∙ ap (λ (slots : List Slot). let p : PageValue = record { slots = slots; limit = page.limit } in p) (put_put page.slots s x y le)
 
 pub get_with : (page next : PageValue) (s : ℕ) (x : Slot) → s ≤ length page.slots → next ≡ with_slot page s x → slot_at next s ≡ x
 get_with page next s x le e = ap (λ (p : PageValue). slot_at p s) e ∙ get_put page.slots s x le
 
-pub get_with_other : (page next : PageValue) (s t : ℕ) (x : Slot) → s ≤ length page.slots → (s ≡ t → ⊥) → next ≡ with_slot page s x → slot_at next t ≡ slot_at page t
+pub get_with_other : (page next : PageValue) (s t : ℕ) (x : Slot) → s ≤ length page.slots → (s ≡ t → ⊥) → next ≡ with_slot page s x →
+    slot_at next t ≡ slot_at page t
 get_with_other page next s t x le ne e = ap (λ (p : PageValue). slot_at p t) e ∙ get_put_other page.slots s t x le ne
 
-pub length_with : (page next : PageValue) (s : ℕ) (x : Slot) → s < length page.slots → next ≡ with_slot page s x → length next.slots ≡ length page.slots
+pub length_with : (page next : PageValue) (s : ℕ) (x : Slot) → s < length page.slots → next ≡ with_slot page s x →
+    length next.slots ≡ length page.slots
 length_with page next s x lt e = ap (λ (p : PageValue). length p.slots) e ∙ length_put page.slots s x lt
 
 -- a slot that is not free is on the page

@@ -16,7 +16,8 @@ same_free area Free = refl
 same_free area (Held r) = refl
 same_free area (Row o l r) = refl
 
-free_len : (area : List ℕ) (es : List Entry) → prefix_len (λ s. not (is_free s)) (slots_of area es) ≡ prefix_len (λ e. not (is_free_entry e)) es
+free_len : (area : List ℕ) (es : List Entry) →
+    prefix_len (λ s. not (is_free s)) (slots_of area es) ≡ prefix_len (λ e. not (is_free_entry e)) es
 free_len area [] = refl
 free_len area (e ∷ es) =
     let h = same_free area e in
@@ -24,7 +25,8 @@ free_len area (e ∷ es) =
     rw (h, t) refl
 
 -- the lowest free slot is that of the lowest free entry
-pub same_position : (area : List ℕ) (es : List Entry) (slots : List Slot) → slots_of area es ≡ slots → position is_free slots ≡ position is_free_entry es
+pub same_position : (area : List ℕ) (es : List Entry) (slots : List Slot) → slots_of area es ≡ slots →
+    position is_free slots ≡ position is_free_entry es
 same_position area es slots v =
     let a = free_len area es in
     let b : length (slots_of area es) ≡ length es = length-map es (slot_of area) in
@@ -35,13 +37,16 @@ some_if true s = refl
 some_if false s = refl
 
 -- the three ways that `room_for` answers
-pub room_old : (page : PageValue) (n s count reserved : ℕ) → position is_free page.slots ≡ Some s → length page.slots ≡ count → total_reserve page.slots ≡ reserved →
+pub room_old : (page : PageValue) (n s count reserved : ℕ) → position is_free page.slots ≡ Some s → length page.slots ≡ count →
+    total_reserve page.slots ≡ reserved →
     then_some (has_room count (reserved + n)) s ≡ room_for page n
 room_old page n s count reserved p c t = rw (p, c, t) (some_if (has_room count (reserved + n)) s)
 
-pub room_new : (page : PageValue) (n count reserved : ℕ) → position is_free page.slots ≡ None → length page.slots ≡ count → total_reserve page.slots ≡ reserved →
+pub room_new : (page : PageValue) (n count reserved : ℕ) → position is_free page.slots ≡ None → length page.slots ≡ count →
+    total_reserve page.slots ≡ reserved →
     count < page.limit → then_some (has_room (count + 1) (reserved + n)) count ≡ room_for page n
 room_new page n count reserved p c t l = rw (p, c, t, lt-ltb count page.limit l) (some_if (has_room (count + 1) (reserved + n)) count)
 
-pub room_limit : (page : PageValue) (n count : ℕ) → position is_free page.slots ≡ None → length page.slots ≡ count → page.limit ≤ count → None ≡ room_for page n
+pub room_limit : (page : PageValue) (n count : ℕ) → position is_free page.slots ≡ None → length page.slots ≡ count → page.limit ≤ count →
+    None ≡ room_for page n
 room_limit page n count p c l = rw (p, c, le-ltb count page.limit l) refl

@@ -1,6 +1,6 @@
 -- The page format: what the 4,096 bytes of a copied page say.
 use Rattle.std.specs.Prelude.{ℕ, zero, suc, ◌+◌, ◌*◌, ◌≤◌, ◌≡◌, cond, nat_eq, List, [], ◌∷◌, ◌++◌, length, take, drop}
-use Rattle.std.specs.List.{All, AllPairs}
+use Rattle.std.specs.List.{All, AllPairs, flat_map}
 use Rattle.byteorder.specs.Endian.{big_bytes, big_number}
 use Rattle.slotted_page.specs.Slot.{Slot, total_reserve}
 use Rattle.slotted_page.specs.Page.{taken_bytes}
@@ -52,7 +52,9 @@ pub record KeepsFormat (image : List ℕ) : Type 0 where
   pub long : length image ≡ 4096
   pub magic : take 2 image ≡ 83 ∷ 80 ∷ []
   pub zeros : take 2 (drop 6 image) ≡ 0 ∷ 0 ∷ []
+  pub entries : take (6 * number_at image 2) (drop 8 image) ≡ flat_map entry_bytes (image_entries image)
   pub floor : 8 + 6 * number_at image 2 ≤ number_at image 4
+  pub empty : number_at image 2 ≡ 0 → number_at image 4 ≡ 4096
   pub placed : All (IsPlaced (number_at image 4)) (image_entries image)
   pub apart : AllPairs Apart (image_entries image)
   pub room : taken_bytes (number_at image 2) (total_reserve (slots_in image)) ≤ 4096

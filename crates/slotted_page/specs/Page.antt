@@ -15,6 +15,10 @@ slot_at page s = get_or page.slots s free
 abbrev pub reserve_at : PageValue → ℕ → ℕ
 reserve_at page s = reserve_of (slot_at page s)
 
+-- the reserve of s after an update to n bytes
+abbrev pub grown_reserve : PageValue → ℕ → ℕ → ℕ
+grown_reserve page s n = max (reserve_at page s) n
+
 -- the page with another slot at s
 abbrev pub with_slot : PageValue → ℕ → Slot → PageValue
 with_slot page s slot = record { slots = put page.slots s slot; limit = page.limit }
@@ -44,7 +48,7 @@ room_for page n = slot_for (position is_free page.slots) page n
 
 -- whether the room rule holds after an update of s to n bytes
 abbrev pub fits_at : PageValue → ℕ → ℕ → Bool
-fits_at page s n = has_room (length page.slots) (total_reserve (put page.slots s (held (max (reserve_at page s) n))))
+fits_at page s n = has_room (length page.slots) (total_reserve (put page.slots s (held (grown_reserve page s n))))
 
 -- what every page keeps
 pub record IsSoundPage (page : PageValue) : Type 0 where

@@ -30,7 +30,7 @@ pub(crate) fn write_over(area: &mut [u8; PAGE_SIZE], offset: usize, bytes: &[u8]
     requires { offset + length bytes.now ≤ PAGE_SIZE }
     ensures before { take offset area.new ≡ take offset area.old }
     ensures written { slice_range area.new offset (offset + length bytes.now) ≡ bytes.now }
-    ensures after { drop (offset + length bytes.now) area.new ≡ drop (offset + length bytes.now) area.old }
+    ensures after { let end = offset + length bytes.now in drop end area.new ≡ drop end area.old }
 {
     area[offset..offset + bytes.len()].copy_from_slice(bytes);
 }
@@ -104,6 +104,7 @@ fn make_room(
     if needed <= floor {
         return floor;
     }
+    // A row's new place may overlap where another row still is.
     let from = *area;
     pack(&from, entries, area)
 }
@@ -124,7 +125,8 @@ fn store(
     requires there { slot < length entries.old }
     requires size { IsRowSize (length bytes.now) }
     requires reserved { length bytes.now ≤ reserve }
-    ensures rows { slots_of area.new entries.new ≡ set (slots_of area.old entries.old) slot (row bytes.now reserve) }
+    ensures rows { slots_of area.new entries.new
+        ≡ set (slots_of area.old entries.old) slot (row bytes.now reserve) }
     ensures placed { All (IsPlaced result) entries.new }
     ensures apart { AllApart entries.new }
     ensures within { result ≤ PAGE_SIZE }
@@ -157,18 +159,12 @@ pub(crate) fn store_among(
     requires there { slot < count }
     requires size { IsRowSize (length bytes.now) }
     requires reserved { length bytes.now ≤ reserve }
-    ensures rows { slots_of area.new (take count table.new) ≡ set (slots_of area.old (take count table.old)) slot (row bytes.now reserve) }
+    ensures rows { slots_of area.new (take count table.new)
+        ≡ set (slots_of area.old (take count table.old)) slot (row bytes.now reserve) }
     ensures placed { All (IsPlaced result) (take count table.new) }
     ensures apart { AllApart (take count table.new) }
     ensures within { result ≤ PAGE_SIZE }
     ensures long { length table.new ≡ length table.old }
 {
-    store(
-        area,
-        &mut table[..count],
-        floor,
-        slot,
-        reserve,
-        bytes,
-    )
+    store(area, &mut table[..count], floor, slot, reserve, bytes)
 }

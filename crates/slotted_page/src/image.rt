@@ -20,13 +20,16 @@ pub(crate) const HEAD_SIZE: usize = 8;
 /// The bytes of a slot's entry.
 pub(crate) const ENTRY_SIZE: usize = 6;
 
-// Where the numbers of the head stand.
+/// Where the number of slots stands in the head.
 const COUNT_AT: usize = 2;
+/// Where the floor stands in the head.
 const FLOOR_AT: usize = 4;
 
-// Where the numbers of an entry stand.
+/// Where a row's offset stands in its entry.
 const OFFSET_AT: usize = 0;
+/// Where a row's length stands in its entry.
 const LENGTH_AT: usize = 2;
+/// Where the reserve stands in an entry.
 const RESERVE_AT: usize = 4;
 
 /// "SP", as a number.
@@ -34,16 +37,18 @@ const MAGIC: u16 = 0x5350;
 /// The length in a held slot's entry.
 const HELD: u16 = 0xffff;
 
+/// Writes `bytes` over those that stand at a place.
 fn write_at(image: &mut [u8; PAGE_SIZE], at: usize, bytes: &[u8])
     requires { at + length bytes.now ≤ PAGE_SIZE }
-    ensures { image.new ≡ take at image.old ++ (bytes.now ++ drop (at + length bytes.now) image.old) }
+    ensures { image.new
+        ≡ take at image.old ++ (bytes.now ++ drop (at + length bytes.now) image.old) }
 {
     image[at..at + bytes.len()].copy_from_slice(bytes);
 }
 
 /// Writes the head.
 pub(crate) fn write_head(image: &mut [u8; PAGE_SIZE], count: u16, floor: u16)
-    ensures { image.new ≡ head_bytes count floor ++ drop 8 image.old }
+    ensures { image.new ≡ head_bytes count floor ++ drop HEAD_SIZE image.old }
 {
     let mut head = [0; HEAD_SIZE];
     BigEndian::write_u16(&mut head, MAGIC);
@@ -52,6 +57,7 @@ pub(crate) fn write_head(image: &mut [u8; PAGE_SIZE], count: u16, floor: u16)
     write_at(image, 0, &head);
 }
 
+/// The bytes of an entry.
 fn entry_to_bytes(entry: Entry) -> [u8; ENTRY_SIZE]
     ensures { result ≡ entry_bytes entry }
 {
@@ -74,13 +80,16 @@ fn entry_to_bytes(entry: Entry) -> [u8; ENTRY_SIZE]
 /// Writes the entries, behind the head.
 pub(crate) fn write_entries(image: &mut [u8; PAGE_SIZE], entries: &[Entry])
     requires { length entries.now ≤ MAX_SLOTS }
-    ensures { image.new ≡ (take 8 image.old ++ flat_map entry_bytes entries.now) ++ drop (8 + 6 * length entries.now) image.old }
+    ensures { image.new
+        ≡ (take HEAD_SIZE image.old ++ flat_map entry_bytes entries.now)
+        ++ drop (HEAD_SIZE + ENTRY_SIZE * length entries.now) image.old }
 {
     for (i, entry) in entries.iter().enumerate() {
         write_at(image, HEAD_SIZE + ENTRY_SIZE * i, &entry_to_bytes(*entry));
     }
 }
 
+/// The number that stands at a place.
 fn number_in(image: &[u8; PAGE_SIZE], at: usize) -> u16
     requires { at + 2 ≤ PAGE_SIZE }
     ensures { result ≡ number_at image.now at }

@@ -13,7 +13,7 @@
 //!
 //! A [`Page`] keeps its directory as an array of entries (`entry`), and the rows' bytes in an area that is filled from
 //! its end downwards and packed when the free part below runs short (`area`). Only a copy has the page format
-//! (`image`); [`image_slots`] and [`image_row`] read a copy with no page at hand. No call takes memory.
+//! (`image`); [`image_slots`] and [`image_row`] read a copy with no page at hand. No call allocates.
 #![tactic(auto)]
 
 mod area;

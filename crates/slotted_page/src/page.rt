@@ -1,6 +1,6 @@
-ghost use Rattle.std.specs.Prelude.{◌≡◌, ◌↔◌, ◌+◌, ◌^◌, ◌<◌, ◌≤◌, [], length, cond, max, true, false, IsTrue, IfOk, OnErr, IfErr, IfSome, MatchResult, MatchOption, Some, None};
+ghost use Rattle.std.specs.Prelude.{◌≡◌, ◌↔◌, ◌+◌, ◌^◌, ◌<◌, ◌≤◌, [], length, cond, true, false, IsTrue, IfOk, OnErr, IfErr, IfSome, MatchResult, MatchOption, Some, None};
 ghost use Rattle.slotted_page.specs.Slot.{free, held, row, bytes_of, trimmed, total_reserve, rows_from, IsRow, IsHeld, IsTaken, IsRowSize};
-ghost use Rattle.slotted_page.specs.Page.{slot_at, reserve_at, with_slot, taken_bytes, has_room, room_for, fits_at, CanReserve, IsSoundPage};
+ghost use Rattle.slotted_page.specs.Page.{slot_at, reserve_at, grown_reserve, with_slot, taken_bytes, has_room, room_for, fits_at, CanReserve, IsSoundPage};
 ghost use Rattle.slotted_page.specs.Rows.{rows_left};
 ghost use Rattle.slotted_page.specs.Image.{slots_in, KeepsFormat};
 
@@ -89,15 +89,16 @@ impl Page {
             (λ _. fits_at self.old slot (length bytes.now) ≡ true)
             (λ _. fits_at self.old slot (length bytes.now) ≡ false) }
         ensures updated { IfOk result
-            (λ _. self.new ≡ with_slot self.old slot (row bytes.now (max (reserve_at self.old slot) (length bytes.now)))) }
+            (λ _. self.new ≡ with_slot self.old slot
+            (row bytes.now (grown_reserve self.old slot (length bytes.now)))) }
         ensures page_full { IfErr result (λ fault. fault ≡ Fault.PageFull) }
         ensures unchanged { OnErr result (self.new ≡ self.old) }
     {
         if !self.fits(slot, bytes.len()) {
             return Err(Fault::PageFull);
         }
-        let reserve = self.reserve(slot as usize).max(bytes.len() as u16);
-        self.put_row(slot as usize, reserve, bytes);
+        let grown = self.reserve(slot as usize).max(bytes.len() as u16);
+        self.put_row(slot as usize, grown, bytes);
         Ok(())
     }
 
@@ -169,7 +170,7 @@ impl Page {
                 let begin = offset as usize;
                 Some(&self.area[begin..begin + length as usize])
             }
-            _ => None,
+            Entry::Free | Entry::Held { .. } => None,
         }
     }
 
@@ -219,6 +220,7 @@ impl Page {
         ensures slots { slots_in target.new ≡ self.now.slots }
         ensures format { KeepsFormat target.new }
     {
+        // What no slot takes is 0, so that a copy shows nothing of rows that are gone.
         *target = [0; PAGE_SIZE];
         let mut table = self.entries;
         let floor = pack_among(&self.area, &mut table, self.count, target);
@@ -236,12 +238,13 @@ impl Page {
         entries[slot].reserve()
     }
 
-    /// Adds a slot where `slot` is the next new one, and else leaves the free slot that it is.
+    /// Sees that the page has `slot`, which is a free one or the next new one.
     fn open_slot(&mut self, slot: usize)
         requires there { slot ≤ length self.old.slots }
         requires is_free { slot_at self.old slot ≡ free }
         requires limit { slot ≡ length self.old.slots → slot < self.old.limit }
-        requires room { slot ≡ length self.old.slots → taken_bytes (slot + 1) (total_reserve self.old.slots) ≤ PAGE_SIZE }
+        requires room { slot ≡ length self.old.slots →
+            taken_bytes (slot + 1) (total_reserve self.old.slots) ≤ PAGE_SIZE }
         ensures { self.new ≡ with_slot self.old slot free }
     {
         if slot == self.count {
@@ -270,7 +273,8 @@ impl Page {
         requires room { CanReserve self.old slot reserve }
         requires size { IsRowSize (length bytes.now) }
         requires reserved { length bytes.now ≤ reserve }
-        ensures { self.new ≡ cond result (with_slot self.old slot (row bytes.now reserve)) self.old }
+        ensures { self.new
+            ≡ cond result (with_slot self.old slot (row bytes.now reserve)) self.old }
     {
         let Entry::Row {
             offset,
@@ -312,9 +316,7 @@ impl Page {
         ensures { self.new ≡ with_slot self.old slot (held reserve) }
     {
         let was = self.entries[slot].reserve() as usize;
-        self.entries[slot] = Entry::Held {
-            reserve,
-        };
+        self.entries[slot] = Entry::Held { reserve };
         self.reserved = self.reserved - was + reserve as usize;
     }
 

@@ -13,13 +13,11 @@ pub struct Rows<'a> {
 }
 
 impl<'a> Rows<'a> {
+    /// All rows of a page.
     pub(crate) fn new(page: &'a Page) -> Self
         ensures { rows_left result ≡ rows_from 0 page.now.slots }
     {
-        Rows {
-            page,
-            next: 0,
-        }
+        Rows { page, next: 0 }
     }
 }
 

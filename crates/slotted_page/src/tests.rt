@@ -3,26 +3,56 @@ use keybytes::Fault;
 use std::test::Fail;
 
 #[test]
-fn calls(rt: HostRuntime) -> Result<(), Fail> {
+fn each_call(rt: HostRuntime) -> Result<(), Fail> {
     assert!(rt; Page::new(0).err() == Some(Fault::BadCount));
-    let mut page = Page::new(2).ok().ok_or("a limit of 2")?;
-    assert!(rt; page.room(1224) == Some(0));
 
-    let Ok(slot) = page.insert(b"first") else {
-        return Err("an insert".into());
-    };
-    assert!(rt; slot == 0);
-    assert!(rt; page.row(0) == Some(b"first".as_slice()));
+    let mut page = Page::new(2)?;
+    let slot = page.insert(b"first")?;
+    assert_eq!(rt; slot, 0);
+    assert!(rt; page.fits(slot, 1224));
+    page.update(slot, b"first row")?;
+    page.hold(slot);
+    assert!(rt; page.row(0).is_none());
+    page.restore(slot, b"again");
+    assert!(rt; page.row(0) == Some(b"again".as_slice()));
+    page.trim(slot);
+    page.hold(slot);
+    page.free(slot);
+    assert_eq!(rt; page.slots(), 1);
+    assert_eq!(rt; page.room(5), Some(0));
+
+    assert!(rt; page.insert(b"one") == Ok(0));
+    assert!(rt; page.insert(b"two") == Ok(1));
+    assert_eq!(rt; page.room(1), None);
+    assert!(rt; page.insert(b"three") == Err(Fault::PageFull));
+    let mut rows = page.rows();
+    assert!(rt; rows.next() == Some((0, b"one".as_slice())));
+    assert!(rt; rows.next() == Some((1, b"two".as_slice())));
+    assert!(rt; rows.next().is_none());
     Ok(())
 }
 
 #[test]
-fn copies(rt: HostRuntime) -> Result<(), Fail> {
-    let mut page = Page::new(255).ok().ok_or("a limit of 255")?;
+fn page_format(rt: HostRuntime) -> Result<(), Fail> {
+    let mut page = Page::new(255)?;
     let mut image = [0xff; PAGE_SIZE];
     page.copy_to(&mut image);
-    let mut empty = [0; PAGE_SIZE];
-    empty[..8].copy_from_slice(&[b'S', b'P', 0, 0, 0x10, 0, 0, 0]);
-    assert!(rt; image == empty);
+    let mut expected = [0; PAGE_SIZE];
+    expected[..8].copy_from_slice(&[0x53, 0x50, 0, 0, 0x10, 0, 0, 0]);
+    assert!(rt; image == expected);
+
+    assert!(rt; page.insert(b"abc") == Ok(0));
+    let second = page.insert(b"defgh")?;
+    page.hold(second);
+    page.copy_to(&mut image);
+    expected[..8].copy_from_slice(&[0x53, 0x50, 0, 2, 0x0f, 0xfd, 0, 0]);
+    expected[8..14].copy_from_slice(&[0x0f, 0xfd, 0, 3, 0, 3]);
+    expected[14..20].copy_from_slice(&[0, 0, 0xff, 0xff, 0, 5]);
+    expected[4093..].copy_from_slice(b"abc");
+    assert!(rt; image == expected);
+    assert_eq!(rt; image_slots(&image), 2);
+    assert!(rt; image_row(&image, 0) == Some(b"abc".as_slice()));
+    assert!(rt; image_row(&image, 1).is_none());
+    assert!(rt; image_row(&image, 2).is_none());
     Ok(())
 }

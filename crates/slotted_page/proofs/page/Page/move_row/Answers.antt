@@ -9,7 +9,12 @@ fill_held-requires-clause-there c =
     omega (arith, e, c.requires.there)
 
 pub fill_held-requires-clause-is_held : goal.fill_held-requires-clause-is_held
-fill_held-requires-clause-is_held c = get_with c.args.self.now c.make_held.new.self c.args.slot (held c.args.reserve) (omega (arith, c.requires.there)) c.make_held.ensures
+fill_held-requires-clause-is_held c =
+    get_with c.args.self.now c.make_held.new.self c.args.slot (held c.args.reserve)
+    (omega (arith, c.requires.there)) c.make_held.ensures
 
 pub returns : goal.returns
-returns c = c.fill_held.ensures ∙ with_with c.args.self.now c.make_held.new.self c.args.slot (held c.args.reserve) (row c.args.bytes.now c.args.reserve) (omega (arith, c.requires.there)) c.make_held.ensures
+returns c =
+    c.fill_held.ensures
+    ∙ with_with c.args.self.now c.make_held.new.self c.args.slot (held c.args.reserve) (row c.args.bytes.now c.args.reserve)
+    (omega (arith, c.requires.there)) c.make_held.ensures

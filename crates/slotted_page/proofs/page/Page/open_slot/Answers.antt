@@ -12,7 +12,8 @@ use Rattle.slotted_page.proofs.PageFields.{page_facts}
 use Rattle.slotted_page.proofs.PageValues.{put_push, put_same}
 use Rattle.slotted_page.proofs.page.Page.open_slot.Goals as goal
 
-grown : (area : List ℕ) (table : List Entry) (slots : List Slot) (s count : ℕ) → s ≡ count → slots_of area (take count table) ≡ slots → length slots ≡ count → s < length table →
+grown : (area : List ℕ) (table : List Entry) (slots : List Slot) (s count : ℕ) → s ≡ count → slots_of area (take count table) ≡ slots →
+    length slots ≡ count → s < length table →
     slots_of area (take (s + 1) (set table s Free)) ≡ put slots s free
 grown area table slots s count e v n lt =
     ap (slots_of area) (take_more_set table s Free lt) ∙ map_push (slot_of area) (take s table) Free

@@ -1,0 +1,62 @@
+-- What a log keeps of each transaction and each RID.
+use Rattle.std.specs.Prelude.{◌≡◌, ℕ, ◌+◌, ◌≤◌, Bool, ◌&&◌, ◌==◌, nat_eq, if◌then◌else◌, List, length, Option, Some, None, unwrap_or, Vec, vec_len, vec_capacity}
+use Rattle.std.specs.HashMap.{HashMap, get, spare}
+use Rattle.std.specs.declared.alloc.Global.{Global}
+use Rattle.std.specs.declared.hash.FoldHasher.{FoldHasher}
+use Rattle.std.specs.declared.hash.BuildHasherDefault.{BuildHasherDefault}
+use Rattle.keybytes.specs.declared.rid.Rid.{Rid}
+use Rattle.heap_log.specs.declared.record.LogRec.{LogRec}
+use Rattle.heap_log.specs.declared.link.Link.{Link}
+use Rattle.heap_log.specs.declared.heads.TxnHead.{TxnHead}
+use Rattle.heap_log.specs.declared.heads.RidHead.{RidHead}
+use Rattle.heap_log.specs.declared.heads.Heads.{Heads}
+use Rattle.heap_log.specs.Links.{AreLinks}
+use Rattle.heap_log.specs.Standing.{newest_standing, standing_count, newest_at, last_at, same_rid}
+
+-- the maps, since antt has no names for the aliases
+abbrev pub TxnHeads : Type 0
+TxnHeads = HashMap ℕ TxnHead (BuildHasherDefault FoldHasher)
+
+abbrev pub RidHeads : Type 0
+RidHeads = HashMap (ℕ × ℕ) RidHead (BuildHasherDefault FoldHasher)
+
+abbrev pub key_eq : ℕ × ℕ → ℕ × ℕ → Bool
+key_eq a b = nat_eq a.0 b.0 && nat_eq a.1 b.1
+
+-- what a map has of a transaction, of a RID
+abbrev pub txn_head_in : TxnHeads → ℕ → TxnHead
+txn_head_in heads txn = unwrap_or (get nat_eq heads txn) (record { newest = None; standing = 0 })
+
+abbrev pub rid_head_in : RidHeads → Rid → RidHead
+rid_head_in heads rid = unwrap_or (get key_eq heads (rid.page, rid.slot)) (record { last = None; newest = None })
+
+-- what the log says of a transaction, of a RID
+abbrev pub txn_head : List LogRec → ℕ → TxnHead
+txn_head log txn = record { newest = newest_standing log txn; standing = standing_count log txn }
+
+abbrev pub rid_head : List LogRec → Rid → RidHead
+rid_head log rid = record { last = last_at log rid (length log + 1); newest = newest_at log rid }
+
+-- the head of a transaction, of a RID, once those heads are set
+abbrev pub with_txn : Option Heads → ℕ → TxnHead → TxnHead
+with_txn None txn old = old
+with_txn (Some heads) txn old = if heads.txn == txn then heads.of_txn else old
+
+abbrev pub with_rid : Option Heads → Rid → RidHead → RidHead
+with_rid None rid old = old
+with_rid (Some heads) rid old = if same_rid heads.rid rid then heads.at_rid else old
+
+-- setting those heads is all that the new log changes
+pub record AreHeadsAfter (old new : List LogRec) (heads : Option Heads) : Type 0 where
+  pub txns : (txn : ℕ) → txn_head new txn ≡ with_txn heads txn (txn_head old txn)
+  pub rids : (rid : Rid) → rid_head new rid ≡ with_rid heads rid (rid_head old rid)
+
+-- links and heads go with the records, and there is room for that many more of each
+pub record IsKept (entries : Vec LogRec Global) (beside : Vec Link Global) (of_txns : TxnHeads) (at_rids : RidHeads) (room : ℕ) : Type 0 where
+  pub links : AreLinks entries.items beside.items
+  pub txns : (txn : ℕ) → txn_head_in of_txns txn ≡ txn_head entries.items txn
+  pub rids : (rid : Rid) → rid_head_in at_rids rid ≡ rid_head entries.items rid
+  pub records_room : vec_len entries + room ≤ vec_capacity entries
+  pub links_room : vec_len beside + room ≤ vec_capacity beside
+  pub txns_room : room ≤ spare of_txns
+  pub rids_room : room ≤ spare at_rids

@@ -1,0 +1,4 @@
+pub mod KeptFacts
+pub mod LogRows
+pub mod Placed
+pub mod Showing

@@ -1,0 +1,112 @@
+-- The table as its callers see it: its log and its open transactions; and what each call does, or why it is refused.
+use Rattle.std.specs.Prelude.{ℕ, ◌+◌, Bool, false, ◌&&◌, not, ◌==◌, ◌||◌, nat_lt, nat_le, min, if◌then◌else◌, List, [], ◌∷◌, ◌++◌, length, map, filter, position, is_some, Option, Some, None}
+use Rattle.std.specs.List.{list_any, range_with_len}
+use Rattle.keybytes.specs.Faults.{first_cause}
+use Rattle.keybytes.specs.Rows.{row_bytes, shape_refusal}
+use Rattle.keybytes.specs.declared.cell.Cell.{Cell}
+use Rattle.keybytes.specs.declared.kind.Kind.{Kind}
+use Rattle.keybytes.specs.declared.rid.Rid.{Rid}
+use Rattle.keybytes.specs.declared.fault.Fault.{Fault}
+use Rattle.keybytes.specs.declared.fault.Fault.TheVariants.{NoSuchTxn, TxnEnding, TooManyTxns, TableFull, BadCount, NoSuchRow}
+use Rattle.heap_log.specs.declared.outcome.Outcome.{Outcome}
+use Rattle.heap_log.specs.declared.record.LogRec.{LogRec}
+use Rattle.heap_log.specs.declared.record.LogRec.TheVariants.{Write, Commit, Switch}
+use Rattle.slotted_page.specs.Page.{PageValue, room_for}
+use Rattle.heap_table.specs.Pages.{page_slots, pages_written, rid_at}
+use Rattle.heap_table.specs.declared.open_txn.OpenTxn.{OpenTxn}
+
+pub record HeapState : Type 0 where
+  -- the columns
+  pub schema : List Kind
+  -- the most slots that a page may have, and the most pages
+  pub slot_limit : ℕ
+  pub page_limit : ℕ
+  pub log : List LogRec
+  -- the open transactions, in the order of their numbers
+  pub active : List OpenTxn
+  -- the number of the transaction that was begun last
+  pub begun : ℕ
+  -- how often rows were given out
+  pub visits : ℕ
+
+-- whether a table may have so many slots a page and so many pages
+abbrev pub are_limits : ℕ → ℕ → Bool
+are_limits slots pages = nat_lt 0 slots && nat_lt 0 pages && nat_le pages 65536
+
+abbrev pub limits_refusal : ℕ → ℕ → Option Fault
+limits_refusal slots pages = if are_limits slots pages then None else Some BadCount
+
+abbrev pub empty_heap : List Kind → ℕ → ℕ → HeapState
+empty_heap schema slots pages = record { schema = schema; slot_limit = slots; page_limit = pages; log = []; active = []; begun = 0; visits = 0 }
+
+abbrev pub is_open : List OpenTxn → ℕ → Bool
+is_open active txn = list_any (λ t. t.txn == txn) active
+
+abbrev pub is_ending : List OpenTxn → ℕ → Bool
+is_ending active txn = list_any (λ t. (t.txn == txn) && t.ending) active
+
+-- why a transaction may not write or commit
+abbrev pub txn_refusal : HeapState → ℕ → Option Fault
+txn_refusal s txn = if is_open s.active txn then (if is_ending s.active txn then Some TxnEnding else None) else Some NoSuchTxn
+
+-- why no transaction is begun: 64 are open, or the numbers are used up
+abbrev pub begin_refusal : HeapState → Option Fault
+begin_refusal s = if nat_le 64 (length s.active) || (s.begun == 18446744073709551615) then Some TooManyTxns else None
+
+abbrev pub page_of : HeapState → ℕ → PageValue
+page_of s page = record { slots = page_slots s.log page; limit = s.slot_limit }
+
+abbrev pub table_pages : HeapState → List PageValue
+table_pages s = map (page_of s) (range_with_len 0 (pages_written s.log))
+
+abbrev pub takes : ℕ → PageValue → Bool
+takes size page = is_some (room_for page size)
+
+-- the slot that the page numbered so takes a row in
+abbrev pub rid_on : HeapState → ℕ → ℕ → Option ℕ → Option Rid
+rid_on s size page None = None
+rid_on s size page (Some slot) = Some (rid_at page slot)
+
+-- the place on the lowest page that takes the row, else on a new page
+abbrev pub place_on : HeapState → ℕ → Option ℕ → Option Rid
+place_on s size (Some page) = rid_on s size page (room_for (page_of s page) size)
+place_on s size None = if nat_lt (pages_written s.log) s.page_limit then Some (rid_at (pages_written s.log) 0) else None
+
+-- the RID that an insert of so many bytes takes
+abbrev pub insert_place : HeapState → ℕ → Option Rid
+insert_place s size = place_on s size (position (takes size) (table_pages s))
+
+abbrev pub place_refusal : Option Rid → Option Fault
+place_refusal None = Some TableFull
+place_refusal (Some rid) = None
+
+-- why an insert is refused
+abbrev pub insert_refusal : HeapState → ℕ → List Cell → Option Fault
+insert_refusal s txn cells =
+    first_cause (txn_refusal s txn)
+    (first_cause (shape_refusal s.schema cells) (place_refusal (insert_place s (length (row_bytes cells)))))
+
+-- why there is no row to give
+abbrev pub row_missing : Option (List Cell) → Option Fault
+row_missing None = Some NoSuchRow
+row_missing (Some cells) = None
+
+abbrev pub without : ℕ → List OpenTxn → List OpenTxn
+without txn active = filter (λ t. not (t.txn == txn)) active
+
+-- what the calls leave
+abbrev pub after_begin : HeapState → HeapState
+after_begin s = record s { active = s.active ++ record { txn = s.begun + 1; ending = false } ∷ []; begun = s.begun + 1 }
+
+abbrev pub after_write : HeapState → ℕ → Rid → Option (List Cell) → HeapState
+after_write s txn rid cells = record s { log = s.log ++ Write txn rid cells ∷ [] }
+
+abbrev pub after_commit : HeapState → ℕ → HeapState
+after_commit s txn = record s { log = s.log ++ Commit txn ∷ []; active = without txn s.active }
+
+abbrev pub after_switch : HeapState → List Outcome → HeapState
+after_switch s verdicts = record s { log = s.log ++ Switch verdicts ∷ [] }
+
+-- the counter stays at its greatest value
+abbrev pub after_visit : HeapState → HeapState
+after_visit s = record s { visits = min (s.visits + 1) 18446744073709551615 }

@@ -1,0 +1,7 @@
+/// An open transaction.
+#[derive(Clone, Copy, Debug, PartialEq, Eq)]
+pub struct OpenTxn {
+    pub txn: u64,
+    /// An undo of it has begun, so that it can only be undone further.
+    pub ending: bool,
+}
