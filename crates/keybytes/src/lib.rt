@@ -15,6 +15,8 @@ mod rid;
 mod row;
 mod row_bytes;
 mod schema;
+#[cfg(test)]
+mod tests;
 mod text;
 
 pub use cell::{Cell, TEXT_MAX};

@@ -38,7 +38,8 @@ impl Text {
     pub fn into_string(self) -> String
         ensures { string_bytes result ≡ self }
     {
-        self.string
+        let Text { string } = self;
+        string
     }
 
     pub fn clone(&self) -> Result<Text, Fault>
