@@ -237,6 +237,15 @@ impl Heap {
         Ok(self.log.len())
     }
 
+    /// The log. Counts as a visit, which no clause can say of a call that lends from the table; so a caller knows nothing
+    /// of the table afterwards.
+    pub fn log(&mut self) -> &Log
+        ensures { result.now.records ≡ self.old.log }
+    {
+        self.visits = self.visits.saturating_add(1);
+        &self.log
+    }
+
     /// The row that stands at a RID now; [`Fault::NoSuchRow`] where none does. Counts as a visit.
     pub fn get(&mut self, rid: Rid) -> Result<Row, Fault>
         ensures ok { IfOk result (λ row. live_at self.old.log rid ≡ Some row) }

@@ -12,6 +12,8 @@ mod heap;
 mod open_txn;
 mod page_image;
 mod pages;
+#[cfg(test)]
+mod tests;
 
 pub use heap::Heap;
 pub use open_txn::OpenTxn;
