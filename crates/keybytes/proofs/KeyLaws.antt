@@ -7,7 +7,7 @@ use Rattle.std.proofs.lemmas.Bool.{and_parts, and_from, ltb-true}
 use Rattle.std.proofs.lemmas.Cmp.{ranked, int_ranked, tied_itself, nat_list_cmp_total}
 use Rattle.std.proofs.lemmas.List.Elements.{All-head, All-tail, All-map}
 use Rattle.keybytes.specs.Cells.{IsCell, fits, fits_kind, cell_cmp, columns_cmp}
-use Rattle.keybytes.specs.Keys.{KeySpecValue, are_there, are_key_columns, has_key_length, are_distinct, escaped_byte, cell_key, key_bytes, key_columns, key_kinds, key_of, HasKey, IsRowOf, StandsForColumns}
+use Rattle.keybytes.specs.Keys.{KeySpecValue, are_there, are_key_columns, has_key_length, are_distinct, escaped_byte, cell_key, key_bytes, key_columns, key_kinds, key_of, HasKey, IsRowOf, IsKeyOf, StandsForColumns}
 use Rattle.keybytes.specs.declared.cell.Cell.{Cell}
 use Rattle.keybytes.specs.declared.cell.Cell.TheVariants.{Null, Int, Text, Flag}
 use Rattle.keybytes.specs.declared.kind.Kind.{Kind}
@@ -87,6 +87,11 @@ has-key spec row held is_row = record {
   each = picked-cells row spec.columns is_row.is_row.each;
   bytes = refl;
 }
+
+-- the columns of a row's key
+pub columns-of_key : (spec : KeySpecValue) (key : List ℕ) → are_key_columns spec.kinds spec.columns ≡ true → IsKeyOf spec key → (columns : List Cell) × HasKey spec key columns
+columns-of_key spec key held of_row =
+    (key_columns spec of_row.0, subst (λ (bytes : List ℕ). HasKey spec bytes (key_columns spec of_row.0)) of_row.1.1 (has-key spec of_row.0 held of_row.1.0))
 
 pub key_of-laws : (spec : KeySpecValue) (row : List Cell) → are_key_columns spec.kinds spec.columns ≡ true → IsRowOf spec row → StandsForColumns spec row (key_of spec row)
 key_of-laws spec row held is_row =

@@ -1,5 +1,5 @@
 -- What is left of a key while its columns are read back.
-use Rattle.std.proofs.Common.{◌≡◌, ℕ, zero, suc, ◌+◌, ◌-◌, ◌%◌, ◌^◌, ◌≤◌, ℤ, pos, negsuc, Bool, true, false, List, [], ◌∷◌, ◌++◌, length, take, drop, get_or, not, eqb, FitsSigned, IsUtf8, w64, if◌then◌else◌, refl, sym, ap, ◌∙◌, arith, append_assoc, append-nil, get_or-drop, drop-drop, drop_at, length-append, length-drop}
+use Rattle.std.proofs.Common.{subst, ◌≡◌, ℕ, zero, suc, ◌+◌, ◌-◌, ◌%◌, ◌^◌, ◌≤◌, ℤ, pos, negsuc, Bool, true, false, List, [], ◌∷◌, ◌++◌, length, take, drop, get_or, not, eqb, FitsSigned, IsUtf8, w64, if◌then◌else◌, refl, sym, ap, ◌∙◌, arith, append_assoc, append-nil, get_or-drop, drop-drop, drop_at, length-append, length-drop}
 use Rattle.std.specs.List.{All}
 use Rattle.std.specs.Int.{to_be_bytes, cast_signed, cast_unsigned}
 use Rattle.std.proofs.lemmas.Int.{to_z-of_z}
@@ -195,3 +195,11 @@ flag-read false xs rest front = ap (λ (ys : List ℕ). Flag (not (eqb (get_or y
 
 pub read-flag : (cell : Cell) (rest bytes : List ℕ) → FlagFront cell rest bytes → Flag (not (eqb (get_or (take (length bytes - 1) (drop 1 bytes)) 0 0) 0)) ≡ cell
 read-flag cell rest bytes front = flag-read front.flag _ rest (take_rest bytes 1 ∙ front.behind) ∙ sym front.is_cell
+
+-- all cells are read
+pub columns_done : (columns read : List Cell) (kinds : List Kind) (bytes : List ℕ) (at : ℕ) → kinds ≡ [] → ColumnsLeft columns read kinds bytes at → columns ≡ read
+columns_done columns read kinds bytes at none was =
+    was.whole ∙ ap (λ (xs : List Cell). read ++ xs) (nothing was.left (subst (λ (ks : List Kind). fits ks was.left ≡ true) none was.fits_kinds)) ∙ append-nil read where
+      nothing : (left : List Cell) → fits [] left ≡ true → left ≡ []
+      nothing [] fit = refl
+      nothing (cell ∷ left) fit = absurd cc

@@ -83,14 +83,14 @@ pub record HasKey (spec : KeySpecValue) (key : List ℕ) (columns : List Cell) :
   pub each : All IsCell columns
   pub bytes : key_bytes columns ≡ key
 
--- some columns have these bytes as their key
-abbrev pub IsKeyOf : KeySpecValue → List ℕ → Type 0
-IsKeyOf spec key = (columns : List Cell) × HasKey spec key columns
-
 -- a row of the table that the key is about
 pub record IsRowOf (spec : KeySpecValue) (row : List Cell) : Type 0 where
   pub is_row : IsRow row
   pub fits_kinds : fits spec.kinds row ≡ true
+
+-- a row of the table has this key
+abbrev pub IsKeyOf : KeySpecValue → List ℕ → Type 0
+IsKeyOf spec key = (row : List Cell) × (IsRowOf spec row × (key_of spec row ≡ key))
 
 -- how a row's key stands to the key of any other row of the table
 pub record StandsForColumns (spec : KeySpecValue) (row : List Cell) (key : List ℕ) : Type 0 where

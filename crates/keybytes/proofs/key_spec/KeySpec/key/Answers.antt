@@ -1,11 +1,11 @@
 use Rattle.std.proofs.Common.{◌≡◌, ℕ, ◌<◌, ◌≤◌, true, List, length, take, take_all, get_or, map, slice_index_or, sym, ap, ap₂, ◌∙◌, subst, arith}
 use Rattle.std.proofs.lemmas.Bool.{false≢true}
 use Rattle.keybytes.specs.Cells.{fits}
-use Rattle.keybytes.specs.Keys.{KeySpecValue, are_key_columns, key_bytes, key_columns, key_of, IsKeyOf, IsRowOf, StandsForColumns}
+use Rattle.keybytes.specs.Keys.{KeySpecValue, are_key_columns, key_bytes, key_of, IsRowOf, StandsForColumns}
 use Rattle.keybytes.specs.Rows.{IsRow}
 use Rattle.keybytes.specs.declared.cell.Cell.{Cell}
 use Rattle.keybytes.specs.declared.cell.Cell.TheVariants.{Null}
-use Rattle.keybytes.proofs.KeyLaws.{has-key, key_of-laws}
+use Rattle.keybytes.proofs.KeyLaws.{key_of-laws}
 use Rattle.keybytes.proofs.KeyWrites.{column-within, fits-length, length-key_of, column-more, column-room}
 use Rattle.keybytes.proofs.key_spec.KeySpec.key.Goals as goal
 
@@ -80,5 +80,4 @@ pub returns-clause-is_key : goal.returns-clause-is_key
 returns-clause-is_key c =
     let is_key = done c.args.self.now _ c.args.row.now _ _ _ _ c.self.view_is c.deref-column-items.ensures.value c.cells-cells.ensures.cells c.loop-column.invariant c.loop-column-test.false in
     let is_row : IsRowOf c.args.self.now c.args.row.now = record { is_row = c.cells-cells.ensures.row; fits_kinds = c.requires } in
-    subst (IsKeyOf c.args.self.now) (sym is_key)
-    (key_columns c.args.self.now c.args.row.now, has-key c.args.self.now c.args.row.now (held c.args.self.now _ c.self.view_is c.self.invariant) is_row)
+    (c.args.row.now, (is_row, sym is_key))
