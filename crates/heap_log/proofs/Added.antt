@@ -4,14 +4,10 @@ use Rattle.std.specs.Prelude.{◌||◌, ◌&&◌, not}
 use Rattle.std.proofs.lemmas.Bool.{cases_eq, cases_Bool, ne_eqb, eq-eqb, eqb-true, and_right, not_from_true, false≢true, false_from_ne_true, cond-true, cond-false}
 use Rattle.heap_log.specs.declared.record.LogRec.{LogRec}
 use Rattle.heap_log.specs.declared.record.LogRec.TheVariants.{Write, Undo, Commit, Switch}
-use Rattle.heap_log.specs.Links.{stands_by}
+use Rattle.heap_log.specs.Links.{newest_by, stands_by}
 use Rattle.heap_log.specs.Standing.{record_at, undone, is_undo_of, is_number, is_write_of, last_below, count_below, newest_standing, standing_count, newest_after, count_after, AddsToStanding, NamesEarlier}
 use Rattle.heap_log.proofs.Last.{IsLast, last_below-more, last_below_agree, last_below_some, last_below_taken, last_below_without, count_below-more, count_below_agree, count_below_taken}
 use Rattle.heap_log.proofs.Records.{record_at-kept, record_at-added, length-added, undone-added, or_no, or_false, undo_within}
-
--- the newest standing record that passes the test
-abbrev pub newest_by : (Option LogRec → Bool) → List LogRec → Option ℕ
-newest_by test log = last_below (stands_by test log) (length log + 1)
 
 -- how many such records there are
 abbrev pub count_by_test : (Option LogRec → Bool) → List LogRec → ℕ

@@ -1,6 +1,6 @@
 -- The heads of transactions and RIDs once a record is added.
 use Rattle.std.proofs.Common.{◌≡◌, ℕ, zero, suc, get_or, add-one, ◌+◌, ◌-◌, ◌<◌, ◌≤◌, Bool, true, false, cond, List, [], ◌∷◌, ◌++◌, length, Option, Some, None, refl, sym, ap, ◌∙◌, arith, inl, inr}
-use Rattle.std.specs.Prelude.{if◌then◌else◌, not, ◌==◌, IsSome, unwrap_or}
+use Rattle.std.specs.Prelude.{not, ◌==◌, IsSome, unwrap_or}
 use Rattle.std.proofs.lemmas.Bool.{cases_Bool, and_left, and_right, and_parts, eqb-true, eq-eqb, not_from_true, not_from_false, and_from, false≢true, false_from_ne_true, cond-true, cond-false}
 use Rattle.keybytes.specs.declared.cell.Cell.{Cell}
 use Rattle.keybytes.specs.declared.rid.Rid.{Rid}
@@ -13,8 +13,8 @@ use Rattle.heap_log.specs.declared.link.Chain.TheVariants.{OfTxn, AtRid}
 use Rattle.std.specs.HashMap.{get}
 use Rattle.heap_log.specs.declared.link.Link.{Link}
 use Rattle.heap_log.specs.Heads.{RidHeads, key_eq, rid_head_in, txn_head, rid_head, with_rid, AreHeadsAfter}
-use Rattle.heap_log.specs.Links.{AreLinks, stands_by, on_chain}
-use Rattle.heap_log.specs.Standing.{record_at, undone, is_undo_of, is_write_of, is_write_at, is_number, last_below, last_at, same_rid, place_of, stands_of, stands_at, newest_standing, newest_at, standing_count, NamesEarlier}
+use Rattle.heap_log.specs.Links.{newest_without, AreLinks, stands_by, on_chain}
+use Rattle.heap_log.specs.Standing.{record_at, undone, is_undo_of, is_write_of, is_write_at, last_below, last_at, same_rid, place_of, stands_of, stands_at, newest_standing, newest_at, standing_count, NamesEarlier}
 use Rattle.heap_log.proofs.Last.{last_below-more, last_below_agree, count_below-some, count_below-le}
 use Rattle.heap_log.proofs.Added.{undone-fresh, newest-plain, count-plain, newest-undo, count-undo, newest-unmoved, count-unmoved}
 use Rattle.heap_log.proofs.Records.{record_at-kept, record_at-added, length-added, same_rid-true, same_rid-refl, txn_of-write, rid_of-write, one_writer, one_place, some_place-by, some_place-there, write_within, record_at-read}
@@ -52,9 +52,9 @@ heads-plain log rec e names none of at =
 
 -- the heads with a write that comes next
 pub heads-write : (log : List LogRec) (txn : ℕ) (rid : Rid) (row : Option (List Cell)) (heads : Heads) → undone log (length log + 1) ≡ false → heads.txn ≡ txn → heads.rid ≡ rid
-    → heads.of_txn ≡ record { newest = Some (length log + 1); standing = standing_count log txn + 1 } → heads.at_rid ≡ record { last = Some (length log + 1); newest = Some (length log + 1) }
+    → heads.of_txn.newest ≡ Some (length log + 1) → heads.of_txn.standing ≡ standing_count log txn + 1 → heads.at_rid ≡ record { last = Some (length log + 1); newest = Some (length log + 1) }
     → AreHeadsAfter log (log ++ Write txn rid row ∷ []) (Some heads)
-heads-write log txn rid row heads e txn_is rid_is of_txn at_rid =
+heads-write log txn rid row heads e txn_is rid_is newest standing at_rid =
     let rec : LogRec = Write txn rid row in
     let fresh : undone (log ++ rec ∷ []) (length log + 1) ≡ false = undone-fresh log rec e tt in
     record {
@@ -63,9 +63,9 @@ heads-write log txn rid row heads e txn_is rid_is of_txn at_rid =
             let is : txn ≡ t = sym txn_is ∙ eqb-true heads.txn t hit in
             let here : (txn == t) ≡ true = eq-eqb txn t is in
             same_txn_head _ _ _ _
-            (newest-plain log rec (is_write_of t) fresh (λ k. refl) ∙ cond-true (txn == t) (Some (length log + 1)) (newest_standing log t) here)
-            (count-plain log rec (is_write_of t) fresh (λ k. refl) ∙ cond-true (txn == t) (standing_count log t + 1) (standing_count log t) here ∙ ap (λ u. standing_count log u + 1) (sym is))
-            ∙ sym of_txn ∙ sym (cond-true (heads.txn == t) heads.of_txn (txn_head log t) hit)
+            (newest-plain log rec (is_write_of t) fresh (λ k. refl) ∙ cond-true (txn == t) (Some (length log + 1)) (newest_standing log t) here ∙ sym newest)
+            (count-plain log rec (is_write_of t) fresh (λ k. refl) ∙ cond-true (txn == t) (standing_count log t + 1) (standing_count log t) here ∙ ap (λ u. standing_count log u + 1) (sym is) ∙ sym standing)
+            ∙ sym (cond-true (heads.txn == t) heads.of_txn (txn_head log t) hit)
         | inr miss ↦
             let apart : (txn == t) ≡ false = ap (λ u. u == t) (sym txn_is) ∙ miss in
             same_txn_head _ _ _ _
@@ -114,10 +114,10 @@ heads-no_write log txn n e within none =
 
 -- the undo of a standing write
 pub heads-undo : (log : List LogRec) (txn n : ℕ) (heads : Heads) → undone log (length log + 1) ≡ false → NamesEarlier (length log) (Undo txn n) → stands_of log heads.txn n ≡ true → stands_at log heads.rid n ≡ true
-    → heads.of_txn.newest ≡ (if is_number n (newest_standing log heads.txn) then last_below (stands_of log heads.txn) n else newest_standing log heads.txn)
+    → heads.of_txn.newest ≡ newest_without (is_write_of heads.txn) log n
     → heads.of_txn.standing ≡ standing_count log heads.txn - 1
     → heads.at_rid.last ≡ last_at log heads.rid (length log + 1)
-    → heads.at_rid.newest ≡ (if is_number n (newest_at log heads.rid) then last_below (stands_at log heads.rid) n else newest_at log heads.rid)
+    → heads.at_rid.newest ≡ newest_without (is_write_at heads.rid) log n
     → AreHeadsAfter log (log ++ Undo txn n ∷ []) (Some heads)
 heads-undo log txn n heads e within of at newest standing last newest_there =
     let rec : LogRec = Undo txn n in
@@ -131,7 +131,7 @@ heads-undo log txn n heads e within of at newest standing last newest_there =
             let stands : stands_of log t n ≡ true = ap (λ u. stands_of log u n) (sym is) ∙ of in
             let head : ◌≡◌ {A = TxnHead} (txn_head (log ++ rec ∷ []) t) heads.of_txn =
             same_txn_head _ _ _ _
-            (newest-undo log txn n (is_write_of t) fresh refl ∙ ap (λ u. if is_number n (newest_standing log u) then last_below (stands_of log u) n else newest_standing log u) (sym is) ∙ sym newest)
+            (newest-undo log txn n (is_write_of t) fresh refl ∙ ap (λ u. newest_without (is_write_of u) log n) (sym is) ∙ sym newest)
             (count-undo log txn n (is_write_of t) fresh refl within.1 ∙ cond-true (stands_of log t n) (standing_count log t - 1) (standing_count log t) stands ∙ ap (λ u. standing_count log u - 1) (sym is) ∙ sym standing)
             in head ∙ sym (cond-true (heads.txn == t) heads.of_txn (txn_head log t) hit)
         | inr miss ↦
@@ -145,7 +145,7 @@ heads-undo log txn n heads e within of at newest standing last newest_there =
             let head : ◌≡◌ {A = RidHead} (rid_head (log ++ rec ∷ []) r) heads.at_rid =
             same_rid_head _ _ _ _
             (last-added log rec r ∙ ap (λ p. last_at log p (length log + 1)) (sym is) ∙ sym last)
-            (newest-undo log txn n (is_write_at r) fresh refl ∙ ap (λ p. if is_number n (newest_at log p) then last_below (stands_at log p) n else newest_at log p) (sym is) ∙ sym newest_there)
+            (newest-undo log txn n (is_write_at r) fresh refl ∙ ap (λ p. newest_without (is_write_at p) log n) (sym is) ∙ sym newest_there)
             in head ∙ sym (cond-true (same_rid heads.rid r) heads.at_rid (rid_head log r) hit)
         | inr miss ↦
             let gone : stands_at log r n ≡ false = and_left (is_write_at r (record_at log n)) (not (undone log n)) (false_from_ne_true (is_write_at r (record_at log n)) (λ f. false≢true (sym miss ∙ ap (same_rid heads.rid) (sym (one_place heads.rid r (record_at log n) there.0 f)) ∙ same_rid-refl heads.rid))) in

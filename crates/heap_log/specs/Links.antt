@@ -1,10 +1,10 @@
 -- What a log keeps beside its records.
-use Rattle.std.specs.Prelude.{◌≡◌, ℕ, ◌+◌, ◌≤◌, ◌<◌, Bool, true, false, ◌&&◌, ◌||◌, not, List, length, Option, Some, None, IsSome, slice_index_or}
+use Rattle.std.specs.Prelude.{◌≡◌, ℕ, ◌+◌, ◌≤◌, ◌<◌, Bool, true, false, ◌&&◌, ◌||◌, not, if◌then◌else◌, List, length, Option, Some, None, IsSome, slice_index_or}
 use Rattle.heap_log.specs.declared.record.LogRec.{LogRec}
 use Rattle.heap_log.specs.declared.link.Link.{Link}
 use Rattle.heap_log.specs.declared.link.Chain.{Chain}
 use Rattle.heap_log.specs.declared.link.Chain.TheVariants.{OfTxn, AtRid}
-use Rattle.heap_log.specs.Standing.{undone, record_at, is_undo_of, is_write_of, is_write_at, place_of, txn_of, rid_of}
+use Rattle.heap_log.specs.Standing.{undone, record_at, last_below, is_number, is_undo_of, is_write_of, is_write_at, place_of, txn_of, rid_of}
 
 -- whether a record is a write on the same chain as that write
 abbrev pub on_chain : Chain → Option LogRec → Option LogRec → Bool
@@ -19,6 +19,18 @@ link_before AtRid link = link.at_rid
 -- whether that number is a standing record that passes the test
 abbrev pub stands_by : (Option LogRec → Bool) → List LogRec → ℕ → Bool
 stands_by passes log n = passes (record_at log n) && not (undone log n)
+
+-- the newest of them
+abbrev pub newest_by : (Option LogRec → Bool) → List LogRec → Option ℕ
+newest_by passes log = last_below (stands_by passes log) (length log + 1)
+
+-- the newest of them once the record of that number is undone
+abbrev pub newest_without : (Option LogRec → Bool) → List LogRec → ℕ → Option ℕ
+newest_without passes log n = if is_number n (newest_by passes log) then last_below (stands_by passes log) n else newest_by passes log
+
+-- the newest standing write on a write's chain before that write
+abbrev pub newest_before : Chain → List LogRec → ℕ → Option ℕ
+newest_before chain log n = last_below (stands_by (on_chain chain (record_at log n)) log) n
 
 -- the first number past the place
 abbrev pub end_of : Option ℕ → ℕ

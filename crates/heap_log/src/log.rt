@@ -1,7 +1,7 @@
-ghost use Rattle.std.specs.Prelude.{◌≡◌, ℕ, ◌<◌, ◌≤◌, ◌+◌, ◌-◌, ◌++◌, ◌∷◌, [], length, Some, None, true, vec_len, vec_capacity, if◌then◌else◌, IsSome, IfSome, IsOk, IfErr, OnOk, OnErr};
+ghost use Rattle.std.specs.Prelude.{◌≡◌, ℕ, ◌<◌, ◌≤◌, ◌+◌, ◌-◌, ◌++◌, ◌∷◌, [], length, Some, None, true, IsSome, IfSome, IsOk, IfErr, OnOk, OnErr};
 ghost use Rattle.heap_log.specs.Heads.{txn_head, rid_head, AreHeadsAfter};
-ghost use Rattle.heap_log.specs.Links.{on_chain, stands_by, IsLinkOf};
-ghost use Rattle.heap_log.specs.Standing.{record_at, place_of, is_number, last_below, last_at, stands_of, stands_at, newest_at, newest_standing, standing_before, standing_count, IsWrite, NamesEarlier, AddsToLive, AddsToStanding};
+ghost use Rattle.heap_log.specs.Links.{newest_before, newest_without, IsLinkOf};
+ghost use Rattle.heap_log.specs.Standing.{record_at, place_of, is_number, is_write_of, is_write_at, last_at, stands_of, stands_at, newest_standing, standing_before, standing_count, IsWrite, NamesEarlier, AddsToLive, AddsToStanding};
 
 use crate::LogRec;
 use crate::heads::{
@@ -160,7 +160,7 @@ impl Log {
     /// The newest standing write before that write, on the chain. Links lead past all but those undone since.
     fn before_on(&self, chain: Chain, number: usize) -> Option<usize>
         requires { IsSome (place_of (record_at self.now.records number)) }
-        ensures { result ≡ last_below (stands_by (on_chain chain (record_at self.now.records number)) self.now.records) number }
+        ensures { result ≡ newest_before chain self.now.records number }
     {
         let mut place = self.links[number - 1].before(chain);
         while let Some(earlier) = place {
@@ -207,7 +207,8 @@ impl Log {
     fn heads_with(&self, number: usize, txn: u64, rid: Rid) -> Heads
         requires { number ≡ length self.now.records + 1 }
         ensures txn { result.txn ≡ txn }
-        ensures of_txn { result.of_txn ≡ record { newest = Some number; standing = standing_count self.now.records txn + 1 } }
+        ensures newest { result.of_txn.newest ≡ Some number }
+        ensures standing { result.of_txn.standing ≡ standing_count self.now.records txn + 1 }
         ensures rid { result.rid ≡ rid }
         ensures at_rid { result.at_rid ≡ record { last = Some number; newest = Some number } }
     {
@@ -229,7 +230,8 @@ impl Log {
     fn heads_without(&self, number: usize) -> Option<Heads>
         requires low { 1 ≤ number }
         requires high { number ≤ length self.now.records }
-        ensures { (txn : ℕ) → AreHeadsAfter self.now.records (self.now.records ++ LogRec.Undo txn number ∷ []) result }
+        ensures { (txn : ℕ) → AreHeadsAfter self.now.records
+            (self.now.records ++ LogRec.Undo txn number ∷ []) result }
     {
         if self.links[number - 1].undone {
             return None;
@@ -250,7 +252,7 @@ impl Log {
     /// The head of the transaction once that standing write of it is undone.
     fn txn_head_without(&self, txn: u64, number: usize) -> TxnHead
         requires { stands_of self.now.records txn number ≡ true }
-        ensures newest { result.newest ≡ (if is_number number (newest_standing self.now.records txn) then last_below (stands_of self.now.records txn) number else newest_standing self.now.records txn) }
+        ensures newest { result.newest ≡ newest_without (is_write_of txn) self.now.records number }
         ensures standing { result.standing ≡ standing_count self.now.records txn - 1 }
     {
         let head = self.txn_head(txn);
@@ -268,7 +270,7 @@ impl Log {
     fn rid_head_without(&self, rid: Rid, number: usize) -> RidHead
         requires { stands_at self.now.records rid number ≡ true }
         ensures last { result.last ≡ last_at self.now.records rid (length self.now.records + 1) }
-        ensures newest { result.newest ≡ (if is_number number (newest_at self.now.records rid) then last_below (stands_at self.now.records rid) number else newest_at self.now.records rid) }
+        ensures newest { result.newest ≡ newest_without (is_write_at rid) self.now.records number }
     {
         let head = self.rid_head(rid);
         RidHead {
