@@ -1,0 +1,225 @@
+-- The pairs of all pages, put in order, are the pairs at rest.
+use Rattle.std.proofs.Common.{◌≡◌, ℕ, zero, suc, add-zero, zero-add, ◌+◌, ◌<◌, Bool, true, false, List, [], ◌∷◌, ◌++◌, append_assoc, Option, Some, None, refl, sym, ap, ◌∙◌, arith, inl, inr, subst}
+use Rattle.std.specs.Prelude.{◌||◌, ◌&&◌, filter_map, flat_map, map, T, IsPermutation}
+use Rattle.std.specs.declared.cmp.Ordering.{Ordering}
+use Rattle.std.specs.declared.cmp.Ordering.TheVariants.{Less, Equal, Greater}
+use Rattle.std.specs.Ordering.{eq_by_cmp, is_eq, is_lt, ordering_reverse}
+use Rattle.std.specs.List.{list_any, range_with_len, cons_option, IsDistinct, AllByRecursion, All}
+use Rattle.std.specs.List.Sorted.{IsSortedBy}
+use Rattle.std.specs.FinMap.Entries.{is_sorted, below_all}
+use Rattle.std.proofs.lemmas.Bool.{or_cases, or_left, or_right, false≢true}
+use native.Mathlib.Numerals.{unary_clauses}
+use Rattle.std.proofs.lemmas.Bool.Decides.{nat_tests}
+use Rattle.std.proofs.lemmas.Cmp.{eq_by_cmp_equiv}
+use Rattle.std.proofs.lemmas.Map.Keys.{IsDistinct-IsPermutation}
+use Rattle.std.proofs.lemmas.List.Elements.{filter_map-append, recursion_from_All}
+use Rattle.std.proofs.lemmas.List.Sorted.{sorted_far, ranks_by, list_any-IsPermutation}
+use Rattle.keybytes.specs.Keys.{KeySpecValue}
+use Rattle.keybytes.specs.declared.cell.Cell.{Cell}
+use Rattle.keybytes.specs.declared.rid.Rid.{Rid}
+use Rattle.heap_log.specs.declared.record.LogRec.{LogRec}
+use Rattle.heap_log.specs.Standing.{live_at, same_rid}
+use Rattle.heap_table.specs.Pages.{rid_at, slots_written, pages_written, RowsAreInside}
+use Rattle.builder_core.specs.declared.pair.Pair.{Pair}
+use Rattle.builder_core.specs.Pairs.{pair_cmp, pair_at, rids_on, pairs_on, pairs_from, written_rids, pairs_at_rest}
+use Rattle.builder_core.proofs.PairSets.{pairs_total, marked, tied_pairs, is_in, items_are, at_its_rid, all_listed}
+
+-- the RIDs of so many pages from that one on
+abbrev pub rids_from : List LogRec → ℕ → ℕ → List Rid
+rids_from log first count = flat_map (rids_on log) (range_with_len first count)
+
+pub pairs_of_rids : (spec : KeySpecValue) (log : List LogRec) (first count : ℕ) → pairs_from spec log first count ≡ filter_map (pair_at spec log) (rids_from log first count)
+pairs_of_rids spec log first zero = refl
+pairs_of_rids spec log first (suc count) =
+    ap (λ ps. pairs_on spec log first ++ ps) (pairs_of_rids spec log (first + 1) count)
+    ∙ sym (filter_map-append (pair_at spec log) (rids_on log first) (rids_from log (first + 1) count))
+
+-- what holds of each element of both holds of each of the whole
+all_append : {X : Type 0} (P : X → Type 0) (xs ys : List X) → AllByRecursion P xs → AllByRecursion P ys → AllByRecursion P (xs ++ ys)
+all_append P [] ys a b = b
+all_append P (x ∷ xs) ys a b = (a.0, all_append P xs ys a.1 b)
+
+all_weaker : {X : Type 0} (P Q : X → Type 0) → ((x : X) → P x → Q x) → (xs : List X) → AllByRecursion P xs → AllByRecursion Q xs
+all_weaker P Q f [] a = tt
+all_weaker P Q f (x ∷ xs) a = (f x a.0, all_weaker P Q f xs a.1)
+
+distinct_append : {X : Type 0} (e : X → X → Bool) (xs ys : List X) → IsDistinct e xs → IsDistinct e ys → AllByRecursion (λ x. AllByRecursion (λ y. e x y ≡ false) ys) xs → IsDistinct e (xs ++ ys)
+unfolding IsDistinct
+distinct_append e [] ys a b apart = b
+distinct_append e (x ∷ xs) ys a b apart = (all_append (λ y. e x y ≡ false) xs ys a.0 apart.0, distinct_append e xs ys a.1 b apart.1)
+
+pages_apart : (a b : Rid) → a.page < b.page → same_rid a b ≡ false
+pages_apart a b less = grind (arith, nat_tests, less)
+
+slots_apart : (page s t : ℕ) → s < t → same_rid (rid_at page s) (rid_at page t) ≡ false
+slots_apart page s t less = grind (arith, nat_tests, less)
+
+-- the RIDs of one page have later slots
+later_slots : (page slot first count : ℕ) → slot < first → AllByRecursion (λ r. same_rid (rid_at page slot) r ≡ false) (map (rid_at page) (range_with_len first count))
+later_slots page slot first zero less = tt
+later_slots page slot first (suc count) less = (slots_apart page slot first less, later_slots page slot (first + 1) count (omega arith))
+
+slots_distinct : (page first count : ℕ) → IsDistinct same_rid (map (rid_at page) (range_with_len first count))
+unfolding IsDistinct
+slots_distinct page first zero = tt
+slots_distinct page first (suc count) = (later_slots page first (first + 1) count (omega arith), slots_distinct page (first + 1) count)
+
+on_page : (page first count : ℕ) → AllByRecursion (λ r. r.page ≡ page) (map (rid_at page) (range_with_len first count))
+on_page page first zero = tt
+on_page page first (suc count) = (refl, on_page page (first + 1) count)
+
+later_pages : (log : List LogRec) (page first count : ℕ) → page < first → AllByRecursion (λ r. page < r.page) (rids_from log first count)
+later_pages log page first zero less = tt
+later_pages log page first (suc count) less =
+    all_append (λ r. page < r.page) (rids_on log first) (rids_from log (first + 1) count)
+    (all_weaker (λ r. r.page ≡ first) (λ r. page < r.page) (λ r e. omega (arith, e)) (rids_on log first) (on_page first 0 (slots_written log first)))
+    (later_pages log page (first + 1) count (omega arith))
+
+rids_distinct : (log : List LogRec) (first count : ℕ) → IsDistinct same_rid (rids_from log first count)
+unfolding IsDistinct
+rids_distinct log first zero = tt
+rids_distinct log first (suc count) =
+    let rest : List Rid = rids_from log (first + 1) count in
+    let later : AllByRecursion (λ r. first < r.page) rest = later_pages log first (first + 1) count (omega arith) in
+    distinct_append same_rid (rids_on log first) rest (slots_distinct first 0 (slots_written log first)) (rids_distinct log (first + 1) count)
+    (all_weaker (λ r. r.page ≡ first) (λ r. AllByRecursion (λ y. same_rid r y ≡ false) rest)
+    (λ r e. all_weaker (λ y. first < y.page) (λ y. same_rid r y ≡ false) (λ y less. pages_apart r y (omega (arith, e, less))) rest later)
+    (rids_on log first) (on_page first 0 (slots_written log first)))
+
+not_true : (b : Bool) → (b ≡ true → ⊥) → b ≡ false
+not_true true f = absurd (f refl)
+not_true false f = refl
+
+rid_itself : (r : Rid) → same_rid r r ≡ true
+rid_itself r = grind (arith, nat_tests)
+
+one_apart :
+    (spec : KeySpecValue) (log : List LogRec) (p : Pair) (r : Rid) (rs : List Rid) (o : Option Pair) → pair_at spec log r ≡ o → same_rid p.rid r ≡ false
+    → AllByRecursion (λ y. eq_by_cmp pair_cmp p y ≡ false) (filter_map (pair_at spec log) rs)
+    → AllByRecursion (λ y. eq_by_cmp pair_cmp p y ≡ false) (cons_option o (filter_map (pair_at spec log) rs))
+one_apart spec log p r rs None is here rest = rest
+one_apart spec log p r rs (Some q) is here rest = (
+  not_true (eq_by_cmp pair_cmp p q) (λ e.
+      let same : p.rid ≡ r = ap (λ (x : Pair). x.rid) (tied_pairs p q e) ∙ sym (at_its_rid spec log r q is) in
+      false≢true (sym here ∙ ap (λ x. same_rid x r) same ∙ rid_itself r)),
+  rest,
+)
+
+-- a pair at a RID differs from those at other RIDs
+pairs_apart :
+    (spec : KeySpecValue) (log : List LogRec) (p : Pair) (rids : List Rid) → AllByRecursion (λ r. same_rid p.rid r ≡ false) rids
+    → AllByRecursion (λ y. eq_by_cmp pair_cmp p y ≡ false) (filter_map (pair_at spec log) rids)
+pairs_apart spec log p [] apart = tt
+pairs_apart spec log p (r ∷ rs) apart = one_apart spec log p r rs (pair_at spec log r) refl apart.0 (pairs_apart spec log p rs apart.1)
+
+one_distinct :
+    (spec : KeySpecValue) (log : List LogRec) (r : Rid) (rs : List Rid) (o : Option Pair) → pair_at spec log r ≡ o → AllByRecursion (λ y. same_rid r y ≡ false) rs
+    → IsDistinct (eq_by_cmp pair_cmp) (filter_map (pair_at spec log) rs) → IsDistinct (eq_by_cmp pair_cmp) (cons_option o (filter_map (pair_at spec log) rs))
+unfolding IsDistinct
+one_distinct spec log r rs None is apart rest = rest
+one_distinct spec log r rs (Some p) is apart rest =
+    (pairs_apart spec log p rs (subst (λ (x : Rid). AllByRecursion (λ y. same_rid x y ≡ false) rs) (at_its_rid spec log r p is) apart), rest)
+
+pairs_distinct : (spec : KeySpecValue) (log : List LogRec) (rids : List Rid) → IsDistinct same_rid rids → IsDistinct (eq_by_cmp pair_cmp) (filter_map (pair_at spec log) rids)
+unfolding IsDistinct
+pairs_distinct spec log [] apart = tt
+pairs_distinct spec log (r ∷ rs) apart = one_distinct spec log r rs (pair_at spec log r) refl apart.0 (pairs_distinct spec log rs apart.1)
+
+-- a page below the last one is listed with its slots
+in_range : (test : ℕ → Bool) (first count k : ℕ) → k < count → test (first + k) ≡ true → list_any test (range_with_len first count) ≡ true
+in_range test first zero k less e = absurd (omega arith)
+in_range test first (suc count) zero less e = or_left (test first) (list_any test (range_with_len (first + 1) count)) (ap test (sym (add-zero first)) ∙ e)
+in_range test first (suc count) (suc k) less e =
+    or_right (test first) (list_any test (range_with_len (first + 1) count))
+    (in_range test (first + 1) count k (omega arith) (let same : first + 1 + k ≡ first + suc k = omega arith in ap test same ∙ e))
+
+any_map : {X Y : Type 0} (test : Y → Bool) (f : X → Y) (xs : List X) → list_any test (map f xs) ≡ list_any (λ x. test (f x)) xs
+any_map test f [] = refl
+any_map test f (x ∷ xs) = ap (λ b. test (f x) || b) (any_map test f xs)
+
+any_append : {X : Type 0} (test : X → Bool) (xs ys : List X) → list_any test xs ≡ true → list_any test (xs ++ ys) ≡ true
+any_append test [] ys e = absurd (false≢true e)
+any_append test (x ∷ xs) ys e =
+    elim (or_cases (test x) (list_any test xs) e) [
+      | inl here ↦ or_left (test x) (list_any test (xs ++ ys)) here
+      | inr rest ↦ or_right (test x) (list_any test (xs ++ ys)) (any_append test xs ys rest)
+    ]
+
+any_after : {X : Type 0} (test : X → Bool) (xs ys : List X) → list_any test ys ≡ true → list_any test (xs ++ ys) ≡ true
+any_after test [] ys e = e
+any_after test (x ∷ xs) ys e = or_right (test x) (list_any test (xs ++ ys)) (any_after test xs ys e)
+
+listed_on : (log : List LogRec) (rid : Rid) → rid.slot < slots_written log rid.page → list_any (λ r. same_rid r rid) (rids_on log rid.page) ≡ true
+listed_on log rid less =
+    any_map (λ r. same_rid r rid) (rid_at rid.page) (range_with_len 0 (slots_written log rid.page))
+    ∙ in_range (λ slot. same_rid (rid_at rid.page slot) rid) 0 (slots_written log rid.page) rid.slot less
+    (ap (λ slot. same_rid (rid_at rid.page slot) rid) (zero-add rid.slot) ∙ rid_itself rid)
+
+listed_from : (log : List LogRec) (rid : Rid) (first count k : ℕ) → k < count → first + k ≡ rid.page → rid.slot < slots_written log rid.page → list_any (λ r. same_rid r rid) (rids_from log first count) ≡ true
+listed_from log rid first zero k less page slot = absurd (omega arith)
+listed_from log rid first (suc count) zero less page slot =
+    any_append (λ r. same_rid r rid) (rids_on log first) (rids_from log (first + 1) count)
+    (ap (λ p. list_any (λ r. same_rid r rid) (rids_on log p)) (sym (add-zero first) ∙ page) ∙ listed_on log rid slot)
+listed_from log rid first (suc count) (suc k) less page slot =
+    any_after (λ r. same_rid r rid) (rids_on log first) (rids_from log (first + 1) count)
+    (listed_from log rid (first + 1) count k (omega arith) (omega (arith, page)) slot)
+
+listed_all : (log : List LogRec) → RowsAreInside log → (rid : Rid) (row : List Cell) → live_at log rid ≡ Some row → list_any (λ r. same_rid r rid) (rids_from log 0 (pages_written log)) ≡ true
+listed_all log inside rid row live =
+    listed_from log rid 0 (pages_written log) rid.page (inside.page rid row live) (zero-add rid.page) (inside.slot rid row live)
+
+-- a list in order with no pair twice rises
+by_order_of : (o : Ordering) → is_lt (ordering_reverse o) ≡ false → is_eq o ≡ false → is_lt o ≡ true
+by_order_of Less a b = refl
+by_order_of Equal a b = absurd (false≢true (sym b))
+by_order_of Greater a b = absurd (false≢true (sym a))
+
+both : (a b : Bool) → a ≡ true → b ≡ true → (a && b) ≡ true
+both true b p q = q
+both false b p q = absurd (false≢true p)
+
+rises_above : (x : Pair) (ys : List Pair) → AllByRecursion (λ y. is_lt (pair_cmp y x) ≡ false) ys → AllByRecursion (λ y. eq_by_cmp pair_cmp x y ≡ false) ys → below_all pair_cmp x (marked ys) ≡ true
+rises_above x [] a b = refl
+rises_above x (y ∷ ys) a b =
+    both (is_lt (pair_cmp x y)) (below_all pair_cmp x (marked ys))
+    (by_order_of (pair_cmp x y) (ap is_lt (sym (pairs_total.antisymm y x)) ∙ a.0) b.0) (rises_above x ys a.1 b.1)
+
+abbrev pub InOrder : List Pair → Type 0
+InOrder ps = IsSortedBy (λ x y. is_lt (pair_cmp x y)) ps
+
+order_tail : (x : Pair) (ys : List Pair) → InOrder (x ∷ ys) → InOrder ys
+order_tail x ys h k d low high = let next = h (suc k) d (omega arith) (omega arith) in simp unary_clauses (simp unary_clauses at next)
+
+above_first : (x : Pair) (ys : List Pair) → InOrder (x ∷ ys) → All (λ y. is_lt (pair_cmp y x) ≡ false) ys
+above_first x ys h k d less = sorted_far (λ a b. is_lt (pair_cmp a b)) (ranks_by pairs_total (λ p. p)) (x ∷ ys) h 0 (suc k) d (omega arith) (omega arith)
+
+rises : (ys : List Pair) → InOrder ys → IsDistinct (eq_by_cmp pair_cmp) ys → is_sorted pair_cmp (marked ys) ≡ true
+unfolding IsDistinct
+rises [] h apart = refl
+rises (x ∷ ys) h apart =
+    both (below_all pair_cmp x (marked ys)) (is_sorted pair_cmp (marked ys))
+    (rises_above x ys (recursion_from_All (λ y. is_lt (pair_cmp y x) ≡ false) ys (above_first x ys h)) apart.0)
+    (rises ys (order_tail x ys h) apart.1)
+
+-- the pairs of all pages, put in order, are those at rest
+pub in_order :
+    (spec : KeySpecValue) (log : List LogRec) (made ys : List Pair) → RowsAreInside log → made ≡ pairs_from spec log 0 (pages_written log)
+    → IsPermutation made ys → InOrder ys → ys ≡ pairs_at_rest spec log
+in_order spec log made ys inside is moved sorted =
+    let rids : List Rid = rids_from log 0 (pages_written log) in
+    let made_is : made ≡ filter_map (pair_at spec log) rids = is ∙ pairs_of_rids spec log 0 (pages_written log) in
+    let apart : IsDistinct (eq_by_cmp pair_cmp) made =
+    subst (IsDistinct (eq_by_cmp pair_cmp)) (sym made_is) (pairs_distinct spec log rids (rids_distinct log 0 (pages_written log))) in
+    let apart_now : IsDistinct (eq_by_cmp pair_cmp) ys =
+    IsDistinct-IsPermutation (eq_by_cmp pair_cmp) (eq_by_cmp_equiv pairs_total).symm made ys moved apart in
+    items_are ys (filter_map (pair_at spec log) (written_rids log)) (subst T (sym (rises ys sorted apart_now)) tt) (λ q.
+    sym (list_any-IsPermutation (eq_by_cmp pair_cmp q) made ys moved)
+    ∙ ap (is_in q) made_is ∙ all_listed spec log rids (listed_all log inside) q)
+
+-- the pairs of pages one after another
+pub pairs_joined : (spec : KeySpecValue) (log : List LogRec) (first n m : ℕ) → pairs_from spec log first (n + m) ≡ pairs_from spec log first n ++ pairs_from spec log (first + n) m
+pairs_joined spec log first zero m = let same : zero + m ≡ m = zero-add m in let here : first + zero ≡ first = add-zero first in rw (same, here) refl
+pairs_joined spec log first (suc n) m =
+    let more : suc n + m ≡ suc (n + m) = omega arith in
+    let on : first + suc n ≡ first + 1 + n = omega arith in
+    rw (more, on) (ap (λ ps. pairs_on spec log first ++ ps) (pairs_joined spec log (first + 1) n m) ∙ sym (append_assoc (pairs_on spec log first) (pairs_from spec log (first + 1) n) (pairs_from spec log (first + 1 + n) m)))

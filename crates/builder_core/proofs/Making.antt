@@ -1,0 +1,122 @@
+-- How the pairs of pages are made, row by row.
+use Rattle.std.proofs.Common.{◌≡◌, ℕ, zero, suc, add-one, add-zero, zero-add, ◌+◌, ◌<◌, true, List, [], ◌∷◌, ◌++◌, length, append-nil, get_or, Option, Some, None, IfSome, refl, sym, ap, ◌∙◌, arith, subst}
+use Rattle.std.specs.Prelude.{filter_map, map, All}
+use Rattle.std.specs.List.{range_with_len, cons_option, AllByRecursion}
+use Rattle.std.specs.Option.{option_map, option_to_list}
+use Rattle.std.proofs.lemmas.Option.{slice_get_read}
+use Rattle.std.proofs.lemmas.List.{map-append}
+use Rattle.std.proofs.lemmas.List.Elements.{filter_map-append, All-from_recursion}
+use Rattle.keybytes.specs.Cells.{fits}
+use Rattle.keybytes.specs.Rows.{row_bytes, Spells}
+use Rattle.keybytes.specs.Keys.{KeySpecValue, key_of}
+use Rattle.keybytes.specs.declared.cell.Cell.{Cell}
+use Rattle.keybytes.specs.declared.kind.Kind.{Kind}
+use Rattle.heap_log.specs.declared.record.LogRec.{LogRec}
+use Rattle.heap_log.specs.Standing.{live_at}
+use Rattle.heap_table.specs.HeapState.{HeapState, after_visit}
+use Rattle.heap_table.specs.Images.{ImageValue, IsImage}
+use Rattle.heap_table.specs.Kept.{RowsFit}
+use Rattle.heap_table.specs.Pages.{rid_at, row_in, rows_on, slots_written}
+use Rattle.builder_core.specs.declared.pair.Pair.{Pair}
+use Rattle.builder_core.specs.Pairs.{pair_at, pair_of, pairs_on, pairs_from}
+use Rattle.builder_core.specs.CoreState.{after_visits}
+use Rattle.builder_core.specs.Builds.{AreImages}
+use Rattle.builder_core.proofs.AtRest.{pairs_joined}
+
+range_more : (a n : ℕ) → range_with_len a (n + 1) ≡ range_with_len a n ++ (a + n) ∷ []
+range_more a zero = rw (add-zero a) refl
+range_more a (suc n) =
+    let next : suc n + 1 ≡ suc (n + 1) = omega arith in
+    let last : a + 1 + n ≡ a + suc n = omega arith in
+    ap (range_with_len a) next
+    ∙ ap (λ (xs : List ℕ). a ∷ xs) (range_more (a + 1) n ∙ ap (λ (k : ℕ). range_with_len (a + 1) n ++ k ∷ []) last)
+
+-- the pairs in the first slots of a page
+abbrev pub pairs_before : KeySpecValue → List LogRec → ℕ → ℕ → List Pair
+pairs_before spec log page slots = filter_map (pair_at spec log) (map (rid_at page) (range_with_len 0 slots))
+
+alone : {X : Type 0} (o : Option X) → cons_option o [] ≡ option_to_list o
+alone None = refl
+alone (Some x) = refl
+
+pub slot_more :
+    (spec : KeySpecValue) (log : List LogRec) (page slot : ℕ) (o : Option Pair) → pair_at spec log (rid_at page slot) ≡ o
+    → pairs_before spec log page (slot + 1) ≡ pairs_before spec log page slot ++ option_to_list o
+slot_more spec log page slot o is =
+    let more : range_with_len 0 (slot + 1) ≡ range_with_len 0 slot ++ slot ∷ [] = range_more 0 slot ∙ ap (λ k. range_with_len 0 slot ++ k ∷ []) (zero-add slot) in
+    ap (λ slots. filter_map (pair_at spec log) (map (rid_at page) slots)) more
+    ∙ ap (filter_map (pair_at spec log)) (map-append (rid_at page) (range_with_len 0 slot) (slot ∷ []))
+    ∙ filter_map-append (pair_at spec log) (map (rid_at page) (range_with_len 0 slot)) (rid_at page slot ∷ [])
+    ∙ ap (λ x. pairs_before spec log page slot ++ cons_option x []) is
+    ∙ ap (λ ps. pairs_before spec log page slot ++ ps) (alone o)
+
+-- a slot with that row, or with none
+pub slot_some : (spec : KeySpecValue) (log : List LogRec) (page slot : ℕ) (row : List Cell) → Some row ≡ live_at log (rid_at page slot) → pair_at spec log (rid_at page slot) ≡ Some (record { key = key_of spec row; rid = rid_at page slot })
+slot_some spec log page slot row is = ap (option_map (λ cells. record { key = key_of spec cells; rid = rid_at page slot })) (sym is)
+
+pub slot_none : (spec : KeySpecValue) (log : List LogRec) (page slot : ℕ) → None ≡ live_at log (rid_at page slot) → pair_at spec log (rid_at page slot) ≡ None
+slot_none spec log page slot is = ap (option_map (λ cells. record { key = key_of spec cells; rid = rid_at page slot })) (sym is)
+
+-- a row on a copy fits the columns
+pub shown_fits : (kinds : List Kind) (log : List LogRec) (page slot : ℕ) (image : ImageValue) (row : List Cell) → IsImage kinds log page image → Some row ≡ live_at log (rid_at page slot) → fits kinds row ≡ true
+shown_fits kinds log page slot image row is live =
+    let Spelled : Option (List Cell) → Type 0 = λ cells. IfSome cells (λ r. Spells kinds (row_bytes r) r) in
+    let spells : Spelled (Some row) = subst Spelled (sym live) ((is.rows slot).spells) in
+    spells.fitting
+
+-- the pairs of rows with their RIDs
+rows_step :
+    (spec : KeySpecValue) (log : List LogRec) (page slot : ℕ) (slots : List ℕ) (o : Option (List Cell))
+    → map (pair_of spec) (filter_map (row_in log page) slots) ≡ filter_map (pair_at spec log) (map (rid_at page) slots)
+    → map (pair_of spec) (cons_option (option_map (λ cells. (rid_at page slot, cells)) o) (filter_map (row_in log page) slots))
+    ≡ cons_option (option_map (λ cells. record { key = key_of spec cells; rid = rid_at page slot }) o) (filter_map (pair_at spec log) (map (rid_at page) slots))
+rows_step spec log page slot slots None e = e
+rows_step spec log page slot slots (Some row) e = ap (λ ps. record { key = key_of spec row; rid = rid_at page slot } ∷ ps) e
+
+pairs_of_rows : (spec : KeySpecValue) (log : List LogRec) (page : ℕ) (slots : List ℕ) → map (pair_of spec) (filter_map (row_in log page) slots) ≡ filter_map (pair_at spec log) (map (rid_at page) slots)
+pairs_of_rows spec log page [] = refl
+pairs_of_rows spec log page (slot ∷ slots) = rows_step spec log page slot slots (live_at log (rid_at page slot)) (pairs_of_rows spec log page slots)
+
+pub rows_pairs : (spec : KeySpecValue) (log : List LogRec) (page : ℕ) → map (pair_of spec) (rows_on log page) ≡ pairs_on spec log page
+rows_pairs spec log page = pairs_of_rows spec log page (range_with_len 0 (slots_written log page))
+
+fit_step :
+    (kinds : List Kind) (log : List LogRec) (page slot : ℕ) (slots : List ℕ) (o : Option (List Cell)) → live_at log (rid_at page slot) ≡ o → RowsFit kinds log
+    → AllByRecursion (λ row. fits kinds row.1 ≡ true) (filter_map (row_in log page) slots)
+    → AllByRecursion (λ row. fits kinds row.1 ≡ true) (cons_option (option_map (λ cells. (rid_at page slot, cells)) o) (filter_map (row_in log page) slots))
+fit_step kinds log page slot slots None is fit rest = rest
+fit_step kinds log page slot slots (Some row) is fit rest = (fit.fitting (rid_at page slot) row is, rest)
+
+fit_slots : (kinds : List Kind) (log : List LogRec) (page : ℕ) (slots : List ℕ) → RowsFit kinds log → AllByRecursion (λ row. fits kinds row.1 ≡ true) (filter_map (row_in log page) slots)
+fit_slots kinds log page [] fit = tt
+fit_slots kinds log page (slot ∷ slots) fit = fit_step kinds log page slot slots (live_at log (rid_at page slot)) refl fit (fit_slots kinds log page slots fit)
+
+-- the rows of a page fit the columns
+pub rows_fit_page : (kinds : List Kind) (log : List LogRec) (page : ℕ) → RowsFit kinds log → All (λ row. fits kinds row.1 ≡ true) (rows_on log page)
+rows_fit_page kinds log page fit =
+    All-from_recursion (λ row. fits kinds row.1 ≡ true) (rows_on log page) (fit_slots kinds log page (range_with_len 0 (slots_written log page)) fit)
+
+-- one page more
+pub page_more : (spec : KeySpecValue) (log : List LogRec) (first n : ℕ) → pairs_from spec log first (n + 1) ≡ pairs_from spec log first n ++ pairs_on spec log (first + n)
+page_more spec log first n = pairs_joined spec log first n 1 ∙ ap (λ ps. pairs_from spec log first n ++ ps) (append-nil (pairs_on spec log (first + n)))
+
+-- visits change nothing else
+pub visits_only : (heap : HeapState) (n : ℕ) → after_visits heap n ≡ record heap { visits = (after_visits heap n).visits }
+visits_only heap zero = refl
+visits_only heap (suc n) = ap after_visit (visits_only heap n)
+
+pub visit_more : (heap : HeapState) (n : ℕ) → after_visits heap (n + 1) ≡ after_visit (after_visits heap n)
+visit_more heap n = ap (after_visits heap) (add-one n)
+
+-- a copy among those of pages that follow one another
+pub image_at :
+    (kinds : List Kind) (log : List LogRec) (first i : ℕ) (images : List ImageValue) (image : ImageValue) → AreImages kinds log first images → i < length images
+    → image ≡ get_or images i image → IsImage kinds log (first + i) image
+image_at kinds log first i images image are below is = are.each i image (slice_get_read images (length images) i image refl below is)
+
+pub its_page : (kinds : List Kind) (log : List LogRec) (page : ℕ) (image : ImageValue) → IsImage kinds log page image → IsImage kinds log image.page image
+its_page kinds log page image is = subst (λ n. IsImage kinds log n image) (sym is.number) is
+
+pub visits_changed : (heap new : HeapState) (n : ℕ) → new ≡ after_visits heap n → new ≡ record heap { visits = new.visits }
+visits_changed heap new n is =
+    is ∙ visits_only heap n ∙ ap (λ (h : HeapState). record heap { visits = h.visits }) (sym is)

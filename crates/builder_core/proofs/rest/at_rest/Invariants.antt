@@ -1,0 +1,10 @@
+use Rattle.std.proofs.Common.{◌≡◌}
+use Rattle.builder_core.specs.Pairs.{pairs_from}
+use Rattle.builder_core.specs.CoreState.{after_visits}
+use Rattle.builder_core.proofs.rest.at_rest.Given as goal
+
+abbrev pub invariant-loop-page : goal.invariant-loop-page
+invariant-loop-page l = record {
+  made : l.pairs.items ≡ pairs_from l.spec l.fn.heap.log 0 l.page;
+  visits : l.heap ≡ after_visits l.fn.heap l.page;
+}

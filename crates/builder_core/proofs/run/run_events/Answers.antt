@@ -1,0 +1,19 @@
+use Rattle.std.proofs.Common.{◌≡◌, ◌+◌, ◌++◌, ◌∷◌, [], List, take, ap, sym, ◌∙◌, arith}
+use Rattle.std.proofs.lemmas.List.{take_more}
+use Rattle.builder_core.specs.declared.event.Event.{Event}
+use Rattle.builder_core.specs.CoreState.{opening}
+use Rattle.builder_core.proofs.Runs.{run_more}
+use Rattle.builder_core.proofs.run.run_events.Goals as goal
+
+pub loop-event-preserved : goal.loop-event-preserved
+loop-event-preserved c =
+    let events : List Event = c.args.events.now in
+    let i = c.loop-event.event-index in
+    let more : take (i + 1) events ≡ take i events ++ c.event-item.result ∷ [] =
+    take_more events i c.event-item.result c.loop-event-test.true ∙ ap (λ x. take i events ++ x ∷ []) (sym c.event-item.is) in
+    record {
+      run = rw (more, c.push_reserved.ensures.items)
+          (run_more (opening c.args.live) c.loop-event.core c.answer.new.self (take i events) c.event-item.result c.loop-event.replies.items c.answer.result c.loop-event.invariant.run c.answer.ensures.step);
+      room = omega (arith, c.loop-event.invariant.room, c.push_reserved.ensures.capacity);
+      count = omega (arith, c.push_reserved.ensures.len, c.push_reserved.new.self.ok, c.loop-event.replies.ok, c.loop-event.invariant.count);
+    }

@@ -1,0 +1,4 @@
+pub mod Builds
+pub mod CoreState
+pub mod Pairs
+pub mod Steps

@@ -1,0 +1,243 @@
+ghost use Rattle.std.specs.Prelude.{◌≡◌, ◌≢◌, length, true, Some, None, is_some, IfOk, IfErr, OnOk, OnErr, MatchResult, slice_get};
+ghost use Rattle.heap_log.specs.Standing.{live_at};
+ghost use Rattle.heap_table.specs.HeapState.{row_missing, after_visit};
+ghost use Rattle.heap_table.specs.Pages.{pages_written};
+ghost use Rattle.builder_core.specs.Pairs.{pairs_at_rest, HaveKeysOf};
+ghost use Rattle.builder_core.specs.CoreState.{opening, live_of, after_visits, ReadyFollowTable};
+ghost use Rattle.builder_core.specs.Steps.{Step, Answers, is_one_range, with_heap};
+
+use crate::build::Build;
+use crate::{Dealing, Event, Live, Pair, Plan, ReadyIndex, Reply};
+use keybytes::{Fault, KeySpec, Rid, Row, Schema};
+use std::marker::Model;
+
+/// The most indexes that a table may have.
+const READY_MAX: usize = 32;
+
+/// A table with its ready indexes, and the index build that may be running. Each ready index has the pairs of the rows
+/// that stand.
+#[derive(Drop)]
+pub struct Core {
+    live: Live,
+    build: Option<Build>,
+}
+
+impl Model for Core {
+    ghost use Rattle.builder_core.specs.CoreState.{CoreState, core_state};
+    ghost use Rattle.builder_core.specs.Builds.{BuildFollows};
+
+    ghost Value = { CoreState };
+
+    ghost view = { λ core. core_state core.live core.build };
+
+    ghost invariant = { λ core. BuildFollows core.live.heap.schema core.live.heap.log core.build };
+}
+
+/// Whether so many pages are dealt into one range.
+fn is_one_range(dealing: &Dealing, pages: u32) -> bool
+    ensures { result ≡ is_one_range pages dealing.now }
+{
+    match dealing {
+        Dealing::Ends(ends) => match ends.as_slice() {
+            [end] => *end == pages,
+            _ => false,
+        },
+        Dealing::Even(ranges) => *ranges == 1,
+    }
+}
+
+impl Core {
+    /// The table, with no build running.
+    pub fn new(live: Live) -> Core
+        ensures { result ≡ opening live }
+    {
+        Core { live, build: None }
+    }
+
+    /// Gives the table and its ready indexes back; a running build is abandoned.
+    pub fn into_live(self) -> Live
+        ensures { result ≡ live_of self }
+    {
+        self.live
+    }
+
+    pub fn schema(&self) -> &Schema
+        ensures { result.now ≡ self.now.heap.schema }
+    {
+        self.live.heap().schema()
+    }
+
+    pub fn is_building(&self) -> bool
+        ensures { result ≡ is_some self.now.build }
+    {
+        self.build.is_some()
+    }
+
+    /// The ready index of that number, from 0; [`Fault::BadCount`] where there is none.
+    pub fn ready(&self, number: usize) -> Result<&ReadyIndex, Fault>
+        ensures index { MatchResult result (λ index. slice_get self.now.ready number ≡ Some index.now) (λ fault. slice_get self.now.ready number ≡ None) }
+        ensures refused { IfErr result (λ fault. fault ≡ Fault.BadCount) }
+        ensures follow { ReadyFollowTable self.now }
+    {
+        self.live.ready().get(number).ok_or(Fault::BadCount)
+    }
+
+    /// The pairs that an index of this specification would have now, read from the table: one visit a page.
+    pub fn rest(&mut self, spec: &KeySpec) -> Result<Vec<Pair>, Fault>
+        requires { spec.now.kinds ≡ self.old.heap.schema }
+        ensures ok { IfOk result (λ pairs. pairs.items ≡ pairs_at_rest spec.now self.old.heap.log) }
+        ensures keys { IfOk result (λ pairs. HaveKeysOf spec.now pairs.items) }
+        ensures visits { OnOk result (self.new ≡ with_heap self.old (after_visits self.old.heap (pages_written self.old.heap.log))) }
+        ensures rows { self.new ≡ with_heap self.old (record self.old.heap { visits = self.new.heap.visits }) }
+        ensures memory { IfErr result (λ fault. fault ≡ Fault.Memory) }
+    {
+        self.live.rest(spec)
+    }
+
+    /// The row that stands at a RID now; [`Fault::NoSuchRow`] where none does. Counts as a visit.
+    pub fn get(&mut self, rid: Rid) -> Result<Row, Fault>
+        ensures ok { IfOk result (λ row. live_at self.old.heap.log rid ≡ Some row) }
+        ensures visited { OnOk result (self.new ≡ with_heap self.old (after_visit self.old.heap)) }
+        ensures unchanged { OnErr result (self.new ≡ self.old) }
+        ensures refused { IfErr result (λ fault. fault ≢ Fault.Memory → row_missing (live_at self.old.heap.log rid) ≡ Some fault) }
+    {
+        self.live.get(rid)
+    }
+
+    /// Does one event.
+    pub fn step(&mut self, event: Event) -> Reply
+        ensures step { Step self.old event result self.new }
+        ensures ready { ReadyFollowTable self.new }
+    {
+        self.answer(&event)
+    }
+
+    /// Does one event, of which it copies what it keeps.
+    pub(crate) fn answer(&mut self, event: &Event) -> Reply
+        ensures step { Step self.old event.now result self.new }
+        ensures ready { ReadyFollowTable self.new }
+    {
+        let answer = match event {
+            Event::Begin => self.begin(),
+            Event::Insert { txn, row } => self.insert(*txn, row),
+            Event::Commit { txn } => self.commit(*txn),
+            Event::Start { plan } => self.start(plan),
+            Event::Scan { range, worker } => self.scan(*range, *worker),
+            Event::Seal { worker } => self.seal(*worker),
+            Event::Load { index } => self.load(*index),
+            Event::Switch => self.switch(),
+        };
+        let _follow = self.live.ready();
+        match answer {
+            Ok(reply) => reply,
+            Err(fault) => Reply::Refused { fault },
+        }
+    }
+
+    fn begin(&mut self) -> Result<Reply, Fault>
+        ensures { Answers self.old Event.Begin result self.new }
+    {
+        let txn = self.live.begin()?;
+        Ok(Reply::Begun { txn })
+    }
+
+    fn insert(&mut self, txn: u64, row: &Row) -> Result<Reply, Fault>
+        ensures { Answers self.old (Event.Insert txn row.now) result self.new }
+    {
+        if self.build.is_some() || !self.live.ready().is_empty() {
+            return Err(Fault::BuildRunning);
+        }
+        let (number, rid) = self.live.insert(txn, row.clone()?)?;
+        Ok(Reply::Written { number, rid })
+    }
+
+    fn commit(&mut self, txn: u64) -> Result<Reply, Fault>
+        ensures { Answers self.old (Event.Commit txn) result self.new }
+    {
+        let number = self.live.commit(txn)?;
+        Ok(Reply::Committed { number })
+    }
+
+    fn start(&mut self, plan: &Plan) -> Result<Reply, Fault>
+        ensures { Answers self.old (Event.Start plan.now) result self.new }
+    {
+        if self.build.is_some() {
+            return Err(Fault::BuildRunning);
+        }
+        let [spec] = plan.specs.as_slice() else {
+            return Err(Fault::BadCount);
+        };
+        if plan.workers != 1 || spec.unique() || self.live.ready().len() >= READY_MAX {
+            return Err(Fault::BadCount);
+        }
+        let heap = self.live.heap();
+        if !spec.is_of(heap.schema()) {
+            return Err(Fault::BadColumn);
+        }
+        let pages = heap.pages();
+        if !is_one_range(&plan.dealing, pages) {
+            return Err(Fault::BadRanges);
+        }
+        let spec = spec.clone()?;
+        self.build = Some(Build::new(self.live.allocator(), spec, pages));
+        Ok(Reply::Started { pages })
+    }
+
+    fn scan(&mut self, range: usize, worker: usize) -> Result<Reply, Fault>
+        ensures { Answers self.old (Event.Scan range worker) result self.new }
+    {
+        let Some(build) = &mut self.build else {
+            return Err(Fault::NoBuild);
+        };
+        if range != 0 || worker != 0 {
+            return Err(Fault::BadCount);
+        }
+        let page = build.scan(&mut self.live)?;
+        Ok(Reply::Scanned { page })
+    }
+
+    fn seal(&mut self, worker: usize) -> Result<Reply, Fault>
+        ensures { Answers self.old (Event.Seal worker) result self.new }
+    {
+        let Some(build) = &mut self.build else {
+            return Err(Fault::NoBuild);
+        };
+        if worker != 0 {
+            return Err(Fault::BadCount);
+        }
+        let images = build.seal(self.live.heap().schema())?;
+        Ok(Reply::Sealed { images })
+    }
+
+    fn load(&mut self, index: usize) -> Result<Reply, Fault>
+        ensures { Answers self.old (Event.Load index) result self.new }
+    {
+        let Some(build) = &mut self.build else {
+            return Err(Fault::NoBuild);
+        };
+        if index != 0 {
+            return Err(Fault::BadCount);
+        }
+        let pairs = build.load()?;
+        Ok(Reply::Loaded { pairs })
+    }
+
+    fn switch(&mut self) -> Result<Reply, Fault>
+        ensures { Answers self.old Event.Switch result self.new }
+    {
+        let Some(build) = self.build.take() else {
+            return Err(Fault::NoBuild);
+        };
+        if let Err(fault) = build.check_switch() {
+            self.build = Some(build);
+            return Err(fault);
+        }
+        match self.live.switch_in(build) {
+            Ok((number, verdicts)) => Ok(Reply::Switched { number, verdicts }),
+            Err((build, fault)) => {
+                self.build = Some(build);
+                Err(fault)
+            }
+        }
+    }
+}

@@ -1,0 +1,35 @@
+//! Index builds over a table in use, one event after another.
+//!
+//! An event is a write, a commit or one step of a build, and is answered before the next is looked at. A build copies
+//! the table's pages, makes the pairs of key and RID of their rows, puts the pairs in order, and is then switched in:
+//! from there on the index is ready. What each event does, and why it is refused, is said once, by `outcome` of
+//! `specs/Steps.antt`; a refused event changes nothing, unless memory ran out in the midst of a build's work, which
+//! spoils that build.
+//!
+//! [`Live`] is a table with its ready indexes, and [`Core`] is that with the build that may be running: [`Core::step`]
+//! answers one event, and [`run_events`] a list of them. [`at_rest`] makes the pairs of a table that nobody writes.
+#![tactic(auto)]
+
+mod build;
+mod core_steps;
+mod event;
+mod live;
+mod pair;
+mod plan;
+mod ready_index;
+mod reply;
+mod rest;
+mod run;
+#[cfg(test)]
+mod tests;
+mod worker;
+
+pub use core_steps::Core;
+pub use event::Event;
+pub use live::Live;
+pub use pair::Pair;
+pub use plan::{Dealing, Plan};
+pub use ready_index::ReadyIndex;
+pub use reply::Reply;
+pub use rest::at_rest;
+pub use run::run_events;

@@ -1,0 +1,20 @@
+use heap_log::Verdicts;
+use keybytes::{Fault, Rid};
+
+/// What an event is answered.
+#[derive(Debug, Drop)]
+pub enum Reply {
+    Begun { txn: u64 },
+    /// With the number of the log record.
+    Written { number: usize, rid: Rid },
+    Committed { number: usize },
+    /// With the number of pages that the build reads.
+    Started { pages: u32 },
+    Scanned { page: u32 },
+    /// With the number of copies that the worker took.
+    Sealed { images: usize },
+    /// With the number of pairs that were put in order.
+    Loaded { pairs: usize },
+    Switched { number: usize, verdicts: Verdicts },
+    Refused { fault: Fault },
+}

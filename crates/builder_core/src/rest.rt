@@ -1,0 +1,42 @@
+ghost use Rattle.std.specs.Prelude.{◌≡◌, ◌++◌, All, map, true, IfOk, IfErr, OnOk};
+ghost use Rattle.keybytes.specs.Cells.{fits};
+ghost use Rattle.heap_table.specs.Pages.{pages_written};
+ghost use Rattle.builder_core.specs.Pairs.{pair_of, pairs_at_rest, HaveKeysOf};
+ghost use Rattle.builder_core.specs.CoreState.{after_visits};
+
+use crate::Pair;
+use heap_table::Heap;
+use keybytes::{Fault, KeySpec, Rid, Row};
+
+/// Puts the pairs of rows behind those that are there.
+fn add_rows(pairs: &mut Vec<Pair>, rows: &[(Rid, Row)], spec: &KeySpec) -> Result<(), Fault>
+    requires { All (λ row. fits spec.now.kinds row.1 ≡ true) rows.now }
+    ensures ok { OnOk result (pairs.new.items ≡ pairs.old.items ++ map (pair_of spec.now) rows.now) }
+    ensures memory { IfErr result (λ fault. fault ≡ Fault.Memory) }
+{
+    for (rid, row) in rows {
+        let key = spec.key(row)?;
+        pairs.push(Pair { key, rid: *rid })?;
+    }
+    Ok(())
+}
+
+/// The pairs of all rows, by key, then by RID. Reads each page once, which counts as a visit.
+pub fn at_rest(heap: &mut Heap, spec: &KeySpec) -> Result<Vec<Pair>, Fault>
+    requires { spec.now.kinds ≡ heap.old.schema }
+    ensures ok { IfOk result (λ pairs. pairs.items ≡ pairs_at_rest spec.now heap.old.log) }
+    ensures keys { IfOk result (λ pairs. HaveKeysOf spec.now pairs.items) }
+    ensures visits { OnOk result (heap.new ≡ after_visits heap.old (pages_written heap.old.log)) }
+    ensures rows { heap.new ≡ record heap.old { visits = heap.new.visits } }
+    ensures memory { IfErr result (λ fault. fault ≡ Fault.Memory) }
+{
+    let schema = heap.schema();
+    prove!(spec.is_of(schema));
+    let mut pairs = Vec::new(heap.allocator());
+    for page in 0..heap.pages() {
+        let rows = heap.page_rows(page)?;
+        add_rows(&mut pairs, &rows, spec)?;
+    }
+    pairs.sort_unstable();
+    Ok(pairs)
+}
