@@ -17,7 +17,7 @@ use Rattle.heap_table.proofs.LogRows.{inside_kept}
 use Rattle.builder_core.specs.declared.pair.Pair.{Pair}
 use Rattle.builder_core.specs.Pairs.{pair_at, rids_on, pairs_on, pairs_from, pairs_at_rest}
 use Rattle.builder_core.specs.CoreState.{BuildValue, ReadyValue, FollowTable, scanned_pages}
-use Rattle.builder_core.specs.Builds.{IsAtWork, IsBuilding, BuildFollows, Runs}
+use Rattle.builder_core.specs.Builds.{IsAtWork, IsBuilding, BuildFollows, IsOfSomeTable}
 use Rattle.builder_core.proofs.PairSets.{pairs_kept}
 use Rattle.builder_core.proofs.AtRest.{in_order, pairs_joined, InOrder}
 
@@ -196,5 +196,5 @@ loaded_all kinds log b pairs is sound fresh all none moved sorted = record {
   };
 }
 
-pub fits_scanned : (b : BuildValue) → Runs b → Fits w32 (scanned_pages b)
+pub fits_scanned : (b : BuildValue) → IsOfSomeTable b → Fits w32 (scanned_pages b)
 fits_scanned b runs = let within : b.sealed + length b.ring ≤ b.pages = runs.2.within in let limit = runs.2.limit in omega (arith, within, limit)

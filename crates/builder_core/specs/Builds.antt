@@ -30,9 +30,11 @@ pub record IsBuilding (kinds : List Kind) (log : List LogRec) (b : BuildValue) :
   pub inside : RowsAreInside log
   pub work : b.spoiled ≡ None → IsAtWork kinds log b
 
+-- the running build, if any, is one of that table
 abbrev pub BuildFollows : List Kind → List LogRec → Option BuildValue → Type 0
 BuildFollows kinds log None = Unit {0}
 BuildFollows kinds log (Some b) = IsBuilding kinds log b
 
-abbrev pub Runs : BuildValue → Type 0
-Runs b = (kinds : List Kind) × (log : List LogRec) × IsBuilding kinds log b
+-- a build of some table
+abbrev pub IsOfSomeTable : BuildValue → Type 0
+IsOfSomeTable b = (kinds : List Kind) × (log : List LogRec) × IsBuilding kinds log b

@@ -34,6 +34,7 @@ pub record BuildState : Type 0 where
   -- why the build can't go on
   pub spoiled : Option Fault
 
+-- a table, its ready indexes and the running build, if any
 pub record CoreState : Type 0 where
   pub heap : HeapState
   pub ready : List ReadyValue
@@ -52,17 +53,21 @@ pub record BuildValue : Type 0 where
   pub loaded : Bool
   pub spoiled : Option Fault
 
+-- the number of pages that are copied
 abbrev pub scanned_pages : BuildValue → ℕ
 scanned_pages b = b.sealed + length b.ring
 
+-- what callers see of a running build
 abbrev pub build_state : BuildValue → BuildState
 build_state b = record { spec = b.spec; pages = b.pages; scanned = scanned_pages b; waiting = length b.ring; loaded = b.loaded; spoiled = b.spoiled }
 
+-- what callers see of a table and its build
 abbrev pub core_state : LiveValue → Option BuildValue → CoreState
 core_state live build = record { heap = live.heap; ready = live.ready; build = option_map build_state build }
 
-abbrev pub with_heap : LiveValue → HeapState → LiveValue
-with_heap live heap = record live { heap = heap }
+-- the same with that table
+abbrev pub live_with_heap : LiveValue → HeapState → LiveValue
+live_with_heap live heap = record live { heap = heap }
 
 -- nothing runs yet
 abbrev pub opening : LiveValue → CoreState
@@ -81,5 +86,6 @@ after_visits heap (suc n) = after_visit (after_visits heap n)
 abbrev pub FollowTable : List LogRec → List ReadyValue → Type 0
 FollowTable log ready = All (λ index. index.pairs ≡ pairs_at_rest index.spec log) ready
 
+-- the ready indexes follow the table
 abbrev pub ReadyFollowTable : CoreState → Type 0
 ReadyFollowTable s = FollowTable s.heap.log s.ready

@@ -37,6 +37,7 @@ abbrev pub with_build : CoreState → Option BuildState → (BuildState → Core
 with_build s None answer = (s, Refused NoBuild)
 with_build s (Some b) answer = answer b
 
+-- the same with that table
 abbrev pub with_heap : CoreState → HeapState → CoreState
 with_heap s heap = record s { heap = heap }
 
@@ -45,6 +46,7 @@ abbrev pub write_refusal : CoreState → ℕ → List Cell → Option Fault
 write_refusal s txn row =
     first_cause (cause_if (is_some s.build || nat_lt 0 (length s.ready)) BuildRunning) (insert_refusal s.heap txn row)
 
+-- the RID, if there is one
 abbrev pub rid_or_first : Option Rid → Rid
 rid_or_first None = rid_at 0 0
 rid_or_first (Some rid) = rid
@@ -53,6 +55,7 @@ rid_or_first (Some rid) = rid
 abbrev pub row_place : CoreState → List Cell → Rid
 row_place s row = rid_or_first (insert_place s.heap (length (row_bytes row)))
 
+-- whether two columns are of one kind
 abbrev pub same_kind : Kind → Kind → Bool
 same_kind Int Int = true
 same_kind Int Text = false
@@ -64,6 +67,7 @@ same_kind Flag Int = false
 same_kind Flag Text = false
 same_kind Flag Flag = true
 
+-- whether these are the same columns
 abbrev pub same_kinds : List Kind → List Kind → Bool
 same_kinds [] [] = true
 same_kinds [] (b ∷ bs) = false
@@ -91,15 +95,18 @@ is_one_range pages (Even ranges) = ranges == 1
 abbrev pub counts_fit : CoreState → Plan → KeySpecValue → Bool
 counts_fit s plan spec = (plan.workers == 1) && not spec.unique && nat_lt (length s.ready) 32
 
+-- why a plan with that specification starts no build
 abbrev pub start_refusal : CoreState → Plan → KeySpecValue → Option Fault
 start_refusal s plan spec =
     first_cause (cause_if (not (counts_fit s plan spec)) BadCount)
     (first_cause (cause_if (not (same_kinds spec.kinds s.heap.schema)) BadColumn)
     (cause_if (not (is_one_range (pages_written s.heap.log) plan.dealing)) BadRanges))
 
+-- a build has begun
 abbrev pub after_start : CoreState → KeySpecValue → CoreState
 after_start s spec = record s { build = Some (record { spec = spec; pages = pages_written s.heap.log; scanned = 0; waiting = 0; loaded = false; spoiled = None }) }
 
+-- what a plan with that one specification, if any, comes to
 abbrev pub start_outcome : CoreState → Plan → Option KeySpecValue → CoreState × Reply
 start_outcome s plan None = (s, Refused BadCount)
 start_outcome s plan (Some spec) = unless (start_refusal s plan spec) s (after_start s spec) (Started (pages_written s.heap.log))
@@ -110,15 +117,19 @@ ring_refusal b =
     first_cause b.spoiled
     (first_cause (cause_if (nat_le b.pages b.scanned) RangeDone) (cause_if (nat_le 4 b.waiting) RingFull))
 
+-- why no page is copied
 abbrev pub scan_refusal : BuildState → ℕ → ℕ → Option Fault
 scan_refusal b range worker = first_cause (cause_if (nat_lt 0 range || nat_lt 0 worker) BadCount) (ring_refusal b)
 
+-- one page more is copied, and waits
 abbrev pub after_scan : CoreState → BuildState → CoreState
 after_scan s b = record s { heap = after_visit s.heap; build = Some (record b { scanned = b.scanned + 1; waiting = b.waiting + 1 }) }
 
+-- why a worker makes no pairs
 abbrev pub seal_refusal : BuildState → ℕ → Option Fault
 seal_refusal b worker = first_cause (cause_if (nat_lt 0 worker) BadCount) b.spoiled
 
+-- no copy waits
 abbrev pub after_seal : CoreState → BuildState → CoreState
 after_seal s b = record s { build = Some (record b { waiting = 0 }) }
 
@@ -128,9 +139,11 @@ order_refusal b =
     first_cause b.spoiled
     (first_cause (cause_if (nat_lt b.scanned b.pages) (NotScanned 0)) (cause_if (nat_lt 0 b.waiting) (NotSealed 0)))
 
+-- why no pairs are put in order
 abbrev pub load_refusal : BuildState → ℕ → Option Fault
 load_refusal b index = first_cause (cause_if (nat_lt 0 index) BadCount) (order_refusal b)
 
+-- the pairs are in order
 abbrev pub after_load : CoreState → BuildState → CoreState
 after_load s b = record s { build = Some (record b { loaded = true }) }
 
@@ -138,6 +151,7 @@ after_load s b = record s { build = Some (record b { loaded = true }) }
 abbrev pub pairs_loaded : CoreState → BuildState → ℕ
 pairs_loaded s b = if b.loaded then 0 else length (pairs_at_rest b.spec s.heap.log)
 
+-- why the index does not become ready
 abbrev pub switch_refusal : BuildState → Option Fault
 switch_refusal b =
     first_cause b.spoiled
@@ -147,9 +161,11 @@ switch_refusal b =
 abbrev pub verdicts_on : CoreState → List Outcome
 verdicts_on s = Ready (length s.ready) ∷ []
 
+-- the index of the build, with the pairs of the rows that stand
 abbrev pub ready_index : CoreState → BuildState → ReadyValue
 ready_index s b = record { spec = b.spec; pairs = pairs_at_rest b.spec s.heap.log }
 
+-- the index is ready, and no build runs
 abbrev pub after_switch_in : CoreState → BuildState → CoreState
 after_switch_in s b = record { heap = after_switch s.heap (verdicts_on s); ready = s.ready ++ ready_index s b ∷ []; build = None }
 
@@ -169,6 +185,7 @@ outcome s (Load index) = with_build s s.build (λ b. unless (load_refusal b inde
 outcome s Switch =
     with_build s s.build (λ b. unless (switch_refusal b) s (after_switch_in s b) (Switched (length s.heap.log + 1) (verdicts_on s)))
 
+-- the running build, if any, is spoiled
 abbrev pub spoiled_by : Fault → Option BuildState → Option BuildState
 spoiled_by fault None = None
 spoiled_by fault (Some b) = Some (record b { spoiled = Some fault })

@@ -3,8 +3,8 @@ ghost use Rattle.keybytes.specs.declared.kind.Kind.{Kind};
 ghost use Rattle.heap_log.specs.declared.record.LogRec.{LogRec};
 ghost use Rattle.heap_table.specs.HeapState.{after_visit};
 ghost use Rattle.builder_core.specs.Pairs.{pairs_at_rest, HaveKeysOf};
-ghost use Rattle.builder_core.specs.CoreState.{BuildValue, scanned_pages, build_state, with_heap};
-ghost use Rattle.builder_core.specs.Builds.{IsBuilding, Runs};
+ghost use Rattle.builder_core.specs.CoreState.{BuildValue, scanned_pages, build_state, live_with_heap};
+ghost use Rattle.builder_core.specs.Builds.{IsBuilding, IsOfSomeTable};
 ghost use Rattle.builder_core.specs.Steps.{ring_refusal, order_refusal, switch_refusal};
 
 use crate::live::Live;
@@ -68,7 +68,7 @@ impl Build {
 
     /// The number of pages that are copied.
     fn scanned(&self) -> u32
-        requires { Runs self.now }
+        requires { IsOfSomeTable self.now }
         ensures { result ≡ scanned_pages self.now }
     {
         self.sealed + self.ring.len() as u32
@@ -78,7 +78,7 @@ impl Build {
     pub fn scan(&mut self, live: &mut Live) -> Result<u32, Fault>
         requires { IsBuilding live.old.heap.schema live.old.heap.log self.old }
         ensures page { IfOk result (λ page. page ≡ scanned_pages self.old) }
-        ensures visited { OnOk result (live.new ≡ with_heap live.old (after_visit live.old.heap)) }
+        ensures visited { OnOk result (live.new ≡ live_with_heap live.old (after_visit live.old.heap)) }
         ensures copied { OnOk result (build_state self.new ≡ record (build_state self.old) { scanned = scanned_pages self.old + 1; waiting = length self.old.ring + 1 }) }
         ensures accepted { OnOk result (ring_refusal (build_state self.old) ≡ None) }
         ensures follows { IsBuilding live.new.heap.schema live.new.heap.log self.new }
@@ -123,7 +123,7 @@ impl Build {
 
     /// Puts the pairs in order, and answers how many there are; 0 where they are in order already.
     pub fn load(&mut self) -> Result<usize, Fault>
-        requires { Runs self.old }
+        requires { IsOfSomeTable self.old }
         ensures count { IfOk result (λ pairs. (kinds : List Kind) (log : List LogRec) → IsBuilding kinds log self.old → pairs ≡ (if self.old.loaded then 0 else length (pairs_at_rest self.old.spec log))) }
         ensures loaded { OnOk result (build_state self.new ≡ record (build_state self.old) { loaded = true }) }
         ensures accepted { OnOk result (order_refusal (build_state self.old) ≡ None) }
@@ -148,7 +148,7 @@ impl Build {
 
     /// Whether the index may become ready.
     pub fn check_switch(&self) -> Result<(), Fault>
-        requires { Runs self.now }
+        requires { IsOfSomeTable self.now }
         ensures { MatchResult result (λ _. switch_refusal (build_state self.now) ≡ None) (λ fault. switch_refusal (build_state self.now) ≡ Some fault) }
     {
         self.check()?;

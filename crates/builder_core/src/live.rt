@@ -7,7 +7,7 @@ ghost use Rattle.heap_table.specs.Kept.{RowsFit};
 ghost use Rattle.heap_table.specs.Pages.{pages_written, KeepsRows, RowsAreInside};
 ghost use Rattle.heap_log.specs.Standing.{live_at};
 ghost use Rattle.builder_core.specs.Pairs.{pairs_at_rest, HaveKeysOf};
-ghost use Rattle.builder_core.specs.CoreState.{LiveValue, FollowTable, with_heap, after_visits};
+ghost use Rattle.builder_core.specs.CoreState.{LiveValue, FollowTable, live_with_heap, after_visits};
 
 use crate::build::Build;
 use crate::rest::at_rest;
@@ -70,7 +70,7 @@ impl Live {
 
     pub(crate) fn begin(&mut self) -> Result<u64, Fault>
         ensures ok { IfOk result (λ txn. txn ≡ self.old.heap.begun + 1) }
-        ensures begun { OnOk result (self.new ≡ with_heap self.old (after_begin self.old.heap)) }
+        ensures begun { OnOk result (self.new ≡ live_with_heap self.old (after_begin self.old.heap)) }
         ensures accepted { OnOk result (begin_refusal self.old.heap ≡ None) }
         ensures unchanged { OnErr result (self.new ≡ self.old) }
         ensures refused { IfErr result (λ fault. fault ≢ Fault.Memory → begin_refusal self.old.heap ≡ Some fault) }
@@ -83,7 +83,7 @@ impl Live {
         requires { self.old.ready ≡ [] }
         ensures ok { IfOk result (λ written. written.0 ≡ length self.old.heap.log + 1) }
         ensures place { IfOk result (λ written. insert_place self.old.heap (length (row_bytes row)) ≡ Some written.1) }
-        ensures written { IfOk result (λ written. self.new ≡ with_heap self.old (after_write self.old.heap txn written.1 (Some row))) }
+        ensures written { IfOk result (λ written. self.new ≡ live_with_heap self.old (after_write self.old.heap txn written.1 (Some row))) }
         ensures accepted { OnOk result (insert_refusal self.old.heap txn row ≡ None) }
         ensures unchanged { OnErr result (self.new ≡ self.old) }
         ensures refused { IfErr result (λ fault. fault ≢ Fault.Memory → insert_refusal self.old.heap txn row ≡ Some fault) }
@@ -93,7 +93,7 @@ impl Live {
 
     pub(crate) fn commit(&mut self, txn: u64) -> Result<usize, Fault>
         ensures ok { IfOk result (λ number. number ≡ length self.old.heap.log + 1) }
-        ensures committed { OnOk result (self.new ≡ with_heap self.old (after_commit self.old.heap txn)) }
+        ensures committed { OnOk result (self.new ≡ live_with_heap self.old (after_commit self.old.heap txn)) }
         ensures rows { KeepsRows self.old.heap.log self.new.heap.log }
         ensures accepted { OnOk result (txn_refusal self.old.heap txn ≡ None) }
         ensures unchanged { OnErr result (self.new ≡ self.old) }
@@ -105,7 +105,7 @@ impl Live {
     pub(crate) fn copy_page(&mut self, page: u32, image: &mut PageImage)
         requires { page < pages_written self.old.heap.log }
         ensures copy { IsImage self.old.heap.schema self.old.heap.log page image.new }
-        ensures visited { self.new ≡ with_heap self.old (after_visit self.old.heap) }
+        ensures visited { self.new ≡ live_with_heap self.old (after_visit self.old.heap) }
     {
         self.heap.copy_page(page, image);
     }
@@ -134,7 +134,7 @@ impl Live {
 
     pub(crate) fn get(&mut self, rid: Rid) -> Result<Row, Fault>
         ensures ok { IfOk result (λ row. live_at self.old.heap.log rid ≡ Some row) }
-        ensures visited { OnOk result (self.new ≡ with_heap self.old (after_visit self.old.heap)) }
+        ensures visited { OnOk result (self.new ≡ live_with_heap self.old (after_visit self.old.heap)) }
         ensures unchanged { OnErr result (self.new ≡ self.old) }
         ensures refused { IfErr result (λ fault. fault ≢ Fault.Memory → row_missing (live_at self.old.heap.log rid) ≡ Some fault) }
     {
@@ -146,8 +146,8 @@ impl Live {
         requires { spec.now.kinds ≡ self.old.heap.schema }
         ensures ok { IfOk result (λ pairs. pairs.items ≡ pairs_at_rest spec.now self.old.heap.log) }
         ensures keys { IfOk result (λ pairs. HaveKeysOf spec.now pairs.items) }
-        ensures visits { OnOk result (self.new ≡ with_heap self.old (after_visits self.old.heap (pages_written self.old.heap.log))) }
-        ensures rows { self.new ≡ with_heap self.old (record self.old.heap { visits = self.new.heap.visits }) }
+        ensures visits { OnOk result (self.new ≡ live_with_heap self.old (after_visits self.old.heap (pages_written self.old.heap.log))) }
+        ensures rows { self.new ≡ live_with_heap self.old (record self.old.heap { visits = self.new.heap.visits }) }
         ensures memory { IfErr result (λ fault. fault ≡ Fault.Memory) }
     {
         at_rest(&mut self.heap, spec)
