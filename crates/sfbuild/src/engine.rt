@@ -1,0 +1,244 @@
+//! The table that a script runs on.
+ghost use Rattle.std.specs.Prelude.{◌≡◌, ◌≢◌, ℕ, vec_len, Some, None, OnOk, IfOk, IfErr};
+ghost use Rattle.std.specs.List.{list_any};
+ghost use Rattle.builder_core.specs.Pairs.{HaveKeysOf};
+ghost use Rattle.builder_core.specs.Steps.{Step};
+ghost use Rattle.sfbuild.specs.Limits.{is_in_limits, is_refusal, table_refusal};
+
+use crate::answer::Answer;
+use crate::labels::Labels;
+use crate::pair_line::PairLine;
+use crate::script::{Label, Record, Spec, Start, Table};
+use crate::status::Status;
+use builder_core::{Core, Event, Live, Pair, Plan, Reply};
+use heap_log::{Outcome, Verdicts};
+use heap_table::Heap;
+use keybytes::{Cell, Fault, KeySpec, Rid, Row, Schema};
+use std::alloc::Global;
+
+/// How many pages a script's table may have.
+const PAGE_LIMIT: u32 = 65_536;
+
+/// The most slots that a page may have.
+const SLOT_LIMIT_MAX: u32 = 255;
+
+/// How many workers a build may have.
+const WORKERS_MAX: usize = 16;
+
+/// How many indexes a build may have.
+const INDEXES_MAX: usize = 8;
+
+/// How many pages a spool may lease.
+const QUOTA_MAX: usize = 1_024;
+
+/// A table, the transactions on it that a script has named, and its build if one runs.
+#[derive(Drop)]
+pub struct Engine {
+    alloc: Global,
+    core: Core,
+    labels: Labels,
+    status: Status,
+}
+
+impl Engine {
+    /// An empty table. Its slot limit is looked at before its columns.
+    pub fn new(alloc: Global, table: Table) -> Result<Engine, Fault>
+        ensures accepted { OnOk result (table_refusal table.slot_limit table.kinds.items ≡ None) }
+        ensures refused { IfErr result (λ fault. fault ≢ Fault.Memory → table_refusal table.slot_limit table.kinds.items ≡ Some fault) }
+    {
+        if table.slot_limit == 0 || table.slot_limit > SLOT_LIMIT_MAX {
+            return Err(Fault::BadCount);
+        }
+        let schema = Schema::new(table.kinds)?;
+        let heap = Heap::new(alloc, schema, table.slot_limit as u8, PAGE_LIMIT)?;
+        Ok(Engine {
+            alloc,
+            core: Core::new(Live::new(alloc, heap)),
+            labels: Labels::new(alloc),
+            status: Status::Done,
+        })
+    }
+
+    /// How the script has gone so far.
+    pub fn status(&self) -> Status {
+        self.status
+    }
+
+    /// Runs a record, and answers it.
+    pub fn run(&mut self, record: Record) -> Answer {
+        match self.answer(record) {
+            Ok(answer) => answer,
+            Err(fault) => Answer::Refused { fault },
+        }
+    }
+
+    fn answer(&mut self, record: Record) -> Result<Answer, Fault> {
+        match record {
+            Record::Row { cells } => self.put_row(cells),
+            Record::Begin { label } => self.begin_named(label),
+            Record::Insert { label, cells } => self.insert_named(&label, cells),
+            Record::Commit { label } => {
+                let txn = self.labels.txn(&label)?;
+                self.step(Event::Commit { txn })
+            }
+            Record::Start(start) => self.start(start),
+            Record::Scan { range, worker } => self.step(Event::Scan { range, worker }),
+            Record::Seal { worker } => self.step(Event::Seal { worker }),
+            Record::Load { index } => self.step(Event::Load { index }),
+            Record::Switch => self.switch(),
+            Record::Pairs { number } => self.pairs(number),
+            Record::Rest { spec } => self.rest(spec),
+        }
+    }
+    /// Runs an event that stands for a whole record.
+    fn step(&mut self, event: Event) -> Result<Answer, Fault> {
+        Ok(match self.core.step(event) {
+            Reply::Begun { txn } => Answer::Number { number: txn },
+            Reply::Written { number, rid } => Answer::Written { number, rid },
+            Reply::Started { pages: count } | Reply::Scanned { page: count } => Answer::Number {
+                number: u64::from(count),
+            },
+            Reply::Committed { number: count }
+            | Reply::Sealed { images: count }
+            | Reply::Loaded { pairs: count } => Answer::Number {
+                number: count as u64,
+            },
+            Reply::Switched { number, verdicts } => Answer::Switched { number, verdicts },
+            Reply::Refused { fault } => return Err(fault),
+        })
+    }
+
+    /// Puts a row in, by a transaction of its own.
+    fn put_row(&mut self, cells: Vec<Cell>) -> Result<Answer, Fault> {
+        let row = Row::new(cells)?;
+        let txn = begin(&mut self.core)?;
+        let rid = insert(&mut self.core, txn, row)?;
+        self.step(Event::Commit { txn })?;
+        Ok(Answer::Row { rid })
+    }
+
+    /// Begins a transaction that the label names; where that is refused, it names none.
+    fn begin_named(&mut self, label: Label) -> Result<Answer, Fault> {
+        let named = self.labels.place(label)?;
+        let txn = begin(&mut self.core)?;
+        *named = Some(txn);
+        Ok(Answer::Number { number: txn })
+    }
+
+    fn insert_named(&mut self, label: &Label, cells: Vec<Cell>) -> Result<Answer, Fault> {
+        let row = Row::new(cells)?;
+        let txn = self.labels.txn(label)?;
+        self.step(Event::Insert { txn, row })
+    }
+
+    fn start(&mut self, start: Start) -> Result<Answer, Fault> {
+        if self.core.is_building() {
+            return Err(Fault::BuildRunning);
+        }
+        if !is_in_limits(&start) {
+            return Err(Fault::BadCount);
+        }
+        let mut specs = Vec::with_capacity(self.alloc, start.specs.len())?;
+        for spec in start.specs {
+            specs.push(self.key_spec(spec)?)?;
+        }
+        let plan = Plan {
+            specs,
+            workers: start.workers,
+            dealing: start.dealing,
+            tries: 1,
+            keep_pairs: false,
+        };
+        self.step(Event::Start { plan })
+    }
+
+    /// Tries to bring the build's indexes into use, and notes whether one was refused.
+    fn switch(&mut self) -> Result<Answer, Fault> {
+        let answer = self.step(Event::Switch)?;
+        if let Answer::Switched { verdicts, .. } = &answer
+            && has_refused(verdicts)
+        {
+            self.status = Status::IndexRefused;
+        }
+        Ok(answer)
+    }
+
+    fn pairs(&self, number: usize) -> Result<Answer, Fault> {
+        let index = self.core.ready(number)?;
+        let lines = pair_lines(self.alloc, index.spec(), index.pairs())?;
+        Ok(Answer::Pairs { lines })
+    }
+
+    fn rest(&mut self, spec: Spec) -> Result<Answer, Fault> {
+        let spec = self.key_spec(spec)?;
+        let pairs = self.core.rest(&spec)?;
+        let lines = pair_lines(self.alloc, &spec, pairs.as_slice())?;
+        Ok(Answer::Pairs { lines })
+    }
+
+    /// The key specification, of the table's columns.
+    fn key_spec(&self, spec: Spec) -> Result<KeySpec, Fault>
+        ensures table { IfOk result (λ made. made.kinds ≡ self.now.core.heap.schema) }
+        ensures columns { IfOk result (λ made. made.columns ≡ spec.columns.items) }
+        ensures unique { IfOk result (λ made. made.unique ≡ spec.unique) }
+    {
+        KeySpec::new(self.alloc, self.core.schema(), spec.columns, spec.unique)
+    }
+}
+
+/// Begins a transaction, and answers its number.
+fn begin(core: &mut Core) -> Result<u64, Fault>
+    ensures ok { IfOk result (λ txn. Step core.old Event.Begin (Reply.Begun txn) core.new) }
+    ensures refused { IfErr result (λ fault. Step core.old Event.Begin (Reply.Refused fault) core.new) }
+{
+    match core.step(Event::Begin) {
+        Reply::Begun { txn } => Ok(txn),
+        Reply::Refused { fault } => Err(fault),
+        _ => unreachable!(),
+    }
+}
+
+/// Inserts a row, and answers where it stands.
+fn insert(core: &mut Core, txn: u64, row: Row) -> Result<Rid, Fault>
+    ensures ok { IfOk result (λ rid. (number : ℕ) × Step core.old (Event.Insert txn row) (Reply.Written number rid) core.new) }
+    ensures refused { IfErr result (λ fault. Step core.old (Event.Insert txn row) (Reply.Refused fault) core.new) }
+{
+    match core.step(Event::Insert { txn, row }) {
+        Reply::Written { rid, .. } => Ok(rid),
+        Reply::Refused { fault } => Err(fault),
+        _ => unreachable!(),
+    }
+}
+
+/// Whether the workers, the indexes and the quota are as many as a build may have.
+fn is_in_limits(start: &Start) -> bool
+    ensures { result ≡ is_in_limits start.now.workers (vec_len start.now.specs) start.now.quota }
+{
+    (1..=WORKERS_MAX).contains(&start.workers)
+        && (1..=INDEXES_MAX).contains(&start.specs.len())
+        && start.quota <= QUOTA_MAX
+}
+
+fn has_refused(verdicts: &Verdicts) -> bool
+    ensures { result ≡ list_any is_refusal verdicts.now }
+{
+    verdicts
+        .as_slice()
+        .iter()
+        .any(|outcome| matches!(outcome, Outcome::Shared { .. }))
+}
+
+/// The pairs of an index as they are printed.
+fn pair_lines(alloc: Global, spec: &KeySpec, pairs: &[Pair]) -> Result<Vec<PairLine>, Fault>
+    requires { HaveKeysOf spec.now pairs.now }
+{
+    let mut lines = Vec::with_capacity(alloc, pairs.len())?;
+    for pair in pairs {
+        let cells = spec.cells(&pair.key)?;
+        lines.push(PairLine {
+            cells,
+            rid: pair.rid,
+        })?;
+    }
+    Ok(lines)
+}

@@ -1,0 +1,23 @@
+use super::{Label, Spec, Start};
+use keybytes::Cell;
+
+/// A record that is run on the table.
+#[derive(Debug, Drop)]
+pub enum Record {
+    /// Puts a row in, by a transaction of its own.
+    Row { cells: Vec<Cell> },
+    /// Begins the transaction that the label names from then on.
+    Begin { label: Label },
+    Insert { label: Label, cells: Vec<Cell> },
+    Commit { label: Label },
+    /// Starts a build.
+    Start(Start),
+    Scan { range: usize, worker: usize },
+    Seal { worker: usize },
+    Load { index: usize },
+    Switch,
+    /// Asks for the pairs of a ready index.
+    Pairs { number: usize },
+    /// Asks for the pairs that an index of the rows as they stand would have.
+    Rest { spec: Spec },
+}

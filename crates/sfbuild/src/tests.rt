@@ -1,0 +1,4 @@
+mod faulty;
+mod refused_words;
+mod spellings;
+mod worked_scripts;
