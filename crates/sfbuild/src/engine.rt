@@ -90,6 +90,7 @@ impl Engine {
             Record::Rest { spec } => self.rest(spec),
         }
     }
+
     /// Runs an event that stands for a whole record.
     fn step(&mut self, event: Event) -> Result<Answer, Fault> {
         Ok(match self.core.step(event) {
