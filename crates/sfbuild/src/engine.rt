@@ -1,6 +1,7 @@
 //! The table that a script runs on.
-ghost use Rattle.std.specs.Prelude.{◌≡◌, ◌≢◌, ℕ, vec_len, Some, None, OnOk, IfOk, IfErr};
+ghost use Rattle.std.specs.Prelude.{◌≡◌, ◌≢◌, ℕ, vec_len, unwrap_or, Some, None, OnOk, IfOk, IfErr};
 ghost use Rattle.std.specs.List.{list_any};
+ghost use Rattle.keybytes.specs.Keys.{key_columns_refusal};
 ghost use Rattle.builder_core.specs.Pairs.{HaveKeysOf};
 ghost use Rattle.builder_core.specs.Steps.{Step};
 ghost use Rattle.sfbuild.specs.Limits.{is_in_limits, is_refusal, table_refusal};
@@ -182,6 +183,7 @@ impl Engine {
         ensures table { IfOk result (λ made. made.kinds ≡ self.now.core.heap.schema) }
         ensures columns { IfOk result (λ made. made.columns ≡ spec.columns.items) }
         ensures unique { IfOk result (λ made. made.unique ≡ spec.unique) }
+        ensures refused { IfErr result (λ fault. fault ≡ unwrap_or (key_columns_refusal self.now.core.heap.schema spec.columns.items) Fault.Memory) }
     {
         KeySpec::new(self.alloc, self.core.schema(), spec.columns, spec.unique)
     }
