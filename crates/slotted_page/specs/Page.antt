@@ -1,5 +1,5 @@
 -- A page as its callers see it: a list of slots, and the limit on their number.
-use Rattle.std.specs.Prelude.{ℕ, ◌+◌, ◌*◌, ◌≤◌, max, Bool, cond, ◌&&◌, nat_le, nat_lt, List, length, get_or, position, Option, Some, None}
+use Rattle.std.specs.Prelude.{ℕ, ◌+◌, ◌-◌, ◌*◌, ◌≤◌, max, Bool, cond, ◌&&◌, nat_le, nat_lt, List, length, get_or, position, Option, Some, None}
 use Rattle.std.specs.List.{All}
 use Rattle.slotted_page.specs.Slot.{Slot, free, held, reserve_of, total_reserve, is_free, put, IsSoundSlot}
 
@@ -45,6 +45,23 @@ slot_for None page n =
 -- the slot that an insert of n bytes takes: the lowest free one or else a new one, where the room rule then holds
 abbrev pub room_for : PageValue → ℕ → Option ℕ
 room_for page n = slot_for (position is_free page.slots) page n
+
+-- the bytes that so many slots with so much reserve leave of a page, 0 where they take all of it
+abbrev pub bytes_left : ℕ → ℕ → ℕ
+bytes_left count reserved = 4096 - taken_bytes count reserved
+
+-- how many slots a page has with one row more, by the lowest free slot: where none is free, one more than now
+abbrev pub slots_with_row : Option ℕ → PageValue → ℕ
+slots_with_row (Some s) page = length page.slots
+slots_with_row None page = length page.slots + 1
+
+-- what so many slots leave beside all reserves, 0 where the page can't have so many
+abbrev pub left_with_slots : PageValue → ℕ → ℕ
+left_with_slots page count = cond (nat_le count page.limit) (bytes_left count (total_reserve page.slots)) 0
+
+-- the most bytes that an insert can have: what the page has left, with an entry more where no slot is free
+abbrev pub greatest_insert : PageValue → ℕ
+greatest_insert page = left_with_slots page (slots_with_row (position is_free page.slots) page)
 
 -- whether the room rule holds after an update of s to n bytes
 abbrev pub fits_at : PageValue → ℕ → ℕ → Bool

@@ -36,6 +36,12 @@ is_free free = true
 is_free (held reserve) = false
 is_free (row bytes reserve) = false
 
+-- whether a slot is held
+abbrev pub is_held : Slot → Bool
+is_held free = false
+is_held (held reserve) = true
+is_held (row bytes reserve) = false
+
 -- a slot has a row
 abbrev pub IsRow : Slot → Type 0
 IsRow free = ⊥

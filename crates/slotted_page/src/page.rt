@@ -1,6 +1,6 @@
-ghost use Rattle.std.specs.Prelude.{◌≡◌, ◌↔◌, ◌+◌, ◌^◌, ◌<◌, ◌≤◌, [], length, cond, true, false, IsTrue, IfOk, OnErr, IfErr, IfSome, MatchResult, MatchOption, Some, None};
-ghost use Rattle.slotted_page.specs.Slot.{free, held, row, bytes_of, trimmed, total_reserve, rows_from, IsRow, IsHeld, IsTaken, IsRowSize};
-ghost use Rattle.slotted_page.specs.Page.{slot_at, reserve_at, grown_reserve, with_slot, taken_bytes, has_room, room_for, fits_at, CanReserve, IsSoundPage};
+ghost use Rattle.std.specs.Prelude.{◌≡◌, ◌↔◌, ℕ, ◌+◌, ◌^◌, ◌<◌, ◌≤◌, [], length, cond, is_some, position, nat_le, true, false, IsTrue, IfOk, OnErr, IfErr, IfSome, MatchResult, MatchOption, Some, None};
+ghost use Rattle.slotted_page.specs.Slot.{free, held, row, is_free, is_held, bytes_of, trimmed, total_reserve, rows_from, IsRow, IsHeld, IsTaken, IsRowSize};
+ghost use Rattle.slotted_page.specs.Page.{slot_at, reserve_at, grown_reserve, with_slot, taken_bytes, has_room, room_for, slots_with_row, bytes_left, greatest_insert, fits_at, CanReserve, IsSoundPage};
 ghost use Rattle.slotted_page.specs.Rows.{rows_left};
 ghost use Rattle.slotted_page.specs.Image.{slots_in, KeepsFormat};
 
@@ -174,6 +174,14 @@ impl Page {
         }
     }
 
+    /// Whether a slot is held. A slot that is not on the page isn't.
+    pub fn is_held(&self, slot: u16) -> bool
+        ensures { result ≡ is_held (slot_at self.now slot) }
+    {
+        let at = slot as usize;
+        at < self.count && matches!(self.entries[at], Entry::Held { .. })
+    }
+
     /// The rows, each with its slot, by slot.
     pub fn rows(&self) -> Rows<'_>
         ensures { rows_left result ≡ rows_from 0 self.now.slots }
@@ -203,6 +211,19 @@ impl Page {
             return None;
         }
         has_room(self.count + 1, reserved).then_some(self.count as u16)
+    }
+
+    /// The most bytes that an insert may have now, 0 where the page takes no row at all. A row has a limit besides.
+    pub fn greatest_insert(&self) -> usize
+        ensures greatest { result ≡ greatest_insert self.now }
+        ensures room { (len : ℕ) → 0 < len → is_some (room_for self.now len) ≡ nat_le len result }
+        ensures most { result ≤ PAGE_SIZE }
+    {
+        let slots = self.slots_with_row();
+        if slots > self.limit {
+            return 0;
+        }
+        bytes_left(slots, self.reserved)
     }
 
     /// Whether the page has the room for an update of a row to so many bytes.
@@ -236,6 +257,17 @@ impl Page {
     {
         let entries = &self.entries;
         entries[slot].reserve()
+    }
+
+    /// How many slots the page has with one row more.
+    fn slots_with_row(&self) -> usize
+        ensures count { result ≡ slots_with_row (position is_free self.now.slots) self.now }
+        ensures sound { IsSoundPage self.now }
+    {
+        match first_free(&self.entries[..self.count]) {
+            Some(_) => self.count,
+            None => self.count + 1,
+        }
     }
 
     /// Sees that the page has `slot`, which is a free one or the next new one.
@@ -347,4 +379,12 @@ fn has_room(count: usize, reserved: usize) -> bool
     ensures { result ≡ has_room count reserved }
 {
     HEAD_SIZE + ENTRY_SIZE * count + reserved <= PAGE_SIZE
+}
+
+/// The bytes that so many slots with so much reserve leave of a page.
+fn bytes_left(count: usize, reserved: usize) -> usize
+    requires { taken_bytes count reserved < 2 ^ 64 }
+    ensures { result ≡ bytes_left count reserved }
+{
+    PAGE_SIZE.saturating_sub(HEAD_SIZE + ENTRY_SIZE * count + reserved)
 }

@@ -33,6 +33,32 @@ fn each_call(rt: HostRuntime) -> Result<(), Fail> {
 }
 
 #[test]
+fn what_an_insert_may_have(rt: HostRuntime) -> Result<(), Fail> {
+    let mut page = Page::new(255)?;
+    assert_eq!(rt; page.greatest_insert(), 4082);
+
+    let slot = page.insert(&[1; 1224])?;
+    assert!(rt; !page.is_held(slot));
+    assert_eq!(rt; page.greatest_insert(), 2852);
+    page.hold(slot);
+    assert!(rt; page.is_held(slot));
+    assert!(rt; !page.is_held(slot + 1));
+    assert_eq!(rt; page.greatest_insert(), 2852);
+    page.free(slot);
+    assert!(rt; !page.is_held(slot));
+    assert_eq!(rt; page.greatest_insert(), 4082);
+
+    let mut full = Page::new(1)?;
+    assert_eq!(rt; full.greatest_insert(), 4082);
+    let only = full.insert(b"only")?;
+    assert_eq!(rt; full.greatest_insert(), 0);
+    full.hold(only);
+    full.free(only);
+    assert_eq!(rt; full.greatest_insert(), 4082);
+    Ok(())
+}
+
+#[test]
 fn page_format(rt: HostRuntime) -> Result<(), Fail> {
     let mut page = Page::new(255)?;
     let mut image = [0xff; PAGE_SIZE];
