@@ -1,11 +1,11 @@
 -- Which writes stand once a record is added: those of a transaction, and those at a RID, by one test of the records.
 use Rattle.std.proofs.Common.{◌≡◌, ℕ, ◌+◌, ◌-◌, ◌<◌, ◌≤◌, Bool, true, false, cond, List, [], ◌∷◌, ◌++◌, length, Option, Some, None, refl, sym, ap, ◌∙◌, arith, inl, inr}
 use Rattle.std.specs.Prelude.{◌||◌, ◌&&◌, not}
-use Rattle.std.proofs.lemmas.Bool.{cases_eq, cases_Bool, ne_eqb, eq-eqb, eqb-true, and_right, not_from_true, false≢true, false_from_ne_true, cond-true, cond-false}
+use Rattle.std.proofs.lemmas.Bool.{cases_eq, cases_Bool, and_left, ne_eqb, eq-eqb, eqb-true, and_right, not_from_true, false≢true, false_from_ne_true, cond-true, cond-false}
 use Rattle.heap_log.specs.declared.record.LogRec.{LogRec}
 use Rattle.heap_log.specs.declared.record.LogRec.TheVariants.{Write, Undo, Commit, Switch}
 use Rattle.heap_log.specs.Links.{newest_by, stands_by}
-use Rattle.heap_log.specs.Standing.{record_at, undone, is_undo_of, is_number, is_write_of, last_below, count_below, newest_standing, standing_count, newest_after, count_after, AddsToStanding, NamesEarlier}
+use Rattle.heap_log.specs.Standing.{record_at, undone, is_undo_of, is_number, is_write_of, is_write_at, rid_of, last_below, count_below, newest_standing, standing_before, standing_count, stands_at, newest_after, count_after, AddsToBefore, AddsToNumbers, AddsToStanding, KeepsBefore, NamesEarlier}
 use Rattle.heap_log.proofs.Last.{IsLast, last_below-more, last_below_agree, last_below_some, last_below_taken, last_below_without, count_below-more, count_below_agree, count_below_taken}
 use Rattle.heap_log.proofs.Records.{record_at-kept, record_at-added, length-added, undone-added, or_no, or_false, undo_within}
 
@@ -22,9 +22,12 @@ or_true true = refl
 or_true false = refl
 
 -- nothing names a record that isn't there yet
+pub undone-later : (log : List LogRec) (rec : LogRec) (n : ℕ) → undone log n ≡ false → NamesEarlier (length log) rec → length log < n → undone (log ++ rec ∷ []) n ≡ false
+undone-later log rec n e names l =
+    undone-added log rec n ∙ or_false (undone log n) (is_undo_of n rec) e (undo_within (length log) n rec names l)
+
 pub undone-fresh : (log : List LogRec) (rec : LogRec) → undone log (length log + 1) ≡ false → NamesEarlier (length log) rec → undone (log ++ rec ∷ []) (length log + 1) ≡ false
-undone-fresh log rec e names =
-    undone-added log rec (length log + 1) ∙ or_false (undone log (length log + 1)) (is_undo_of (length log + 1) rec) e (undo_within (length log) (length log + 1) rec names (omega arith))
+undone-fresh log rec e names = undone-later log rec (length log + 1) e names (omega arith)
 
 -- the new record stands if it passes the test
 seam : (log : List LogRec) (rec : LogRec) (test : Option LogRec → Bool) → undone (log ++ rec ∷ []) (length log + 1) ≡ false → stands_by test (log ++ rec ∷ []) (length log + 1) ≡ test (Some rec)
@@ -142,4 +145,49 @@ pub adds_to_standing : (log : List LogRec) (rec : LogRec) → undone log (length
 adds_to_standing log rec e names = record {
   newest = λ txn. newest-of log rec txn e names;
   count = λ txn. count-of log rec txn e names;
+}
+
+-- the newest standing write at a RID before write n stays where the record undoes none of them
+before-kept : (log : List LogRec) (rec : LogRec) (n : ℕ) → n ≤ length log → ((k : ℕ) → k < n → stands_at (log ++ rec ∷ []) (rid_of (record_at log n)) k ≡ stands_at log (rid_of (record_at log n)) k) → standing_before (log ++ rec ∷ []) n ≡ standing_before log n
+before-kept log rec n l same =
+    ap (λ r. last_below (stands_at (log ++ rec ∷ []) (rid_of r)) n) (record_at-kept log rec n (omega arith))
+    ∙ last_below_agree (stands_at (log ++ rec ∷ []) (rid_of (record_at log n))) (stands_at log (rid_of (record_at log n))) n same
+
+before-plain : (log : List LogRec) (rec : LogRec) (n : ℕ) → n ≤ length log → ((k : ℕ) → is_undo_of k rec ≡ false) → standing_before (log ++ rec ∷ []) n ≡ standing_before log n
+before-plain log rec n l none = before-kept log rec n l (λ k b. keeps log rec (is_write_at (rid_of (record_at log n))) k (none k) (omega (arith, b)))
+
+-- what is no write there doesn't stand there, before its undo and after it
+elsewhere : (log : List LogRec) (test : Option LogRec → Bool) (txn n : ℕ) → test (record_at log n) ≡ false → stands_by test (log ++ Undo txn n ∷ []) n ≡ stands_by test log n
+elsewhere log test txn n miss = taken log test txn n ∙ sym (and_left (test (record_at log n)) (not (undone log n)) miss)
+
+before-undo : (log : List LogRec) (txn undone n : ℕ) → n ≤ length log → KeepsBefore log n (Undo txn undone) → standing_before (log ++ Undo txn undone ∷ []) n ≡ standing_before log n
+before-undo log txn undone n l kept =
+    let test : Option LogRec → Bool = is_write_at (rid_of (record_at log n)) in
+    before-kept log (Undo txn undone) n l (λ k b. elim (cases_eq k undone) [
+      | inl is ↦ elim kept [
+        | inl past ↦ absurd (omega (arith, past, is, b))
+        | inr miss ↦ rw is (elsewhere log test txn undone miss)
+      ]
+      | inr ne ↦ others log test txn undone k (omega (arith, b)) ne
+    ])
+
+before-of : (log : List LogRec) (rec : LogRec) (n : ℕ) → n ≤ length log → KeepsBefore log n rec → standing_before (log ++ rec ∷ []) n ≡ standing_before log n
+before-of log (Write t rid row) n l kept = before-plain log (Write t rid row) n l (λ k. refl)
+before-of log (Undo t undone) n l kept = before-undo log t undone n l kept
+before-of log (Commit t) n l kept = before-plain log (Commit t) n l (λ k. refl)
+before-of log (Switch v) n l kept = before-plain log (Switch v) n l (λ k. refl)
+
+-- what a record does to the standing write before another
+pub adds_to_before : (log : List LogRec) (rec : LogRec) → AddsToBefore log rec (log ++ rec ∷ [])
+adds_to_before log rec = record { before = λ n l kept. before-of log rec n l kept }
+
+-- what a record does to the numbers
+pub adds_to_numbers : (log : List LogRec) (rec : LogRec) → ((n : ℕ) → length log < n → undone log n ≡ false) → NamesEarlier (length log) rec → AddsToNumbers log rec (log ++ rec ∷ [])
+adds_to_numbers log rec none names = record {
+  here = record_at-added log rec;
+  earlier = λ n l. record_at-kept log rec n (omega arith);
+  undoes = λ n. undone-added log rec n;
+  later = λ n l.
+      let before : length log < n = omega (arith, length-added log rec) in
+      undone-later log rec n (none n before) names before;
 }

@@ -14,47 +14,48 @@ use Rattle.std.specs.HashMap.{get}
 use Rattle.heap_log.specs.declared.link.Link.{Link}
 use Rattle.heap_log.specs.Heads.{RidHeads, key_eq, rid_head_in, txn_head, rid_head, with_rid, AreHeadsAfter}
 use Rattle.heap_log.specs.Links.{newest_without, AreLinks, stands_by, on_chain}
-use Rattle.heap_log.specs.Standing.{record_at, undone, is_undo_of, is_write_of, is_write_at, last_below, last_at, same_rid, place_of, stands_of, stands_at, newest_standing, newest_at, standing_count, NamesEarlier}
+use Rattle.heap_log.specs.Standing.{record_at, undone, is_undo_of, is_write_of, is_write_at, last_below, last_of, last_at, same_rid, place_of, stands_of, stands_at, newest_standing, newest_at, standing_count, NamesEarlier}
 use Rattle.heap_log.proofs.Last.{last_below-more, last_below_agree, count_below-some, count_below-le}
 use Rattle.heap_log.proofs.Added.{undone-fresh, newest-plain, count-plain, newest-undo, count-undo, newest-unmoved, count-unmoved}
 use Rattle.heap_log.proofs.Records.{record_at-kept, record_at-added, length-added, same_rid-true, same_rid-refl, txn_of-write, rid_of-write, one_writer, one_place, some_place-by, some_place-there, write_within, record_at-read}
 
-same_txn_head : (a b : ℕ) (m n : Option ℕ) → m ≡ n → a ≡ b → ◌≡◌ {A = TxnHead} (record { newest = m; standing = a }) (record { newest = n; standing = b })
-same_txn_head a b m n e f = rw (e, f) refl
+same_txn_head : (m n o p : Option ℕ) (a b : ℕ) → m ≡ n → o ≡ p → a ≡ b → ◌≡◌ {A = TxnHead} (record { last = m; newest = o; standing = a }) (record { last = n; newest = p; standing = b })
+same_txn_head m n o p a b e f g = rw (e, f, g) refl
 
 same_rid_head : (m n o p : Option ℕ) → m ≡ n → o ≡ p → ◌≡◌ {A = RidHead} (record { last = m; newest = o }) (record { last = n; newest = p })
 same_rid_head m n o p e f = rw (e, f) refl
 
--- the last write at a RID, standing or not
-last-added : (log : List LogRec) (rec : LogRec) (rid : Rid) → last_at (log ++ rec ∷ []) rid (length (log ++ rec ∷ []) + 1) ≡ cond (is_write_at rid (Some rec)) (Some (length log + 1)) (last_at log rid (length log + 1))
-last-added log rec rid =
+-- the last record that passes the test, standing or not
+last-added : (log : List LogRec) (rec : LogRec) (test : Option LogRec → Bool) → last_below (λ k. test (record_at (log ++ rec ∷ []) k)) (length (log ++ rec ∷ []) + 1) ≡ cond (test (Some rec)) (Some (length log + 1)) (last_below (λ k. test (record_at log k)) (length log + 1))
+last-added log rec test =
     let new : List LogRec = log ++ rec ∷ [] in
     let n : ℕ = length log + 1 in
-    let p : ℕ → Bool = λ k. is_write_at rid (record_at new k) in
-    let q : ℕ → Bool = λ k. is_write_at rid (record_at log k) in
+    let p : ℕ → Bool = λ k. test (record_at new k) in
+    let q : ℕ → Bool = λ k. test (record_at log k) in
     ap (λ k. last_below p (k + 1)) (length-added log rec)
     ∙ last_below-more p n
-    ∙ ap (λ x. cond (is_write_at rid x) (Some n) (last_below p n)) (record_at-added log rec)
-    ∙ ap (cond (is_write_at rid (Some rec)) (Some n)) (last_below_agree p q n (λ k l. ap (is_write_at rid) (record_at-kept log rec k l)))
+    ∙ ap (λ x. cond (test x) (Some n) (last_below p n)) (record_at-added log rec)
+    ∙ ap (cond (test (Some rec)) (Some n)) (last_below_agree p q n (λ k l. ap test (record_at-kept log rec k l)))
 
 -- a record that is no write and undoes nothing
 pub heads-plain : (log : List LogRec) (rec : LogRec) → undone log (length log + 1) ≡ false → NamesEarlier (length log) rec → ((k : ℕ) → is_undo_of k rec ≡ false) → ((txn : ℕ) → is_write_of txn (Some rec) ≡ false) → ((rid : Rid) → is_write_at rid (Some rec) ≡ false) → AreHeadsAfter log (log ++ rec ∷ []) None
 heads-plain log rec e names none of at =
     let fresh : undone (log ++ rec ∷ []) (length log + 1) ≡ false = undone-fresh log rec e names in
     record {
-      txns = λ txn. same_txn_head _ _ _ _
+      txns = λ txn. same_txn_head _ _ _ _ _ _
+          (last-added log rec (is_write_of txn) ∙ cond-false (is_write_of txn (Some rec)) (Some (length log + 1)) (last_of log txn (length log + 1)) (of txn))
           (newest-plain log rec (is_write_of txn) fresh none ∙ cond-false (is_write_of txn (Some rec)) (Some (length log + 1)) (newest_standing log txn) (of txn))
           (count-plain log rec (is_write_of txn) fresh none ∙ cond-false (is_write_of txn (Some rec)) (standing_count log txn + 1) (standing_count log txn) (of txn));
       rids = λ rid. same_rid_head _ _ _ _
-          (last-added log rec rid ∙ cond-false (is_write_at rid (Some rec)) (Some (length log + 1)) (last_at log rid (length log + 1)) (at rid))
+          (last-added log rec (is_write_at rid) ∙ cond-false (is_write_at rid (Some rec)) (Some (length log + 1)) (last_at log rid (length log + 1)) (at rid))
           (newest-plain log rec (is_write_at rid) fresh none ∙ cond-false (is_write_at rid (Some rec)) (Some (length log + 1)) (newest_at log rid) (at rid));
     }
 
 -- the heads with a write that comes next
 pub heads-write : (log : List LogRec) (txn : ℕ) (rid : Rid) (row : Option (List Cell)) (heads : Heads) → undone log (length log + 1) ≡ false → heads.txn ≡ txn → heads.rid ≡ rid
-    → heads.of_txn.newest ≡ Some (length log + 1) → heads.of_txn.standing ≡ standing_count log txn + 1 → heads.at_rid ≡ record { last = Some (length log + 1); newest = Some (length log + 1) }
+    → heads.of_txn.last ≡ Some (length log + 1) → heads.of_txn.newest ≡ Some (length log + 1) → heads.of_txn.standing ≡ standing_count log txn + 1 → heads.at_rid ≡ record { last = Some (length log + 1); newest = Some (length log + 1) }
     → AreHeadsAfter log (log ++ Write txn rid row ∷ []) (Some heads)
-heads-write log txn rid row heads e txn_is rid_is newest standing at_rid =
+heads-write log txn rid row heads e txn_is rid_is last newest standing at_rid =
     let rec : LogRec = Write txn rid row in
     let fresh : undone (log ++ rec ∷ []) (length log + 1) ≡ false = undone-fresh log rec e tt in
     record {
@@ -62,13 +63,15 @@ heads-write log txn rid row heads e txn_is rid_is newest standing at_rid =
         | inl hit ↦
             let is : txn ≡ t = sym txn_is ∙ eqb-true heads.txn t hit in
             let here : (txn == t) ≡ true = eq-eqb txn t is in
-            same_txn_head _ _ _ _
+            same_txn_head _ _ _ _ _ _
+            (last-added log rec (is_write_of t) ∙ cond-true (txn == t) (Some (length log + 1)) (last_of log t (length log + 1)) here ∙ sym last)
             (newest-plain log rec (is_write_of t) fresh (λ k. refl) ∙ cond-true (txn == t) (Some (length log + 1)) (newest_standing log t) here ∙ sym newest)
             (count-plain log rec (is_write_of t) fresh (λ k. refl) ∙ cond-true (txn == t) (standing_count log t + 1) (standing_count log t) here ∙ ap (λ u. standing_count log u + 1) (sym is) ∙ sym standing)
             ∙ sym (cond-true (heads.txn == t) heads.of_txn (txn_head log t) hit)
         | inr miss ↦
             let apart : (txn == t) ≡ false = ap (λ u. u == t) (sym txn_is) ∙ miss in
-            same_txn_head _ _ _ _
+            same_txn_head _ _ _ _ _ _
+            (last-added log rec (is_write_of t) ∙ cond-false (txn == t) (Some (length log + 1)) (last_of log t (length log + 1)) apart)
             (newest-plain log rec (is_write_of t) fresh (λ k. refl) ∙ cond-false (txn == t) (Some (length log + 1)) (newest_standing log t) apart)
             (count-plain log rec (is_write_of t) fresh (λ k. refl) ∙ cond-false (txn == t) (standing_count log t + 1) (standing_count log t) apart)
             ∙ sym (cond-false (heads.txn == t) heads.of_txn (txn_head log t) miss)
@@ -77,13 +80,13 @@ heads-write log txn rid row heads e txn_is rid_is newest standing at_rid =
         | inl hit ↦
             let here : same_rid rid r ≡ true = ap (λ p. same_rid p r) (sym rid_is) ∙ hit in
             same_rid_head _ _ _ _
-            (last-added log rec r ∙ cond-true (same_rid rid r) (Some (length log + 1)) (last_at log r (length log + 1)) here)
+            (last-added log rec (is_write_at r) ∙ cond-true (same_rid rid r) (Some (length log + 1)) (last_at log r (length log + 1)) here)
             (newest-plain log rec (is_write_at r) fresh (λ k. refl) ∙ cond-true (same_rid rid r) (Some (length log + 1)) (newest_at log r) here)
             ∙ sym at_rid ∙ sym (cond-true (same_rid heads.rid r) heads.at_rid (rid_head log r) hit)
         | inr miss ↦
             let apart : same_rid rid r ≡ false = ap (λ p. same_rid p r) (sym rid_is) ∙ miss in
             same_rid_head _ _ _ _
-            (last-added log rec r ∙ cond-false (same_rid rid r) (Some (length log + 1)) (last_at log r (length log + 1)) apart)
+            (last-added log rec (is_write_at r) ∙ cond-false (same_rid rid r) (Some (length log + 1)) (last_at log r (length log + 1)) apart)
             (newest-plain log rec (is_write_at r) fresh (λ k. refl) ∙ cond-false (same_rid rid r) (Some (length log + 1)) (newest_at log r) apart)
             ∙ sym (cond-false (same_rid heads.rid r) heads.at_rid (rid_head log r) miss)
       ];
@@ -94,8 +97,8 @@ pub heads-unmoved : (log : List LogRec) (txn n : ℕ) → undone log (length log
 heads-unmoved log txn n e within of at =
     let fresh : undone (log ++ Undo txn n ∷ []) (length log + 1) ≡ false = undone-fresh log (Undo txn n) e within in
     record {
-      txns = λ t. same_txn_head _ _ _ _ (newest-unmoved log txn n (is_write_of t) fresh refl (of t)) (count-unmoved log txn n (is_write_of t) fresh refl within.1 (of t));
-      rids = λ r. same_rid_head _ _ _ _ (last-added log (Undo txn n) r) (newest-unmoved log txn n (is_write_at r) fresh refl (at r));
+      txns = λ t. same_txn_head _ _ _ _ _ _ (last-added log (Undo txn n) (is_write_of t)) (newest-unmoved log txn n (is_write_of t) fresh refl (of t)) (count-unmoved log txn n (is_write_of t) fresh refl within.1 (of t));
+      rids = λ r. same_rid_head _ _ _ _ (last-added log (Undo txn n) (is_write_at r)) (newest-unmoved log txn n (is_write_at r) fresh refl (at r));
     }
 
 -- a record that is undone already
@@ -114,12 +117,13 @@ heads-no_write log txn n e within none =
 
 -- the undo of a standing write
 pub heads-undo : (log : List LogRec) (txn n : ℕ) (heads : Heads) → undone log (length log + 1) ≡ false → NamesEarlier (length log) (Undo txn n) → stands_of log heads.txn n ≡ true → stands_at log heads.rid n ≡ true
+    → heads.of_txn.last ≡ last_of log heads.txn (length log + 1)
     → heads.of_txn.newest ≡ newest_without (is_write_of heads.txn) log n
     → heads.of_txn.standing ≡ standing_count log heads.txn - 1
     → heads.at_rid.last ≡ last_at log heads.rid (length log + 1)
     → heads.at_rid.newest ≡ newest_without (is_write_at heads.rid) log n
     → AreHeadsAfter log (log ++ Undo txn n ∷ []) (Some heads)
-heads-undo log txn n heads e within of at newest standing last newest_there =
+heads-undo log txn n heads e within of at last newest standing last_there newest_there =
     let rec : LogRec = Undo txn n in
     let fresh : undone (log ++ rec ∷ []) (length log + 1) ≡ false = undone-fresh log rec e within in
     let by = and_parts (is_write_of heads.txn (record_at log n)) (not (undone log n)) of in
@@ -130,13 +134,14 @@ heads-undo log txn n heads e within of at newest standing last newest_there =
             let is : heads.txn ≡ t = eqb-true heads.txn t hit in
             let stands : stands_of log t n ≡ true = ap (λ u. stands_of log u n) (sym is) ∙ of in
             let head : ◌≡◌ {A = TxnHead} (txn_head (log ++ rec ∷ []) t) heads.of_txn =
-            same_txn_head _ _ _ _
+            same_txn_head _ _ _ _ _ _
+            (last-added log rec (is_write_of t) ∙ ap (λ u. last_of log u (length log + 1)) (sym is) ∙ sym last)
             (newest-undo log txn n (is_write_of t) fresh refl ∙ ap (λ u. newest_without (is_write_of u) log n) (sym is) ∙ sym newest)
             (count-undo log txn n (is_write_of t) fresh refl within.1 ∙ cond-true (stands_of log t n) (standing_count log t - 1) (standing_count log t) stands ∙ ap (λ u. standing_count log u - 1) (sym is) ∙ sym standing)
             in head ∙ sym (cond-true (heads.txn == t) heads.of_txn (txn_head log t) hit)
         | inr miss ↦
             let gone : stands_of log t n ≡ false = and_left (is_write_of t (record_at log n)) (not (undone log n)) (false_from_ne_true (is_write_of t (record_at log n)) (λ f. false≢true (sym miss ∙ eq-eqb heads.txn t (one_writer heads.txn t (record_at log n) by.0 f)))) in
-            same_txn_head _ _ _ _ (newest-unmoved log txn n (is_write_of t) fresh refl gone) (count-unmoved log txn n (is_write_of t) fresh refl within.1 gone)
+            same_txn_head _ _ _ _ _ _ (last-added log rec (is_write_of t)) (newest-unmoved log txn n (is_write_of t) fresh refl gone) (count-unmoved log txn n (is_write_of t) fresh refl within.1 gone)
             ∙ sym (cond-false (heads.txn == t) heads.of_txn (txn_head log t) miss)
       ];
       rids = λ r. elim (cases_Bool (same_rid heads.rid r)) [
@@ -144,12 +149,12 @@ heads-undo log txn n heads e within of at newest standing last newest_there =
             let is : heads.rid ≡ r = same_rid-true heads.rid r hit in
             let head : ◌≡◌ {A = RidHead} (rid_head (log ++ rec ∷ []) r) heads.at_rid =
             same_rid_head _ _ _ _
-            (last-added log rec r ∙ ap (λ p. last_at log p (length log + 1)) (sym is) ∙ sym last)
+            (last-added log rec (is_write_at r) ∙ ap (λ p. last_at log p (length log + 1)) (sym is) ∙ sym last_there)
             (newest-undo log txn n (is_write_at r) fresh refl ∙ ap (λ p. newest_without (is_write_at p) log n) (sym is) ∙ sym newest_there)
             in head ∙ sym (cond-true (same_rid heads.rid r) heads.at_rid (rid_head log r) hit)
         | inr miss ↦
             let gone : stands_at log r n ≡ false = and_left (is_write_at r (record_at log n)) (not (undone log n)) (false_from_ne_true (is_write_at r (record_at log n)) (λ f. false≢true (sym miss ∙ ap (same_rid heads.rid) (sym (one_place heads.rid r (record_at log n) there.0 f)) ∙ same_rid-refl heads.rid))) in
-            same_rid_head _ _ _ _ (last-added log rec r) (newest-unmoved log txn n (is_write_at r) fresh refl gone)
+            same_rid_head _ _ _ _ (last-added log rec (is_write_at r)) (newest-unmoved log txn n (is_write_at r) fresh refl gone)
             ∙ sym (cond-false (same_rid heads.rid r) heads.at_rid (rid_head log r) miss)
       ];
     }

@@ -13,9 +13,10 @@ use Rattle.heap_log.specs.declared.link.Link.{Link}
 use Rattle.heap_log.specs.declared.link.Chain.{Chain}
 use Rattle.heap_log.specs.declared.link.Chain.TheVariants.{OfTxn, AtRid}
 use Rattle.heap_log.specs.Links.{AreLinks, AreMarked, IsLinkOf, LeadsTo, on_chain, link_before, stands_by}
-use Rattle.heap_log.specs.Standing.{record_at, undone, last_below, is_write_of, is_write_at, is_undo_of, place_of, txn_of, rid_of, newest_standing, newest_at, NamesEarlier}
-use Rattle.heap_log.proofs.Last.{IsLast, last_below_some, last_below_none, last_below_is, last_below_none_is}
-use Rattle.heap_log.proofs.Records.{record_at-kept, record_at-added, undone-added, undo_within, or_false, write_within, txn_of-write, rid_of-write, writes_there, writes_by, some_place-by, some_place-there}
+use Rattle.heap_log.specs.Standing.{record_at, undone, last_below, last_of, is_write_of, is_write_at, is_undo_of, place_of, txn_of, rid_of, newest_standing, newest_at, NamesEarlier}
+use Rattle.heap_log.proofs.Added.{undone-later}
+use Rattle.heap_log.proofs.Last.{IsLast, last_below_agree, last_below_some, last_below_none, last_below_is, last_below_none_is}
+use Rattle.heap_log.proofs.Records.{record_at-kept, record_at-added, undone-added, write_within, txn_of-write, rid_of-write, writes_there, writes_by, some_place-by, some_place-there}
 
 -- the newest standing record is where a link of the next one leads
 pub newest_leads : (passes : Option LogRec → Bool) (log : List LogRec) (n : ℕ) (place : Option ℕ) → place ≡ last_below (stands_by passes log) n → LeadsTo passes log n place
@@ -75,6 +76,7 @@ pub record Linked (log : List LogRec) (links : List Link) (n : ℕ) : Type 0 whe
   pub inside : n - 1 < length links
   pub flag : (link : Link) → link ≡ get_or links (n - 1) link → link.undone ≡ undone log n
   pub back : (link : Link) (chain : Chain) → link ≡ get_or links (n - 1) link → LeadsTo (on_chain chain (record_at log n)) log n (link_before chain link)
+  pub previous : (link : Link) → link ≡ get_or links (n - 1) link → link.previous ≡ last_of log (txn_of (record_at log n)) n
 
 pub linked : (log : List LogRec) (links : List Link) → AreLinks log links → (n : ℕ) → IsSome (place_of (record_at log n)) → Linked log links n
 linked log links h zero some = absurd (false≢true some)
@@ -91,6 +93,7 @@ linked log links h (suc i) some =
           let P : Link → Type 0 = λ x. LeadsTo (on_chain chain (record_at log (suc i))) log (suc i) (link_before chain x) in
           let here : P (get_or links i link) = rw add-one at (h.back i link chain in' (rw add-one some)) in
           subst P (sym (rw less at is)) here;
+      previous = λ link is. ap (λ x. x.previous) (rw less at is) ∙ rw add-one at (h.previous i link in' (rw add-one some));
     }
 
 -- a walk along the chain of a write has come to the write m
@@ -131,6 +134,10 @@ leads_grow passes log rec n place l leads = record {
       (still_none (passes (record_at log k)) (undone log k) (is_undo_of k rec) (leads.passed k a b));
 }
 
+last_of-kept : (log : List LogRec) (rec : LogRec) (txn n : ℕ) → n ≤ length log + 1 → last_of (log ++ rec ∷ []) txn n ≡ last_of log txn n
+last_of-kept log rec txn n l =
+    last_below_agree (λ k. is_write_of txn (record_at (log ++ rec ∷ []) k)) (λ k. is_write_of txn (record_at log k)) n (λ k b. ap (is_write_of txn) (record_at-kept log rec k (omega arith)))
+
 before_kept : (chain : Chain) (old new : Link) → new.of_txn ≡ old.of_txn → new.at_rid ≡ old.at_rid → link_before chain new ≡ link_before chain old
 before_kept OfTxn old new e f = e
 before_kept AtRid old new e f = f
@@ -144,7 +151,7 @@ links_grow log links marked rec link h m names is_link = record {
         ap (λ x. x.undone) (get_or_append_left marked (link ∷ []) d i (omega (arith, m.lengths))) ∙ m.flags i d in' ∙ ap (λ b. b || is_undo_of (i + 1) rec) (h.flags i d within) ∙ sym (undone-added log rec (i + 1))
     | inr past ↦
         let i_is : i ≡ length marked = omega (arith, length-append log (rec ∷ []), m.lengths, h.lengths) in
-        let none : undone (log ++ rec ∷ []) (i + 1) ≡ false = undone-added log rec (i + 1) ∙ or_false (undone log (i + 1)) (is_undo_of (i + 1) rec) (h.earlier (i + 1) (omega arith)) (undo_within (length log) (i + 1) rec names (omega arith)) in
+        let none : undone (log ++ rec ∷ []) (i + 1) ≡ false = undone-later log rec (i + 1) (h.earlier (i + 1) (omega arith)) names (omega arith) in
         rw i_is (ap (λ x. x.undone) (get_or-append_seam marked link [] d) ∙ is_link.stands) ∙ sym none
   ];
   back = λ i d chain l some. elim (cases_lt i (length log)) [
@@ -164,14 +171,30 @@ links_grow log links marked rec link h m names is_link = record {
         let some' : IsSome (place_of (Some rec)) = rw added at some in
         rw (here, added, i_is) (leads_grow (on_chain chain (Some rec)) log rec (length log + 1) (link_before chain link) (omega arith) (is_link.back chain some'))
   ];
+  previous = λ i d l some. elim (cases_lt i (length log)) [
+    | inl within ↦
+        let in' : i < length links = omega (arith, h.lengths) in
+        let kept : record_at (log ++ rec ∷ []) (i + 1) ≡ record_at log (i + 1) = record_at-kept log rec (i + 1) (omega arith) in
+        let some' : IsSome (place_of (record_at log (i + 1))) = rw kept at some in
+        ap (λ x. x.previous) (get_or_append_left marked (link ∷ []) d i (omega (arith, m.lengths)))
+        ∙ m.previous i d in' ∙ h.previous i d within some'
+        ∙ sym (ap (λ r. last_of (log ++ rec ∷ []) (txn_of r) (i + 1)) kept ∙ last_of-kept log rec (txn_of (record_at log (i + 1))) (i + 1) (omega arith))
+    | inr past ↦
+        let i_is : i ≡ length log = omega (arith, length-append log (rec ∷ [])) in
+        let m_is : i ≡ length marked = omega (arith, i_is, m.lengths, h.lengths) in
+        let here : get_or (marked ++ link ∷ []) i d ≡ link = rw m_is (get_or-append_seam marked link [] d) in
+        let added : record_at (log ++ rec ∷ []) (i + 1) ≡ Some rec = rw i_is (record_at-added log rec) in
+        let some' : IsSome (place_of (Some rec)) = rw added at some in
+        rw (here, added, i_is) (is_link.previous some' ∙ sym (last_of-kept log rec (txn_of (Some rec)) (length log + 1) (omega arith)))
+  ];
   earlier = λ n l.
       let before : length log < n = omega (arith, length-append log (rec ∷ [])) in
-      undone-added log rec n ∙ or_false (undone log n) (is_undo_of n rec) (h.earlier n before) (undo_within (length log) n rec names before);
+      undone-later log rec n (h.earlier n before) names before;
 }
 
 -- the link of a write that comes next
-pub link_of-write : (log : List LogRec) (txn : ℕ) (rid : Rid) (row : Option (List Cell)) (link : Link) → link.undone ≡ false → link.of_txn ≡ newest_standing log txn → link.at_rid ≡ newest_at log rid → IsLinkOf log (Write txn rid row) link
-link_of-write log txn rid row link stands of at = record { stands = stands; back = leads }
+pub link_of-write : (log : List LogRec) (txn : ℕ) (rid : Rid) (row : Option (List Cell)) (link : Link) → link.undone ≡ false → link.of_txn ≡ newest_standing log txn → link.at_rid ≡ newest_at log rid → link.previous ≡ last_of log txn (length log + 1) → IsLinkOf log (Write txn rid row) link
+link_of-write log txn rid row link stands of at previous = record { stands = stands; back = leads; previous = λ some. previous }
   where
     leads : (chain : Chain) → IsSome (place_of (Some (Write txn rid row))) → LeadsTo (on_chain chain (Some (Write txn rid row))) log (length log + 1) (link_before chain link)
     leads OfTxn some = newest_leads (is_write_of txn) log (length log + 1) link.of_txn of

@@ -4,7 +4,7 @@ use Rattle.std.specs.Prelude.{not, IfSome}
 use Rattle.std.proofs.lemmas.Bool.{and_parts}
 use Rattle.keybytes.specs.declared.rid.Rid.{Rid}
 use Rattle.heap_log.specs.declared.record.LogRec.{LogRec}
-use Rattle.heap_log.specs.Standing.{record_at, undone, is_write_of, is_write_at, last_below, last_at, stands_of, stands_at, newest_standing, newest_at, standing_before, rid_of, IsWrite}
+use Rattle.heap_log.specs.Standing.{record_at, undone, is_write_of, is_write_at, last_below, last_of, last_at, stands_of, stands_at, newest_standing, newest_at, standing_before, rid_of, IsWrite}
 use Rattle.heap_log.proofs.Last.{last_below_some}
 use Rattle.heap_log.proofs.Records.{write_within, some_place-by, some_place-there}
 
@@ -46,6 +46,13 @@ standing_before-there log n m e = stands_at-write log (rid_of (record_at log n))
 pub standing_before-write : (log : List LogRec) (n m : ℕ) → standing_before log n ≡ Some m → IsWrite log m
 standing_before-write log n m e = write_at log (rid_of (record_at log n)) m (standing_before-there log n m e)
 
+-- the last write of a transaction is one of it
+pub last_of-of : (log : List LogRec) (txn n m : ℕ) → last_of log txn n ≡ Some m → is_write_of txn (record_at log m) ≡ true
+last_of-of log txn n m e = (last_below_some (λ k. is_write_of txn (record_at log k)) n m e).passes
+
+pub last_of-write : (log : List LogRec) (txn n m : ℕ) → last_of log txn n ≡ Some m → IsWrite log m
+last_of-write log txn n m e = write_of log txn m (last_of-of log txn n m e)
+
 -- the last write at a RID is one there
 pub last_at-there : (log : List LogRec) (rid : Rid) (n m : ℕ) → last_at log rid n ≡ Some m → is_write_at rid (record_at log m) ≡ true
 last_at-there log rid n m e = (last_below_some (λ k. is_write_at rid (record_at log k)) n m e).passes
@@ -61,6 +68,10 @@ newest_standing-writes log txn (Some n) e = newest_standing-write log txn n (sym
 pub standing_before-writes : (log : List LogRec) (n : ℕ) (place : Option ℕ) → place ≡ standing_before log n → IfSome place (IsWrite log)
 standing_before-writes log n None e = tt
 standing_before-writes log n (Some m) e = standing_before-write log n m (sym e)
+
+pub last_of-writes : (log : List LogRec) (txn n : ℕ) (place : Option ℕ) → place ≡ last_of log txn n → IfSome place (IsWrite log)
+last_of-writes log txn n None e = tt
+last_of-writes log txn n (Some m) e = last_of-write log txn n m (sym e)
 
 pub last_at-writes : (log : List LogRec) (rid : Rid) (n : ℕ) (place : Option ℕ) → place ≡ last_at log rid n → IfSome place (IsWrite log)
 last_at-writes log rid n None e = tt

@@ -11,7 +11,7 @@ use Rattle.heap_log.specs.declared.heads.TxnHead.{TxnHead}
 use Rattle.heap_log.specs.declared.heads.RidHead.{RidHead}
 use Rattle.heap_log.specs.declared.heads.Heads.{Heads}
 use Rattle.heap_log.specs.Links.{AreLinks}
-use Rattle.heap_log.specs.Standing.{newest_standing, standing_count, newest_at, last_at, same_rid}
+use Rattle.heap_log.specs.Standing.{newest_standing, standing_count, newest_at, last_of, last_at, same_rid}
 
 -- the maps, since antt has no names for the aliases
 abbrev pub TxnHeads : Type 0
@@ -25,14 +25,14 @@ key_eq a b = nat_eq a.0 b.0 && nat_eq a.1 b.1
 
 -- what a map has of a transaction, of a RID
 abbrev pub txn_head_in : TxnHeads → ℕ → TxnHead
-txn_head_in heads txn = unwrap_or (get nat_eq heads txn) (record { newest = None; standing = 0 })
+txn_head_in heads txn = unwrap_or (get nat_eq heads txn) (record { last = None; newest = None; standing = 0 })
 
 abbrev pub rid_head_in : RidHeads → Rid → RidHead
 rid_head_in heads rid = unwrap_or (get key_eq heads (rid.page, rid.slot)) (record { last = None; newest = None })
 
 -- what the log says of a transaction, of a RID
 abbrev pub txn_head : List LogRec → ℕ → TxnHead
-txn_head log txn = record { newest = newest_standing log txn; standing = standing_count log txn }
+txn_head log txn = record { last = last_of log txn (length log + 1); newest = newest_standing log txn; standing = standing_count log txn }
 
 abbrev pub rid_head : List LogRec → Rid → RidHead
 rid_head log rid = record { last = last_at log rid (length log + 1); newest = newest_at log rid }

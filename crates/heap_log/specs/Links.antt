@@ -4,7 +4,7 @@ use Rattle.heap_log.specs.declared.record.LogRec.{LogRec}
 use Rattle.heap_log.specs.declared.link.Link.{Link}
 use Rattle.heap_log.specs.declared.link.Chain.{Chain}
 use Rattle.heap_log.specs.declared.link.Chain.TheVariants.{OfTxn, AtRid}
-use Rattle.heap_log.specs.Standing.{undone, record_at, last_below, is_number, is_undo_of, is_write_of, is_write_at, place_of, txn_of, rid_of}
+use Rattle.heap_log.specs.Standing.{undone, record_at, last_below, last_of, is_number, is_undo_of, is_write_of, is_write_at, place_of, txn_of, rid_of}
 
 -- whether a record is a write on the same chain as that write
 abbrev pub on_chain : Chain → Option LogRec → Option LogRec → Bool
@@ -47,6 +47,7 @@ pub record AreLinks (log : List LogRec) (links : List Link) : Type 0 where
   pub lengths : length links ≡ length log
   pub flags : (i : ℕ) (d : Link) → i < length log → (slice_index_or links i d).undone ≡ undone log (i + 1)
   pub back : (i : ℕ) (d : Link) (chain : Chain) → i < length log → IsSome (place_of (record_at log (i + 1))) → LeadsTo (on_chain chain (record_at log (i + 1))) log (i + 1) (link_before chain (slice_index_or links i d))
+  pub previous : (i : ℕ) (d : Link) → i < length log → IsSome (place_of (record_at log (i + 1))) → (slice_index_or links i d).previous ≡ last_of log (txn_of (record_at log (i + 1))) (i + 1)
   -- no undo names what isn't there
   pub earlier : (n : ℕ) → length log < n → undone log n ≡ false
 
@@ -55,9 +56,11 @@ pub record AreMarked (added : LogRec) (old new : List Link) : Type 0 where
   pub lengths : length new ≡ length old
   pub of_txn : (i : ℕ) (d : Link) → i < length old → (slice_index_or new i d).of_txn ≡ (slice_index_or old i d).of_txn
   pub at_rid : (i : ℕ) (d : Link) → i < length old → (slice_index_or new i d).at_rid ≡ (slice_index_or old i d).at_rid
+  pub previous : (i : ℕ) (d : Link) → i < length old → (slice_index_or new i d).previous ≡ (slice_index_or old i d).previous
   pub flags : (i : ℕ) (d : Link) → i < length old → (slice_index_or new i d).undone ≡ ((slice_index_or old i d).undone || is_undo_of (i + 1) added)
 
 -- the link of a record that comes next
 pub record IsLinkOf (log : List LogRec) (added : LogRec) (link : Link) : Type 0 where
   pub stands : link.undone ≡ false
   pub back : (chain : Chain) → IsSome (place_of (Some added)) → LeadsTo (on_chain chain (Some added)) log (length log + 1) (link_before chain link)
+  pub previous : IsSome (place_of (Some added)) → link.previous ≡ last_of log (txn_of (Some added)) (length log + 1)

@@ -1,5 +1,5 @@
 -- Which writes of a log stand, and what they leave. A record's number is its place in the log, from 1.
-use Rattle.std.specs.Prelude.{◌≡◌, ℕ, zero, suc, ◌+◌, ◌-◌, ◌≤◌, Bool, false, ◌&&◌, not, ◌==◌, if◌then◌else◌, List, length, take, Option, Some, None, IsSome}
+use Rattle.std.specs.Prelude.{◌≡◌, ℕ, zero, suc, ◌+◌, ◌-◌, ◌≤◌, ◌<◌, ◌⊎◌, Bool, false, ◌&&◌, ◌||◌, not, ◌==◌, if◌then◌else◌, List, length, take, Option, Some, None, IsSome}
 use Rattle.std.specs.List.{slice_get, list_any}
 use Rattle.keybytes.specs.declared.cell.Cell.{Cell}
 use Rattle.keybytes.specs.declared.rid.Rid.{Rid}
@@ -177,3 +177,21 @@ pub record AddsToLive (old : List LogRec) (added : LogRec) (new : List LogRec) :
 pub record AddsToStanding (old : List LogRec) (added : LogRec) (new : List LogRec) : Type 0 where
   pub newest : (txn : ℕ) → newest_standing new txn ≡ newest_after old added txn
   pub count : (txn : ℕ) → standing_count new txn ≡ count_after old added txn
+
+-- the record undoes nothing that stands before write n at its RID
+abbrev pub KeepsBefore : List LogRec → ℕ → LogRec → Type 0
+KeepsBefore log n (Write txn rid row) = Unit {0}
+KeepsBefore log n (Undo txn undone) = (n ≤ undone) ⊎ (is_write_at (rid_of (record_at log n)) (record_at log undone) ≡ false)
+KeepsBefore log n (Commit txn) = Unit {0}
+KeepsBefore log n (Switch verdicts) = Unit {0}
+
+-- what a record does to the standing write before another: a record that undoes none of them leaves it
+pub record AddsToBefore (old : List LogRec) (added : LogRec) (new : List LogRec) : Type 0 where
+  pub before : (n : ℕ) → n ≤ length old → KeepsBefore old n added → standing_before new n ≡ standing_before old n
+
+-- what a record does to the numbers: it takes the next one, each before it keeps its record, and no undo names a later one
+pub record AddsToNumbers (old : List LogRec) (added : LogRec) (new : List LogRec) : Type 0 where
+  pub here : record_at new (length old + 1) ≡ Some added
+  pub earlier : (n : ℕ) → n ≤ length old → record_at new n ≡ record_at old n
+  pub undoes : (n : ℕ) → undone new n ≡ (undone old n || is_undo_of n added)
+  pub later : (n : ℕ) → length new < n → undone new n ≡ false

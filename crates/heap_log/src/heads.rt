@@ -11,6 +11,8 @@ use std::collections::HashMap;
 /// What is kept of a transaction.
 #[derive(Clone, Copy)]
 pub(crate) struct TxnHead {
+    /// Its last write, standing or not.
+    pub last: Option<usize>,
     /// Its newest standing write.
     pub newest: Option<usize>,
     /// How many of its writes stand.
@@ -43,6 +45,7 @@ pub(crate) fn txn_head(heads: &TxnHeads, txn: u64) -> TxnHead
     ensures { result ≡ txn_head_in heads.now txn }
 {
     heads.get(&txn).copied().unwrap_or(TxnHead {
+        last: None,
         newest: None,
         standing: 0,
     })

@@ -17,6 +17,8 @@ pub(crate) enum Chain {
 pub(crate) struct Link {
     pub of_txn: Option<usize>,
     pub at_rid: Option<usize>,
+    /// The transaction's write before this one, standing or not.
+    pub previous: Option<usize>,
     /// An undo names this record.
     pub undone: bool,
 }
@@ -24,11 +26,12 @@ pub(crate) struct Link {
 impl Link {
     /// The link of a record that is no write.
     pub fn none() -> Link
-        ensures { result ≡ record { of_txn = None; at_rid = None; undone = false } }
+        ensures { result ≡ record { of_txn = None; at_rid = None; previous = None; undone = false } }
     {
         Link {
             of_txn: None,
             at_rid: None,
+            previous: None,
             undone: false,
         }
     }

@@ -1,7 +1,7 @@
-ghost use Rattle.std.specs.Prelude.{◌≡◌, ℕ, ◌<◌, ◌≤◌, ◌+◌, ◌-◌, ◌++◌, ◌∷◌, [], length, Some, None, true, IsSome, IfSome, IsOk, IfErr, OnOk, OnErr};
+ghost use Rattle.std.specs.Prelude.{◌≡◌, ℕ, ◌<◌, ◌≤◌, ◌+◌, ◌-◌, max, ◌++◌, ◌∷◌, [], length, Some, None, true, false, IsSome, IfSome, IsOk, IfErr, OnOk, OnErr};
 ghost use Rattle.heap_log.specs.Heads.{txn_head, rid_head, AreHeadsAfter};
 ghost use Rattle.heap_log.specs.Links.{newest_before, newest_without, IsLinkOf};
-ghost use Rattle.heap_log.specs.Standing.{record_at, place_of, is_number, is_write_of, is_write_at, last_at, stands_of, stands_at, newest_standing, standing_before, standing_count, IsWrite, NamesEarlier, AddsToLive, AddsToStanding};
+ghost use Rattle.heap_log.specs.Standing.{record_at, undone, place_of, txn_of, is_number, is_write_of, is_write_at, last_of, last_at, stands_of, stands_at, newest_standing, standing_before, standing_count, IsWrite, NamesEarlier, AddsToLive, AddsToStanding, AddsToBefore, AddsToNumbers};
 
 use crate::LogRec;
 use crate::heads::{
@@ -47,7 +47,8 @@ fn is_number(place: Option<usize>, number: usize) -> bool
 impl Log {
     /// The empty log.
     pub fn new(alloc: Global) -> Log
-        ensures { result.records ≡ [] }
+        ensures records { result.records ≡ [] }
+        ensures room { result.room ≡ 0 }
     {
         Log {
             records: Vec::new(alloc),
@@ -63,6 +64,7 @@ impl Log {
         ensures ok { OnOk result (additional ≤ self.new.room) }
         ensures records { self.new.records ≡ self.old.records }
         ensures room { self.old.room ≤ self.new.room }
+        ensures exact { OnOk result (self.new.room ≡ max self.old.room additional) }
         ensures err { OnErr result (self.new ≡ self.old) }
         ensures memory { IfErr result (λ fault. fault ≡ Fault.Memory) }
         ensures succeeds { additional ≤ self.old.room → IsOk result }
@@ -78,9 +80,10 @@ impl Log {
         Ok(())
     }
 
-    /// How many records there are.
+    /// How many records there are; no undo names a number past them.
     pub fn len(&self) -> usize
-        ensures { result ≡ length self.now.records }
+        ensures value { result ≡ length self.now.records }
+        ensures earlier { (n : ℕ) → length self.now.records < n → undone self.now.records n ≡ false }
     {
         self.records.len()
     }
@@ -100,6 +103,14 @@ impl Log {
         ensures write { IfSome result (IsWrite self.now.records) }
     {
         self.txn_head(txn).newest
+    }
+
+    /// The number of the transaction's last write, standing or not.
+    pub fn last_of(&self, txn: u64) -> Option<usize>
+        ensures value { result ≡ last_of self.now.records txn (length self.now.records + 1) }
+        ensures write { IfSome result (IsWrite self.now.records) }
+    {
+        self.txn_head(txn).last
     }
 
     /// How many writes of the transaction stand.
@@ -126,6 +137,15 @@ impl Log {
         self.before_on(Chain::AtRid, number)
     }
 
+    /// The number of the same transaction's write before that write, standing or not.
+    pub fn previous_of(&self, number: usize) -> Option<usize>
+        requires { IsSome (place_of (record_at self.now.records number)) }
+        ensures value { result ≡ last_of self.now.records (txn_of (record_at self.now.records number)) number }
+        ensures write { IfSome result (IsWrite self.now.records) }
+    {
+        self.links[number - 1].previous
+    }
+
     /// Appends a record. Takes no memory.
     pub fn add(&mut self, added: LogRec)
         requires room { 0 < self.old.room }
@@ -134,6 +154,8 @@ impl Log {
         ensures room { self.new.room + 1 ≡ self.old.room }
         ensures live { AddsToLive self.old.records added self.new.records }
         ensures standing { AddsToStanding self.old.records added self.new.records }
+        ensures before { AddsToBefore self.old.records added self.new.records }
+        ensures numbers { AddsToNumbers self.old.records added self.new.records }
     {
         let link = self.link_of(&added);
         let heads = self.heads_after(&added);
@@ -178,11 +200,15 @@ impl Log {
         ensures { IsLinkOf self.now.records added.now result }
     {
         match added {
-            LogRec::Write { txn, rid, .. } => Link {
-                of_txn: self.txn_head(*txn).newest,
-                at_rid: self.rid_head(*rid).newest,
-                undone: false,
-            },
+            LogRec::Write { txn, rid, .. } => {
+                let of_txn = self.txn_head(*txn);
+                Link {
+                    of_txn: of_txn.newest,
+                    at_rid: self.rid_head(*rid).newest,
+                    previous: of_txn.last,
+                    undone: false,
+                }
+            }
             LogRec::Undo { .. } => Link::none(),
             LogRec::Commit { .. } => Link::none(),
             LogRec::Switch { .. } => Link::none(),
@@ -207,6 +233,7 @@ impl Log {
     fn heads_with(&self, number: usize, txn: u64, rid: Rid) -> Heads
         requires { number ≡ length self.now.records + 1 }
         ensures txn { result.txn ≡ txn }
+        ensures last { result.of_txn.last ≡ Some number }
         ensures newest { result.of_txn.newest ≡ Some number }
         ensures standing { result.of_txn.standing ≡ standing_count self.now.records txn + 1 }
         ensures rid { result.rid ≡ rid }
@@ -215,6 +242,7 @@ impl Log {
         Heads {
             txn,
             of_txn: TxnHead {
+                last: Some(number),
                 newest: Some(number),
                 standing: self.standing(txn) + 1,
             },
@@ -252,11 +280,13 @@ impl Log {
     /// The head of the transaction once that standing write of it is undone.
     fn txn_head_without(&self, txn: u64, number: usize) -> TxnHead
         requires { stands_of self.now.records txn number ≡ true }
+        ensures last { result.last ≡ last_of self.now.records txn (length self.now.records + 1) }
         ensures newest { result.newest ≡ newest_without (is_write_of txn) self.now.records number }
         ensures standing { result.standing ≡ standing_count self.now.records txn - 1 }
     {
         let head = self.txn_head(txn);
         TxnHead {
+            last: head.last,
             standing: head.standing - 1,
             newest: if is_number(head.newest, number) {
                 self.before_on(Chain::OfTxn, number)

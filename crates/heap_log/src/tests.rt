@@ -43,6 +43,31 @@ fn answers_of_a_short_log(rt: HostRuntime) -> Result<(), Fail> {
 }
 
 #[test]
+fn visits_the_writes_of_two_transactions(rt: HostRuntime) -> Result<(), Fail> {
+    let mut log = Log::new(rt.alloc());
+    log.reserve(7)?;
+    log.add(delete(1, FIRST));
+    log.add(delete(2, SECOND));
+    log.add(delete(1, SECOND));
+    log.add(delete(1, FIRST));
+    log.add(LogRec::Undo { txn: 1, undone: 4 });
+    log.add(LogRec::Undo { txn: 1, undone: 3 });
+    assert_eq!(rt; log.last_of(1), Some(4));
+    assert_eq!(rt; log.newest(1), Some(1));
+    assert_eq!(rt; log.last_of(2), Some(2));
+    assert_eq!(rt; log.last_of(3), None);
+    log.add(delete(1, SECOND));
+    assert_eq!(rt; log.last_of(1), Some(7));
+    assert_eq!(rt; log.previous_of(7), Some(4));
+    assert_eq!(rt; log.previous_of(4), Some(3));
+    assert_eq!(rt; log.previous_of(3), Some(1));
+    assert_eq!(rt; log.previous_of(1), None);
+    assert_eq!(rt; log.previous_of(2), None);
+    assert_eq!(rt; log.before(7), Some(2));
+    Ok(())
+}
+
+#[test]
 fn copies_a_write(rt: HostRuntime) -> Result<(), Fail> {
     let write = LogRec::Write {
         txn: 1,

@@ -3,8 +3,8 @@ use Rattle.heap_log.specs.LogValue.{LogValue}
 use Rattle.heap_log.specs.declared.record.LogRec.{LogRec}
 use Rattle.heap_log.specs.Heads.{AreHeadsAfter, with_txn, with_rid}
 use Rattle.heap_log.specs.Links.{IsLinkOf}
-use Rattle.heap_log.specs.Standing.{NamesEarlier, AddsToLive, AddsToStanding}
-use Rattle.heap_log.proofs.Added.{adds_to_standing}
+use Rattle.heap_log.specs.Standing.{NamesEarlier, AddsToLive, AddsToStanding, AddsToBefore, AddsToNumbers}
+use Rattle.heap_log.proofs.Added.{adds_to_before, adds_to_numbers, adds_to_standing}
 use Rattle.heap_log.proofs.Linked.{links_grow}
 use Rattle.heap_log.proofs.Live.{adds_to_live}
 use Rattle.heap_log.proofs.log.Log.add.Goals as goal
@@ -47,4 +47,22 @@ returns-clause-standing c =
     (let P : List LogRec → Type 0 = λ l. NamesEarlier (length l) c.args.added in subst P (sym same) c.requires.earlier) in
     let adds : AddsToStanding log c.args.added (log ++ c.args.added ∷ []) = adds_to_standing log c.args.added (c.self.invariant.links.earlier (length log + 1) (omega arith)) names in
     let P : List LogRec → Type 0 = λ l. AddsToStanding l c.args.added c.push_reserved.new.self.items in
+    subst P same (rw c.push_reserved.ensures.items adds)
+
+pub returns-clause-before : goal.returns-clause-before
+returns-clause-before c =
+    let log : List LogRec = c.self.inside.records.items in
+    let same : log ≡ c.args.self.now.records = ap (λ (v : LogValue). v.records) c.self.view_is in
+    let adds : AddsToBefore log c.args.added (log ++ c.args.added ∷ []) = adds_to_before log c.args.added in
+    let P : List LogRec → Type 0 = λ l. AddsToBefore l c.args.added c.push_reserved.new.self.items in
+    subst P same (rw c.push_reserved.ensures.items adds)
+
+pub returns-clause-numbers : goal.returns-clause-numbers
+returns-clause-numbers c =
+    let log : List LogRec = c.self.inside.records.items in
+    let same : log ≡ c.args.self.now.records = ap (λ (v : LogValue). v.records) c.self.view_is in
+    let names : NamesEarlier (length log) c.args.added =
+    (let P : List LogRec → Type 0 = λ l. NamesEarlier (length l) c.args.added in subst P (sym same) c.requires.earlier) in
+    let adds : AddsToNumbers log c.args.added (log ++ c.args.added ∷ []) = adds_to_numbers log c.args.added c.self.invariant.links.earlier names in
+    let P : List LogRec → Type 0 = λ l. AddsToNumbers l c.args.added c.push_reserved.new.self.items in
     subst P same (rw c.push_reserved.ensures.items adds)

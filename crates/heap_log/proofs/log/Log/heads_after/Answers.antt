@@ -11,7 +11,7 @@ returns-in-Write c =
     let number : c.len-number.result + 1 ≡ length c.args.self.now.records + 1 = omega (arith, ap length view, c.self.inside.records.ok) in
     rw c.in-Write.is (heads-write c.args.self.now.records c.in-Write.txn c.in-Write.rid c.in-Write.row c.heads_with.result
     (h.earlier (length c.args.self.now.records + 1) (omega arith)) c.heads_with.ensures.txn c.heads_with.ensures.rid
-    (rw number at c.heads_with.ensures.newest) c.heads_with.ensures.standing (rw number at c.heads_with.ensures.at_rid))
+    (rw number at c.heads_with.ensures.last) (rw number at c.heads_with.ensures.newest) c.heads_with.ensures.standing (rw number at c.heads_with.ensures.at_rid))
 
 pub returns-in-Commit : goal.returns-in-Commit
 returns-in-Commit c =

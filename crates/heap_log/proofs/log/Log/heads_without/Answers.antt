@@ -39,7 +39,7 @@ returns-in-Write c = λ txn.
     stands-read _ _ h (is_write_at c.in-Write.rid) c.args.number c.index.result.now c.index-2.result.now c.requires.low c.requires.high (rw view at c.index-2.ensures) c.index.ensures c.if-index.false
     (ap (λ (r : LogRec). is_write_at c.in-Write.rid (Some r)) c.in-Write.is ∙ same_rid-refl c.in-Write.rid) in
     heads-undo c.args.self.now.records txn c.args.number _ (h.earlier (length c.args.self.now.records + 1) (omega arith)) (c.requires.low, c.requires.high) of at
-    c.txn_head_without.ensures.newest c.txn_head_without.ensures.standing c.rid_head_without.ensures.last c.rid_head_without.ensures.newest
+    c.txn_head_without.ensures.last c.txn_head_without.ensures.newest c.txn_head_without.ensures.standing c.rid_head_without.ensures.last c.rid_head_without.ensures.newest
 
 pub returns-in-Undo : goal.returns-in-Undo
 returns-in-Undo c = λ txn.
