@@ -1,4 +1,16 @@
+pub mod Holding
+pub mod KeptChanges
 pub mod KeptFacts
 pub mod LogRows
-pub mod Placed
+pub mod OpenOnes
+pub mod PageLists
+pub mod Performing
+pub mod RoomsOfPages
+pub mod Settling
 pub mod Showing
+pub mod Slots
+pub mod Small
+pub mod Sounds
+pub mod Tournament
+pub mod Undoing
+pub mod Writers

@@ -1,40 +1,36 @@
 -- What a record more does to the rows that stand and to the pages that are written.
-use Rattle.std.proofs.Common.{◌≡◌, ◌≢◌, ◌⊎◌, inl, inr, ℕ, ◌+◌, ◌≤◌, max, Bool, true, false, List, [], ◌∷◌, ◌++◌, Option, Some, refl, sym, ap, ◌∙◌, subst, arith}
-use Rattle.std.specs.Prelude.{if◌then◌else◌}
+use Rattle.std.proofs.Common.{◌≡◌, inl, inr, ℕ, ◌+◌, ◌≤◌, max, true, List, [], ◌∷◌, ◌++◌, ◌<◌, length, Option, Some, None, refl, sym, ap, ◌∙◌, arith}
+use Rattle.std.specs.Prelude.{not, ◌==◌}
+use Rattle.std.proofs.lemmas.Bool.{false≢true, or_cases, and_parts, eq-eqb}
 use Rattle.std.proofs.lemmas.Bool.Decides.{nat_tests}
-use Rattle.std.proofs.lemmas.Option.{same_Some}
-use Rattle.keybytes.specs.Cells.{fits}
-use Rattle.keybytes.specs.Rows.{IsRow}
 use Rattle.keybytes.specs.declared.cell.Cell.{Cell}
-use Rattle.keybytes.specs.declared.kind.Kind.{Kind}
 use Rattle.keybytes.specs.declared.rid.Rid.{Rid}
 use Rattle.heap_log.specs.declared.outcome.Outcome.{Outcome}
 use Rattle.heap_log.specs.declared.record.LogRec.{LogRec}
 use Rattle.heap_log.specs.declared.record.LogRec.TheVariants.{Write, Undo, Commit, Switch}
-use Rattle.heap_log.specs.Standing.{live_at, same_rid, AddsToLive}
-use Rattle.heap_table.specs.Pages.{slot_end, slots_written, page_end, pages_written, KeepsRows, AddsRow, RowsAreInside}
-use Rattle.heap_table.specs.Kept.{RowsFit}
+use Rattle.heap_log.specs.Standing.{live_at, row_at, record_at, newest_at, stands_at, undone, is_write_of, is_write_at, same_rid, AddsToLive}
+use Rattle.heap_log.proofs.Last.{IsLast, last_below_some}
+use Rattle.slotted_page.specs.Slot.{free}
+use Rattle.heap_table.specs.Holders.{writes, wrote, holder}
+use Rattle.heap_table.specs.Pages.{slot_end, slots_written, page_end, pages_written, slot_with, slot_of, KeepsRows, RowsAreInside}
+use Rattle.heap_table.proofs.Holding.{holder_wrote}
+use Rattle.heap_table.proofs.Writers.{wrote_from}
+use Rattle.heap_table.proofs.Small.{max_turned, max_zero, same_rid_is, some_or_none}
 
 max_comm : (a b : ℕ) → max a b ≡ max b a
 max_comm a b = omega arith
-
-max_turn : (a b c : ℕ) → max a (max b c) ≡ max (max a b) c
-max_turn a b c = omega arith
 
 pub slots_written-added :
     (log : List LogRec) (rec : LogRec) (page : ℕ)
     → slots_written (log ++ rec ∷ []) page ≡ max (slots_written log page) (slot_end page rec)
 slots_written-added [] rec page = max_comm (slot_end page rec) 0
 slots_written-added (first ∷ log) rec page =
-    rw (slots_written-added log rec page) (max_turn (slot_end page first) (slots_written log page) (slot_end page rec))
+    rw (slots_written-added log rec page) (max_turned (slot_end page first) (slots_written log page) (slot_end page rec))
 
 pub pages_written-added : (log : List LogRec) (rec : LogRec) → pages_written (log ++ rec ∷ []) ≡ max (pages_written log) (page_end rec)
 pages_written-added [] rec = max_comm (page_end rec) 0
 pages_written-added (first ∷ log) rec =
-    rw (pages_written-added log rec) (max_turn (page_end first) (pages_written log) (page_end rec))
-
-max_zero : (a : ℕ) → max a 0 ≡ a
-max_zero a = omega arith
+    rw (pages_written-added log rec) (max_turned (page_end first) (pages_written log) (page_end rec))
 
 pub keeps_commit : (log new : List LogRec) (txn : ℕ) → new ≡ log ++ Commit txn ∷ [] → AddsToLive log (Commit txn) new → KeepsRows log new
 keeps_commit log new txn is adds = record {
@@ -58,43 +54,6 @@ inside_kept old new keeps inside = record {
   slot = λ rid cells stands. rw (keeps.slots rid.page) (inside.slot rid cells (sym (keeps.live rid) ∙ stands));
 }
 
-pub fit_kept : (kinds : List Kind) (old new : List LogRec) → KeepsRows old new → RowsFit kinds old → RowsFit kinds new
-fit_kept kinds old new keeps fit = record {
-  is_row = λ rid cells stands. fit.is_row rid cells (sym (keeps.live rid) ∙ stands);
-  fitting = λ rid cells stands. fit.fitting rid cells (sym (keeps.live rid) ∙ stands);
-}
-
-pub same_rid_self : (rid : Rid) → same_rid rid rid ≡ true
-same_rid_self rid = grind (arith, nat_tests)
-
-pub same_rid_parts : (a b : Rid) → a.page ≡ b.page → a.slot ≡ b.slot → a ≡ b
-same_rid_parts a b page slot =
-    ap (λ (p : ℕ). let r : Rid = record { page = p; slot = a.slot } in r) page
-    ∙ ap (λ (s : ℕ). let r : Rid = record { page = b.page; slot = s } in r) slot
-
-pub same_rid_other : (a b : Rid) → b ≢ a → same_rid a b ≡ false
-same_rid_other a b other = differ a b other (same_rid a b) refl where
-  differ : (a b : Rid) → b ≢ a → (t : Bool) → same_rid a b ≡ t → same_rid a b ≡ false
-  differ a b other false e = e
-  differ a b other true e =
-      absurd (other (same_rid_parts b a (grind (arith, nat_tests, e)) (grind (arith, nat_tests, e))))
-
-pub rid_cases : (a b : Rid) → (b ≡ a) ⊎ (b ≢ a)
-rid_cases a b = told a b (same_rid a b) refl where
-  told : (a b : Rid) (t : Bool) → same_rid a b ≡ t → (b ≡ a) ⊎ (b ≢ a)
-  told a b true e = inl (same_rid_parts b a (grind (arith, nat_tests, e)) (grind (arith, nat_tests, e)))
-  told a b false e = inr (λ same. let t : same_rid a b ≡ true = rw same (same_rid_self a) in cc)
-
--- a write of a row puts it at its RID
-pub adds_row :
-    (log new : List LogRec) (txn : ℕ) (rid : Rid) (cells : List Cell) → AddsToLive log (Write txn rid (Some cells)) new
-    → AddsRow log rid cells new
-adds_row log new txn rid cells adds = record {
-  here = adds.live rid ∙ ap (λ (t : Bool). if t then Some cells else live_at log rid) (same_rid_self rid);
-  elsewhere = λ other differs.
-      adds.live other ∙ ap (λ (t : Bool). if t then Some cells else live_at log other) (same_rid_other rid other differs);
-}
-
 -- no slot is written on a page that isn't
 pub slots_past : (log : List LogRec) (page : ℕ) → pages_written log ≤ page → slots_written log page ≡ 0
 slots_past [] page past = refl
@@ -108,33 +67,68 @@ slots_past (Switch verdicts ∷ log) page past = let rest = slots_past log page 
 pub end_here : (page slot : ℕ) (txn : ℕ) (cells : Option (List Cell)) → slot_end page (Write txn (record { page = page; slot = slot }) cells) ≡ slot + 1
 end_here page slot txn cells = grind (arith, nat_tests)
 
-pub inside_added :
-    (log new : List LogRec) (txn : ℕ) (rid : Rid) (cells : List Cell) → new ≡ log ++ Write txn rid (Some cells) ∷ []
-    → AddsRow log rid cells new → RowsAreInside log → RowsAreInside new
-inside_added log new txn rid cells is adds inside = record {
-  page = λ other row stands.
-      rw (is, pages_written-added log (Write txn rid (Some cells))) (elim (rid_cases rid other) [
-        | inl same ↦ rw same (omega arith)
-        | inr differs ↦ let was = inside.page other row (sym (adds.elsewhere other differs) ∙ stands) in omega (arith, was)
-      ]);
-  slot = λ other row stands.
-      rw (is, slots_written-added log (Write txn rid (Some cells)) other.page) (elim (rid_cases rid other) [
-        | inl same ↦ rw same (rw (end_here rid.page rid.slot txn (Some cells)) (omega arith))
-        | inr differs ↦ let was = inside.slot other row (sym (adds.elsewhere other differs) ∙ stands) in omega (arith, was)
-      ]);
+-- a RID that a transaction wrote is on a page that is, in a slot that is
+pub written_inside : (log : List LogRec) (txn : ℕ) (rid : Rid) → wrote log txn rid ≡ true → (rid.page < pages_written log) × (rid.slot < slots_written log rid.page)
+written_inside [] txn rid e = absurd (false≢true e)
+written_inside (rec ∷ log) txn rid e = elim (or_cases (writes txn rid rec) (wrote log txn rid) e) [
+  | inl here ↦ written_here rec txn rid here (pages_written log) (slots_written log rid.page)
+  | inr there ↦ let rest = written_inside log txn rid there in (omega (arith, rest.0), omega (arith, rest.1))
+] where
+  written_here : (rec : LogRec) (txn : ℕ) (rid : Rid) → writes txn rid rec ≡ true → (m n : ℕ) → (rid.page < max (page_end rec) m) × (rid.slot < max (slot_end rid.page rec) n)
+  written_here (Write w r row) txn rid e m n =
+      let same : r ≡ rid = same_rid_is r rid (and_parts (w == txn) (same_rid r rid) e).1 in
+      let page : r.page ≡ rid.page = ap (λ (x : Rid). x.page) same in
+      let slot : r.slot ≡ rid.slot = ap (λ (x : Rid). x.slot) same in
+      let test : (r.page == rid.page) ≡ true = eq-eqb r.page rid.page page in
+      (omega (arith, page), rw test (omega (arith, slot)))
+  written_here (Undo t k) txn rid e m n = absurd (false≢true e)
+  written_here (Commit t) txn rid e m n = absurd (false≢true e)
+  written_here (Switch o) txn rid e m n = absurd (false≢true e)
+
+-- somebody wrote where a row stands
+pub live_written : (log : List LogRec) (rid : Rid) (cells : List Cell) → live_at log rid ≡ Some cells → (txn : ℕ) × (wrote log txn rid ≡ true)
+live_written log rid cells stands = by (newest_at log rid) refl stands where
+  writer : (rec : Option LogRec) → is_write_at rid rec ≡ true → (txn : ℕ) × (is_write_of txn rec ≡ true)
+  writer None e = absurd (false≢true e)
+  writer (Some (Write t r row)) e = (t, eq-eqb t t refl)
+  writer (Some (Undo t k)) e = absurd (false≢true e)
+  writer (Some (Commit t)) e = absurd (false≢true e)
+  writer (Some (Switch o)) e = absurd (false≢true e)
+
+  by : (o : Option ℕ) → newest_at log rid ≡ o → row_at log o ≡ Some cells → (txn : ℕ) × (wrote log txn rid ≡ true)
+  by None e none = absurd (cc)
+  by (Some n) e some =
+      let last : IsLast (stands_at log rid) (length log + 1) n = last_below_some (stands_at log rid) (length log + 1) n e in
+      let there = (and_parts (is_write_at rid (record_at log n)) (not (undone log n)) last.passes).0 in
+      let w = writer (record_at log n) there in
+      (w.0, wrote_from log w.0 rid n w.1 there)
+
+pub rows_are_inside : (log : List LogRec) → RowsAreInside log
+rows_are_inside log = record {
+  page = λ rid cells stands. let w = live_written log rid cells stands in (written_inside log w.0 rid w.1).0;
+  slot = λ rid cells stands. let w = live_written log rid cells stands in (written_inside log w.0 rid w.1).1;
 }
 
-pub fit_added :
-    (kinds : List Kind) (log new : List LogRec) (rid : Rid) (cells : List Cell) → IsRow cells → fits kinds cells ≡ true
-    → AddsRow log rid cells new → RowsFit kinds log → RowsFit kinds new
-fit_added kinds log new rid cells is_row fitting adds fit = record {
-  is_row = λ other row stands. elim (rid_cases rid other) [
-    | inl same ↦ subst IsRow (same_Some cells row (sym adds.here ∙ (ap (live_at new) (sym same) ∙ stands))) is_row
-    | inr differs ↦ fit.is_row other row (sym (adds.elsewhere other differs) ∙ stands)
-  ];
-  fitting = λ other row stands. elim (rid_cases rid other) [
-    | inl same ↦
-        subst (λ (r : List Cell). fits kinds r ≡ true) (same_Some cells row (sym adds.here ∙ (ap (live_at new) (sym same) ∙ stands))) fitting
-    | inr differs ↦ fit.fitting other row (sym (adds.elsewhere other differs) ∙ stands)
-  ];
-}
+-- nothing is where nobody wrote
+pub unwritten_slot : (log : List LogRec) (rid : Rid) → ((txn : ℕ) → wrote log txn rid ≡ true → ⊥) → slot_of log rid ≡ free
+unwritten_slot log rid never =
+    let live : live_at log rid ≡ None = elim (some_or_none (live_at log rid)) [
+      | inl none ↦ none
+      | inr some ↦ let w = live_written log rid some.0 some.1 in absurd (never w.0 w.1)
+    ] in
+    let nobody : holder log rid ≡ None = elim (some_or_none (holder log rid)) [
+      | inl none ↦ none
+      | inr some ↦ absurd (never some.0 (holder_wrote log rid some.0 some.1).1)
+    ] in
+    rw (nobody, live) refl
+
+pub slot_past : (log : List LogRec) (rid : Rid) → slots_written log rid.page ≤ rid.slot → slot_of log rid ≡ free
+slot_past log rid past = unwritten_slot log rid (λ txn e. let inside = (written_inside log txn rid e).1 in absurd (omega (arith, inside, past)))
+
+-- a free slot has no row and no holder
+pub slot_free : (log : List LogRec) (rid : Rid) → slot_of log rid ≡ free → (live_at log rid ≡ None) × (holder log rid ≡ None)
+slot_free log rid e = by (live_at log rid) (holder log rid) _ e where
+  by : (cells : Option (List Cell)) (h : Option ℕ) (reserve : ℕ) → slot_with cells h reserve ≡ free → (cells ≡ None) × (h ≡ None)
+  by None None reserve f = (refl, refl)
+  by None (Some txn) reserve f = absurd (cc)
+  by (Some cells) h reserve f = absurd (cc)

@@ -1,5 +1,5 @@
 -- The table as its callers see it: its log and its open transactions; and what each call does, or why it is refused.
-use Rattle.std.specs.Prelude.{ℕ, ◌+◌, Bool, false, ◌&&◌, not, ◌==◌, ◌||◌, nat_lt, nat_le, min, if◌then◌else◌, List, [], ◌∷◌, ◌++◌, length, map, filter, position, is_some, Option, Some, None}
+use Rattle.std.specs.Prelude.{ℕ, ◌+◌, Bool, true, false, ◌&&◌, not, ◌==◌, ◌||◌, nat_lt, nat_le, min, max, ◌-◌, if◌then◌else◌, List, [], ◌∷◌, ◌++◌, length, map, filter, position, is_some, Option, Some, None}
 use Rattle.std.specs.List.{list_any, range_with_len}
 use Rattle.keybytes.specs.Faults.{first_cause}
 use Rattle.keybytes.specs.Rows.{row_bytes, shape_refusal}
@@ -7,11 +7,13 @@ use Rattle.keybytes.specs.declared.cell.Cell.{Cell}
 use Rattle.keybytes.specs.declared.kind.Kind.{Kind}
 use Rattle.keybytes.specs.declared.rid.Rid.{Rid}
 use Rattle.keybytes.specs.declared.fault.Fault.{Fault}
-use Rattle.keybytes.specs.declared.fault.Fault.TheVariants.{NoSuchTxn, TxnEnding, TooManyTxns, TableFull, BadCount, NoSuchRow}
+use Rattle.keybytes.specs.declared.fault.Fault.TheVariants.{NoSuchTxn, TxnEnding, TooManyTxns, TableFull, BadCount, NoSuchRow, RowHeld, PageFull}
 use Rattle.heap_log.specs.declared.outcome.Outcome.{Outcome}
 use Rattle.heap_log.specs.declared.record.LogRec.{LogRec}
-use Rattle.heap_log.specs.declared.record.LogRec.TheVariants.{Write, Commit, Switch}
-use Rattle.slotted_page.specs.Page.{PageValue, room_for}
+use Rattle.heap_log.specs.declared.record.LogRec.TheVariants.{Write, Undo, Commit, Switch}
+use Rattle.heap_log.specs.Standing.{live_at, standing_count}
+use Rattle.slotted_page.specs.Page.{PageValue, room_for, fits_at}
+use Rattle.heap_table.specs.Holders.{holder}
 use Rattle.heap_table.specs.Pages.{page_slots, pages_written, rid_at}
 use Rattle.heap_table.specs.declared.open_txn.OpenTxn.{OpenTxn}
 
@@ -28,6 +30,8 @@ pub record HeapState : Type 0 where
   pub begun : ℕ
   -- how often rows were given out
   pub visits : ℕ
+  -- how many records can be added without taking memory
+  pub room : ℕ
 
 -- whether a table may have so many slots a page and so many pages
 abbrev pub are_limits : ℕ → ℕ → Bool
@@ -37,7 +41,7 @@ abbrev pub limits_refusal : ℕ → ℕ → Option Fault
 limits_refusal slots pages = if are_limits slots pages then None else Some BadCount
 
 abbrev pub empty_heap : List Kind → ℕ → ℕ → HeapState
-empty_heap schema slots pages = record { schema = schema; slot_limit = slots; page_limit = pages; log = []; active = []; begun = 0; visits = 0 }
+empty_heap schema slots pages = record { schema = schema; slot_limit = slots; page_limit = pages; log = []; active = []; begun = 0; visits = 0; room = 0 }
 
 abbrev pub is_open : List OpenTxn → ℕ → Bool
 is_open active txn = list_any (λ t. t.txn == txn) active
@@ -91,22 +95,86 @@ abbrev pub row_missing : Option (List Cell) → Option Fault
 row_missing None = Some NoSuchRow
 row_missing (Some cells) = None
 
+-- why a transaction may not change a RID: another one holds it
+abbrev pub held_refusal : ℕ → Option ℕ → Option Fault
+held_refusal txn None = None
+held_refusal txn (Some other) = if other == txn then None else Some (RowHeld other)
+
+-- why a row of so many bytes does not fit where a row stands
+abbrev pub growth_refusal : HeapState → Rid → ℕ → Option Fault
+growth_refusal s rid size = if fits_at (page_of s rid.page) rid.slot size then None else Some PageFull
+
+-- why a delete is refused
+abbrev pub delete_refusal : HeapState → ℕ → Rid → Option Fault
+delete_refusal s txn rid =
+    first_cause (txn_refusal s txn) (first_cause (held_refusal txn (holder s.log rid)) (row_missing (live_at s.log rid)))
+
+-- why an update is refused
+abbrev pub update_refusal : HeapState → ℕ → Rid → List Cell → Option Fault
+update_refusal s txn rid cells =
+    first_cause (txn_refusal s txn)
+    (first_cause (shape_refusal s.schema cells)
+    (first_cause (held_refusal txn (holder s.log rid))
+    (first_cause (row_missing (live_at s.log rid)) (growth_refusal s rid (length (row_bytes cells))))))
+
+-- why no write of a transaction is undone
+abbrev pub undo_refusal : HeapState → ℕ → Option Fault
+undo_refusal s txn = if is_open s.active txn then None else Some NoSuchTxn
+
 abbrev pub without : ℕ → List OpenTxn → List OpenTxn
 without txn active = filter (λ t. not (t.txn == txn)) active
+
+-- the open transaction, marked as ending if it is that one
+abbrev pub mark : ℕ → OpenTxn → OpenTxn
+mark txn t = if t.txn == txn then record t { ending = true } else t
 
 -- what the calls leave
 abbrev pub after_begin : HeapState → HeapState
 after_begin s = record s { active = s.active ++ record { txn = s.begun + 1; ending = false } ∷ []; begun = s.begun + 1 }
 
+-- a record more, which takes up room if there was some
+abbrev pub logged : HeapState → LogRec → HeapState
+logged s rec = record s { log = s.log ++ rec ∷ []; room = s.room - 1 }
+
 abbrev pub after_write : HeapState → ℕ → Rid → Option (List Cell) → HeapState
-after_write s txn rid cells = record s { log = s.log ++ Write txn rid cells ∷ [] }
+after_write s txn rid cells = logged s (Write txn rid cells)
 
 abbrev pub after_commit : HeapState → ℕ → HeapState
-after_commit s txn = record s { log = s.log ++ Commit txn ∷ []; active = without txn s.active }
+after_commit s txn = record s { log = s.log ++ Commit txn ∷ []; room = s.room - 1; active = without txn s.active }
 
 abbrev pub after_switch : HeapState → List Outcome → HeapState
-after_switch s verdicts = record s { log = s.log ++ Switch verdicts ∷ [] }
+after_switch s verdicts = logged s (Switch verdicts)
+
+-- the open transactions once so many writes of that one are left
+abbrev pub still_open : ℕ → ℕ → List OpenTxn → List OpenTxn
+still_open txn left active = if left == 0 then without txn active else map (mark txn) active
+
+-- the transaction's write of that number is undone; with its last one the transaction ends
+abbrev pub after_undo : HeapState → ℕ → ℕ → HeapState
+after_undo s txn n = record s {
+  log = s.log ++ Undo txn n ∷ [];
+  room = s.room - 1;
+  active = still_open txn (standing_count (s.log ++ Undo txn n ∷ []) txn) s.active;
+}
+
+-- an undo step of a transaction whose newest standing write is that one; one without a write just ends
+abbrev pub after_step : HeapState → ℕ → Option ℕ → HeapState
+after_step s txn None = record s { active = without txn s.active }
+after_step s txn (Some n) = after_undo s txn n
+
+-- the number of the record that an undo step adds, and how many writes still stand
+abbrev pub undone_number : HeapState → Option ℕ → ℕ
+undone_number s None = 0
+undone_number s (Some n) = length s.log + 1
+
+-- the memory for one more record is there
+abbrev pub with_room : HeapState → HeapState
+with_room s = record s { room = max s.room 1 }
 
 -- the counter stays at its greatest value
 abbrev pub after_visit : HeapState → HeapState
 after_visit s = record s { visits = min (s.visits + 1) 18446744073709551615 }
+
+-- the open transactions with a write that stands
+abbrev pub busy_txns : HeapState → List OpenTxn
+busy_txns s = filter (λ t. nat_lt 0 (standing_count s.log t.txn)) s.active

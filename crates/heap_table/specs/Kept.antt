@@ -1,26 +1,34 @@
 -- What a table keeps between its calls.
-use Rattle.std.specs.Prelude.{◌≡◌, ◌<◌, ◌≤◌, true, List, Some}
+use Rattle.std.specs.Prelude.{◌≡◌, ◌<◌, ◌≤◌, ℕ, true, List, Some}
 use Rattle.keybytes.specs.Cells.{fits}
 use Rattle.keybytes.specs.Rows.{IsRow}
 use Rattle.keybytes.specs.declared.cell.Cell.{Cell}
 use Rattle.keybytes.specs.declared.kind.Kind.{Kind}
 use Rattle.keybytes.specs.declared.rid.Rid.{Rid}
 use Rattle.heap_log.specs.declared.record.LogRec.{LogRec}
-use Rattle.heap_log.specs.Standing.{live_at}
-use Rattle.slotted_page.specs.Page.{PageValue}
+use Rattle.heap_log.specs.Standing.{record_at, row_of, live_at}
 use Rattle.heap_table.specs.HeapState.{HeapState, table_pages, are_limits}
-use Rattle.heap_table.specs.Pages.{pages_written, RowsAreInside}
+use Rattle.heap_table.specs.PageLists.{PagesValue}
+use Rattle.heap_table.specs.Pages.{pages_written}
+use Rattle.heap_table.specs.Sound.{IsSound, UndoFits}
 
 -- every row that stands is a row of these columns
 pub record RowsFit (kinds : List Kind) (log : List LogRec) : Type 0 where
   pub is_row : (rid : Rid) (cells : List Cell) → live_at log rid ≡ Some cells → IsRow cells
   pub fitting : (rid : Rid) (cells : List Cell) → live_at log rid ≡ Some cells → fits kinds cells ≡ true
 
--- the pages are those that the log tells, and every row that stands fits the columns
-pub record IsKept (s : HeapState) (pages : List PageValue) : Type 0 where
-  pub pages_are : pages ≡ table_pages s
-  pub rows_fit : RowsFit s.schema s.log
-  pub inside : RowsAreInside s.log
+-- so is every row that was written
+abbrev pub WritesFit : List Kind → List LogRec → Type 0
+WritesFit kinds log = (n : ℕ) (cells : List Cell) → row_of (record_at log n) ≡ Some cells → IsRow cells × (fits kinds cells ≡ true)
+
+-- the pages are those that the log tells, and there is room for that many records more
+pub record IsKept (s : HeapState) (pages : PagesValue) : Type 0 where
+  pub pages_are : pages.pages ≡ table_pages s
+  pub limit : pages.limit ≡ s.slot_limit
+  pub room : s.room ≤ pages.spare
+  pub writes_fit : WritesFit s.schema s.log
+  pub sound : IsSound s
+  pub undo_fits : UndoFits s.log
   pub limits : are_limits s.slot_limit s.page_limit ≡ true
   pub slots_below : s.slot_limit < 256
   pub within : pages_written s.log ≤ s.page_limit

@@ -1,5 +1,9 @@
 pub mod HeapState
+pub mod Holders
 pub mod Images
 pub mod Kept
+pub mod PageLists
 pub mod Pages
-pub mod Placing
+pub mod Ready
+pub mod Rooms
+pub mod Sound

@@ -1,5 +1,5 @@
 -- The pages of a table, as its log tells them: how many there are, and what their slots hold.
-use Rattle.std.specs.Prelude.{◌≡◌, ◌≢◌, ◌<◌, ℕ, ◌+◌, ◌==◌, max, if◌then◌else◌, List, [], ◌∷◌, length, map, Option, Some, None}
+use Rattle.std.specs.Prelude.{◌≡◌, ◌≢◌, ◌<◌, ℕ, ◌+◌, ◌==◌, max, if◌then◌else◌, List, [], ◌∷◌, map, Option, Some, None}
 use Rattle.std.specs.List.{range_with_len, filter_map}
 use Rattle.std.specs.Option.{option_map}
 use Rattle.keybytes.specs.Rows.{row_bytes}
@@ -8,7 +8,8 @@ use Rattle.keybytes.specs.declared.rid.Rid.{Rid}
 use Rattle.heap_log.specs.declared.record.LogRec.{LogRec}
 use Rattle.heap_log.specs.declared.record.LogRec.TheVariants.{Write, Undo, Commit, Switch}
 use Rattle.heap_log.specs.Standing.{live_at}
-use Rattle.slotted_page.specs.Slot.{Slot, free, row}
+use Rattle.heap_table.specs.Holders.{holder, room_held_by}
+use Rattle.slotted_page.specs.Slot.{Slot, free, held, row}
 
 abbrev pub rid_at : ℕ → ℕ → Rid
 rid_at page slot = record { page = page; slot = slot }
@@ -37,23 +38,19 @@ abbrev pub pages_written : List LogRec → ℕ
 pages_written [] = 0
 pages_written (rec ∷ log) = max (page_end rec) (pages_written log)
 
--- the bytes of a row, if there is one
-abbrev pub row_size : Option (List Cell) → ℕ
-row_size None = 0
-row_size (Some cells) = length (row_bytes cells)
+-- the slot of a RID with that row, if any, that holder, if any, and that reserve
+abbrev pub slot_with : Option (List Cell) → Option ℕ → ℕ → Slot
+slot_with None None reserve = free
+slot_with None (Some txn) reserve = held reserve
+slot_with (Some cells) holder reserve = row (row_bytes cells) reserve
 
--- the bytes that a RID keeps on its page: those of the row that stands there
-abbrev pub room_needed : List LogRec → Rid → ℕ
-room_needed log rid = row_size (live_at log rid)
+-- what the slot of a RID has under that holder
+abbrev pub slot_under : Option ℕ → List LogRec → Rid → Slot
+slot_under holder log rid = slot_with (live_at log rid) holder (room_held_by holder log rid)
 
--- a slot with that row, if any, and that reserve
-abbrev pub slot_with : Option (List Cell) → ℕ → Slot
-slot_with None reserve = free
-slot_with (Some cells) reserve = row (row_bytes cells) reserve
-
--- what the slot of a RID holds
+-- what the slot of a RID has
 abbrev pub slot_of : List LogRec → Rid → Slot
-slot_of log rid = slot_with (live_at log rid) (room_needed log rid)
+slot_of log rid = slot_under (holder log rid) log rid
 
 -- the slots of a page, from slot 0 on
 abbrev pub page_slots : List LogRec → ℕ → List Slot
@@ -73,9 +70,9 @@ pub record KeepsRows (old new : List LogRec) : Type 0 where
   pub pages : pages_written new ≡ pages_written old
   pub slots : (page : ℕ) → slots_written new page ≡ slots_written old page
 
--- one row more stands, at that RID
-pub record AddsRow (old : List LogRec) (rid : Rid) (cells : List Cell) (new : List LogRec) : Type 0 where
-  pub here : live_at new rid ≡ Some cells
+-- at that RID that row stands, or none, and elsewhere the same rows do
+pub record SetsRow (old : List LogRec) (rid : Rid) (cells : Option (List Cell)) (new : List LogRec) : Type 0 where
+  pub here : live_at new rid ≡ cells
   pub elsewhere : (other : Rid) → other ≢ rid → live_at new other ≡ live_at old other
 
 -- a row stands only where a write put one

@@ -19,58 +19,88 @@ fn rid(page: u32, slot: u16) -> Rid {
     Rid { page, slot }
 }
 
-#[test]
-fn rows_in_pages(rt: HostRuntime) -> Result<(), Fail> {
-    let alloc = rt.alloc();
-    let mut heap = numbers(alloc, 2, 2)?;
-    assert_eq!(rt; heap.schema().kinds().len(), 1);
+/// A table with the row 5 at 0.0, by transaction 1, which is open.
+fn one_row(alloc: Global) -> Result<Heap, Fault> {
+    let mut heap = numbers(alloc, 1, 1)?;
     let txn = heap.begin()?;
-    assert_eq!(rt; txn, 1);
-    assert_eq!(rt; heap.insert(txn, row(alloc, 5)?)?, (1, rid(0, 0)));
-    assert_eq!(rt; heap.insert(txn, row(alloc, 3)?)?, (2, rid(0, 1)));
-    assert_eq!(rt; heap.insert(txn, row(alloc, 7)?)?, (3, rid(1, 0)));
-    assert_eq!(rt; heap.pages(), 2);
-    assert_eq!(rt; heap.commit(txn)?, 4);
-    assert_eq!(rt; heap.note(Vec::new(alloc))?, 5);
-    assert_eq!(rt; heap.visits(), 0);
-    assert!(rt; matches!(heap.get(rid(0, 1))?.cells(), [Cell::Int(3)]));
-    let rows = heap.page_rows(0)?;
-    assert_eq!(rt; rows.len(), 2);
-    assert_eq!(rt; heap.log().len(), 5);
-    assert_eq!(rt; heap.visits(), 3);
+    let _written = heap.insert(txn, row(alloc, 5)?)?;
+    Ok(heap)
+}
+
+#[test]
+fn records_of_the_log(rt: HostRuntime) -> Result<(), Fail> {
+    let alloc = rt.alloc();
+    let mut heap = one_row(alloc)?;
+    assert_eq!(rt; heap.commit(1)?, 2);
+    assert_eq!(rt; heap.note(Vec::new(alloc))?, 3);
+    assert_eq!(rt; heap.log().len(), 3);
     Ok(())
 }
 
 #[test]
-fn refusals(rt: HostRuntime) -> Result<(), Fail> {
+fn reads_are_visits(rt: HostRuntime) -> Result<(), Fail> {
+    let mut heap = one_row(rt.alloc())?;
+    assert!(rt; matches!(heap.get(rid(0, 0))?.cells(), [Cell::Int(5)]));
+    assert_eq!(rt; heap.get(rid(0, 1)).err(), Some(Fault::NoSuchRow));
+    assert_eq!(rt; heap.visits(), 1);
+    Ok(())
+}
+
+#[test]
+fn refused_tables(rt: HostRuntime) -> Result<(), Fail> {
     let alloc = rt.alloc();
     assert_eq!(rt; numbers(alloc, 0, 1).err(), Some(Fault::BadCount));
     assert_eq!(rt; numbers(alloc, 1, 65_537).err(), Some(Fault::BadCount));
-    let mut heap = numbers(alloc, 1, 1)?;
-    assert_eq!(rt;
-        heap.insert(1, row(alloc, 5)?).err(),
-        Some(Fault::NoSuchTxn)
-    );
-    let txn = heap.begin()?;
+    Ok(())
+}
+
+#[test]
+fn refused_inserts(rt: HostRuntime) -> Result<(), Fail> {
+    let alloc = rt.alloc();
+    let mut heap = one_row(alloc)?;
+    let closed = heap.insert(2, row(alloc, 5)?).err();
+    assert_eq!(rt; closed, Some(Fault::NoSuchTxn));
     let mut cells = Vec::new(alloc);
     cells.push(Cell::Flag(true))?;
-    assert_eq!(rt;
-        heap.insert(txn, Row::new(cells)?).err(),
-        Some(Fault::RowShape)
-    );
-    heap.insert(txn, row(alloc, 5)?)?;
-    assert_eq!(rt;
-        heap.insert(txn, row(alloc, 6)?).err(),
-        Some(Fault::TableFull)
-    );
-    assert_eq!(rt; heap.get(rid(0, 1)).err(), Some(Fault::NoSuchRow));
-    for _ in 0..63 {
+    let shape = heap.insert(1, Row::new(cells)?).err();
+    assert_eq!(rt; shape, Some(Fault::RowShape));
+    let full = heap.insert(1, row(alloc, 6)?).err();
+    assert_eq!(rt; full, Some(Fault::TableFull));
+    Ok(())
+}
+
+#[test]
+fn refused_begins(rt: HostRuntime) -> Result<(), Fail> {
+    let mut heap = numbers(rt.alloc(), 1, 1)?;
+    for _ in 0..64 {
         heap.begin()?;
     }
     assert_eq!(rt; heap.begin().err(), Some(Fault::TooManyTxns));
-    heap.commit(txn)?;
+    heap.commit(1)?;
     assert_eq!(rt; heap.begin()?, 65);
-    assert_eq!(rt; heap.commit(txn).err(), Some(Fault::NoSuchTxn));
+    assert_eq!(rt; heap.commit(1).err(), Some(Fault::NoSuchTxn));
+    Ok(())
+}
+
+#[test]
+fn an_undo_made_ready(rt: HostRuntime) -> Result<(), Fail> {
+    let mut heap = one_row(rt.alloc())?;
+    assert_eq!(rt; heap.busy(), 1);
+    if let Some(ready) = heap.ready_undo(1)? {
+        let undone = heap.perform(ready);
+        assert_eq!(rt; undone, Performed::Undone(Undone { number: 2, left: 0 }));
+    }
+    assert_eq!(rt; heap.busy(), 0);
+    Ok(())
+}
+
+#[test]
+fn changes_and_their_undo(rt: HostRuntime) -> Result<(), Fail> {
+    let alloc = rt.alloc();
+    let mut heap = one_row(alloc)?;
+    assert_eq!(rt; heap.update(1, rid(0, 0), row(alloc, 6)?)?, (2, rid(0, 0)));
+    assert_eq!(rt; heap.delete(1, rid(0, 0))?, (3, rid(0, 0)));
+    assert_eq!(rt; heap.undo_step(1)?, Undone { number: 4, left: 2 });
     Ok(())
 }
 

@@ -1,0 +1,65 @@
+-- Small facts that several files use.
+use Rattle.std.proofs.Common.{◌≡◌, ◌≢◌, ◌⊎◌, inl, inr, ℕ, max, Bool, true, false, Option, Some, None, refl, sym, ap, ◌∙◌, arith}
+use Rattle.std.specs.Prelude.{◌||◌, ◌&&◌}
+use Rattle.std.proofs.lemmas.Bool.{cases_Bool, false≢true}
+use Rattle.std.proofs.lemmas.Bool.Decides.{nat_tests}
+use Rattle.keybytes.specs.declared.rid.Rid.{Rid}
+use Rattle.heap_log.specs.Standing.{same_rid}
+
+pub or_false : (b : Bool) → (b || false) ≡ b
+or_false true = refl
+or_false false = refl
+
+pub or_true : (b : Bool) → (b || true) ≡ true
+or_true true = refl
+or_true false = refl
+
+pub and_true : (b : Bool) → (b && true) ≡ b
+and_true true = refl
+and_true false = refl
+
+pub and_false : (b : Bool) → (b && false) ≡ false
+and_false true = refl
+and_false false = refl
+
+pub or_left : (a b : Bool) → a ≡ true → (a || b) ≡ true
+or_left a b e = rw e refl
+
+pub or_right : (a b : Bool) → b ≡ true → (a || b) ≡ true
+or_right true b e = refl
+or_right false b e = e
+
+pub max_zero : (a : ℕ) → max a 0 ≡ a
+max_zero a = omega arith
+
+pub max_turned : (a b c : ℕ) → max a (max b c) ≡ max (max a b) c
+max_turned a b c = omega arith
+
+pub some_or_none : {A : Type 0} (o : Option A) → (o ≡ None) ⊎ ((x : A) × (o ≡ Some x))
+some_or_none None = inl refl
+some_or_none (Some x) = inr (x, refl)
+
+pub none_some : {A : Type 0} (x : A) → None ≡ Some x → ⊥
+none_some x f = cc
+
+pub same_rid_self : (rid : Rid) → same_rid rid rid ≡ true
+same_rid_self rid = grind (arith, nat_tests)
+
+pub same_rid_is : (a b : Rid) → same_rid a b ≡ true → a ≡ b
+same_rid_is a b e =
+    let page : a.page ≡ b.page = grind (arith, nat_tests, e) in
+    let slot : a.slot ≡ b.slot = grind (arith, nat_tests, e) in
+    ap (λ (p : ℕ). let r : Rid = record { page = p; slot = a.slot } in r) page
+    ∙ ap (λ (q : ℕ). let r : Rid = record { page = b.page; slot = q } in r) slot
+
+pub same_rid_other : (a b : Rid) → b ≢ a → same_rid a b ≡ false
+same_rid_other a b other = elim (cases_Bool (same_rid a b)) [
+  | inl same ↦ absurd (other (sym (same_rid_is a b same)))
+  | inr differs ↦ differs
+]
+
+pub rid_cases : (a b : Rid) → (b ≡ a) ⊎ (b ≢ a)
+rid_cases a b = elim (cases_Bool (same_rid a b)) [
+  | inl same ↦ inl (sym (same_rid_is a b same))
+  | inr differs ↦ inr (λ e. false≢true (sym differs ∙ (ap (same_rid a) e ∙ same_rid_self a)))
+]

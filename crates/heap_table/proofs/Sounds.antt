@@ -1,0 +1,332 @@
+-- A table stays sound.
+use Rattle.std.proofs.Common.{◌≡◌, ◌≢◌, ◌⊎◌, inl, inr, ℕ, zero, suc, ◌+◌, ◌<◌, ◌≤◌, Bool, true, false, List, [], ◌∷◌, ◌++◌, length, Option, Some, None, refl, sym, ap, ◌∙◌, subst, arith, length-append}
+use Rattle.std.specs.Prelude.{◌||◌, ◌&&◌, not, nat_lt, ◌==◌, if◌then◌else◌}
+use Rattle.std.proofs.lemmas.Bool.{cases_Bool, cases_eq, cases_lt, false≢true, eqb-true, eq-eqb, ne_eqb, or_cases, and_parts}
+use Rattle.std.proofs.lemmas.Bool.Decides.{nat_tests}
+use Rattle.keybytes.specs.declared.cell.Cell.{Cell}
+use Rattle.keybytes.specs.declared.fault.Fault.TheVariants.{RowHeld}
+use Rattle.keybytes.specs.declared.rid.Rid.{Rid}
+use Rattle.heap_log.specs.declared.outcome.Outcome.{Outcome}
+use Rattle.heap_log.specs.declared.record.LogRec.{LogRec}
+use Rattle.heap_log.specs.declared.record.LogRec.TheVariants.{Write, Undo, Commit, Switch}
+use Rattle.heap_log.specs.Standing.{record_at, is_write_of, is_write_at, same_rid, stands_of, newest_standing, standing_count, count_below, AddsToStanding, AddsToNumbers}
+use Rattle.heap_log.proofs.Last.{last_below_none}
+use Rattle.heap_log.proofs.Numbers.{write_at, newest_standing-of}
+use Rattle.heap_table.specs.HeapState.{HeapState, is_open, held_refusal, without, still_open}
+use Rattle.heap_table.specs.Holders.{writes, wrote, is_commit_of, committed, is_busy, holder}
+use Rattle.heap_table.specs.Sound.{IsSound}
+use Rattle.heap_table.proofs.Holding.{holder_is}
+use Rattle.heap_table.proofs.OpenOnes.{open_without_self, open_without_other, open_marked, open_begun, open_still_other}
+use Rattle.heap_table.proofs.Writers.{HasWrite, wrote_from, wrote-added, committed-added, one_writer}
+use Rattle.heap_table.proofs.Small.{and_false, and_true, or_false, or_true, same_rid_is}
+
+-- a record may be added: its transaction was begun, no other open one has a write at its RID, and the open
+-- transactions among those that wrote are the busy ones then
+pub record MayAdd (s : HeapState) (rec : LogRec) (t : HeapState) : Type 0 where
+  pub known : (txn : ℕ) (rid : Rid) → writes txn rid rec ≡ true → txn ≤ s.begun
+  pub commits : (txn : ℕ) → is_commit_of txn rec ≡ true → (txn ≤ s.begun) × (is_open t.active txn ≡ false)
+  pub alone : (txn : ℕ) (rid : Rid) → is_open s.active txn ≡ true → is_write_at rid (Some rec) ≡ true → HasWrite s.log txn rid → is_write_of txn (Some rec) ≡ true
+  pub busy : (txn : ℕ) (rid : Rid) → wrote t.log txn rid ≡ true → is_busy t.log txn ≡ is_open t.active txn
+
+pub wrote_then : (log new : List LogRec) (rec : LogRec) (txn : ℕ) (rid : Rid) → new ≡ log ++ rec ∷ [] → wrote new txn rid ≡ (wrote log txn rid || writes txn rid rec)
+wrote_then log new rec txn rid is = ap (λ (l : List LogRec). wrote l txn rid) is ∙ wrote-added log rec txn rid
+
+pub committed_then : (log new : List LogRec) (rec : LogRec) (txn : ℕ) → new ≡ log ++ rec ∷ [] → committed new txn ≡ (committed log txn || is_commit_of txn rec)
+committed_then log new rec txn is = ap (λ (l : List LogRec). committed l txn) is ∙ committed-added log rec txn
+
+sound_added :
+    (s t : HeapState) (rec : LogRec) → IsSound s → t.log ≡ s.log ++ rec ∷ [] → t.begun ≡ s.begun → AddsToNumbers s.log rec t.log
+    → ((txn : ℕ) → is_open t.active txn ≡ true → is_open s.active txn ≡ true) → MayAdd s rec t → IsSound t
+sound_added s t rec h is begun numbers fewer may =
+    let count : length t.log ≡ length s.log + 1 = ap length is ∙ length-append s.log (rec ∷ []) in
+    record {
+      writers = λ txn rid e. elim (or_cases (wrote s.log txn rid) (writes txn rid rec) (sym (wrote_then s.log t.log rec txn rid is) ∙ e)) [
+        | inl old ↦ rw begun (h.writers txn rid old)
+        | inr new ↦ rw begun (may.known txn rid new)
+      ];
+      committers = λ txn e. elim (or_cases (committed s.log txn) (is_commit_of txn rec) (sym (committed_then s.log t.log rec txn is) ∙ e)) [
+        | inl old ↦ rw begun (h.committers txn old)
+        | inr new ↦ rw begun (may.commits txn new).0
+      ];
+      openers = λ txn e. rw begun (h.openers txn (fewer txn e));
+      uncommitted = λ txn e. elim (cases_Bool (is_commit_of txn rec)) [
+        | inl new ↦ absurd (false≢true (sym (may.commits txn new).1 ∙ e))
+        | inr none ↦ committed_then s.log t.log rec txn is ∙ both (committed s.log txn) (is_commit_of txn rec) (h.uncommitted txn (fewer txn e)) none
+      ];
+      busy = may.busy;
+      held = λ txn n m rid e l by there at.
+          let within = write_at t.log rid m at in
+          let n_is : record_at t.log n ≡ record_at s.log n = numbers.earlier n (omega (arith, within.high, count, l)) in
+          elim (cases_lt (length s.log) m) [
+            | inl last ↦
+                let m_is : m ≡ length s.log + 1 = omega (arith, within.high, count, last) in
+                let m_rec : record_at t.log m ≡ Some rec = ap (record_at t.log) m_is ∙ numbers.here in
+                let has : HasWrite s.log txn rid = record { number = n; by = ap (is_write_of txn) (sym n_is) ∙ by; there = ap (is_write_at rid) (sym n_is) ∙ there } in
+                ap (is_write_of txn) m_rec ∙ may.alone txn rid (fewer txn e) (ap (is_write_at rid) (sym m_rec) ∙ at) has
+            | inr old ↦
+                let m_is : record_at t.log m ≡ record_at s.log m = numbers.earlier m (omega (arith, old)) in
+                ap (is_write_of txn) m_is ∙ h.held txn n m rid (fewer txn e) l (ap (is_write_of txn) (sym n_is) ∙ by)
+                (ap (is_write_at rid) (sym n_is) ∙ there) (ap (is_write_at rid) (sym m_is) ∙ at)
+          ];
+    } where
+      both : (a b : Bool) → a ≡ false → b ≡ false → (a || b) ≡ false
+      both a b e f = rw (e, f) refl
+
+-- whether a transaction is busy, from what it is told by
+pub busy_from : (log : List LogRec) (txn count : ℕ) (ended : Bool) → standing_count log txn ≡ count → committed log txn ≡ ended → is_busy log txn ≡ (nat_lt 0 count && not ended)
+busy_from log txn count ended is_count is_ended = rw (is_count, is_ended) refl
+
+-- the transaction that writes next may: nobody else holds the RID
+unheld : (txn other : ℕ) → held_refusal txn (Some other) ≡ None → other ≡ txn
+unheld txn other e = elim (cases_Bool (other == txn)) [
+  | inl same ↦ eqb-true other txn same
+  | inr differs ↦ absurd (refused (sym (ap (λ (b : Bool). if b then None else Some (RowHeld other)) differs) ∙ e))
+] where
+  refused : Some (RowHeld other) ≡ None → ⊥
+  refused f = cc
+
+pub free_for : (s : HeapState) → IsSound s → (txn other : ℕ) (rid : Rid) → held_refusal txn (holder s.log rid) ≡ None → is_open s.active other ≡ true → wrote s.log other rid ≡ true → other ≡ txn
+free_for s h txn other rid free is has = unheld txn other (ap (held_refusal txn) (sym (holder_is s h rid other is has)) ∙ free)
+
+-- who is busy after a write
+pub busy_write :
+    (s t : HeapState) (txn : ℕ) (rid : Rid) (row : Option (List Cell)) → IsSound s → t.log ≡ s.log ++ Write txn rid row ∷ []
+    → AddsToStanding s.log (Write txn rid row) t.log → is_open s.active txn ≡ true → (other : ℕ)
+    → is_busy t.log other ≡ (if txn == other then true else is_busy s.log other)
+busy_write s t txn rid row h is standing opened other =
+    let ended : committed t.log other ≡ committed s.log other = committed_then s.log t.log (Write txn rid row) other is ∙ or_false (committed s.log other) in
+    elim (cases_Bool (txn == other)) [
+      | inl same ↦
+          let is_txn : txn ≡ other = eqb-true txn other same in
+          let count : standing_count t.log other ≡ standing_count s.log other + 1 = standing.count other ∙ rw same refl in
+          let fresh : committed s.log other ≡ false = ap (committed s.log) (sym is_txn) ∙ h.uncommitted txn opened in
+          busy_from t.log other (standing_count s.log other + 1) false count (ended ∙ fresh)
+          ∙ (let some : nat_lt 0 (standing_count s.log other + 1) ≡ true = grind (arith, nat_tests) in rw (some, same) refl)
+      | inr differs ↦
+          let count : standing_count t.log other ≡ standing_count s.log other = standing.count other ∙ rw differs refl in
+          busy_from t.log other (standing_count s.log other) (committed s.log other) count ended ∙ rw differs refl
+    ]
+
+pub sound_write :
+    (s t : HeapState) (txn : ℕ) (rid : Rid) (row : Option (List Cell)) → IsSound s → t.log ≡ s.log ++ Write txn rid row ∷ []
+    → t.active ≡ s.active → t.begun ≡ s.begun → AddsToNumbers s.log (Write txn rid row) t.log
+    → AddsToStanding s.log (Write txn rid row) t.log → is_open s.active txn ≡ true → held_refusal txn (holder s.log rid) ≡ None → IsSound t
+sound_write s t txn rid row h is active begun numbers standing opened free =
+    sound_added s t (Write txn rid row) h is begun numbers (λ u e. sym (ap (λ a. is_open a u) active) ∙ e) (record {
+      known = λ u place e.
+          let same : txn ≡ u = eqb-true txn u (and_parts (txn == u) (same_rid rid place) e).0 in
+          rw (sym same) (h.openers txn opened);
+      commits = λ u e. absurd (false≢true e);
+      alone = λ u place open_u at has.
+          let same : rid ≡ place = same_rid_is rid place at in
+          let by : wrote s.log u rid ≡ true = ap (wrote s.log u) same ∙ wrote_from s.log u place has.number has.by has.there in
+          eq-eqb txn u (sym (free_for s h txn u rid free open_u by));
+      busy = λ u place e.
+          busy_write s t txn rid row h is standing opened u ∙ (elim (cases_Bool (txn == u)) [
+            | inl same ↦ rw same (sym (ap (λ a. is_open a u) active ∙ (ap (is_open s.active) (sym (eqb-true txn u same)) ∙ opened)))
+            | inr differs ↦
+                let old : wrote s.log u place ≡ true = elim (or_cases (wrote s.log u place) (writes u place (Write txn rid row)) (sym (wrote_then s.log t.log (Write txn rid row) u place is) ∙ e)) [
+                  | inl old ↦ old
+                  | inr new ↦ absurd (false≢true (sym differs ∙ (and_parts (txn == u) (same_rid rid place) new).0))
+                ] in
+                rw differs (h.busy u place old ∙ sym (ap (λ a. is_open a u) active))
+          ]);
+    })
+
+-- who wrote where before a record that is no write
+wrote_same : (log new : List LogRec) (rec : LogRec) (txn : ℕ) (rid : Rid) → new ≡ log ++ rec ∷ [] → writes txn rid rec ≡ false → wrote new txn rid ≡ wrote log txn rid
+wrote_same log new rec txn rid is none = wrote_then log new rec txn rid is ∙ rw none (or_false (wrote log txn rid))
+
+-- who is busy after a commit
+pub busy_commit :
+    (s t : HeapState) (txn : ℕ) → t.log ≡ s.log ++ Commit txn ∷ [] → AddsToStanding s.log (Commit txn) t.log → (other : ℕ)
+    → is_busy t.log other ≡ (if txn == other then false else is_busy s.log other)
+busy_commit s t txn is standing other = elim (cases_Bool (txn == other)) [
+  | inl same ↦
+      let ended : committed t.log other ≡ true = committed_then s.log t.log (Commit txn) other is ∙ rw same (or_true (committed s.log other)) in
+      busy_from t.log other (standing_count t.log other) true refl ended ∙ rw same (and_false (nat_lt 0 (standing_count t.log other)))
+  | inr differs ↦
+      let ended : committed t.log other ≡ committed s.log other = committed_then s.log t.log (Commit txn) other is ∙ rw differs (or_false (committed s.log other)) in
+      busy_from t.log other (standing_count s.log other) (committed s.log other) (standing.count other) ended ∙ rw differs refl
+]
+
+eq_turned : (a b : ℕ) → (a == b) ≡ false → b ≢ a
+eq_turned a b e same = false≢true (sym e ∙ eq-eqb a b (sym same))
+
+pub sound_commit :
+    (s t : HeapState) (txn : ℕ) → IsSound s → t.log ≡ s.log ++ Commit txn ∷ [] → t.active ≡ without txn s.active → t.begun ≡ s.begun
+    → AddsToNumbers s.log (Commit txn) t.log → AddsToStanding s.log (Commit txn) t.log → is_open s.active txn ≡ true → IsSound t
+sound_commit s t txn h is active begun numbers standing opened =
+    sound_added s t (Commit txn) h is begun numbers (λ u e. was_open s t txn u active e) (record {
+      known = λ u place e. absurd (false≢true e);
+      commits = λ u e.
+          let same : txn ≡ u = eqb-true txn u e in
+          (rw (sym same) (h.openers txn opened), ap (λ a. is_open a u) active ∙ (ap (λ (v : ℕ). is_open (without v s.active) u) same ∙ open_without_self u s.active));
+      alone = λ u place open_u at has. absurd (false≢true at);
+      busy = λ u place e.
+          let old : wrote s.log u place ≡ true = sym (wrote_same s.log t.log (Commit txn) u place is refl) ∙ e in
+          busy_commit s t txn is standing u ∙ (elim (cases_Bool (txn == u)) [
+            | inl same ↦
+                rw same (sym (ap (λ a. is_open a u) active ∙ (ap (λ (v : ℕ). is_open (without v s.active) u) (eqb-true txn u same) ∙ open_without_self u s.active)))
+            | inr differs ↦
+                rw differs (h.busy u place old ∙ sym (ap (λ a. is_open a u) active ∙ open_without_other txn u s.active (eq_turned txn u differs)))
+          ]);
+    }) where
+      was_open : (s t : HeapState) (txn u : ℕ) → t.active ≡ without txn s.active → is_open t.active u ≡ true → is_open s.active u ≡ true
+      was_open s t txn u active e = elim (cases_eq u txn) [
+        | inl same ↦ absurd (false≢true (sym (ap (λ a. is_open a u) active ∙ (ap (λ (v : ℕ). is_open (without txn s.active) v) same ∙ open_without_self txn s.active)) ∙ e))
+        | inr differs ↦ sym (open_without_other txn u s.active differs) ∙ (sym (ap (λ a. is_open a u) active) ∙ e)
+      ]
+
+pub sound_switch :
+    (s t : HeapState) (verdicts : List Outcome) → IsSound s → t.log ≡ s.log ++ Switch verdicts ∷ [] → t.active ≡ s.active → t.begun ≡ s.begun
+    → AddsToNumbers s.log (Switch verdicts) t.log → AddsToStanding s.log (Switch verdicts) t.log → IsSound t
+sound_switch s t verdicts h is active begun numbers standing =
+    sound_added s t (Switch verdicts) h is begun numbers (λ u e. sym (ap (λ a. is_open a u) active) ∙ e) (record {
+      known = λ u place e. absurd (false≢true e);
+      commits = λ u e. absurd (false≢true e);
+      alone = λ u place open_u at has. absurd (false≢true at);
+      busy = λ u place e.
+          let old : wrote s.log u place ≡ true = sym (wrote_same s.log t.log (Switch verdicts) u place is refl) ∙ e in
+          let ended : committed t.log u ≡ committed s.log u = committed_then s.log t.log (Switch verdicts) u is ∙ or_false (committed s.log u) in
+          busy_from t.log u (standing_count s.log u) (committed s.log u) (standing.count u) ended
+          ∙ (h.busy u place old ∙ sym (ap (λ a. is_open a u) active));
+    })
+
+-- a write that stands is of its own transaction alone
+stands_other : (log : List LogRec) (txn other n : ℕ) → is_write_of txn (record_at log n) ≡ true → (txn == other) ≡ false → stands_of log other n ≡ false
+stands_other log txn other n by differs = elim (cases_Bool (is_write_of other (record_at log n))) [
+  | inl also ↦ absurd (false≢true (sym differs ∙ eq-eqb txn other (one_writer txn other (record_at log n) by also)))
+  | inr none ↦ rw none refl
+]
+
+-- who is busy after an undo of the transaction's newest standing write
+pub busy_undo :
+    (s t : HeapState) (txn n : ℕ) → IsSound s → t.log ≡ s.log ++ Undo txn n ∷ [] → AddsToStanding s.log (Undo txn n) t.log
+    → newest_standing s.log txn ≡ Some n → is_open s.active txn ≡ true → (other : ℕ)
+    → is_busy t.log other ≡ (if txn == other then nat_lt 0 (standing_count t.log txn) else is_busy s.log other)
+busy_undo s t txn n h is standing newest opened other =
+    let ended : committed t.log other ≡ committed s.log other = committed_then s.log t.log (Undo txn n) other is ∙ or_false (committed s.log other) in
+    elim (cases_Bool (txn == other)) [
+      | inl same ↦
+          let is_txn : txn ≡ other = eqb-true txn other same in
+          let fresh : committed s.log other ≡ false = ap (committed s.log) (sym is_txn) ∙ h.uncommitted txn opened in
+          busy_from t.log other (standing_count t.log txn) false (ap (standing_count t.log) (sym is_txn)) (ended ∙ fresh)
+          ∙ rw same (and_true (nat_lt 0 (standing_count t.log txn)))
+      | inr differs ↦
+          let other_stands : stands_of s.log other n ≡ false = stands_other s.log txn other n (newest_standing-of s.log txn n newest) differs in
+          let count : standing_count t.log other ≡ standing_count s.log other = standing.count other ∙ rw other_stands refl in
+          busy_from t.log other (standing_count s.log other) (committed s.log other) count ended ∙ rw differs refl
+    ]
+
+pub sound_undo :
+    (s t : HeapState) (txn n : ℕ) → IsSound s → t.log ≡ s.log ++ Undo txn n ∷ []
+    → t.active ≡ still_open txn (standing_count t.log txn) s.active → t.begun ≡ s.begun → AddsToNumbers s.log (Undo txn n) t.log
+    → AddsToStanding s.log (Undo txn n) t.log → newest_standing s.log txn ≡ Some n → is_open s.active txn ≡ true → IsSound t
+sound_undo s t txn n h is active begun numbers standing newest opened =
+    sound_added s t (Undo txn n) h is begun numbers (λ u e. was_open u e) (record {
+      known = λ u place e. absurd (false≢true e);
+      commits = λ u e. absurd (false≢true e);
+      alone = λ u place open_u at has. absurd (false≢true at);
+      busy = λ u place e.
+          let old : wrote s.log u place ≡ true = sym (wrote_same s.log t.log (Undo txn n) u place is refl) ∙ e in
+          busy_undo s t txn n h is standing newest opened u ∙ (elim (cases_Bool (txn == u)) [
+            | inl same ↦ rw same (sym (ap (λ a. is_open a u) active ∙ (ap (is_open (still_open txn (standing_count t.log txn) s.active)) (sym (eqb-true txn u same)) ∙ still (standing_count t.log txn))))
+            | inr differs ↦
+                rw differs (h.busy u place old ∙ sym (ap (λ a. is_open a u) active ∙ open_still_other txn u (standing_count t.log txn) s.active (eq_turned txn u differs)))
+          ]);
+    }) where
+      still : (left : ℕ) → is_open (still_open txn left s.active) txn ≡ nat_lt 0 left
+      still left = elim (cases_Bool (left == 0)) [
+        | inl ended ↦ let none : nat_lt 0 left ≡ false = grind (arith, nat_tests, ended) in rw (ended, none) (open_without_self txn s.active)
+        | inr more ↦ let some : nat_lt 0 left ≡ true = grind (arith, nat_tests, more) in rw (more, some) (open_marked txn txn s.active ∙ opened)
+      ]
+
+      was_open : (u : ℕ) → is_open t.active u ≡ true → is_open s.active u ≡ true
+      was_open u e = elim (cases_eq u txn) [
+        | inl same ↦ ap (is_open s.active) same ∙ opened
+        | inr differs ↦ sym (open_still_other txn u (standing_count t.log txn) s.active differs) ∙ (sym (ap (λ a. is_open a u) active) ∙ e)
+      ]
+
+-- a transaction without a newest standing write has none
+count_none : (p : ℕ → Bool) (n : ℕ) → ((k : ℕ) → k < n → p k ≡ false) → count_below p n ≡ 0
+count_none p zero none = refl
+count_none p (suc n) none = rw (none n (omega arith)) (count_none p n (λ k l. none k (omega arith)))
+
+pub none_standing : (log : List LogRec) (txn : ℕ) → newest_standing log txn ≡ None → standing_count log txn ≡ 0
+none_standing log txn e = count_none (stands_of log txn) (length log + 1) (last_below_none (stands_of log txn) (length log + 1) e)
+
+-- a transaction without a standing write ends
+pub sound_ended :
+    (s t : HeapState) (txn : ℕ) → IsSound s → t.log ≡ s.log → t.active ≡ without txn s.active → t.begun ≡ s.begun
+    → newest_standing s.log txn ≡ None → IsSound t
+sound_ended s t txn h is active begun newest = record {
+  writers = λ u rid e. rw begun (h.writers u rid (sym (ap (λ (l : List LogRec). wrote l u rid) is) ∙ e));
+  committers = λ u e. rw begun (h.committers u (sym (ap (λ (l : List LogRec). committed l u) is) ∙ e));
+  openers = λ u e. rw begun (h.openers u (was_open u e));
+  uncommitted = λ u e. ap (λ (l : List LogRec). committed l u) is ∙ h.uncommitted u (was_open u e);
+  busy = λ u rid e.
+      let old : wrote s.log u rid ≡ true = sym (ap (λ (l : List LogRec). wrote l u rid) is) ∙ e in
+      ap (λ (l : List LogRec). is_busy l u) is ∙ (elim (cases_eq u txn) [
+        | inl same ↦
+            ap (is_busy s.log) same ∙ (busy_from s.log txn 0 (committed s.log txn) (none_standing s.log txn newest) refl
+            ∙ sym (ap (λ a. is_open a u) active ∙ (ap (is_open (without txn s.active)) same ∙ open_without_self txn s.active)))
+        | inr differs ↦ h.busy u rid old ∙ sym (ap (λ a. is_open a u) active ∙ open_without_other txn u s.active differs)
+      ]);
+  held = λ u n m rid e l by there at.
+      let P : List LogRec → Type 0 = λ log. is_write_of u (record_at log n) ≡ true → is_write_at rid (record_at log n) ≡ true → is_write_at rid (record_at log m) ≡ true → is_write_of u (record_at log m) ≡ true in
+      subst P (sym is) (h.held u n m rid (was_open u e) l) by there at;
+} where
+  was_open : (u : ℕ) → is_open t.active u ≡ true → is_open s.active u ≡ true
+  was_open u e = elim (cases_eq u txn) [
+    | inl same ↦ absurd (false≢true (sym (ap (λ a. is_open a u) active ∙ (ap (is_open (without txn s.active)) same ∙ open_without_self txn s.active)) ∙ e))
+    | inr differs ↦ sym (open_without_other txn u s.active differs) ∙ (sym (ap (λ a. is_open a u) active) ∙ e)
+  ]
+
+-- a transaction is begun
+pub sound_begin :
+    (s t : HeapState) → IsSound s → t.log ≡ s.log → t.active ≡ s.active ++ record { txn = s.begun + 1; ending = false } ∷ [] → t.begun ≡ s.begun + 1
+    → IsSound t
+sound_begin s t h is active begun = record {
+  writers = λ u rid e. let l = h.writers u rid (sym (ap (λ (l : List LogRec). wrote l u rid) is) ∙ e) in omega (arith, l, begun);
+  committers = λ u e. let l = h.committers u (sym (ap (λ (l : List LogRec). committed l u) is) ∙ e) in omega (arith, l, begun);
+  openers = λ u e. elim (old_or_new u e) [
+    | inl old ↦ let l = h.openers u old in omega (arith, l, begun)
+    | inr new ↦ omega (arith, new, begun)
+  ];
+  uncommitted = λ u e. ap (λ (l : List LogRec). committed l u) is ∙ (elim (old_or_new u e) [
+    | inl old ↦ h.uncommitted u old
+    | inr new ↦ elim (cases_Bool (committed s.log u)) [
+      | inl ended ↦ let l = h.committers u ended in absurd (omega (arith, l, new))
+      | inr fresh ↦ fresh
+    ]
+  ]);
+  busy = λ u rid e.
+      let old : wrote s.log u rid ≡ true = sym (ap (λ (l : List LogRec). wrote l u rid) is) ∙ e in
+      let l = h.writers u rid old in
+      let apart : (s.begun + 1 == u) ≡ false = ne_eqb (s.begun + 1) u (λ same. absurd (omega (arith, l, same))) in
+      ap (λ (log : List LogRec). is_busy log u) is
+      ∙ (h.busy u rid old ∙ sym (ap (λ a. is_open a u) active ∙ (open_begun (s.begun + 1) u s.active ∙ rw apart (or_false (is_open s.active u)))));
+  held = λ u n m rid e l by there at.
+      let P : List LogRec → Type 0 = λ log. is_write_of u (record_at log n) ≡ true → is_write_at rid (record_at log n) ≡ true → is_write_at rid (record_at log m) ≡ true → is_write_of u (record_at log m) ≡ true in
+      subst P (sym is) (λ by there at. elim (old_or_new u e) [
+        | inl old ↦ h.held u n m rid old l by there at
+        | inr new ↦ let before = h.writers u rid (wrote_from s.log u rid n by there) in absurd (omega (arith, before, new))
+      ]) by there at;
+} where
+  old_or_new : (u : ℕ) → is_open t.active u ≡ true → (is_open s.active u ≡ true) ⊎ (u ≡ s.begun + 1)
+  old_or_new u e = elim (or_cases (is_open s.active u) (s.begun + 1 == u) (sym (ap (λ a. is_open a u) active ∙ open_begun (s.begun + 1) u s.active) ∙ e)) [
+    | inl old ↦ inl old
+    | inr new ↦ inr (sym (eqb-true (s.begun + 1) u new))
+  ]
+
+-- the same log and transactions
+pub sound_same : (s t : HeapState) → t.log ≡ s.log → t.active ≡ s.active → t.begun ≡ s.begun → IsSound s → IsSound t
+sound_same s t log active begun h = record {
+  writers = rw (log, begun) h.writers;
+  committers = rw (log, begun) h.committers;
+  openers = rw (active, begun) h.openers;
+  uncommitted = rw (log, active) h.uncommitted;
+  busy = rw (log, active) h.busy;
+  held = rw (log, active) h.held;
+}

@@ -1,0 +1,33 @@
+-- What a table's log and open transactions keep between its calls.
+use Rattle.std.specs.Prelude.{◌≡◌, ◌<◌, ◌≤◌, ℕ, true, false, List, Some}
+use Rattle.keybytes.specs.declared.rid.Rid.{Rid}
+use Rattle.heap_log.specs.declared.record.LogRec.{LogRec}
+use Rattle.heap_log.specs.Standing.{record_at, is_write_of, is_write_at, stands_of, live_at, row_at, standing_before}
+use Rattle.heap_table.specs.HeapState.{HeapState, is_open}
+use Rattle.heap_table.specs.Holders.{wrote, committed, is_busy, holder, row_size, room_needed}
+
+-- the holds follow the log
+pub record HoldsFollowLog (s : HeapState) : Type 0 where
+  -- at most one transaction holds a RID
+  pub alone : (txn : ℕ) (rid : Rid) → is_busy s.log txn ≡ true → wrote s.log txn rid ≡ true → holder s.log rid ≡ Some txn
+  -- it is open
+  pub is_open : (txn : ℕ) (rid : Rid) → holder s.log rid ≡ Some txn → is_open s.active txn ≡ true
+  -- and from its first write there on, each write there is its own
+  pub held : (txn n m : ℕ) (rid : Rid) → holder s.log rid ≡ Some txn → n < m → is_write_of txn (record_at s.log n) ≡ true → is_write_at rid (record_at s.log n) ≡ true → is_write_at rid (record_at s.log m) ≡ true → is_write_of txn (record_at s.log m) ≡ true
+
+pub record IsSound (s : HeapState) : Type 0 where
+  -- who wrote, committed or is open was begun
+  pub writers : (txn : ℕ) (rid : Rid) → wrote s.log txn rid ≡ true → txn ≤ s.begun
+  pub committers : (txn : ℕ) → committed s.log txn ≡ true → txn ≤ s.begun
+  pub openers : (txn : ℕ) → is_open s.active txn ≡ true → txn ≤ s.begun
+  -- no open transaction has committed
+  pub uncommitted : (txn : ℕ) → is_open s.active txn ≡ true → committed s.log txn ≡ false
+  -- of those that wrote, the open ones are the busy ones
+  pub busy : (txn : ℕ) (rid : Rid) → wrote s.log txn rid ≡ true → is_busy s.log txn ≡ is_open s.active txn
+  -- from an open transaction's first write at a RID on, each write there is its own
+  pub held : (txn n m : ℕ) (rid : Rid) → is_open s.active txn ≡ true → n < m → is_write_of txn (record_at s.log n) ≡ true → is_write_at rid (record_at s.log n) ≡ true → is_write_at rid (record_at s.log m) ≡ true → is_write_of txn (record_at s.log m) ≡ true
+
+-- the rows that stand and those that an undo would bring back fit the bytes that their RIDs keep
+pub record UndoFits (log : List LogRec) : Type 0 where
+  pub live : (rid : Rid) → row_size (live_at log rid) ≤ room_needed log rid
+  pub before : (txn n : ℕ) (rid : Rid) → holder log rid ≡ Some txn → stands_of log txn n ≡ true → is_write_at rid (record_at log n) ≡ true → row_size (row_at log (standing_before log n)) ≤ room_needed log rid
