@@ -11,15 +11,16 @@ use Rattle.keybytes.specs.declared.fault.Fault.{Fault}
 use Rattle.keybytes.specs.declared.fault.Fault.TheVariants.{BuildRunning, NoBuild, BadCount, BadColumn, BadRanges, RangeDone, RingFull, NotScanned, NotSealed, NotLoaded, Memory}
 use Rattle.heap_log.specs.declared.outcome.Outcome.{Outcome}
 use Rattle.heap_log.specs.declared.outcome.Outcome.TheVariants.{Ready}
-use Rattle.heap_table.specs.HeapState.{HeapState, begin_refusal, txn_refusal, insert_refusal, insert_place, after_begin, after_write, after_commit, after_switch, after_visit}
+use Rattle.heap_log.specs.Standing.{newest_standing, standing_count}
+use Rattle.heap_table.specs.HeapState.{HeapState, begin_refusal, txn_refusal, insert_refusal, insert_place, update_refusal, delete_refusal, undo_refusal, undone_number, after_begin, after_write, after_step, after_commit, after_switch, after_visit}
 use Rattle.heap_table.specs.Pages.{rid_at, pages_written}
 use Rattle.builder_core.specs.declared.plan.Dealing.{Dealing}
 use Rattle.builder_core.specs.declared.plan.Dealing.TheVariants.{Ends, Even}
 use Rattle.builder_core.specs.declared.plan.Plan.{Plan}
 use Rattle.builder_core.specs.declared.event.Event.{Event}
-use Rattle.builder_core.specs.declared.event.Event.TheVariants.{Begin, Insert, Commit, Start, Scan, Seal, Load, Switch}
+use Rattle.builder_core.specs.declared.event.Event.TheVariants.{Begin, Insert, Update, Delete, Undo, Commit, Start, Scan, Seal, Load, Switch}
 use Rattle.builder_core.specs.declared.reply.Reply.{Reply}
-use Rattle.builder_core.specs.declared.reply.Reply.TheVariants.{Begun, Written, Committed, Started, Scanned, Sealed, Loaded, Switched, Refused}
+use Rattle.builder_core.specs.declared.reply.Reply.TheVariants.{Begun, Written, Undone, Committed, Started, Scanned, Sealed, Loaded, Switched, Refused}
 use Rattle.builder_core.specs.Pairs.{pairs_at_rest}
 use Rattle.builder_core.specs.CoreState.{ReadyValue, BuildState, CoreState}
 
@@ -41,10 +42,13 @@ with_build s (Some b) answer = answer b
 abbrev pub with_heap : CoreState → HeapState → CoreState
 with_heap s heap = record s { heap = heap }
 
--- a row is written only while no build runs and no index is ready
-abbrev pub write_refusal : CoreState → ℕ → List Cell → Option Fault
-write_refusal s txn row =
-    first_cause (cause_if (is_some s.build || nat_lt 0 (length s.ready)) BuildRunning) (insert_refusal s.heap txn row)
+-- whether a build runs or an index is ready
+abbrev pub is_indexed : CoreState → Bool
+is_indexed s = is_some s.build || nat_lt 0 (length s.ready)
+
+-- a row is changed only while no build runs and no index is ready
+abbrev pub unless_indexed : CoreState → Option Fault → Option Fault
+unless_indexed s cause = first_cause (cause_if (is_indexed s) BuildRunning) cause
 
 -- the RID, if there is one
 abbrev pub rid_or_first : Option Rid → Rid
@@ -54,6 +58,15 @@ rid_or_first (Some rid) = rid
 -- where an insert puts the row
 abbrev pub row_place : CoreState → List Cell → Rid
 row_place s row = rid_or_first (insert_place s.heap (length (row_bytes row)))
+
+-- the transaction's newest standing write is undone; one without a write just ends
+abbrev pub after_newest : HeapState → ℕ → HeapState
+after_newest heap txn = after_step heap txn (newest_standing heap.log txn)
+
+-- what that undo tells: its record, if there is one, and how many writes of the transaction still stand
+abbrev pub undone_reply : HeapState → ℕ → Reply
+undone_reply heap txn =
+    Undone (undone_number heap (newest_standing heap.log txn)) (standing_count (after_newest heap txn).log txn)
 
 -- whether two columns are of one kind
 abbrev pub same_kind : Kind → Kind → Bool
@@ -173,9 +186,21 @@ after_switch_in s b = record { heap = after_switch s.heap (verdicts_on s); ready
 abbrev pub outcome : CoreState → Event → CoreState × Reply
 outcome s Begin = unless (begin_refusal s.heap) s (with_heap s (after_begin s.heap)) (Begun (s.heap.begun + 1))
 outcome s (Insert txn row) =
-    unless (write_refusal s txn row) s
+    unless (unless_indexed s (insert_refusal s.heap txn row)) s
     (with_heap s (after_write s.heap txn (row_place s row) (Some row)))
     (Written (length s.heap.log + 1) (row_place s row))
+outcome s (Update txn rid row) =
+    unless (unless_indexed s (update_refusal s.heap txn rid row)) s
+    (with_heap s (after_write s.heap txn rid (Some row)))
+    (Written (length s.heap.log + 1) rid)
+outcome s (Delete txn rid) =
+    unless (unless_indexed s (delete_refusal s.heap txn rid)) s
+    (with_heap s (after_write s.heap txn rid None))
+    (Written (length s.heap.log + 1) rid)
+outcome s (Undo txn) =
+    unless (unless_indexed s (undo_refusal s.heap txn)) s
+    (with_heap s (after_newest s.heap txn))
+    (undone_reply s.heap txn)
 outcome s (Commit txn) =
     unless (txn_refusal s.heap txn) s (with_heap s (after_commit s.heap txn)) (Committed (length s.heap.log + 1))
 outcome s (Start plan) = if is_some s.build then (s, Refused BuildRunning) else start_outcome s plan (only_spec plan.specs.items)
@@ -194,6 +219,9 @@ spoiled_by fault (Some b) = Some (record b { spoiled = Some fault })
 abbrev pub after_memory : CoreState → Event → CoreState
 after_memory s Begin = s
 after_memory s (Insert txn row) = s
+after_memory s (Update txn rid row) = s
+after_memory s (Delete txn rid) = s
+after_memory s (Undo txn) = s
 after_memory s (Commit txn) = s
 after_memory s (Start plan) = s
 after_memory s (Scan range worker) = s

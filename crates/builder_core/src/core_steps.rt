@@ -1,13 +1,14 @@
-ghost use Rattle.std.specs.Prelude.{◌≡◌, ◌≢◌, length, true, Some, None, is_some, IfOk, IfErr, OnOk, OnErr, MatchResult, slice_get};
+ghost use Rattle.std.specs.Prelude.{◌≡◌, ◌≢◌, [], length, true, Some, None, is_some, IfOk, IfErr, OnOk, OnErr, MatchResult, slice_get};
 ghost use Rattle.heap_log.specs.Standing.{live_at};
 ghost use Rattle.heap_table.specs.HeapState.{row_missing, after_visit};
 ghost use Rattle.heap_table.specs.Pages.{pages_written};
 ghost use Rattle.builder_core.specs.Pairs.{pairs_at_rest, HaveKeysOf};
 ghost use Rattle.builder_core.specs.CoreState.{opening, live_of, after_visits, ReadyFollowTable};
-ghost use Rattle.builder_core.specs.Steps.{Step, Answers, is_one_range, with_heap};
+ghost use Rattle.builder_core.specs.Steps.{Step, Answers, is_one_range, with_heap, is_indexed};
 
 use crate::build::Build;
 use crate::{Dealing, Event, Live, Pair, Plan, ReadyIndex, Reply};
+use heap_table::Undone;
 use keybytes::{Fault, KeySpec, Rid, Row, Schema};
 use std::marker::Model;
 
@@ -58,7 +59,8 @@ impl Core {
     pub fn into_live(self) -> Live
         ensures { result ≡ live_of self }
     {
-        self.live
+        let Core { live, .. } = self;
+        live
     }
 
     pub fn schema(&self) -> &Schema
@@ -117,20 +119,30 @@ impl Core {
         ensures step { Step self.old event.now result self.new }
         ensures ready { ReadyFollowTable self.new }
     {
-        let answer = match event {
+        let answer = self.attempt(event);
+        let _follow = self.live.ready();
+        match answer {
+            Ok(reply) => reply,
+            Err(fault) => Reply::Refused { fault },
+        }
+    }
+
+    /// Does one event, or tells why not.
+    fn attempt(&mut self, event: &Event) -> Result<Reply, Fault>
+        ensures { Answers self.old event.now result self.new }
+    {
+        match event {
             Event::Begin => self.begin(),
             Event::Insert { txn, row } => self.insert(*txn, row),
+            Event::Update { txn, rid, row } => self.update(*txn, *rid, row),
+            Event::Delete { txn, rid } => self.delete(*txn, *rid),
+            Event::Undo { txn } => self.undo(*txn),
             Event::Commit { txn } => self.commit(*txn),
             Event::Start { plan } => self.start(plan),
             Event::Scan { range, worker } => self.scan(*range, *worker),
             Event::Seal { worker } => self.seal(*worker),
             Event::Load { index } => self.load(*index),
             Event::Switch => self.switch(),
-        };
-        let _follow = self.live.ready();
-        match answer {
-            Ok(reply) => reply,
-            Err(fault) => Reply::Refused { fault },
         }
     }
 
@@ -141,14 +153,47 @@ impl Core {
         Ok(Reply::Begun { txn })
     }
 
-    fn insert(&mut self, txn: u64, row: &Row) -> Result<Reply, Fault>
-        ensures { Answers self.old (Event.Insert txn row.now) result self.new }
+    /// Rows are changed only while no build runs and no index is ready.
+    fn check_unindexed(&self) -> Result<(), Fault>
+        ensures ok { OnOk result ((self.now.build ≡ None) × (self.now.ready ≡ [])) }
+        ensures refused { IfErr result (λ fault. (fault ≡ Fault.BuildRunning) × (is_indexed self.now ≡ true)) }
     {
         if self.build.is_some() || !self.live.ready().is_empty() {
             return Err(Fault::BuildRunning);
         }
+        Ok(())
+    }
+
+    fn insert(&mut self, txn: u64, row: &Row) -> Result<Reply, Fault>
+        ensures { Answers self.old (Event.Insert txn row.now) result self.new }
+    {
+        self.check_unindexed()?;
         let (number, rid) = self.live.insert(txn, row.clone()?)?;
         Ok(Reply::Written { number, rid })
+    }
+
+    fn update(&mut self, txn: u64, rid: Rid, row: &Row) -> Result<Reply, Fault>
+        ensures { Answers self.old (Event.Update txn rid row.now) result self.new }
+    {
+        self.check_unindexed()?;
+        let (number, rid) = self.live.update(txn, rid, row.clone()?)?;
+        Ok(Reply::Written { number, rid })
+    }
+
+    fn delete(&mut self, txn: u64, rid: Rid) -> Result<Reply, Fault>
+        ensures { Answers self.old (Event.Delete txn rid) result self.new }
+    {
+        self.check_unindexed()?;
+        let (number, rid) = self.live.delete(txn, rid)?;
+        Ok(Reply::Written { number, rid })
+    }
+
+    fn undo(&mut self, txn: u64) -> Result<Reply, Fault>
+        ensures { Answers self.old (Event.Undo txn) result self.new }
+    {
+        self.check_unindexed()?;
+        let Undone { number, left } = self.live.undo(txn)?;
+        Ok(Reply::Undone { number, left })
     }
 
     fn commit(&mut self, txn: u64) -> Result<Reply, Fault>

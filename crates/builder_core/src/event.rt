@@ -1,5 +1,5 @@
 use crate::Plan;
-use keybytes::Row;
+use keybytes::{Rid, Row};
 
 /// What is asked of a table and of its index build.
 #[derive(Debug, Drop)]
@@ -8,6 +8,12 @@ pub enum Event {
     Begin,
     /// The transaction inserts a row.
     Insert { txn: u64, row: Row },
+    /// The transaction gives a RID another row.
+    Update { txn: u64, rid: Rid, row: Row },
+    /// The transaction takes the row at a RID away.
+    Delete { txn: u64, rid: Rid },
+    /// The transaction's newest standing write is undone; from then on it can only be undone further.
+    Undo { txn: u64 },
     /// The transaction ends, and keeps its writes.
     Commit { txn: u64 },
     /// An index build starts.

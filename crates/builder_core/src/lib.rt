@@ -1,6 +1,6 @@
 //! Index builds over a table in use, one event after another.
 //!
-//! An event is a write, a commit or one step of a build, and is answered before the next is looked at. A build copies
+//! An event is a write, an undo, a commit or one step of a build, and is answered before the next is looked at. A build copies
 //! the table's pages, makes the pairs of key and RID of their rows, puts the pairs in order, and is then switched in:
 //! from there on the index is ready. What each event does, and why it is refused, is said once, by `outcome` of
 //! `specs/Steps.antt`; a refused event changes nothing, unless memory ran out in the midst of a build's work, which

@@ -1,11 +1,11 @@
 ghost use Rattle.std.specs.Prelude.{◌≡◌, ◌≢◌, ◌+◌, ◌<◌, ◌∷◌, ◌++◌, [], List, length, Some, None, IfOk, IfErr, OnOk, OnErr, IsOk, slice_get, MatchResult, vec_len, vec_capacity};
 ghost use Rattle.keybytes.specs.Rows.{row_bytes};
 ghost use Rattle.heap_log.specs.declared.outcome.Outcome.{Outcome};
-ghost use Rattle.heap_table.specs.HeapState.{begin_refusal, txn_refusal, insert_refusal, insert_place, after_begin, after_write, after_commit, after_switch, after_visit, row_missing};
+ghost use Rattle.heap_table.specs.HeapState.{begin_refusal, txn_refusal, insert_refusal, insert_place, update_refusal, delete_refusal, undo_refusal, undone_number, after_begin, after_write, after_step, after_commit, after_switch, after_visit, row_missing};
 ghost use Rattle.heap_table.specs.Images.{IsImage};
 ghost use Rattle.heap_table.specs.Kept.{RowsFit};
 ghost use Rattle.heap_table.specs.Pages.{pages_written, KeepsRows, RowsAreInside};
-ghost use Rattle.heap_log.specs.Standing.{live_at};
+ghost use Rattle.heap_log.specs.Standing.{live_at, newest_standing, standing_count};
 ghost use Rattle.builder_core.specs.Pairs.{pairs_at_rest, HaveKeysOf};
 ghost use Rattle.builder_core.specs.CoreState.{LiveValue, FollowTable, live_with_heap, after_visits};
 
@@ -13,7 +13,7 @@ use crate::build::Build;
 use crate::rest::at_rest;
 use crate::{Pair, ReadyIndex};
 use heap_log::{Outcome, Verdicts};
-use heap_table::{Heap, PageImage};
+use heap_table::{Heap, PageImage, Undone};
 use keybytes::{Fault, KeySpec, Rid, Row, Schema};
 use std::alloc::Global;
 use std::marker::Model;
@@ -89,6 +89,43 @@ impl Live {
         ensures refused { IfErr result (λ fault. fault ≢ Fault.Memory → insert_refusal self.old.heap txn row ≡ Some fault) }
     {
         self.heap.insert(txn, row)
+    }
+
+    /// Gives a RID another row, which no ready index would follow.
+    pub(crate) fn update(&mut self, txn: u64, rid: Rid, row: Row) -> Result<(usize, Rid), Fault>
+        requires { self.old.ready ≡ [] }
+        ensures ok { IfOk result (λ written. (written.0 ≡ length self.old.heap.log + 1) × (written.1 ≡ rid)) }
+        ensures written { OnOk result (self.new ≡ live_with_heap self.old (after_write self.old.heap txn rid (Some row))) }
+        ensures accepted { OnOk result (update_refusal self.old.heap txn rid row ≡ None) }
+        ensures unchanged { OnErr result (self.new ≡ self.old) }
+        ensures refused { IfErr result (λ fault. fault ≢ Fault.Memory → update_refusal self.old.heap txn rid row ≡ Some fault) }
+    {
+        self.heap.update(txn, rid, row)
+    }
+
+    /// Takes the row at a RID away, which no ready index would follow.
+    pub(crate) fn delete(&mut self, txn: u64, rid: Rid) -> Result<(usize, Rid), Fault>
+        requires { self.old.ready ≡ [] }
+        ensures ok { IfOk result (λ written. (written.0 ≡ length self.old.heap.log + 1) × (written.1 ≡ rid)) }
+        ensures written { OnOk result (self.new ≡ live_with_heap self.old (after_write self.old.heap txn rid None)) }
+        ensures accepted { OnOk result (delete_refusal self.old.heap txn rid ≡ None) }
+        ensures unchanged { OnErr result (self.new ≡ self.old) }
+        ensures refused { IfErr result (λ fault. fault ≢ Fault.Memory → delete_refusal self.old.heap txn rid ≡ Some fault) }
+    {
+        self.heap.delete(txn, rid)
+    }
+
+    /// Undoes the transaction's newest standing write, which no ready index would follow.
+    pub(crate) fn undo(&mut self, txn: u64) -> Result<Undone, Fault>
+        requires { self.old.ready ≡ [] }
+        ensures number { IfOk result (λ undone. undone.number ≡ undone_number self.old.heap (newest_standing self.old.heap.log txn)) }
+        ensures left { IfOk result (λ undone. undone.left ≡ standing_count self.new.heap.log txn) }
+        ensures undone { OnOk result (self.new ≡ live_with_heap self.old (after_step self.old.heap txn (newest_standing self.old.heap.log txn))) }
+        ensures accepted { OnOk result (undo_refusal self.old.heap txn ≡ None) }
+        ensures unchanged { OnErr result (self.new ≡ self.old) }
+        ensures refused { IfErr result (λ fault. fault ≢ Fault.Memory → undo_refusal self.old.heap txn ≡ Some fault) }
+    {
+        self.heap.undo_step(txn)
     }
 
     pub(crate) fn commit(&mut self, txn: u64) -> Result<usize, Fault>

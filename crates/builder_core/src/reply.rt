@@ -7,6 +7,9 @@ pub enum Reply {
     Begun { txn: u64 },
     /// With the number of the log record.
     Written { number: usize, rid: Rid },
+    /// With the number of the log record, 0 where the transaction had no write to undo, and the number of its writes that
+    /// still stand. With none it has ended.
+    Undone { number: usize, left: usize },
     Committed { number: usize },
     /// With the number of pages that the build reads.
     Started { pages: u32 },

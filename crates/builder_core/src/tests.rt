@@ -51,6 +51,7 @@ fn number_in(reply: &Reply) -> Result<usize, Fault> {
     match reply {
         Reply::Begun { txn } => Ok(*txn as usize),
         Reply::Written { number, .. } => Ok(*number),
+        Reply::Undone { left, .. } => Ok(*left),
         Reply::Committed { number } => Ok(*number),
         Reply::Started { pages } => Ok(*pages as usize),
         Reply::Scanned { page } => Ok(*page as usize),
@@ -175,6 +176,100 @@ fn reads_of_a_table(rt: HostRuntime) -> Result<(), Fail> {
     assert!(rt; spec.is_of(core.schema()));
     assert!(rt; are_three_and_fives(&core.rest(&spec)?));
     assert!(rt; core.into_live().ready().is_empty());
+    Ok(())
+}
+
+const FIRST: Rid = Rid { page: 0, slot: 0 };
+
+// A write's record number and its RID.
+fn write(core: &mut Core, event: Event) -> Result<(usize, Rid), Fault> {
+    match core.step(event) {
+        Reply::Written { number, rid } => Ok((number, rid)),
+        reply => number_in(&reply).map(|number| (number, FIRST)),
+    }
+}
+
+fn update(core: &mut Core, alloc: Global, txn: u64, to: i64) -> Result<(usize, Rid), Fault> {
+    let row = int_row(alloc, to)?;
+    write(
+        core,
+        Event::Update {
+            txn,
+            rid: FIRST,
+            row,
+        },
+    )
+}
+
+// An undo's record number, and how many writes are left.
+fn undo(core: &mut Core, txn: u64) -> Result<(usize, usize), Fault> {
+    match core.step(Event::Undo { txn }) {
+        Reply::Undone { number, left } => Ok((number, left)),
+        reply => number_in(&reply).map(|number| (number, 99)),
+    }
+}
+
+// A transaction has put the row 1 at the first RID, and two more have begun.
+fn row_one(alloc: Global, slots: u8) -> Result<Core, Fault> {
+    let heap = Heap::new(alloc, int_schema(alloc)?, slots, 8)?;
+    let mut core = Core::new(Live::new(alloc, heap));
+    let row = int_row(alloc, 1)?;
+    let events = vec![in alloc;
+        Event::Begin,
+        Event::Insert { txn: 1, row },
+        Event::Commit { txn: 1 },
+        Event::Begin,
+        Event::Begin,
+    ]?;
+    for event in events {
+        answer(&mut core, event)?;
+    }
+    Ok(core)
+}
+
+#[test]
+fn changes_while_a_build_runs(rt: HostRuntime) -> Result<(), Fail> {
+    let alloc = rt.alloc();
+    let mut core = row_one(alloc, 1)?;
+    assert_eq!(rt; start(&mut core, alloc, Dealing::Even(1)), Ok(1));
+    let refused = Err(Fault::BuildRunning);
+    assert_eq!(rt; update(&mut core, alloc, 9, 2), refused);
+    let delete = Event::Delete { txn: 9, rid: FIRST };
+    assert_eq!(rt; write(&mut core, delete), refused);
+    assert_eq!(rt; undo(&mut core, 9), Err(Fault::BuildRunning));
+    Ok(())
+}
+
+// A transaction inserts a row and changes it twice.
+fn three_writes(alloc: Global) -> Result<Core, Fault> {
+    let mut core = Core::new(two_slots(alloc)?);
+    answer(&mut core, Event::Begin)?;
+    let row = int_row(alloc, 5)?;
+    write(&mut core, Event::Insert { txn: 1, row })?;
+    update(&mut core, alloc, 1, 6)?;
+    update(&mut core, alloc, 1, 7)?;
+    Ok(core)
+}
+
+// An undo that is taken up again where memory ran out.
+fn undo_again(core: &mut Core, txn: u64) -> Result<(usize, usize), Fault> {
+    match undo(core, txn) {
+        Err(Fault::Memory) => undo(core, txn),
+        done => done,
+    }
+}
+
+#[test]
+fn an_undo_where_memory_may_run_out(rt: HostRuntime) -> Result<(), Fail> {
+    match three_writes(rt.alloc()) {
+        Ok(mut core) => {
+            assert_eq!(rt; undo_again(&mut core, 1), Ok((4, 2)));
+            assert_eq!(rt; undo_again(&mut core, 1), Ok((5, 1)));
+            assert_eq!(rt; undo_again(&mut core, 1), Ok((6, 0)));
+            assert_eq!(rt; core.get(FIRST).err(), Some(Fault::NoSuchRow));
+        }
+        Err(fault) => assert_eq!(rt; fault, Fault::Memory),
+    }
     Ok(())
 }
 

@@ -1,3 +1,7 @@
+mod AskedRecords
 mod FieldLemmas
 mod KeyedPairs
 mod Replies
+mod RidPoints
+mod SpelledLists
+mod TakenBack

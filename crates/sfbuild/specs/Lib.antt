@@ -1,3 +1,6 @@
+pub mod Answers
 pub mod Drafts
 pub mod Fields
+pub mod Labels
 pub mod Limits
+pub mod Lines

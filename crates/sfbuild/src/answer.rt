@@ -1,6 +1,6 @@
 use crate::pair_line::PairLine;
 use heap_log::Verdicts;
-use keybytes::{Fault, Rid};
+use keybytes::{Fault, Rid, Row};
 
 /// What a record is answered.
 #[derive(Debug, Drop)]
@@ -12,6 +12,10 @@ pub enum Answer {
     Row { rid: Rid },
     /// A change, with the number of its log record.
     Written { number: usize, rid: Rid },
+    /// An undo, with the number of its log record, 0 where there was nothing to undo, and the number of writes that are left.
+    Undone { number: usize, left: usize },
+    /// The row at a RID.
+    Cells { row: Row },
     /// A switch that decided, with the number of its log record.
     Switched { number: usize, verdicts: Verdicts },
     /// The pairs of an index, in order.

@@ -4,6 +4,12 @@ ghost use Rattle.std.specs.List.{list_any};
 ghost use Rattle.keybytes.specs.Keys.{key_columns_refusal};
 ghost use Rattle.builder_core.specs.Pairs.{HaveKeysOf};
 ghost use Rattle.builder_core.specs.Steps.{Step};
+ghost use Rattle.sfbuild.specs.Answers.{answer_or_refusal, status_after, AnswersEvent, AnswersRecord, AnswersRow, FailsToPut, GivesRow, NotesBegun, NotesRecord, OnTxn, PutsRow, StartsPlan, TakesBack, Unless, plan_refusal};
+ghost use Rattle.builder_core.specs.declared.reply.Reply.{Reply as ReplyValue};
+ghost use Rattle.keybytes.specs.Rows.{row_refusal};
+ghost use Rattle.keybytes.specs.declared.rid.Rid.{Rid as RidValue};
+ghost use Rattle.sfbuild.specs.declared.status.Status.{Status as StatusValue};
+ghost use Rattle.sfbuild.specs.Labels.{named};
 ghost use Rattle.sfbuild.specs.Limits.{is_in_limits, is_refusal, table_refusal};
 
 use crate::answer::Answer;
@@ -46,6 +52,7 @@ impl Engine {
     pub fn new(alloc: Global, table: Table) -> Result<Engine, Fault>
         ensures accepted { OnOk result (table_refusal table.slot_limit table.kinds.items ≡ None) }
         ensures refused { IfErr result (λ fault. fault ≢ Fault.Memory → table_refusal table.slot_limit table.kinds.items ≡ Some fault) }
+        ensures status { IfOk result (λ engine. engine.status ≡ Status.Done) }
     {
         if table.slot_limit == 0 || table.slot_limit > SLOT_LIMIT_MAX {
             return Err(Fault::BadCount);
@@ -61,27 +68,38 @@ impl Engine {
     }
 
     /// How the script has gone so far.
-    pub fn status(&self) -> Status {
+    pub fn status(&self) -> Status
+        ensures { result ≡ self.now.status }
+    {
         self.status
     }
 
     /// Runs a record, and answers it.
-    pub fn run(&mut self, record: Record) -> Answer {
+    pub fn run(&mut self, record: Record) -> Answer
+        ensures core { AnswersRecord self.old «record» result self.new.core }
+        ensures labels { NotesRecord self.old.labels «record» result self.new.labels }
+        ensures status { self.new.status ≡ status_after self.old.status result }
+    {
         match self.answer(record) {
             Ok(answer) => answer,
             Err(fault) => Answer::Refused { fault },
         }
     }
 
-    fn answer(&mut self, record: Record) -> Result<Answer, Fault> {
+    fn answer(&mut self, record: Record) -> Result<Answer, Fault>
+        ensures core { AnswersRecord self.old «record» (answer_or_refusal result) self.new.core }
+        ensures labels { NotesRecord self.old.labels «record» (answer_or_refusal result) self.new.labels }
+        ensures status { self.new.status ≡ status_after self.old.status (answer_or_refusal result) }
+    {
         match record {
             Record::Row { cells } => self.put_row(cells),
-            Record::Begin { label } => self.begin_named(label),
+            Record::Begin { label } => self.begin_named(&label),
             Record::Insert { label, cells } => self.insert_named(&label, cells),
-            Record::Commit { label } => {
-                let txn = self.labels.txn(&label)?;
-                self.step(Event::Commit { txn })
-            }
+            Record::Update { label, rid, cells } => self.update_named(&label, rid, cells),
+            Record::Delete { label, rid } => self.delete_named(&label, rid),
+            Record::Undo { label } => self.undo_named(&label),
+            Record::Commit { label } => self.commit_named(&label),
+            Record::Get { rid } => self.get(rid),
             Record::Start(start) => self.start(start),
             Record::Scan { range, worker } => self.step(Event::Scan { range, worker }),
             Record::Seal { worker } => self.step(Event::Seal { worker }),
@@ -93,10 +111,15 @@ impl Engine {
     }
 
     /// Runs an event that stands for a whole record.
-    fn step(&mut self, event: Event) -> Result<Answer, Fault> {
+    fn step(&mut self, event: Event) -> Result<Answer, Fault>
+        ensures core { AnswersEvent event self.old.core (answer_or_refusal result) self.new.core }
+        ensures labels { self.new.labels ≡ self.old.labels }
+        ensures status { self.new.status ≡ self.old.status }
+    {
         Ok(match self.core.step(event) {
             Reply::Begun { txn } => Answer::Number { number: txn },
             Reply::Written { number, rid } => Answer::Written { number, rid },
+            Reply::Undone { number, left } => Answer::Undone { number, left },
             Reply::Started { pages: count } | Reply::Scanned { page: count } => Answer::Number {
                 number: u64::from(count),
             },
@@ -110,42 +133,106 @@ impl Engine {
         })
     }
 
-    /// Puts a row in, by a transaction of its own.
-    fn put_row(&mut self, cells: Vec<Cell>) -> Result<Answer, Fault> {
+    /// Puts a row in, by a transaction of its own. Where that is refused once the transaction has begun, what it wrote is
+    /// taken back.
+    fn put_row(&mut self, cells: Vec<Cell>) -> Result<Answer, Fault>
+        ensures core { Unless (row_refusal cells.items) self.old.core (answer_or_refusal result) self.new.core (AnswersRow cells.items self.old.core (answer_or_refusal result) self.new.core) }
+        ensures labels { self.new.labels ≡ self.old.labels }
+        ensures status { self.new.status ≡ status_after self.old.status (answer_or_refusal result) }
+    {
         let row = Row::new(cells)?;
         let txn = begin(&mut self.core)?;
-        let rid = insert(&mut self.core, txn, row)?;
-        self.step(Event::Commit { txn })?;
-        Ok(Answer::Row { rid })
+        match put(&mut self.core, txn, row) {
+            Ok(rid) => Ok(Answer::Row { rid }),
+            Err(fault) => {
+                take_back(&mut self.core, txn);
+                Err(fault)
+            }
+        }
     }
 
     /// Begins a transaction that the label names; where that is refused, it names none.
-    fn begin_named(&mut self, label: Label) -> Result<Answer, Fault> {
-        let named = self.labels.place(label)?;
+    fn begin_named(&mut self, label: &Label) -> Result<Answer, Fault>
+        ensures core { AnswersEvent Event.Begin self.old.core (answer_or_refusal result) self.new.core }
+        ensures labels { NotesBegun self.old.labels label.now (answer_or_refusal result) self.new.labels }
+        ensures status { self.new.status ≡ status_after self.old.status (answer_or_refusal result) }
+    {
+        self.labels.forget(label)?;
         let txn = begin(&mut self.core)?;
-        *named = Some(txn);
+        self.labels.set(label, txn);
         Ok(Answer::Number { number: txn })
     }
 
-    fn insert_named(&mut self, label: &Label, cells: Vec<Cell>) -> Result<Answer, Fault> {
+    fn insert_named(&mut self, label: &Label, cells: Vec<Cell>) -> Result<Answer, Fault>
+        ensures core { Unless (row_refusal cells.items) self.old.core (answer_or_refusal result) self.new.core (OnTxn (named self.old.labels label.now) self.old.core (answer_or_refusal result) self.new.core (λ txn. AnswersEvent (Event.Insert txn cells.items) self.old.core (answer_or_refusal result) self.new.core)) }
+        ensures labels { self.new.labels ≡ self.old.labels }
+        ensures status { self.new.status ≡ self.old.status }
+    {
         let row = Row::new(cells)?;
         let txn = self.labels.txn(label)?;
         self.step(Event::Insert { txn, row })
     }
 
-    fn start(&mut self, start: Start) -> Result<Answer, Fault> {
+    fn update_named(&mut self, label: &Label, rid: Rid, cells: Vec<Cell>) -> Result<Answer, Fault>
+        ensures core { Unless (row_refusal cells.items) self.old.core (answer_or_refusal result) self.new.core (OnTxn (named self.old.labels label.now) self.old.core (answer_or_refusal result) self.new.core (λ txn. AnswersEvent (Event.Update txn rid cells.items) self.old.core (answer_or_refusal result) self.new.core)) }
+        ensures labels { self.new.labels ≡ self.old.labels }
+        ensures status { self.new.status ≡ self.old.status }
+    {
+        let row = Row::new(cells)?;
+        let txn = self.labels.txn(label)?;
+        self.step(Event::Update { txn, rid, row })
+    }
+
+    fn delete_named(&mut self, label: &Label, rid: Rid) -> Result<Answer, Fault>
+        ensures core { OnTxn (named self.old.labels label.now) self.old.core (answer_or_refusal result) self.new.core (λ txn. AnswersEvent (Event.Delete txn rid) self.old.core (answer_or_refusal result) self.new.core) }
+        ensures labels { self.new.labels ≡ self.old.labels }
+        ensures status { self.new.status ≡ self.old.status }
+    {
+        let txn = self.labels.txn(label)?;
+        self.step(Event::Delete { txn, rid })
+    }
+
+    /// Undoes one write; the label names the transaction still.
+    fn undo_named(&mut self, label: &Label) -> Result<Answer, Fault>
+        ensures core { OnTxn (named self.old.labels label.now) self.old.core (answer_or_refusal result) self.new.core (λ txn. AnswersEvent (Event.Undo txn) self.old.core (answer_or_refusal result) self.new.core) }
+        ensures labels { self.new.labels ≡ self.old.labels }
+        ensures status { self.new.status ≡ self.old.status }
+    {
+        let txn = self.labels.txn(label)?;
+        self.step(Event::Undo { txn })
+    }
+
+    fn commit_named(&mut self, label: &Label) -> Result<Answer, Fault>
+        ensures core { OnTxn (named self.old.labels label.now) self.old.core (answer_or_refusal result) self.new.core (λ txn. AnswersEvent (Event.Commit txn) self.old.core (answer_or_refusal result) self.new.core) }
+        ensures labels { self.new.labels ≡ self.old.labels }
+        ensures status { self.new.status ≡ self.old.status }
+    {
+        let txn = self.labels.txn(label)?;
+        self.step(Event::Commit { txn })
+    }
+
+    fn get(&mut self, rid: Rid) -> Result<Answer, Fault>
+        ensures core { GivesRow rid self.old.core (answer_or_refusal result) self.new.core }
+        ensures labels { self.new.labels ≡ self.old.labels }
+        ensures status { self.new.status ≡ status_after self.old.status (answer_or_refusal result) }
+    {
+        let row = self.core.get(rid)?;
+        Ok(Answer::Cells { row })
+    }
+
+    fn start(&mut self, start: Start) -> Result<Answer, Fault>
+        ensures core { Unless (plan_refusal self.old.core start) self.old.core (answer_or_refusal result) self.new.core (StartsPlan start self.old.core (answer_or_refusal result) self.new.core) }
+        ensures labels { self.new.labels ≡ self.old.labels }
+        ensures status { self.new.status ≡ self.old.status }
+    {
         if self.core.is_building() {
             return Err(Fault::BuildRunning);
         }
         if !is_in_limits(&start) {
             return Err(Fault::BadCount);
         }
-        let mut specs = Vec::with_capacity(self.alloc, start.specs.len())?;
-        for spec in start.specs {
-            specs.push(self.key_spec(spec)?)?;
-        }
         let plan = Plan {
-            specs,
+            specs: self.key_specs(start.specs)?,
             workers: start.workers,
             dealing: start.dealing,
             tries: 1,
@@ -154,8 +241,20 @@ impl Engine {
         self.step(Event::Start { plan })
     }
 
+    fn key_specs(&self, specs: Vec<Spec>) -> Result<Vec<KeySpec>, Fault> {
+        let mut made = Vec::with_capacity(self.alloc, specs.len())?;
+        for spec in specs {
+            made.push(self.key_spec(spec)?)?;
+        }
+        Ok(made)
+    }
+
     /// Tries to bring the build's indexes into use, and notes whether one was refused.
-    fn switch(&mut self) -> Result<Answer, Fault> {
+    fn switch(&mut self) -> Result<Answer, Fault>
+        ensures core { AnswersEvent Event.Switch self.old.core (answer_or_refusal result) self.new.core }
+        ensures labels { self.new.labels ≡ self.old.labels }
+        ensures status { self.new.status ≡ status_after self.old.status (answer_or_refusal result) }
+    {
         let answer = self.step(Event::Switch)?;
         if let Answer::Switched { verdicts, .. } = &answer
             && has_refused(verdicts)
@@ -165,13 +264,19 @@ impl Engine {
         Ok(answer)
     }
 
-    fn pairs(&self, number: usize) -> Result<Answer, Fault> {
+    fn pairs(&self, number: usize) -> Result<Answer, Fault>
+        ensures { (status : StatusValue) → status_after status (answer_or_refusal result) ≡ status }
+    {
         let index = self.core.ready(number)?;
         let lines = pair_lines(self.alloc, index.spec(), index.pairs())?;
         Ok(Answer::Pairs { lines })
     }
 
-    fn rest(&mut self, spec: Spec) -> Result<Answer, Fault> {
+    fn rest(&mut self, spec: Spec) -> Result<Answer, Fault>
+        ensures core { self.new.core.heap.log ≡ self.old.core.heap.log }
+        ensures labels { self.new.labels ≡ self.old.labels }
+        ensures status { self.new.status ≡ status_after self.old.status (answer_or_refusal result) }
+    {
         let spec = self.key_spec(spec)?;
         let pairs = self.core.rest(&spec)?;
         let lines = pair_lines(self.alloc, &spec, pairs.as_slice())?;
@@ -209,6 +314,44 @@ fn insert(core: &mut Core, txn: u64, row: Row) -> Result<Rid, Fault>
     match core.step(Event::Insert { txn, row }) {
         Reply::Written { rid, .. } => Ok(rid),
         Reply::Refused { fault } => Err(fault),
+        _ => unreachable!(),
+    }
+}
+
+/// Commits a transaction.
+fn commit(core: &mut Core, txn: u64) -> Result<(), Fault>
+    ensures ok { OnOk result ((number : ℕ) × Step core.old (Event.Commit txn) (Reply.Committed number) core.new) }
+    ensures refused { IfErr result (λ fault. Step core.old (Event.Commit txn) (Reply.Refused fault) core.new) }
+{
+    match core.step(Event::Commit { txn }) {
+        Reply::Committed { .. } => Ok(()),
+        Reply::Refused { fault } => Err(fault),
+        _ => unreachable!(),
+    }
+}
+
+/// Inserts a row and commits, and answers where the row stands.
+fn put(core: &mut Core, txn: u64, row: Row) -> Result<Rid, Fault>
+    ensures ok { IfOk result (λ rid. PutsRow row txn core.old rid core.new) }
+    ensures refused { IfErr result (λ fault. FailsToPut row txn core.old fault core.new) }
+{
+    let rid = insert(core, txn, row)?;
+    commit(core, txn)?;
+    Ok(rid)
+}
+
+/// Undoes the transaction's writes until it has ended. Where an undo is refused, because a build runs, an index is ready
+/// or memory is wanting, the transaction stays open.
+fn take_back(core: &mut Core, txn: u64)
+    ensures { (more : ℕ) × TakesBack more core.old txn core.new }
+{
+    match core.step(Event::Undo { txn }) {
+        Reply::Undone { left, .. } => {
+            if left > 0 {
+                take_back(core, txn);
+            }
+        }
+        Reply::Refused { .. } => {}
         _ => unreachable!(),
     }
 }

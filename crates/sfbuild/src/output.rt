@@ -1,4 +1,7 @@
 //! The answers as they are printed: comma-separated records, each with the number of its script record in front.
+ghost use Rattle.std.specs.Prelude.{◌≡◌, [], true, OnOk};
+ghost use Rattle.std.specs.Io.KnownBytes.{Keeps};
+ghost use Rattle.csv.specs.Writing.{fields_written, text_written, writer_pending, writer_setup, writer_under};
 
 use crate::answer::Answer;
 use crate::pair_line::PairLine;
@@ -35,14 +38,20 @@ pub struct Output<W: io::Write + Drop> {
 }
 
 impl<W: io::Write + Drop> Output<W> {
-    pub fn new(out: W) -> Output<W> {
+    pub fn new(out: W) -> Output<W>
+        ensures out { writer_under result.writer ≡ out }
+        ensures any_length { (writer_setup result.writer).flexible ≡ true }
+        ensures whole { fields_written result.writer ≡ 0 }
+    {
         Output {
             writer: WriterBuilder::new().flexible(true).from_writer(out),
         }
     }
 
     /// Prints the answer to the record of that number.
-    pub fn print(&mut self, number: usize, answer: &Answer) -> Result<(), OutputFailed> {
+    pub fn print(&mut self, number: usize, answer: &Answer) -> Result<(), OutputFailed>
+        ensures whole { OnOk result (fields_written self.new.writer ≡ 0) }
+    {
         self.field(number)?;
         match answer {
             Answer::Refused { fault } => {
@@ -59,7 +68,10 @@ impl<W: io::Write + Drop> Output<W> {
     }
 
     /// Sends on what was printed.
-    pub fn flush(&mut self) -> Result<(), OutputFailed> {
+    pub fn flush(&mut self) -> Result<(), OutputFailed>
+        ensures sent { OnOk result (writer_pending self.new.writer ≡ []) }
+        ensures kept { Keeps (text_written W.contents self.old.writer) (text_written W.contents self.new.writer) }
+    {
         self.writer.flush()?;
         Ok(())
     }
@@ -74,6 +86,11 @@ impl<W: io::Write + Drop> Output<W> {
                 self.field(*number)?;
                 self.field(*rid)
             }
+            Answer::Undone { number, left } => {
+                self.field(*number)?;
+                self.field(*left)
+            }
+            Answer::Cells { row } => self.cells(row.cells()),
             Answer::Switched { number, verdicts } => {
                 self.field(*number)?;
                 self.verdicts(verdicts)
@@ -93,7 +110,10 @@ impl<W: io::Write + Drop> Output<W> {
     }
 
     /// The records that follow the answer's own.
-    fn lines_after(&mut self, number: usize, answer: &Answer) -> Result<(), OutputFailed> {
+    fn lines_after(&mut self, number: usize, answer: &Answer) -> Result<(), OutputFailed>
+        requires { fields_written self.old.writer ≡ 0 }
+        ensures { OnOk result (fields_written self.new.writer ≡ 0) }
+    {
         match answer {
             Answer::Switched { .. } => {
                 self.field(number)?;
@@ -111,14 +131,21 @@ impl<W: io::Write + Drop> Output<W> {
         }
     }
 
-    fn pair(&mut self, number: usize, line: &PairLine) -> Result<(), OutputFailed> {
+    fn pair(&mut self, number: usize, line: &PairLine) -> Result<(), OutputFailed>
+        ensures { OnOk result (fields_written self.new.writer ≡ 0) }
+    {
         self.field(number)?;
         self.text("pair")?;
-        for cell in &line.cells {
-            self.cell(cell)?;
-        }
+        self.cells(line.cells.as_slice())?;
         self.field(line.rid)?;
         self.end()
+    }
+
+    fn cells(&mut self, cells: &[Cell]) -> Result<(), OutputFailed> {
+        for cell in cells {
+            self.cell(cell)?;
+        }
+        Ok(())
     }
 
     fn cell(&mut self, cell: &Cell) -> Result<(), OutputFailed> {
@@ -171,7 +198,9 @@ impl<W: io::Write + Drop> Output<W> {
         Ok(())
     }
 
-    fn end(&mut self) -> Result<(), OutputFailed> {
+    fn end(&mut self) -> Result<(), OutputFailed>
+        ensures { OnOk result (fields_written self.new.writer ≡ 0) }
+    {
         self.writer.end_record()?;
         Ok(())
     }

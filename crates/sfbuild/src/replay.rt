@@ -1,4 +1,5 @@
 //! A script, run from its first record to its last in one thread.
+ghost use Rattle.std.specs.Prelude.{◌≡◌, ◌≤◌};
 
 use crate::answer::Answer;
 use crate::engine::Engine;
@@ -15,7 +16,9 @@ pub fn replay<R: Read + Drop, W: Write + Drop, E: Write + Drop>(
     mut reader: R,
     out: W,
     err: E,
-) -> u8 {
+) -> u8
+    ensures { result ≤ 2 }
+{
     let script = match Script::read(alloc, &mut reader) {
         Ok(script) => script,
         Err(error) => return refuse(error, err),
@@ -27,7 +30,9 @@ pub fn replay<R: Read + Drop, W: Write + Drop, E: Write + Drop>(
 }
 
 /// Says why the script can't be run, and answers the exit status.
-pub fn refuse<E: Write + Drop>(error: ScriptError, mut err: E) -> u8 {
+pub fn refuse<E: Write + Drop>(error: ScriptError, mut err: E) -> u8
+    ensures { result ≡ 2 }
+{
     let _ = writeln!(err, "script: {error}");
     Status::Failed as u8
 }

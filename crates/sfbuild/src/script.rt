@@ -1,4 +1,6 @@
 //! Scripts: text of comma-separated records, each with a command first.
+ghost use Rattle.std.specs.Prelude.{OnOk};
+ghost use Rattle.std.specs.Io.KnownBytes.{IsAtEnd};
 
 mod draft;
 mod fields;
@@ -38,7 +40,9 @@ pub struct Script {
 
 impl Script {
     /// Reads a script to its end, and then looks at its records.
-    pub fn read<R: Read>(alloc: Global, reader: &mut R) -> Result<Script, ScriptError> {
+    pub fn read<R: Read>(alloc: Global, reader: &mut R) -> Result<Script, ScriptError>
+        ensures { OnOk result (IsAtEnd (R.remaining reader.new)) }
+    {
         let mut text = Vec::new(alloc);
         match reader.read_to_end(&mut text) {
             Ok(_) => Script::parse(alloc, text.as_slice()),

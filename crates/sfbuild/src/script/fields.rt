@@ -1,12 +1,15 @@
 //! How the fields of a record are spelled.
-ghost use Rattle.std.specs.Prelude.{◌≡◌, IfOk, IfErr, IfSome, IfNone, Some, None};
+ghost use Rattle.std.specs.Prelude.{◌≡◌, ℕ, List, IfOk, IfErr, IfSome, IfNone, Some, None};
 ghost use Rattle.keybytes.specs.declared.cell.Cell.{Cell as CellValue};
 ghost use Rattle.keybytes.specs.declared.kind.Kind.{Kind as KindValue};
-ghost use Rattle.sfbuild.specs.Fields.{number_of, int_of, SpellsCell, SpellsKind};
+ghost use Rattle.keybytes.specs.declared.rid.Rid.{Rid as RidValue};
+ghost use Rattle.builder_core.specs.declared.plan.Dealing.{Dealing as DealingValue};
+ghost use Rattle.sfbuild.specs.declared.script.spec.Spec.{Spec as SpecValue};
+ghost use Rattle.sfbuild.specs.Fields.{number_of, int_of, slot_of, texts, SpellEach, SpellsCell, SpellsDealing, SpellsKind, SpellsNumbers, SpellsRid, SpellsSpec};
 
 use super::{RecordError, Spec};
 use builder_core::Dealing;
-use keybytes::{Cell, Kind, Text};
+use keybytes::{Cell, Kind, Rid, Text};
 use std::alloc::Global;
 
 /// A number: decimal digits, at most 4,294,967,295.
@@ -26,6 +29,30 @@ pub fn count(text: &str) -> Result<usize, RecordError>
 {
     match number(text) {
         Some(number) => Ok(number as usize),
+        None => Err(RecordError::Bad),
+    }
+}
+
+/// The number of a slot: decimal digits, at most 65,535.
+fn slot(text: &str) -> Option<u16>
+    ensures { result ≡ slot_of text.now }
+{
+    if text.starts_with('+') {
+        return None;
+    }
+    text.parse::<u16>().ok()
+}
+
+/// A RID: a page and a slot, joined by a point.
+pub fn rid(text: &str) -> Result<Rid, RecordError>
+    ensures ok { IfOk result (λ rid. SpellsRid text.now rid) }
+    ensures refused { IfErr result (λ error. (error ≡ RecordError.Bad) × ((rid : RidValue) → SpellsRid text.now rid → ⊥)) }
+{
+    match text.split_once('.') {
+        Some((page_text, slot_text)) => match (number(page_text), slot(slot_text)) {
+            (Some(page), Some(slot)) => Ok(Rid { page, slot }),
+            _ => Err(RecordError::Bad),
+        },
         None => Err(RecordError::Bad),
     }
 }
@@ -61,7 +88,10 @@ fn cell(alloc: Global, text: &str) -> Result<Cell, RecordError>
 }
 
 /// One or more cells.
-pub fn cells(alloc: Global, fields: &[&str]) -> Result<Vec<Cell>, RecordError> {
+pub fn cells(alloc: Global, fields: &[&str]) -> Result<Vec<Cell>, RecordError>
+    ensures ok { IfOk result (λ cells. SpellEach SpellsCell (texts fields.now) cells.items) }
+    ensures refused { result ≡ Err RecordError.Bad → (cells : List CellValue) → SpellEach SpellsCell (texts fields.now) cells → ⊥ }
+{
     if fields.is_empty() {
         return Err(RecordError::Bad);
     }
@@ -85,7 +115,10 @@ fn kind(text: &str) -> Option<Kind>
 }
 
 /// One or more kinds of columns.
-pub fn kinds(alloc: Global, fields: &[&str]) -> Result<Vec<Kind>, RecordError> {
+pub fn kinds(alloc: Global, fields: &[&str]) -> Result<Vec<Kind>, RecordError>
+    ensures ok { IfOk result (λ kinds. SpellEach SpellsKind (texts fields.now) kinds.items) }
+    ensures refused { result ≡ Err RecordError.Bad → (kinds : List KindValue) → SpellEach SpellsKind (texts fields.now) kinds → ⊥ }
+{
     if fields.is_empty() {
         return Err(RecordError::Bad);
     }
@@ -96,25 +129,39 @@ pub fn kinds(alloc: Global, fields: &[&str]) -> Result<Vec<Kind>, RecordError> {
     Ok(kinds)
 }
 
+/// Numbers of columns, joined by `;`.
+fn columns(alloc: Global, text: &str) -> Result<Vec<usize>, RecordError>
+    ensures ok { IfOk result (λ columns. SpellsNumbers text.now columns.items) }
+    ensures refused { result ≡ Err RecordError.Bad → (columns : List ℕ) → SpellsNumbers text.now columns → ⊥ }
+{
+    let mut columns = Vec::new(alloc);
+    for column in text.split(';') {
+        columns.push(count(column)?)?;
+    }
+    Ok(columns)
+}
+
 /// A key specification: `n:` or, for a unique one, `u:`, and the numbers of its columns joined by `;`.
-pub fn spec(alloc: Global, text: &str) -> Result<Spec, RecordError> {
-    let (unique, columns) = match text.split_once(':') {
-        Some(("n", columns)) => (false, columns),
-        Some(("u", columns)) => (true, columns),
+pub fn spec(alloc: Global, text: &str) -> Result<Spec, RecordError>
+    ensures ok { IfOk result (λ spec. SpellsSpec text.now spec) }
+    ensures refused { result ≡ Err RecordError.Bad → (spec : SpecValue) → SpellsSpec text.now spec → ⊥ }
+{
+    let (unique, numbers) = match text.split_once(':') {
+        Some(("n", numbers)) => (false, numbers),
+        Some(("u", numbers)) => (true, numbers),
         _ => return Err(RecordError::Bad),
     };
-    let mut numbers = Vec::new(alloc);
-    for column in columns.split(';') {
-        numbers.push(count(column)?)?;
-    }
     Ok(Spec {
         unique,
-        columns: numbers,
+        columns: columns(alloc, numbers)?,
     })
 }
 
 /// One or more key specifications.
-pub fn specs(alloc: Global, fields: &[&str]) -> Result<Vec<Spec>, RecordError> {
+pub fn specs(alloc: Global, fields: &[&str]) -> Result<Vec<Spec>, RecordError>
+    ensures ok { IfOk result (λ specs. SpellEach SpellsSpec (texts fields.now) specs.items) }
+    ensures refused { result ≡ Err RecordError.Bad → (specs : List SpecValue) → SpellEach SpellsSpec (texts fields.now) specs → ⊥ }
+{
     if fields.is_empty() {
         return Err(RecordError::Bad);
     }
@@ -125,14 +172,25 @@ pub fn specs(alloc: Global, fields: &[&str]) -> Result<Vec<Spec>, RecordError> {
     Ok(specs)
 }
 
-/// How the pages are dealt into ranges: the ends of the ranges joined by `;`, or `even:` and how many there are.
-pub fn dealing(alloc: Global, text: &str) -> Result<Dealing, RecordError> {
-    if let Some(ranges) = text.strip_prefix("even:") {
-        return Ok(Dealing::Even(count(ranges)?));
-    }
+/// Ends of ranges, joined by `;`.
+fn ends(alloc: Global, text: &str) -> Result<Vec<u32>, RecordError>
+    ensures ok { IfOk result (λ ends. SpellsNumbers text.now ends.items) }
+    ensures refused { result ≡ Err RecordError.Bad → (ends : List ℕ) → SpellsNumbers text.now ends → ⊥ }
+{
     let mut ends = Vec::new(alloc);
     for end in text.split(';') {
         ends.push(number(end).ok_or(RecordError::Bad)?)?;
     }
-    Ok(Dealing::Ends(ends))
+    Ok(ends)
+}
+
+/// How the pages are dealt into ranges: the ends of the ranges joined by `;`, or `even:` and how many there are.
+pub fn dealing(alloc: Global, text: &str) -> Result<Dealing, RecordError>
+    ensures ok { IfOk result (λ dealing. SpellsDealing text.now dealing) }
+    ensures refused { result ≡ Err RecordError.Bad → (dealing : DealingValue) → SpellsDealing text.now dealing → ⊥ }
+{
+    match text.strip_prefix("even:") {
+        Some(ranges) => Ok(Dealing::Even(count(ranges)?)),
+        None => Ok(Dealing::Ends(ends(alloc, text)?)),
+    }
 }

@@ -5,7 +5,7 @@ ghost use Rattle.std.specs.String.{string_bytes};
 ghost use Rattle.sfbuild.specs.Fields.{is_label};
 
 use super::RecordError;
-use std::alloc::Global;
+use std::alloc::{AllocError, Global};
 use std::marker::Model;
 
 /// The greatest number of characters of a label.
@@ -49,11 +49,11 @@ impl Label {
         self.text.as_str()
     }
 
-    /// Gives the text; takes no memory.
-    pub fn into_string(self) -> String
-        ensures { string_bytes result ≡ self }
+    /// A copy of the text.
+    pub fn to_string(&self) -> Result<String, AllocError>
+        ensures { IfOk result (λ text. string_bytes text ≡ self.now) }
     {
-        self.text
+        self.text.clone()
     }
 }
 

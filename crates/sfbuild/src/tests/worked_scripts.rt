@@ -205,7 +205,223 @@ start,0,1,1,n:0
     status: 0,
 };
 
-const CASES: [Case; 12] = [
+const PAGE_FULL: Case = Case {
+    name: "an update that its page has no room for",
+    script: b"table,255,text,text,text,text,text,text,text,text,text,text,text,text
+row,=xxxxxxxxxxxxxxxxxxxxxxxxxxxxxxxxxxxxxxxxxxxxxxxxxxxxxxxxxxxxxxxxxxxxxxxxxxxxxxxxxxxxxxxxxxxxxxxxxxxx,=xxxxxxxxxxxxxxxxxxxxxxxxxxxxxxxxxxxxxxxxxxxxxxxxxxxxxxxxxxxxxxxxxxxxxxxxxxxxxxxxxxxxxxxxxxxxxxxxxxxx,=xxxxxxxxxxxxxxxxxxxxxxxxxxxxxxxxxxxxxxxxxxxxxxxxxxxxxxxxxxxxxxxxxxxxxxxxxxxxxxxxxxxxxxxxxxxxxxxxxxxx,=xxxxxxxxxxxxxxxxxxxxxxxxxxxxxxxxxxxxxxxxxxxxxxxxxxxxxxxxxxxxxxxxxxxxxxxxxxxxxxxxxxxxxxxxxxxxxxxxxxxx,=xxxxxxxxxxxxxxxxxxxxxxxxxxxxxxxxxxxxxxxxxxxxxxxxxxxxxxxxxxxxxxxxxxxxxxxxxxxxxxxxxxxxxxxxxxxxxxxxxxxx,=xxxxxxxxxxxxxxxxxxxxxxxxxxxxxxxxxxxxxxxxxxxxxxxxxxxxxxxxxxxxxxxxxxxxxxxxxxxxxxxxxxxxxxxxxxxxxxxxxxxx,=xxxxxxxxxxxxxxxxxxxxxxxxxxxxxxxxxxxxxxxxxxxxxxxxxxxxxxxxxxxxxxxxxxxxxxxxxxxxxxxxxxxxxxxxxxxxxxxxxxxx,=xxxxxxxxxxxxxxxxxxxxxxxxxxxxxxxxxxxxxxxxxxxxxxxxxxxxxxxxxxxxxxxxxxxxxxxxxxxxxxxxxxxxxxxxxxxxxxxxxxxx,=xxxxxxxxxxxxxxxxxxxxxxxxxxxxxxxxxxxxxxxxxxxxxxxxxxxxxxxxxxxxxxxxxxxxxxxxxxxxxxxxxxxxxxxxxxxxxxxxxxxx,=xxxxxxxxxxxxxxxxxxxxxxxxxxxxxxxxxxxxxxxxxxxxxxxxxxxxxxxxxxxxxxxxxxxxxxxxxxxxxxxxxxxxxxxxxxxxxxxxxxxx,=xxxxxxxxxxxxxxxxxxxxxxxxxxxxxxxxxxxxxxxxxxxxxxxxxxxxxxxxxxxxxxxxxxxxxxxxxxxxxxxxxxxxxxxxxxxxxxxxxxxx,=xxxxxxxxxxxxxxxxxxxxxxxxxxxxxxxxxxxxxxxxxxxxxxxxxxxxxxxxxxxxxxxxxxxxxxxxxxxxxxxxxxxxxxxxxxxxxxxxxxxx
+row,=xxxxxxxxxxxxxxxxxxxxxxxxxxxxxxxxxxxxxxxxxxxxxxxxxxxxxxxxxxxxxxxxxxxxxxxxxxxxxxxxxxxxxxxxxxxxxxxxxxxx,=xxxxxxxxxxxxxxxxxxxxxxxxxxxxxxxxxxxxxxxxxxxxxxxxxxxxxxxxxxxxxxxxxxxxxxxxxxxxxxxxxxxxxxxxxxxxxxxxxxxx,=xxxxxxxxxxxxxxxxxxxxxxxxxxxxxxxxxxxxxxxxxxxxxxxxxxxxxxxxxxxxxxxxxxxxxxxxxxxxxxxxxxxxxxxxxxxxxxxxxxxx,=xxxxxxxxxxxxxxxxxxxxxxxxxxxxxxxxxxxxxxxxxxxxxxxxxxxxxxxxxxxxxxxxxxxxxxxxxxxxxxxxxxxxxxxxxxxxxxxxxxxx,=xxxxxxxxxxxxxxxxxxxxxxxxxxxxxxxxxxxxxxxxxxxxxxxxxxxxxxxxxxxxxxxxxxxxxxxxxxxxxxxxxxxxxxxxxxxxxxxxxxxx,=xxxxxxxxxxxxxxxxxxxxxxxxxxxxxxxxxxxxxxxxxxxxxxxxxxxxxxxxxxxxxxxxxxxxxxxxxxxxxxxxxxxxxxxxxxxxxxxxxxxx,=xxxxxxxxxxxxxxxxxxxxxxxxxxxxxxxxxxxxxxxxxxxxxxxxxxxxxxxxxxxxxxxxxxxxxxxxxxxxxxxxxxxxxxxxxxxxxxxxxxxx,=xxxxxxxxxxxxxxxxxxxxxxxxxxxxxxxxxxxxxxxxxxxxxxxxxxxxxxxxxxxxxxxxxxxxxxxxxxxxxxxxxxxxxxxxxxxxxxxxxxxx,=xxxxxxxxxxxxxxxxxxxxxxxxxxxxxxxxxxxxxxxxxxxxxxxxxxxxxxxxxxxxxxxxxxxxxxxxxxxxxxxxxxxxxxxxxxxxxxxxxxxx,=xxxxxxxxxxxxxxxxxxxxxxxxxxxxxxxxxxxxxxxxxxxxxxxxxxxxxxxxxxxxxxxxxxxxxxxxxxxxxxxxxxxxxxxxxxxxxxxxxxxx,=xxxxxxxxxxxxxxxxxxxxxxxxxxxxxxxxxxxxxxxxxxxxxxxxxxxxxxxxxxxxxxxxxxxxxxxxxxxxxxxxxxxxxxxxxxxxxxxxxxxx,=xxxxxxxxxxxxxxxxxxxxxxxxxxxxxxxxxxxxxxxxxxxxxxxxxxxxxxxxxxxxxxxxxxxxxxxxxxxxxxxxxxxxxxxxxxxxxxxxxxxx
+row,=xxxxxxxxxxxxxxxxxxxxxxxxxxxxxxxxxxxxxxxxxxxxxxxxxxxxxxxxxxxxxxxxxxxxxxxxxxxxxxxxxxxxxxxxxxxxxxxxxxxx,=xxxxxxxxxxxxxxxxxxxxxxxxxxxxxxxxxxxxxxxxxxxxxxxxxxxxxxxxxxxxxxxxxxxxxxxxxxxxxxxxxxxxxxxxxxxxxxxxxxxx,=xxxxxxxxxxxxxxxxxxxxxxxxxxxxxxxxxxxxxxxxxxxxxxxxxxxxxxxxxxxxxxxxxxxxxxxxxxxxxxxxxxxxxxxxxxxxxxxxxxxx,=xxxxxxxxxxxxxxxxxxxxxxxxxxxxxxxxxxxxxxxxxxxxxxxxxxxxxxxxxxxxxxxxxxxxxxxxxxxxxxxxxxxxxxxxxxxxxxxxxxxx,=xxxxxxxxxxxxxxxxxxxxxxxxxxxxxxxxxxxxxxxxxxxxxxxxxxxxxxxxxxxxxxxxxxxxxxxxxxxxxxxxxxxxxxxxxxxxxxxxxxxx,=xxxxxxxxxxxxxxxxxxxxxxxxxxxxxxxxxxxxxxxxxxxxxxxxxxxxxxxxxxxxxxxxxxxxxxxxxxxxxxxxxxxxxxxxxxxxxxxxxxxx,=xxxxxxxxxxxxxxxxxxxxxxxxxxxxxxxxxxxxxxxxxxxxxxxxxxxxxxxxxxxxxxxxxxxxxxxxxxxxxxxxxxxxxxxxxxxxxxxxxxxx,=xxxxxxxxxxxxxxxxxxxxxxxxxxxxxxxxxxxxxxxxxxxxxxxxxxxxxxxxxxxxxxxxxxxxxxxxxxxxxxxxxxxxxxxxxxxxxxxxxxxx,=xxxxxxxxxxxxxxxxxxxxxxxxxxxxxxxxxxxxxxxxxxxxxxxxxxxxxxxxxxxxxxxxxxxxxxxxxxxxxxxxxxxxxxxxxxxxxxxxxxxx,=xxxxxxxxxxxxxxxxxxxxxxxxxxxxxxxxxxxxxxxxxxxxxxxxxxxxxxxxxxxxxxxxxxxxxxxxxxxxxxxxxxxxxxxxxxxxxxxxxxxx,=xxxxxxxxxxxxxxxxxxxxxxxxxxxxxxxxxxxxxxxxxxxxxxxxxxxxxxxxxxxxxxxxxxxxxxxxxxxxxxxxxxxxxxxxxxxxxxxxxxxx,=xxxxxxxxxxxxxxxxxxxxxxxxxxxxxxxxxxxxxxxxxxxxxxxxxxxxxxxxxxxxxxxxxxxxxxxxxxxxxxxxxxxxxxxxxxxxxxxxxxxx
+row,~,~,~,~,~,~,~,~,~,~,~,~
+begin,A
+update,A,0.3,=xxxxxxxxxxxxxxxxxxxxxxxxxxxxxxxxxxxxxxxxxxxxxxxxxxxxxxxxxxxxxxxxxxxxxxxxxxxxxxxxxxxxxxxxxxxxxxxxxxxx,=xxxxxxxxxxxxxxxxxxxxxxxxxxxxxxxxxxxxxxxxxxxxxxxxxxxxxxxxxxxxxxxxxxxxxxxxxxxxxxxxxxxxxxxxxxxxxxxxxxxx,=xxxxxxxxxxxxxxxxxxxxxxxxxxxxxxxxxxxxxxxxxxxxxxxxxxxxxxxxxxxxxxxxxxxxxxxxxxxxxxxxxxxxxxxxxxxxxxxxxxxx,=yyyyyyyyyyyyyyyyyyyyyyyyyyyyyyyyyyyyyyyyyyyyyyyyyyyyyyyyyyyyyyyyyyyyyyyyyyyyy,~,~,~,~,~,~,~,~
+update,A,0.3,=xxxxxxxxxxxxxxxxxxxxxxxxxxxxxxxxxxxxxxxxxxxxxxxxxxxxxxxxxxxxxxxxxxxxxxxxxxxxxxxxxxxxxxxxxxxxxxxxxxxx,=xxxxxxxxxxxxxxxxxxxxxxxxxxxxxxxxxxxxxxxxxxxxxxxxxxxxxxxxxxxxxxxxxxxxxxxxxxxxxxxxxxxxxxxxxxxxxxxxxxxx,=xxxxxxxxxxxxxxxxxxxxxxxxxxxxxxxxxxxxxxxxxxxxxxxxxxxxxxxxxxxxxxxxxxxxxxxxxxxxxxxxxxxxxxxxxxxxxxxxxxxx,=yyyyyyyyyyyyyyyyyyyyyyyyyyyyyyyyyyyyyyyyyyyyyyyyyyyyyyyyyyyyyyyyyyyyyyyyyyyy,~,~,~,~,~,~,~,~
+update,A,0.3,~,~,~,~,~,~,~,~,~,~,~,~
+begin,B
+insert,B,~,~,~,~,~,~,~,~,~,~,~,~
+commit,A
+insert,B,~,~,~,~,~,~,~,~,~,~,~,~
+",
+    out: "1,ok
+2,ok,0.0
+3,ok,0.1
+4,ok,0.2
+5,ok,0.3
+6,ok,5
+7,refused,23,PageFull
+8,ok,9,0.3
+9,ok,10,0.3
+10,ok,6
+11,ok,11,1.0
+12,ok,12
+13,ok,13,0.4
+",
+    err: "",
+    status: 0,
+};
+
+const UNDONE: Case = Case {
+    name: "writes undone one by one",
+    script: b"table,1,int
+row,1
+begin,A
+begin,B
+update,A,0.0,2
+update,A,0.0,3
+update,B,0.0,9
+undo,A
+commit,A
+undo,A
+commit,A
+undo,B
+rest,n:0
+",
+    out: "1,ok
+2,ok,0.0
+3,ok,2
+4,ok,3
+5,ok,3,0.0
+6,ok,4,0.0
+7,refused,22,RowHeld,2
+8,ok,5,1
+9,refused,26,TxnEnding
+10,ok,6,0
+11,refused,24,NoSuchTxn
+12,ok,0,0
+13,ok,1
+13,pair,1,0.0
+",
+    err: "",
+    status: 0,
+};
+
+const DELETED: Case = Case {
+    name: "a deleted row, and a RID that another transaction holds",
+    script: b"table,2,int
+row,1
+begin,A
+begin,B
+delete,A,0.0
+insert,B,5
+update,B,0.0,6
+undo,A
+get,0.0
+commit,B
+",
+    out: "1,ok
+2,ok,0.0
+3,ok,2
+4,ok,3
+5,ok,3,0.0
+6,ok,4,0.1
+7,refused,22,RowHeld,2
+8,ok,5,0
+9,ok,1
+10,ok,6
+",
+    err: "",
+    status: 0,
+};
+
+const AFTER_REMARK: Case = Case {
+    name: "a row that is asked for by its RID",
+    script: b"#x
+table,2,int
+row,-0
+get,0.0
+",
+    out: "2,ok
+3,ok,0.0
+4,ok,0
+",
+    err: "",
+    status: 0,
+};
+
+const ROW_UNDONE: Case = Case {
+    name: "a refused row, and a label that names nothing",
+    script: b"table,2,int
+row,true
+undo,Z
+",
+    out: "1,ok
+2,refused,12,RowShape
+3,refused,24,NoSuchTxn
+",
+    err: "",
+    status: 0,
+};
+
+const CELLS: Case = Case {
+    name: "each kind of cell of a row",
+    script: b"table,4,int,text,flag
+row,-9223372036854775808,=,true
+row,~,\"=a,b\",false
+row,007,=~,~
+get,0.0
+get,0.01
+get,00.2
+get,0.3
+get,1.0
+get,4294967295.65535
+begin,A
+update,A,0.2,~,~,true
+get,0.2
+delete,A,0.2
+get,0.2
+undo,A
+get,0.2
+",
+    out: "1,ok
+2,ok,0.0
+3,ok,0.1
+4,ok,0.2
+5,ok,-9223372036854775808,=,true
+6,ok,~,\"=a,b\",false
+7,ok,7,=~,~
+8,refused,21,NoSuchRow
+9,refused,21,NoSuchRow
+10,refused,21,NoSuchRow
+11,ok,4
+12,ok,7,0.2
+13,ok,~,~,true
+14,ok,8,0.2
+15,refused,21,NoSuchRow
+16,ok,9,1
+17,ok,~,~,true
+",
+    err: "",
+    status: 0,
+};
+
+const CHANGES_REFUSED: Case = Case {
+    name: "each refusal of a change in its order",
+    script: b"table,1,int
+row,1
+update,A,0.0,1,1,1,1,1,1,1,1,1,1,1,1,1
+update,A,0.0,~,~
+delete,A,0.0
+undo,A
+begin,A
+update,A,0.0,true
+update,A,0.1,1
+delete,A,1.0
+delete,A,0.0
+update,A,0.0,1
+undo,A
+update,A,0.0,1
+start,1,1,1,n:0
+begin,B
+update,B,0.0,1
+delete,B,0.0
+undo,B
+row,7
+",
+    out: "1,ok
+2,ok,0.0
+3,refused,12,RowShape
+4,refused,24,NoSuchTxn
+5,refused,24,NoSuchTxn
+6,refused,24,NoSuchTxn
+7,ok,2
+8,refused,12,RowShape
+9,refused,21,NoSuchRow
+10,refused,21,NoSuchRow
+11,ok,3,0.0
+12,refused,21,NoSuchRow
+13,ok,4,0
+14,refused,24,NoSuchTxn
+15,ok,1
+16,ok,3
+17,refused,40,BuildRunning
+18,refused,40,BuildRunning
+19,refused,40,BuildRunning
+20,refused,40,BuildRunning
+",
+    err: "",
+    status: 0,
+};
+
+const CASES: [Case; 19] = [
     EQUAL_KEYS,
     AT_REST,
     UNKNOWN_COMMAND,
@@ -218,7 +434,35 @@ const CASES: [Case; 12] = [
     COLUMNS,
     LIMIT_FIRST,
     REFUSALS,
+    PAGE_FULL,
+    UNDONE,
+    DELETED,
+    AFTER_REMARK,
+    ROW_UNDONE,
+    CELLS,
+    CHANGES_REFUSED,
 ];
+
+/// As many refused rows as transactions may be open, and one row more.
+#[test]
+fn refused_rows_leave_no_transaction_open(rt: HostRuntime) -> Result<(), Fail> {
+    let mut script = String::from_str(rt.alloc(), "table,2,int\n")?;
+    for _ in 0..64 {
+        script.push_str("row,true\n")?;
+    }
+    script.push_str("row,5\nbegin,A\n")?;
+    let mut out = Vec::new(rt.alloc());
+    let mut err = Vec::new(rt.alloc());
+    let status = replay(rt.alloc(), script.as_bytes(), &mut out, &mut err);
+    let out = str::from_utf8(out.as_slice())?;
+    assert!(rt;
+        out.ends_with("65,refused,12,RowShape\n66,ok,0.0\n67,ok,66\n"),
+        "{out}"
+    );
+    assert!(rt; err.is_empty());
+    assert_eq!(rt; status, 0);
+    Ok(())
+}
 
 #[test]
 fn print_what_they_are_to(rt: HostRuntime) -> Result<(), Fail> {
