@@ -12,7 +12,7 @@ use Rattle.keybytes.specs.Keys.{KeySpecValue, key_of}
 use Rattle.keybytes.specs.declared.kind.Kind.{Kind}
 use Rattle.heap_log.specs.declared.record.LogRec.{LogRec}
 use Rattle.heap_table.specs.Images.{ImageValue, IsImage, Shows, image_slot}
-use Rattle.heap_table.specs.Pages.{rid_at, pages_written, KeepsRows, RowsAreInside}
+use Rattle.heap_table.specs.Pages.{rid_at, pages_written, KeepsRows}
 use Rattle.heap_table.proofs.LogRows.{inside_kept}
 use Rattle.builder_core.specs.declared.pair.Pair.{Pair}
 use Rattle.builder_core.specs.Pairs.{pair_at, rids_on, pairs_on, pairs_from, pairs_at_rest}
@@ -75,25 +75,6 @@ pub follow_more : (old new : List LogRec) (ready : List ReadyValue) (index : Rea
 follow_more old new ready index keeps is here =
     All-push (λ index. index.pairs ≡ pairs_at_rest index.spec new) ready index (follow_kept old new ready keeps is)
     (here ∙ sym (pairs_kept index.spec old new keeps.live))
-
--- a build that starts
-pub started : (spec : KeySpecValue) (kinds : List Kind) (log : List LogRec) → spec.kinds ≡ kinds → pages_written log ≤ 65536 → RowsAreInside log → IsBuilding kinds log (record { spec = spec; pages = pages_written log; sealed = 0; ring = []; pairs = []; loaded = false; spoiled = None })
-started spec kinds log columns limit inside = record {
-  columns = columns;
-  pages = refl;
-  limit = limit;
-  within = omega arith;
-  few = omega arith;
-  inside = inside;
-  work = λ e. record {
-    copies = record { each = λ i image at. absurd (none_at i image at) };
-    made = λ l. refl;
-    in_order = λ l. absurd (false≢true l);
-    done = λ l. absurd (false≢true l);
-  };
-} where
-  none_at : (i : ℕ) (image : ImageValue) → slice_get [] i ≡ Some image → ⊥
-  none_at i image at = cc
 
 get_pushed : {X : Type 0} (xs : List X) (x y : X) (i : ℕ) → slice_get (xs ++ x ∷ []) i ≡ Some y → (slice_get xs i ≡ Some y) ⊎ ((i ≡ length xs) × (x ≡ y))
 get_pushed [] x y zero e = inr (refl, same_Some x y e)

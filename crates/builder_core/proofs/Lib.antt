@@ -1,4 +1,6 @@
 pub mod AtRest
+pub mod ColumnOrder
+pub mod Examples
 pub mod Following
 pub mod KeysAtRest
 pub mod Making

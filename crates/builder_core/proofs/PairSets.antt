@@ -22,11 +22,12 @@ use Rattle.heap_log.specs.declared.record.LogRec.TheVariants.{Write, Undo, Commi
 use Rattle.heap_log.specs.Standing.{live_at, place_of, record_at, row_at, same_rid, is_write_at, last_below, stands_at, undone}
 use Rattle.heap_log.proofs.Last.{IsLast, last_below_some}
 use Rattle.heap_log.proofs.Records.{same_rid-true}
+use Rattle.keybytes.specs.Rids.{rid_cmp, rid_cmp-total}
 use Rattle.builder_core.specs.declared.pair.Pair.{Pair}
-use Rattle.builder_core.specs.Pairs.{rid_cmp, pair_cmp, pair_at, written_rids, set_of, pairs_at_rest}
+use Rattle.builder_core.specs.Pairs.{pair_cmp, pair_at, written_rids, set_of, pairs_at_rest}
 
 pub pairs_total : IsTotalOrder pair_cmp
-pairs_total = then_total (on_total (λ p. p.key) nat_list_cmp_total) (on_total (λ p. p.rid) (then_total (on_total (λ r. r.page) nat_cmp_total) (on_total (λ r. r.slot) nat_cmp_total)))
+pairs_total = then_total (on_total (λ p. p.key) nat_list_cmp_total) (on_total (λ p. p.rid) rid_cmp-total)
 
 exact_rids : (a b : Rid) → rid_cmp a b ≡ Equal → a ≡ b
 exact_rids a b h = ap (λ (p : ℕ × ℕ). record { page = p.0; slot = p.1 }) (exact_pairs nat_cmp nat_cmp exact_unsigned exact_unsigned (a.page, a.slot) (b.page, b.slot) h)

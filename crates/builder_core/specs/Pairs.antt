@@ -1,23 +1,22 @@
 -- The pairs of key and RID of the rows that stand: the set of them, their order, and those of each page.
-use Rattle.std.specs.Prelude.{ℕ, List, map, flat_map, filter_map, Option, Some}
+use Rattle.std.specs.Prelude.{◌≡◌, ◌<◌, ℕ, List, length, get_or, map, flat_map, filter_map, Option, Some}
 use Rattle.std.specs.declared.cmp.Ordering.{Ordering}
-use Rattle.std.specs.Ordering.{nat_cmp, then_cmp, on}
+use Rattle.std.specs.declared.cmp.Ordering.TheVariants.{Less}
+use Rattle.std.specs.Ordering.{nat_cmp, then_cmp, ordering_then, on}
 use Rattle.std.specs.Cmp.Lexicographic.{slice_cmp}
 use Rattle.std.specs.List.{range_with_len, All}
 use Rattle.std.specs.Option.{option_map}
 use Rattle.std.specs.FinSet.{FinSet}
 use Rattle.std.specs.FinMap.{from_entries, keys}
-use Rattle.keybytes.specs.Keys.{KeySpecValue, key_of, IsKeyOf}
+use Rattle.keybytes.specs.Keys.{KeySpecValue, key_of, key_columns, IsKeyOf, IsRowOf}
+use Rattle.keybytes.specs.Cells.{columns_cmp}
+use Rattle.keybytes.specs.Rids.{rid_cmp}
 use Rattle.keybytes.specs.declared.cell.Cell.{Cell}
 use Rattle.keybytes.specs.declared.rid.Rid.{Rid}
 use Rattle.heap_log.specs.declared.record.LogRec.{LogRec}
 use Rattle.heap_log.specs.Standing.{live_at, place_of}
 use Rattle.heap_table.specs.Pages.{rid_at, slots_written}
 use Rattle.builder_core.specs.declared.pair.Pair.{Pair}
-
--- by page, then by slot
-abbrev pub rid_cmp : Rid → Rid → Ordering
-rid_cmp = then_cmp (on (λ rid. rid.page) nat_cmp) (on (λ rid. rid.slot) nat_cmp)
 
 -- by key, then by RID
 abbrev pub pair_cmp : Pair → Pair → Ordering
@@ -62,3 +61,13 @@ pairs_from spec log first count = flat_map (pairs_on spec log) (range_with_len f
 -- each pair's key is that of a row
 abbrev pub HaveKeysOf : KeySpecValue → List Pair → Type 0
 HaveKeysOf spec pairs = All (λ pair. IsKeyOf spec pair.key) pairs
+
+-- whatever rows their keys are of, the first pair has the lesser columns, or the same ones and the lesser RID
+abbrev pub IsBefore : KeySpecValue → Pair → Pair → Type 0
+IsBefore spec p q =
+    (a b : List Cell) → IsRowOf spec a → IsRowOf spec b → key_of spec a ≡ p.key → key_of spec b ≡ q.key
+    → ordering_then (columns_cmp (key_columns spec a) (key_columns spec b)) (rid_cmp p.rid q.rid) ≡ Less
+
+-- the pairs stand in the order of their columns, then of their RIDs
+abbrev pub AreInColumnOrder : KeySpecValue → List Pair → Type 0
+AreInColumnOrder spec pairs = (i j : ℕ) (d : Pair) → i < j → j < length pairs → IsBefore spec (get_or pairs i d) (get_or pairs j d)

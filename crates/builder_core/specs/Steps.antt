@@ -33,6 +33,10 @@ abbrev pub unless : Option Fault → CoreState → CoreState → Reply → CoreS
 unless None old new reply = (new, reply)
 unless (Some fault) old new reply = (old, Refused fault)
 
+-- why a refused call is answered that fault: it is the cause, or there is no cause and memory ran out
+abbrev pub IsAnswerTo : Option Fault → Fault → Type 0
+IsAnswerTo cause fault = (cause ≡ Some fault) ⊎ ((cause ≡ None) × (fault ≡ Memory))
+
 -- what a running build makes of an event
 abbrev pub with_build : CoreState → Option BuildState → (BuildState → CoreState × Reply) → CoreState × Reply
 with_build s None answer = (s, Refused NoBuild)
@@ -210,6 +214,30 @@ outcome s (Load index) = with_build s s.build (λ b. unless (load_refusal b inde
 outcome s Switch =
     with_build s s.build (λ b. unless (switch_refusal b) s (after_switch_in s b) (Switched (length s.heap.log + 1) (verdicts_on s)))
 
+-- why the running build refuses an event; that there is none is a reason too
+abbrev pub refusal_of : Option BuildState → (BuildState → Option Fault) → Option Fault
+refusal_of None cause = Some NoBuild
+refusal_of (Some b) cause = cause b
+
+-- why a plan with that one specification, if any, starts no build
+abbrev pub plan_refusal : CoreState → Plan → Option KeySpecValue → Option Fault
+plan_refusal s plan None = Some BadCount
+plan_refusal s plan (Some spec) = start_refusal s plan spec
+
+-- why an event is refused for the sake of a build, which is looked at before memory is taken
+abbrev pub build_refusal : CoreState → Event → Option Fault
+build_refusal s Begin = None
+build_refusal s (Insert txn row) = unless_indexed s None
+build_refusal s (Update txn rid row) = unless_indexed s None
+build_refusal s (Delete txn rid) = unless_indexed s None
+build_refusal s (Undo txn) = unless_indexed s None
+build_refusal s (Commit txn) = None
+build_refusal s (Start plan) = if is_some s.build then Some BuildRunning else plan_refusal s plan (only_spec plan.specs.items)
+build_refusal s (Scan range worker) = refusal_of s.build (λ b. scan_refusal b range worker)
+build_refusal s (Seal worker) = refusal_of s.build (λ b. seal_refusal b worker)
+build_refusal s (Load index) = refusal_of s.build (λ b. load_refusal b index)
+build_refusal s Switch = refusal_of s.build switch_refusal
+
 -- the running build, if any, is spoiled
 abbrev pub spoiled_by : Fault → Option BuildState → Option BuildState
 spoiled_by fault None = None
@@ -229,9 +257,13 @@ after_memory s (Seal worker) = record s { build = spoiled_by Memory s.build }
 after_memory s (Load index) = record s { build = spoiled_by Memory s.build }
 after_memory s Switch = s
 
+-- what want of memory leaves; it is answered only where no build is a cause to refuse the event
+abbrev pub WantsMemory : CoreState → Event → CoreState → Type 0
+WantsMemory s event new = (new ≡ after_memory s event) × (build_refusal s event ≡ None)
+
 -- one event: its outcome, or want of memory
 abbrev pub Step : CoreState → Event → Reply → CoreState → Type 0
-Step s event reply new = ((new, reply) ≡ outcome s event) ⊎ ((reply ≡ Refused Memory) × (new ≡ after_memory s event))
+Step s event reply new = ((new, reply) ≡ outcome s event) ⊎ ((reply ≡ Refused Memory) × WantsMemory s event new)
 
 -- the reply to an event, or the fault of its refusal
 abbrev pub Answers : CoreState → Event → Result Reply Fault → CoreState → Type 0

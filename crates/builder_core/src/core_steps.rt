@@ -2,7 +2,7 @@ ghost use Rattle.std.specs.Prelude.{◌≡◌, ◌≢◌, [], length, true, Some
 ghost use Rattle.heap_log.specs.Standing.{live_at};
 ghost use Rattle.heap_table.specs.HeapState.{row_missing, after_visit};
 ghost use Rattle.heap_table.specs.Pages.{pages_written};
-ghost use Rattle.builder_core.specs.Pairs.{pairs_at_rest, HaveKeysOf};
+ghost use Rattle.builder_core.specs.Pairs.{pairs_at_rest, HaveKeysOf, AreInColumnOrder};
 ghost use Rattle.builder_core.specs.CoreState.{opening, live_of, after_visits, ReadyFollowTable};
 ghost use Rattle.builder_core.specs.Steps.{Step, Answers, is_one_range, with_heap, is_indexed};
 
@@ -63,12 +63,14 @@ impl Core {
         live
     }
 
+    /// The columns of the table.
     pub fn schema(&self) -> &Schema
         ensures { result.now ≡ self.now.heap.schema }
     {
         self.live.heap().schema()
     }
 
+    /// Whether a build runs, a spoiled one too.
     pub fn is_building(&self) -> bool
         ensures { result ≡ is_some self.now.build }
     {
@@ -89,6 +91,7 @@ impl Core {
         requires { spec.now.kinds ≡ self.old.heap.schema }
         ensures ok { IfOk result (λ pairs. pairs.items ≡ pairs_at_rest spec.now self.old.heap.log) }
         ensures keys { IfOk result (λ pairs. HaveKeysOf spec.now pairs.items) }
+        ensures order { IfOk result (λ pairs. AreInColumnOrder spec.now pairs.items) }
         ensures visits { OnOk result (self.new ≡ with_heap self.old (after_visits self.old.heap (pages_written self.old.heap.log))) }
         ensures rows { self.new ≡ with_heap self.old (record self.old.heap { visits = self.new.heap.visits }) }
         ensures memory { IfErr result (λ fault. fault ≡ Fault.Memory) }
@@ -106,7 +109,7 @@ impl Core {
         self.live.get(rid)
     }
 
-    /// Does one event.
+    /// Does one event. A refused one changes nothing, but for want of memory in a seal or a load, which spoils the build.
     pub fn step(&mut self, event: Event) -> Reply
         ensures step { Step self.old event result self.new }
         ensures ready { ReadyFollowTable self.new }

@@ -2,28 +2,42 @@ use crate::Plan;
 use keybytes::{Rid, Row};
 
 /// What is asked of a table and of its index build.
+///
+/// Behind what each event does stand the faults that refuse it: where several have their cause, the first is answered. A row is
+/// changed only while no build runs and no index is ready, for now. [`Fault::Memory`] may refuse any event for which the
+/// build has no cause. In a seal or a load it spoils the build: a scan, a seal, a load and a switch are then refused so,
+/// right behind [`Fault::NoBuild`] and [`Fault::BadCount`].
 #[derive(Debug, Drop)]
 pub enum Event {
-    /// A transaction begins.
+    /// A transaction begins. [`Fault::TooManyTxns`].
     Begin,
-    /// The transaction inserts a row.
+    /// The transaction inserts a row. [`Fault::BuildRunning`], [`Fault::NoSuchTxn`], [`Fault::TxnEnding`], [`Fault::RowShape`],
+    /// [`Fault::TableFull`].
     Insert { txn: u64, row: Row },
-    /// The transaction gives a RID another row.
+    /// The transaction gives a RID another row. [`Fault::BuildRunning`], [`Fault::NoSuchTxn`], [`Fault::TxnEnding`],
+    /// [`Fault::RowShape`], [`Fault::RowHeld`], [`Fault::NoSuchRow`], [`Fault::PageFull`].
     Update { txn: u64, rid: Rid, row: Row },
-    /// The transaction takes the row at a RID away.
+    /// The transaction takes the row at a RID away. [`Fault::BuildRunning`], [`Fault::NoSuchTxn`], [`Fault::TxnEnding`],
+    /// [`Fault::RowHeld`], [`Fault::NoSuchRow`].
     Delete { txn: u64, rid: Rid },
     /// The transaction's newest standing write is undone; from then on it can only be undone further.
+    /// [`Fault::BuildRunning`], [`Fault::NoSuchTxn`].
     Undo { txn: u64 },
-    /// The transaction ends, and keeps its writes.
+    /// The transaction ends, and keeps its writes. [`Fault::NoSuchTxn`], [`Fault::TxnEnding`].
     Commit { txn: u64 },
-    /// An index build starts.
+    /// An index build starts, of one index that isn't unique, by one worker over one range. [`Fault::BuildRunning`];
+    /// [`Fault::BadCount`] for other counts and where 32 indexes are ready; [`Fault::BadColumn`] for an index of other
+    /// columns than the table's; [`Fault::BadRanges`].
     Start { plan: Plan },
-    /// The next page of the range is copied for the worker.
+    /// The next page of the range is copied for the worker. [`Fault::NoBuild`]; [`Fault::BadCount`] for a range or a worker
+    /// that isn't there; [`Fault::RangeDone`]; [`Fault::RingFull`] while four copies wait.
     Scan { range: usize, worker: usize },
-    /// The worker makes the pairs of the copies that wait for it.
+    /// The worker makes the pairs of the copies that wait for it. [`Fault::NoBuild`], [`Fault::BadCount`].
     Seal { worker: usize },
-    /// The pairs of the index are put in order.
+    /// The pairs of the index are put in order. [`Fault::NoBuild`], [`Fault::BadCount`]; [`Fault::NotScanned`] while a page
+    /// is left; [`Fault::NotSealed`] while a copy waits.
     Load { index: usize },
-    /// The indexes of the build become ready, and the build ends.
+    /// The indexes of the build become ready, and the build ends. [`Fault::NoBuild`], [`Fault::NotScanned`],
+    /// [`Fault::NotLoaded`].
     Switch,
 }

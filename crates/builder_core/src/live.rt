@@ -6,7 +6,7 @@ ghost use Rattle.heap_table.specs.Images.{IsImage};
 ghost use Rattle.heap_table.specs.Kept.{RowsFit};
 ghost use Rattle.heap_table.specs.Pages.{pages_written, KeepsRows, RowsAreInside};
 ghost use Rattle.heap_log.specs.Standing.{live_at, newest_standing, standing_count};
-ghost use Rattle.builder_core.specs.Pairs.{pairs_at_rest, HaveKeysOf};
+ghost use Rattle.builder_core.specs.Pairs.{pairs_at_rest, HaveKeysOf, AreInColumnOrder};
 ghost use Rattle.builder_core.specs.CoreState.{LiveValue, FollowTable, live_with_heap, after_visits};
 
 use crate::build::Build;
@@ -183,6 +183,7 @@ impl Live {
         requires { spec.now.kinds ≡ self.old.heap.schema }
         ensures ok { IfOk result (λ pairs. pairs.items ≡ pairs_at_rest spec.now self.old.heap.log) }
         ensures keys { IfOk result (λ pairs. HaveKeysOf spec.now pairs.items) }
+        ensures order { IfOk result (λ pairs. AreInColumnOrder spec.now pairs.items) }
         ensures visits { OnOk result (self.new ≡ live_with_heap self.old (after_visits self.old.heap (pages_written self.old.heap.log))) }
         ensures rows { self.new ≡ live_with_heap self.old (record self.old.heap { visits = self.new.heap.visits }) }
         ensures memory { IfErr result (λ fault. fault ≡ Fault.Memory) }

@@ -33,6 +33,7 @@ impl ReadyIndex {
         ReadyIndex { spec, pairs }
     }
 
+    /// What makes the keys of its pairs.
     pub fn spec(&self) -> &KeySpec
         ensures { result.now ≡ self.now.spec }
     {

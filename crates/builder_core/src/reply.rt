@@ -4,20 +4,25 @@ use keybytes::{Fault, Rid};
 /// What an event is answered.
 #[derive(Debug, Drop)]
 pub enum Reply {
+    /// With the number of the transaction.
     Begun { txn: u64 },
     /// With the number of the log record.
     Written { number: usize, rid: Rid },
     /// With the number of the log record, 0 where the transaction had no write to undo, and the number of its writes that
     /// still stand. With none it has ended.
     Undone { number: usize, left: usize },
+    /// With the number of the log record.
     Committed { number: usize },
     /// With the number of pages that the build reads.
     Started { pages: u32 },
+    /// With the number of the page, from 0.
     Scanned { page: u32 },
     /// With the number of copies that the worker took.
     Sealed { images: usize },
-    /// With the number of pairs that were put in order.
+    /// With the number of pairs that were put in order: 0 where they were in order already.
     Loaded { pairs: usize },
+    /// With the number of the log record, and what became of each index of the build.
     Switched { number: usize, verdicts: Verdicts },
+    /// With the cause.
     Refused { fault: Fault },
 }

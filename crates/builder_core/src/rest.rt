@@ -1,7 +1,7 @@
 ghost use Rattle.std.specs.Prelude.{◌≡◌, ◌++◌, All, map, true, IfOk, IfErr, OnOk};
 ghost use Rattle.keybytes.specs.Cells.{fits};
 ghost use Rattle.heap_table.specs.Pages.{pages_written};
-ghost use Rattle.builder_core.specs.Pairs.{pair_of, pairs_at_rest, HaveKeysOf};
+ghost use Rattle.builder_core.specs.Pairs.{pair_of, pairs_at_rest, HaveKeysOf, AreInColumnOrder};
 ghost use Rattle.builder_core.specs.CoreState.{after_visits};
 
 use crate::Pair;
@@ -21,17 +21,21 @@ fn add_rows(pairs: &mut Vec<Pair>, rows: &[(Rid, Row)], spec: &KeySpec) -> Resul
     Ok(())
 }
 
-/// The pairs of all rows, by key, then by RID. Reads each page once, which counts as a visit.
+/// The pairs of all rows, by key, then by RID, as one worker makes them of a table that nobody writes. Reads each page once,
+/// which counts as a visit. The specification is one of the table's columns.
 pub fn at_rest(heap: &mut Heap, spec: &KeySpec) -> Result<Vec<Pair>, Fault>
     requires { spec.now.kinds ≡ heap.old.schema }
     ensures ok { IfOk result (λ pairs. pairs.items ≡ pairs_at_rest spec.now heap.old.log) }
     ensures keys { IfOk result (λ pairs. HaveKeysOf spec.now pairs.items) }
+    ensures order { IfOk result (λ pairs. AreInColumnOrder spec.now pairs.items) }
     ensures visits { OnOk result (heap.new ≡ after_visits heap.old (pages_written heap.old.log)) }
     ensures rows { heap.new ≡ record heap.old { visits = heap.new.visits } }
     ensures memory { IfErr result (λ fault. fault ≡ Fault.Memory) }
 {
     let schema = heap.schema();
     prove!(spec.is_of(schema));
+    // The specification tells that its columns make a key, whose bytes are then in the columns' order.
+    let _columns = spec.columns();
     let mut pairs = Vec::new(heap.allocator());
     for page in 0..heap.pages() {
         let rows = heap.page_rows(page)?;

@@ -66,19 +66,43 @@ fn answer(core: &mut Core, event: Event) -> Result<usize, Fault> {
     number_in(&core.step(event))
 }
 
-fn scan(core: &mut Core) -> Result<usize, Fault> {
-    answer(
-        core,
-        Event::Scan {
-            range: 0,
-            worker: 0,
-        },
-    )
-}
-
 fn start(core: &mut Core, alloc: Global, dealing: Dealing) -> Result<usize, Fault> {
     let plan = plan(alloc, dealing)?;
     answer(core, Event::Start { plan })
+}
+
+#[derive(Clone, Copy)]
+enum Stage {
+    Scan,
+    Seal,
+    Load,
+    Switch,
+}
+
+// The one worker's event, of the one range and the one index.
+fn event_of(stage: Stage) -> Event {
+    match stage {
+        Stage::Scan => Event::Scan {
+            range: 0,
+            worker: 0,
+        },
+        Stage::Seal => Event::Seal { worker: 0 },
+        Stage::Load => Event::Load { index: 0 },
+        Stage::Switch => Event::Switch,
+    }
+}
+
+// What each stage answers, one after another. A test that makes many calls of a table takes long to prove; a loop is one.
+fn answers(
+    core: &mut Core,
+    alloc: Global,
+    stages: &[Stage],
+) -> Result<Vec<Result<usize, Fault>>, Fault> {
+    let mut answers = Vec::new(alloc);
+    for stage in stages {
+        answers.push(answer(core, event_of(*stage)))?;
+    }
+    Ok(answers)
 }
 
 fn three_rows(alloc: Global) -> Result<Core, Fault> {
@@ -106,22 +130,26 @@ fn are_three_and_fives(pairs: &[Pair]) -> bool {
 // What a build answers from its start to its switch, unless memory runs out.
 fn whole_build(alloc: Global) -> Result<(Core, Vec<usize>), Fault> {
     let mut core = three_rows(alloc)?;
-    let mut answers = Vec::new(alloc);
-    answers.push(start(&mut core, alloc, Dealing::Even(1))?)?;
-    answers.push(scan(&mut core)?)?;
-    answers.push(scan(&mut core)?)?;
-    answers.push(answer(&mut core, Event::Seal { worker: 0 })?)?;
-    answers.push(answer(&mut core, Event::Load { index: 0 })?)?;
-    answers.push(answer(&mut core, Event::Switch)?)?;
-    Ok((core, answers))
+    let mut numbers = Vec::new(alloc);
+    numbers.push(start(&mut core, alloc, Dealing::Even(1))?)?;
+    for stage in [
+        Stage::Scan,
+        Stage::Scan,
+        Stage::Seal,
+        Stage::Load,
+        Stage::Switch,
+    ] {
+        numbers.push(answer(&mut core, event_of(stage))?)?;
+    }
+    Ok((core, numbers))
 }
 
 // `rt try --test --fail-alloc N` for each N shows that no allocation that fails gives a wrong answer.
 #[test]
 fn a_build_where_memory_may_run_out(rt: HostRuntime) -> Result<(), Fail> {
     match whole_build(rt.alloc()) {
-        Ok((core, answers)) => {
-            assert_eq!(rt; answers.as_slice(), &[2, 0, 1, 2, 3, 7][..]);
+        Ok((core, numbers)) => {
+            assert_eq!(rt; numbers.as_slice(), &[2, 0, 1, 2, 3, 7][..]);
             assert!(rt; are_three_and_fives(core.ready(0)?.pairs()));
         }
         Err(fault) => assert_eq!(rt; fault, Fault::Memory),
@@ -134,35 +162,54 @@ fn a_build_from_its_start_to_its_switch(rt: HostRuntime) -> Result<(), Fail> {
     let alloc = rt.alloc();
     let mut core = three_rows(alloc)?;
     assert_eq!(rt; start(&mut core, alloc, Dealing::Even(1)), Ok(2));
-    assert_eq!(rt; scan(&mut core), Ok(0));
+    let stages = [
+        Stage::Scan,
+        Stage::Load,
+        Stage::Scan,
+        Stage::Scan,
+        Stage::Load,
+        Stage::Seal,
+        Stage::Switch,
+        Stage::Load,
+        Stage::Load,
+        Stage::Switch,
+    ];
+    let answered = [
+        Ok(0),
+        Err(Fault::NotScanned(0)),
+        Ok(1),
+        Err(Fault::RangeDone),
+        Err(Fault::NotSealed(0)),
+        Ok(2),
+        Err(Fault::NotLoaded(0)),
+        Ok(3),
+        Ok(0),
+        Ok(7),
+    ];
     assert_eq!(rt;
-        answer(&mut core, Event::Load { index: 0 }),
-        Err(Fault::NotScanned(0))
+        answers(&mut core, alloc, &stages)?.as_slice(),
+        &answered[..]
     );
-    assert_eq!(rt; scan(&mut core), Ok(1));
-    assert_eq!(rt; scan(&mut core), Err(Fault::RangeDone));
-    assert_eq!(rt; answer(&mut core, Event::Seal { worker: 0 }), Ok(2));
-    assert_eq!(rt; answer(&mut core, Event::Load { index: 0 }), Ok(3));
-    assert_eq!(rt; answer(&mut core, Event::Switch), Ok(7));
-    assert!(rt; are_three_and_fives(core.ready(0)?.pairs()));
     Ok(())
 }
 
 #[test]
-fn a_table_while_a_build_runs(rt: HostRuntime) -> Result<(), Fail> {
+fn no_build_over_two_ranges(rt: HostRuntime) -> Result<(), Fail> {
     let alloc = rt.alloc();
     let mut core = three_rows(alloc)?;
     let two_ends = Dealing::Ends(vec![in alloc; 1, 2]?);
     assert_eq!(rt; start(&mut core, alloc, two_ends), Err(Fault::BadRanges));
     assert!(rt; !core.is_building());
+    Ok(())
+}
+
+#[test]
+fn no_index_while_a_build_runs(rt: HostRuntime) -> Result<(), Fail> {
+    let alloc = rt.alloc();
+    let mut core = three_rows(alloc)?;
     let one_end = Dealing::Ends(vec![in alloc; 2]?);
     assert_eq!(rt; start(&mut core, alloc, one_end), Ok(2));
     assert!(rt; core.is_building());
-    let row = int_row(alloc, 1)?;
-    assert_eq!(rt;
-        answer(&mut core, Event::Insert { txn: 4, row }),
-        Err(Fault::BuildRunning)
-    );
     assert!(rt; core.ready(0).is_err());
     Ok(())
 }
@@ -172,34 +219,31 @@ fn reads_of_a_table(rt: HostRuntime) -> Result<(), Fail> {
     let alloc = rt.alloc();
     let mut core = three_rows(alloc)?;
     assert_eq!(rt; core.get(Rid { page: 1, slot: 0 })?.cells().len(), 1);
-    let spec = int_spec(alloc, false)?;
-    assert!(rt; spec.is_of(core.schema()));
-    assert!(rt; are_three_and_fives(&core.rest(&spec)?));
     assert!(rt; core.into_live().ready().is_empty());
     Ok(())
 }
 
-const FIRST: Rid = Rid { page: 0, slot: 0 };
+#[test]
+fn the_pairs_that_an_index_would_have(rt: HostRuntime) -> Result<(), Fail> {
+    let alloc = rt.alloc();
+    let mut core = three_rows(alloc)?;
+    let spec = int_spec(alloc, false)?;
+    assert!(rt; spec.is_of(core.schema()));
+    assert!(rt; are_three_and_fives(&core.rest(&spec)?));
+    Ok(())
+}
 
-// A write's record number and its RID.
-fn write(core: &mut Core, event: Event) -> Result<(usize, Rid), Fault> {
-    match core.step(event) {
-        Reply::Written { number, rid } => Ok((number, rid)),
-        reply => number_in(&reply).map(|number| (number, FIRST)),
+#[test]
+fn a_transaction_too_many(rt: HostRuntime) -> Result<(), Fail> {
+    let mut core = Core::new(two_slots(rt.alloc())?);
+    for number in 1..65 {
+        assert_eq!(rt; answer(&mut core, Event::Begin), Ok(number));
     }
+    assert_eq!(rt; answer(&mut core, Event::Begin), Err(Fault::TooManyTxns));
+    Ok(())
 }
 
-fn update(core: &mut Core, alloc: Global, txn: u64, to: i64) -> Result<(usize, Rid), Fault> {
-    let row = int_row(alloc, to)?;
-    write(
-        core,
-        Event::Update {
-            txn,
-            rid: FIRST,
-            row,
-        },
-    )
-}
+const FIRST: Rid = Rid { page: 0, slot: 0 };
 
 // An undo's record number, and how many writes are left.
 fn undo(core: &mut Core, txn: u64) -> Result<(usize, usize), Fault> {
@@ -209,34 +253,45 @@ fn undo(core: &mut Core, txn: u64) -> Result<(usize, usize), Fault> {
     }
 }
 
-// A transaction has put the row 1 at the first RID, and two more have begun.
-fn row_one(alloc: Global, slots: u8) -> Result<Core, Fault> {
-    let heap = Heap::new(alloc, int_schema(alloc)?, slots, 8)?;
-    let mut core = Core::new(Live::new(alloc, heap));
+// An event of each kind that changes rows.
+fn changes(alloc: Global) -> Result<Vec<Event>, Fault> {
     let row = int_row(alloc, 1)?;
+    let other = int_row(alloc, 2)?;
     let events = vec![in alloc;
-        Event::Begin,
-        Event::Insert { txn: 1, row },
-        Event::Commit { txn: 1 },
-        Event::Begin,
-        Event::Begin,
+        Event::Insert { txn: 9, row },
+        Event::Update {
+            txn: 9,
+            rid: FIRST,
+            row: other,
+        },
+        Event::Delete { txn: 9, rid: FIRST },
+        Event::Undo { txn: 9 },
     ]?;
-    for event in events {
-        answer(&mut core, event)?;
-    }
-    Ok(core)
+    Ok(events)
 }
 
 #[test]
 fn changes_while_a_build_runs(rt: HostRuntime) -> Result<(), Fail> {
     let alloc = rt.alloc();
-    let mut core = row_one(alloc, 1)?;
-    assert_eq!(rt; start(&mut core, alloc, Dealing::Even(1)), Ok(1));
-    let refused = Err(Fault::BuildRunning);
-    assert_eq!(rt; update(&mut core, alloc, 9, 2), refused);
-    let delete = Event::Delete { txn: 9, rid: FIRST };
-    assert_eq!(rt; write(&mut core, delete), refused);
-    assert_eq!(rt; undo(&mut core, 9), Err(Fault::BuildRunning));
+    let mut core = Core::new(two_slots(alloc)?);
+    assert_eq!(rt; start(&mut core, alloc, Dealing::Even(1)), Ok(0));
+    for event in changes(alloc)? {
+        assert_eq!(rt; answer(&mut core, event), Err(Fault::BuildRunning));
+    }
+    Ok(())
+}
+
+#[test]
+fn changes_of_no_transaction(rt: HostRuntime) -> Result<(), Fail> {
+    let alloc = rt.alloc();
+    let mut core = Core::new(two_slots(alloc)?);
+    for event in changes(alloc)? {
+        assert_eq!(rt; answer(&mut core, event), Err(Fault::NoSuchTxn));
+    }
+    assert_eq!(rt;
+        answer(&mut core, Event::Commit { txn: 9 }),
+        Err(Fault::NoSuchTxn)
+    );
     Ok(())
 }
 
@@ -245,9 +300,12 @@ fn three_writes(alloc: Global) -> Result<Core, Fault> {
     let mut core = Core::new(two_slots(alloc)?);
     answer(&mut core, Event::Begin)?;
     let row = int_row(alloc, 5)?;
-    write(&mut core, Event::Insert { txn: 1, row })?;
-    update(&mut core, alloc, 1, 6)?;
-    update(&mut core, alloc, 1, 7)?;
+    answer(&mut core, Event::Insert { txn: 1, row })?;
+    for number in [6, 7] {
+        let row = int_row(alloc, number)?;
+        let rid = FIRST;
+        answer(&mut core, Event::Update { txn: 1, rid, row })?;
+    }
     Ok(core)
 }
 
@@ -263,9 +321,9 @@ fn undo_again(core: &mut Core, txn: u64) -> Result<(usize, usize), Fault> {
 fn an_undo_where_memory_may_run_out(rt: HostRuntime) -> Result<(), Fail> {
     match three_writes(rt.alloc()) {
         Ok(mut core) => {
-            assert_eq!(rt; undo_again(&mut core, 1), Ok((4, 2)));
-            assert_eq!(rt; undo_again(&mut core, 1), Ok((5, 1)));
-            assert_eq!(rt; undo_again(&mut core, 1), Ok((6, 0)));
+            for undone in [(4, 2), (5, 1), (6, 0)] {
+                assert_eq!(rt; undo_again(&mut core, 1), Ok(undone));
+            }
             assert_eq!(rt; core.get(FIRST).err(), Some(Fault::NoSuchRow));
         }
         Err(fault) => assert_eq!(rt; fault, Fault::Memory),

@@ -1,13 +1,15 @@
 -- Which writes stand once a record is added: those of a transaction, and those at a RID, by one test of the records.
-use Rattle.std.proofs.Common.{◌≡◌, ℕ, ◌+◌, ◌-◌, ◌<◌, ◌≤◌, Bool, true, false, cond, List, [], ◌∷◌, ◌++◌, length, Option, Some, None, refl, sym, ap, ◌∙◌, arith, inl, inr}
-use Rattle.std.specs.Prelude.{◌||◌, ◌&&◌, not}
-use Rattle.std.proofs.lemmas.Bool.{cases_eq, cases_Bool, and_left, ne_eqb, eq-eqb, eqb-true, and_right, not_from_true, false≢true, false_from_ne_true, cond-true, cond-false}
+use Rattle.std.proofs.Common.{◌≡◌, ℕ, ◌+◌, ◌-◌, ◌<◌, ◌≤◌, Bool, true, false, cond, List, [], ◌∷◌, ◌++◌, length, Option, Some, None, refl, sym, ap, ◌∙◌, arith, ◌⊎◌, inl, inr}
+use Rattle.std.specs.Prelude.{◌||◌, ◌&&◌, not, ◌==◌, IsSome}
+use Rattle.std.proofs.lemmas.Bool.{cases_eq, cases_Bool, and_left, and_parts, ne_eqb, eq-eqb, eqb-true, and_right, not_from_true, false≢true, false_from_ne_true, cond-true, cond-false}
+use Rattle.keybytes.specs.declared.cell.Cell.{Cell}
+use Rattle.keybytes.specs.declared.rid.Rid.{Rid}
 use Rattle.heap_log.specs.declared.record.LogRec.{LogRec}
 use Rattle.heap_log.specs.declared.record.LogRec.TheVariants.{Write, Undo, Commit, Switch}
 use Rattle.heap_log.specs.Links.{newest_by, stands_by}
-use Rattle.heap_log.specs.Standing.{record_at, undone, is_undo_of, is_number, is_write_of, is_write_at, rid_of, last_below, count_below, newest_standing, standing_before, standing_count, stands_at, newest_after, count_after, AddsToBefore, AddsToNumbers, AddsToStanding, KeepsBefore, NamesEarlier}
+use Rattle.heap_log.specs.Standing.{record_at, undone, is_undo_of, is_number, is_write_of, is_write_at, rid_of, last_below, count_below, newest_standing, standing_before, standing_count, stands_at, newest_at, place_of, last_of, newest_after, count_after, before_after, AddsToBefore, AddsToLast, AddsToNumbers, AddsToStanding, KeepsBefore, NamesEarlier}
 use Rattle.heap_log.proofs.Last.{IsLast, last_below-more, last_below_agree, last_below_some, last_below_taken, last_below_without, count_below-more, count_below_agree, count_below_taken}
-use Rattle.heap_log.proofs.Records.{record_at-kept, record_at-added, length-added, undone-added, or_no, or_false, undo_within}
+use Rattle.heap_log.proofs.Records.{record_at-kept, record_at-added, length-added, undone-added, or_no, or_false, undo_within, rid_of-write, written_cases, writes_there, some_place-there}
 
 -- how many such records there are
 abbrev pub count_by_test : (Option LogRec → Bool) → List LogRec → ℕ
@@ -177,9 +179,87 @@ before-of log (Undo t undone) n l kept = before-undo log t undone n l kept
 before-of log (Commit t) n l kept = before-plain log (Commit t) n l (λ k. refl)
 before-of log (Switch v) n l kept = before-plain log (Switch v) n l (λ k. refl)
 
+-- an undo: where it names the standing write before write n, the one before that comes back
+before-undone : (log : List LogRec) (txn m n : ℕ) → n ≤ length log → standing_before (log ++ Undo txn m ∷ []) n ≡ before_after log (Undo txn m) n
+before-undone log txn m n l =
+    let rid : Rid = rid_of (record_at log n) in
+    let old : ℕ → Bool = stands_at log rid in
+    let new : ℕ → Bool = stands_at (log ++ Undo txn m ∷ []) rid in
+    let gone : new m ≡ false = taken log (is_write_at rid) txn m in
+    let same : (k : ℕ) → k < n → (k ≡ m → ⊥) → new k ≡ old k = λ k b. others log (is_write_at rid) txn m k (omega (arith, b)) in
+    let kept : standing_before (log ++ Undo txn m ∷ []) n ≡ last_below new n =
+    ap (λ r. last_below (stands_at (log ++ Undo txn m ∷ []) (rid_of r)) n) (record_at-kept log (Undo txn m) n (omega arith)) in
+    elim (cases_Bool (is_number m (standing_before log n))) [
+      | inl hit ↦
+          let last : IsLast old n m = last_below_some old n m (is_number-true m (standing_before log n) hit) in
+          let there : is_write_at rid (record_at log m) ≡ true = (and_parts (is_write_at rid (record_at log m)) (not (undone log m)) last.passes).0 in
+          kept ∙ last_below_taken old new n m last gone same
+          ∙ ap (λ r. last_below (stands_at log r) m) (sym (rid_of-write rid (record_at log m) there))
+          ∙ sym (cond-true (is_number m (standing_before log n)) (standing_before log m) (standing_before log n) hit)
+      | inr miss ↦
+          kept ∙ last_below_without old new n m (is_number-false m (standing_before log n) miss) gone same
+          ∙ sym (cond-false (is_number m (standing_before log n)) (standing_before log m) (standing_before log n) miss)
+    ]
+
+-- a write in the longer log is an old one, or the new record is it
+written_or_new : (log : List LogRec) (rec : LogRec) (n : ℕ) → IsSome (place_of (record_at (log ++ rec ∷ []) n)) → (n ≤ length log) ⊎ ((n ≡ length log + 1) × IsSome (place_of (Some rec)))
+written_or_new log rec n some =
+    let written : Option LogRec = record_at (log ++ rec ∷ []) n in
+    elim (written_cases log rec (is_write_at (rid_of written)) n refl (writes_there written some)) [
+      | inl old ↦ inl (omega (arith, old.0))
+      | inr new ↦ inr (new.0, some_place-there (rid_of written) (Some rec) new.1)
+    ]
+
+before-write : (log : List LogRec) (txn : ℕ) (rid : Rid) (row : Option (List Cell)) (n : ℕ) → (n ≤ length log) ⊎ (n ≡ length log + 1) → standing_before (log ++ Write txn rid row ∷ []) n ≡ before_after log (Write txn rid row) n
+before-write log txn rid row n (inl l) =
+    before-plain log (Write txn rid row) n l (λ k. refl)
+    ∙ sym (cond-false (n == length log + 1) (newest_at log rid) (standing_before log n) (ne_eqb n (length log + 1) (λ e. omega (arith, e, l))))
+before-write log txn rid row n (inr is) =
+    let rec : LogRec = Write txn rid row in
+    let new : List LogRec = log ++ rec ∷ [] in
+    ap (standing_before new) is
+    ∙ ap (λ r. last_below (stands_at new (rid_of r)) (length log + 1)) (record_at-added log rec)
+    ∙ last_below_agree (stands_at new rid) (stands_at log rid) (length log + 1) (λ k b. keeps log rec (is_write_at rid) k refl b)
+    ∙ sym (cond-true (n == length log + 1) (newest_at log rid) (standing_before log n) (eq-eqb n (length log + 1) is))
+
+before-added : (log : List LogRec) (rec : LogRec) (n : ℕ) → (n ≤ length log) ⊎ ((n ≡ length log + 1) × IsSome (place_of (Some rec))) → standing_before (log ++ rec ∷ []) n ≡ before_after log rec n
+before-added log (Write t rid row) n (inl l) = before-write log t rid row n (inl l)
+before-added log (Write t rid row) n (inr new) = before-write log t rid row n (inr new.0)
+before-added log (Undo t m) n (inl l) = before-undone log t m n l
+before-added log (Undo t m) n (inr new) = absurd (false≢true new.1)
+before-added log (Commit t) n (inl l) = before-plain log (Commit t) n l (λ k. refl)
+before-added log (Commit t) n (inr new) = absurd (false≢true new.1)
+before-added log (Switch v) n (inl l) = before-plain log (Switch v) n l (λ k. refl)
+before-added log (Switch v) n (inr new) = absurd (false≢true new.1)
+
 -- what a record does to the standing write before another
 pub adds_to_before : (log : List LogRec) (rec : LogRec) → AddsToBefore log rec (log ++ rec ∷ [])
-adds_to_before log rec = record { before = λ n l kept. before-of log rec n l kept }
+adds_to_before log rec = record { before = λ n l kept. before-of log rec n l kept; after = λ n some. before-added log rec n (written_or_new log rec n some) }
+
+-- the last record that passes the test, standing or not
+pub last-added : (log : List LogRec) (rec : LogRec) (test : Option LogRec → Bool) → last_below (λ k. test (record_at (log ++ rec ∷ []) k)) (length (log ++ rec ∷ []) + 1) ≡ cond (test (Some rec)) (Some (length log + 1)) (last_below (λ k. test (record_at log k)) (length log + 1))
+last-added log rec test =
+    let new : List LogRec = log ++ rec ∷ [] in
+    let n : ℕ = length log + 1 in
+    let p : ℕ → Bool = λ k. test (record_at new k) in
+    let q : ℕ → Bool = λ k. test (record_at log k) in
+    ap (λ k. last_below p (k + 1)) (length-added log rec)
+    ∙ last_below-more p n
+    ∙ ap (λ x. cond (test x) (Some n) (last_below p n)) (record_at-added log rec)
+    ∙ ap (cond (test (Some rec)) (Some n)) (last_below_agree p q n (λ k l. ap test (record_at-kept log rec k l)))
+
+-- the last write of a transaction below a number that was there
+pub last_of-kept : (log : List LogRec) (rec : LogRec) (txn n : ℕ) → n ≤ length log + 1 → last_of (log ++ rec ∷ []) txn n ≡ last_of log txn n
+last_of-kept log rec txn n l =
+    last_below_agree (λ k. is_write_of txn (record_at (log ++ rec ∷ []) k)) (λ k. is_write_of txn (record_at log k)) n (λ k b. ap (is_write_of txn) (record_at-kept log rec k (omega arith)))
+
+-- what a record does to the last writes
+pub adds_to_last : (log : List LogRec) (rec : LogRec) → AddsToLast log rec (log ++ rec ∷ [])
+adds_to_last log rec = record {
+  of_txn = λ txn. last-added log rec (is_write_of txn);
+  at_rid = λ rid. last-added log rec (is_write_at rid);
+  earlier = λ txn n l. last_of-kept log rec txn n l;
+}
 
 -- what a record does to the numbers
 pub adds_to_numbers : (log : List LogRec) (rec : LogRec) → ((n : ℕ) → length log < n → undone log n ≡ false) → NamesEarlier (length log) rec → AddsToNumbers log rec (log ++ rec ∷ [])

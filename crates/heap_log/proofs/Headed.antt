@@ -9,33 +9,21 @@ use Rattle.heap_log.specs.declared.record.LogRec.TheVariants.{Write, Undo}
 use Rattle.heap_log.specs.declared.heads.TxnHead.{TxnHead}
 use Rattle.heap_log.specs.declared.heads.RidHead.{RidHead}
 use Rattle.heap_log.specs.declared.heads.Heads.{Heads}
-use Rattle.heap_log.specs.declared.link.Chain.TheVariants.{OfTxn, AtRid}
+use Rattle.heap_log.specs.declared.link.Chain.TheVariants.{OfTxn}
 use Rattle.std.specs.HashMap.{get}
 use Rattle.heap_log.specs.declared.link.Link.{Link}
 use Rattle.heap_log.specs.Heads.{RidHeads, key_eq, rid_head_in, txn_head, rid_head, with_rid, AreHeadsAfter}
 use Rattle.heap_log.specs.Links.{newest_without, AreLinks, stands_by, on_chain}
-use Rattle.heap_log.specs.Standing.{record_at, undone, is_undo_of, is_write_of, is_write_at, last_below, last_of, last_at, same_rid, place_of, stands_of, stands_at, newest_standing, newest_at, standing_count, NamesEarlier}
-use Rattle.heap_log.proofs.Last.{last_below-more, last_below_agree, count_below-some, count_below-le}
-use Rattle.heap_log.proofs.Added.{undone-fresh, newest-plain, count-plain, newest-undo, count-undo, newest-unmoved, count-unmoved}
-use Rattle.heap_log.proofs.Records.{record_at-kept, record_at-added, length-added, same_rid-true, same_rid-refl, txn_of-write, rid_of-write, one_writer, one_place, some_place-by, some_place-there, write_within, record_at-read}
+use Rattle.heap_log.specs.Standing.{record_at, undone, is_undo_of, is_write_of, is_write_at, last_of, last_at, same_rid, place_of, stands_of, stands_at, newest_standing, newest_at, standing_count, NamesEarlier}
+use Rattle.heap_log.proofs.Last.{count_below-some, count_below-le}
+use Rattle.heap_log.proofs.Added.{last-added, undone-fresh, newest-plain, count-plain, newest-undo, count-undo, newest-unmoved, count-unmoved}
+use Rattle.heap_log.proofs.Records.{same_rid-true, same_rid-refl, txn_of-write, one_writer, one_place, some_place-by, some_place-there, write_within, record_at-read}
 
 same_txn_head : (m n o p : Option ℕ) (a b : ℕ) → m ≡ n → o ≡ p → a ≡ b → ◌≡◌ {A = TxnHead} (record { last = m; newest = o; standing = a }) (record { last = n; newest = p; standing = b })
 same_txn_head m n o p a b e f g = rw (e, f, g) refl
 
 same_rid_head : (m n o p : Option ℕ) → m ≡ n → o ≡ p → ◌≡◌ {A = RidHead} (record { last = m; newest = o }) (record { last = n; newest = p })
 same_rid_head m n o p e f = rw (e, f) refl
-
--- the last record that passes the test, standing or not
-last-added : (log : List LogRec) (rec : LogRec) (test : Option LogRec → Bool) → last_below (λ k. test (record_at (log ++ rec ∷ []) k)) (length (log ++ rec ∷ []) + 1) ≡ cond (test (Some rec)) (Some (length log + 1)) (last_below (λ k. test (record_at log k)) (length log + 1))
-last-added log rec test =
-    let new : List LogRec = log ++ rec ∷ [] in
-    let n : ℕ = length log + 1 in
-    let p : ℕ → Bool = λ k. test (record_at new k) in
-    let q : ℕ → Bool = λ k. test (record_at log k) in
-    ap (λ k. last_below p (k + 1)) (length-added log rec)
-    ∙ last_below-more p n
-    ∙ ap (λ x. cond (test x) (Some n) (last_below p n)) (record_at-added log rec)
-    ∙ ap (cond (test (Some rec)) (Some n)) (last_below_agree p q n (λ k l. ap test (record_at-kept log rec k l)))
 
 -- a record that is no write and undoes nothing
 pub heads-plain : (log : List LogRec) (rec : LogRec) → undone log (length log + 1) ≡ false → NamesEarlier (length log) rec → ((k : ℕ) → is_undo_of k rec ≡ false) → ((txn : ℕ) → is_write_of txn (Some rec) ≡ false) → ((rid : Rid) → is_write_at rid (Some rec) ≡ false) → AreHeadsAfter log (log ++ rec ∷ []) None
@@ -162,9 +150,6 @@ heads-undo log txn n heads e within of at last newest standing last_there newest
 -- the chain of a write is its transaction's, and its RID's
 pub on_chain-of : (txn : ℕ) (rec : Option LogRec) → is_write_of txn rec ≡ true → on_chain OfTxn rec ≡ is_write_of txn
 on_chain-of txn rec e = ap is_write_of (txn_of-write txn rec e)
-
-pub on_chain-at : (rid : Rid) (rec : Option LogRec) → is_write_at rid rec ≡ true → on_chain AtRid rec ≡ is_write_at rid
-on_chain-at rid rec e = ap is_write_at (rid_of-write rid rec e)
 
 -- a standing write counts
 pub standing-some : (log : List LogRec) (txn n : ℕ) → stands_of log txn n ≡ true → 0 < standing_count log txn

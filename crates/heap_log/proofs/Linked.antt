@@ -14,8 +14,8 @@ use Rattle.heap_log.specs.declared.link.Chain.{Chain}
 use Rattle.heap_log.specs.declared.link.Chain.TheVariants.{OfTxn, AtRid}
 use Rattle.heap_log.specs.Links.{AreLinks, AreMarked, IsLinkOf, LeadsTo, on_chain, link_before, stands_by}
 use Rattle.heap_log.specs.Standing.{record_at, undone, last_below, last_of, is_write_of, is_write_at, is_undo_of, place_of, txn_of, rid_of, newest_standing, newest_at, NamesEarlier}
-use Rattle.heap_log.proofs.Added.{undone-later}
-use Rattle.heap_log.proofs.Last.{IsLast, last_below_agree, last_below_some, last_below_none, last_below_is, last_below_none_is}
+use Rattle.heap_log.proofs.Added.{undone-later, last_of-kept}
+use Rattle.heap_log.proofs.Last.{IsLast, last_below_some, last_below_none, last_below_is, last_below_none_is}
 use Rattle.heap_log.proofs.Records.{record_at-kept, record_at-added, undone-added, write_within, txn_of-write, rid_of-write, writes_there, writes_by, some_place-by, some_place-there}
 
 -- the newest standing record is where a link of the next one leads
@@ -133,10 +133,6 @@ leads_grow passes log rec n place l leads = record {
       rw (record_at-kept log rec k (omega (arith, b)), undone-added log rec k)
       (still_none (passes (record_at log k)) (undone log k) (is_undo_of k rec) (leads.passed k a b));
 }
-
-last_of-kept : (log : List LogRec) (rec : LogRec) (txn n : ℕ) → n ≤ length log + 1 → last_of (log ++ rec ∷ []) txn n ≡ last_of log txn n
-last_of-kept log rec txn n l =
-    last_below_agree (λ k. is_write_of txn (record_at (log ++ rec ∷ []) k)) (λ k. is_write_of txn (record_at log k)) n (λ k b. ap (is_write_of txn) (record_at-kept log rec k (omega arith)))
 
 before_kept : (chain : Chain) (old new : Link) → new.of_txn ≡ old.of_txn → new.at_rid ≡ old.at_rid → link_before chain new ≡ link_before chain old
 before_kept OfTxn old new e f = e

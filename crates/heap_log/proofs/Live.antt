@@ -1,14 +1,14 @@
 -- The row that stands at a RID once a record is added.
 use Rattle.std.proofs.Common.{◌≡◌, ℕ, ◌+◌, ◌≤◌, Bool, true, false, cond, List, [], ◌∷◌, ◌++◌, length, Option, Some, None, refl, sym, ap, ◌∙◌, arith, inl, inr}
 use Rattle.std.specs.Prelude.{if◌then◌else◌, not}
-use Rattle.std.proofs.lemmas.Bool.{cases_Bool, and_left, and_parts, cond-true, cond-false}
+use Rattle.std.proofs.lemmas.Bool.{cases_Bool, and_parts, cond-true, cond-false}
 use Rattle.keybytes.specs.declared.cell.Cell.{Cell}
 use Rattle.keybytes.specs.declared.rid.Rid.{Rid}
 use Rattle.heap_log.specs.declared.outcome.Outcome.{Outcome}
 use Rattle.heap_log.specs.declared.record.LogRec.{LogRec}
 use Rattle.heap_log.specs.declared.record.LogRec.TheVariants.{Write, Undo, Commit, Switch}
 use Rattle.heap_log.specs.Standing.{record_at, undone, is_undo_of, is_write_at, is_number, last_below, stands_at, newest_at, live_at, live_after, row_at, row_of, same_rid, standing_before, AddsToLive, NamesEarlier}
-use Rattle.heap_log.proofs.Last.{IsLast, last_below_some, last_below_none_is}
+use Rattle.heap_log.proofs.Last.{IsLast, last_below_some}
 use Rattle.heap_log.proofs.Records.{record_at-kept, record_at-added, rid_of-write}
 use Rattle.heap_log.proofs.Added.{undone-fresh, newest-plain, newest-undo, is_number-true}
 
@@ -76,11 +76,3 @@ live-added log (Switch verdicts) place e names = live-switch log verdicts place 
 -- what a record does to the rows
 pub adds_to_live : (log : List LogRec) (rec : LogRec) → undone log (length log + 1) ≡ false → NamesEarlier (length log) rec → AddsToLive log rec (log ++ rec ∷ [])
 adds_to_live log rec e names = record { live = λ place. live-added log rec place e names }
-
--- where nothing was written, no row stands
-pub live-unwritten : (log : List LogRec) (place : Rid) → ((n : ℕ) → is_write_at place (record_at log n) ≡ false) → live_at log place ≡ None
-live-unwritten log place none =
-    ap (row_at log) (last_below_none_is (stands_at log place) (length log + 1) (λ k l. and_left (is_write_at place (record_at log k)) (not (undone log k)) (none k)))
-
-pub live-empty : (place : Rid) → live_at [] place ≡ None
-live-empty place = refl

@@ -4,7 +4,7 @@ use Rattle.std.specs.Prelude.{not, IfSome}
 use Rattle.std.proofs.lemmas.Bool.{and_parts}
 use Rattle.keybytes.specs.declared.rid.Rid.{Rid}
 use Rattle.heap_log.specs.declared.record.LogRec.{LogRec}
-use Rattle.heap_log.specs.Standing.{record_at, undone, is_write_of, is_write_at, last_below, last_of, last_at, stands_of, stands_at, newest_standing, newest_at, standing_before, rid_of, IsWrite}
+use Rattle.heap_log.specs.Standing.{record_at, undone, is_write_of, is_write_at, last_below, last_of, last_at, stands_of, stands_at, newest_standing, standing_before, rid_of, IsWrite}
 use Rattle.heap_log.proofs.Last.{last_below_some}
 use Rattle.heap_log.proofs.Records.{write_within, some_place-by, some_place-there}
 
@@ -31,13 +31,6 @@ newest_standing-of log txn n e = stands_of-write log txn (length log + 1) n e
 
 pub newest_standing-write : (log : List LogRec) (txn n : ℕ) → newest_standing log txn ≡ Some n → IsWrite log n
 newest_standing-write log txn n e = write_of log txn n (newest_standing-of log txn n e)
-
--- the newest standing write at a RID is a write there
-pub newest_at-there : (log : List LogRec) (rid : Rid) (n : ℕ) → newest_at log rid ≡ Some n → is_write_at rid (record_at log n) ≡ true
-newest_at-there log rid n e = stands_at-write log rid (length log + 1) n e
-
-pub newest_at-write : (log : List LogRec) (rid : Rid) (n : ℕ) → newest_at log rid ≡ Some n → IsWrite log n
-newest_at-write log rid n e = write_at log rid n (newest_at-there log rid n e)
 
 -- the newest standing write before a write is one at the same RID
 pub standing_before-there : (log : List LogRec) (n m : ℕ) → standing_before log n ≡ Some m → is_write_at (rid_of (record_at log n)) (record_at log m) ≡ true

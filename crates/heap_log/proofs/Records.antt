@@ -1,15 +1,14 @@
 -- The records of a log by their numbers, and those of a log with one record more.
-use Rattle.std.proofs.Common.{take, ◌≡◌, ℕ, zero, suc, ◌+◌, ◌-◌, ◌<◌, ◌≤◌, Bool, true, false, List, [], ◌∷◌, ◌++◌, length, get_or, Option, Some, None, refl, sym, ap, ◌∙◌, arith, add-one, length-append, ◌⊎◌, inl, inr}
+use Rattle.std.proofs.Common.{◌≡◌, ℕ, zero, suc, ◌+◌, ◌-◌, ◌<◌, ◌≤◌, Bool, true, false, List, [], ◌∷◌, ◌++◌, length, get_or, Option, Some, None, refl, sym, ap, ◌∙◌, arith, add-one, length-append, ◌⊎◌, inl, inr}
 use Rattle.std.specs.Prelude.{◌||◌, ◌==◌, IsSome}
 use Rattle.std.specs.List.{slice_get}
 use Rattle.std.proofs.lemmas.List.Folds.{list_any-append}
 use Rattle.std.proofs.lemmas.Bool.{cases_eq, cases_lt, ne_eqb, eq-eqb, eqb-true, and_from, and_parts, false≢true}
-use Rattle.std.proofs.lemmas.List.{take_all, take-append-le}
 use Rattle.std.proofs.lemmas.Option.{slice_get_past, slice_get_read}
 use Rattle.keybytes.specs.declared.rid.Rid.{Rid}
 use Rattle.heap_log.specs.declared.record.LogRec.{LogRec}
 use Rattle.heap_log.specs.declared.record.LogRec.TheVariants.{Write, Undo, Commit, Switch}
-use Rattle.heap_log.specs.Standing.{first_records, record_at, undone, is_undo_of, is_write_of, is_write_at, same_rid, place_of, txn_of, rid_of, NamesEarlier}
+use Rattle.heap_log.specs.Standing.{record_at, undone, is_undo_of, is_write_of, is_write_at, same_rid, place_of, txn_of, rid_of, NamesEarlier}
 
 pub slice_get-append_left : {X : Type 0} (xs ys : List X) (i : ℕ) → i < length xs → slice_get (xs ++ ys) i ≡ slice_get xs i
 slice_get-append_left [] ys i l = absurd (omega arith)
@@ -137,20 +136,3 @@ some_place-there place (Some (Write t rid row)) e = refl
 some_place-there place (Some (Undo t n)) e = absurd (false≢true e)
 some_place-there place (Some (Commit t)) e = absurd (false≢true e)
 some_place-there place (Some (Switch v)) e = absurd (false≢true e)
-
--- the first records of a log
-pub first_records-all : (log : List LogRec) → first_records (length log) log ≡ log
-first_records-all log = take_all (length log) log (omega arith)
-
-pub first_records-added : (n : ℕ) (log : List LogRec) (rec : LogRec) → n ≤ length log → first_records n (log ++ rec ∷ []) ≡ first_records n log
-first_records-added n log rec l = take-append-le n log (rec ∷ []) l
-
-slice_get-take : {X : Type 0} (n i : ℕ) (xs : List X) → i < n → slice_get (take n xs) i ≡ slice_get xs i
-slice_get-take zero i xs l = absurd (omega arith)
-slice_get-take (suc n) i [] l = refl
-slice_get-take (suc n) zero (x ∷ xs) l = refl
-slice_get-take (suc n) (suc i) (x ∷ xs) l = slice_get-take n i xs (omega arith)
-
-pub record_at-first : (n : ℕ) (log : List LogRec) (k : ℕ) → k ≤ n → record_at (first_records n log) k ≡ record_at log k
-record_at-first n log zero l = refl
-record_at-first n log (suc i) l = slice_get-take n i log (omega arith)

@@ -1,3 +1,4 @@
+pub mod Copies
 pub mod Heads
 pub mod Links
 pub mod LogValue

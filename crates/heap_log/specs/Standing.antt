@@ -1,5 +1,5 @@
 -- Which writes of a log stand, and what they leave. A record's number is its place in the log, from 1.
-use Rattle.std.specs.Prelude.{◌≡◌, ℕ, zero, suc, ◌+◌, ◌-◌, ◌≤◌, ◌<◌, ◌⊎◌, Bool, false, ◌&&◌, ◌||◌, not, ◌==◌, if◌then◌else◌, List, length, take, Option, Some, None, IsSome}
+use Rattle.std.specs.Prelude.{◌≡◌, ℕ, zero, suc, ◌+◌, ◌-◌, ◌≤◌, ◌<◌, ◌⊎◌, Bool, false, ◌&&◌, ◌||◌, not, ◌==◌, if◌then◌else◌, List, length, Option, Some, None, IsSome}
 use Rattle.std.specs.List.{slice_get, list_any}
 use Rattle.keybytes.specs.declared.cell.Cell.{Cell}
 use Rattle.keybytes.specs.declared.rid.Rid.{Rid}
@@ -20,10 +20,6 @@ count_below passes (suc n) = if passes n then count_below passes n + 1 else coun
 abbrev pub record_at : List LogRec → ℕ → Option LogRec
 record_at log zero = None
 record_at log (suc i) = slice_get log i
-
--- the log as it was once the first n records were there
-abbrev pub first_records : ℕ → List LogRec → List LogRec
-first_records n log = take n log
 
 -- whether two RIDs are the same
 abbrev pub same_rid : Rid → Rid → Bool
@@ -168,6 +164,13 @@ count_after log (Undo t n) txn = if stands_of log txn n then standing_count log 
 count_after log (Commit t) txn = standing_count log txn
 count_after log (Switch verdicts) txn = standing_count log txn
 
+-- the newest standing write before write n, at its RID, once the record is added
+abbrev pub before_after : List LogRec → LogRec → ℕ → Option ℕ
+before_after log (Write txn rid row) n = if n == length log + 1 then newest_at log rid else standing_before log n
+before_after log (Undo txn undone) n = if is_number undone (standing_before log n) then standing_before log undone else standing_before log n
+before_after log (Commit txn) n = standing_before log n
+before_after log (Switch verdicts) n = standing_before log n
+
 -- what a record does to the rows: a write puts its row at its RID, the undo of the newest standing write at a RID
 -- brings back the row of the one before it, and all else stays
 pub record AddsToLive (old : List LogRec) (added : LogRec) (new : List LogRec) : Type 0 where
@@ -185,9 +188,18 @@ KeepsBefore log n (Undo txn undone) = (n ≤ undone) ⊎ (is_write_at (rid_of (r
 KeepsBefore log n (Commit txn) = Unit {0}
 KeepsBefore log n (Switch verdicts) = Unit {0}
 
--- what a record does to the standing write before another: a record that undoes none of them leaves it
+-- what a record does to the standing write before another: a record that undoes none of them leaves it; the undo of the
+-- newest of them brings back the one before it; and a new write comes after the newest at its RID
 pub record AddsToBefore (old : List LogRec) (added : LogRec) (new : List LogRec) : Type 0 where
   pub before : (n : ℕ) → n ≤ length old → KeepsBefore old n added → standing_before new n ≡ standing_before old n
+  pub after : (n : ℕ) → IsSome (place_of (record_at new n)) → standing_before new n ≡ before_after old added n
+
+-- what a record does to the last writes, standing or not: a write is the last one of its transaction and at its RID, and
+-- all else stays
+pub record AddsToLast (old : List LogRec) (added : LogRec) (new : List LogRec) : Type 0 where
+  pub of_txn : (txn : ℕ) → last_of new txn (length new + 1) ≡ (if is_write_of txn (Some added) then Some (length old + 1) else last_of old txn (length old + 1))
+  pub at_rid : (rid : Rid) → last_at new rid (length new + 1) ≡ (if is_write_at rid (Some added) then Some (length old + 1) else last_at old rid (length old + 1))
+  pub earlier : (txn n : ℕ) → n ≤ length old + 1 → last_of new txn n ≡ last_of old txn n
 
 -- what a record does to the numbers: it takes the next one, each before it keeps its record, and no undo names a later one
 pub record AddsToNumbers (old : List LogRec) (added : LogRec) (new : List LogRec) : Type 0 where

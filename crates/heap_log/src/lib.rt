@@ -1,8 +1,9 @@
 //! The log of a table: every write, undo, commit and switch, in order.
 //!
 //! Records are numbered from 1 and never change. A write stands until an undo record names it; the row at a RID is that
-//! of the newest standing write there. An undo names a record that is there already. Each write leads to the one before
-//! it of its transaction, standing or not. Room is reserved first, and adding a record then takes no memory.
+//! of the newest standing write there. An undo names a record that is there already; where that is no write, or is
+//! undone already, it takes nothing back. Each write leads to the one before it of its transaction, standing or not.
+//! Room is reserved first, and adding a record then takes no memory.
 //!
 //! [`Log`] is the log, a list of [`LogRec`] to its callers. [`Verdicts`] is what a switch record says of a build's
 //! indexes, an [`Outcome`] each.

@@ -1,7 +1,7 @@
 ghost use Rattle.std.specs.Prelude.{◌≡◌, ℕ, ◌<◌, ◌≤◌, ◌+◌, ◌-◌, max, ◌++◌, ◌∷◌, [], length, Some, None, true, false, IsSome, IfSome, IsOk, IfErr, OnOk, OnErr};
 ghost use Rattle.heap_log.specs.Heads.{txn_head, rid_head, AreHeadsAfter};
 ghost use Rattle.heap_log.specs.Links.{newest_before, newest_without, IsLinkOf};
-ghost use Rattle.heap_log.specs.Standing.{record_at, undone, place_of, txn_of, is_number, is_write_of, is_write_at, last_of, last_at, stands_of, stands_at, newest_standing, standing_before, standing_count, IsWrite, NamesEarlier, AddsToLive, AddsToStanding, AddsToBefore, AddsToNumbers};
+ghost use Rattle.heap_log.specs.Standing.{record_at, undone, place_of, txn_of, is_number, is_write_of, is_write_at, last_of, last_at, stands_of, stands_at, newest_standing, standing_before, standing_count, IsWrite, NamesEarlier, AddsToLive, AddsToStanding, AddsToBefore, AddsToLast, AddsToNumbers};
 
 use crate::LogRec;
 use crate::heads::{
@@ -59,7 +59,7 @@ impl Log {
         }
     }
 
-    /// Makes room for that many more records.
+    /// Makes room for that many more records. Takes no memory where the room is there already; a refusal changes nothing.
     pub fn reserve(&mut self, additional: usize) -> Result<(), Fault>
         ensures ok { OnOk result (additional ≤ self.new.room) }
         ensures records { self.new.records ≡ self.old.records }
@@ -155,6 +155,7 @@ impl Log {
         ensures live { AddsToLive self.old.records added self.new.records }
         ensures standing { AddsToStanding self.old.records added self.new.records }
         ensures before { AddsToBefore self.old.records added self.new.records }
+        ensures last { AddsToLast self.old.records added self.new.records }
         ensures numbers { AddsToNumbers self.old.records added self.new.records }
     {
         let link = self.link_of(&added);

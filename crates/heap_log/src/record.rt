@@ -1,4 +1,5 @@
-ghost use Rattle.std.specs.Prelude.{◌≡◌, IfOk, IfErr};
+ghost use Rattle.std.specs.Prelude.{◌≡◌, None, IsOk, IfOk, IfErr};
+ghost use Rattle.heap_log.specs.Copies.{IsBare};
 
 use crate::Verdicts;
 use keybytes::{Fault, Rid, Row};
@@ -30,6 +31,7 @@ pub enum LogRec {
 fn copy_of(row: &Option<Row>) -> Result<Option<Row>, Fault>
     ensures same { IfOk result (λ copy. copy ≡ row.now) }
     ensures memory { IfErr result (λ fault. fault ≡ Fault.Memory) }
+    ensures none { row.now ≡ None → IsOk result }
 {
     Ok(match row {
         Some(row) => Some(row.clone()?),
@@ -38,9 +40,11 @@ fn copy_of(row: &Option<Row>) -> Result<Option<Row>, Fault>
 }
 
 impl LogRec {
+    /// A copy; only a row and verdicts take memory for it.
     pub fn clone(&self) -> Result<LogRec, Fault>
         ensures same { IfOk result (λ copy. copy ≡ self.now) }
         ensures memory { IfErr result (λ fault. fault ≡ Fault.Memory) }
+        ensures bare { IsBare self.now → IsOk result }
     {
         Ok(match self {
             LogRec::Write { txn, rid, row } => LogRec::Write {

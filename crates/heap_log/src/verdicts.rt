@@ -1,4 +1,4 @@
-ghost use Rattle.std.specs.Prelude.{◌≡◌, IfOk, IfErr};
+ghost use Rattle.std.specs.Prelude.{◌≡◌, [], IsOk, IfOk, IfErr};
 
 use crate::Outcome;
 use keybytes::Fault;
@@ -27,15 +27,18 @@ impl Verdicts {
         Verdicts { outcomes }
     }
 
+    /// The verdicts, that on the first index first.
     pub fn as_slice(&self) -> &[Outcome]
         ensures { result.now ≡ self.now }
     {
         self.outcomes.as_slice()
     }
 
+    /// A copy; an empty list takes no memory for it.
     pub fn clone(&self) -> Result<Verdicts, Fault>
         ensures same { IfOk result (λ verdicts. verdicts ≡ self.now) }
         ensures memory { IfErr result (λ fault. fault ≡ Fault.Memory) }
+        ensures empty { self.now ≡ [] → IsOk result }
     {
         let mut outcomes = Vec::with_capacity(*self.outcomes.allocator(), self.outcomes.len())?;
         for outcome in &self.outcomes {

@@ -1,9 +1,10 @@
 -- Who holds a RID.
 use Rattle.std.proofs.Common.{◌≡◌, inl, inr, ℕ, ◌+◌, Bool, true, false, List, [], ◌∷◌, length, Option, Some, None, refl, sym, ap, ◌∙◌, arith}
-use Rattle.std.specs.Prelude.{◌||◌, ◌&&◌, ◌==◌, if◌then◌else◌}
+use Rattle.std.proofs.Math.Bool.{and-false, and-true}
+use Rattle.std.specs.Prelude.{◌||◌, ◌==◌, if◌then◌else◌}
 use Rattle.std.specs.Bool.{then_some}
 use Rattle.std.specs.List.{filter_map, find, cons_option}
-use Rattle.std.proofs.lemmas.Bool.{cases_Bool, cases_order, false≢true, eqb-true, eq-eqb, or_cases}
+use Rattle.std.proofs.lemmas.Bool.{cases_Bool, cases_order, false≢true, eqb-true, eq-eqb, or_cases, or_left, or_right}
 use Rattle.std.proofs.lemmas.Option.{same_Some}
 use Rattle.keybytes.specs.declared.rid.Rid.{Rid}
 use Rattle.heap_log.specs.declared.record.LogRec.{LogRec}
@@ -15,21 +16,14 @@ use Rattle.heap_table.specs.HeapState.{HeapState, is_open}
 use Rattle.heap_table.specs.Holders.{writes, wrote, is_busy, writer_at, holder}
 use Rattle.heap_table.specs.Sound.{IsSound, HoldsFollowLog}
 use Rattle.heap_table.proofs.Writers.{HasWrite, wrote_some, wrote_from, one_writer}
-use Rattle.heap_table.proofs.Small.{or_left, or_right, some_or_none}
+use Rattle.heap_table.proofs.Small.{some_or_none}
 
 -- a record is a write of its writer
 writes_by : (txn : ℕ) (rid : Rid) (rec : LogRec) → writes txn rid rec ≡ is_number txn (writer_at rid rec)
 writes_by txn rid (Write w r row) = elim (cases_Bool (same_rid r rid)) [
-  | inl is ↦ rw is (and_true (w == txn))
-  | inr is ↦ rw is (and_false (w == txn))
-] where
-  and_true : (b : Bool) → (b && true) ≡ b
-  and_true true = refl
-  and_true false = refl
-
-  and_false : (b : Bool) → (b && false) ≡ false
-  and_false true = refl
-  and_false false = refl
+  | inl is ↦ rw is (and-true (w == txn))
+  | inr is ↦ rw is (and-false (w == txn))
+]
 writes_by txn rid (Undo t n) = refl
 writes_by txn rid (Commit t) = refl
 writes_by txn rid (Switch o) = refl
@@ -82,7 +76,7 @@ finds_none p (rec ∷ log) rid t e has = elim (some_or_none (writer_at rid rec))
 pub holder_wrote : (log : List LogRec) (rid : Rid) (txn : ℕ) → holder log rid ≡ Some txn → (is_busy log txn ≡ true) × (wrote log txn rid ≡ true)
 holder_wrote log rid txn e = finds_wrote (is_busy log) log rid txn e
 
-pub holder_none : (log : List LogRec) (rid : Rid) (txn : ℕ) → holder log rid ≡ None → wrote log txn rid ≡ true → is_busy log txn ≡ false
+holder_none : (log : List LogRec) (rid : Rid) (txn : ℕ) → holder log rid ≡ None → wrote log txn rid ≡ true → is_busy log txn ≡ false
 holder_none log rid txn e has = finds_none (is_busy log) log rid txn e has
 
 -- at most one open transaction has a write at a RID

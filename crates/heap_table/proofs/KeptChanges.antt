@@ -2,7 +2,7 @@
 use Rattle.std.proofs.Common.{map, ◌≡◌, ◌≢◌, inl, inr, ℕ, zero, suc, ◌+◌, ◌<◌, ◌≤◌, max, Bool, true, false, List, [], ◌∷◌, ◌++◌, length, Option, Some, None, refl, sym, ap, ◌∙◌, arith, length-append}
 use Rattle.std.specs.Prelude.{◌==◌, ◌&&◌}
 use Rattle.std.specs.Option.{option_map}
-use Rattle.std.proofs.lemmas.Bool.{cases_Bool, cases_eq, cases_lt, false≢true}
+use Rattle.std.proofs.lemmas.Bool.{cases_Bool, cases_lt, false≢true}
 use Rattle.std.proofs.lemmas.Bool.Decides.{nat_tests}
 use Rattle.keybytes.specs.Cells.{fits}
 use Rattle.keybytes.specs.Rows.{IsRow, row_bytes}
@@ -12,7 +12,7 @@ use Rattle.keybytes.specs.declared.rid.Rid.{Rid}
 use Rattle.heap_log.specs.declared.outcome.Outcome.{Outcome}
 use Rattle.heap_log.specs.declared.record.LogRec.{LogRec}
 use Rattle.heap_log.specs.declared.record.LogRec.TheVariants.{Write, Undo, Commit, Switch}
-use Rattle.heap_log.specs.Standing.{record_at, row_of, rid_of, is_write_at, row_at, standing_before, standing_count, AddsToLive, AddsToStanding, AddsToBefore, AddsToNumbers}
+use Rattle.heap_log.specs.Standing.{record_at, row_of, rid_of, is_write_at, row_at, standing_before, standing_count}
 use Rattle.heap_log.proofs.Numbers.{write_at, newest_standing-of}
 use Rattle.slotted_page.specs.Slot.{Slot}
 use Rattle.slotted_page.specs.Page.{PageValue}
@@ -23,13 +23,14 @@ use Rattle.heap_table.specs.PageLists.{PagesValue, slot_in, with_slot_in, pages_
 use Rattle.heap_table.specs.Pages.{page_end, slot_end, slots_written, pages_written, slot_under, slot_of, SetsRow}
 use Rattle.heap_table.specs.Ready.{HaveWritten}
 use Rattle.heap_table.specs.Sound.{IsSound, UndoFits}
+use Rattle.heap_table.proofs.Added.{Added}
 use Rattle.heap_table.proofs.Holding.{holder_wrote}
 use Rattle.heap_table.proofs.KeptFacts.{kept_slot}
 use Rattle.heap_table.proofs.LogRows.{slots_written-added, pages_written-added, slots_past, end_here, written_inside}
-use Rattle.heap_table.proofs.OpenOnes.{open_without_self, open_without_other, open_marked}
+use Rattle.heap_table.proofs.OpenOnes.{open_without_self, open_without_other, without_fewer, open_marked}
 use Rattle.heap_table.proofs.PageLists.{pages_by_same, pages_by_changed, pages_by_inside}
-use Rattle.heap_table.proofs.Slots.{under_kept, wrote_still, Wrote, write_slot, write_other_slot, write_live, write_other_live}
-use Rattle.heap_table.proofs.Sounds.{sound_commit, sound_switch}
+use Rattle.heap_table.proofs.Slots.{under_kept, Wrote, write_slot, write_other_slot}
+use Rattle.heap_table.proofs.Sounds.{wrote_still, sound_commit, sound_switch}
 use Rattle.heap_table.proofs.Undoing.{ended_slot, going_slot, fits_quiet, fits_write, fits_undo, Undid, undo_there, undo_live, undo_other_live, undo_slot, undo_other_slot}
 use Rattle.heap_table.proofs.Writers.{wrote_from}
 use Rattle.heap_table.proofs.Small.{max_zero, none_some, same_rid_self}
@@ -43,16 +44,16 @@ written_at (Some (Commit t)) cells e = absurd (cc)
 written_at (Some (Switch o)) cells e = absurd (cc)
 
 fit_added :
-    (kinds : List Kind) (log new : List LogRec) (rec : LogRec) → new ≡ log ++ rec ∷ [] → AddsToNumbers log rec new
+    (kinds : List Kind) (log new : List LogRec) (rec : LogRec) → Added log rec new
     → ((cells : List Cell) → row_of (Some rec) ≡ Some cells → IsRow cells × (fits kinds cells ≡ true)) → WritesFit kinds log → WritesFit kinds new
-fit_added kinds log new rec is numbers fit old = λ n cells e.
-    let count : length new ≡ length log + 1 = ap length is ∙ length-append log (rec ∷ []) in
+fit_added kinds log new rec added fit old = λ n cells e.
+    let count : length new ≡ length log + 1 = ap length added.is ∙ length-append log (rec ∷ []) in
     let high = (write_at new (rid_of (record_at new n)) n (written_at (record_at new n) cells e)).high in
     elim (cases_lt (length log) n) [
       | inl last ↦
           let n_is : n ≡ length log + 1 = omega (arith, last, high, count) in
-          fit cells (sym (ap row_of (ap (record_at new) n_is ∙ numbers.here)) ∙ e)
-      | inr within ↦ old n cells (sym (ap row_of (numbers.earlier n (omega (arith, within)))) ∙ e)
+          fit cells (sym (ap row_of (ap (record_at new) n_is ∙ added.numbers.here)) ∙ e)
+      | inr within ↦ old n cells (sym (ap row_of (added.numbers.earlier n (omega (arith, within)))) ∙ e)
     ]
 
 -- the same rows and pages
@@ -77,18 +78,17 @@ end_other page rid txn cells other = grind (arith, nat_tests)
 -- a write changes one slot
 pub kept_write :
     (s t : HeapState) (p q : PagesValue) (txn : ℕ) (rid : Rid) (row : Option (List Cell)) → IsKept s p → Wrote s t txn rid row
-    → t.schema ≡ s.schema → t.slot_limit ≡ s.slot_limit → t.page_limit ≡ s.page_limit → AddsToNumbers s.log (Write txn rid row) t.log
-    → AddsToBefore s.log (Write txn rid row) t.log → rid.page ≤ pages_written s.log → rid.slot ≤ slots_written s.log rid.page → rid.page < s.page_limit
+    → t.schema ≡ s.schema → t.slot_limit ≡ s.slot_limit → t.page_limit ≡ s.page_limit → rid.page ≤ pages_written s.log → rid.slot ≤ slots_written s.log rid.page → rid.page < s.page_limit
     → ((cells : List Cell) → row ≡ Some cells → IsRow cells × (fits s.schema cells ≡ true))
     → q.pages ≡ with_slot_in p.pages p.limit rid (changed (slot_in p.pages rid) (option_map row_bytes row)) → q.limit ≡ p.limit → t.room ≤ q.spare
     → IsKept t q
-kept_write s t p q txn rid row kept w schema slots limit numbers before in_pages in_slots below fit pages pages_limit room =
+kept_write s t p q txn rid row kept w schema slots limit in_pages in_slots below fit pages pages_limit room =
     let rec : LogRec = Write txn rid row in
-    let pages_grown : pages_written t.log ≡ max (pages_written s.log) (rid.page + 1) = ap pages_written w.is ∙ pages_written-added s.log rec in
+    let pages_grown : pages_written t.log ≡ max (pages_written s.log) (rid.page + 1) = ap pages_written w.added.is ∙ pages_written-added s.log rec in
     let grown : slots_written t.log rid.page ≡ max (slots_written s.log rid.page) (rid.slot + 1) =
-    ap (λ (l : List LogRec). slots_written l rid.page) w.is ∙ (slots_written-added s.log rec rid.page ∙ ap (max (slots_written s.log rid.page)) (end_here rid.page rid.slot txn row)) in
+    ap (λ (l : List LogRec). slots_written l rid.page) w.added.is ∙ (slots_written-added s.log rec rid.page ∙ ap (max (slots_written s.log rid.page)) (end_here rid.page rid.slot txn row)) in
     let others : (page : ℕ) → page ≢ rid.page → slots_written t.log page ≡ slots_written s.log page =
-    λ page differs. ap (λ (l : List LogRec). slots_written l page) w.is
+    λ page differs. ap (λ (l : List LogRec). slots_written l page) w.added.is
     ∙ (slots_written-added s.log rec page ∙ (ap (max (slots_written s.log page)) (end_other page rid txn row differs) ∙ max_zero (slots_written s.log page))) in
     let slot : changed (slot_in p.pages rid) (option_map row_bytes row) ≡ slot_of t.log rid =
     ap (λ (x : Slot). changed x (option_map row_bytes row)) (kept_slot s p rid kept) ∙ sym (write_slot s t txn rid row w) in
@@ -102,22 +102,16 @@ kept_write s t p q txn rid row kept w schema slots limit numbers before in_pages
           ∙ ap (pages_by (slot_of t.log) (slots_written t.log) (pages_written t.log)) (sym slots)))));
       limit = pages_limit ∙ (kept.limit ∙ sym slots);
       room = room;
-      writes_fit = rw schema (fit_added s.schema s.log t.log rec w.is numbers fit kept.writes_fit);
+      writes_fit = rw schema (fit_added s.schema s.log t.log rec w.added fit kept.writes_fit);
       sound = w.sound;
-      undo_fits = fits_write s t txn rid row w numbers before kept.undo_fits;
+      undo_fits = fits_write s t txn rid row w kept.undo_fits;
       limits = rw (slots, limit) kept.limits;
       slots_below = rw slots kept.slots_below;
       within = rw limit (let old = kept.within in omega (arith, pages_grown, old, below));
     }
 
-pub write_sets : (s t : HeapState) (txn : ℕ) (rid : Rid) (row : Option (List Cell)) → Wrote s t txn rid row → SetsRow s.log rid row t.log
-write_sets s t txn rid row w = record {
-  here = write_live s t txn rid row w;
-  elsewhere = λ other differs. write_other_live s t txn rid row w other differs;
-}
-
 -- a record that is no write leaves the numbers of pages and slots
-pub same_counts : (log new : List LogRec) (rec : LogRec) → new ≡ log ++ rec ∷ [] → pages_written (rec ∷ []) ≡ 0 → ((page : ℕ) → slots_written (rec ∷ []) page ≡ 0) → (pages_written new ≡ pages_written log) × ((page : ℕ) → slots_written new page ≡ slots_written log page)
+same_counts : (log new : List LogRec) (rec : LogRec) → new ≡ log ++ rec ∷ [] → pages_written (rec ∷ []) ≡ 0 → ((page : ℕ) → slots_written (rec ∷ []) page ≡ 0) → (pages_written new ≡ pages_written log) × ((page : ℕ) → slots_written new page ≡ slots_written log page)
 same_counts log new rec is pages slots =
     let none : page_end rec ≡ 0 = sym (max_zero (page_end rec)) ∙ pages in (
       ap pages_written is ∙ (pages_written-added log rec ∙ (ap (max (pages_written log)) none ∙ max_zero (pages_written log))),
@@ -127,14 +121,14 @@ same_counts log new rec is pages slots =
     )
 
 -- a record that is no write, after which each slot is what the pages have
-pub kept_after :
-    (s t : HeapState) (p q : PagesValue) (rec : LogRec) (slot : Rid → Slot) → IsKept s p → IsSound t → UndoFits t.log → t.log ≡ s.log ++ rec ∷ []
+kept_after :
+    (s t : HeapState) (p q : PagesValue) (rec : LogRec) (slot : Rid → Slot) → IsKept s p → IsSound t → UndoFits t.log → Added s.log rec t.log
     → row_of (Some rec) ≡ None → pages_written (rec ∷ []) ≡ 0 → ((page : ℕ) → slots_written (rec ∷ []) page ≡ 0)
-    → t.schema ≡ s.schema → t.slot_limit ≡ s.slot_limit → t.page_limit ≡ s.page_limit → AddsToNumbers s.log rec t.log
+    → t.schema ≡ s.schema → t.slot_limit ≡ s.slot_limit → t.page_limit ≡ s.page_limit
     → q.pages ≡ pages_by slot (slots_written s.log) (pages_written s.log) s.slot_limit → ((rid : Rid) → slot rid ≡ slot_of t.log rid)
     → q.limit ≡ p.limit → t.room ≤ q.spare → IsKept t q
-kept_after s t p q rec slot kept sound undo_fits is none no_page no_slot schema slots limit numbers pages same pages_limit room =
-    let counts = same_counts s.log t.log rec is no_page no_slot in
+kept_after s t p q rec slot kept sound undo_fits added none no_page no_slot schema slots limit pages same pages_limit room =
+    let counts = same_counts s.log t.log rec added.is no_page no_slot in
     record {
       pages_are =
           pages ∙ (pages_by_same slot (slot_of t.log) (slots_written s.log) (slots_written t.log) (pages_written s.log) s.slot_limit same (λ page. sym (counts.1 page))
@@ -142,7 +136,7 @@ kept_after s t p q rec slot kept sound undo_fits is none no_page no_slot schema 
           ∙ ap (pages_by (slot_of t.log) (slots_written t.log) (pages_written t.log)) (sym slots)));
       limit = pages_limit ∙ (kept.limit ∙ sym slots);
       room = room;
-      writes_fit = rw schema (fit_added s.schema s.log t.log rec is numbers (λ cells e. absurd (none_some cells (sym none ∙ e))) kept.writes_fit);
+      writes_fit = rw schema (fit_added s.schema s.log t.log rec added (λ cells e. absurd (none_some cells (sym none ∙ e))) kept.writes_fit);
       sound = sound;
       undo_fits = undo_fits;
       limits = rw (slots, limit) kept.limits;
@@ -152,18 +146,17 @@ kept_after s t p q rec slot kept sound undo_fits is none no_page no_slot schema 
 
 -- a switch leaves every slot
 pub kept_switch :
-    (s t : HeapState) (p q : PagesValue) (verdicts : List Outcome) → IsKept s p → t.log ≡ s.log ++ Switch verdicts ∷ [] → t.active ≡ s.active → t.begun ≡ s.begun
-    → t.schema ≡ s.schema → t.slot_limit ≡ s.slot_limit → t.page_limit ≡ s.page_limit → AddsToLive s.log (Switch verdicts) t.log
-    → AddsToStanding s.log (Switch verdicts) t.log → AddsToBefore s.log (Switch verdicts) t.log → AddsToNumbers s.log (Switch verdicts) t.log
+    (s t : HeapState) (p q : PagesValue) (verdicts : List Outcome) → IsKept s p → Added s.log (Switch verdicts) t.log → t.active ≡ s.active → t.begun ≡ s.begun
+    → t.schema ≡ s.schema → t.slot_limit ≡ s.slot_limit → t.page_limit ≡ s.page_limit
     → q.pages ≡ p.pages → q.limit ≡ p.limit → t.room ≤ q.spare → IsKept t q
-kept_switch s t p q verdicts kept is active begun schema slots limit live standing before numbers pages pages_limit room =
-    let sound = sound_switch s t verdicts kept.sound is active begun numbers standing in
+kept_switch s t p q verdicts kept added active begun schema slots limit pages pages_limit room =
+    let sound = sound_switch s t verdicts kept.sound added active begun in
     kept_after s t p q (Switch verdicts) (slot_of s.log) kept sound
-    (fits_quiet s t (Switch verdicts) kept.sound sound is (λ u r. refl) (λ r. refl) (λ n. refl) (λ n. tt) (λ u e. sym (ap (λ a. is_open a u) active) ∙ e) numbers before live.live kept.undo_fits)
-    is refl refl (λ page. refl) schema slots limit numbers (pages ∙ kept.pages_are)
+    (fits_quiet s t (Switch verdicts) kept.sound sound added (λ u r. refl) (λ r. refl) (λ n. refl) (λ n. tt) (λ u e. sym (ap (λ a. is_open a u) active) ∙ e) added.live.live kept.undo_fits)
+    added refl refl (λ page. refl) schema slots limit (pages ∙ kept.pages_are)
     (λ rid.
-    sym (going_slot s t kept.sound sound (λ u. ap (λ a. is_open a u) active) rid (λ u. wrote_still s.log t.log (Switch verdicts) u rid is refl)
-    ∙ under_kept s.log t.log (Switch verdicts) rid (holder s.log rid) is (λ u e. (holder_wrote s.log rid u e).1) (λ u. refl) (live.live rid)))
+    sym (going_slot s t kept.sound sound (λ u. ap (λ a. is_open a u) active) rid (λ u. wrote_still s.log t.log (Switch verdicts) u rid added.is refl)
+    ∙ under_kept s.log t.log (Switch verdicts) rid (holder s.log rid) added.is (λ u e. (holder_wrote s.log rid u e).1) (λ u. refl) (added.live.live rid)))
     pages_limit room
 
 -- the pages have a slot for each RID that was written
@@ -172,31 +165,26 @@ have_written s p txn log kept same = (kept.pages_are, λ rid e. written_inside s
 
 -- a commit settles the slots that its transaction wrote
 pub kept_commit :
-    (s t : HeapState) (p q : PagesValue) (txn : ℕ) → IsKept s p → is_open s.active txn ≡ true → t.log ≡ s.log ++ Commit txn ∷ []
+    (s t : HeapState) (p q : PagesValue) (txn : ℕ) → IsKept s p → is_open s.active txn ≡ true → Added s.log (Commit txn) t.log
     → t.active ≡ without txn s.active → t.begun ≡ s.begun → t.schema ≡ s.schema → t.slot_limit ≡ s.slot_limit → t.page_limit ≡ s.page_limit
-    → AddsToLive s.log (Commit txn) t.log → AddsToStanding s.log (Commit txn) t.log → AddsToBefore s.log (Commit txn) t.log → AddsToNumbers s.log (Commit txn) t.log
     → ((slot : Rid → Slot) (slots : ℕ → ℕ) (count limit : ℕ) → p.pages ≡ pages_by slot slots count limit → q.pages ≡ pages_by (λ rid. settled_if (wrote t.log txn rid) (slot rid)) slots count limit)
     → q.limit ≡ p.limit → t.room ≤ q.spare → IsKept t q
-kept_commit s t p q txn kept opened is active begun schema slots limit live standing before numbers settles pages_limit room =
-    let sound = sound_commit s t txn kept.sound is active begun numbers standing opened in
+kept_commit s t p q txn kept opened added active begun schema slots limit settles pages_limit room =
+    let sound = sound_commit s t txn kept.sound added active begun opened in
     let closed : is_open t.active txn ≡ false = ap (λ a. is_open a txn) active ∙ open_without_self txn s.active in
     let others : (other : ℕ) → other ≢ txn → is_open t.active other ≡ is_open s.active other =
     λ other differs. ap (λ a. is_open a other) active ∙ open_without_other txn other s.active differs in
-    let fewer : (other : ℕ) → is_open t.active other ≡ true → is_open s.active other ≡ true = λ other e. elim (cases_eq other txn) [
-      | inl same ↦ ap (is_open s.active) same ∙ opened
-      | inr differs ↦ sym (others other differs) ∙ e
-    ] in
     kept_after s t p q (Commit txn) (λ rid. settled_if (wrote t.log txn rid) (slot_of s.log rid)) kept sound
-    (fits_quiet s t (Commit txn) kept.sound sound is (λ u r. refl) (λ r. refl) (λ n. refl) (λ n. tt) fewer numbers before live.live kept.undo_fits)
-    is refl refl (λ page. refl) schema slots limit numbers
+    (fits_quiet s t (Commit txn) kept.sound sound added (λ u r. refl) (λ r. refl) (λ n. refl) (λ n. tt) (λ u e. without_fewer txn u s.active (sym (ap (λ a. is_open a u) active) ∙ e)) added.live.live kept.undo_fits)
+    added refl refl (λ page. refl) schema slots limit
     (settles (slot_of s.log) (slots_written s.log) (pages_written s.log) s.slot_limit kept.pages_are)
     (λ rid.
-    ap (settled_if (wrote t.log txn rid)) (sym (under_kept s.log t.log (Commit txn) rid (holder s.log rid) is (λ u e. (holder_wrote s.log rid u e).1) (λ u. refl) (live.live rid)))
-    ∙ sym (ended_slot s t txn kept.sound sound opened closed others rid (λ u. wrote_still s.log t.log (Commit txn) u rid is refl)))
+    ap (settled_if (wrote t.log txn rid)) (sym (under_kept s.log t.log (Commit txn) rid (holder s.log rid) added.is (λ u e. (holder_wrote s.log rid u e).1) (λ u. refl) (added.live.live rid)))
+    ∙ sym (ended_slot s t txn kept.sound sound opened closed others rid (λ u. wrote_still s.log t.log (Commit txn) u rid added.is refl)))
     pages_limit room
 
 -- the pages once the row before is back
-pub undone_pages :
+undone_pages :
     (s t : HeapState) (p m : PagesValue) (txn n : ℕ) (rid : Rid) → IsKept s p → Undid s t txn n rid
     → m.pages ≡ with_slot_in p.pages p.limit rid (changed (slot_in p.pages rid) (option_map row_bytes (row_at s.log (standing_before s.log n))))
     → m.pages ≡ pages_by (λ r. slot_under (holder s.log r) t.log r) (slots_written s.log) (pages_written s.log) s.slot_limit
@@ -214,13 +202,12 @@ undone_pages s t p m txn n rid kept u pages =
 pub kept_undo :
     (s t : HeapState) (p m q : PagesValue) (txn n : ℕ) (rid : Rid) → IsKept s p → Undid s t txn n rid → t.active ≡ still_open txn (standing_count t.log txn) s.active
     → t.schema ≡ s.schema → t.slot_limit ≡ s.slot_limit → t.page_limit ≡ s.page_limit
-    → AddsToBefore s.log (Undo txn n) t.log → AddsToNumbers s.log (Undo txn n) t.log
     → m.pages ≡ with_slot_in p.pages p.limit rid (changed (slot_in p.pages rid) (option_map row_bytes (row_at s.log (standing_before s.log n)))) → m.limit ≡ p.limit
     → ((slot : Rid → Slot) (slots : ℕ → ℕ) (count limit : ℕ) → m.pages ≡ pages_by slot slots count limit → q.pages ≡ pages_by (λ r. settled_if ((standing_count t.log txn == 0) && wrote t.log txn r) (slot r)) slots count limit)
     → q.limit ≡ m.limit → t.room ≤ q.spare → IsKept t q
-kept_undo s t p m q txn n rid kept u active schema slots limit before numbers pages m_limit settles q_limit room =
+kept_undo s t p m q txn n rid kept u active schema slots limit pages m_limit settles q_limit room =
     kept_after s t p q (Undo txn n) (λ r. settled_if ((left == 0) && wrote t.log txn r) (mid r)) kept u.sound
-    (fits_undo s t txn n rid u numbers before) u.is refl refl (λ page. refl) schema slots limit numbers
+    (fits_undo s t txn n rid u) u.added refl refl (λ page. refl) schema slots limit
     (settles mid (slots_written s.log) (pages_written s.log) s.slot_limit (undone_pages s t p m txn n rid kept u pages))
     (λ r. by_left r) (q_limit ∙ m_limit) room where
       left : ℕ
@@ -230,7 +217,7 @@ kept_undo s t p m q txn n rid kept u active schema slots limit before numbers pa
       mid r = slot_under (holder s.log r) t.log r
 
       written : (r : Rid) (other : ℕ) → wrote t.log other r ≡ wrote s.log other r
-      written r other = wrote_still s.log t.log (Undo txn n) other r u.is refl
+      written r other = wrote_still s.log t.log (Undo txn n) other r u.added.is refl
 
       by_left : (r : Rid) → settled_if ((left == 0) && wrote t.log txn r) (mid r) ≡ slot_of t.log r
       by_left r = elim (cases_Bool (left == 0)) [
@@ -289,4 +276,4 @@ pub undo_inside :
     → m.pages ≡ with_slot_in p.pages p.limit rid (changed (slot_in p.pages rid) (option_map row_bytes (row_at s.log (standing_before s.log n))))
     → HaveWritten m t.log txn (λ r. slot_under (holder s.log r) t.log r) (slots_written s.log) (pages_written s.log) s.slot_limit
 undo_inside s t p m txn n rid kept u pages =
-    (undone_pages s t p m txn n rid kept u pages, λ r e. written_inside s.log txn r (sym (wrote_still s.log t.log (Undo txn n) txn r u.is refl) ∙ e))
+    (undone_pages s t p m txn n rid kept u pages, λ r e. written_inside s.log txn r (sym (wrote_still s.log t.log (Undo txn n) txn r u.added.is refl) ∙ e))

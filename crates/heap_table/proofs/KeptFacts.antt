@@ -14,12 +14,12 @@ use Rattle.keybytes.specs.Rows.{IsRow, row_bytes, Spells, shape_refusal}
 use Rattle.keybytes.specs.declared.cell.Cell.{Cell}
 use Rattle.keybytes.specs.declared.kind.Kind.{Kind}
 use Rattle.keybytes.specs.declared.rid.Rid.{Rid}
-use Rattle.keybytes.specs.declared.fault.Fault.TheVariants.{RowShape, NoSuchRow}
+use Rattle.keybytes.specs.declared.fault.Fault.TheVariants.{RowShape}
 use Rattle.heap_log.specs.declared.record.LogRec.{LogRec}
 use Rattle.heap_log.specs.Standing.{live_at, row_at, newest_at}
 use Rattle.slotted_page.specs.Slot.{Slot, free, held as held_slot, row as row_slot, is_free, bytes_of, IsRowSize}
 use Rattle.slotted_page.specs.Page.{PageValue, slot_at, room_for, slot_for}
-use Rattle.heap_table.specs.HeapState.{HeapState, page_of, table_pages, takes, rid_on, place_on, insert_place, row_missing}
+use Rattle.heap_table.specs.HeapState.{HeapState, page_of, table_pages, takes, place_on, insert_place}
 use Rattle.heap_table.specs.Holders.{holder, room_needed}
 use Rattle.heap_table.specs.Images.{Shows, ImageValue, IsImage}
 use Rattle.heap_table.specs.Kept.{IsKept, RowsFit, WritesFit}
@@ -34,7 +34,7 @@ kept_count s p kept = ap length kept.pages_are ∙ length_pages_by (slot_of s.lo
 pub kept_limit : (s : HeapState) (p : PagesValue) → IsKept s p → pages_written s.log ≤ 65536
 kept_limit s p kept = grind (arith, nat_tests, kept.limits, kept.within)
 
-pub kept_slots : (s : HeapState) (p : PagesValue) → IsKept s p → 0 < s.slot_limit
+kept_slots : (s : HeapState) (p : PagesValue) → IsKept s p → 0 < s.slot_limit
 kept_slots s p kept = grind (arith, nat_tests, kept.limits)
 
 pub kept_page : (s : HeapState) (p : PagesValue) (page : ℕ) (d : PageValue) → IsKept s p → page < length p.pages → get_or p.pages page d ≡ page_of s page
@@ -81,7 +81,7 @@ spells_live kinds None fit = tt
 spells_live kinds (Some row) fit = let held = fit row refl in record { held = held.0.each; fitting = held.1; bytes_are = refl }
 
 -- each slot of a page shows the row that stands there
-pub kept_shows : (s : HeapState) (p : PagesValue) (rid : Rid) → IsKept s p → Shows s.schema (slot_of s.log rid) (live_at s.log rid)
+kept_shows : (s : HeapState) (p : PagesValue) (rid : Rid) → IsKept s p → Shows s.schema (slot_of s.log rid) (live_at s.log rid)
 kept_shows s p rid kept =
     let fit = rows_fit s.schema s.log kept.writes_fit in
     record {
@@ -94,7 +94,7 @@ pub slot_shows : (s : HeapState) (p : PagesValue) (rid : Rid) → IsKept s p →
 slot_shows s p rid kept = subst (λ (slot : Slot). Shows s.schema slot (live_at s.log rid)) (sym (kept_slot s p rid kept)) (kept_shows s p rid kept)
 
 -- a new page takes any row
-pub new_page_takes : (limit size : ℕ) → 0 < limit → size ≤ 1224 → room_for (new_page limit) size ≡ Some 0
+new_page_takes : (limit size : ℕ) → 0 < limit → size ≤ 1224 → room_for (new_page limit) size ≡ Some 0
 new_page_takes limit size some small = grind (arith, nat_tests, some, small)
 
 some_if : {X : Type 0} (b : Bool) (x y : X) → (if b then Some x else None) ≡ Some y → (b ≡ true) × (x ≡ y)
@@ -141,7 +141,7 @@ empty_slot s page size slot room =
 
 goes_on :
     (s : HeapState) (p : PagesValue) (size page : ℕ) (rid : Rid) (slot : Option ℕ) → IsKept s p → page < pages_written s.log
-    → room_for (page_of s page) size ≡ slot → rid_on s size page slot ≡ Some rid → GoesTo s size rid
+    → room_for (page_of s page) size ≡ slot → option_map (rid_at page) slot ≡ Some rid → GoesTo s size rid
 goes_on s p size page rid None kept below room on = absurd (cc)
 goes_on s p size page rid (Some slot) kept below room on =
     let within = empty_slot s page size slot room in
@@ -198,7 +198,7 @@ pub place_found :
 place_found s p size page slot limit kept found room =
     let below = found_below p.pages size page found in
     ap (place_on s size) (ap (position (takes size)) (sym kept.pages_are) ∙ found)
-    ∙ ap (rid_on s size page) (ap (λ (q : PageValue). room_for q size) (sym (kept_page s p page (new_page limit) kept below)) ∙ room)
+    ∙ ap (option_map (rid_at page)) (ap (λ (q : PageValue). room_for q size) (sym (kept_page s p page (new_page limit) kept below)) ∙ room)
 
 -- a copy of a page
 pub kept_image :
@@ -232,9 +232,6 @@ page_shows s p page slot value kept below is =
     subst (λ (q : PageValue). Shows s.schema (slot_at q slot) (live_at s.log (rid_at page slot)))
     (kept_page s p page (new_page 0) kept below ∙ sym (is ∙ kept_page s p page value kept below))
     (slot_shows s p (rid_at page slot) kept)
-
-pub missing_none : (cells : Option (List Cell)) → cells ≡ None → row_missing cells ≡ Some NoSuchRow
-missing_none cells none = ap row_missing none
 
 range_more : (a n : ℕ) → range_with_len a (n + 1) ≡ range_with_len a n ++ (a + n) ∷ []
 range_more a zero = rw (add-zero a) refl

@@ -1,3 +1,5 @@
+pub mod Added
+pub mod Done
 pub mod Holding
 pub mod KeptChanges
 pub mod KeptFacts

@@ -8,11 +8,12 @@ use Rattle.keybytes.specs.declared.rid.Rid.{Rid}
 use Rattle.heap_log.specs.declared.outcome.Outcome.{Outcome}
 use Rattle.heap_log.specs.declared.record.LogRec.{LogRec}
 use Rattle.heap_log.specs.declared.record.LogRec.TheVariants.{Write, Undo, Commit, Switch}
-use Rattle.heap_log.specs.Standing.{live_at, row_at, record_at, newest_at, stands_at, undone, is_write_of, is_write_at, same_rid, AddsToLive}
+use Rattle.heap_log.specs.Standing.{live_at, row_at, record_at, newest_at, stands_at, undone, is_write_of, is_write_at, same_rid}
 use Rattle.heap_log.proofs.Last.{IsLast, last_below_some}
 use Rattle.slotted_page.specs.Slot.{free}
 use Rattle.heap_table.specs.Holders.{writes, wrote, holder}
 use Rattle.heap_table.specs.Pages.{slot_end, slots_written, page_end, pages_written, slot_with, slot_of, KeepsRows, RowsAreInside}
+use Rattle.heap_table.proofs.Added.{Added}
 use Rattle.heap_table.proofs.Holding.{holder_wrote}
 use Rattle.heap_table.proofs.Writers.{wrote_from}
 use Rattle.heap_table.proofs.Small.{max_turned, max_zero, same_rid_is, some_or_none}
@@ -32,20 +33,18 @@ pages_written-added [] rec = max_comm (page_end rec) 0
 pages_written-added (first ∷ log) rec =
     rw (pages_written-added log rec) (max_turned (page_end first) (pages_written log) (page_end rec))
 
-pub keeps_commit : (log new : List LogRec) (txn : ℕ) → new ≡ log ++ Commit txn ∷ [] → AddsToLive log (Commit txn) new → KeepsRows log new
-keeps_commit log new txn is adds = record {
-  live = adds.live;
-  pages = rw is (pages_written-added log (Commit txn) ∙ max_zero (pages_written log));
-  slots = λ page. rw is (slots_written-added log (Commit txn) page ∙ max_zero (slots_written log page));
+pub keeps_commit : (log new : List LogRec) (txn : ℕ) → Added log (Commit txn) new → KeepsRows log new
+keeps_commit log new txn added = record {
+  live = added.live.live;
+  pages = rw added.is (pages_written-added log (Commit txn) ∙ max_zero (pages_written log));
+  slots = λ page. rw added.is (slots_written-added log (Commit txn) page ∙ max_zero (slots_written log page));
 }
 
-pub keeps_switch :
-    (log new : List LogRec) (verdicts : List Outcome) → new ≡ log ++ Switch verdicts ∷ [] → AddsToLive log (Switch verdicts) new
-    → KeepsRows log new
-keeps_switch log new verdicts is adds = record {
-  live = adds.live;
-  pages = rw is (pages_written-added log (Switch verdicts) ∙ max_zero (pages_written log));
-  slots = λ page. rw is (slots_written-added log (Switch verdicts) page ∙ max_zero (slots_written log page));
+pub keeps_switch : (log new : List LogRec) (verdicts : List Outcome) → Added log (Switch verdicts) new → KeepsRows log new
+keeps_switch log new verdicts added = record {
+  live = added.live.live;
+  pages = rw added.is (pages_written-added log (Switch verdicts) ∙ max_zero (pages_written log));
+  slots = λ page. rw added.is (slots_written-added log (Switch verdicts) page ∙ max_zero (slots_written log page));
 }
 
 pub inside_kept : (old new : List LogRec) → KeepsRows old new → RowsAreInside old → RowsAreInside new
@@ -86,7 +85,7 @@ written_inside (rec ∷ log) txn rid e = elim (or_cases (writes txn rid rec) (wr
   written_here (Switch o) txn rid e m n = absurd (false≢true e)
 
 -- somebody wrote where a row stands
-pub live_written : (log : List LogRec) (rid : Rid) (cells : List Cell) → live_at log rid ≡ Some cells → (txn : ℕ) × (wrote log txn rid ≡ true)
+live_written : (log : List LogRec) (rid : Rid) (cells : List Cell) → live_at log rid ≡ Some cells → (txn : ℕ) × (wrote log txn rid ≡ true)
 live_written log rid cells stands = by (newest_at log rid) refl stands where
   writer : (rec : Option LogRec) → is_write_at rid rec ≡ true → (txn : ℕ) × (is_write_of txn rec ≡ true)
   writer None e = absurd (false≢true e)
@@ -110,7 +109,7 @@ rows_are_inside log = record {
 }
 
 -- nothing is where nobody wrote
-pub unwritten_slot : (log : List LogRec) (rid : Rid) → ((txn : ℕ) → wrote log txn rid ≡ true → ⊥) → slot_of log rid ≡ free
+unwritten_slot : (log : List LogRec) (rid : Rid) → ((txn : ℕ) → wrote log txn rid ≡ true → ⊥) → slot_of log rid ≡ free
 unwritten_slot log rid never =
     let live : live_at log rid ≡ None = elim (some_or_none (live_at log rid)) [
       | inl none ↦ none

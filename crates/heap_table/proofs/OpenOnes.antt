@@ -1,12 +1,12 @@
 -- Which transactions are open once one has ended, was marked or was begun.
 use Rattle.std.proofs.Common.{◌≡◌, ◌≢◌, inl, inr, ℕ, suc, ◌<◌, Bool, true, false, List, [], ◌∷◌, ◌++◌, length, get_or, arith, Some, None, refl, sym, ap, ◌∙◌}
+use Rattle.std.proofs.Math.Bool.{or-false}
 use Rattle.std.specs.Prelude.{◌||◌, ◌==◌, if◌then◌else◌, map}
-use Rattle.std.proofs.lemmas.Bool.{cases_Bool, cases_eq, eqb-true, ne_eqb}
+use Rattle.std.proofs.lemmas.Bool.{cases_Bool, cases_eq, false≢true, eqb-true, ne_eqb}
 use Rattle.std.proofs.lemmas.List.Folds.{list_any-append}
 use Rattle.keybytes.specs.declared.fault.Fault.TheVariants.{NoSuchTxn, TxnEnding}
 use Rattle.heap_table.specs.declared.open_txn.OpenTxn.{OpenTxn}
 use Rattle.heap_table.specs.HeapState.{HeapState, is_open, is_ending, txn_refusal, without, mark, still_open}
-use Rattle.heap_table.proofs.Small.{or_false}
 
 pub open_without_self : (txn : ℕ) (active : List OpenTxn) → is_open (without txn active) txn ≡ false
 open_without_self txn [] = refl
@@ -24,7 +24,14 @@ open_without_other txn other (t ∷ ts) differs = elim (cases_Bool (t.txn == txn
   | inr miss ↦ rw miss (ap (λ (b : Bool). (t.txn == other) || b) (open_without_other txn other ts differs))
 ]
 
-pub mark_txn : (txn : ℕ) (t : OpenTxn) → (mark txn t).txn ≡ t.txn
+-- the end of one opens nobody
+pub without_fewer : (txn other : ℕ) (active : List OpenTxn) → is_open (without txn active) other ≡ true → is_open active other ≡ true
+without_fewer txn other active e = elim (cases_eq other txn) [
+  | inl same ↦ absurd (false≢true (sym (ap (is_open (without txn active)) same ∙ open_without_self txn active) ∙ e))
+  | inr differs ↦ sym (open_without_other txn other active differs) ∙ e
+]
+
+mark_txn : (txn : ℕ) (t : OpenTxn) → (mark txn t).txn ≡ t.txn
 mark_txn txn t = elim (cases_Bool (t.txn == txn)) [
   | inl hit ↦ rw hit refl
   | inr miss ↦ rw miss refl
@@ -39,7 +46,7 @@ open_marked txn other (t ∷ ts) =
 pub open_begun : (txn other : ℕ) (active : List OpenTxn) → is_open (active ++ record { txn = txn; ending = false } ∷ []) other ≡ (is_open active other || (txn == other))
 open_begun txn other active =
     list_any-append (λ (t : OpenTxn). t.txn == other) active (record { txn = txn; ending = false } ∷ [])
-    ∙ ap (λ (b : Bool). is_open active other || b) (or_false (txn == other))
+    ∙ ap (λ (b : Bool). is_open active other || b) (or-false (txn == other))
 
 pub open_still_other : (txn other left : ℕ) (active : List OpenTxn) → other ≢ txn → is_open (still_open txn left active) other ≡ is_open active other
 open_still_other txn other left active differs = elim (cases_Bool (left == 0)) [

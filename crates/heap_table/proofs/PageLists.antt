@@ -1,11 +1,12 @@
 -- Lists of pages: pages by a function of the RID, and pages with another slot at a RID.
-use Rattle.std.proofs.Common.{◌≡◌, ◌≢◌, ◌⊎◌, inl, inr, ℕ, zero, suc, ◌+◌, ◌<◌, ◌≤◌, max, Bool, true, false, List, [], ◌∷◌, ◌++◌, map, length, get_or, set, refl, sym, ap, ◌∙◌, subst, arith, get_or-set_same, get_or-set_other}
-use Rattle.std.specs.Prelude.{◌==◌, nat_lt, cond, Some, None}
+use Rattle.std.proofs.Common.{◌≡◌, ◌≢◌, inl, inr, ℕ, zero, suc, ◌+◌, ◌<◌, ◌≤◌, max, Bool, true, false, List, [], ◌∷◌, ◌++◌, map, length, get_or, set, refl, sym, ap, ◌∙◌, subst, arith, get_or-set_same, get_or-set_other}
+use Rattle.std.specs.Prelude.{nat_lt, cond, Some, None}
 use Rattle.std.proofs.Math.Seq.{set-append_seam}
 use Rattle.std.specs.List.{range_with_len}
 use Rattle.std.proofs.lemmas.Bool.Decides.{nat_tests}
-use Rattle.std.proofs.lemmas.Bool.{cases_lt}
-use Rattle.std.proofs.lemmas.List.{length-set, set-get_or, ext_get_or, get_or_past, length-append, get_or_append_left, get_or_push}
+use Rattle.std.proofs.lemmas.Bool.{cases_eq, cases_lt}
+use Rattle.std.proofs.lemmas.List.{length-set, set-get_or, ext_get_or, get_or_default, get_or_past, length-append, get_or_append_left, get_or_push}
+use Rattle.std.proofs.lemmas.Option.{same_Some}
 use Rattle.std.proofs.lemmas.List.FromFn.{fill_by_all, length-map-range_with_len, get_or-map-range_with_len}
 use Rattle.keybytes.specs.declared.rid.Rid.{Rid}
 use Rattle.slotted_page.specs.Slot.{Slot, free, held, row, put, is_held, bytes_of, reserve_of, IsHeld}
@@ -13,32 +14,26 @@ use Rattle.slotted_page.specs.Page.{PageValue, slot_at, with_slot, room_for}
 use Rattle.heap_table.specs.Pages.{rid_at}
 use Rattle.heap_table.specs.PageLists.{new_page, page_or_new, slot_in, page_with_slot, with_slot_in, page_by, pages_by, settled}
 
-pub nat_cases : (a b : ℕ) → (a ≡ b) ⊎ (a ≢ b)
-nat_cases a b = told a b (a == b) refl where
-  told : (a b : ℕ) (t : Bool) → (a == b) ≡ t → (a ≡ b) ⊎ (a ≢ b)
-  told a b true e = inl (grind (arith, nat_tests, e))
-  told a b false e = inr (λ same. grind (arith, nat_tests, e, same))
-
-pub map_same : {X Y : Type 0} (f g : X → Y) (xs : List X) → ((x : X) → f x ≡ g x) → map f xs ≡ map g xs
+map_same : {X Y : Type 0} (f g : X → Y) (xs : List X) → ((x : X) → f x ≡ g x) → map f xs ≡ map g xs
 map_same f g [] same = refl
 map_same f g (x ∷ xs) same = rw (same x, map_same f g xs same) refl
 
-pub same_page : {xs ys : List Slot} {m n : ℕ} → xs ≡ ys → m ≡ n → (let p : PageValue = record { slots = xs; limit = m } in p) ≡ (let q : PageValue = record { slots = ys; limit = n } in q)
+same_page : {xs ys : List Slot} {m n : ℕ} → xs ≡ ys → m ≡ n → (let p : PageValue = record { slots = xs; limit = m } in p) ≡ (let q : PageValue = record { slots = ys; limit = n } in q)
 same_page {xs = xs} {ys = ys} {m = m} {n = n} e f =
     ap (λ (zs : List Slot). let p : PageValue = record { slots = zs; limit = m } in p) e
     ∙ ap (λ (k : ℕ). let p : PageValue = record { slots = ys; limit = k } in p) f
 
-pub length_put : (slots : List Slot) (s : ℕ) (x : Slot) → s ≤ length slots → length (put slots s x) ≡ max (length slots) (s + 1)
+length_put : (slots : List Slot) (s : ℕ) (x : Slot) → s ≤ length slots → length (put slots s x) ≡ max (length slots) (s + 1)
 length_put [] s x within = let none : s ≡ 0 = omega arith in rw none refl
 length_put (y ∷ slots) zero x within = omega arith
 length_put (y ∷ slots) (suc s) x within = let rest = length_put slots s x (omega arith) in omega arith
 
-pub get_or_put_same : (slots : List Slot) (s : ℕ) (x d : Slot) → s ≤ length slots → get_or (put slots s x) s d ≡ x
+get_or_put_same : (slots : List Slot) (s : ℕ) (x d : Slot) → s ≤ length slots → get_or (put slots s x) s d ≡ x
 get_or_put_same [] s x d within = let none : s ≡ 0 = omega arith in rw none refl
 get_or_put_same (y ∷ slots) zero x d within = refl
 get_or_put_same (y ∷ slots) (suc s) x d within = get_or_put_same slots s x d (omega arith)
 
-pub get_or_put_other : (slots : List Slot) (s k : ℕ) (x d : Slot) → s ≤ length slots → k ≢ s → k < length slots → get_or (put slots s x) k d ≡ get_or slots k d
+get_or_put_other : (slots : List Slot) (s k : ℕ) (x d : Slot) → s ≤ length slots → k ≢ s → k < length slots → get_or (put slots s x) k d ≡ get_or slots k d
 get_or_put_other [] s k x d within other below = absurd (omega arith)
 get_or_put_other (y ∷ slots) zero zero x d within other below = absurd (other refl)
 get_or_put_other (y ∷ slots) zero (suc k) x d within other below = refl
@@ -76,7 +71,7 @@ page_or_new_pages_by f m c limit p within none = elim (cases_lt p c) [
 ]
 
 -- a page whose slots hold the same
-pub page_by_same :
+page_by_same :
     (f g : Rid → Slot) (m n : ℕ → ℕ) (limit p : ℕ) → ((k : ℕ) → f (rid_at p k) ≡ g (rid_at p k)) → m p ≡ n p
     → page_by f m limit p ≡ page_by g n limit p
 page_by_same f g m n limit p slots count =
@@ -91,7 +86,7 @@ pages_by_same f g m n c limit slots counts =
     (λ p. page_by_same f g m n limit p (λ k. slots (rid_at p k)) (counts p))
 
 -- the page of a RID whose slot changes
-pub page_by_changed :
+page_by_changed :
     (f g : Rid → Slot) (m n : ℕ → ℕ) (limit : ℕ) (rid : Rid) → ((other : Rid) → other ≢ rid → g other ≡ f other)
     → rid.slot ≤ m rid.page → n rid.page ≡ max (m rid.page) (rid.slot + 1)
     → with_slot (page_by f m limit rid.page) rid.slot (g rid) ≡ page_by g n limit rid.page
@@ -104,7 +99,7 @@ page_by_changed f g m n limit rid others within grown =
     same_page (ext_get_or free (put slots rid.slot (g rid)) (page_by g n limit rid.page).slots (count ∙ sym (length_page_by g n limit rid.page))
     (λ k below.
     let in_new : k < n rid.page = omega (arith, below, count) in
-    rw (get_or_page_by g n limit rid.page k free in_new) (elim (nat_cases k rid.slot) [
+    rw (get_or_page_by g n limit rid.page k free in_new) (elim (cases_eq k rid.slot) [
       | inl same ↦ rw same (get_or_put_same slots rid.slot (g rid) free there)
       | inr differs ↦
           let in_old : k < length slots = omega (arith, below, count, grown, len, within) in
@@ -114,28 +109,23 @@ page_by_changed f g m n limit rid others within grown =
     ]))) refl
 
 -- any other page
-pub page_by_other :
+page_by_other :
     (f g : Rid → Slot) (m n : ℕ → ℕ) (limit : ℕ) (rid : Rid) (p : ℕ) → ((other : Rid) → other ≢ rid → g other ≡ f other)
     → ((p : ℕ) → p ≢ rid.page → n p ≡ m p) → p ≢ rid.page → page_by f m limit p ≡ page_by g n limit p
 page_by_other f g m n limit rid p others counts differs =
     page_by_same f g m n limit p (λ k. sym (others (rid_at p k) (λ e. differs (ap (λ (r : Rid). r.page) e))))
     (sym (counts p differs))
 
-get_or_there : (pages : List PageValue) (p : ℕ) (d e : PageValue) → p < length pages → get_or pages p d ≡ get_or pages p e
-get_or_there [] p d e below = absurd (omega arith)
-get_or_there (x ∷ pages) zero d e below = refl
-get_or_there (x ∷ pages) (suc p) d e below = get_or_there pages p d e (omega arith)
-
 -- another slot on a page that is there
-pub with_slot_there :
+with_slot_there :
     (pages : List PageValue) (limit : ℕ) (rid : Rid) (slot : Slot) (d : PageValue) → rid.page < length pages
     → with_slot_in pages limit rid slot ≡ set pages rid.page (with_slot (get_or pages rid.page d) rid.slot slot)
 with_slot_there pages limit rid slot d below =
     let test : nat_lt rid.page (length pages) ≡ true = grind (arith, nat_tests, below) in
-    rw test (ap (λ (page : PageValue). set pages rid.page (with_slot page rid.slot slot)) (get_or_there pages rid.page (new_page limit) d below))
+    rw test (ap (λ (page : PageValue). set pages rid.page (with_slot page rid.slot slot)) (get_or_default pages rid.page (new_page limit) d below))
 
 -- a slot on the next new page
-pub with_slot_new :
+with_slot_new :
     (pages : List PageValue) (limit : ℕ) (rid : Rid) (slot : Slot) → length pages ≤ rid.page
     → with_slot_in pages limit rid slot ≡ pages ++ with_slot (new_page limit) rid.slot slot ∷ []
 with_slot_new pages limit rid slot past =
@@ -143,7 +133,7 @@ with_slot_new pages limit rid slot past =
     rw test (ap (λ (page : PageValue). pages ++ with_slot page rid.slot slot ∷ []) (get_or_past pages rid.page (new_page limit) past))
 
 -- the pages with another slot on one of them
-pub pages_by_set :
+pages_by_set :
     (f g : Rid → Slot) (m n : ℕ → ℕ) (c limit : ℕ) (rid : Rid) → ((other : Rid) → other ≢ rid → g other ≡ f other)
     → rid.page < c → rid.slot ≤ m rid.page → n rid.page ≡ max (m rid.page) (rid.slot + 1)
     → ((p : ℕ) → p ≢ rid.page → n p ≡ m p) → (limit2 : ℕ)
@@ -158,7 +148,7 @@ pages_by_set f g m n c limit rid others below within grown counts limit2 =
     ∙ page_by_changed f g m n limit rid others within grown in
     with_slot_there pages limit2 rid (g rid) (new_page limit) in_list
     ∙ fill_by_all (page_by g n limit) (set pages rid.page here) c here (length-set pages rid.page here ∙ len)
-    (λ k k_below. elim (nat_cases k rid.page) [
+    (λ k k_below. elim (cases_eq k rid.page) [
       | inl same ↦ rw same (get_or-set_same pages rid.page here here in_list ∙ here_is)
       | inr differs ↦
           get_or-set_other pages rid.page k here here differs
@@ -184,7 +174,7 @@ pages_by_pushed f g m n c limit rid others next within grown counts none =
     with_slot_new pages limit rid (g rid) past
     ∙ fill_by_all (page_by g n limit) (pages ++ here ∷ []) (c + 1) here
     (length-append pages (here ∷ []) ∙ omega (arith, len))
-    (λ k k_below. elim (nat_cases k rid.page) [
+    (λ k k_below. elim (cases_eq k rid.page) [
       | inl same ↦ rw same (get_or_push pages here here rid.page (omega (arith, len, next)) ∙ here_is)
       | inr differs ↦
           let in_old : k < c = omega (arith, k_below, next, differs) in
@@ -251,7 +241,7 @@ opened_new pages opened limit p past is =
     let test : nat_lt p (length pages) ≡ false = grind (arith, nat_tests, past) in
     is ∙ ap (λ (b : Bool). cond b pages (pages ++ new_page limit ∷ [])) test
 
-pub opened_page :
+opened_page :
     (pages opened : List PageValue) (limit p : ℕ) (page : PageValue) → p ≤ length pages
     → opened ≡ cond (nat_lt p (length pages)) pages (pages ++ new_page limit ∷ []) → page ≡ get_or opened p page
     → page ≡ page_or_new pages limit p
@@ -259,7 +249,7 @@ opened_page pages opened limit p page within is here = elim (cases_lt p (length 
   | inl below ↦
       here
       ∙ (ap (λ (xs : List PageValue). get_or xs p page) (opened_there pages opened limit p below is)
-      ∙ get_or_there pages p page (new_page limit) below)
+      ∙ get_or_default pages p page (new_page limit) below)
   | inr past ↦
       let last : length pages ≡ p = omega (arith, past, within) in
       here
@@ -268,7 +258,7 @@ opened_page pages opened limit p page within is here = elim (cases_lt p (length 
       ∙ sym (get_or_past pages p (new_page limit) past)))
 ]
 
-pub opened_set :
+opened_set :
     (pages opened : List PageValue) (limit : ℕ) (rid : Rid) (slot : Slot) → rid.page ≤ length pages
     → opened ≡ cond (nat_lt rid.page (length pages)) pages (pages ++ new_page limit ∷ [])
     → set opened rid.page (page_with_slot pages limit rid slot) ≡ with_slot_in pages limit rid slot
@@ -286,9 +276,6 @@ opened_set pages opened limit rid slot within is =
           ∙ (set-append_seam pages (new_page limit) [] here ∙ sym (rw test refl)))
     ]
 
-some_same : (a b : ℕ) → Some a ≡ Some b → a ≡ b
-some_same a b e = cc
-
 -- a row put on a page with room for it, one that was there or was added
 pub insert_opened :
     (pages opened : List PageValue) (limit : ℕ) (rid : Rid) (bytes : List ℕ) (page changed : PageValue) (slot : ℕ)
@@ -299,7 +286,7 @@ pub insert_opened :
 insert_opened pages opened limit rid bytes page changed slot within is here room found put_is =
     let same : page ≡ page_or_new pages limit rid.page = opened_page pages opened limit rid.page page within is here in
     let place : slot ≡ rid.slot =
-    some_same slot rid.slot (sym found ∙ (ap (λ (p : PageValue). room_for p (length bytes)) same ∙ room)) in
+    same_Some slot rid.slot (sym found ∙ (ap (λ (p : PageValue). room_for p (length bytes)) same ∙ room)) in
     ap (λ (p : PageValue). set opened rid.page p) (put_is ∙ (ap (λ (k : ℕ). with_slot page k (row bytes (length bytes))) place
     ∙ ap (λ (p : PageValue). with_slot p rid.slot (row bytes (length bytes))) same))
     ∙ opened_set pages opened limit rid (row bytes (length bytes)) within is

@@ -1,5 +1,5 @@
 -- A change that is ready can be performed.
-use Rattle.std.proofs.Common.{◌≡◌, inl, inr, ℕ, ◌+◌, ◌<◌, ◌≤◌, Bool, true, List, [], ◌∷◌, ◌++◌, length, Option, Some, None, IfSome, refl, sym, ap, ◌∙◌, subst, arith}
+use Rattle.std.proofs.Common.{◌≡◌, inl, inr, ℕ, ◌+◌, ◌<◌, ◌≤◌, Bool, true, List, length, Option, Some, None, IfSome, refl, sym, ap, ◌∙◌, subst, arith}
 use Rattle.std.specs.Prelude.{IsSome}
 use Rattle.std.specs.Prelude.{if◌then◌else◌}
 use Rattle.std.specs.Option.{option_map}
@@ -15,7 +15,7 @@ use Rattle.keybytes.specs.declared.fault.Fault.TheVariants.{PageFull}
 use Rattle.keybytes.specs.declared.rid.Rid.{Rid}
 use Rattle.heap_log.specs.declared.record.LogRec.{LogRec}
 use Rattle.heap_log.specs.declared.record.LogRec.TheVariants.{Undo}
-use Rattle.heap_log.specs.Standing.{record_at, row_of, rid_of, undone, is_write_at, stands_of, live_at, row_at, newest_standing, standing_before, standing_count, AddsToLive, AddsToStanding, AddsToNumbers}
+use Rattle.heap_log.specs.Standing.{record_at, row_of, rid_of, undone, is_write_at, stands_of, live_at, row_at, newest_standing, standing_before, standing_count}
 use Rattle.heap_log.proofs.Last.{IsLast, last_below_some}
 use Rattle.heap_log.proofs.Numbers.{newest_standing-of}
 use Rattle.slotted_page.specs.Slot.{Slot, reserve_of, IsRow as HasRow, IsHeld, IsTaken}
@@ -27,6 +27,7 @@ use Rattle.heap_table.specs.Kept.{IsKept, WritesFit}
 use Rattle.heap_table.specs.PageLists.{PagesValue, new_page, page_or_new, slot_in, with_slot_in, changed}
 use Rattle.heap_table.specs.Pages.{pages_written, slots_written, slot_with, slot_of}
 use Rattle.heap_table.specs.Ready.{IsSized, IsLawful, IsReady, CanWrite, CanRestore}
+use Rattle.heap_table.proofs.Added.{Added}
 use Rattle.heap_table.proofs.Holding.{holder_is}
 use Rattle.heap_table.proofs.KeptFacts.{goes_to, kept_count, kept_page, kept_page_or_new, kept_slot, fits_accepted}
 use Rattle.heap_table.proofs.LogRows.{rows_are_inside, slot_free}
@@ -37,7 +38,7 @@ use Rattle.heap_table.proofs.Undoing.{Undid}
 use Rattle.heap_table.proofs.Writers.{wrote_from}
 
 -- what no cause refuses
-pub both_none : (a b : Option Fault) → first_cause a b ≡ None → (a ≡ None) × (b ≡ None)
+both_none : (a b : Option Fault) → first_cause a b ≡ None → (a ≡ None) × (b ≡ None)
 both_none None b e = (refl, e)
 both_none (Some fault) b e = absurd (cc)
 
@@ -104,7 +105,7 @@ can_change s p txn rid (Some old) (Some new) kept is sized lawful =
     }
 
 -- the room that an accepted update has
-pub grows : (s : HeapState) (rid : Rid) (size : ℕ) → growth_refusal s rid size ≡ None → fits_at (page_of s rid.page) rid.slot size ≡ true
+grows : (s : HeapState) (rid : Rid) (size : ℕ) → growth_refusal s rid size ≡ None → fits_at (page_of s rid.page) rid.slot size ≡ true
 grows s rid size e = elim (cases_Bool (fits_at (page_of s rid.page) rid.slot size)) [
   | inl fits ↦ fits
   | inr full ↦ absurd (refused (sym (ap (λ (b : Bool). if b then None else Some PageFull) full) ∙ e))
@@ -145,7 +146,7 @@ pub record CanUndo (s : HeapState) (txn n : ℕ) (rid : Rid) : Type 0 where
   pub holder : holder s.log rid ≡ Some txn
   pub size : row_size (row_at s.log (standing_before s.log n)) ≤ room_needed s.log rid
 
-pub can_undo :
+can_undo :
     (s : HeapState) (p : PagesValue) (txn n : ℕ) (rid : Rid) → IsKept s p → is_open s.active txn ≡ true → newest_standing s.log txn ≡ Some n
     → rid ≡ rid_of (record_at s.log n) → CanUndo s txn n rid
 can_undo s p txn n rid kept opened newest place =
@@ -203,18 +204,16 @@ undoes s ready n is_ready undone = subst (λ (o : Option ℕ). IsLawful s ready.
 -- a ready undo undoes its write
 pub undid_from :
     (s t : HeapState) (p : PagesValue) (ready : Ready) (n : ℕ) → IsKept s p → IsReady s ready → ready.undone ≡ Some n
-    → t.log ≡ s.log ++ Undo ready.txn n ∷ [] → t.active ≡ still_open ready.txn (standing_count t.log ready.txn) s.active → t.begun ≡ s.begun
-    → AddsToLive s.log (Undo ready.txn n) t.log → AddsToStanding s.log (Undo ready.txn n) t.log → AddsToNumbers s.log (Undo ready.txn n) t.log
+    → Added s.log (Undo ready.txn n) t.log → t.active ≡ still_open ready.txn (standing_count t.log ready.txn) s.active → t.begun ≡ s.begun
     → Undid s t ready.txn n ready.rid
-undid_from s t p ready n kept is_ready undone is active begun live standing numbers =
+undid_from s t p ready n kept is_ready undone added active begun =
     let lawful = undoes s ready n is_ready undone in
     record {
       was = kept.sound;
-      sound = sound_undo s t ready.txn n kept.sound is active begun numbers standing lawful.1 lawful.0;
+      sound = sound_undo s t ready.txn n kept.sound added active begun lawful.1 lawful.0;
       fits = kept.undo_fits;
-      is = is;
+      added = added;
       fewer = λ other e. still_fewer ready.txn other (standing_count t.log ready.txn) s.active lawful.0 (sym (ap (λ a. is_open a other) active) ∙ e);
-      live = live;
       newest = lawful.1;
       opened = lawful.0;
       place = lawful.2;

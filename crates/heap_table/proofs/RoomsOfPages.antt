@@ -1,9 +1,9 @@
 -- The rooms that are kept of a table's pages.
-use Rattle.std.proofs.Common.{◌≡◌, inl, inr, ℕ, zero, suc, ◌+◌, ◌<◌, Bool, List, [], ◌∷◌, ◌++◌, length, get_or, set, Some, None, refl, sym, ap, ◌∙◌, subst, arith, get_or-set_same, get_or-set_other}
+use Rattle.std.proofs.Common.{◌≡◌, inl, inr, ℕ, suc, ◌+◌, ◌<◌, Bool, List, [], ◌∷◌, ◌++◌, length, get_or, set, Some, None, refl, sym, ap, ◌∙◌, subst, arith, get_or-set_same, get_or-set_other}
 use Rattle.std.specs.Prelude.{position, is_some, nat_le, nat_lt, not, cond}
 use Rattle.std.specs.List.{position_or_len}
 use Rattle.std.proofs.lemmas.Bool.{cases_eq, cases_lt}
-use Rattle.std.proofs.lemmas.List.{length-set, length-append, get_or_past, get_or_append_left, get_or_push}
+use Rattle.std.proofs.lemmas.List.{length-set, length-append, get_or_default, get_or_past, get_or_append_left, get_or_push}
 use Rattle.keybytes.specs.declared.rid.Rid.{Rid}
 use Rattle.slotted_page.specs.Slot.{Slot, free, held, row, IsRow, IsTaken}
 use Rattle.slotted_page.specs.Page.{PageValue, slot_at, room_for}
@@ -33,11 +33,7 @@ position_same p q xs ys count same =
 pub lowest_room : (pages : List PageValue) (rooms : List ℕ) (len : ℕ) → RoomsAreOf pages rooms → 0 < len → position (λ room. nat_le len room) rooms ≡ position (takes len) pages
 lowest_room pages rooms len follow some =
     sym (position_same (takes len) (λ room. nat_le len room) pages rooms (sym follow.count)
-    (λ i d e below. follow.takes i len d below some ∙ ap (nat_le len) (get_or_there rooms i 0 e (omega (arith, below, follow.count))))) where
-      get_or_there : (xs : List ℕ) (i : ℕ) (d e : ℕ) → i < length xs → get_or xs i d ≡ get_or xs i e
-      get_or_there [] i d e below = absurd (omega arith)
-      get_or_there (x ∷ xs) zero d e below = refl
-      get_or_there (x ∷ xs) (suc i) d e below = get_or_there xs i d e (omega arith)
+    (λ i d e below. follow.takes i len d below some ∙ ap (nat_le len) (get_or_default rooms i 0 e (omega (arith, below, follow.count)))))
 
 -- a page has changed
 pub rooms_set :
@@ -74,9 +70,6 @@ rooms_pushed pages rooms room page follow takes_room = record {
         ∙ (takes_room len some ∙ sym (ap (nat_le len) (get_or_push rooms room 0 i (sym at_rooms))))
   ];
 }
-
-pub rooms_none : RoomsAreOf [] []
-rooms_none = record { count = refl; takes = λ i len d below some. absurd (omega (arith, below)) }
 
 -- a page with a row or a held slot is there
 pub page_inside : (pages : List PageValue) (rid : Rid) → IsTaken (slot_in pages rid) → rid.page < length pages

@@ -1,5 +1,6 @@
 -- The slots that a transaction wrote, settled write by write from the last to the first.
 use Rattle.std.proofs.Common.{◌≡◌, ◌≢◌, inl, inr, ℕ, zero, suc, ◌+◌, ◌-◌, ◌<◌, ◌≤◌, Bool, true, false, List, [], ◌∷◌, length, drop, get_or, Option, Some, None, refl, sym, ap, ◌∙◌, arith}
+use Rattle.std.proofs.Math.Bool.{and-false}
 use Rattle.std.specs.Prelude.{◌||◌}
 use Rattle.std.specs.Option.{unwrap_or}
 use Rattle.std.specs.List.{slice_get}
@@ -19,7 +20,6 @@ use Rattle.heap_table.specs.Ready.{HaveWritten}
 use Rattle.heap_table.proofs.PageLists.{length_page_by, length_pages_by, get_or_pages_by, pages_by_same, pages_by_inside, slot_in_pages}
 use Rattle.heap_table.proofs.Slots.{rid_is}
 use Rattle.heap_table.proofs.Writers.{wrote_from}
-use Rattle.heap_table.proofs.Small.{and_false}
 
 -- whether the transaction wrote there behind that place
 abbrev pub wrote_behind : List LogRec → ℕ → Option ℕ → Rid → Bool
@@ -61,7 +61,7 @@ past_end [] = refl
 past_end (x ∷ log) = past_end log
 
 -- nothing was written behind the last write
-pub none_behind : (log : List LogRec) (txn : ℕ) (rid : Rid) (place : Option ℕ) → last_of log txn (length log + 1) ≡ place → wrote_behind log txn place rid ≡ false
+none_behind : (log : List LogRec) (txn : ℕ) (rid : Rid) (place : Option ℕ) → last_of log txn (length log + 1) ≡ place → wrote_behind log txn place rid ≡ false
 none_behind log txn rid None e =
     wrote_skip (length log) 0 log txn rid (omega arith) (λ i low high. last_below_none (λ k. is_write_of txn (record_at log k)) (length log + 1) e i (omega (arith, high)))
     ∙ ap (λ (l : List LogRec). wrote l txn rid) (ap (λ (k : ℕ). drop k log) zero_more ∙ past_end log) where
@@ -74,7 +74,7 @@ none_behind log txn rid (Some n) e =
     ∙ ap (λ (l : List LogRec). wrote l txn rid) (ap (λ (k : ℕ). drop k log) whole ∙ past_end log)
 
 -- behind the write before there is one write more
-pub one_behind :
+one_behind :
     (log : List LogRec) (txn n : ℕ) (rec : LogRec) (rid : Rid) (place : Option ℕ) → IsWrite log n → record_at log n ≡ Some rec → last_of log txn n ≡ place
     → wrote_behind log txn place rid ≡ (writes txn rid rec || wrote_behind log txn (Some n) rid)
 one_behind log txn zero rec rid place within is e = absurd (let low = within.low in omega (arith, low))
@@ -91,7 +91,7 @@ one_behind log txn (suc k) rec rid (Some m) within is e =
     ∙ (ap (λ (j : ℕ). wrote (drop j log) txn rid) sum ∙ wrote_step log k rec txn rid is)
 
 -- pages of one list have one number of pages, and each one number of slots
-pub same_shape :
+same_shape :
     (f g : Rid → Slot) (m n : ℕ → ℕ) (c d k l : ℕ) → pages_by f m c k ≡ pages_by g n d l → (c ≡ d) × ((page : ℕ) → page < c → m page ≡ n page)
 same_shape f g m n c d k l e =
     let count : c ≡ d = sym (length_pages_by f m c k) ∙ (ap length e ∙ length_pages_by g n d l) in (
@@ -144,7 +144,7 @@ settle_next log txn n rec old mid new place rid slot slots count limit h have wi
   not_there : (other : Rid) → other ≢ rid → writes txn other rec ≡ false
   not_there other differs = elim (cases_Bool (is_write_at other (Some rec))) [
     | inl also ↦ absurd (differs (sym (rid_is other (Some rec) also) ∙ rid_is rid (Some rec) there))
-    | inr none ↦ rw none (and_false (is_write_of txn (Some rec)))
+    | inr none ↦ rw none (and-false (is_write_of txn (Some rec)))
   ]
 
 -- before the first turn

@@ -1,5 +1,6 @@
 -- A table stays sound.
 use Rattle.std.proofs.Common.{◌≡◌, ◌≢◌, ◌⊎◌, inl, inr, ℕ, zero, suc, ◌+◌, ◌<◌, ◌≤◌, Bool, true, false, List, [], ◌∷◌, ◌++◌, length, Option, Some, None, refl, sym, ap, ◌∙◌, subst, arith, length-append}
+use Rattle.std.proofs.Math.Bool.{and-false, and-true, or-false, or-true}
 use Rattle.std.specs.Prelude.{◌||◌, ◌&&◌, not, nat_lt, ◌==◌, if◌then◌else◌}
 use Rattle.std.proofs.lemmas.Bool.{cases_Bool, cases_eq, cases_lt, false≢true, eqb-true, eq-eqb, ne_eqb, or_cases, and_parts}
 use Rattle.std.proofs.lemmas.Bool.Decides.{nat_tests}
@@ -9,16 +10,17 @@ use Rattle.keybytes.specs.declared.rid.Rid.{Rid}
 use Rattle.heap_log.specs.declared.outcome.Outcome.{Outcome}
 use Rattle.heap_log.specs.declared.record.LogRec.{LogRec}
 use Rattle.heap_log.specs.declared.record.LogRec.TheVariants.{Write, Undo, Commit, Switch}
-use Rattle.heap_log.specs.Standing.{record_at, is_write_of, is_write_at, same_rid, stands_of, newest_standing, standing_count, count_below, AddsToStanding, AddsToNumbers}
+use Rattle.heap_log.specs.Standing.{record_at, is_write_of, is_write_at, same_rid, stands_of, newest_standing, standing_count, count_below}
 use Rattle.heap_log.proofs.Last.{last_below_none}
 use Rattle.heap_log.proofs.Numbers.{write_at, newest_standing-of}
 use Rattle.heap_table.specs.HeapState.{HeapState, is_open, held_refusal, without, still_open}
 use Rattle.heap_table.specs.Holders.{writes, wrote, is_commit_of, committed, is_busy, holder}
 use Rattle.heap_table.specs.Sound.{IsSound}
+use Rattle.heap_table.proofs.Added.{Added}
 use Rattle.heap_table.proofs.Holding.{holder_is}
-use Rattle.heap_table.proofs.OpenOnes.{open_without_self, open_without_other, open_marked, open_begun, open_still_other}
+use Rattle.heap_table.proofs.OpenOnes.{open_without_self, open_without_other, without_fewer, open_marked, open_begun, open_still_other, still_fewer}
 use Rattle.heap_table.proofs.Writers.{HasWrite, wrote_from, wrote-added, committed-added, one_writer}
-use Rattle.heap_table.proofs.Small.{and_false, and_true, or_false, or_true, same_rid_is}
+use Rattle.heap_table.proofs.Small.{same_rid_is}
 
 -- a record may be added: its transaction was begun, no other open one has a write at its RID, and the open
 -- transactions among those that wrote are the busy ones then
@@ -31,13 +33,15 @@ pub record MayAdd (s : HeapState) (rec : LogRec) (t : HeapState) : Type 0 where
 pub wrote_then : (log new : List LogRec) (rec : LogRec) (txn : ℕ) (rid : Rid) → new ≡ log ++ rec ∷ [] → wrote new txn rid ≡ (wrote log txn rid || writes txn rid rec)
 wrote_then log new rec txn rid is = ap (λ (l : List LogRec). wrote l txn rid) is ∙ wrote-added log rec txn rid
 
-pub committed_then : (log new : List LogRec) (rec : LogRec) (txn : ℕ) → new ≡ log ++ rec ∷ [] → committed new txn ≡ (committed log txn || is_commit_of txn rec)
+committed_then : (log new : List LogRec) (rec : LogRec) (txn : ℕ) → new ≡ log ++ rec ∷ [] → committed new txn ≡ (committed log txn || is_commit_of txn rec)
 committed_then log new rec txn is = ap (λ (l : List LogRec). committed l txn) is ∙ committed-added log rec txn
 
 sound_added :
-    (s t : HeapState) (rec : LogRec) → IsSound s → t.log ≡ s.log ++ rec ∷ [] → t.begun ≡ s.begun → AddsToNumbers s.log rec t.log
+    (s t : HeapState) (rec : LogRec) → IsSound s → Added s.log rec t.log → t.begun ≡ s.begun
     → ((txn : ℕ) → is_open t.active txn ≡ true → is_open s.active txn ≡ true) → MayAdd s rec t → IsSound t
-sound_added s t rec h is begun numbers fewer may =
+sound_added s t rec h added begun fewer may =
+    let is = added.is in
+    let numbers = added.numbers in
     let count : length t.log ≡ length s.log + 1 = ap length is ∙ length-append s.log (rec ∷ []) in
     record {
       writers = λ txn rid e. elim (or_cases (wrote s.log txn rid) (writes txn rid rec) (sym (wrote_then s.log t.log rec txn rid is) ∙ e)) [
@@ -73,7 +77,7 @@ sound_added s t rec h is begun numbers fewer may =
       both a b e f = rw (e, f) refl
 
 -- whether a transaction is busy, from what it is told by
-pub busy_from : (log : List LogRec) (txn count : ℕ) (ended : Bool) → standing_count log txn ≡ count → committed log txn ≡ ended → is_busy log txn ≡ (nat_lt 0 count && not ended)
+busy_from : (log : List LogRec) (txn count : ℕ) (ended : Bool) → standing_count log txn ≡ count → committed log txn ≡ ended → is_busy log txn ≡ (nat_lt 0 count && not ended)
 busy_from log txn count ended is_count is_ended = rw (is_count, is_ended) refl
 
 -- the transaction that writes next may: nobody else holds the RID
@@ -90,29 +94,28 @@ free_for s h txn other rid free is has = unheld txn other (ap (held_refusal txn)
 
 -- who is busy after a write
 pub busy_write :
-    (s t : HeapState) (txn : ℕ) (rid : Rid) (row : Option (List Cell)) → IsSound s → t.log ≡ s.log ++ Write txn rid row ∷ []
-    → AddsToStanding s.log (Write txn rid row) t.log → is_open s.active txn ≡ true → (other : ℕ)
+    (s t : HeapState) (txn : ℕ) (rid : Rid) (row : Option (List Cell)) → IsSound s → Added s.log (Write txn rid row) t.log
+    → is_open s.active txn ≡ true → (other : ℕ)
     → is_busy t.log other ≡ (if txn == other then true else is_busy s.log other)
-busy_write s t txn rid row h is standing opened other =
-    let ended : committed t.log other ≡ committed s.log other = committed_then s.log t.log (Write txn rid row) other is ∙ or_false (committed s.log other) in
+busy_write s t txn rid row h added opened other =
+    let ended : committed t.log other ≡ committed s.log other = committed_then s.log t.log (Write txn rid row) other added.is ∙ or-false (committed s.log other) in
     elim (cases_Bool (txn == other)) [
       | inl same ↦
           let is_txn : txn ≡ other = eqb-true txn other same in
-          let count : standing_count t.log other ≡ standing_count s.log other + 1 = standing.count other ∙ rw same refl in
+          let count : standing_count t.log other ≡ standing_count s.log other + 1 = added.standing.count other ∙ rw same refl in
           let fresh : committed s.log other ≡ false = ap (committed s.log) (sym is_txn) ∙ h.uncommitted txn opened in
           busy_from t.log other (standing_count s.log other + 1) false count (ended ∙ fresh)
           ∙ (let some : nat_lt 0 (standing_count s.log other + 1) ≡ true = grind (arith, nat_tests) in rw (some, same) refl)
       | inr differs ↦
-          let count : standing_count t.log other ≡ standing_count s.log other = standing.count other ∙ rw differs refl in
+          let count : standing_count t.log other ≡ standing_count s.log other = added.standing.count other ∙ rw differs refl in
           busy_from t.log other (standing_count s.log other) (committed s.log other) count ended ∙ rw differs refl
     ]
 
 pub sound_write :
-    (s t : HeapState) (txn : ℕ) (rid : Rid) (row : Option (List Cell)) → IsSound s → t.log ≡ s.log ++ Write txn rid row ∷ []
-    → t.active ≡ s.active → t.begun ≡ s.begun → AddsToNumbers s.log (Write txn rid row) t.log
-    → AddsToStanding s.log (Write txn rid row) t.log → is_open s.active txn ≡ true → held_refusal txn (holder s.log rid) ≡ None → IsSound t
-sound_write s t txn rid row h is active begun numbers standing opened free =
-    sound_added s t (Write txn rid row) h is begun numbers (λ u e. sym (ap (λ a. is_open a u) active) ∙ e) (record {
+    (s t : HeapState) (txn : ℕ) (rid : Rid) (row : Option (List Cell)) → IsSound s → Added s.log (Write txn rid row) t.log
+    → t.active ≡ s.active → t.begun ≡ s.begun → is_open s.active txn ≡ true → held_refusal txn (holder s.log rid) ≡ None → IsSound t
+sound_write s t txn rid row h added active begun opened free =
+    sound_added s t (Write txn rid row) h added begun (λ u e. sym (ap (λ a. is_open a u) active) ∙ e) (record {
       known = λ u place e.
           let same : txn ≡ u = eqb-true txn u (and_parts (txn == u) (same_rid rid place) e).0 in
           rw (sym same) (h.openers txn opened);
@@ -122,10 +125,10 @@ sound_write s t txn rid row h is active begun numbers standing opened free =
           let by : wrote s.log u rid ≡ true = ap (wrote s.log u) same ∙ wrote_from s.log u place has.number has.by has.there in
           eq-eqb txn u (sym (free_for s h txn u rid free open_u by));
       busy = λ u place e.
-          busy_write s t txn rid row h is standing opened u ∙ (elim (cases_Bool (txn == u)) [
+          busy_write s t txn rid row h added opened u ∙ (elim (cases_Bool (txn == u)) [
             | inl same ↦ rw same (sym (ap (λ a. is_open a u) active ∙ (ap (is_open s.active) (sym (eqb-true txn u same)) ∙ opened)))
             | inr differs ↦
-                let old : wrote s.log u place ≡ true = elim (or_cases (wrote s.log u place) (writes u place (Write txn rid row)) (sym (wrote_then s.log t.log (Write txn rid row) u place is) ∙ e)) [
+                let old : wrote s.log u place ≡ true = elim (or_cases (wrote s.log u place) (writes u place (Write txn rid row)) (sym (wrote_then s.log t.log (Write txn rid row) u place added.is) ∙ e)) [
                   | inl old ↦ old
                   | inr new ↦ absurd (false≢true (sym differs ∙ (and_parts (txn == u) (same_rid rid place) new).0))
                 ] in
@@ -133,63 +136,57 @@ sound_write s t txn rid row h is active begun numbers standing opened free =
           ]);
     })
 
--- who wrote where before a record that is no write
-wrote_same : (log new : List LogRec) (rec : LogRec) (txn : ℕ) (rid : Rid) → new ≡ log ++ rec ∷ [] → writes txn rid rec ≡ false → wrote new txn rid ≡ wrote log txn rid
-wrote_same log new rec txn rid is none = wrote_then log new rec txn rid is ∙ rw none (or_false (wrote log txn rid))
+-- who wrote there before a record that is no write of it there
+pub wrote_still : (log new : List LogRec) (rec : LogRec) (txn : ℕ) (rid : Rid) → new ≡ log ++ rec ∷ [] → writes txn rid rec ≡ false → wrote new txn rid ≡ wrote log txn rid
+wrote_still log new rec txn rid is none = wrote_then log new rec txn rid is ∙ rw none (or-false (wrote log txn rid))
 
 -- who is busy after a commit
-pub busy_commit :
-    (s t : HeapState) (txn : ℕ) → t.log ≡ s.log ++ Commit txn ∷ [] → AddsToStanding s.log (Commit txn) t.log → (other : ℕ)
+busy_commit :
+    (s t : HeapState) (txn : ℕ) → Added s.log (Commit txn) t.log → (other : ℕ)
     → is_busy t.log other ≡ (if txn == other then false else is_busy s.log other)
-busy_commit s t txn is standing other = elim (cases_Bool (txn == other)) [
+busy_commit s t txn added other = elim (cases_Bool (txn == other)) [
   | inl same ↦
-      let ended : committed t.log other ≡ true = committed_then s.log t.log (Commit txn) other is ∙ rw same (or_true (committed s.log other)) in
-      busy_from t.log other (standing_count t.log other) true refl ended ∙ rw same (and_false (nat_lt 0 (standing_count t.log other)))
+      let ended : committed t.log other ≡ true = committed_then s.log t.log (Commit txn) other added.is ∙ rw same (or-true (committed s.log other)) in
+      busy_from t.log other (standing_count t.log other) true refl ended ∙ rw same (and-false (nat_lt 0 (standing_count t.log other)))
   | inr differs ↦
-      let ended : committed t.log other ≡ committed s.log other = committed_then s.log t.log (Commit txn) other is ∙ rw differs (or_false (committed s.log other)) in
-      busy_from t.log other (standing_count s.log other) (committed s.log other) (standing.count other) ended ∙ rw differs refl
+      let ended : committed t.log other ≡ committed s.log other = committed_then s.log t.log (Commit txn) other added.is ∙ rw differs (or-false (committed s.log other)) in
+      busy_from t.log other (standing_count s.log other) (committed s.log other) (added.standing.count other) ended ∙ rw differs refl
 ]
 
 eq_turned : (a b : ℕ) → (a == b) ≡ false → b ≢ a
 eq_turned a b e same = false≢true (sym e ∙ eq-eqb a b (sym same))
 
 pub sound_commit :
-    (s t : HeapState) (txn : ℕ) → IsSound s → t.log ≡ s.log ++ Commit txn ∷ [] → t.active ≡ without txn s.active → t.begun ≡ s.begun
-    → AddsToNumbers s.log (Commit txn) t.log → AddsToStanding s.log (Commit txn) t.log → is_open s.active txn ≡ true → IsSound t
-sound_commit s t txn h is active begun numbers standing opened =
-    sound_added s t (Commit txn) h is begun numbers (λ u e. was_open s t txn u active e) (record {
+    (s t : HeapState) (txn : ℕ) → IsSound s → Added s.log (Commit txn) t.log → t.active ≡ without txn s.active → t.begun ≡ s.begun
+    → is_open s.active txn ≡ true → IsSound t
+sound_commit s t txn h added active begun opened =
+    sound_added s t (Commit txn) h added begun (λ u e. without_fewer txn u s.active (sym (ap (λ a. is_open a u) active) ∙ e)) (record {
       known = λ u place e. absurd (false≢true e);
       commits = λ u e.
           let same : txn ≡ u = eqb-true txn u e in
           (rw (sym same) (h.openers txn opened), ap (λ a. is_open a u) active ∙ (ap (λ (v : ℕ). is_open (without v s.active) u) same ∙ open_without_self u s.active));
       alone = λ u place open_u at has. absurd (false≢true at);
       busy = λ u place e.
-          let old : wrote s.log u place ≡ true = sym (wrote_same s.log t.log (Commit txn) u place is refl) ∙ e in
-          busy_commit s t txn is standing u ∙ (elim (cases_Bool (txn == u)) [
+          let old : wrote s.log u place ≡ true = sym (wrote_still s.log t.log (Commit txn) u place added.is refl) ∙ e in
+          busy_commit s t txn added u ∙ (elim (cases_Bool (txn == u)) [
             | inl same ↦
                 rw same (sym (ap (λ a. is_open a u) active ∙ (ap (λ (v : ℕ). is_open (without v s.active) u) (eqb-true txn u same) ∙ open_without_self u s.active)))
             | inr differs ↦
                 rw differs (h.busy u place old ∙ sym (ap (λ a. is_open a u) active ∙ open_without_other txn u s.active (eq_turned txn u differs)))
           ]);
-    }) where
-      was_open : (s t : HeapState) (txn u : ℕ) → t.active ≡ without txn s.active → is_open t.active u ≡ true → is_open s.active u ≡ true
-      was_open s t txn u active e = elim (cases_eq u txn) [
-        | inl same ↦ absurd (false≢true (sym (ap (λ a. is_open a u) active ∙ (ap (λ (v : ℕ). is_open (without txn s.active) v) same ∙ open_without_self txn s.active)) ∙ e))
-        | inr differs ↦ sym (open_without_other txn u s.active differs) ∙ (sym (ap (λ a. is_open a u) active) ∙ e)
-      ]
+    })
 
 pub sound_switch :
-    (s t : HeapState) (verdicts : List Outcome) → IsSound s → t.log ≡ s.log ++ Switch verdicts ∷ [] → t.active ≡ s.active → t.begun ≡ s.begun
-    → AddsToNumbers s.log (Switch verdicts) t.log → AddsToStanding s.log (Switch verdicts) t.log → IsSound t
-sound_switch s t verdicts h is active begun numbers standing =
-    sound_added s t (Switch verdicts) h is begun numbers (λ u e. sym (ap (λ a. is_open a u) active) ∙ e) (record {
+    (s t : HeapState) (verdicts : List Outcome) → IsSound s → Added s.log (Switch verdicts) t.log → t.active ≡ s.active → t.begun ≡ s.begun → IsSound t
+sound_switch s t verdicts h added active begun =
+    sound_added s t (Switch verdicts) h added begun (λ u e. sym (ap (λ a. is_open a u) active) ∙ e) (record {
       known = λ u place e. absurd (false≢true e);
       commits = λ u e. absurd (false≢true e);
       alone = λ u place open_u at has. absurd (false≢true at);
       busy = λ u place e.
-          let old : wrote s.log u place ≡ true = sym (wrote_same s.log t.log (Switch verdicts) u place is refl) ∙ e in
-          let ended : committed t.log u ≡ committed s.log u = committed_then s.log t.log (Switch verdicts) u is ∙ or_false (committed s.log u) in
-          busy_from t.log u (standing_count s.log u) (committed s.log u) (standing.count u) ended
+          let old : wrote s.log u place ≡ true = sym (wrote_still s.log t.log (Switch verdicts) u place added.is refl) ∙ e in
+          let ended : committed t.log u ≡ committed s.log u = committed_then s.log t.log (Switch verdicts) u added.is ∙ or-false (committed s.log u) in
+          busy_from t.log u (standing_count s.log u) (committed s.log u) (added.standing.count u) ended
           ∙ (h.busy u place old ∙ sym (ap (λ a. is_open a u) active));
     })
 
@@ -201,36 +198,36 @@ stands_other log txn other n by differs = elim (cases_Bool (is_write_of other (r
 ]
 
 -- who is busy after an undo of the transaction's newest standing write
-pub busy_undo :
-    (s t : HeapState) (txn n : ℕ) → IsSound s → t.log ≡ s.log ++ Undo txn n ∷ [] → AddsToStanding s.log (Undo txn n) t.log
+busy_undo :
+    (s t : HeapState) (txn n : ℕ) → IsSound s → Added s.log (Undo txn n) t.log
     → newest_standing s.log txn ≡ Some n → is_open s.active txn ≡ true → (other : ℕ)
     → is_busy t.log other ≡ (if txn == other then nat_lt 0 (standing_count t.log txn) else is_busy s.log other)
-busy_undo s t txn n h is standing newest opened other =
-    let ended : committed t.log other ≡ committed s.log other = committed_then s.log t.log (Undo txn n) other is ∙ or_false (committed s.log other) in
+busy_undo s t txn n h added newest opened other =
+    let ended : committed t.log other ≡ committed s.log other = committed_then s.log t.log (Undo txn n) other added.is ∙ or-false (committed s.log other) in
     elim (cases_Bool (txn == other)) [
       | inl same ↦
           let is_txn : txn ≡ other = eqb-true txn other same in
           let fresh : committed s.log other ≡ false = ap (committed s.log) (sym is_txn) ∙ h.uncommitted txn opened in
           busy_from t.log other (standing_count t.log txn) false (ap (standing_count t.log) (sym is_txn)) (ended ∙ fresh)
-          ∙ rw same (and_true (nat_lt 0 (standing_count t.log txn)))
+          ∙ rw same (and-true (nat_lt 0 (standing_count t.log txn)))
       | inr differs ↦
           let other_stands : stands_of s.log other n ≡ false = stands_other s.log txn other n (newest_standing-of s.log txn n newest) differs in
-          let count : standing_count t.log other ≡ standing_count s.log other = standing.count other ∙ rw other_stands refl in
+          let count : standing_count t.log other ≡ standing_count s.log other = added.standing.count other ∙ rw other_stands refl in
           busy_from t.log other (standing_count s.log other) (committed s.log other) count ended ∙ rw differs refl
     ]
 
 pub sound_undo :
-    (s t : HeapState) (txn n : ℕ) → IsSound s → t.log ≡ s.log ++ Undo txn n ∷ []
-    → t.active ≡ still_open txn (standing_count t.log txn) s.active → t.begun ≡ s.begun → AddsToNumbers s.log (Undo txn n) t.log
-    → AddsToStanding s.log (Undo txn n) t.log → newest_standing s.log txn ≡ Some n → is_open s.active txn ≡ true → IsSound t
-sound_undo s t txn n h is active begun numbers standing newest opened =
-    sound_added s t (Undo txn n) h is begun numbers (λ u e. was_open u e) (record {
+    (s t : HeapState) (txn n : ℕ) → IsSound s → Added s.log (Undo txn n) t.log
+    → t.active ≡ still_open txn (standing_count t.log txn) s.active → t.begun ≡ s.begun
+    → newest_standing s.log txn ≡ Some n → is_open s.active txn ≡ true → IsSound t
+sound_undo s t txn n h added active begun newest opened =
+    sound_added s t (Undo txn n) h added begun (λ u e. still_fewer txn u (standing_count t.log txn) s.active opened (sym (ap (λ a. is_open a u) active) ∙ e)) (record {
       known = λ u place e. absurd (false≢true e);
       commits = λ u e. absurd (false≢true e);
       alone = λ u place open_u at has. absurd (false≢true at);
       busy = λ u place e.
-          let old : wrote s.log u place ≡ true = sym (wrote_same s.log t.log (Undo txn n) u place is refl) ∙ e in
-          busy_undo s t txn n h is standing newest opened u ∙ (elim (cases_Bool (txn == u)) [
+          let old : wrote s.log u place ≡ true = sym (wrote_still s.log t.log (Undo txn n) u place added.is refl) ∙ e in
+          busy_undo s t txn n h added newest opened u ∙ (elim (cases_Bool (txn == u)) [
             | inl same ↦ rw same (sym (ap (λ a. is_open a u) active ∙ (ap (is_open (still_open txn (standing_count t.log txn) s.active)) (sym (eqb-true txn u same)) ∙ still (standing_count t.log txn))))
             | inr differs ↦
                 rw differs (h.busy u place old ∙ sym (ap (λ a. is_open a u) active ∙ open_still_other txn u (standing_count t.log txn) s.active (eq_turned txn u differs)))
@@ -240,12 +237,6 @@ sound_undo s t txn n h is active begun numbers standing newest opened =
       still left = elim (cases_Bool (left == 0)) [
         | inl ended ↦ let none : nat_lt 0 left ≡ false = grind (arith, nat_tests, ended) in rw (ended, none) (open_without_self txn s.active)
         | inr more ↦ let some : nat_lt 0 left ≡ true = grind (arith, nat_tests, more) in rw (more, some) (open_marked txn txn s.active ∙ opened)
-      ]
-
-      was_open : (u : ℕ) → is_open t.active u ≡ true → is_open s.active u ≡ true
-      was_open u e = elim (cases_eq u txn) [
-        | inl same ↦ ap (is_open s.active) same ∙ opened
-        | inr differs ↦ sym (open_still_other txn u (standing_count t.log txn) s.active differs) ∙ (sym (ap (λ a. is_open a u) active) ∙ e)
       ]
 
 -- a transaction without a newest standing write has none
@@ -278,10 +269,7 @@ sound_ended s t txn h is active begun newest = record {
       subst P (sym is) (h.held u n m rid (was_open u e) l) by there at;
 } where
   was_open : (u : ℕ) → is_open t.active u ≡ true → is_open s.active u ≡ true
-  was_open u e = elim (cases_eq u txn) [
-    | inl same ↦ absurd (false≢true (sym (ap (λ a. is_open a u) active ∙ (ap (is_open (without txn s.active)) same ∙ open_without_self txn s.active)) ∙ e))
-    | inr differs ↦ sym (open_without_other txn u s.active differs) ∙ (sym (ap (λ a. is_open a u) active) ∙ e)
-  ]
+  was_open u e = without_fewer txn u s.active (sym (ap (λ a. is_open a u) active) ∙ e)
 
 -- a transaction is begun
 pub sound_begin :
@@ -306,7 +294,7 @@ sound_begin s t h is active begun = record {
       let l = h.writers u rid old in
       let apart : (s.begun + 1 == u) ≡ false = ne_eqb (s.begun + 1) u (λ same. absurd (omega (arith, l, same))) in
       ap (λ (log : List LogRec). is_busy log u) is
-      ∙ (h.busy u rid old ∙ sym (ap (λ a. is_open a u) active ∙ (open_begun (s.begun + 1) u s.active ∙ rw apart (or_false (is_open s.active u)))));
+      ∙ (h.busy u rid old ∙ sym (ap (λ a. is_open a u) active ∙ (open_begun (s.begun + 1) u s.active ∙ rw apart (or-false (is_open s.active u)))));
   held = λ u n m rid e l by there at.
       let P : List LogRec → Type 0 = λ log. is_write_of u (record_at log n) ≡ true → is_write_at rid (record_at log n) ≡ true → is_write_at rid (record_at log m) ≡ true → is_write_of u (record_at log m) ≡ true in
       subst P (sym is) (λ by there at. elim (old_or_new u e) [

@@ -1,5 +1,6 @@
 -- The rows that come back, the slots they come back to, and what is left where a transaction ends.
 use Rattle.std.proofs.Common.{◌≡◌, ◌≢◌, inl, inr, ℕ, ◌+◌, ◌≤◌, max, Bool, true, false, List, [], ◌∷◌, ◌++◌, length, Option, Some, None, refl, sym, ap, ◌∙◌, subst, arith, length-append}
+use Rattle.std.proofs.Math.Bool.{or-false}
 use Rattle.std.specs.Prelude.{◌||◌, ◌&&◌, not, ◌==◌}
 use Rattle.std.specs.Option.{option_map}
 use Rattle.std.proofs.lemmas.Bool.{cases_Bool, cases_eq, cases_lt, false≢true, eqb-true, eq-eqb, and_parts, and_from}
@@ -9,7 +10,7 @@ use Rattle.keybytes.specs.declared.cell.Cell.{Cell}
 use Rattle.keybytes.specs.declared.rid.Rid.{Rid}
 use Rattle.heap_log.specs.declared.record.LogRec.{LogRec}
 use Rattle.heap_log.specs.declared.record.LogRec.TheVariants.{Write, Undo}
-use Rattle.heap_log.specs.Standing.{record_at, is_write_of, is_write_at, is_undo_of, is_number, rid_of, row_of, stands_of, stands_at, undone, newest_standing, newest_at, standing_before, live_at, row_at, last_below, AddsToLive, AddsToBefore, AddsToNumbers, KeepsBefore}
+use Rattle.heap_log.specs.Standing.{record_at, is_write_of, is_write_at, is_undo_of, is_number, rid_of, row_of, stands_of, stands_at, undone, newest_standing, newest_at, standing_before, live_at, row_at, last_below, KeepsBefore}
 use Rattle.heap_log.proofs.Last.{IsLast, last_below_some, last_below_is, last_below_agree}
 use Rattle.heap_log.proofs.Numbers.{write_at, newest_standing-of}
 use Rattle.slotted_page.specs.Slot.{Slot, row as row_slot, reserve_of}
@@ -18,33 +19,35 @@ use Rattle.heap_table.specs.Holders.{writes, wrote, holder, row_size, room_held_
 use Rattle.heap_table.specs.PageLists.{settled, settled_if, changed}
 use Rattle.heap_table.specs.Pages.{slot_with, slot_under, slot_of}
 use Rattle.heap_table.specs.Sound.{IsSound, UndoFits}
+use Rattle.heap_table.proofs.Added.{Added}
 use Rattle.heap_table.proofs.Holding.{holder_is, holder_open, holder_wrote, no_holder, same_holder}
-use Rattle.heap_table.proofs.Slots.{at_its_rid, rid_is, reserve_slot, room_kept, under_kept, wrote_still, Wrote, write_holder, write_other_holder, write_live, write_other_live, write_room, write_other_slot}
+use Rattle.heap_table.proofs.Slots.{at_its_rid, rid_is, reserve_slot, room_kept, under_kept, Wrote, write_holder, write_other_holder, write_live, write_other_live, write_room, write_other_slot}
+use Rattle.heap_table.proofs.Sounds.{wrote_still}
 use Rattle.heap_table.proofs.Writers.{wrote_from}
-use Rattle.heap_table.proofs.Small.{none_some, or_false, rid_cases, same_rid_is, some_or_none}
+use Rattle.heap_table.proofs.Small.{none_some, rid_cases, same_rid_is, some_or_none}
 
 -- a row before a write, once a record that leaves it is added
-pub row_before_kept :
-    (log new : List LogRec) (rec : LogRec) (n : ℕ) → AddsToNumbers log rec new → AddsToBefore log rec new → n ≤ length log → KeepsBefore log n rec
+row_before_kept :
+    (log new : List LogRec) (rec : LogRec) (n : ℕ) → Added log rec new → n ≤ length log → KeepsBefore log n rec
     → row_at new (standing_before new n) ≡ row_at log (standing_before log n)
-row_before_kept log new rec n numbers before within keeps =
-    ap (row_at new) (before.before n within keeps) ∙ by (standing_before log n) refl where
+row_before_kept log new rec n added within keeps =
+    ap (row_at new) (added.before.before n within keeps) ∙ by (standing_before log n) refl where
       by : (o : Option ℕ) → standing_before log n ≡ o → row_at new o ≡ row_at log o
       by None e = refl
       by (Some k) e =
           let last : IsLast (stands_at log (rid_of (record_at log n))) n k = last_below_some (stands_at log (rid_of (record_at log n))) n k e in
-          ap row_of (numbers.earlier k (omega (arith, last.below, within)))
+          ap row_of (added.numbers.earlier k (omega (arith, last.below, within)))
 
 -- what stands of a transaction among the records that were there
-stood : (log new : List LogRec) (rec : LogRec) (txn n : ℕ) → AddsToNumbers log rec new → n ≤ length log → is_undo_of n rec ≡ false → stands_of new txn n ≡ true → stands_of log txn n ≡ true
-stood log new rec txn n numbers within none e =
+stood : (log new : List LogRec) (rec : LogRec) (txn n : ℕ) → Added log rec new → n ≤ length log → is_undo_of n rec ≡ false → stands_of new txn n ≡ true → stands_of log txn n ≡ true
+stood log new rec txn n added within none e =
     let parts = and_parts (is_write_of txn (record_at new n)) (not (undone new n)) e in
-    let same : undone new n ≡ undone log n = numbers.undoes n ∙ rw none (or_false (undone log n)) in
-    and_from (is_write_of txn (record_at log n)) (not (undone log n)) (ap (is_write_of txn) (sym (numbers.earlier n within)) ∙ parts.0)
+    let same : undone new n ≡ undone log n = added.numbers.undoes n ∙ rw none (or-false (undone log n)) in
+    and_from (is_write_of txn (record_at log n)) (not (undone log n)) (ap (is_write_of txn) (sym (added.numbers.earlier n within)) ∙ parts.0)
     (ap not (sym same) ∙ parts.1)
 
 -- who holds a RID held it before a record that is no write
-pub holder_was :
+holder_was :
     (s t : HeapState) → IsSound s → IsSound t → (rid : Rid) → ((txn : ℕ) → wrote t.log txn rid ≡ wrote s.log txn rid)
     → ((txn : ℕ) → is_open t.active txn ≡ true → is_open s.active txn ≡ true) → (txn : ℕ) → holder t.log rid ≡ Some txn → holder s.log rid ≡ Some txn
 holder_was s t h k rid written fewer txn e =
@@ -95,7 +98,7 @@ going_slot s t h k same rid written =
     (λ u has. k.busy u rid (written u ∙ has) ∙ (same u ∙ sym (h.busy u rid has))))
 
 -- the fits that a record that is no write leaves
-pub fits_after :
+fits_after :
     (s t : HeapState) (rec : LogRec) → IsSound s → IsSound t → t.log ≡ s.log ++ rec ∷ [] → ((txn : ℕ) (rid : Rid) → writes txn rid rec ≡ false)
     → ((txn : ℕ) → is_open t.active txn ≡ true → is_open s.active txn ≡ true)
     → ((rid : Rid) → row_size (live_at t.log rid) ≤ room_needed s.log rid)
@@ -118,46 +121,44 @@ fits_after s t rec h k is none fewer live before = record {
       ∙ sym (ap (λ (o : Option ℕ). room_held_by o s.log rid) (was u rid e)))
 
 -- a write is not the last record, where that is none
-pub old_number :
-    (s t : HeapState) (rec : LogRec) (n : ℕ) (rid : Rid) → t.log ≡ s.log ++ rec ∷ [] → ((rid : Rid) → is_write_at rid (Some rec) ≡ false)
-    → AddsToNumbers s.log rec t.log → is_write_at rid (record_at t.log n) ≡ true → n ≤ length s.log
-old_number s t rec n rid is nowhere numbers there =
-    let count : length t.log ≡ length s.log + 1 = ap length is ∙ length-append s.log (rec ∷ []) in
+old_number :
+    (s t : HeapState) (rec : LogRec) (n : ℕ) (rid : Rid) → Added s.log rec t.log → ((rid : Rid) → is_write_at rid (Some rec) ≡ false)
+    → is_write_at rid (record_at t.log n) ≡ true → n ≤ length s.log
+old_number s t rec n rid added nowhere there =
+    let count : length t.log ≡ length s.log + 1 = ap length added.is ∙ length-append s.log (rec ∷ []) in
     let high = (write_at t.log rid n there).high in
     elim (cases_eq n (length s.log + 1)) [
-      | inl last ↦ absurd (false≢true (sym (ap (is_write_at rid) (ap (record_at t.log) last ∙ numbers.here) ∙ nowhere rid) ∙ there))
+      | inl last ↦ absurd (false≢true (sym (ap (is_write_at rid) (ap (record_at t.log) last ∙ added.numbers.here) ∙ nowhere rid) ∙ there))
       | inr other ↦ omega (arith, count, high, other)
     ]
 
 -- a record that leaves the rows and is no write
 pub fits_quiet :
-    (s t : HeapState) (rec : LogRec) → IsSound s → IsSound t → t.log ≡ s.log ++ rec ∷ [] → ((txn : ℕ) (rid : Rid) → writes txn rid rec ≡ false)
+    (s t : HeapState) (rec : LogRec) → IsSound s → IsSound t → Added s.log rec t.log → ((txn : ℕ) (rid : Rid) → writes txn rid rec ≡ false)
     → ((rid : Rid) → is_write_at rid (Some rec) ≡ false) → ((n : ℕ) → is_undo_of n rec ≡ false) → ((n : ℕ) → KeepsBefore s.log n rec)
-    → ((txn : ℕ) → is_open t.active txn ≡ true → is_open s.active txn ≡ true) → AddsToNumbers s.log rec t.log → AddsToBefore s.log rec t.log
-    → ((rid : Rid) → live_at t.log rid ≡ live_at s.log rid) → UndoFits s.log → UndoFits t.log
-fits_quiet s t rec h k is none nowhere undoes keeps fewer numbers before live fits =
-    fits_after s t rec h k is none fewer (λ rid. rw (live rid) (fits.live rid))
+    → ((txn : ℕ) → is_open t.active txn ≡ true → is_open s.active txn ≡ true) → ((rid : Rid) → live_at t.log rid ≡ live_at s.log rid) → UndoFits s.log → UndoFits t.log
+fits_quiet s t rec h k added none nowhere undoes keeps fewer live fits =
+    fits_after s t rec h k added.is none fewer (λ rid. rw (live rid) (fits.live rid))
     (λ u m rid e stands there.
-    let within : m ≤ length s.log = old_number s t rec m rid is nowhere numbers there in
-    rw (row_before_kept s.log t.log rec m numbers before within (keeps m))
-    (fits.before u m rid e (stood s.log t.log rec u m numbers within (undoes m) stands)
-    (ap (is_write_at rid) (sym (numbers.earlier m within)) ∙ there)))
+    let within : m ≤ length s.log = old_number s t rec m rid added nowhere there in
+    rw (row_before_kept s.log t.log rec m added within (keeps m))
+    (fits.before u m rid e (stood s.log t.log rec u m added within (undoes m) stands)
+    (ap (is_write_at rid) (sym (added.numbers.earlier m within)) ∙ there)))
 
 -- the fits after a write
 pub fits_write :
-    (s t : HeapState) (txn : ℕ) (rid : Rid) (row : Option (List Cell)) → Wrote s t txn rid row → AddsToNumbers s.log (Write txn rid row) t.log
-    → AddsToBefore s.log (Write txn rid row) t.log → UndoFits s.log → UndoFits t.log
-fits_write s t txn rid row w numbers before fits = record {
+    (s t : HeapState) (txn : ℕ) (rid : Rid) (row : Option (List Cell)) → Wrote s t txn rid row → UndoFits s.log → UndoFits t.log
+fits_write s t txn rid row w fits = record {
   live = λ other. elim (rid_cases rid other) [
     | inl same ↦ rw same (let room = write_room s t txn rid row w in let live = ap row_size (write_live s t txn rid row w) in omega (arith, room, live))
     | inr differs ↦ let room = other_room other differs in let live = ap row_size (write_other_live s t txn rid row w other differs) in let old = fits.live other in omega (arith, room, live, old)
   ];
   before = λ u m other e stands there. elim (cases_lt (length s.log) m) [
     | inl last ↦
-        let count : length t.log ≡ length s.log + 1 = ap length w.is ∙ length-append s.log (rec ∷ []) in
+        let count : length t.log ≡ length s.log + 1 = ap length w.added.is ∙ length-append s.log (rec ∷ []) in
         let high = (write_at t.log other m there).high in
         let m_is : m ≡ length s.log + 1 = omega (arith, high, count, last) in
-        let here : record_at t.log m ≡ Some rec = ap (record_at t.log) m_is ∙ numbers.here in
+        let here : record_at t.log m ≡ Some rec = ap (record_at t.log) m_is ∙ w.added.numbers.here in
         let same : rid ≡ other = same_rid_is rid other (ap (is_write_at other) (sym here) ∙ there) in
         let row_is : row_at t.log (standing_before t.log m) ≡ live_at s.log rid =
         ap (λ (k : ℕ). row_at t.log (standing_before t.log k)) m_is ∙ newest_row in
@@ -167,9 +168,9 @@ fits_write s t txn rid row w numbers before fits = record {
         subst (λ (r : Rid). row_size (row_at t.log (standing_before t.log m)) ≤ room_needed t.log r) same (omega (arith, room, old, size))
     | inr old ↦
         let within : m ≤ length s.log = omega (arith, old) in
-        let stands_s = stood s.log t.log rec u m numbers within refl stands in
-        let there_s : is_write_at other (record_at s.log m) ≡ true = ap (is_write_at other) (sym (numbers.earlier m within)) ∙ there in
-        let size = ap row_size (row_before_kept s.log t.log rec m numbers before within tt) in
+        let stands_s = stood s.log t.log rec u m w.added within refl stands in
+        let there_s : is_write_at other (record_at s.log m) ≡ true = ap (is_write_at other) (sym (w.added.numbers.earlier m within)) ∙ there in
+        let size = ap row_size (row_before_kept s.log t.log rec m w.added within tt) in
         elim (rid_cases rid other) [
           | inl same ↦
               let is_txn : txn ≡ u = same_Some txn u (sym (write_holder s t txn rid row w) ∙ (ap (holder t.log) (sym same) ∙ e)) in
@@ -195,18 +196,18 @@ fits_write s t txn rid row w numbers before fits = record {
 
   same_stand : (k : ℕ) → k ≤ length s.log → stands_at t.log rid k ≡ stands_at s.log rid k
   same_stand k within =
-      ap (λ (r : Option LogRec). is_write_at rid r && not (undone t.log k)) (numbers.earlier k within)
-      ∙ ap (λ (b : Bool). is_write_at rid (record_at s.log k) && not b) (numbers.undoes k ∙ or_false (undone s.log k))
+      ap (λ (r : Option LogRec). is_write_at rid r && not (undone t.log k)) (w.added.numbers.earlier k within)
+      ∙ ap (λ (b : Bool). is_write_at rid (record_at s.log k) && not b) (w.added.numbers.undoes k ∙ or-false (undone s.log k))
 
   by : (o : Option ℕ) → newest_at s.log rid ≡ o → row_at t.log o ≡ row_at s.log o
   by None e = refl
   by (Some k) e =
       let last : IsLast (stands_at s.log rid) (length s.log + 1) k = last_below_some (stands_at s.log rid) (length s.log + 1) k e in
-      ap row_of (numbers.earlier k (omega (arith, last.below)))
+      ap row_of (w.added.numbers.earlier k (omega (arith, last.below)))
 
   newest_row : row_at t.log (standing_before t.log (length s.log + 1)) ≡ live_at s.log rid
   newest_row =
-      let at : rid_of (record_at t.log (length s.log + 1)) ≡ rid = ap rid_of numbers.here in
+      let at : rid_of (record_at t.log (length s.log + 1)) ≡ rid = ap rid_of w.added.numbers.here in
       let place : standing_before t.log (length s.log + 1) ≡ newest_at s.log rid =
       ap (λ (r : Rid). last_below (stands_at t.log r) (length s.log + 1)) at
       ∙ last_below_agree (stands_at t.log rid) (stands_at s.log rid) (length s.log + 1) (λ k l. same_stand k (omega (arith, l))) in
@@ -217,9 +218,8 @@ pub record Undid (s t : HeapState) (txn n : ℕ) (rid : Rid) : Type 0 where
   pub was : IsSound s
   pub sound : IsSound t
   pub fits : UndoFits s.log
-  pub is : t.log ≡ s.log ++ Undo txn n ∷ []
+  pub added : Added s.log (Undo txn n) t.log
   pub fewer : (other : ℕ) → is_open t.active other ≡ true → is_open s.active other ≡ true
-  pub live : AddsToLive s.log (Undo txn n) t.log
   pub newest : newest_standing s.log txn ≡ Some n
   pub opened : is_open s.active txn ≡ true
   pub place : rid ≡ rid_of (record_at s.log n)
@@ -227,7 +227,7 @@ pub record Undid (s t : HeapState) (txn n : ℕ) (rid : Rid) : Type 0 where
 pub undo_there : (s t : HeapState) (txn n : ℕ) (rid : Rid) → Undid s t txn n rid → is_write_at rid (record_at s.log n) ≡ true
 undo_there s t txn n rid u = rw u.place (at_its_rid txn (record_at s.log n) (newest_standing-of s.log txn n u.newest))
 
-pub undo_holder : (s t : HeapState) (txn n : ℕ) (rid : Rid) → Undid s t txn n rid → holder s.log rid ≡ Some txn
+undo_holder : (s t : HeapState) (txn n : ℕ) (rid : Rid) → Undid s t txn n rid → holder s.log rid ≡ Some txn
 undo_holder s t txn n rid u = holder_is s u.was rid txn u.opened (wrote_from s.log txn rid n (newest_standing-of s.log txn n u.newest) (undo_there s t txn n rid u))
 
 undo_last : (s t : HeapState) (txn n : ℕ) (rid : Rid) → Undid s t txn n rid → IsLast (stands_of s.log txn) (length s.log + 1) n
@@ -255,10 +255,10 @@ undo_newest s t txn n rid u =
 pub undo_live : (s t : HeapState) (txn n : ℕ) (rid : Rid) → Undid s t txn n rid → live_at t.log rid ≡ row_at s.log (standing_before s.log n)
 undo_live s t txn n rid u =
     let number : is_number n (newest_at s.log rid) ≡ true = ap (is_number n) (undo_newest s t txn n rid u) ∙ eq-eqb n n refl in
-    u.live.live rid ∙ rw number refl
+    u.added.live.live rid ∙ rw number refl
 
 pub undo_other_live : (s t : HeapState) (txn n : ℕ) (rid : Rid) → Undid s t txn n rid → (other : Rid) → other ≢ rid → live_at t.log other ≡ live_at s.log other
-undo_other_live s t txn n rid u other differs = u.live.live other ∙ (elim (cases_Bool (is_number n (newest_at s.log other))) [
+undo_other_live s t txn n rid u other differs = u.added.live.live other ∙ (elim (cases_Bool (is_number n (newest_at s.log other))) [
   | inl same ↦ absurd (elsewhere (newest_at s.log other) refl same)
   | inr none ↦ rw none refl
 ]) where
@@ -270,7 +270,7 @@ undo_other_live s t txn n rid u other differs = u.live.live other ∙ (elim (cas
       differs (sym (rid_is other (record_at s.log n) at) ∙ sym u.place)
 
 -- the row that comes back fits
-pub undo_size : (s t : HeapState) (txn n : ℕ) (rid : Rid) → Undid s t txn n rid → row_size (row_at s.log (standing_before s.log n)) ≤ room_needed s.log rid
+undo_size : (s t : HeapState) (txn n : ℕ) (rid : Rid) → Undid s t txn n rid → row_size (row_at s.log (standing_before s.log n)) ≤ room_needed s.log rid
 undo_size s t txn n rid u = u.fits.before txn n rid (undo_holder s t txn n rid u) (undo_last s t txn n rid u).passes (undo_there s t txn n rid u)
 
 -- the slot that it comes back to, under the holder that it had
@@ -280,7 +280,7 @@ pub undo_slot :
 undo_slot s t txn n rid u =
     let held_by = undo_holder s t txn n rid u in
     let room : room_held_by (Some txn) t.log rid ≡ reserve_of (slot_of s.log rid) =
-    room_kept s.log t.log (Undo txn n) rid txn u.is (holder_wrote s.log rid txn held_by).1 refl
+    room_kept s.log t.log (Undo txn n) rid txn u.added.is (holder_wrote s.log rid txn held_by).1 refl
     ∙ (sym (ap (λ (o : Option ℕ). room_held_by o s.log rid) held_by) ∙ sym (reserve_slot s.log rid)) in
     ap (λ (o : Option ℕ). slot_under o t.log rid) held_by
     ∙ (ap (λ (cells : Option (List Cell)). slot_with cells (Some txn) (room_held_by (Some txn) t.log rid)) (undo_live s t txn n rid u)
@@ -295,27 +295,26 @@ undo_slot s t txn n rid u =
 pub undo_other_slot :
     (s t : HeapState) (txn n : ℕ) (rid : Rid) → Undid s t txn n rid → (other : Rid) → other ≢ rid → slot_under (holder s.log other) t.log other ≡ slot_of s.log other
 undo_other_slot s t txn n rid u other differs =
-    under_kept s.log t.log (Undo txn n) other (holder s.log other) u.is (λ v e. (holder_wrote s.log other v e).1) (λ v. refl)
+    under_kept s.log t.log (Undo txn n) other (holder s.log other) u.added.is (λ v e. (holder_wrote s.log other v e).1) (λ v. refl)
     (undo_other_live s t txn n rid u other differs)
 
 -- the fits after an undo
 pub fits_undo :
-    (s t : HeapState) (txn n : ℕ) (rid : Rid) → Undid s t txn n rid → AddsToNumbers s.log (Undo txn n) t.log → AddsToBefore s.log (Undo txn n) t.log
-    → UndoFits t.log
-fits_undo s t txn n rid u numbers before =
-    fits_after s t (Undo txn n) u.was u.sound u.is (λ v r. refl) u.fewer
+    (s t : HeapState) (txn n : ℕ) (rid : Rid) → Undid s t txn n rid → UndoFits t.log
+fits_undo s t txn n rid u =
+    fits_after s t (Undo txn n) u.was u.sound u.added.is (λ v r. refl) u.fewer
     (λ other. elim (rid_cases rid other) [
       | inl same ↦ rw same (let live = ap row_size (undo_live s t txn n rid u) in let size = undo_size s t txn n rid u in omega (arith, live, size))
       | inr differs ↦ let live = ap row_size (undo_other_live s t txn n rid u other differs) in let old = u.fits.live other in omega (arith, live, old)
     ])
     (λ v m other e stands there.
-    let within : m ≤ length s.log = old_number s t (Undo txn n) m other u.is (λ r. refl) numbers there in
+    let within : m ≤ length s.log = old_number s t (Undo txn n) m other u.added (λ r. refl) there in
     let parts = and_parts (is_write_of v (record_at t.log m)) (not (undone t.log m)) stands in
-    let fresh : (undone s.log m || (n == m)) ≡ false = sym (numbers.undoes m) ∙ not_true (undone t.log m) parts.1 in
+    let fresh : (undone s.log m || (n == m)) ≡ false = sym (u.added.numbers.undoes m) ∙ not_true (undone t.log m) parts.1 in
     let stands_s : stands_of s.log v m ≡ true =
-    and_from (is_write_of v (record_at s.log m)) (not (undone s.log m)) (ap (is_write_of v) (sym (numbers.earlier m within)) ∙ parts.0)
+    and_from (is_write_of v (record_at s.log m)) (not (undone s.log m)) (ap (is_write_of v) (sym (u.added.numbers.earlier m within)) ∙ parts.0)
     (ap not (first_false (undone s.log m) (n == m) fresh)) in
-    let there_s : is_write_at other (record_at s.log m) ≡ true = ap (is_write_at other) (sym (numbers.earlier m within)) ∙ there in
+    let there_s : is_write_at other (record_at s.log m) ≡ true = ap (is_write_at other) (sym (u.added.numbers.earlier m within)) ∙ there in
     let keeps : KeepsBefore s.log m (Undo txn n) = elim (rid_cases rid other) [
       | inl same ↦
           let is_txn : v ≡ txn = same_Some v txn (sym e ∙ (ap (holder s.log) same ∙ undo_holder s t txn n rid u)) in
@@ -332,7 +331,7 @@ fits_undo s t txn n rid u numbers before =
             | inr none ↦ none
           ])
     ] in
-    let size = ap row_size (row_before_kept s.log t.log (Undo txn n) m numbers before within keeps) in
+    let size = ap row_size (row_before_kept s.log t.log (Undo txn n) m u.added within keeps) in
     let fit = u.fits.before v m other e stands_s there_s in
     omega (arith, size, fit)) where
       not_true : (b : Bool) → not b ≡ true → b ≡ false

@@ -1,5 +1,6 @@
 -- Who wrote what, in a log and in one with a record more.
 use Rattle.std.proofs.Common.{◌≡◌, inl, inr, ℕ, zero, suc, max, Bool, true, false, List, [], ◌∷◌, ◌++◌, get_or, Option, Some, None, refl, sym, ap, ◌∙◌, arith}
+use Rattle.std.proofs.Math.Bool.{or-false}
 use Rattle.std.specs.Prelude.{◌||◌}
 use Rattle.std.specs.List.{slice_get}
 use Rattle.std.proofs.lemmas.Bool.{cases_Bool, false≢true, and_from, and_parts, eqb-true}
@@ -10,7 +11,7 @@ use Rattle.heap_log.specs.declared.record.LogRec.{LogRec}
 use Rattle.heap_log.specs.declared.record.LogRec.TheVariants.{Write, Undo, Commit, Switch}
 use Rattle.heap_log.specs.Standing.{record_at, is_write_of, is_write_at}
 use Rattle.heap_table.specs.Holders.{writes, wrote, is_commit_of, committed, before_first, size_written, greatest_written}
-use Rattle.heap_table.proofs.Small.{max_turned, or_false}
+use Rattle.heap_table.proofs.Small.{max_turned}
 
 -- a number of a write of the transaction at the RID
 pub record HasWrite (log : List LogRec) (txn : ℕ) (rid : Rid) : Type 0 where
@@ -39,11 +40,11 @@ wrote_from log txn rid (suc i) by there = wrote_by log txn rid i (slice_get log 
 
 pub wrote-added : (log : List LogRec) (rec : LogRec) (txn : ℕ) (rid : Rid) → wrote (log ++ rec ∷ []) txn rid ≡ (wrote log txn rid || writes txn rid rec)
 wrote-added log rec txn rid =
-    list_any-append (writes txn rid) log (rec ∷ []) ∙ ap (λ (b : Bool). wrote log txn rid || b) (or_false (writes txn rid rec))
+    list_any-append (writes txn rid) log (rec ∷ []) ∙ ap (λ (b : Bool). wrote log txn rid || b) (or-false (writes txn rid rec))
 
 pub committed-added : (log : List LogRec) (rec : LogRec) (txn : ℕ) → committed (log ++ rec ∷ []) txn ≡ (committed log txn || is_commit_of txn rec)
 committed-added log rec txn =
-    list_any-append (is_commit_of txn) log (rec ∷ []) ∙ ap (λ (b : Bool). committed log txn || b) (or_false (is_commit_of txn rec))
+    list_any-append (is_commit_of txn) log (rec ∷ []) ∙ ap (λ (b : Bool). committed log txn || b) (or-false (is_commit_of txn rec))
 
 -- one record is of one transaction
 pub one_writer : (u v : ℕ) (rec : Option LogRec) → is_write_of u rec ≡ true → is_write_of v rec ≡ true → u ≡ v

@@ -1,6 +1,7 @@
 -- The table as its callers see it: its log and its open transactions; and what each call does, or why it is refused.
 use Rattle.std.specs.Prelude.{ℕ, ◌+◌, Bool, true, false, ◌&&◌, not, ◌==◌, ◌||◌, nat_lt, nat_le, min, max, ◌-◌, if◌then◌else◌, List, [], ◌∷◌, ◌++◌, length, map, filter, position, is_some, Option, Some, None}
 use Rattle.std.specs.List.{list_any, range_with_len}
+use Rattle.std.specs.Option.{option_map}
 use Rattle.keybytes.specs.Faults.{first_cause}
 use Rattle.keybytes.specs.Rows.{row_bytes, shape_refusal}
 use Rattle.keybytes.specs.declared.cell.Cell.{Cell}
@@ -66,14 +67,9 @@ table_pages s = map (page_of s) (range_with_len 0 (pages_written s.log))
 abbrev pub takes : ℕ → PageValue → Bool
 takes size page = is_some (room_for page size)
 
--- the slot that the page numbered so takes a row in
-abbrev pub rid_on : HeapState → ℕ → ℕ → Option ℕ → Option Rid
-rid_on s size page None = None
-rid_on s size page (Some slot) = Some (rid_at page slot)
-
 -- the place on the lowest page that takes the row, else on a new page
 abbrev pub place_on : HeapState → ℕ → Option ℕ → Option Rid
-place_on s size (Some page) = rid_on s size page (room_for (page_of s page) size)
+place_on s size (Some page) = option_map (rid_at page) (room_for (page_of s page) size)
 place_on s size None = if nat_lt (pages_written s.log) s.page_limit then Some (rid_at (pages_written s.log) 0) else None
 
 -- the RID that an insert of so many bytes takes

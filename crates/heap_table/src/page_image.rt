@@ -27,8 +27,9 @@ impl Model for PageImage {
 }
 
 impl PageImage {
-    /// A copy of an empty page.
+    /// A copy of an empty page 0.
     pub fn new(alloc: Global) -> Result<PageImage, Fault>
+        ensures number { IfOk result (λ image. image.page ≡ 0) }
         ensures empty { IfOk result (λ image. image.slots ≡ []) }
         ensures memory { IfErr result (λ fault. fault ≡ Fault.Memory) }
     {

@@ -34,6 +34,7 @@ fn records_of_the_log(rt: HostRuntime) -> Result<(), Fail> {
     assert_eq!(rt; heap.commit(1)?, 2);
     assert_eq!(rt; heap.note(Vec::new(alloc))?, 3);
     assert_eq!(rt; heap.log().len(), 3);
+    assert_eq!(rt; heap.visits(), 1);
     Ok(())
 }
 
@@ -66,6 +67,16 @@ fn refused_inserts(rt: HostRuntime) -> Result<(), Fail> {
     assert_eq!(rt; shape, Some(Fault::RowShape));
     let full = heap.insert(1, row(alloc, 6)?).err();
     assert_eq!(rt; full, Some(Fault::TableFull));
+    Ok(())
+}
+
+#[test]
+fn refused_changes(rt: HostRuntime) -> Result<(), Fail> {
+    let mut heap = one_row(rt.alloc())?;
+    let other = heap.begin()?;
+    let held = heap.delete(other, rid(0, 0)).err();
+    assert_eq!(rt; held, Some(Fault::RowHeld(1)));
+    assert_eq!(rt; heap.delete(1, rid(0, 1)).err(), Some(Fault::NoSuchRow));
     Ok(())
 }
 

@@ -1,5 +1,5 @@
 -- Keys written out: the definition of their bytes, at values that a reader can check by hand.
-use Rattle.std.proofs.Common.{◌≡◌, pos, negsuc, true, false, [], ◌∷◌, refl}
+use Rattle.std.proofs.Common.{◌≡◌, pos, negsuc, true, false, [], ◌∷◌, length, replicate, refl}
 use Rattle.keybytes.specs.Keys.{cell_key, key_bytes}
 use Rattle.keybytes.specs.declared.cell.Cell.TheVariants.{Null, Int, Text, Flag}
 
@@ -38,3 +38,10 @@ text_a_zero = refl
 
 text_ab : cell_key (Text (0x61 ∷ 0x62 ∷ [])) ≡ 1 ∷ 0x61 ∷ 0x62 ∷ 0 ∷ 1 ∷ []
 text_ab = refl
+
+-- a hundred bytes 0, and the longest key: four such texts
+zeros : length (cell_key (Text (replicate 100 0))) ≡ 203
+zeros = refl
+
+longest : length (key_bytes (replicate 4 (Text (replicate 100 0)))) ≡ 812
+longest = refl

@@ -9,7 +9,7 @@ use Rattle.std.proofs.lemmas.List.{take_rest}
 use Rattle.byteorder.specs.Endian.{big_number}
 use Rattle.byteorder.specs.Numbers.{big_number-reads_back}
 use Rattle.keybytes.specs.Cells.{IsCell, fits, fits_kind}
-use Rattle.keybytes.specs.Keys.{raised_number, text_key, cell_key, key_bytes, BeginsWith}
+use Rattle.keybytes.specs.Keys.{raised_number, text_key, cell_key, key_bytes, BeginsWithCellKey}
 use Rattle.keybytes.specs.declared.cell.Cell.{Cell}
 use Rattle.keybytes.specs.declared.cell.Cell.TheVariants.{Null, Int, Text, Flag}
 use Rattle.keybytes.specs.declared.kind.Kind.{Kind}
@@ -125,13 +125,13 @@ module _ {rest bytes : List ℕ} where
   flag_front_at (Text text) of_kind valid front apart = absurd cc
   flag_front_at (Flag flag) of_kind valid front apart = record { flag = flag; is_cell = refl; behind = ap (drop 1) front }
 
-pub int_front : (kind : Kind) (cell : Cell) (rest bytes : List ℕ) → kind ≡ IntKind → BeginsWith kind cell rest bytes → (get_or bytes 0 0 ≡ 0 → ⊥) → IntFront cell rest bytes
+pub int_front : (kind : Kind) (cell : Cell) (rest bytes : List ℕ) → kind ≡ IntKind → BeginsWithCellKey kind cell rest bytes → (get_or bytes 0 0 ≡ 0 → ⊥) → IntFront cell rest bytes
 int_front kind cell rest bytes is_kind begins apart = int_front_at cell (rw is_kind at begins.of_kind) begins.valid begins.front apart
 
-pub text_front : (kind : Kind) (cell : Cell) (rest bytes : List ℕ) → kind ≡ TextKind → BeginsWith kind cell rest bytes → (get_or bytes 0 0 ≡ 0 → ⊥) → TextFront cell rest bytes
+pub text_front : (kind : Kind) (cell : Cell) (rest bytes : List ℕ) → kind ≡ TextKind → BeginsWithCellKey kind cell rest bytes → (get_or bytes 0 0 ≡ 0 → ⊥) → TextFront cell rest bytes
 text_front kind cell rest bytes is_kind begins apart = text_front_at cell (rw is_kind at begins.of_kind) begins.valid begins.front apart
 
-pub flag_front : (kind : Kind) (cell : Cell) (rest bytes : List ℕ) → kind ≡ FlagKind → BeginsWith kind cell rest bytes → (get_or bytes 0 0 ≡ 0 → ⊥) → FlagFront cell rest bytes
+pub flag_front : (kind : Kind) (cell : Cell) (rest bytes : List ℕ) → kind ≡ FlagKind → BeginsWithCellKey kind cell rest bytes → (get_or bytes 0 0 ≡ 0 → ⊥) → FlagFront cell rest bytes
 flag_front kind cell rest bytes is_kind begins apart = flag_front_at cell (rw is_kind at begins.of_kind) begins.valid begins.front apart
 
 -- ---- the columns
@@ -146,7 +146,7 @@ pub record ColumnsLeft (columns read : List Cell) (kinds : List Kind) (bytes : L
   pub within : at ≤ length bytes
 
 module _ (columns read : List Cell) (kind : Kind) (kinds : List Kind) (bytes : List ℕ) (at : ℕ) where
-  begins_at : (left : List Cell) → fits (kind ∷ kinds) left ≡ true → All IsCell left → drop at bytes ≡ key_bytes left → (cell : Cell) × (rest : List ℕ) × BeginsWith kind cell rest (drop at bytes)
+  begins_at : (left : List Cell) → fits (kind ∷ kinds) left ≡ true → All IsCell left → drop at bytes ≡ key_bytes left → (cell : Cell) × (rest : List ℕ) × BeginsWithCellKey kind cell rest (drop at bytes)
   begins_at [] fit each behind = absurd cc
   begins_at (cell ∷ left) fit each behind = (
     cell,
@@ -158,7 +158,7 @@ module _ (columns read : List Cell) (kind : Kind) (kinds : List Kind) (bytes : L
     },
   )
 
-  columns_more_at : (left : List Cell) → columns ≡ read ++ left → fits (kind ∷ kinds) left ≡ true → All IsCell left → drop at bytes ≡ key_bytes left → at ≤ length bytes → (next : Cell) (len : ℕ) → ((cell : Cell) (rest : List ℕ) → BeginsWith kind cell rest (drop at bytes) → (next ≡ cell) × (len ≡ length (cell_key cell))) → ColumnsLeft columns (read ++ next ∷ []) kinds bytes (at + len)
+  columns_more_at : (left : List Cell) → columns ≡ read ++ left → fits (kind ∷ kinds) left ≡ true → All IsCell left → drop at bytes ≡ key_bytes left → at ≤ length bytes → (next : Cell) (len : ℕ) → ((cell : Cell) (rest : List ℕ) → BeginsWithCellKey kind cell rest (drop at bytes) → (next ≡ cell) × (len ≡ length (cell_key cell))) → ColumnsLeft columns (read ++ next ∷ []) kinds bytes (at + len)
   columns_more_at [] whole fit each behind within next len tells = absurd cc
   columns_more_at (cell ∷ left) whole fit each behind within next len tells =
       let parts = and_parts (fits_kind kind cell) (fits kinds left) fit in
@@ -173,11 +173,11 @@ module _ (columns read : List Cell) (kind : Kind) (kinds : List Kind) (bytes : L
         within = omega (arith, told.1);
       }
 
-pub columns_begin : (columns read : List Cell) (kind : Kind) (kinds : List Kind) (bytes : List ℕ) (at : ℕ) → ColumnsLeft columns read (kind ∷ kinds) bytes at → (cell : Cell) × (rest : List ℕ) × BeginsWith kind cell rest (drop at bytes)
+pub columns_begin : (columns read : List Cell) (kind : Kind) (kinds : List Kind) (bytes : List ℕ) (at : ℕ) → ColumnsLeft columns read (kind ∷ kinds) bytes at → (cell : Cell) × (rest : List ℕ) × BeginsWithCellKey kind cell rest (drop at bytes)
 columns_begin columns read kind kinds bytes at was = begins_at columns read kind kinds bytes at was.left was.fits_kinds was.each was.behind
 
 -- one more cell is read
-pub columns_more : (columns read : List Cell) (kind : Kind) (kinds : List Kind) (bytes : List ℕ) (at : ℕ) → ColumnsLeft columns read (kind ∷ kinds) bytes at → (next : Cell) (len : ℕ) → ((cell : Cell) (rest : List ℕ) → BeginsWith kind cell rest (drop at bytes) → (next ≡ cell) × (len ≡ length (cell_key cell))) → ColumnsLeft columns (read ++ next ∷ []) kinds bytes (at + len)
+pub columns_more : (columns read : List Cell) (kind : Kind) (kinds : List Kind) (bytes : List ℕ) (at : ℕ) → ColumnsLeft columns read (kind ∷ kinds) bytes at → (next : Cell) (len : ℕ) → ((cell : Cell) (rest : List ℕ) → BeginsWithCellKey kind cell rest (drop at bytes) → (next ≡ cell) × (len ≡ length (cell_key cell))) → ColumnsLeft columns (read ++ next ∷ []) kinds bytes (at + len)
 columns_more columns read kind kinds bytes at was next len tells =
     columns_more_at columns read kind kinds bytes at was.left was.whole was.fits_kinds was.each was.behind was.within next len tells
 

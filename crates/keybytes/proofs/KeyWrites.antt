@@ -5,7 +5,7 @@ use Rattle.std.proofs.lemmas.Bool.{and_parts, ltb-true, leb-true}
 use Rattle.std.proofs.lemmas.List.{map_more, take-map, get_or-map, length-map, drop_more, get_or_read}
 use Rattle.std.proofs.lemmas.List.Concat.{flat_map-append}
 use Rattle.std.proofs.lemmas.List.Folds.{length-flat_map-take}
-use Rattle.keybytes.specs.Cells.{IsCell, fits, fits_kind}
+use Rattle.keybytes.specs.Cells.{IsCell}
 use Rattle.keybytes.specs.Keys.{KeySpecValue, are_there, are_key_columns, has_key_length, escaped_byte, text_key, cell_key, key_bytes, key_columns, key_of}
 use Rattle.keybytes.specs.declared.cell.Cell.{Cell}
 use Rattle.keybytes.specs.declared.cell.Cell.TheVariants.{Null}
@@ -45,12 +45,6 @@ there-at kinds (column ∷ columns) (suc i) there within =
 -- a key's column is one of the table's
 pub column-within : (kinds : List Kind) (columns : List ℕ) (i : ℕ) → are_key_columns kinds columns ≡ true → i < length columns → get_or columns i 0 < length kinds
 column-within kinds columns i held within = there-at kinds columns i (there-part kinds columns held) within
-
-pub fits-length : (kinds : List Kind) (row : List Cell) → fits kinds row ≡ true → length kinds ≡ length row
-fits-length [] [] fit = refl
-fits-length [] (cell ∷ row) fit = cc
-fits-length (kind ∷ kinds) [] fit = cc
-fits-length (kind ∷ kinds) (cell ∷ row) fit = ap suc (fits-length kinds row (and_parts (fits_kind kind cell) (fits kinds row) fit).1)
 
 few-columns : (kinds : List Kind) (columns : List ℕ) → are_key_columns kinds columns ≡ true → length columns ≤ 4
 few-columns kinds columns held =

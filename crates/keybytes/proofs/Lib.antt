@@ -4,5 +4,6 @@ pub mod KeyOrder
 pub mod KeyReads
 pub mod KeyWrites
 pub mod Reading
+pub mod RowExamples
 pub mod RowFacts
 pub mod Spelling

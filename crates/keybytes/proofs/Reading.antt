@@ -1,11 +1,13 @@
 -- Reading a row from the left: what is read so far, and what the rest may still be.
-use Rattle.std.proofs.Common.{◌≡◌, inl, inr, ℕ, ℤ, suc, ◌^◌, ◌<◌, Bool, true, false, ◌&&◌, List, [], ◌∷◌, ◌++◌, length, refl, ap, sym, ◌∙◌, subst, arith, append_assoc, append-nil}
+use Rattle.std.proofs.Common.{◌≡◌, inl, inr, ℕ, ℤ, ◌^◌, ◌<◌, true, false, List, [], ◌∷◌, ◌++◌, length, take, drop, refl, ap, ap₂, sym, ◌∙◌, subst, arith, append_assoc, append-nil}
 use Rattle.std.specs.Int.{w64, cast_unsigned, cast_signed, to_be_bytes, from_be_bytes}
 use Rattle.std.proofs.Common.{FitsSigned}
 use Rattle.std.proofs.lemmas.Int.{to_z-of_z, ints}
 use Rattle.std.proofs.lemmas.Nat.{from_be_bytes-to_be_bytes_8}
 use Rattle.std.proofs.lemmas.List.Elements.{All-head, All-tail, All-cons}
+use Rattle.std.proofs.lemmas.Bool.{and_parts}
 use Rattle.std.proofs.lemmas.Bool.Decides.{nat_tests}
+use Rattle.std.proofs.Math.Seq.{take-append_seam, drop-append_seam}
 use Rattle.keybytes.specs.Schemas.{are_columns}
 use Rattle.keybytes.specs.declared.fault.Fault.{Fault}
 use Rattle.keybytes.specs.Cells.{IsCell, fits, fits_kind}
@@ -14,18 +16,14 @@ use Rattle.keybytes.specs.declared.cell.Cell.{Cell}
 use Rattle.keybytes.specs.declared.cell.Cell.TheVariants.{Null, Int, Text, Flag}
 use Rattle.keybytes.specs.declared.kind.Kind.{Kind}
 use Rattle.keybytes.specs.declared.kind.Kind.TheVariants.{Int as IntKind, Text as TextKind, Flag as FlagKind}
+use Rattle.keybytes.proofs.Spelling.{length-fits}
 
 -- two lists of one length, each with something behind it
 pub same_split : (xs ys us vs : List ℕ) → length xs ≡ length ys → xs ++ us ≡ ys ++ vs → (xs ≡ ys) × (us ≡ vs)
-same_split [] [] us vs len e = (refl, e)
-same_split [] (y ∷ ys) us vs len e = absurd (omega arith)
-same_split (x ∷ xs) [] us vs len e = absurd (omega arith)
-same_split (x ∷ xs) (y ∷ ys) us vs len e =
-    let head : x ≡ y = cc in
-    let tail : xs ++ us ≡ ys ++ vs = cc in
-    let rest = same_split xs ys us vs (omega arith) tail in
-    let first : xs ≡ ys = rest.0 in
-    (cc, rest.1)
+same_split xs ys us vs len e = (
+  sym (take-append_seam xs us) ∙ ap₂ take len e ∙ take-append_seam ys vs,
+  sym (drop-append_seam xs us) ∙ ap₂ drop len e ∙ drop-append_seam ys vs,
+)
 
 -- a number's eight bytes tell it
 pub same_number :
@@ -79,14 +77,6 @@ pub record HasRead (kinds : List Kind) (bytes : List ℕ) (cells : List Cell) (l
   pub long : LeavesAtLongText left rest → LeavesAtLongText kinds bytes
   pub short : LeavesAtLongText kinds bytes → LeavesAtLongText left rest
 
-pub has_read_none : (kinds : List Kind) (bytes : List ℕ) → HasRead kinds bytes [] kinds bytes
-has_read_none kinds bytes = record {
-  built = λ more spells. spells;
-  spelled = λ row spells. (row, (refl, spells));
-  long = λ l. l;
-  short = λ l. l;
-}
-
 spells-cons :
     (kind : Kind) (kinds : List Kind) (bytes rest : List ℕ) (cell : Cell) (more : List Cell) → BeginsWith kind bytes cell rest
     → Spells kinds rest more → Spells (kind ∷ kinds) bytes (cell ∷ more)
@@ -96,17 +86,13 @@ spells-cons kind kinds bytes rest cell more first spells = record {
   bytes_are = first.bytes_are ∙ ap (λ (xs : List ℕ). cell_bytes cell ++ xs) spells.bytes_are;
 }
 
-both_true : (a b : Bool) → (a && b) ≡ true → (a ≡ true) × (b ≡ true)
-both_true true b e = (refl, e)
-both_true false b e = cc
-
 -- what spells a first column and more begins with the first column's cell
 spells-split :
     (kind : Kind) (kinds : List Kind) (bytes rest : List ℕ) (cell : Cell) (row : List Cell) → BeginsWith kind bytes cell rest
     → Spells (kind ∷ kinds) bytes row → (more : List Cell) × ((row ≡ cell ∷ more) × Spells kinds rest more)
 spells-split kind kinds bytes rest cell [] first spells = cc (spells.fitting)
 spells-split kind kinds bytes rest cell (other ∷ more) first spells =
-    let fitting = both_true (fits_kind kind other) (fits kinds more) spells.fitting in
+    let fitting = and_parts (fits_kind kind other) (fits kinds more) spells.fitting in
     let begins : BeginsWith kind bytes other (row_bytes more) =
     record { held = All-head IsCell other more spells.held; fitting = fitting.0; bytes_are = spells.bytes_are } in
     let same = same_cell kind other cell (row_bytes more) rest bytes begins first in (
@@ -162,7 +148,7 @@ refuses_row kinds bytes cells kind left rest fault had refused = record {
   no_first kind left rest fault (cell ∷ more) refused spells =
       refused.none cell (row_bytes more) (record {
         held = All-head IsCell cell more spells.held;
-        fitting = (both_true (fits_kind kind cell) (fits left more) spells.fitting).0;
+        fitting = (and_parts (fits_kind kind cell) (fits left more) spells.fitting).0;
         bytes_are = spells.bytes_are;
       })
 
@@ -172,17 +158,10 @@ read_whole kinds bytes cells had =
     let nothing : Spells [] [] [] = record { held = λ k d below. absurd (omega arith); fitting = refl; bytes_are = refl } in
     subst (Spells kinds bytes) (append-nil cells) (had.built [] nothing)
 
-fits_length : (kinds : List Kind) (cells : List Cell) → fits kinds cells ≡ true → length cells ≡ length kinds
-fits_length [] [] e = refl
-fits_length [] (cell ∷ cells) e = cc
-fits_length (kind ∷ kinds) [] e = cc
-fits_length (kind ∷ kinds) (cell ∷ cells) e =
-    ap suc (fits_length kinds cells (both_true (fits_kind kind cell) (fits kinds cells) e).1)
-
 -- what the columns of a table spell is a row
 pub IsRow-from_Spells : (kinds : List Kind) (bytes : List ℕ) (cells : List Cell) → are_columns kinds ≡ true → Spells kinds bytes cells → IsRow cells
 IsRow-from_Spells kinds bytes cells columns spells =
-    let len = fits_length kinds cells spells.fitting in
+    let len = length-fits kinds cells spells.fitting in
     record {
       some = grind (arith, nat_tests, len, columns);
       few = grind (arith, nat_tests, len, columns);

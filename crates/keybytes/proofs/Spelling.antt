@@ -1,9 +1,10 @@
 -- Rows, the columns that they fit, and their bytes.
-use Rattle.std.proofs.Common.{◌≡◌, ◌≢◌, ℕ, ℤ, FitsSigned, suc, ◌+◌, ◌*◌, ◌^◌, ◌<◌, ◌≤◌, Bool, true, false, ◌&&◌, List, [], ◌∷◌, ◌++◌, length, get_or, drop, refl, ap, sym, ◌∙◌, arith, length-append, drop-cons, add-one}
+use Rattle.std.proofs.Common.{◌≡◌, ℕ, ℤ, FitsSigned, suc, ◌+◌, ◌*◌, ◌^◌, ◌<◌, ◌≤◌, true, ◌&&◌, List, [], ◌∷◌, ◌++◌, length, get_or, drop, refl, ap, sym, ◌∙◌, arith, length-append, drop-cons, add-one}
 use Rattle.std.specs.List.{All}
 use Rattle.std.proofs.lemmas.List.Elements.{All-head, All-tail}
 use Rattle.byteorder.specs.Numbers.{length-bytes_high_first}
 use Rattle.std.specs.Int.{w64, cast_unsigned, cast_signed, to_be_bytes, from_be_bytes}
+use Rattle.std.proofs.lemmas.Bool.{and_parts}
 use Rattle.std.proofs.lemmas.Int.{of_z-to_z}
 use Rattle.std.proofs.lemmas.Nat.{be_bytes_8}
 use Rattle.keybytes.specs.Cells.{IsCell, fits, fits_kind}
@@ -13,17 +14,13 @@ use Rattle.keybytes.specs.declared.cell.Cell.TheVariants.{Null, Int, Text, Flag}
 use Rattle.keybytes.specs.declared.kind.Kind.{Kind}
 use Rattle.keybytes.specs.declared.kind.Kind.TheVariants.{Int as IntKind}
 
-and-false : (b : Bool) → (b && false) ≡ false
-and-false true = refl
-and-false false = refl
-
--- cells that are not as many as the columns don't fit
-pub fits-length : (kinds : List Kind) (cells : List Cell) → length kinds ≢ length cells → fits kinds cells ≡ false
-fits-length [] [] other = absurd (other refl)
-fits-length [] (cell ∷ cells) other = refl
-fits-length (kind ∷ kinds) [] other = refl
-fits-length (kind ∷ kinds) (cell ∷ cells) other =
-    rw (fits-length kinds cells (λ e. other (ap suc e))) (and-false (fits_kind kind cell))
+-- cells that fit are as many as the columns
+pub length-fits : (kinds : List Kind) (cells : List Cell) → fits kinds cells ≡ true → length kinds ≡ length cells
+length-fits [] [] fit = refl
+length-fits [] (cell ∷ cells) fit = cc
+length-fits (kind ∷ kinds) [] fit = cc
+length-fits (kind ∷ kinds) (cell ∷ cells) fit =
+    ap suc (length-fits kinds cells (and_parts (fits_kind kind cell) (fits kinds cells) fit).1)
 
 -- the columns from place i on
 pub fits-drop :

@@ -1,4 +1,4 @@
--- Cells, columns and rows: which ones there are, and the order of cells.
+-- Cells: which ones a row may hold, which columns take them, and the order of a column's cells.
 use Rattle.std.specs.Prelude.{◌≤◌, nat_le, Bool, true, false, ◌&&◌, List, [], ◌∷◌, length, FitsSigned, IsUtf8}
 use Rattle.std.specs.Int.{w64}
 use Rattle.std.specs.declared.cmp.Ordering.{Ordering}

@@ -102,12 +102,12 @@ pub record StandsForColumns (spec : KeySpecValue) (row : List Cell) (key : List 
   pub no_front : (other : List Cell) (rest : List ℕ) → IsRowOf spec other → key_of spec other ≡ key ++ rest → key_of spec other ≡ key
 
 -- the bytes begin with the key of a cell that a column of that kind takes
-pub record BeginsWith (kind : Kind) (cell : Cell) (rest bytes : List ℕ) : Type 0 where
+pub record BeginsWithCellKey (kind : Kind) (cell : Cell) (rest bytes : List ℕ) : Type 0 where
   pub of_kind : fits_kind kind cell ≡ true
   pub valid : IsCell cell
   pub front : bytes ≡ cell_key cell ++ rest
 
 -- the bytes begin with the key bytes of a text
-pub record BeginsWithText (text rest bytes : List ℕ) : Type 0 where
+pub record BeginsWithTextKey (text rest bytes : List ℕ) : Type 0 where
   pub utf8 : IsUtf8 text
   pub front : bytes ≡ text_key text ++ rest

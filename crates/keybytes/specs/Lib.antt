@@ -2,5 +2,6 @@ pub mod Cells
 pub mod Faults
 pub mod KeyRoom
 pub mod Keys
+pub mod Rids
 pub mod Rows
 pub mod Schemas

@@ -1,4 +1,4 @@
--- Rows and their bytes.
+-- Rows: which ones there are, their bytes, and what reading bytes refuses.
 use Rattle.std.specs.Prelude.{◌≡◌, ◌⊎◌, ℕ, ◌≤◌, ◌<◌, nat_lt, nat_le, Bool, true, ◌&&◌, List, [], ◌∷◌, ◌++◌, length, Option, Some, None, if◌then◌else◌}
 use Rattle.std.specs.List.{All, list_all, flat_map}
 use Rattle.std.specs.Int.{w64, cast_unsigned, to_be_bytes}

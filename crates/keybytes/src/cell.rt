@@ -1,4 +1,4 @@
-ghost use Rattle.std.specs.Prelude.{◌≡◌, IfOk, IfErr};
+ghost use Rattle.std.specs.Prelude.{◌≡◌, ◌≢◌, List, ℕ, IsOk, IfOk, IfErr};
 ghost use Rattle.std.specs.Bool.{OnTrue};
 ghost use Rattle.keybytes.specs.Cells.{IsCell, fits_kind, is_short};
 
@@ -17,9 +17,11 @@ pub enum Cell {
 }
 
 impl Cell {
+    /// A copy; only a text takes memory.
     pub fn clone(&self) -> Result<Cell, Fault>
         ensures same { IfOk result (λ cell. cell ≡ self.now) }
         ensures memory { IfErr result (λ fault. fault ≡ Fault.Memory) }
+        ensures plain { ((bytes : List ℕ) → self.now ≢ Cell.Text bytes) → IsOk result }
     {
         Ok(match self {
             Cell::Null => Cell::Null,
@@ -50,6 +52,7 @@ impl Cell {
         match self {
             Cell::Null => true,
             Cell::Int(number) => {
+                // Read, so that the clause knows a number of 64 bits.
                 let _number = *number;
                 true
             }

@@ -1,6 +1,6 @@
 ghost use Rattle.std.specs.Prelude.{◌≡◌, ◌+◌, ◌≤◌, ◌++◌, [], length, take, IsOk, IfOk, IfErr, OnOk, OnErr};
 
-use crate::Fault;
+use crate::{Fault, KEY_COLUMNS_MAX, TEXT_MAX};
 use smallvec::SmallVec;
 use std::alloc::Global;
 use std::cmp::Ordering;
@@ -8,6 +8,8 @@ use std::marker::Model;
 
 /// The greatest number of bytes of a key: four texts of a hundred bytes 0, each escaped, with a tag and an end mark.
 pub const KEY_MAX: usize = 812;
+
+const _: () = prove!(KEY_MAX == KEY_COLUMNS_MAX * (1 + 2 * TEXT_MAX + 2));
 
 /// The bytes that a key keeps in place; a longer key lies in memory of its own.
 const INLINE: usize = 24;
@@ -46,7 +48,7 @@ impl Key {
         self.bytes.as_slice()
     }
 
-    /// Keeps the first `len` bytes.
+    /// Keeps the first `len` of the bytes that are there.
     pub fn cut(&mut self, len: usize)
         requires { len ≤ length self.old }
         ensures { self.new ≡ take len self.old }
@@ -54,7 +56,8 @@ impl Key {
         self.bytes.truncate(len);
     }
 
-    /// Puts bytes behind those that are there; up to 24 in all take no memory.
+    /// Puts bytes behind those that are there, at most [`KEY_MAX`] in all; up to 24 in all take no memory. An `Err`
+    /// leaves the key as it was.
     pub fn add(&mut self, bytes: &[u8]) -> Result<(), Fault>
         requires { length self.old + length bytes.now ≤ 812 }
         ensures ok { OnOk result (self.new ≡ self.old ++ bytes.now) }

@@ -5,7 +5,7 @@
 //! end mark instead, and since the mark's first byte is 0, each byte 0 of the text is followed by a byte above the
 //! mark's second one.
 ghost use Rattle.std.specs.Prelude.{◌≡◌, ◌+◌, ◌≤◌, ◌++◌, List, ℕ, length, IsOk, IfOk, IfErr, OnOk};
-ghost use Rattle.keybytes.specs.Keys.{cell_key, text_key, BeginsWith, BeginsWithText};
+ghost use Rattle.keybytes.specs.Keys.{cell_key, text_key, BeginsWithCellKey, BeginsWithTextKey};
 ghost use Rattle.keybytes.specs.declared.cell.Cell.{Cell};
 
 use crate::{Cell, Fault, Key, Kind, Text};
@@ -69,9 +69,9 @@ fn add_text(key: &mut Key, text: &[u8]) -> Result<(), Fault>
 
 /// The cell of a column of that kind whose bytes stand in front, and how many they are.
 pub fn read_cell(alloc: Global, kind: Kind, bytes: &[u8]) -> Result<(Cell, usize), Fault>
-    requires { (cell : Cell) × (rest : List ℕ) × BeginsWith kind cell rest bytes.now }
-    ensures cell { IfOk result (λ read. (cell : Cell) (rest : List ℕ) → BeginsWith kind cell rest bytes.now → read.0 ≡ cell) }
-    ensures len { IfOk result (λ read. (cell : Cell) (rest : List ℕ) → BeginsWith kind cell rest bytes.now → read.1 ≡ length (cell_key cell)) }
+    requires { (cell : Cell) × (rest : List ℕ) × BeginsWithCellKey kind cell rest bytes.now }
+    ensures cell { IfOk result (λ read. (cell : Cell) (rest : List ℕ) → BeginsWithCellKey kind cell rest bytes.now → read.0 ≡ cell) }
+    ensures len { IfOk result (λ read. (cell : Cell) (rest : List ℕ) → BeginsWithCellKey kind cell rest bytes.now → read.1 ≡ length (cell_key cell)) }
     ensures memory { IfErr result (λ fault. fault ≡ Fault.Memory) }
 {
     if bytes[0] == NULL {
@@ -92,9 +92,9 @@ pub fn read_cell(alloc: Global, kind: Kind, bytes: &[u8]) -> Result<(Cell, usize
 }
 
 fn read_text(alloc: Global, bytes: &[u8]) -> Result<(Text, usize), Fault>
-    requires { (text : List ℕ) × (rest : List ℕ) × BeginsWithText text rest bytes.now }
-    ensures text { IfOk result (λ read. (text rest : List ℕ) → BeginsWithText text rest bytes.now → read.0 ≡ text) }
-    ensures len { IfOk result (λ read. (text rest : List ℕ) → BeginsWithText text rest bytes.now → read.1 ≡ length (text_key text)) }
+    requires { (text : List ℕ) × (rest : List ℕ) × BeginsWithTextKey text rest bytes.now }
+    ensures text { IfOk result (λ read. (text rest : List ℕ) → BeginsWithTextKey text rest bytes.now → read.0 ≡ text) }
+    ensures len { IfOk result (λ read. (text rest : List ℕ) → BeginsWithTextKey text rest bytes.now → read.1 ≡ length (text_key text)) }
     ensures memory { IfErr result (λ fault. fault ≡ Fault.Memory) }
 {
     let mut text = Vec::new(alloc);

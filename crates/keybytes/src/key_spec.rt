@@ -1,6 +1,6 @@
 ghost use Rattle.std.specs.Prelude.{◌≡◌, ◌≤◌, ◌↔◌, List, IsTrue, IsOk, IfOk, IfErr, OnOk, true, None, length, unwrap_or};
 ghost use Rattle.keybytes.specs.Cells.{fits};
-ghost use Rattle.keybytes.specs.Keys.{are_key_columns, key_columns_refusal, key_of, HasKey, IsKeyOf, StandsForColumns};
+ghost use Rattle.keybytes.specs.Keys.{are_key_columns, key_columns, key_columns_refusal, key_of, HasKey, IsKeyOf, IsRowOf, StandsForColumns};
 ghost use Rattle.keybytes.specs.declared.cell.Cell.{Cell};
 
 use crate::key_cell::{add_cell, read_cell};
@@ -66,6 +66,7 @@ impl KeySpec {
         self.columns.as_slice()
     }
 
+    /// Whether no two rows may have one key.
     pub fn unique(&self) -> bool
         ensures { result ≡ self.now.unique }
     {
@@ -79,6 +80,7 @@ impl KeySpec {
         self.kinds.as_slice() == schema.kinds()
     }
 
+    /// A copy, or [`Fault::Memory`].
     pub fn clone(&self) -> Result<KeySpec, Fault>
         ensures same { IfOk result (λ spec. spec ≡ self.now) }
         ensures memory { IfErr result (λ fault. fault ≡ Fault.Memory) }
@@ -92,7 +94,7 @@ impl KeySpec {
         })
     }
 
-    /// The row's key; one of up to 24 bytes takes no memory.
+    /// The key of a row of the table; one of up to 24 bytes takes no memory.
     pub fn key(&self, row: &Row) -> Result<Key, Fault>
         requires { fits self.now.kinds row.now ≡ true }
         ensures value { IfOk result (λ key. key ≡ key_of self.now row.now) }
@@ -110,11 +112,12 @@ impl KeySpec {
         Ok(key)
     }
 
-    /// The key's columns, in the key's order.
+    /// The columns that a key of this specification stands for, in the key's order.
     pub fn cells(&self, key: &Key) -> Result<Vec<Cell>, Fault>
         requires { IsKeyOf self.now key.now }
         ensures columns { IfOk result (λ cells. HasKey self.now key.now cells.items) }
         ensures only { IfOk result (λ cells. (columns : List Cell) → HasKey self.now key.now columns → columns ≡ cells.items) }
+        ensures of_rows { IfOk result (λ cells. (row : List Cell) → IsRowOf self.now row → key_of self.now row ≡ key.now → key_columns self.now row ≡ cells.items) }
         ensures memory { IfErr result (λ fault. fault ≡ Fault.Memory) }
     {
         let alloc = *self.kinds.allocator();
@@ -224,6 +227,54 @@ mod tests {
         assert_eq!(rt; key.bytes(), &[0, 1, 0][..]);
         match spec.cells(&key)?.as_slice() {
             [Cell::Null, Cell::Flag(false)] => Ok(()),
+            _ => panic!(rt; "other columns"),
+        }
+    }
+
+    #[test]
+    fn every_kind_there_and_back(rt: HostRuntime) -> Result<(), Fail> {
+        let alloc = rt.alloc();
+        let schema = Schema::new(vec![in alloc; Kind::Flag, Kind::Text, Kind::Int]?)?;
+        let spec = KeySpec::new(alloc, &schema, vec![in alloc; 2, 1, 0]?, false)?;
+        let text = Cell::Text(Text::new("a\0".to_string(alloc)?));
+        let row = Row::new(vec![in alloc; Cell::Flag(true), text, Cell::Int(-5)]?)?;
+        let key = spec.key(&row)?;
+        match spec.cells(&key)?.as_slice() {
+            [Cell::Int(-5), Cell::Text(text), Cell::Flag(true)] => {
+                assert_eq!(rt; text.as_str(), "a\0");
+                Ok(())
+            }
+            _ => panic!(rt; "other columns"),
+        }
+    }
+
+    fn zeros(alloc: Global) -> Result<Text, Fault> {
+        let mut string = String::new(alloc);
+        for _ in 0..100 {
+            string.push('\0')?;
+        }
+        Ok(Text::new(string))
+    }
+
+    #[test]
+    fn the_longest_key(rt: HostRuntime) -> Result<(), Fail> {
+        let alloc = rt.alloc();
+        let kinds = vec![in alloc; Kind::Text, Kind::Text, Kind::Text, Kind::Text]?;
+        let schema = Schema::new(kinds)?;
+        let spec = KeySpec::new(alloc, &schema, vec![in alloc; 0, 1, 2, 3]?, false)?;
+        let row = Row::new(vec![in alloc;
+            Cell::Text(zeros(alloc)?),
+            Cell::Text(zeros(alloc)?),
+            Cell::Text(zeros(alloc)?),
+            Cell::Text(zeros(alloc)?),
+        ]?)?;
+        let key = spec.key(&row)?;
+        assert_eq!(rt; key.clone()?.bytes().len(), 812);
+        match spec.cells(&key)?.as_slice() {
+            [Cell::Text(first), ..] => {
+                assert_eq!(rt; first.as_str().len(), 100);
+                Ok(())
+            }
             _ => panic!(rt; "other columns"),
         }
     }

@@ -2,7 +2,8 @@
 //!
 //! A [`Row`] is a list of cells, and a [`KeySpec`] says which of its columns make a key. Key bytes compare, as lists
 //! of bytes, the way the columns compare, and no key of a specification begins another: so the layers above sort,
-//! merge and search bytes, and never look into a key.
+//! merge and search bytes, and never look into a key. A [`Rid`] says where a row stands, and a [`Fault`] why a call of
+//! any layer was refused.
 #![tactic(auto)]
 
 mod cell;

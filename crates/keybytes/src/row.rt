@@ -1,4 +1,4 @@
-ghost use Rattle.std.specs.Prelude.{List, ◌≡◌, ◌≢◌, ◌≤◌, ◌<◌, length, IfOk, IfErr, OnOk, Some, None};
+ghost use Rattle.std.specs.Prelude.{List, ◌≡◌, ◌≢◌, ◌≤◌, ◌<◌, length, IfOk, IfErr, OnOk, Some, None, true};
 ghost use Rattle.keybytes.specs.declared.cell.Cell.{Cell};
 ghost use Rattle.keybytes.specs.Rows.{IsRow, row_bytes, row_refusal, shape_refusal, Spells, RefusesRow};
 ghost use Rattle.keybytes.specs.Cells.{fits};
@@ -56,6 +56,7 @@ impl Row {
         self.cells.as_slice()
     }
 
+    /// A copy, or [`Fault::Memory`].
     pub fn clone(&self) -> Result<Row, Fault>
         ensures same { IfOk result (λ row. row ≡ self.now) }
         ensures memory { IfErr result (λ fault. fault ≡ Fault.Memory) }
@@ -74,11 +75,13 @@ impl Row {
         cells_fit(schema.kinds(), self.cells())
     }
 
-    /// The bytes of the row, 1 to 1,224 of them; a row that does not fit the columns is [`Fault::RowShape`].
+    /// The bytes of the row, 1 to 1,224 of them; a row that does not fit the columns is [`Fault::RowShape`], before any
+    /// memory is asked for.
     pub fn to_bytes(&self, schema: &Schema) -> Result<Vec<u8>, Fault>
         ensures ok { IfOk result (λ bytes. bytes.items ≡ row_bytes self.now) }
         ensures accepted { OnOk result (shape_refusal schema.now self.now ≡ None) }
         ensures refused { IfErr result (λ fault. fault ≢ Fault.Memory → shape_refusal schema.now self.now ≡ Some fault) }
+        ensures memory { IfErr result (λ fault. fault ≡ Fault.Memory → fits schema.now self.now ≡ true) }
         ensures is_row { OnOk result (IsRow self.now) }
         ensures some { IfOk result (λ bytes. 0 < length bytes.items) }
         ensures size { IfOk result (λ bytes. length bytes.items ≤ 1224) }

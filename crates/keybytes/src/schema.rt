@@ -46,6 +46,7 @@ impl Schema {
         self.kinds.as_slice()
     }
 
+    /// A copy, or [`Fault::Memory`].
     pub fn clone(&self) -> Result<Schema, Fault>
         ensures same { IfOk result (λ schema. schema ≡ self.now) }
         ensures memory { IfErr result (λ fault. fault ≡ Fault.Memory) }

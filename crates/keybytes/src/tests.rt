@@ -39,6 +39,28 @@ fn a_row_and_its_bytes(rt: HostRuntime) -> Result<(), Fail> {
 }
 
 #[test]
+fn the_longest_row(rt: HostRuntime) -> Result<(), Fail> {
+    let alloc = rt.alloc();
+    let mut kinds = Vec::new(alloc);
+    let mut cells = Vec::new(alloc);
+    for _ in 0..12 {
+        let mut string = String::new(alloc);
+        for _ in 0..50 {
+            string.push('\u{E9}')?;
+        }
+        kinds.push(Kind::Text)?;
+        cells.push(Cell::Text(Text::new(string)))?;
+    }
+    let schema = Schema::new(kinds)?;
+    let row = Row::new(cells)?.clone()?;
+    let bytes = row.to_bytes(&schema)?;
+    assert_eq!(rt; bytes.len(), 1224);
+    let read = Row::read(alloc, &bytes, &schema)?;
+    assert_eq!(rt; read.to_bytes(&schema)?, bytes);
+    Ok(())
+}
+
+#[test]
 fn bytes_that_are_no_row(rt: HostRuntime) -> Result<(), Fail> {
     let alloc = rt.alloc();
     let schema = mixed_kinds(alloc)?;
@@ -82,5 +104,23 @@ fn refusals(rt: HostRuntime) -> Result<(), Fail> {
         return Err(Fault::RowShape.into());
     };
     assert_eq!(rt; word.clone()?.into_string().as_str(), "word");
+    Ok(())
+}
+
+#[test]
+fn printed(rt: HostRuntime) -> Result<(), Fail> {
+    let alloc = rt.alloc();
+    let rid = Rid { page: 12, slot: 3 };
+    assert_eq!(rt; format!(in alloc; "{rid}")?.as_str(), "12.3");
+    let duplicate = Fault::Duplicate(4, rid);
+    assert_eq!(rt;
+        format!(in alloc; "{duplicate}")?.as_str(),
+        "ready index 4 has the key already, at 12.3"
+    );
+    let held = Fault::KeyHeld(4, 7);
+    assert_eq!(rt;
+        format!(in alloc; "{held}")?.as_str(),
+        "transaction 7 may still give the key of ready index 4 back"
+    );
     Ok(())
 }

@@ -20,7 +20,7 @@ impl Model for Text {
 }
 
 impl Text {
-    /// Takes the string over as it is; takes no memory.
+    /// Takes the string over as it is, however long; takes no memory.
     pub fn new(string: String) -> Text
         ensures { result ≡ string_bytes string }
     {
@@ -42,6 +42,7 @@ impl Text {
         string
     }
 
+    /// A copy, or [`Fault::Memory`].
     pub fn clone(&self) -> Result<Text, Fault>
         ensures same { IfOk result (λ text. text ≡ self.now) }
         ensures memory { IfErr result (λ fault. fault ≡ Fault.Memory) }

@@ -3,5 +3,7 @@ mod FieldLemmas
 mod KeyedPairs
 mod Replies
 mod RidPoints
+mod SpecLists
 mod SpelledLists
 mod TakenBack
+mod Zips

@@ -1,8 +1,10 @@
 -- Lists of texts and the values that they spell.
 use denote.Ref.{Bor}
-use Rattle.std.proofs.Common.{◌≡◌, ℕ, zero, suc, ◌+◌, ◌<◌, get_or, List, [], ◌∷◌, ◌++◌, length, take, arith, add-one, refl, subst, sym, ◌∙◌, Some, None}
+use Rattle.std.proofs.Common.{◌≡◌, ℕ, zero, suc, ◌+◌, ◌<◌, get_or, List, [], ◌∷◌, ◌++◌, length, take, arith, refl, subst, sym, ◌∙◌, Some, None}
+use Rattle.std.proofs.lemmas.List.{get_or-map, length-map}
 use Rattle.std.specs.List.{AllZip}
 use Rattle.sfbuild.specs.Fields.{number_of, texts, SpellEach, SpellsNumber}
+use Rattle.sfbuild.proofs.Zips.{zip_more}
 
 -- what is read past the end of a list of fields
 abbrev pub no_field : Bor (List ℕ)
@@ -16,20 +18,13 @@ spelled_push Spells [] (v ∷ vs) field value all one = absurd all
 spelled_push Spells (f ∷ fs) [] field value all one = absurd all
 spelled_push Spells (f ∷ fs) (v ∷ vs) field value all one = (all.0, spelled_push Spells fs vs field value all.1 one)
 
-spelled_next : {A : Type 0} (Spells : List ℕ → A → Type 0) (fields : List (Bor (List ℕ))) (values : List A) (i : ℕ) (value : A)
-    → i < length fields → AllZip Spells (take i (texts fields)) values → Spells (get_or fields i no_field).now value
-    → AllZip Spells (take (suc i) (texts fields)) (values ++ value ∷ [])
-spelled_next Spells [] values i value inside all one = absurd (omega arith)
-spelled_next Spells (f ∷ fs) [] zero value inside all one = (one, tt)
-spelled_next Spells (f ∷ fs) [] (suc i) value inside all one = absurd all
-spelled_next Spells (f ∷ fs) (v ∷ vs) zero value inside all one = absurd all
-spelled_next Spells (f ∷ fs) (v ∷ vs) (suc i) value inside all one = (all.0, spelled_next Spells fs vs i value (omega arith) all.1 one)
-
--- the same in a list that is read up to a place
+-- one text more of a list is read, and what it spells put behind
 pub spelled_more : {A : Type 0} (Spells : List ℕ → A → Type 0) (fields : List (Bor (List ℕ))) (values more : List A) (i : ℕ) (value : A)
     → i < length fields → more ≡ values ++ value ∷ [] → AllZip Spells (take i (texts fields)) values → Spells (get_or fields i no_field).now value
     → AllZip Spells (take (i + 1) (texts fields)) more
-spelled_more Spells fields values more i value inside is all one = rw (is, add-one) (spelled_next Spells fields values i value inside all one)
+spelled_more Spells fields values more i value inside is all one =
+    let texts_read = get_or-map (λ (field : Bor (List ℕ)). field.now) fields i no_field [] inside in
+    zip_more Spells (texts fields) values more i [] value (rw (length-map) inside) is all (subst (λ (text : List ℕ). Spells text value) (sym texts_read) one)
 
 -- where a text spells nothing, the list spells nothing
 pub spelled_none : {A : Type 0} (Spells : List ℕ → A → Type 0) (fields : List (Bor (List ℕ))) (i : ℕ)

@@ -1,11 +1,13 @@
 -- What a record is answered, and what it leaves of the table, the labels and the status.
-use Rattle.std.specs.Prelude.{◌≡◌, ◌≢◌, ℕ, zero, suc, false, not, is_some, vec_len, List, Option, Some, None, Result, Ok, Err, ◌⊎◌, if◌then◌else◌}
+use Rattle.std.specs.Prelude.{◌≡◌, ◌≢◌, ℕ, zero, suc, false, not, is_some, vec_len, List, [], ◌∷◌, map, Option, Some, None, Result, Ok, Err, ◌⊎◌, if◌then◌else◌}
 use Rattle.std.specs.List.{list_any}
 use Rattle.keybytes.specs.Faults.{first_cause}
+use Rattle.keybytes.specs.Keys.{key_columns_refusal}
 use Rattle.keybytes.specs.Rows.{row_refusal}
 use Rattle.keybytes.specs.declared.cell.Cell.{Cell}
 use Rattle.keybytes.specs.declared.fault.Fault.{Fault}
 use Rattle.keybytes.specs.declared.fault.Fault.TheVariants.{BadCount, BuildRunning, Memory, NoSuchTxn}
+use Rattle.keybytes.specs.declared.kind.Kind.{Kind}
 use Rattle.keybytes.specs.declared.rid.Rid.{Rid}
 use Rattle.heap_log.specs.Standing.{live_at}
 use Rattle.heap_table.specs.HeapState.{after_visit, is_open, row_missing}
@@ -17,6 +19,7 @@ use Rattle.builder_core.specs.declared.plan.Plan.{Plan}
 use Rattle.builder_core.specs.declared.reply.Reply.{Reply}
 use Rattle.builder_core.specs.declared.reply.Reply.TheVariants as reply
 use Rattle.sfbuild.specs.Labels.{Notes, SameNotes, named}
+use Rattle.sfbuild.specs.Listings.{key_spec_of, AnswersPairs, AnswersRest}
 use Rattle.sfbuild.specs.Limits.{is_in_limits, is_refusal}
 use Rattle.sfbuild.specs.declared.answer.Answer.{Answer}
 use Rattle.sfbuild.specs.declared.answer.Answer.TheVariants as answer
@@ -24,6 +27,7 @@ use Rattle.sfbuild.specs.declared.engine.Engine.{Engine}
 use Rattle.sfbuild.specs.declared.labels.Labels.{Labels}
 use Rattle.sfbuild.specs.declared.script.record.Record.{Record}
 use Rattle.sfbuild.specs.declared.script.record.Record.TheVariants.{Row, Begin, Insert, Update, Delete, Undo, Commit, Get, Start as StartRecord, Scan, Seal, Load, Switch, Pairs, Rest}
+use Rattle.sfbuild.specs.declared.script.spec.Spec.{Spec}
 use Rattle.sfbuild.specs.declared.script.start.Start.{Start}
 use Rattle.sfbuild.specs.declared.status.Status.{Status}
 use Rattle.sfbuild.specs.declared.status.Status.TheVariants.{IndexRefused}
@@ -104,11 +108,22 @@ plan_refusal s start =
     first_cause (cause_if (is_some s.build) BuildRunning)
     (cause_if (not (is_in_limits start.workers (vec_len start.specs) start.quota)) BadCount)
 
--- a build starts by a plan with those workers and that dealing, or a key specification is refused
+-- why the first of the key specifications that is refused is so, on a table with these columns
+abbrev pub specs_refusal : List Kind → List Spec → Option Fault
+specs_refusal schema [] = None
+specs_refusal schema (spec ∷ specs) = first_cause (key_columns_refusal schema spec.columns.items) (specs_refusal schema specs)
+
+-- the plan is what the record asks for, of a table with these columns
+pub record IsPlanOf (schema : List Kind) (start : Start) (plan : Plan) : Type 0 where
+  pub specs : plan.specs.items ≡ map (key_spec_of schema) start.specs.items
+  pub workers : plan.workers ≡ start.workers
+  pub dealing : plan.dealing ≡ start.dealing
+
+-- a build starts by the plan that the record asks for, or a key specification is refused; want of memory aside
 abbrev pub StartsPlan : Start → CoreState → Answer → CoreState → Type 0
 StartsPlan start old given new =
-    ((plan : Plan) × AnswersEvent (event.Start plan) old given new × (plan.workers ≡ start.workers) × (plan.dealing ≡ start.dealing))
-    ⊎ ((fault : Fault) × (given ≡ answer.Refused fault) × (new ≡ old))
+    ((plan : Plan) × IsPlanOf old.heap.schema start plan × AnswersEvent (event.Start plan) old given new)
+    ⊎ ((fault : Fault) × (given ≡ answer.Refused fault) × (fault ≢ Memory → specs_refusal old.heap.schema start.specs.items ≡ Some fault) × (new ≡ old))
 
 -- what a record is answered, and what it leaves of the table
 abbrev pub AnswersRecord : Engine → Record → Answer → CoreState → Type 0
@@ -133,8 +148,8 @@ AnswersRecord old (Scan range worker) given new = AnswersEvent (event.Scan range
 AnswersRecord old (Seal worker) given new = AnswersEvent (event.Seal worker) old.core given new
 AnswersRecord old (Load index) given new = AnswersEvent (event.Load index) old.core given new
 AnswersRecord old Switch given new = AnswersEvent event.Switch old.core given new
-AnswersRecord old (Pairs number) given new = new ≡ old.core
-AnswersRecord old (Rest spec) given new = new.heap.log ≡ old.core.heap.log
+AnswersRecord old (Pairs number) given new = AnswersPairs number old.core given new
+AnswersRecord old (Rest spec) given new = AnswersRest spec old.core given new
 
 -- what the labels name once a transaction was to begin under one of them
 abbrev pub NotesBegun : Labels → List ℕ → Answer → Labels → Type 0

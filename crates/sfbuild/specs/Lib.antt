@@ -4,3 +4,4 @@ pub mod Fields
 pub mod Labels
 pub mod Limits
 pub mod Lines
+pub mod Listings

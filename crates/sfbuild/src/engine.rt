@@ -1,15 +1,16 @@
 //! The table that a script runs on.
-ghost use Rattle.std.specs.Prelude.{◌≡◌, ◌≢◌, ℕ, vec_len, unwrap_or, Some, None, OnOk, IfOk, IfErr};
-ghost use Rattle.std.specs.List.{list_any};
+ghost use Rattle.std.specs.Prelude.{◌≡◌, ◌≢◌, ℕ, map, vec_len, unwrap_or, Some, None, OnOk, IfOk, IfErr};
+ghost use Rattle.std.specs.List.{list_any, AllZip};
 ghost use Rattle.keybytes.specs.Keys.{key_columns_refusal};
 ghost use Rattle.builder_core.specs.Pairs.{HaveKeysOf};
 ghost use Rattle.builder_core.specs.Steps.{Step};
-ghost use Rattle.sfbuild.specs.Answers.{answer_or_refusal, status_after, AnswersEvent, AnswersRecord, AnswersRow, FailsToPut, GivesRow, NotesBegun, NotesRecord, OnTxn, PutsRow, StartsPlan, TakesBack, Unless, plan_refusal};
+ghost use Rattle.sfbuild.specs.Answers.{answer_or_refusal, status_after, AnswersEvent, AnswersRecord, AnswersRow, FailsToPut, GivesRow, NotesBegun, NotesRecord, OnTxn, PutsRow, StartsPlan, TakesBack, Unless, plan_refusal, specs_refusal};
 ghost use Rattle.builder_core.specs.declared.reply.Reply.{Reply as ReplyValue};
 ghost use Rattle.keybytes.specs.Rows.{row_refusal};
 ghost use Rattle.keybytes.specs.declared.rid.Rid.{Rid as RidValue};
 ghost use Rattle.sfbuild.specs.declared.status.Status.{Status as StatusValue};
 ghost use Rattle.sfbuild.specs.Labels.{named};
+ghost use Rattle.sfbuild.specs.Listings.{key_spec_of, AnswersPairs, AnswersRest, ListsPair};
 ghost use Rattle.sfbuild.specs.Limits.{is_in_limits, is_refusal, table_refusal};
 
 use crate::answer::Answer;
@@ -241,7 +242,10 @@ impl Engine {
         self.step(Event::Start { plan })
     }
 
-    fn key_specs(&self, specs: Vec<Spec>) -> Result<Vec<KeySpec>, Fault> {
+    fn key_specs(&self, specs: Vec<Spec>) -> Result<Vec<KeySpec>, Fault>
+        ensures ok { IfOk result (λ made. made.items ≡ map (key_spec_of self.now.core.heap.schema) specs.items) }
+        ensures refused { IfErr result (λ fault. fault ≢ Fault.Memory → specs_refusal self.now.core.heap.schema specs.items ≡ Some fault) }
+    {
         let mut made = Vec::with_capacity(self.alloc, specs.len())?;
         for spec in specs {
             made.push(self.key_spec(spec)?)?;
@@ -265,7 +269,8 @@ impl Engine {
     }
 
     fn pairs(&self, number: usize) -> Result<Answer, Fault>
-        ensures { (status : StatusValue) → status_after status (answer_or_refusal result) ≡ status }
+        ensures core { AnswersPairs number self.now.core (answer_or_refusal result) self.now.core }
+        ensures status { (status : StatusValue) → status_after status (answer_or_refusal result) ≡ status }
     {
         let index = self.core.ready(number)?;
         let lines = pair_lines(self.alloc, index.spec(), index.pairs())?;
@@ -273,7 +278,7 @@ impl Engine {
     }
 
     fn rest(&mut self, spec: Spec) -> Result<Answer, Fault>
-        ensures core { self.new.core.heap.log ≡ self.old.core.heap.log }
+        ensures core { AnswersRest spec self.old.core (answer_or_refusal result) self.new.core }
         ensures labels { self.new.labels ≡ self.old.labels }
         ensures status { self.new.status ≡ status_after self.old.status (answer_or_refusal result) }
     {
@@ -288,6 +293,7 @@ impl Engine {
         ensures table { IfOk result (λ made. made.kinds ≡ self.now.core.heap.schema) }
         ensures columns { IfOk result (λ made. made.columns ≡ spec.columns.items) }
         ensures unique { IfOk result (λ made. made.unique ≡ spec.unique) }
+        ensures accepted { OnOk result (key_columns_refusal self.now.core.heap.schema spec.columns.items ≡ None) }
         ensures refused { IfErr result (λ fault. fault ≡ unwrap_or (key_columns_refusal self.now.core.heap.schema spec.columns.items) Fault.Memory) }
     {
         KeySpec::new(self.alloc, self.core.schema(), spec.columns, spec.unique)
@@ -377,6 +383,8 @@ fn has_refused(verdicts: &Verdicts) -> bool
 /// The pairs of an index as they are printed.
 fn pair_lines(alloc: Global, spec: &KeySpec, pairs: &[Pair]) -> Result<Vec<PairLine>, Fault>
     requires { HaveKeysOf spec.now pairs.now }
+    ensures lists { IfOk result (λ lines. AllZip (ListsPair spec.now) pairs.now lines.items) }
+    ensures memory { IfErr result (λ fault. fault ≡ Fault.Memory) }
 {
     let mut lines = Vec::with_capacity(alloc, pairs.len())?;
     for pair in pairs {

@@ -1,6 +1,9 @@
+pub mod Writes
 pub mod Packing
 pub mod Overlaps
-pub mod PageFields
-pub mod PageValues
-pub mod Rooms
 pub mod Images
+pub mod Layouts
+pub mod Packs
+pub mod PageValues
+pub mod PageFields
+pub mod Rooms

@@ -1,15 +1,46 @@
 use Rattle.std.proofs.Common.{◌≡◌, ℕ, ◌+◌, ◌-◌, ◌≤◌, ◌<◌, ◌⊎◌, suc, zero, List, [], ◌∷◌, ◌++◌, length, get_or, set, take, drop, refl, sym, ap, ◌∙◌, arith, subst, inl, inr}
 use Rattle.std.specs.Prelude.{slice_range}
-use Rattle.std.specs.List.{All}
+use Rattle.std.specs.List.{All, AllPairs}
 use Rattle.std.proofs.lemmas.List.{take-take}
 use Rattle.std.proofs.lemmas.List.Elements.{All-head, All-tail}
 use Rattle.std.proofs.lemmas.Slice.{between_is}
 use Rattle.slotted_page.specs.Slot.{Slot, row}
-use Rattle.slotted_page.specs.Entry.{slot_of, slots_of, IsPlaced, Stacked}
-use Rattle.slotted_page.specs.Entry.{Apart, ApartAll, AllApart}
+use Rattle.slotted_page.specs.Entry.{slot_of, slots_of, IsPlaced}
+use Rattle.slotted_page.specs.Entry.{Apart}
 use Rattle.slotted_page.specs.declared.entry.Entry.{Entry}
 use Rattle.slotted_page.specs.declared.entry.Entry.TheVariants.{Free, Held, Row}
-use Rattle.slotted_page.proofs.Packing.{same_drop, placed_from_stacked}
+use Rattle.slotted_page.proofs.Packing.{Stacked, same_drop, placed_from_stacked}
+
+-- a row overlaps none of those
+abbrev pub ApartAll : Entry → List Entry → Type 0
+ApartAll e [] = Unit {0}
+ApartAll e (x ∷ xs) = Apart e x × ApartAll e xs
+
+-- no two rows overlap, by recursion
+abbrev pub AllApart : List Entry → Type 0
+AllApart [] = Unit {0}
+AllApart (e ∷ es) = ApartAll e es × AllApart es
+
+apart_all : (e : Entry) (es : List Entry) → ((j : ℕ) (d : Entry) → j < length es → Apart e (get_or es j d)) → ApartAll e es
+apart_all e [] h = tt
+apart_all e (x ∷ xs) h = (h 0 e (omega arith), apart_all e xs (λ j d lt. h (suc j) d (omega arith)))
+
+pub apart_from_pairs : (es : List Entry) → AllPairs Apart es → AllApart es
+apart_from_pairs [] h = tt
+apart_from_pairs (e ∷ es) h =
+    (apart_all e es (λ j d lt. h 0 (suc j) d (omega arith) (omega arith)), apart_from_pairs es (λ i j d lt le. h (suc i) (suc j) d (omega arith) (omega arith)))
+
+apart_one : (e : Entry) (es : List Entry) (j : ℕ) (d : Entry) → j < length es → ApartAll e es → Apart e (get_or es j d)
+apart_one e [] j d lt h = absurd (omega arith)
+apart_one e (x ∷ xs) zero d lt h = h.0
+apart_one e (x ∷ xs) (suc j) d lt h = apart_one e xs j d (omega arith) h.1
+
+pub pairs_from_apart : (es : List Entry) → AllApart es → AllPairs Apart es
+pairs_from_apart [] h i j d lt le = absurd (omega arith)
+pairs_from_apart (e ∷ es) h zero zero d lt le = absurd (omega arith)
+pairs_from_apart (e ∷ es) h (suc i) zero d lt le = absurd (omega arith)
+pairs_from_apart (e ∷ es) h zero (suc j) d lt le = apart_one e es j d (omega arith) h.0
+pairs_from_apart (e ∷ es) h (suc i) (suc j) d lt le = pairs_from_apart es h.1 i j d (omega arith) (omega arith)
 
 -- an entry takes no byte that another did not have
 abbrev pub Within : Entry → Entry → Type 0
@@ -136,11 +167,6 @@ slots_after a b o l r n (e ∷ es) le k h =
     let y = slots_after a b o l r n es le k h.1 in
     cc (x, y)
 
-apart_at : (e : Entry) (es : List Entry) (s : ℕ) → s < length es → ApartAll e es → Apart e (get_or es s Free)
-apart_at e [] s lt h = absurd (omega arith)
-apart_at e (x ∷ xs) zero lt h = h.0
-apart_at e (x ∷ xs) (suc s) lt h = apart_at e xs s (omega arith) h.1
-
 -- a write over a row's own bytes leaves the other slots
 pub over_same : (a b : List ℕ) (o l r n : ℕ) (es : List Entry) (s : ℕ) (x : Slot) → n ≤ l → SameBut a b o n → s < length es →
     get_or es s Free ≡ Row o l r → AllApart es →
@@ -151,7 +177,7 @@ over_same a b o l r n (e ∷ es) zero x le k lt is h =
     ap (λ ys. x ∷ ys) (slots_after a b o l r n es le k g)
 over_same a b o l r n (e ∷ es) (suc s) x le k lt is h =
     let lt' : s < length es = omega arith in
-    let g : Apart e (Row o l r) = subst (Apart e) is (apart_at e es s lt' h.0) in
+    let g : Apart e (Row o l r) = subst (Apart e) is (apart_one e es s Free lt' h.0) in
     let y = slot_before a b o l r n e le k g in
     let z = over_same a b o l r n es s x le k lt' is h.1 in
     cc (y, z)

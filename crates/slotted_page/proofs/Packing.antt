@@ -1,14 +1,21 @@
 use Rattle.std.proofs.Common.{◌≡◌, ℕ, ◌+◌, ◌-◌, ◌≤◌, ◌<◌, List, [], ◌∷◌, length, get_or, set, take, drop, refl, sym, ap, ◌∙◌, arith, subst}
 use Rattle.std.specs.Prelude.{slice_range}
 use Rattle.std.specs.List.{All, sum_by}
-use Rattle.std.proofs.lemmas.List.{drop-drop, get_or-take, drop-set, drop_more, take-set, take-take}
+use Rattle.std.proofs.lemmas.List.{drop-drop, drop-set, drop_more, take-set, take-take}
 use Rattle.std.proofs.lemmas.List.Elements.{All-head, All-tail, All-cons, All-nil, All-get_or}
 use Rattle.std.proofs.lemmas.List.Edits.{length-between}
 use Rattle.std.proofs.lemmas.List.Sums.{sum_by-drop_more, sum_by-take-drop}
 use Rattle.slotted_page.specs.Slot.{row}
-use Rattle.slotted_page.specs.Entry.{slot_of, slots_of, length_of, IsPlaced, Stacked}
+use Rattle.slotted_page.specs.Entry.{slot_of, slots_of, length_of, IsPlaced}
 use Rattle.slotted_page.specs.declared.entry.Entry.{Entry}
 use Rattle.slotted_page.specs.declared.entry.Entry.TheVariants.{Free, Held, Row}
+
+-- the rows lie end to end from the floor to the page's end, in the order of their slots
+abbrev pub Stacked : ℕ → List Entry → Type 0
+Stacked floor [] = floor ≡ 4096
+Stacked floor (Free ∷ entries) = Stacked floor entries
+Stacked floor (Held r ∷ entries) = Stacked floor entries
+Stacked floor (Row o l r ∷ entries) = (floor ≡ o) × (0 < l) × (l ≤ 1224) × (l ≤ r) × Stacked (o + l) entries
 
 pub same_drop : (a b : List ℕ) (floor o : ℕ) → floor ≤ o → drop floor a ≡ drop floor b → drop o a ≡ drop o b
 same_drop a b floor o le e =
@@ -63,12 +70,7 @@ pub record PacksRow (entries old : List Entry) (i j o l r : ℕ) : Type 0 where
   pub within : j < length entries
   pub old_within : j < length old
   pub front : take i entries ≡ take i old
-  pub is : get_or entries j Free ≡ Row o l r
-
-pub row_was : {entries old : List Entry} {i j o l r : ℕ} → PacksRow entries old i j o l r → get_or old j Free ≡ Row o l r
-row_was {entries = entries} {old = old} {i = i} {j = j} k =
-    let lt : j < i = omega (arith, k.next) in
-    sym (get_or-take i old j Free lt) ∙ ap (λ (xs : List Entry). get_or xs j Free) (sym k.front) ∙ get_or-take i entries j Free lt ∙ k.is
+  pub is : get_or old j Free ≡ Row o l r
 
 -- the entries from j on, with the row's new place
 packed_drop : {entries old : List Entry} {i j o l r : ℕ} → PacksRow entries old i j o l r → (next : ℕ) →
@@ -88,7 +90,7 @@ rows_step {entries = entries} {old = old} {i = i} {j = j} {o = o} {l = l} {r = r
     let b : drop j old ≡ get_or old j Free ∷ drop i old = rw (← k.next) (drop_more old j Free k.old_within) in
     let same : slots_of to' (drop i entries) ≡ slots_of to (drop i entries) =
     slots_same to' to floor (drop i entries) kept (placed_from_stacked floor (drop i entries) stacked) in
-    rw (packed_drop k next, b, row_was k) (cc (x, same, rows))
+    rw (packed_drop k next, b, k.is) (cc (x, same, rows))
 
 pub placed_at : (floor : ℕ) (es : List Entry) (j o l r : ℕ) → j < length es → get_or es j Free ≡ Row o l r → All (IsPlaced floor) es →
     IsPlaced floor (Row o l r)
@@ -97,14 +99,14 @@ placed_at floor es j o l r h is placed = subst (IsPlaced floor) is (All-get_or (
 pub stacked_step : {entries old : List Entry} {i j o l r : ℕ} → PacksRow entries old i j o l r → (floor next : ℕ) →
     All (IsPlaced 0) old → Stacked floor (drop i entries) → next + l ≡ floor → Stacked next (drop j (set entries j (Row next l r)))
 stacked_step {entries = entries} {old = old} {j = j} {o = o} {l = l} {r = r} k floor next placed stacked n =
-    let p = placed_at 0 old j o l r k.old_within (row_was k) placed in
+    let p = placed_at 0 old j o l r k.old_within k.is placed in
     rw (packed_drop k next) (refl, p.2, p.3, p.4, rw n stacked)
 
 -- the lengths from j on: the row's, and all those behind it
 pub lengths_step : {entries old : List Entry} {i j o l r : ℕ} → PacksRow entries old i j o l r →
     sum_by length_of (drop j old) ≡ l + sum_by length_of (drop i old)
 lengths_step {old = old} {i = i} {j = j} {l = l} k =
-    let p : length_of (get_or old j Free) ≡ l = ap length_of (row_was k) in
+    let p : length_of (get_or old j Free) ≡ l = ap length_of k.is in
     let s : sum_by length_of (drop j old) ≡ length_of (get_or old j Free) + sum_by length_of (drop (j + 1) old) = sum_by-drop_more length_of old j Free k.old_within in
     let t : sum_by length_of (drop j old) ≡ length_of (get_or old j Free) + sum_by length_of (drop i old) = rw k.next at s in
     rw p at t
@@ -113,7 +115,7 @@ lengths_step {old = old} {i = i} {j = j} {l = l} k =
 pub bytes_step : {entries old : List Entry} {i j o l r : ℕ} → PacksRow entries old i j o l r → (area : List ℕ) → length area ≡ 4096 →
     All (IsPlaced 0) old → length (slice_range area o (o + l)) ≡ l
 bytes_step {old = old} {j = j} {o = o} {l = l} {r = r} k area long placed =
-    let p = placed_at 0 old j o l r k.old_within (row_was k) placed in
+    let p = placed_at 0 old j o l r k.old_within k.is placed in
     let le : o + l ≤ length area = omega (arith, p.1, long) in
     omega (arith, length-between area o (o + l) le)
 

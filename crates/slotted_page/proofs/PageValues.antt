@@ -5,7 +5,7 @@ use Rattle.std.proofs.lemmas.Bool.{leb-true, ltb-true, false≢true}
 use Rattle.std.proofs.lemmas.List.{get_or_past, length_push, length-set}
 use Rattle.std.proofs.lemmas.List.Sums.{sum_by-set, sum_by_push}
 use Rattle.std.proofs.lemmas.List.Quantifiers.{position-Some}
-use Rattle.slotted_page.specs.Slot.{Slot, free, held, row, is_free, reserve_of, total_reserve, put, IsRow, IsHeld, IsTaken}
+use Rattle.slotted_page.specs.Slot.{Slot, free, held, row, is_free, reserve_of, total_reserve, put, IsRow, IsHeld}
 use Rattle.slotted_page.specs.Page.{PageValue, slot_at, with_slot, taken_bytes, has_room, slot_for, room_for}
 
 pub put_is_set : (slots : List Slot) (s : ℕ) (x : Slot) → s < length slots → put slots s x ≡ set slots s x
@@ -34,16 +34,6 @@ get_put [] zero x le = refl
 get_put [] (suc s) x le = absurd (omega arith)
 get_put (z ∷ slots) zero x le = refl
 get_put (z ∷ slots) (suc s) x le = get_put slots s x (omega arith)
-
-pub get_put_other : (slots : List Slot) (s t : ℕ) (x : Slot) → s ≤ length slots → (s ≡ t → ⊥) →
-    get_or (put slots s x) t free ≡ get_or slots t free
-get_put_other [] zero zero x le ne = absurd (ne refl)
-get_put_other [] zero (suc t) x le ne = refl
-get_put_other [] (suc s) t x le ne = absurd (omega arith)
-get_put_other (z ∷ slots) zero zero x le ne = absurd (ne refl)
-get_put_other (z ∷ slots) zero (suc t) x le ne = refl
-get_put_other (z ∷ slots) (suc s) zero x le ne = refl
-get_put_other (z ∷ slots) (suc s) (suc t) x le ne = get_put_other slots s t x (omega arith) (λ e. ne (ap suc e))
 
 pub length_put : (slots : List Slot) (s : ℕ) (x : Slot) → s < length slots → length (put slots s x) ≡ length slots
 length_put slots s x lt = ap length (put_is_set slots s x lt) ∙ length-set slots s x
@@ -74,10 +64,6 @@ with_with page next s x y le e =
 pub get_with : (page next : PageValue) (s : ℕ) (x : Slot) → s ≤ length page.slots → next ≡ with_slot page s x → slot_at next s ≡ x
 get_with page next s x le e = ap (λ (p : PageValue). slot_at p s) e ∙ get_put page.slots s x le
 
-pub get_with_other : (page next : PageValue) (s t : ℕ) (x : Slot) → s ≤ length page.slots → (s ≡ t → ⊥) → next ≡ with_slot page s x →
-    slot_at next t ≡ slot_at page t
-get_with_other page next s t x le ne e = ap (λ (p : PageValue). slot_at p t) e ∙ get_put_other page.slots s t x le ne
-
 pub length_with : (page next : PageValue) (s : ℕ) (x : Slot) → s < length page.slots → next ≡ with_slot page s x →
     length next.slots ≡ length page.slots
 length_with page next s x lt e = ap (λ (p : PageValue). length p.slots) e ∙ length_put page.slots s x lt
@@ -92,11 +78,6 @@ pub held_within : (slots : List Slot) (s : ℕ) → IsHeld (get_or slots s free)
 held_within [] s h = absurd h
 held_within (x ∷ slots) zero h = omega arith
 held_within (x ∷ slots) (suc s) h = let k = held_within slots s h in omega arith
-
-pub taken_within : (slots : List Slot) (s : ℕ) → IsTaken (get_or slots s free) → s < length slots
-taken_within [] s h = absurd h
-taken_within (x ∷ slots) zero h = omega arith
-taken_within (x ∷ slots) (suc s) h = let k = taken_within slots s h in omega arith
 
 -- what the slot of an insert of n bytes keeps
 pub record RoomFacts (page : PageValue) (n s : ℕ) : Type 0 where

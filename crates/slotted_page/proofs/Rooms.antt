@@ -1,52 +1,38 @@
 -- The search for an insert's slot.
-use Rattle.std.proofs.Common.{◌≡◌, ℕ, ◌+◌, ◌≤◌, ◌<◌, List, [], ◌∷◌, length, refl, sym, ap, ◌∙◌, Bool, true, false, cond, Some, None}
-use Rattle.std.specs.Prelude.{position, not}
-use Rattle.std.specs.Bool.{then_some}
-use Rattle.std.specs.List.{prefix_len}
+use Rattle.std.proofs.Common.{◌≡◌, ℕ, ◌<◌, List, length, get_or, refl, sym, ap, ◌∙◌, arith, Bool, true, false, cond, Some, None}
+use Rattle.std.specs.Prelude.{position, nat_lt}
+use Rattle.std.specs.List.{position_or_len}
+use Rattle.std.proofs.lemmas.List.Sums.{position_or_len_is}
 use Rattle.std.proofs.lemmas.Bool.{lt-ltb, le-ltb}
-use Rattle.std.proofs.lemmas.List.{length-map}
-use Rattle.slotted_page.specs.Slot.{Slot, is_free, total_reserve}
-use Rattle.slotted_page.specs.Page.{PageValue, has_room, room_for}
-use Rattle.slotted_page.specs.Entry.{slot_of, slots_of, is_free_entry}
+use Rattle.slotted_page.specs.Slot.{Slot, free, is_free}
+use Rattle.slotted_page.specs.Entry.{slot_of, is_free_entry}
+use Rattle.slotted_page.specs.Image.{image_entries, slots_in}
 use Rattle.slotted_page.specs.declared.entry.Entry.{Entry}
 use Rattle.slotted_page.specs.declared.entry.Entry.TheVariants.{Free, Held, Row}
+use Rattle.slotted_page.proofs.Images.{slot_of_image}
 
-same_free : (area : List ℕ) (e : Entry) → is_free (slot_of area e) ≡ is_free_entry e
-same_free area Free = refl
-same_free area (Held r) = refl
-same_free area (Row o l r) = refl
+same_free : (image : List ℕ) (e : Entry) → is_free_entry e ≡ is_free (slot_of image e)
+same_free image Free = refl
+same_free image (Held r) = refl
+same_free image (Row o l r) = refl
 
-free_len : (area : List ℕ) (es : List Entry) →
-    prefix_len (λ s. not (is_free s)) (slots_of area es) ≡ prefix_len (λ e. not (is_free_entry e)) es
-free_len area [] = refl
-free_len area (e ∷ es) =
-    let h = same_free area e in
-    let t = free_len area es in
-    rw (h, t) refl
+-- whether a slot is free, by its entry
+pub free_at : (image : List ℕ) (s : ℕ) (e : Entry) (b : Bool) → s < length (slots_in image) → e ≡ get_or (image_entries image) s Free → b ≡ is_free_entry e →
+    is_free (get_or (slots_in image) s free) ≡ b
+free_at image s e b lt is h =
+    ap is_free (slot_of_image image s lt ∙ ap (slot_of image) (sym is)) ∙ sym (same_free image e) ∙ sym h
 
--- the lowest free slot is that of the lowest free entry
-pub same_position : (area : List ℕ) (es : List Entry) (slots : List Slot) → slots_of area es ≡ slots →
-    position is_free slots ≡ position is_free_entry es
-same_position area es slots v =
-    let a = free_len area es in
-    let b : length (slots_of area es) ≡ length es = length-map es (slot_of area) in
-    ap (position is_free) (sym v) ∙ rw (a, b) refl
+at_position : (slots : List Slot) (i : ℕ) → position_or_len is_free slots ≡ i → position is_free slots ≡ cond (nat_lt i (length slots)) (Some i) None
+at_position slots i e = ap (λ (n : ℕ). cond (nat_lt n (length slots)) (Some n) None) e
 
-some_if : (b : Bool) (s : ℕ) → then_some b s ≡ cond b (Some s) None
-some_if true s = refl
-some_if false s = refl
+-- the search for the lowest free slot: it ends at one that is free, or behind the last
+pub lowest_free : (slots : List Slot) (i : ℕ) → i < length slots → ((k : ℕ) → k < i → is_free (get_or slots k free) ≡ false) →
+    is_free (get_or slots i free) ≡ true → Some i ≡ position is_free slots
+lowest_free slots i lt before at =
+    let e = position_or_len_is is_free slots i free (omega arith) before (λ _. at) in
+    sym (at_position slots i e ∙ rw (lt-ltb i (length slots) lt) refl)
 
--- the three ways that `room_for` answers
-pub room_old : (page : PageValue) (n s count reserved : ℕ) → position is_free page.slots ≡ Some s → length page.slots ≡ count →
-    total_reserve page.slots ≡ reserved →
-    then_some (has_room count (reserved + n)) s ≡ room_for page n
-room_old page n s count reserved p c t = rw (p, c, t) (some_if (has_room count (reserved + n)) s)
-
-pub room_new : (page : PageValue) (n count reserved : ℕ) → position is_free page.slots ≡ None → length page.slots ≡ count →
-    total_reserve page.slots ≡ reserved →
-    count < page.limit → then_some (has_room (count + 1) (reserved + n)) count ≡ room_for page n
-room_new page n count reserved p c t l = rw (p, c, t, lt-ltb count page.limit l) (some_if (has_room (count + 1) (reserved + n)) count)
-
-pub room_limit : (page : PageValue) (n count : ℕ) → position is_free page.slots ≡ None → length page.slots ≡ count → page.limit ≤ count →
-    None ≡ room_for page n
-room_limit page n count p c l = rw (p, c, le-ltb count page.limit l) refl
+pub none_free : (slots : List Slot) (n : ℕ) → n ≡ length slots → ((k : ℕ) → k < n → is_free (get_or slots k free) ≡ false) → None ≡ position is_free slots
+none_free slots n e before =
+    let p = position_or_len_is is_free slots n free (omega arith) before (λ lt. absurd (omega arith)) in
+    sym (at_position slots n p ∙ rw (le-ltb n (length slots) (omega arith)) refl)

@@ -1,18 +1,18 @@
--- An entry of a page's directory, and lists of entries over the area that has the rows' bytes.
-use Rattle.std.specs.Prelude.{ℕ, ◌+◌, ◌≤◌, ◌<◌, ◌≡◌, ◌⊎◌, Bool, true, false, List, [], ◌∷◌, map, slice_range}
+-- An entry of a page's directory, and lists of entries over the bytes of the page.
+use Rattle.std.specs.Prelude.{ℕ, ◌+◌, ◌≤◌, ◌<◌, ◌⊎◌, Bool, true, false, List, map, slice_range}
 use Rattle.slotted_page.specs.Slot.{Slot, free, held, row}
 use Rattle.slotted_page.specs.declared.entry.Entry.{Entry}
 use Rattle.slotted_page.specs.declared.entry.Entry.TheVariants.{Free, Held, Row}
 
 -- the slot that an entry stands for
 abbrev pub slot_of : List ℕ → Entry → Slot
-slot_of area Free = free
-slot_of area (Held r) = held r
-slot_of area (Row o l r) = row (slice_range area o (o + l)) r
+slot_of image Free = free
+slot_of image (Held r) = held r
+slot_of image (Row o l r) = row (slice_range image o (o + l)) r
 
 -- the slots that a directory stands for
 abbrev pub slots_of : List ℕ → List Entry → List Slot
-slots_of area entries = map (slot_of area) entries
+slots_of image entries = map (slot_of image) entries
 
 -- the length of an entry's row
 abbrev pub length_of : Entry → ℕ
@@ -38,13 +38,6 @@ IsPlaced floor Free = Unit {0}
 IsPlaced floor (Held r) = Unit {0}
 IsPlaced floor (Row o l r) = (floor ≤ o) × (o + l ≤ 4096) × (0 < l) × (l ≤ 1224) × (l ≤ r)
 
--- the rows lie end to end from the floor to the page's end, in the order of their slots
-abbrev pub Stacked : ℕ → List Entry → Type 0
-Stacked floor [] = floor ≡ 4096
-Stacked floor (Free ∷ entries) = Stacked floor entries
-Stacked floor (Held r ∷ entries) = Stacked floor entries
-Stacked floor (Row o l r ∷ entries) = (floor ≡ o) × (0 < l) × (l ≤ 1224) × (l ≤ r) × Stacked (o + l) entries
-
 -- the bytes of two rows don't overlap
 abbrev pub Apart : Entry → Entry → Type 0
 Apart Free e = Unit {0}
@@ -52,13 +45,3 @@ Apart (Held r) e = Unit {0}
 Apart (Row o l r) Free = Unit {0}
 Apart (Row o l r) (Held s) = Unit {0}
 Apart (Row o l r) (Row p m s) = (o + l ≤ p) ⊎ (p + m ≤ o)
-
--- a row overlaps none of those
-abbrev pub ApartAll : Entry → List Entry → Type 0
-ApartAll e [] = Unit {0}
-ApartAll e (x ∷ xs) = Apart e x × ApartAll e xs
-
--- no two rows overlap
-abbrev pub AllApart : List Entry → Type 0
-AllApart [] = Unit {0}
-AllApart (e ∷ es) = ApartAll e es × AllApart es

@@ -1,4 +1,4 @@
--- The page format: what the 4,096 bytes of a copied page say.
+-- The page format: what the 4,096 bytes of a page say.
 use Rattle.std.specs.Prelude.{ℕ, zero, suc, ◌+◌, ◌*◌, ◌≤◌, ◌≡◌, cond, nat_eq, List, [], ◌∷◌, ◌++◌, length, take, drop}
 use Rattle.std.specs.List.{All, AllPairs, flat_map}
 use Rattle.byteorder.specs.Endian.{big_bytes, big_number}
@@ -7,6 +7,10 @@ use Rattle.slotted_page.specs.Page.{taken_bytes}
 use Rattle.slotted_page.specs.Entry.{slots_of, IsPlaced, Apart}
 use Rattle.slotted_page.specs.declared.entry.Entry.{Entry}
 use Rattle.slotted_page.specs.declared.entry.Entry.TheVariants.{Free, Held, Row}
+
+-- an image with bytes over those that stand at a place
+abbrev pub overwritten : ℕ → List ℕ → List ℕ → List ℕ
+overwritten at bytes image = take at image ++ (bytes ++ drop (at + length bytes) image)
 
 -- the number in two bytes of an image
 abbrev pub number_at : List ℕ → ℕ → ℕ
@@ -39,11 +43,11 @@ abbrev pub read_entries : ℕ → List ℕ → List Entry
 read_entries zero bytes = []
 read_entries (suc n) bytes = first_entry bytes ∷ read_entries n (drop 6 bytes)
 
--- the entries of a copied page
+-- the entries of a page
 abbrev pub image_entries : List ℕ → List Entry
 image_entries image = read_entries (number_at image 2) (drop 8 image)
 
--- the slots of a copied page
+-- the slots of a page
 abbrev pub slots_in : List ℕ → List Slot
 slots_in image = slots_of image (image_entries image)
 
@@ -54,6 +58,7 @@ pub record KeepsFormat (image : List ℕ) : Type 0 where
   pub zeros : take 2 (drop 6 image) ≡ 0 ∷ 0 ∷ []
   pub entries : take (6 * number_at image 2) (drop 8 image) ≡ flat_map entry_bytes (image_entries image)
   pub floor : 8 + 6 * number_at image 2 ≤ number_at image 4
+  pub within : number_at image 4 ≤ 4096
   pub empty : number_at image 2 ≡ 0 → number_at image 4 ≡ 4096
   pub placed : All (IsPlaced (number_at image 4)) (image_entries image)
   pub apart : AllPairs Apart (image_entries image)

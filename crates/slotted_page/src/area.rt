@@ -1,170 +1,108 @@
-//! The part of a page that holds its rows' bytes.
+//! Where a page's rows lie.
 //!
-//! Rows lie at or above a floor, and what is below the floor is free. New bytes go right below it, and those that they
-//! stand for are left behind. When too little is left below, the rows are packed: laid end to end against the page's end,
-//! where each takes no more than its reserve. So bytes that the room rule grants always find a place.
+//! Rows lie at or above a floor, and what is between the entries and the floor is free. New bytes go right below the
+//! floor, and those that they stand for are left behind. When too little is left, the rows are packed: laid end to end
+//! against the page's end, where each takes no more than its reserve. So bytes that the room rule grants always find a
+//! place.
 
-ghost use Rattle.std.specs.Prelude.{◌≡◌, ◌+◌, ◌<◌, ◌≤◌, length, slice_range, take, drop, set};
-ghost use Rattle.std.specs.List.{All, sum_by};
-ghost use Rattle.slotted_page.specs.Slot.{row, IsRowSize};
-ghost use Rattle.slotted_page.specs.Entry.{slots_of, length_of, IsPlaced, AllApart, Stacked};
+ghost use Rattle.std.specs.Prelude.{◌≡◌, ◌+◌, ◌*◌, ◌<◌, ◌≤◌, ◌++◌, ◌∷◌, [], length, get_or, set};
+ghost use Rattle.std.specs.List.{sum_by};
+ghost use Rattle.slotted_page.specs.Slot.{free, held, row, total_reserve, IsRowSize};
+ghost use Rattle.slotted_page.specs.Page.{taken_bytes};
+ghost use Rattle.slotted_page.specs.Entry.{length_of};
+ghost use Rattle.slotted_page.specs.Image.{number_at, image_entries, slots_in, KeepsFormat};
 
-use crate::entry::{Entry, MAX_SLOTS};
-use crate::image::PAGE_SIZE;
+use crate::entry::Entry;
+use crate::image::{
+    ENTRY_SIZE, HEAD_SIZE, PAGE_SIZE, entry_in, image_floor, image_slots, write_at, write_entry,
+    write_head,
+};
 
-/// Writes `bytes` right below `floor`. Returns where they begin, the new floor.
-fn put_below(area: &mut [u8; PAGE_SIZE], floor: usize, bytes: &[u8]) -> usize
-    requires above { length bytes.now ≤ floor }
-    requires within { floor ≤ PAGE_SIZE }
-    ensures floor { result + length bytes.now ≡ floor }
-    ensures written { slice_range area.new result floor ≡ bytes.now }
-    ensures kept { drop floor area.new ≡ drop floor area.old }
+/// Lays the rows end to end below the end of the page, so that what no row takes is below the floor.
+fn pack(image: &mut [u8; PAGE_SIZE])
+    requires { KeepsFormat image.old }
+    ensures format { KeepsFormat image.new }
+    ensures slots { slots_in image.new ≡ slots_in image.old }
+    ensures floor { number_at image.new 4 + sum_by length_of (image_entries image.old) ≡ PAGE_SIZE }
 {
-    let begin = floor - bytes.len();
-    area[begin..floor].copy_from_slice(bytes);
-    begin
-}
-
-/// Writes `bytes` over those that stand at `offset`.
-pub(crate) fn write_over(area: &mut [u8; PAGE_SIZE], offset: usize, bytes: &[u8])
-    requires { offset + length bytes.now ≤ PAGE_SIZE }
-    ensures before { take offset area.new ≡ take offset area.old }
-    ensures written { slice_range area.new offset (offset + length bytes.now) ≡ bytes.now }
-    ensures after { let end = offset + length bytes.now in drop end area.new ≡ drop end area.old }
-{
-    area[offset..offset + bytes.len()].copy_from_slice(bytes);
-}
-
-/// Lays the rows of `entries`, whose bytes stand in `from`, end to end below the end of `to`. Returns the floor.
-fn pack(from: &[u8; PAGE_SIZE], entries: &mut [Entry], to: &mut [u8; PAGE_SIZE]) -> usize
-    requires placed { All (IsPlaced 0) entries.old }
-    requires fits { sum_by length_of entries.old ≤ PAGE_SIZE }
-    ensures rows { slots_of to.new entries.new ≡ slots_of from.now entries.old }
-    ensures stacked { Stacked result entries.new }
-    ensures floor { result + sum_by length_of entries.old ≡ PAGE_SIZE }
-{
+    // A row's new place may overlap where another row still is.
+    let from = *image;
+    let count = image_slots(&from);
     let mut floor = PAGE_SIZE;
-    let mut i = entries.len();
-    while i > 0 {
-        i -= 1;
+    let mut slot = count as usize;
+    while slot > 0 {
+        slot -= 1;
         if let Entry::Row {
             offset,
             length,
             reserve,
-        } = entries[i]
+        } = entry_in(&from, slot)
         {
             let begin = offset as usize;
             let end = begin + length as usize;
-            floor = put_below(to, floor, &from[begin..end]);
-            entries[i] = Entry::Row {
+            floor -= length as usize;
+            write_at(image, floor, &from[begin..end]);
+            let packed = Entry::Row {
                 offset: floor as u16,
                 length,
                 reserve,
             };
+            write_entry(image, slot, packed);
         }
     }
-    floor
+    write_head(image, count, floor as u16);
 }
 
-/// `pack` for the first `count` of all the entries.
-pub(crate) fn pack_among(
-    from: &[u8; PAGE_SIZE],
-    table: &mut [Entry; MAX_SLOTS],
-    count: usize,
-    to: &mut [u8; PAGE_SIZE],
-) -> usize
-    requires counted { count ≤ MAX_SLOTS }
-    requires placed { All (IsPlaced 0) (take count table.old) }
-    requires fits { sum_by length_of (take count table.old) ≤ PAGE_SIZE }
-    ensures rows { slots_of to.new (take count table.new) ≡ slots_of from.now (take count table.old) }
-    ensures stacked { Stacked result (take count table.new) }
-    ensures floor { result + sum_by length_of (take count table.old) ≡ PAGE_SIZE }
-    ensures long { length table.new ≡ length table.old }
+/// Sees that `needed` bytes are free between the entries and the floor, and returns the floor.
+fn make_room(image: &mut [u8; PAGE_SIZE], needed: usize) -> usize
+    requires format { KeepsFormat image.old }
+    requires fits { HEAD_SIZE + ENTRY_SIZE * length (slots_in image.old) + needed
+        + sum_by length_of (image_entries image.old) ≤ PAGE_SIZE }
+    ensures format { KeepsFormat image.new }
+    ensures slots { slots_in image.new ≡ slots_in image.old }
+    ensures floor { result ≡ number_at image.new 4 }
+    ensures room { HEAD_SIZE + ENTRY_SIZE * length (slots_in image.old) + needed ≤ result }
 {
-    pack(from, &mut table[..count], to)
-}
-
-/// Sees that `needed` bytes are free below the floor, and returns the floor.
-fn make_room(
-    area: &mut [u8; PAGE_SIZE],
-    entries: &mut [Entry],
-    floor: usize,
-    needed: usize,
-) -> usize
-    requires within { floor ≤ PAGE_SIZE }
-    requires placed { All (IsPlaced floor) entries.old }
-    requires apart { AllApart entries.old }
-    requires fits { needed + sum_by length_of entries.old ≤ PAGE_SIZE }
-    ensures rows { slots_of area.new entries.new ≡ slots_of area.old entries.old }
-    ensures placed { All (IsPlaced result) entries.new }
-    ensures apart { AllApart entries.new }
-    ensures room { needed ≤ result }
-    ensures within { result ≤ PAGE_SIZE }
-{
-    if needed <= floor {
+    let floor = image_floor(image);
+    if HEAD_SIZE + ENTRY_SIZE * image_slots(image) as usize + needed <= floor {
         return floor;
     }
-    // A row's new place may overlap where another row still is.
-    let from = *area;
-    pack(&from, entries, area)
+    pack(image);
+    image_floor(image)
 }
 
-/// Stores `bytes` as the row of `slot`, which has none. Returns the new floor.
-fn store(
-    area: &mut [u8; PAGE_SIZE],
-    entries: &mut [Entry],
-    floor: usize,
-    slot: usize,
-    reserve: u16,
-    bytes: &[u8],
-) -> usize
-    requires within { floor ≤ PAGE_SIZE }
-    requires placed { All (IsPlaced floor) entries.old }
-    requires apart { AllApart entries.old }
-    requires fits { length bytes.now + sum_by length_of entries.old ≤ PAGE_SIZE }
-    requires there { slot < length entries.old }
+/// Adds a free slot.
+pub(crate) fn add_slot(image: &mut [u8; PAGE_SIZE])
+    requires format { KeepsFormat image.old }
+    requires room { taken_bytes (length (slots_in image.old) + 1) (total_reserve (slots_in image.old))
+        ≤ PAGE_SIZE }
+    ensures format { KeepsFormat image.new }
+    ensures slots { slots_in image.new ≡ slots_in image.old ++ free ∷ [] }
+{
+    let floor = make_room(image, ENTRY_SIZE);
+    let count = image_slots(image);
+    write_entry(image, count as usize, Entry::Free);
+    write_head(image, count + 1, floor as u16);
+}
+
+/// Stores `bytes` as the row of a slot that is held with a reserve no less than their number.
+pub(crate) fn store(image: &mut [u8; PAGE_SIZE], slot: usize, reserve: u16, bytes: &[u8])
+    requires format { KeepsFormat image.old }
+    requires there { slot < length (slots_in image.old) }
+    requires is_held { get_or (slots_in image.old) slot free ≡ held reserve }
     requires size { IsRowSize (length bytes.now) }
     requires reserved { length bytes.now ≤ reserve }
-    ensures rows { slots_of area.new entries.new
-        ≡ set (slots_of area.old entries.old) slot (row bytes.now reserve) }
-    ensures placed { All (IsPlaced result) entries.new }
-    ensures apart { AllApart entries.new }
-    ensures within { result ≤ PAGE_SIZE }
+    ensures format { KeepsFormat image.new }
+    ensures slots { slots_in image.new ≡ set (slots_in image.old) slot (row bytes.now reserve) }
 {
-    let room = make_room(area, entries, floor, bytes.len());
-    let offset = put_below(area, room, bytes);
-    entries[slot] = Entry::Row {
+    let offset = make_room(image, bytes.len()) - bytes.len();
+    let count = image_slots(image);
+    write_at(image, offset, bytes);
+    write_head(image, count, offset as u16);
+    let entry = Entry::Row {
         offset: offset as u16,
         length: bytes.len() as u16,
         reserve,
     };
-    offset
-}
-
-/// `store` among the first `count` of all the entries.
-pub(crate) fn store_among(
-    area: &mut [u8; PAGE_SIZE],
-    table: &mut [Entry; MAX_SLOTS],
-    count: usize,
-    floor: usize,
-    slot: usize,
-    reserve: u16,
-    bytes: &[u8],
-) -> usize
-    requires counted { count ≤ MAX_SLOTS }
-    requires within { floor ≤ PAGE_SIZE }
-    requires placed { All (IsPlaced floor) (take count table.old) }
-    requires apart { AllApart (take count table.old) }
-    requires fits { length bytes.now + sum_by length_of (take count table.old) ≤ PAGE_SIZE }
-    requires there { slot < count }
-    requires size { IsRowSize (length bytes.now) }
-    requires reserved { length bytes.now ≤ reserve }
-    ensures rows { slots_of area.new (take count table.new)
-        ≡ set (slots_of area.old (take count table.old)) slot (row bytes.now reserve) }
-    ensures placed { All (IsPlaced result) (take count table.new) }
-    ensures apart { AllApart (take count table.new) }
-    ensures within { result ≤ PAGE_SIZE }
-    ensures long { length table.new ≡ length table.old }
-{
-    store(area, &mut table[..count], floor, slot, reserve, bytes)
+    write_entry(image, slot, entry);
 }

@@ -1,13 +1,10 @@
-ghost use Rattle.std.specs.Prelude.{◌≡◌, position};
+ghost use Rattle.std.specs.Prelude.{◌≡◌};
 ghost use Rattle.slotted_page.specs.Entry.{entry_reserve, is_free_entry};
-
-/// The most slots that a page can have.
-pub(crate) const MAX_SLOTS: usize = 255;
 
 /// The most bytes that a row can have. It has at least one.
 pub const MAX_ROW_SIZE: usize = 1224;
 
-/// What the directory says of a slot. A row's bytes begin at `offset` of the page's area.
+/// What the directory says of a slot. A row's bytes begin at `offset` of the page.
 #[derive(Clone, Copy)]
 pub(crate) enum Entry {
     Free,
@@ -32,13 +29,11 @@ impl Entry {
             Entry::Row { reserve, .. } => reserve,
         }
     }
-}
 
-/// The lowest free slot.
-pub(crate) fn first_free(entries: &[Entry]) -> Option<usize>
-    ensures { result ≡ position is_free_entry entries.now }
-{
-    entries
-        .iter()
-        .position(|entry| matches!(entry, Entry::Free))
+    /// Whether the slot is free.
+    pub(crate) fn is_free(self) -> bool
+        ensures { result ≡ is_free_entry self }
+    {
+        matches!(self, Entry::Free)
+    }
 }

@@ -1,15 +1,15 @@
-//! The bytes of a page, as a copy of it has them. Numbers have two bytes, the high one first.
+//! The bytes of a page, and of a copy of it. Numbers have two bytes, the high one first.
 //!
 //! A head of 8 bytes has the magic bytes, the number of slots, the floor below which no row begins, and zeros. Behind it
 //! stands an entry of 6 bytes for each slot: where its row begins, the row's length, and the slot's reserve. A free slot
-//! has three zeros, and a held one the offset 0 with a length that no row has.
+//! has three zeros, and a held one the offset 0 with a length that no row has. The rows' bytes lie at or above the floor;
+//! what else stands behind the entries means nothing.
 
-ghost use Rattle.std.specs.Prelude.{◌≡◌, ◌+◌, ◌*◌, ◌<◌, ◌≤◌, ◌++◌, length, take, drop, get_or, IfSome, MatchOption};
-ghost use Rattle.std.specs.List.{flat_map};
-ghost use Rattle.slotted_page.specs.Slot.{free, bytes_of, IsRowSize};
-ghost use Rattle.slotted_page.specs.Image.{number_at, entry_bytes, head_bytes, slots_in, KeepsFormat};
+ghost use Rattle.std.specs.Prelude.{◌≡◌, ◌+◌, ◌*◌, ◌<◌, ◌≤◌, ◌++◌, length, drop, get_or, position, IfSome, MatchOption};
+ghost use Rattle.slotted_page.specs.Slot.{free, is_free, bytes_of, IsRowSize};
+ghost use Rattle.slotted_page.specs.Image.{overwritten, number_at, entry_bytes, head_bytes, image_entries, slots_in, KeepsFormat};
 
-use crate::entry::{Entry, MAX_SLOTS};
+use crate::entry::Entry;
 use byteorder::{BigEndian, ByteOrder};
 
 /// The bytes of a page.
@@ -38,10 +38,9 @@ const MAGIC: u16 = 0x5350;
 const HELD: u16 = 0xffff;
 
 /// Writes `bytes` over those that stand at a place.
-fn write_at(image: &mut [u8; PAGE_SIZE], at: usize, bytes: &[u8])
+pub(crate) fn write_at(image: &mut [u8; PAGE_SIZE], at: usize, bytes: &[u8])
     requires { at + length bytes.now ≤ PAGE_SIZE }
-    ensures { image.new
-        ≡ take at image.old ++ (bytes.now ++ drop (at + length bytes.now) image.old) }
+    ensures { image.new ≡ overwritten at bytes.now image.old }
 {
     image[at..at + bytes.len()].copy_from_slice(bytes);
 }
@@ -77,16 +76,13 @@ fn entry_to_bytes(entry: Entry) -> [u8; ENTRY_SIZE]
     bytes
 }
 
-/// Writes the entries, behind the head.
-pub(crate) fn write_entries(image: &mut [u8; PAGE_SIZE], entries: &[Entry])
-    requires { length entries.now ≤ MAX_SLOTS }
+/// Writes the entry of a slot.
+pub(crate) fn write_entry(image: &mut [u8; PAGE_SIZE], slot: usize, entry: Entry)
+    requires { HEAD_SIZE + ENTRY_SIZE * (slot + 1) ≤ PAGE_SIZE }
     ensures { image.new
-        ≡ (take HEAD_SIZE image.old ++ flat_map entry_bytes entries.now)
-        ++ drop (HEAD_SIZE + ENTRY_SIZE * length entries.now) image.old }
+        ≡ overwritten (HEAD_SIZE + ENTRY_SIZE * slot) (entry_bytes entry) image.old }
 {
-    for (i, entry) in entries.iter().enumerate() {
-        write_at(image, HEAD_SIZE + ENTRY_SIZE * i, &entry_to_bytes(*entry));
-    }
+    write_at(image, HEAD_SIZE + ENTRY_SIZE * slot, &entry_to_bytes(entry));
 }
 
 /// The number that stands at a place.
@@ -97,7 +93,7 @@ fn number_in(image: &[u8; PAGE_SIZE], at: usize) -> u16
     BigEndian::read_u16(&image[at..])
 }
 
-/// The number of slots on a copied page.
+/// The number of slots on a page, by a copy of it.
 pub fn image_slots(image: &[u8; PAGE_SIZE]) -> u16
     requires { KeepsFormat image.now }
     ensures { result ≡ length (slots_in image.now) }
@@ -105,7 +101,51 @@ pub fn image_slots(image: &[u8; PAGE_SIZE]) -> u16
     number_in(image, COUNT_AT)
 }
 
-/// The row in a slot of a copied page. A slot that is free, held or not on the page has none.
+/// The floor, below which no row begins.
+pub(crate) fn image_floor(image: &[u8; PAGE_SIZE]) -> usize
+    ensures { result ≡ number_at image.now FLOOR_AT }
+{
+    number_in(image, FLOOR_AT) as usize
+}
+
+/// The entry of a slot.
+pub(crate) fn entry_in(image: &[u8; PAGE_SIZE], slot: usize) -> Entry
+    requires format { KeepsFormat image.now }
+    requires there { slot < length (slots_in image.now) }
+    ensures { result ≡ get_or (image_entries image.now) slot Entry.Free }
+{
+    let at = HEAD_SIZE + ENTRY_SIZE * slot;
+    let offset = number_in(image, at + OFFSET_AT);
+    let length = number_in(image, at + LENGTH_AT);
+    let reserve = number_in(image, at + RESERVE_AT);
+    if offset != 0 {
+        return Entry::Row {
+            offset,
+            length,
+            reserve,
+        };
+    }
+    if length == HELD {
+        Entry::Held { reserve }
+    } else {
+        Entry::Free
+    }
+}
+
+/// The lowest free slot.
+pub(crate) fn first_free(image: &[u8; PAGE_SIZE]) -> Option<u16>
+    requires { KeepsFormat image.now }
+    ensures { result ≡ position is_free (slots_in image.now) }
+{
+    for slot in 0..image_slots(image) {
+        if entry_in(image, slot as usize).is_free() {
+            return Some(slot);
+        }
+    }
+    None
+}
+
+/// The row in a slot of a page, by a copy of it. A slot that is free, held or not on the page has none.
 pub fn image_row(image: &[u8; PAGE_SIZE], slot: u16) -> Option<&[u8]>
     requires { KeepsFormat image.now }
     ensures bytes { MatchOption result
@@ -116,11 +156,11 @@ pub fn image_row(image: &[u8; PAGE_SIZE], slot: u16) -> Option<&[u8]>
     if slot >= image_slots(image) {
         return None;
     }
-    let at = HEAD_SIZE + ENTRY_SIZE * slot as usize;
-    let offset = number_in(image, at + OFFSET_AT) as usize;
-    if offset == 0 {
-        return None;
+    match entry_in(image, slot as usize) {
+        Entry::Row { offset, length, .. } => {
+            let begin = offset as usize;
+            Some(&image[begin..begin + length as usize])
+        }
+        Entry::Free | Entry::Held { .. } => None,
     }
-    let length = number_in(image, at + LENGTH_AT) as usize;
-    Some(&image[offset..offset + length])
 }

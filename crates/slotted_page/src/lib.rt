@@ -11,9 +11,10 @@
 //! than the page's 4,096. [`Page::insert`] and [`Page::update`] refuse exactly what would break it, and a page has a
 //! limit on the number of its slots besides.
 //!
-//! A [`Page`] keeps its directory as an array of entries (`entry`), and the rows' bytes in an area that is filled from
-//! its end downwards and packed when the free part below runs short (`area`). Only a copy has the page format
-//! (`image`); [`image_slots`] and [`image_row`] read a copy with no page at hand. No call allocates.
+//! A [`Page`] keeps its bytes in the page format (`image`), so that a copy of it is a copy of 4,096 bytes: a head, the
+//! slots' entries (`entry`), and the rows' bytes, which are filled in from the page's end downwards and packed when the
+//! free part in between runs short (`area`). [`image_slots`] and [`image_row`] read a copy with no page at hand. No call
+//! allocates.
 #![tactic(auto)]
 
 mod area;

@@ -5,9 +5,12 @@ ghost use Rattle.slotted_page.specs.Rows.{rows_left};
 ghost use Rattle.slotted_page.specs.Image.{slots_in, KeepsFormat};
 
 use crate::Rows;
-use crate::area::{pack_among, store_among, write_over};
-use crate::entry::{Entry, MAX_ROW_SIZE, MAX_SLOTS, first_free};
-use crate::image::{ENTRY_SIZE, HEAD_SIZE, PAGE_SIZE, write_entries, write_head};
+use crate::area::{add_slot, store};
+use crate::entry::{Entry, MAX_ROW_SIZE};
+use crate::image::{
+    ENTRY_SIZE, HEAD_SIZE, PAGE_SIZE, entry_in, first_free, image_row, image_slots, write_at,
+    write_entry, write_head,
+};
 use keybytes::Fault;
 use std::marker::Model;
 
@@ -16,28 +19,24 @@ use std::marker::Model;
 /// Rows are given and read as bytes. Where a call is refused, the page stays as it was.
 #[derive(Drop)]
 pub struct Page {
-    area: [u8; PAGE_SIZE],
-    /// The directory, of which the first `count` entries are slots.
-    entries: [Entry; MAX_SLOTS],
-    count: usize,
-    limit: usize,
-    /// No row's bytes begin below this place of the area.
-    floor: usize,
+    /// The page in the page format.
+    image: [u8; PAGE_SIZE],
+    /// How many slots it can have.
+    limit: u8,
     /// The sum of all reserves.
-    reserved: usize,
+    reserved: u16,
 }
 
 impl Model for Page {
-    ghost use Rattle.std.specs.Prelude.{take};
     ghost use Rattle.slotted_page.specs.Page.{PageValue};
-    ghost use Rattle.slotted_page.specs.Entry.{slots_of};
+    ghost use Rattle.slotted_page.specs.Image.{slots_in};
     ghost use Rattle.slotted_page.specs.Fields.{IsPage};
 
     ghost Value = { PageValue };
 
-    ghost view = { λ p. record { slots = slots_of p.area (take p.count p.entries); limit = p.limit } };
+    ghost view = { λ p. record { slots = slots_in p.image; limit = p.limit } };
 
-    ghost invariant = { λ p. IsPage p.area p.entries p.count p.limit p.floor p.reserved };
+    ghost invariant = { λ p. IsPage p.image p.limit p.reserved };
 }
 
 impl Page {
@@ -50,12 +49,11 @@ impl Page {
         if slot_limit == 0 {
             return Err(Fault::BadCount);
         }
+        let mut image = [0; PAGE_SIZE];
+        write_head(&mut image, 0, PAGE_SIZE as u16);
         Ok(Page {
-            area: [0; PAGE_SIZE],
-            entries: [Entry::Free; MAX_SLOTS],
-            count: 0,
-            limit: slot_limit as usize,
-            floor: PAGE_SIZE,
+            image,
+            limit: slot_limit,
             reserved: 0,
         })
     }
@@ -127,19 +125,19 @@ impl Page {
         requires { IsRow (slot_at self.old slot) }
         ensures { self.new ≡ with_slot self.old slot (trimmed (slot_at self.old slot)) }
     {
-        let at = slot as usize;
         if let Entry::Row {
             offset,
             length,
             reserve,
-        } = self.entries[at]
+        } = entry_in(&self.image, slot as usize)
         {
-            self.entries[at] = Entry::Row {
+            let trimmed = Entry::Row {
                 offset,
                 length,
                 reserve: length,
             };
-            self.reserved = self.reserved - reserve as usize + length as usize;
+            write_entry(&mut self.image, slot as usize, trimmed);
+            self.reserved = self.reserved - reserve + length;
         }
     }
 
@@ -148,9 +146,8 @@ impl Page {
         requires { IsHeld (slot_at self.old slot) }
         ensures { self.new ≡ with_slot self.old slot free }
     {
-        let at = slot as usize;
-        let reserve = self.entries[at].reserve() as usize;
-        self.entries[at] = Entry::Free;
+        let reserve = entry_in(&self.image, slot as usize).reserve();
+        write_entry(&mut self.image, slot as usize, Entry::Free);
         self.reserved -= reserve;
     }
 
@@ -161,25 +158,15 @@ impl Page {
             (λ bytes. bytes_of (slot_at self.now slot) ≡ Some bytes.now) }
         ensures size { IfSome result (λ bytes. IsRowSize (length bytes.now)) }
     {
-        let at = slot as usize;
-        if at >= self.count {
-            return None;
-        }
-        match self.entries[at] {
-            Entry::Row { offset, length, .. } => {
-                let begin = offset as usize;
-                Some(&self.area[begin..begin + length as usize])
-            }
-            Entry::Free | Entry::Held { .. } => None,
-        }
+        image_row(&self.image, slot)
     }
 
     /// Whether a slot is held. A slot that is not on the page isn't.
     pub fn is_held(&self, slot: u16) -> bool
         ensures { result ≡ is_held (slot_at self.now slot) }
     {
-        let at = slot as usize;
-        at < self.count && matches!(self.entries[at], Entry::Held { .. })
+        slot < image_slots(&self.image)
+            && matches!(entry_in(&self.image, slot as usize), Entry::Held { .. })
     }
 
     /// The rows, each with its slot, by slot.
@@ -194,7 +181,7 @@ impl Page {
         ensures count { result ≡ length self.now.slots }
         ensures sound { IsSoundPage self.now }
     {
-        self.count as u16
+        image_slots(&self.image)
     }
 
     /// The slot that an insert of so many bytes takes, if the page has the room.
@@ -203,14 +190,15 @@ impl Page {
         ensures slot { result ≡ room_for self.now len }
         ensures sound { IsSoundPage self.now }
     {
-        let reserved = self.reserved + len;
-        if let Some(slot) = first_free(&self.entries[..self.count]) {
-            return has_room(self.count, reserved).then_some(slot as u16);
+        let slots = image_slots(&self.image);
+        let reserved = self.reserved as usize + len;
+        if let Some(slot) = first_free(&self.image) {
+            return has_room(slots as usize, reserved).then_some(slot);
         }
-        if self.count >= self.limit {
+        if slots >= self.limit as u16 {
             return None;
         }
-        has_room(self.count + 1, reserved).then_some(self.count as u16)
+        has_room(slots as usize + 1, reserved).then_some(slots)
     }
 
     /// The most bytes that an insert may have now, 0 where the page takes no row at all. A row has a limit besides.
@@ -220,10 +208,10 @@ impl Page {
         ensures most { result ≤ PAGE_SIZE }
     {
         let slots = self.slots_with_row();
-        if slots > self.limit {
+        if slots > self.limit as usize {
             return 0;
         }
-        bytes_left(slots, self.reserved)
+        bytes_left(slots, self.reserved as usize)
     }
 
     /// Whether the page has the room for an update of a row to so many bytes.
@@ -233,7 +221,8 @@ impl Page {
         ensures { result ≡ fits_at self.now slot len }
     {
         let reserve = self.reserve(slot as usize) as usize;
-        has_room(self.count, self.reserved - reserve + reserve.max(len))
+        let slots = image_slots(&self.image) as usize;
+        has_room(slots, self.reserved as usize - reserve + reserve.max(len))
     }
 
     /// Writes the page, in the page format, over all of `target`.
@@ -241,12 +230,7 @@ impl Page {
         ensures slots { slots_in target.new ≡ self.now.slots }
         ensures format { KeepsFormat target.new }
     {
-        // What no slot takes is 0, so that a copy shows nothing of rows that are gone.
-        *target = [0; PAGE_SIZE];
-        let mut table = self.entries;
-        let floor = pack_among(&self.area, &mut table, self.count, target);
-        write_head(target, self.count as u16, floor as u16);
-        write_entries(target, &table[..self.count]);
+        *target = self.image;
     }
 
     /// The bytes that a slot has been promised.
@@ -255,8 +239,7 @@ impl Page {
         ensures is { result ≡ reserve_at self.now slot }
         ensures room { taken_bytes (length self.now.slots) (total_reserve self.now.slots) ≤ PAGE_SIZE }
     {
-        let entries = &self.entries;
-        entries[slot].reserve()
+        entry_in(&self.image, slot).reserve()
     }
 
     /// How many slots the page has with one row more.
@@ -264,9 +247,10 @@ impl Page {
         ensures count { result ≡ slots_with_row (position is_free self.now.slots) self.now }
         ensures sound { IsSoundPage self.now }
     {
-        match first_free(&self.entries[..self.count]) {
-            Some(_) => self.count,
-            None => self.count + 1,
+        let slots = image_slots(&self.image) as usize;
+        match first_free(&self.image) {
+            Some(_) => slots,
+            None => slots + 1,
         }
     }
 
@@ -279,9 +263,8 @@ impl Page {
             taken_bytes (slot + 1) (total_reserve self.old.slots) ≤ PAGE_SIZE }
         ensures { self.new ≡ with_slot self.old slot free }
     {
-        if slot == self.count {
-            self.entries[slot] = Entry::Free;
-            self.count = slot + 1;
+        if slot == image_slots(&self.image) as usize {
+            add_slot(&mut self.image);
         }
     }
 
@@ -312,24 +295,25 @@ impl Page {
             offset,
             length,
             reserve: was,
-        } = self.entries[slot]
+        } = entry_in(&self.image, slot)
         else {
             return false;
         };
         if (length as usize) < bytes.len() {
             return false;
         }
-        write_over(&mut self.area, offset as usize, bytes);
-        self.entries[slot] = Entry::Row {
+        write_at(&mut self.image, offset as usize, bytes);
+        let entry = Entry::Row {
             offset,
             length: bytes.len() as u16,
             reserve,
         };
-        self.reserved = self.reserved - was as usize + reserve as usize;
+        write_entry(&mut self.image, slot, entry);
+        self.reserved = self.reserved - was + reserve;
         true
     }
 
-    /// Puts a slot's row into the free part of the area.
+    /// Puts a slot's row into the free part of the page.
     fn move_row(&mut self, slot: usize, reserve: u16, bytes: &[u8])
         requires there { slot < length self.old.slots }
         requires room { CanReserve self.old slot reserve }
@@ -347,9 +331,9 @@ impl Page {
         requires room { CanReserve self.old slot reserve }
         ensures { self.new ≡ with_slot self.old slot (held reserve) }
     {
-        let was = self.entries[slot].reserve() as usize;
-        self.entries[slot] = Entry::Held { reserve };
-        self.reserved = self.reserved - was + reserve as usize;
+        let was = entry_in(&self.image, slot).reserve();
+        write_entry(&mut self.image, slot, Entry::Held { reserve });
+        self.reserved = self.reserved - was + reserve;
     }
 
     /// Gives a held slot a row within its reserve.
@@ -360,16 +344,7 @@ impl Page {
         requires reserved { length bytes.now ≤ reserve }
         ensures { self.new ≡ with_slot self.old slot (row bytes.now reserve) }
     {
-        let floor = store_among(
-            &mut self.area,
-            &mut self.entries,
-            self.count,
-            self.floor,
-            slot,
-            reserve,
-            bytes,
-        );
-        self.floor = floor;
+        store(&mut self.image, slot, reserve, bytes);
     }
 }
 

@@ -71,14 +71,37 @@ fn page_format(rt: HostRuntime) -> Result<(), Fail> {
     let second = page.insert(b"defgh")?;
     page.hold(second);
     page.copy_to(&mut image);
-    expected[..8].copy_from_slice(&[0x53, 0x50, 0, 2, 0x0f, 0xfd, 0, 0]);
+    expected[..8].copy_from_slice(&[0x53, 0x50, 0, 2, 0x0f, 0xf8, 0, 0]);
     expected[8..14].copy_from_slice(&[0x0f, 0xfd, 0, 3, 0, 3]);
     expected[14..20].copy_from_slice(&[0, 0, 0xff, 0xff, 0, 5]);
-    expected[4093..].copy_from_slice(b"abc");
+    expected[4088..].copy_from_slice(b"defghabc");
     assert!(rt; image == expected);
     assert_eq!(rt; image_slots(&image), 2);
     assert!(rt; image_row(&image, 0) == Some(b"abc".as_slice()));
     assert!(rt; image_row(&image, 1).is_none());
     assert!(rt; image_row(&image, 2).is_none());
+    Ok(())
+}
+
+#[test]
+fn packed_rows(rt: HostRuntime) -> Result<(), Fail> {
+    let mut page = Page::new(255)?;
+    let first = page.insert(&[1; 1224])?;
+    let second = page.insert(&[2; 1224])?;
+    page.insert(&[3; 1224])?;
+    assert_eq!(rt; page.greatest_insert(), 392);
+    page.hold(first);
+    page.free(first);
+    assert!(rt; page.insert(&[4; 1224]) == Ok(first));
+    let mut image = [0xff; PAGE_SIZE];
+    page.copy_to(&mut image);
+    assert!(rt;
+        image[..14]
+            == [
+                0x53, 0x50, 0, 3, 0x01, 0xa8, 0, 0, 0x01, 0xa8, 0x04, 0xc8, 0x04, 0xc8
+            ]
+    );
+    assert!(rt; image_row(&image, first) == Some([4; 1224].as_slice()));
+    assert!(rt; image_row(&image, second) == Some([2; 1224].as_slice()));
     Ok(())
 }

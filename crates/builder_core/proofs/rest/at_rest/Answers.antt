@@ -7,8 +7,9 @@ use Rattle.keybytes.specs.declared.rid.Rid.{Rid}
 use Rattle.heap_table.specs.HeapState.{HeapState, after_visit}
 use Rattle.heap_table.specs.Pages.{pages_written, rows_on}
 use Rattle.builder_core.specs.Pairs.{pair_of, pairs_on, pairs_from}
-use Rattle.builder_core.specs.Pairs.{HaveKeysOf}
+use Rattle.builder_core.specs.Pairs.{HaveKeysOf, AreInColumnOrder}
 use Rattle.builder_core.proofs.KeysAtRest.{keys_at_rest}
+use Rattle.builder_core.proofs.ColumnOrder.{column_order}
 use Rattle.builder_core.proofs.Making.{rows_pairs, rows_fit_page, page_more, visits_only, visit_more, visits_changed}
 use Rattle.builder_core.proofs.AtRest.{in_order}
 use Rattle.builder_core.proofs.rest.at_rest.Goals as goal
@@ -72,3 +73,7 @@ pub returns-clause-keys : goal.returns-clause-keys
 returns-clause-keys c =
     subst (HaveKeysOf c.args.spec.now) (sym (returns-clause-ok c))
     (keys_at_rest c.args.spec.now c.args.heap.now.schema c.args.heap.now.log c.requires c.schema-schema.ensures.rows_fit)
+
+pub returns-clause-order : goal.returns-clause-order
+returns-clause-order c =
+    subst (AreInColumnOrder c.args.spec.now) (sym (returns-clause-ok c)) (column_order c.args.spec.now c.args.heap.now.log c.columns-columns.ensures.key)

@@ -1,6 +1,6 @@
 use Rattle.std.proofs.Common.{◌≡◌, ℕ, ◌-◌, List, length, take, drop, ◌∙◌, sym, ap, arith}
 use Rattle.std.proofs.lemmas.List.{take_rest}
-use Rattle.keybytes.specs.Keys.{cell_key, BeginsWithText}
+use Rattle.keybytes.specs.Keys.{cell_key, BeginsWithTextKey}
 use Rattle.keybytes.specs.declared.cell.Cell.{Cell}
 use Rattle.keybytes.specs.declared.cell.Cell.TheVariants.{Text}
 use Rattle.keybytes.proofs.KeyLaws.{length-cell_key}
@@ -9,7 +9,7 @@ use Rattle.keybytes.proofs.key_cell.read_cell.Goals as goal
 use Rattle.keybytes.proofs.key_cell.read_cell.Goals.{in-Int, in-Text+in_ok-text-in-Text, in-Flag}
 
 -- the text behind the tag
-begun : (cell : Cell) (rest bytes : List ℕ) (front : TextFront cell rest bytes) → BeginsWithText front.text rest (take (length bytes - 1) (drop 1 bytes))
+begun : (cell : Cell) (rest bytes : List ℕ) (front : TextFront cell rest bytes) → BeginsWithTextKey front.text rest (take (length bytes - 1) (drop 1 bytes))
 begun cell rest bytes front = record { utf8 = front.utf8; front = take_rest bytes 1 ∙ front.behind }
 
 pub overflow_add-result-in-Text : goal.overflow_add-result-in-Text

@@ -1,11 +1,12 @@
 use Rattle.std.proofs.Common.{◌≡◌, ◌<◌, ◌+◌, ◌&&◌, length, get_or, drop, sym, ◌∙◌, ap, arith, Bool, true}
+use Rattle.std.proofs.lemmas.Bool.{false_from_ne_true}
 use Rattle.keybytes.specs.Cells.{fits, fits_kind}
 use Rattle.keybytes.specs.declared.kind.Kind.TheVariants.{Int}
-use Rattle.keybytes.proofs.Spelling.{fits-length, fits-drop}
+use Rattle.keybytes.proofs.Spelling.{length-fits, fits-drop}
 use Rattle.keybytes.proofs.row.cells_fit.Goals as goal
 
 pub returns-then-kinds-cells : goal.returns-then-kinds-cells
-returns-then-kinds-cells c = sym (fits-length c.args.kinds.now c.args.cells.now c.if-kinds-cells.true)
+returns-then-kinds-cells c = sym (false_from_ne_true _ (λ fit. c.if-kinds-cells.true (length-fits c.args.kinds.now c.args.cells.now fit)))
 
 pub loop-i-preserved : goal.loop-i-preserved
 loop-i-preserved c =

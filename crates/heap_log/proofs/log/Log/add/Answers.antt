@@ -3,8 +3,8 @@ use Rattle.heap_log.specs.LogValue.{LogValue}
 use Rattle.heap_log.specs.declared.record.LogRec.{LogRec}
 use Rattle.heap_log.specs.Heads.{AreHeadsAfter, with_txn, with_rid}
 use Rattle.heap_log.specs.Links.{IsLinkOf}
-use Rattle.heap_log.specs.Standing.{NamesEarlier, AddsToLive, AddsToStanding, AddsToBefore, AddsToNumbers}
-use Rattle.heap_log.proofs.Added.{adds_to_before, adds_to_numbers, adds_to_standing}
+use Rattle.heap_log.specs.Standing.{NamesEarlier, AddsToLive, AddsToStanding, AddsToBefore, AddsToLast, AddsToNumbers}
+use Rattle.heap_log.proofs.Added.{adds_to_before, adds_to_last, adds_to_numbers, adds_to_standing}
 use Rattle.heap_log.proofs.Linked.{links_grow}
 use Rattle.heap_log.proofs.Live.{adds_to_live}
 use Rattle.heap_log.proofs.log.Log.add.Goals as goal
@@ -55,6 +55,14 @@ returns-clause-before c =
     let same : log ≡ c.args.self.now.records = ap (λ (v : LogValue). v.records) c.self.view_is in
     let adds : AddsToBefore log c.args.added (log ++ c.args.added ∷ []) = adds_to_before log c.args.added in
     let P : List LogRec → Type 0 = λ l. AddsToBefore l c.args.added c.push_reserved.new.self.items in
+    subst P same (rw c.push_reserved.ensures.items adds)
+
+pub returns-clause-last : goal.returns-clause-last
+returns-clause-last c =
+    let log : List LogRec = c.self.inside.records.items in
+    let same : log ≡ c.args.self.now.records = ap (λ (v : LogValue). v.records) c.self.view_is in
+    let adds : AddsToLast log c.args.added (log ++ c.args.added ∷ []) = adds_to_last log c.args.added in
+    let P : List LogRec → Type 0 = λ l. AddsToLast l c.args.added c.push_reserved.new.self.items in
     subst P same (rw c.push_reserved.ensures.items adds)
 
 pub returns-clause-numbers : goal.returns-clause-numbers

@@ -1,45 +1,56 @@
-use Rattle.std.proofs.Common.{◌≡◌, true, List, [], ◌∷◌, ◌++◌, refl, sym, ap, subst, ◌∙◌, arith}
+use Rattle.std.proofs.Common.{◌≡◌, true, List, refl, sym, subst, ◌∙◌, arith}
 use Rattle.keybytes.specs.declared.rid.Rid.{Rid}
 use Rattle.heap_log.specs.declared.record.LogRec.{LogRec}
 use Rattle.heap_log.specs.declared.record.LogRec.TheVariants.{Commit}
-use Rattle.heap_log.specs.Standing.{AddsToLive, AddsToStanding, AddsToBefore, AddsToNumbers}
 use Rattle.heap_table.specs.HeapState.{HeapState, is_open}
 use Rattle.heap_table.specs.Holders.{wrote}
 use Rattle.heap_table.specs.Pages.{slots_written, pages_written, slot_of, KeepsRows}
+use Rattle.heap_table.proofs.Added.{Added}
 use Rattle.heap_table.proofs.LogRows.{keeps_commit}
 use Rattle.heap_table.proofs.KeptChanges.{have_written, kept_commit}
 use Rattle.heap_table.proofs.OpenOnes.{open_accepted}
-use Rattle.heap_table.proofs.Slots.{wrote_still}
+use Rattle.heap_table.proofs.Sounds.{wrote_still}
 use Rattle.heap_table.proofs.heap.Heap.commit.Goals as goal
 
 pub settle_writes-requires : goal.settle_writes-requires
 settle_writes-requires c =
-    let added = Commit c.args.txn in
-    let is : c.add.new.self.records ≡ c.self.inside.log.records ++ added ∷ [] = c.add.ensures.records ∙ ap (λ (l : List LogRec). l ++ added ∷ []) c.in_ok-reserve.ensures.records in
+    let added : Added c.self.inside.log.records (Commit c.args.txn) c.add.new.self.records =
+    subst (λ (l : List LogRec). Added l (Commit c.args.txn) c.add.new.self.records) c.in_ok-reserve.ensures.records (record {
+      is = c.add.ensures.records;
+      live = c.add.ensures.live;
+      standing = c.add.ensures.standing;
+      before = c.add.ensures.before;
+      numbers = c.add.ensures.numbers;
+    }) in
+    let log = c.self.inside.log.records in
     let have = have_written _ c.self.inside.pages c.args.txn c.add.new.self.records c.self.invariant
-    (λ (rid : Rid) (e : wrote c.add.new.self.records c.args.txn rid ≡ true). sym (wrote_still c.self.inside.log.records c.add.new.self.records added c.args.txn rid is refl) ∙ e) in
-    (slot_of c.self.inside.log.records, slots_written c.self.inside.log.records, pages_written c.self.inside.log.records, c.self.inside.slot_limit, have)
+    (λ (rid : Rid) (e : wrote c.add.new.self.records c.args.txn rid ≡ true). sym (wrote_still log c.add.new.self.records (Commit c.args.txn) c.args.txn rid added.is refl) ∙ e) in
+    (slot_of log, slots_written log, pages_written log, c.self.inside.slot_limit, have)
 
 pub invariant_of-self-2 : goal.invariant_of-self-2
 invariant_of-self-2 c =
-    let added = Commit c.args.txn in
-    let log = c.in_ok-reserve.ensures.records in
+    let added : Added c.self.inside.log.records (Commit c.args.txn) c.add.new.self.records =
+    subst (λ (l : List LogRec). Added l (Commit c.args.txn) c.add.new.self.records) c.in_ok-reserve.ensures.records (record {
+      is = c.add.ensures.records;
+      live = c.add.ensures.live;
+      standing = c.add.ensures.standing;
+      before = c.add.ensures.before;
+      numbers = c.add.ensures.numbers;
+    }) in
     let opened : is_open c.self.inside.open_txns.items c.args.txn ≡ true =
     subst (λ (s : HeapState). is_open s.active c.args.txn ≡ true) (sym c.self.view_is) (open_accepted c.args.self.now c.args.txn c.in_ok-check_txn.ensures) in
-    kept_commit _ _ c.self.inside.pages c.settle_writes.new.pages c.args.txn c.self.invariant opened
-    (c.add.ensures.records ∙ ap (λ (l : List LogRec). l ++ added ∷ []) log) c.end.ensures refl refl refl refl
-    (subst (λ (l : List LogRec). AddsToLive l added c.add.new.self.records) log c.add.ensures.live)
-    (subst (λ (l : List LogRec). AddsToStanding l added c.add.new.self.records) log c.add.ensures.standing)
-    (subst (λ (l : List LogRec). AddsToBefore l added c.add.new.self.records) log c.add.ensures.before)
-    (subst (λ (l : List LogRec). AddsToNumbers l added c.add.new.self.records) log c.add.ensures.numbers)
+    kept_commit _ _ c.self.inside.pages c.settle_writes.new.pages c.args.txn c.self.invariant opened added c.end.ensures refl refl refl refl
     c.settle_writes.ensures.settled c.settle_writes.ensures.limit
     (omega (arith, c.settle_writes.ensures.spare, c.add.ensures.room, c.in_ok-reserve.ensures.exact, c.self.invariant.room))
 
 pub returns-clause-rows : goal.returns-clause-rows
 returns-clause-rows c =
-    let added = Commit c.args.txn in
-    let keeps : KeepsRows c.self.inside.log.records c.add.new.self.records =
-    keeps_commit _ _ c.args.txn
-    (c.add.ensures.records ∙ ap (λ (l : List LogRec). l ++ added ∷ []) c.in_ok-reserve.ensures.records)
-    (subst (λ (l : List LogRec). AddsToLive l added c.add.new.self.records) c.in_ok-reserve.ensures.records c.add.ensures.live) in
-    subst (λ (s : HeapState). KeepsRows s.log c.add.new.self.records) c.self.view_is keeps
+    let added : Added c.self.inside.log.records (Commit c.args.txn) c.add.new.self.records =
+    subst (λ (l : List LogRec). Added l (Commit c.args.txn) c.add.new.self.records) c.in_ok-reserve.ensures.records (record {
+      is = c.add.ensures.records;
+      live = c.add.ensures.live;
+      standing = c.add.ensures.standing;
+      before = c.add.ensures.before;
+      numbers = c.add.ensures.numbers;
+    }) in
+    subst (λ (s : HeapState). KeepsRows s.log c.add.new.self.records) c.self.view_is (keeps_commit _ _ c.args.txn added)

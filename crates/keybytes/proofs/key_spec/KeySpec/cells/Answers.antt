@@ -1,10 +1,10 @@
 use Rattle.std.proofs.Common.{◌≡◌, ℕ, ◌+◌, ◌<◌, ◌≤◌, slice_index_or, true, ◌-◌, List, ◌∷◌, length, take, drop, get_or, sym, ap, ap₂, ◌∙◌, subst, arith}
 use Rattle.std.proofs.lemmas.List.{take_rest, get_or_read, drop_all, length-map}
-use Rattle.keybytes.specs.Keys.{KeySpecValue, are_key_columns, key_kinds, HasKey, BeginsWith}
+use Rattle.keybytes.specs.Keys.{KeySpecValue, are_key_columns, key_columns, key_kinds, HasKey, BeginsWithCellKey}
 use Rattle.keybytes.specs.declared.cell.Cell.{Cell}
 use Rattle.keybytes.specs.declared.kind.Kind.{Kind}
 use Rattle.keybytes.specs.declared.kind.Kind.TheVariants.{Int as IntKind}
-use Rattle.keybytes.proofs.KeyLaws.{columns-of_key}
+use Rattle.keybytes.proofs.KeyLaws.{columns-of_key, has-key}
 use Rattle.keybytes.proofs.KeyReads.{ColumnsLeft, columns_begin, columns_more, columns_done}
 use Rattle.keybytes.proofs.KeyWrites.{column-within, kinds-more}
 use Rattle.keybytes.proofs.key_spec.KeySpec.cells.Goals as goal
@@ -21,19 +21,23 @@ next_left spec inside items i kind columns read bytes at is_spec held is_items w
     (kinds-more spec.kinds spec.columns i (rw own at within) ∙ ap (λ (kind : Kind). kind ∷ drop (i + 1) (key_kinds spec)) (sym same)) was
 
 -- what reading a cell tells, for the bytes as the code cuts them
-from_there : (kind : Kind) (cell : Cell) (rest bytes : List ℕ) (at : ℕ) → BeginsWith kind cell rest (drop at bytes) → BeginsWith kind cell rest (take (length bytes - at) (drop at bytes))
-from_there kind cell rest bytes at begins = subst (BeginsWith kind cell rest) (sym (take_rest bytes at)) begins
+from_there : (kind : Kind) (cell : Cell) (rest bytes : List ℕ) (at : ℕ) → BeginsWithCellKey kind cell rest (drop at bytes) → BeginsWithCellKey kind cell rest (take (length bytes - at) (drop at bytes))
+from_there kind cell rest bytes at begins = subst (BeginsWithCellKey kind cell rest) (sym (take_rest bytes at)) begins
+
+-- the specification as its type keeps it
+held : (spec inside : KeySpecValue) → inside ≡ spec → are_key_columns inside.kinds inside.columns ≡ true → are_key_columns spec.kinds spec.columns ≡ true
+held spec inside is_spec was = subst (λ (s : KeySpecValue). are_key_columns s.kinds s.columns ≡ true) is_spec was
 
 pub read_cell-requires : goal.read_cell-requires
 read_cell-requires c =
-    let own = columns-of_key c.args.self.now c.args.key.now (subst (λ (s : KeySpecValue). are_key_columns s.kinds s.columns ≡ true) c.self.view_is c.self.invariant) c.requires in
+    let own = columns-of_key c.args.self.now c.args.key.now (held c.args.self.now _ c.self.view_is c.self.invariant) c.requires in
     let was = next_left c.args.self.now _ _ _ _ _ _ _ _ c.self.view_is c.self.invariant c.deref-column-items.ensures.value c.loop-column-test.true c.index.ensures (c.loop-column.invariant own.0 own.1) in
     let begun = columns_begin _ _ _ _ _ _ was in
     (begun.0, begun.1, from_there _ _ _ c.bytes-bytes.result.now c.loop-column.at begun.2)
 
 pub overflow_add-at : goal.overflow_add-at
 overflow_add-at c =
-    let own = columns-of_key c.args.self.now c.args.key.now (subst (λ (s : KeySpecValue). are_key_columns s.kinds s.columns ≡ true) c.self.view_is c.self.invariant) c.requires in
+    let own = columns-of_key c.args.self.now c.args.key.now (held c.args.self.now _ c.self.view_is c.self.invariant) c.requires in
     let was = next_left c.args.self.now _ _ _ _ _ _ _ _ c.self.view_is c.self.invariant c.deref-column-items.ensures.value c.loop-column-test.true c.index.ensures (c.loop-column.invariant own.0 own.1) in
     let more = columns_more _ _ _ _ _ _ was c.in_ok-cell.cell c.in_ok-cell.len (λ cell rest begins. (c.in_ok-cell.ensures.cell cell rest (from_there _ _ _ c.bytes-bytes.result.now c.loop-column.at begins), c.in_ok-cell.ensures.len cell rest (from_there _ _ _ c.bytes-bytes.result.now c.loop-column.at begins))) in
     omega (arith, more.within, c.bytes-bytes.ensures.short, ap length c.bytes-bytes.ensures.bytes)
@@ -46,22 +50,31 @@ loop-column-preserved c columns has =
 
 pub slice_bounds-read_cell-count : goal.slice_bounds-read_cell-count
 slice_bounds-read_cell-count c =
-    let own = columns-of_key c.args.self.now c.args.key.now (subst (λ (s : KeySpecValue). are_key_columns s.kinds s.columns ≡ true) c.self.view_is c.self.invariant) c.requires in
+    let own = columns-of_key c.args.self.now c.args.key.now (held c.args.self.now _ c.self.view_is c.self.invariant) c.requires in
     let left = c.loop-column.invariant own.0 own.1 in
     left.within
 
 pub slice_bounds-read_cell-start : goal.slice_bounds-read_cell-start
 slice_bounds-read_cell-start c =
-    let own = columns-of_key c.args.self.now c.args.key.now (subst (λ (s : KeySpecValue). are_key_columns s.kinds s.columns ≡ true) c.self.view_is c.self.invariant) c.requires in
+    let own = columns-of_key c.args.self.now c.args.key.now (held c.args.self.now _ c.self.view_is c.self.invariant) c.requires in
     let left = c.loop-column.invariant own.0 own.1 in
     left.within
 
-pub returns-clause-columns : goal.returns-clause-columns
-returns-clause-columns c =
-    let own = columns-of_key c.args.self.now c.args.key.now (subst (λ (s : KeySpecValue). are_key_columns s.kinds s.columns ≡ true) c.self.view_is c.self.invariant) c.requires in
+-- whichever columns have the key, they are the ones that were read
+read_all : (c : goal.After-loop-column) (columns : List Cell) → HasKey c.args.self.now c.args.key.now columns → columns ≡ c.loop-column.cells.items
+read_all c columns has =
     let items : c.deref-column-items.result.now ≡ c.args.self.now.columns =
     c.deref-column-items.ensures.value ∙ ap (λ (s : KeySpecValue). s.columns) c.self.view_is in
     let count : length (key_kinds c.args.self.now) ≤ c.loop-column.column-index =
     omega (arith, c.loop-column-test.false, ap length items, length-map c.args.self.now.columns (λ column. slice_index_or c.args.self.now.kinds column IntKind)) in
-    let read = columns_done _ _ _ _ _ (drop_all c.loop-column.column-index (key_kinds c.args.self.now) count) (c.loop-column.invariant own.0 own.1) in
-    subst (HasKey c.args.self.now c.args.key.now) read own.1
+    columns_done _ _ _ _ _ (drop_all c.loop-column.column-index (key_kinds c.args.self.now) count) (c.loop-column.invariant columns has)
+
+pub returns-clause-columns : goal.returns-clause-columns
+returns-clause-columns c =
+    let own = columns-of_key c.args.self.now c.args.key.now (held c.args.self.now _ c.self.view_is c.self.invariant) c.requires in
+    subst (HasKey c.args.self.now c.args.key.now) (read_all c own.0 own.1) own.1
+
+pub returns-clause-of_rows : goal.returns-clause-of_rows
+returns-clause-of_rows c row is_row same =
+    let own = has-key c.args.self.now row (held c.args.self.now _ c.self.view_is c.self.invariant) is_row in
+    read_all c _ (subst (λ (bytes : List ℕ). HasKey c.args.self.now bytes (key_columns c.args.self.now row)) same own)

@@ -6,14 +6,15 @@ use Rattle.keybytes.specs.Rows.{IsRow}
 use Rattle.keybytes.specs.declared.cell.Cell.{Cell}
 use Rattle.keybytes.specs.declared.cell.Cell.TheVariants.{Null}
 use Rattle.keybytes.proofs.KeyLaws.{key_of-laws}
-use Rattle.keybytes.proofs.KeyWrites.{column-within, fits-length, length-key_of, column-more, column-room}
+use Rattle.keybytes.proofs.KeyWrites.{column-within, length-key_of, column-more, column-room}
+use Rattle.keybytes.proofs.Spelling.{length-fits}
 use Rattle.keybytes.proofs.key_spec.KeySpec.key.Goals as goal
 
 -- the column at a place of the specification is one of the row's
 there : (spec inside : KeySpecValue) (row cells : List Cell) (items : List ℕ) (i : ℕ) → inside ≡ spec → are_key_columns inside.kinds inside.columns ≡ true → items ≡ inside.columns → cells ≡ row → fits spec.kinds row ≡ true → i < length items → get_or items i 0 < length cells
 there spec inside row cells items i is_spec held is_items is_cells fit within =
     let of_kinds : get_or items i 0 < length inside.kinds = rw is_items (column-within inside.kinds inside.columns i held (rw is_items at within)) in
-    omega (arith, ap (λ (s : KeySpecValue). length s.kinds) is_spec, fits-length spec.kinds row fit, ap length is_cells)
+    omega (arith, ap (λ (s : KeySpecValue). length s.kinds) is_spec, length-fits spec.kinds row fit, ap length is_cells)
 
 -- a key is at most as long as any may be
 size : (spec inside : KeySpecValue) (row : List Cell) → inside ≡ spec → are_key_columns inside.kinds inside.columns ≡ true → IsRow row → length (key_of spec row) ≤ 812

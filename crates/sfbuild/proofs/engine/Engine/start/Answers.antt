@@ -20,4 +20,8 @@ returns-clause-core c =
     let no_build : is_some core.build ≡ false = sym c.is_building.ensures ∙ c.if-is_building.false in
     let in_limits : is_in_limits start.workers (vec_len start.specs) start.quota ≡ true = sym c.is_in_limits.ensures ∙ c.if-not-is_in_limits.false in
     subst (λ (cause : Option Fault). Unless cause core (answer_or_refusal c.step.result) c.step.new.self.core (StartsPlan start core (answer_or_refusal c.step.result) c.step.new.self.core))
-    (sym (no_refusal _ _ no_build in_limits)) (inl (record { specs = c.in_ok-key_specs.field-0; workers = start.workers; dealing = start.dealing; tries = 1; keep_pairs = false }, c.step.ensures.core, refl, refl))
+    (sym (no_refusal _ _ no_build in_limits)) (inl (
+      record { specs = c.in_ok-key_specs.field-0; workers = start.workers; dealing = start.dealing; tries = 1; keep_pairs = false },
+      record { specs = c.in_ok-key_specs.ensures.ok; workers = refl; dealing = refl },
+      c.step.ensures.core,
+    ))

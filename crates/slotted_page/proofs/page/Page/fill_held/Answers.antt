@@ -1,31 +1,36 @@
-use Rattle.std.proofs.Common.{◌∙◌}
-use Rattle.slotted_page.specs.Slot.{row}
-use Rattle.slotted_page.proofs.PageValues.{put_is_set}
-use Rattle.slotted_page.proofs.PageFields.{page_facts, held_fits, held_total}
+use Rattle.std.proofs.Common.{length, get_or, ap, ◌∙◌, arith, List, set}
+use Rattle.std.proofs.lemmas.List.{length-set}
+use Rattle.slotted_page.specs.Slot.{Slot, free, row, reserve_of, total_reserve}
+use Rattle.slotted_page.proofs.PageValues.{put_is_set, same_total}
+use Rattle.slotted_page.proofs.PageFields.{page_facts}
 use Rattle.slotted_page.proofs.page.Page.fill_held.Goals as goal
 
-pub store_among-floor-requires-clause-fits : goal.store_among-floor-requires-clause-fits
-store_among-floor-requires-clause-fits c =
-    held_fits (page_facts c.self.invariant c.self.view_is) c.args.slot c.args.reserve _ c.requires.there c.requires.is_held c.requires.reserved
+pub store-requires-clause-there : goal.store-requires-clause-there
+store-requires-clause-there c =
+    let f = page_facts c.self.invariant c.self.view_is in
+    omega (arith, f.slots_long, c.requires.there)
+
+pub store-requires-clause-is_held : goal.store-requires-clause-is_held
+store-requires-clause-is_held c =
+    let f = page_facts c.self.invariant c.self.view_is in
+    ap (λ (slots : List Slot). get_or slots c.args.slot free) f.slots_are ∙ c.requires.is_held
 
 pub returns : goal.returns
 returns c =
     let f = page_facts c.self.invariant c.self.view_is in
     let e = put_is_set c.args.self.now.slots c.args.slot (row c.args.bytes.now c.args.reserve) c.requires.there in
-    let r = c.store_among-floor.ensures.rows in
+    let r = c.store.ensures.slots in
     cc (e, f.slots_are, f.limit_is, r)
 
 pub invariant_of-self : goal.invariant_of-self
 invariant_of-self c =
     let f = page_facts c.self.invariant c.self.view_is in
-    let k = f.keeps in
+    let page = c.args.self.now in
+    let r = row c.args.bytes.now c.args.reserve in
+    let slots = c.store.ensures.slots ∙ ap (λ (slots : List Slot). set slots c.args.slot r) f.slots_are in
     record {
-      long = c.store_among-floor.ensures.long ∙ k.long;
-      within = c.store_among-floor.ensures.within;
-      counted = k.counted;
-      limited = k.limited;
-      placed = c.store_among-floor.ensures.placed;
-      apart = c.store_among-floor.ensures.apart;
-      total = held_total f _ c.args.slot c.args.bytes.now c.args.reserve c.store_among-floor.ensures.rows c.requires.there c.requires.is_held;
-      room = k.room;
+      format = c.store.ensures.format;
+      counted = omega (arith, ap length slots, length-set page.slots c.args.slot r, f.slots_long, f.keeps.counted);
+      limited = f.keeps.limited;
+      total = ap total_reserve slots ∙ same_total page.slots c.args.slot r c.requires.there (ap reserve_of c.requires.is_held) ∙ f.total_is;
     }

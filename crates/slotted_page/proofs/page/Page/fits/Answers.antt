@@ -18,6 +18,7 @@ returns c =
     let b = get_or-le-sum_by reserve_of page.slots s free lt in
     let was = c.reserve-reserve.result in
     let w : max was c.args.len ≡ grown_reserve page s c.args.len = ap (λ (r : ℕ). max r c.args.len) c.reserve-reserve.ensures.is in
+    let n = c.image_slots-slots.ensures ∙ f.slots_long in
     let e : c.self.inside.reserved - was + c.max.result ≡ total_reserve (put page.slots s after) =
     omega (arith, t, b, w, c.max.ensures, f.total_is, c.reserve-reserve.ensures.is) in
-    c.has_room.ensures ∙ cc (f.count_is, e)
+    c.has_room.ensures ∙ cc (n, e)

@@ -1,8 +1,5 @@
-use Rattle.std.proofs.Common.{arith}
-use Rattle.slotted_page.proofs.PageFields.{page_facts}
+use Rattle.slotted_page.proofs.PageFields.{page_facts, sound_page}
 use Rattle.slotted_page.proofs.page.Page.reserve.Goals as goal
 
-pub offset_bounds-entries-slot : goal.offset_bounds-entries-slot
-offset_bounds-entries-slot c =
-    let f = page_facts c.self.invariant c.self.view_is in
-    omega (arith, f.count_is, c.requires)
+pub returns-clause-room : goal.returns-clause-room
+returns-clause-room c = let p = sound_page (page_facts c.self.invariant c.self.view_is) in p.room

@@ -1,0 +1,141 @@
+-- The definitions computed at small values that a reader can check by hand.
+use Rattle.std.proofs.Common.{◌≡◌, ℕ, pos, negsuc, Bool, true, false, List, [], ◌∷◌, length, Option, Some, None, refl, sym, ap}
+use Rattle.std.specs.Prelude.{◌||◌}
+use Rattle.std.specs.Ordering.{eq_by_cmp}
+use Rattle.keybytes.specs.Keys.{KeySpecValue}
+use Rattle.keybytes.specs.declared.cell.Cell.{Cell}
+use Rattle.keybytes.specs.declared.cell.Cell.TheVariants.{Null, Int as Number}
+use Rattle.keybytes.specs.declared.kind.Kind.TheVariants.{Int}
+use Rattle.keybytes.specs.declared.fault.Fault.{Fault}
+use Rattle.keybytes.specs.declared.fault.Fault.TheVariants.{BadCount, RangeDone, RingFull, NotScanned, NotSealed, NotLoaded, Memory}
+use Rattle.heap_log.specs.declared.outcome.Outcome.TheVariants.{Ready}
+use Rattle.heap_log.specs.declared.record.LogRec.{LogRec}
+use Rattle.heap_log.specs.declared.record.LogRec.TheVariants as logged
+use Rattle.heap_table.specs.Pages.{rid_at}
+use Rattle.builder_core.specs.declared.pair.Pair.{Pair}
+use Rattle.builder_core.specs.declared.event.Event.TheVariants.{Scan, Seal, Load, Switch}
+use Rattle.builder_core.specs.declared.reply.Reply.TheVariants.{Scanned, Sealed, Loaded, Switched, Refused}
+use Rattle.builder_core.specs.Pairs.{pair_cmp, pairs_at_rest}
+use Rattle.builder_core.specs.CoreState.{CoreState}
+use Rattle.builder_core.specs.Steps.{outcome, after_memory}
+use Rattle.builder_core.proofs.PairSets.{is_in, items_are}
+
+-- an index on a column of numbers
+abbrev on_number : KeySpecValue
+on_number = record { kinds = Int ∷ []; columns = 0 ∷ []; unique = false }
+
+abbrev null : List ℕ
+null = 0 ∷ []
+
+abbrev minus_one : List ℕ
+minus_one = 1 ∷ 0x7F ∷ 0xFF ∷ 0xFF ∷ 0xFF ∷ 0xFF ∷ 0xFF ∷ 0xFF ∷ 0xFF ∷ []
+
+abbrev three : List ℕ
+three = 1 ∷ 0x80 ∷ 0 ∷ 0 ∷ 0 ∷ 0 ∷ 0 ∷ 0 ∷ 3 ∷ []
+
+abbrev five : List ℕ
+five = 1 ∷ 0x80 ∷ 0 ∷ 0 ∷ 0 ∷ 0 ∷ 0 ∷ 0 ∷ 5 ∷ []
+
+abbrev pair : List ℕ → ℕ → ℕ → Pair
+pair key page slot = record { key = key; rid = rid_at page slot }
+
+abbrev put : ℕ → ℕ → ℕ → Cell → LogRec
+put txn page slot cell = logged.Write txn (rid_at page slot) (Some (cell ∷ []))
+
+-- the rows 5, 3 and 5, two of them on page 0
+abbrev three_rows : List LogRec
+three_rows =
+    put 1 0 0 (Number (pos 5)) ∷ logged.Commit 1 ∷ put 2 0 1 (Number (pos 3)) ∷ logged.Commit 2
+    ∷ put 3 1 0 (Number (pos 5)) ∷ logged.Commit 3 ∷ []
+
+second_first : (a b c : Bool) → (a || (b || c)) ≡ (b || (a || c))
+second_first true true c = refl
+second_first true false c = refl
+second_first false b c = refl
+
+or_true : (a b : Bool) → (a || (b || true)) ≡ true
+or_true true b = refl
+or_true false true = refl
+or_true false false = refl
+
+last_first : (a b c : Bool) → (a || (b || (c || false))) ≡ (c || (a || (b || false)))
+last_first a b true = or_true a b
+last_first a b false = refl
+
+twice : (a : Bool) → (a || false) ≡ (a || (a || false))
+twice true = refl
+twice false = refl
+
+-- equal keys stand by RID
+equal_keys : pair three 0 1 ∷ pair five 0 0 ∷ pair five 1 0 ∷ [] ≡ pairs_at_rest on_number three_rows
+equal_keys =
+    items_are (pair three 0 1 ∷ pair five 0 0 ∷ pair five 1 0 ∷ []) (pair five 0 0 ∷ pair three 0 1 ∷ pair five 1 0 ∷ []) tt (λ q.
+    second_first (eq_by_cmp pair_cmp q (pair three 0 1)) (eq_by_cmp pair_cmp q (pair five 0 0)) (is_in q (pair five 1 0 ∷ [])))
+
+-- Null is first, and -1 is before 3
+null_first :
+    pair null 0 1 ∷ pair minus_one 0 2 ∷ pair three 0 0 ∷ []
+    ≡ pairs_at_rest on_number (put 1 0 0 (Number (pos 3)) ∷ put 1 0 1 Null ∷ put 1 0 2 (Number (negsuc 0)) ∷ [])
+null_first =
+    items_are (pair null 0 1 ∷ pair minus_one 0 2 ∷ pair three 0 0 ∷ []) (pair three 0 0 ∷ pair null 0 1 ∷ pair minus_one 0 2 ∷ []) tt (λ q.
+    last_first (eq_by_cmp pair_cmp q (pair null 0 1)) (eq_by_cmp pair_cmp q (pair minus_one 0 2)) (eq_by_cmp pair_cmp q (pair three 0 0)))
+
+-- an update that was undone never was
+undone_update : pair five 0 0 ∷ [] ≡ pairs_at_rest on_number (put 1 0 0 (Number (pos 5)) ∷ put 2 0 0 (Number (pos 3)) ∷ logged.Undo 2 2 ∷ [])
+undone_update =
+    items_are (pair five 0 0 ∷ []) (pair five 0 0 ∷ pair five 0 0 ∷ []) tt (λ q. twice (eq_by_cmp pair_cmp q (pair five 0 0)))
+
+-- the writes of a transaction that is still open count
+open_delete : [] ≡ pairs_at_rest on_number (put 1 0 0 (Number (pos 5)) ∷ logged.Commit 1 ∷ logged.Write 2 (rid_at 0 0) None ∷ [])
+open_delete = items_are [] [] tt (λ q. refl)
+
+-- these rows while a build of so many pages runs
+abbrev while_built : ℕ → ℕ → ℕ → Bool → Option Fault → CoreState
+while_built pages scanned waiting loaded spoiled = record {
+  heap = record { schema = Int ∷ []; slot_limit = 2; page_limit = 8; log = three_rows; active = []; begun = 3; visits = 0; room = 0 };
+  ready = [];
+  build = Some (record { spec = on_number; pages = pages; scanned = scanned; waiting = waiting; loaded = loaded; spoiled = spoiled });
+}
+
+abbrev before_a_scan : CoreState
+before_a_scan = while_built 2 1 1 false None
+
+next_page : (outcome before_a_scan (Scan 0 0)).1 ≡ Scanned 1
+next_page = refl
+
+load_before_a_scan : outcome before_a_scan (Load 0) ≡ (before_a_scan, Refused (NotScanned 0))
+load_before_a_scan = refl
+
+no_page_left : (outcome (while_built 2 2 2 false None) (Scan 0 0)).1 ≡ Refused RangeDone
+no_page_left = refl
+
+four_wait : (outcome (while_built 5 4 4 false None) (Scan 0 0)).1 ≡ Refused RingFull
+four_wait = refl
+
+seal_takes_all : outcome (while_built 2 2 2 false None) (Seal 0) ≡ (while_built 2 2 0 false None, Sealed 2)
+seal_takes_all = refl
+
+load_before_a_seal : (outcome (while_built 2 2 2 false None) (Load 0)).1 ≡ Refused (NotSealed 0)
+load_before_a_seal = refl
+
+first_load : outcome (while_built 2 2 0 false None) (Load 0) ≡ (while_built 2 2 0 true None, Loaded 3)
+first_load = ap (λ (pairs : List Pair). (while_built 2 2 0 true None, Loaded (length pairs))) (sym equal_keys)
+
+second_load : outcome (while_built 2 2 0 true None) (Load 0) ≡ (while_built 2 2 0 true None, Loaded 0)
+second_load = refl
+
+switch_before_a_load : (outcome (while_built 2 2 0 false None) Switch).1 ≡ Refused (NotLoaded 0)
+switch_before_a_load = refl
+
+switched : (outcome (while_built 2 2 0 true None) Switch).1 ≡ Switched 7 (Ready 0 ∷ [])
+switched = refl
+
+-- a seal that wants memory spoils the build, which from then on answers so after the counts
+spoils : after_memory before_a_scan (Seal 0) ≡ while_built 2 1 1 false (Some Memory)
+spoils = refl
+
+spoiled_scan : (outcome (while_built 2 1 1 false (Some Memory)) (Scan 0 0)).1 ≡ Refused Memory
+spoiled_scan = refl
+
+spoiled_count : (outcome (while_built 2 1 1 false (Some Memory)) (Scan 0 1)).1 ≡ Refused BadCount
+spoiled_count = refl

@@ -1,0 +1,39 @@
+-- The key specifications that a record names, taken one after the other.
+use Rattle.std.proofs.Common.{◌≡◌, ◌≢◌, unwrap_or, List, [], ◌∷◌, ◌++◌, map, Option, Some, None, refl, subst, ap, sym, ◌∙◌}
+use Rattle.std.proofs.lemmas.List.{append_assoc}
+use Rattle.keybytes.specs.Faults.{first_cause}
+use Rattle.keybytes.specs.Keys.{KeySpecValue, key_columns_refusal}
+use Rattle.keybytes.specs.declared.fault.Fault.{Fault}
+use Rattle.keybytes.specs.declared.fault.Fault.TheVariants.{Memory}
+use Rattle.keybytes.specs.declared.kind.Kind.{Kind}
+use Rattle.sfbuild.specs.Answers.{specs_refusal}
+use Rattle.sfbuild.specs.Listings.{key_spec_of}
+use Rattle.sfbuild.specs.declared.script.spec.Spec.{Spec}
+
+-- a specification of those columns is the one that is named
+pub is_named : (schema : List Kind) (spec : Spec) (one : KeySpecValue) → one.kinds ≡ schema → one.columns ≡ spec.columns.items → one.unique ≡ spec.unique
+    → one ≡ key_spec_of schema spec
+is_named schema spec one kinds columns unique = rw (← kinds, ← columns, ← unique) refl
+
+-- one specification more is made
+pub made_more : (schema : List Kind) (all rest : List Spec) (made : List KeySpecValue) (spec : Spec) (one : KeySpecValue)
+    → map (key_spec_of schema) all ≡ made ++ map (key_spec_of schema) (spec ∷ rest) → one ≡ key_spec_of schema spec
+    → map (key_spec_of schema) all ≡ (made ++ one ∷ []) ++ map (key_spec_of schema) rest
+made_more schema all rest made spec one same is =
+    same ∙ ap (λ (last : KeySpecValue). made ++ last ∷ map (key_spec_of schema) rest) (sym is) ∙ sym (append_assoc made (one ∷ []) (map (key_spec_of schema) rest))
+
+-- the first of the rest is accepted
+pub accepted_first : (schema : List Kind) (spec : Spec) (rest : List Spec) → key_columns_refusal schema spec.columns.items ≡ None
+    → specs_refusal schema (spec ∷ rest) ≡ specs_refusal schema rest
+accepted_first schema spec rest accepted = rw accepted refl
+
+-- the cause of a refusal that is not want of memory
+pub cause_of : (cause : Option Fault) (fault : Fault) → fault ≡ unwrap_or cause Memory → fault ≢ Memory → cause ≡ Some fault
+cause_of None fault is other = absurd (other is)
+cause_of (Some cause) fault is other = ap Some (sym is)
+
+-- the first of the rest is refused
+pub refused_first : (schema : List Kind) (spec : Spec) (rest : List Spec) (fault : Fault)
+    → fault ≡ unwrap_or (key_columns_refusal schema spec.columns.items) Memory → fault ≢ Memory → specs_refusal schema (spec ∷ rest) ≡ Some fault
+refused_first schema spec rest fault is other =
+    subst (λ (cause : Option Fault). first_cause cause (specs_refusal schema rest) ≡ Some fault) (sym (cause_of _ fault is other)) refl

@@ -1,0 +1,16 @@
+-- Two lists that a relation holds of, place by place, where the first is read up to a place.
+use Rattle.std.proofs.Common.{◌≡◌, ℕ, zero, suc, ◌+◌, ◌<◌, get_or, List, [], ◌∷◌, ◌++◌, length, take, arith, add-one}
+use Rattle.std.specs.List.{AllZip}
+
+zip_next : {A B : Type 0} (R : A → B → Type 0) (xs : List A) (ys : List B) (i : ℕ) (d : A) (y : B)
+    → i < length xs → AllZip R (take i xs) ys → R (get_or xs i d) y → AllZip R (take (suc i) xs) (ys ++ y ∷ [])
+zip_next R [] ys i d y inside all one = absurd (omega arith)
+zip_next R (x ∷ xs) [] zero d y inside all one = (one, tt)
+zip_next R (x ∷ xs) [] (suc i) d y inside all one = absurd all
+zip_next R (x ∷ xs) (z ∷ zs) zero d y inside all one = absurd all
+zip_next R (x ∷ xs) (z ∷ zs) (suc i) d y inside all one = (all.0, zip_next R xs zs i d y (omega arith) all.1 one)
+
+-- one place more is read, and one value more put behind
+pub zip_more : {A B : Type 0} (R : A → B → Type 0) (xs : List A) (ys more : List B) (i : ℕ) (d : A) (y : B)
+    → i < length xs → more ≡ ys ++ y ∷ [] → AllZip R (take i xs) ys → R (get_or xs i d) y → AllZip R (take (i + 1) xs) more
+zip_more R xs ys more i d y inside is all one = rw (is, add-one) (zip_next R xs ys i d y inside all one)
