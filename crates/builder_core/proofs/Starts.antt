@@ -13,7 +13,7 @@ use Rattle.builder_core.specs.declared.plan.Plan.{Plan}
 use Rattle.builder_core.specs.declared.event.Event.TheVariants.{Start}
 use Rattle.builder_core.specs.declared.reply.Reply.TheVariants.{Started, Refused}
 use Rattle.builder_core.specs.CoreState.{CoreState, BuildState, BuildValue, LiveValue, ReadyValue, core_state, build_state}
-use Rattle.builder_core.specs.Steps.{same_kind, same_kinds, only_spec, is_one_range, counts_fit, start_refusal, start_outcome, after_start, plan_refusal, build_refusal, unless, outcome}
+use Rattle.builder_core.specs.Steps.{same_kind, same_kinds, only_spec, is_one_range, counts_fit, start_refusal, start_outcome, after_start, plan_refusal, early_refusal, unless, outcome}
 
 same_kind-true : (a b : Kind) → same_kind a b ≡ true → a ≡ b
 same_kind-true Int Int e = refl
@@ -95,7 +95,7 @@ starts s plan spec one columns ranges =
 -- and then only memory can be wanting
 pub nothing_else :
     (s : CoreState) (plan : Plan) (spec : KeySpecValue) → OnePlan s plan spec → same_kinds spec.kinds s.heap.schema ≡ true
-    → is_one_range (pages_written s.heap.log) plan.dealing ≡ true → build_refusal s (Start plan) ≡ None
+    → is_one_range (pages_written s.heap.log) plan.dealing ≡ true → early_refusal s (Start plan) ≡ None
 nothing_else s plan spec one columns ranges =
     let why : start_refusal s plan spec ≡ None = rw (one.counts, columns, ranges) refl in
     ap (λ (b : Option BuildState). if is_some b then Some BuildRunning else plan_refusal s plan (only_spec plan.specs.items)) one.idle

@@ -224,19 +224,20 @@ abbrev pub plan_refusal : CoreState → Plan → Option KeySpecValue → Option 
 plan_refusal s plan None = Some BadCount
 plan_refusal s plan (Some spec) = start_refusal s plan spec
 
--- why an event is refused for the sake of a build, which is looked at before memory is taken
-abbrev pub build_refusal : CoreState → Event → Option Fault
-build_refusal s Begin = None
-build_refusal s (Insert txn row) = unless_indexed s None
-build_refusal s (Update txn rid row) = unless_indexed s None
-build_refusal s (Delete txn rid) = unless_indexed s None
-build_refusal s (Undo txn) = unless_indexed s None
-build_refusal s (Commit txn) = None
-build_refusal s (Start plan) = if is_some s.build then Some BuildRunning else plan_refusal s plan (only_spec plan.specs.items)
-build_refusal s (Scan range worker) = refusal_of s.build (λ b. scan_refusal b range worker)
-build_refusal s (Seal worker) = refusal_of s.build (λ b. seal_refusal b worker)
-build_refusal s (Load index) = refusal_of s.build (λ b. load_refusal b index)
-build_refusal s Switch = refusal_of s.build switch_refusal
+-- why an event is refused before any memory is taken for it; for a change of a row that comes with one, a copy is made right
+-- behind the look at the build
+abbrev pub early_refusal : CoreState → Event → Option Fault
+early_refusal s Begin = begin_refusal s.heap
+early_refusal s (Insert txn row) = unless_indexed s None
+early_refusal s (Update txn rid row) = unless_indexed s None
+early_refusal s (Delete txn rid) = unless_indexed s (delete_refusal s.heap txn rid)
+early_refusal s (Undo txn) = unless_indexed s (undo_refusal s.heap txn)
+early_refusal s (Commit txn) = txn_refusal s.heap txn
+early_refusal s (Start plan) = if is_some s.build then Some BuildRunning else plan_refusal s plan (only_spec plan.specs.items)
+early_refusal s (Scan range worker) = refusal_of s.build (λ b. scan_refusal b range worker)
+early_refusal s (Seal worker) = refusal_of s.build (λ b. seal_refusal b worker)
+early_refusal s (Load index) = refusal_of s.build (λ b. load_refusal b index)
+early_refusal s Switch = refusal_of s.build switch_refusal
 
 -- the running build, if any, is spoiled
 abbrev pub spoiled_by : Fault → Option BuildState → Option BuildState
@@ -257,9 +258,9 @@ after_memory s (Seal worker) = record s { build = spoiled_by Memory s.build }
 after_memory s (Load index) = record s { build = spoiled_by Memory s.build }
 after_memory s Switch = s
 
--- what want of memory leaves; it is answered only where no build is a cause to refuse the event
+-- what want of memory leaves; it is answered only where nothing that is looked at before refuses the event
 abbrev pub WantsMemory : CoreState → Event → CoreState → Type 0
-WantsMemory s event new = (new ≡ after_memory s event) × (build_refusal s event ≡ None)
+WantsMemory s event new = (new ≡ after_memory s event) × (early_refusal s event ≡ None)
 
 -- one event: its outcome, or want of memory
 abbrev pub Step : CoreState → Event → Reply → CoreState → Type 0

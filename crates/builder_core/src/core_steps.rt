@@ -105,6 +105,7 @@ impl Core {
         ensures visited { OnOk result (self.new ≡ with_heap self.old (after_visit self.old.heap)) }
         ensures unchanged { OnErr result (self.new ≡ self.old) }
         ensures refused { IfErr result (λ fault. fault ≢ Fault.Memory → row_missing (live_at self.old.heap.log rid) ≡ Some fault) }
+        ensures memory { IfErr result (λ fault. fault ≡ Fault.Memory → row_missing (live_at self.old.heap.log rid) ≡ None) }
     {
         self.live.get(rid)
     }

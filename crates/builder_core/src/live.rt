@@ -74,6 +74,7 @@ impl Live {
         ensures accepted { OnOk result (begin_refusal self.old.heap ≡ None) }
         ensures unchanged { OnErr result (self.new ≡ self.old) }
         ensures refused { IfErr result (λ fault. fault ≢ Fault.Memory → begin_refusal self.old.heap ≡ Some fault) }
+        ensures memory { IfErr result (λ fault. fault ≡ Fault.Memory → begin_refusal self.old.heap ≡ None) }
     {
         self.heap.begin()
     }
@@ -111,6 +112,7 @@ impl Live {
         ensures accepted { OnOk result (delete_refusal self.old.heap txn rid ≡ None) }
         ensures unchanged { OnErr result (self.new ≡ self.old) }
         ensures refused { IfErr result (λ fault. fault ≢ Fault.Memory → delete_refusal self.old.heap txn rid ≡ Some fault) }
+        ensures memory { IfErr result (λ fault. fault ≡ Fault.Memory → delete_refusal self.old.heap txn rid ≡ None) }
     {
         self.heap.delete(txn, rid)
     }
@@ -124,6 +126,7 @@ impl Live {
         ensures accepted { OnOk result (undo_refusal self.old.heap txn ≡ None) }
         ensures unchanged { OnErr result (self.new ≡ self.old) }
         ensures refused { IfErr result (λ fault. fault ≢ Fault.Memory → undo_refusal self.old.heap txn ≡ Some fault) }
+        ensures memory { IfErr result (λ fault. fault ≡ Fault.Memory → undo_refusal self.old.heap txn ≡ None) }
     {
         self.heap.undo_step(txn)
     }
@@ -135,6 +138,7 @@ impl Live {
         ensures accepted { OnOk result (txn_refusal self.old.heap txn ≡ None) }
         ensures unchanged { OnErr result (self.new ≡ self.old) }
         ensures refused { IfErr result (λ fault. fault ≢ Fault.Memory → txn_refusal self.old.heap txn ≡ Some fault) }
+        ensures memory { IfErr result (λ fault. fault ≡ Fault.Memory → txn_refusal self.old.heap txn ≡ None) }
     {
         self.heap.commit(txn)
     }
@@ -174,6 +178,7 @@ impl Live {
         ensures visited { OnOk result (self.new ≡ live_with_heap self.old (after_visit self.old.heap)) }
         ensures unchanged { OnErr result (self.new ≡ self.old) }
         ensures refused { IfErr result (λ fault. fault ≢ Fault.Memory → row_missing (live_at self.old.heap.log rid) ≡ Some fault) }
+        ensures memory { IfErr result (λ fault. fault ≡ Fault.Memory → row_missing (live_at self.old.heap.log rid) ≡ None) }
     {
         self.heap.get(rid)
     }

@@ -1,5 +1,6 @@
 -- What a slot that shows a row is read as.
 use Rattle.std.proofs.Common.{◌≡◌, ◌≢◌, ℕ, List, get_or, Option, Some, None, refl, sym, ap, ◌∙◌, subst}
+use Rattle.std.specs.Prelude.{IsSome}
 use Rattle.std.proofs.lemmas.Option.{same_Some}
 use Rattle.keybytes.specs.Rows.{row_bytes, Spells, RefusesRow}
 use Rattle.keybytes.specs.declared.cell.Cell.{Cell}
@@ -8,6 +9,7 @@ use Rattle.keybytes.specs.declared.fault.Fault.{Fault}
 use Rattle.keybytes.specs.declared.fault.Fault.TheVariants.{Memory}
 use Rattle.slotted_page.specs.Slot.{Slot, bytes_of, free}
 use Rattle.slotted_page.specs.Image.{slots_in}
+use Rattle.heap_table.specs.HeapState.{row_missing}
 use Rattle.heap_table.specs.Images.{Shows, ImageValue, image_slot}
 
 memory_or_other : (fault : Fault) → (fault ≢ Memory → ⊥) → fault ≡ Memory
@@ -42,3 +44,8 @@ pub seen_bytes :
 seen_bytes image page slot bytes value found view_is same seen =
     ap (λ (v : ImageValue). bytes_of (image_slot v slot)) (sym view_is)
     ∙ (ap (λ (b : List ℕ). bytes_of (get_or (slots_in b) slot free)) (sym same) ∙ seen)
+
+-- a row that stands is not missing
+pub not_missing : (row : Option (List Cell)) → IsSome row → row_missing row ≡ None
+not_missing None there = absurd cc
+not_missing (Some cells) there = refl

@@ -80,6 +80,10 @@ abbrev pub place_refusal : Option Rid → Option Fault
 place_refusal None = Some TableFull
 place_refusal (Some rid) = None
 
+-- why a write is refused before any memory is taken for it
+abbrev pub early_refusal : HeapState → ℕ → List Cell → Option Fault
+early_refusal s txn cells = first_cause (txn_refusal s txn) (shape_refusal s.schema cells)
+
 -- why an insert is refused
 abbrev pub insert_refusal : HeapState → ℕ → List Cell → Option Fault
 insert_refusal s txn cells =

@@ -3,7 +3,7 @@ ghost use Rattle.keybytes.specs.declared.cell.Cell.{Cell};
 ghost use Rattle.keybytes.specs.Rows.{row_bytes, shape_refusal};
 ghost use Rattle.heap_log.specs.Standing.{record_at, rid_of, place_of, live_at, row_at, newest_standing, standing_before, standing_count};
 ghost use Rattle.slotted_page.specs.Slot.{IsRowSize};
-ghost use Rattle.heap_table.specs.HeapState.{HeapState, limits_refusal, empty_heap, is_open, is_ending, txn_refusal, held_refusal, growth_refusal, undo_refusal, begin_refusal, insert_place, place_on, place_refusal, insert_refusal, update_refusal, delete_refusal, row_missing, without, after_begin, after_write, after_commit, after_switch, after_step, undone_number, with_room, after_visit, busy_txns};
+ghost use Rattle.heap_table.specs.HeapState.{HeapState, limits_refusal, empty_heap, is_open, is_ending, txn_refusal, held_refusal, growth_refusal, undo_refusal, begin_refusal, insert_place, place_on, place_refusal, early_refusal, insert_refusal, update_refusal, delete_refusal, row_missing, without, after_begin, after_write, after_commit, after_switch, after_step, undone_number, with_room, after_visit, busy_txns};
 ghost use Rattle.heap_table.specs.Holders.{holder};
 ghost use Rattle.heap_table.specs.Pages.{pages_written, rows_on, SetsRow, KeepsRows, RowsAreInside};
 ghost use Rattle.heap_table.specs.Kept.{RowsFit};
@@ -182,6 +182,7 @@ impl Heap {
         ensures accepted { OnOk result (begin_refusal self.old ≡ None) }
         ensures unchanged { OnErr result (self.new ≡ self.old) }
         ensures refused { IfErr result (λ fault. fault ≢ Fault.Memory → begin_refusal self.old ≡ Some fault) }
+        ensures memory { IfErr result (λ fault. fault ≡ Fault.Memory → begin_refusal self.old ≡ None) }
     {
         if self.open_txns.len() >= OPEN_MAX || self.begun == u64::MAX {
             return Err(Fault::TooManyTxns);
@@ -218,6 +219,7 @@ impl Heap {
     /// The row that stands at a RID, if one does.
     fn row_at(&self, rid: Rid) -> Result<Option<Row>, Fault>
         ensures ok { IfOk result (λ row. row ≡ live_at self.now.log rid) }
+        ensures there { OnErr result (IsSome (live_at self.now.log rid)) }
         ensures memory { IfErr result (λ fault. fault ≡ Fault.Memory) }
     {
         let Some(bytes) = self.pages.row(rid) else {
@@ -230,6 +232,7 @@ impl Heap {
     fn read(&self, rid: Rid) -> Result<Row, Fault>
         ensures ok { IfOk result (λ row. live_at self.now.log rid ≡ Some row) }
         ensures refused { IfErr result (λ fault. fault ≢ Fault.Memory → row_missing (live_at self.now.log rid) ≡ Some fault) }
+        ensures memory { IfErr result (λ fault. fault ≡ Fault.Memory → row_missing (live_at self.now.log rid) ≡ None) }
     {
         match self.row_at(rid)? {
             Some(row) => Ok(row),
@@ -271,6 +274,7 @@ impl Heap {
         ensures accepted { OnOk result (insert_refusal self.old txn row ≡ None) }
         ensures unchanged { OnErr result (self.new ≡ self.old) }
         ensures refused { IfErr result (λ fault. fault ≢ Fault.Memory → insert_refusal self.old txn row ≡ Some fault) }
+        ensures memory { IfErr result (λ fault. fault ≡ Fault.Memory → early_refusal self.old txn row ≡ None) }
     {
         self.check_txn(txn)?;
         let bytes = row.to_bytes(&self.schema)?;
@@ -295,6 +299,7 @@ impl Heap {
         ensures accepted { OnOk result (update_refusal self.old txn rid row ≡ None) }
         ensures unchanged { OnErr result (self.new ≡ self.old) }
         ensures refused { IfErr result (λ fault. fault ≢ Fault.Memory → update_refusal self.old txn rid row ≡ Some fault) }
+        ensures memory { IfErr result (λ fault. fault ≡ Fault.Memory → early_refusal self.old txn row ≡ None) }
     {
         self.check_txn(txn)?;
         let bytes = row.to_bytes(&self.schema)?;
@@ -321,6 +326,7 @@ impl Heap {
         ensures accepted { OnOk result (delete_refusal self.old txn rid ≡ None) }
         ensures unchanged { OnErr result (self.new ≡ self.old) }
         ensures refused { IfErr result (λ fault. fault ≢ Fault.Memory → delete_refusal self.old txn rid ≡ Some fault) }
+        ensures memory { IfErr result (λ fault. fault ≡ Fault.Memory → delete_refusal self.old txn rid ≡ None) }
     {
         self.check_txn(txn)?;
         self.check_hold(txn, rid)?;
@@ -347,6 +353,7 @@ impl Heap {
         ensures accepted { OnOk result (undo_refusal self.old txn ≡ None) }
         ensures unchanged { OnErr result (self.new ≡ self.old) }
         ensures refused { IfErr result (λ fault. fault ≢ Fault.Memory → undo_refusal self.old txn ≡ Some fault) }
+        ensures memory { IfErr result (λ fault. fault ≡ Fault.Memory → undo_refusal self.old txn ≡ None) }
     {
         if !has(&self.open_txns, txn) {
             return Err(Fault::NoSuchTxn);
@@ -468,6 +475,7 @@ impl Heap {
         ensures accepted { OnOk result (insert_refusal self.old txn row ≡ None) }
         ensures unchanged { OnErr result (self.new ≡ self.old) }
         ensures refused { IfErr result (λ fault. fault ≢ Fault.Memory → insert_refusal self.old txn row ≡ Some fault) }
+        ensures memory { IfErr result (λ fault. fault ≡ Fault.Memory → early_refusal self.old txn row ≡ None) }
     {
         let ready = self.ready_insert(txn, row)?;
         Ok(self.write(ready))
@@ -483,6 +491,7 @@ impl Heap {
         ensures accepted { OnOk result (update_refusal self.old txn rid row ≡ None) }
         ensures unchanged { OnErr result (self.new ≡ self.old) }
         ensures refused { IfErr result (λ fault. fault ≢ Fault.Memory → update_refusal self.old txn rid row ≡ Some fault) }
+        ensures memory { IfErr result (λ fault. fault ≡ Fault.Memory → early_refusal self.old txn row ≡ None) }
     {
         let ready = self.ready_update(txn, rid, row)?;
         Ok(self.write(ready))
@@ -497,6 +506,7 @@ impl Heap {
         ensures accepted { OnOk result (delete_refusal self.old txn rid ≡ None) }
         ensures unchanged { OnErr result (self.new ≡ self.old) }
         ensures refused { IfErr result (λ fault. fault ≢ Fault.Memory → delete_refusal self.old txn rid ≡ Some fault) }
+        ensures memory { IfErr result (λ fault. fault ≡ Fault.Memory → delete_refusal self.old txn rid ≡ None) }
     {
         let ready = self.ready_delete(txn, rid)?;
         Ok(self.write(ready))
@@ -514,6 +524,7 @@ impl Heap {
         ensures accepted { OnOk result (undo_refusal self.old txn ≡ None) }
         ensures unchanged { OnErr result (self.new ≡ self.old) }
         ensures refused { IfErr result (λ fault. fault ≢ Fault.Memory → undo_refusal self.old txn ≡ Some fault) }
+        ensures memory { IfErr result (λ fault. fault ≡ Fault.Memory → undo_refusal self.old txn ≡ None) }
     {
         let Some(ready) = self.ready_undo(txn)? else {
             end(&mut self.open_txns, txn);
@@ -534,6 +545,7 @@ impl Heap {
         ensures accepted { OnOk result (txn_refusal self.old txn ≡ None) }
         ensures unchanged { OnErr result (self.new ≡ self.old) }
         ensures refused { IfErr result (λ fault. fault ≢ Fault.Memory → txn_refusal self.old txn ≡ Some fault) }
+        ensures memory { IfErr result (λ fault. fault ≡ Fault.Memory → txn_refusal self.old txn ≡ None) }
     {
         self.check_txn(txn)?;
         self.log.reserve(1)?;
@@ -573,6 +585,7 @@ impl Heap {
         ensures visited { OnOk result (self.new ≡ after_visit self.old) }
         ensures unchanged { OnErr result (self.new ≡ self.old) }
         ensures refused { IfErr result (λ fault. fault ≢ Fault.Memory → row_missing (live_at self.old.log rid) ≡ Some fault) }
+        ensures memory { IfErr result (λ fault. fault ≡ Fault.Memory → row_missing (live_at self.old.log rid) ≡ None) }
     {
         let row = self.read(rid)?;
         self.visits = self.visits.saturating_add(1);

@@ -54,6 +54,10 @@ answer_or_refusal (Err fault) = answer.Refused fault
 abbrev pub AnswersEvent : Event → CoreState → Answer → CoreState → Type 0
 AnswersEvent asked old given new = (told : Reply) × Step old asked told new × (given ≡ answer_to told)
 
+-- a transaction begins, or memory is wanting for its label
+abbrev pub AnswersBegin : CoreState → Answer → CoreState → Type 0
+AnswersBegin old given new = AnswersEvent event.Begin old given new ⊎ ((given ≡ answer.Refused Memory) × (new ≡ old))
+
 -- where there is a cause, it is answered and nothing changes; else P holds
 abbrev pub Unless : Option Fault → CoreState → Answer → CoreState → Type 0 → Type 0
 Unless None old given new P = P
@@ -129,7 +133,7 @@ StartsPlan start old given new =
 abbrev pub AnswersRecord : Engine → Record → Answer → CoreState → Type 0
 AnswersRecord old (Row cells) given new =
     Unless (row_refusal cells.items) old.core given new (AnswersRow cells.items old.core given new)
-AnswersRecord old (Begin label) given new = AnswersEvent event.Begin old.core given new
+AnswersRecord old (Begin label) given new = AnswersBegin old.core given new
 AnswersRecord old (Insert label cells) given new =
     Unless (row_refusal cells.items) old.core given new
     (OnTxn (named old.labels label) old.core given new (λ txn. AnswersEvent (event.Insert txn cells.items) old.core given new))

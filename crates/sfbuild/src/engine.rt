@@ -4,7 +4,7 @@ ghost use Rattle.std.specs.List.{list_any, AllZip};
 ghost use Rattle.keybytes.specs.Keys.{key_columns_refusal};
 ghost use Rattle.builder_core.specs.Pairs.{HaveKeysOf};
 ghost use Rattle.builder_core.specs.Steps.{Step};
-ghost use Rattle.sfbuild.specs.Answers.{answer_or_refusal, status_after, AnswersEvent, AnswersRecord, AnswersRow, FailsToPut, GivesRow, NotesBegun, NotesRecord, OnTxn, PutsRow, StartsPlan, TakesBack, Unless, plan_refusal, specs_refusal};
+ghost use Rattle.sfbuild.specs.Answers.{answer_or_refusal, status_after, AnswersBegin, AnswersEvent, AnswersRecord, AnswersRow, FailsToPut, GivesRow, NotesBegun, NotesRecord, OnTxn, PutsRow, StartsPlan, TakesBack, Unless, plan_refusal, specs_refusal};
 ghost use Rattle.builder_core.specs.declared.reply.Reply.{Reply as ReplyValue};
 ghost use Rattle.keybytes.specs.Rows.{row_refusal};
 ghost use Rattle.keybytes.specs.declared.rid.Rid.{Rid as RidValue};
@@ -154,7 +154,7 @@ impl Engine {
 
     /// Begins a transaction that the label names; where that is refused, it names none.
     fn begin_named(&mut self, label: &Label) -> Result<Answer, Fault>
-        ensures core { AnswersEvent Event.Begin self.old.core (answer_or_refusal result) self.new.core }
+        ensures core { AnswersBegin self.old.core (answer_or_refusal result) self.new.core }
         ensures labels { NotesBegun self.old.labels label.now (answer_or_refusal result) self.new.labels }
         ensures status { self.new.status ≡ status_after self.old.status (answer_or_refusal result) }
     {

@@ -1,0 +1,8 @@
+use Rattle.std.proofs.Common.{rules}
+use Rattle.heap_table.proofs.Showing.{not_missing}
+use Rattle.heap_table.proofs.heap.Heap.read.Goals as goal
+
+pub returns-in_err-row-clause-memory : goal.returns-in_err-row-clause-memory
+returns-in_err-row-clause-memory c =
+    let missing = not_missing _ c.in_err-row.ensures.there in
+    search rules
