@@ -33,10 +33,6 @@ abbrev pub unless : Option Fault → CoreState → CoreState → Reply → CoreS
 unless None old new reply = (new, reply)
 unless (Some fault) old new reply = (old, Refused fault)
 
--- why a refused call is answered that fault: it is the cause, or there is no cause and memory ran out
-abbrev pub IsAnswerTo : Option Fault → Fault → Type 0
-IsAnswerTo cause fault = (cause ≡ Some fault) ⊎ ((cause ≡ None) × (fault ≡ Memory))
-
 -- what a running build makes of an event
 abbrev pub with_build : CoreState → Option BuildState → (BuildState → CoreState × Reply) → CoreState × Reply
 with_build s None answer = (s, Refused NoBuild)

@@ -1,11 +1,12 @@
 ghost use Rattle.std.specs.Prelude.{◌≡◌, ◌+◌, ◌≤◌, ◌<◌, ◌∷◌, ◌++◌, ◌^◌, ℕ, [], List, length, true, false, Some, None, IfOk, IfErr, OnOk, OnErr, MatchResult, MatchOption, if◌then◌else◌};
+ghost use Rattle.keybytes.specs.Faults.{RefusedFor};
 ghost use Rattle.keybytes.specs.declared.kind.Kind.{Kind};
 ghost use Rattle.heap_log.specs.declared.record.LogRec.{LogRec};
 ghost use Rattle.heap_table.specs.HeapState.{after_visit};
 ghost use Rattle.builder_core.specs.Pairs.{pairs_at_rest, HaveKeysOf};
 ghost use Rattle.builder_core.specs.CoreState.{BuildValue, scanned_pages, build_state, live_with_heap};
 ghost use Rattle.builder_core.specs.Builds.{IsBuilding, IsOfSomeTable};
-ghost use Rattle.builder_core.specs.Steps.{ring_refusal, order_refusal, switch_refusal, IsAnswerTo};
+ghost use Rattle.builder_core.specs.Steps.{ring_refusal, order_refusal, switch_refusal};
 
 use crate::live::Live;
 use crate::worker::make_pairs;
@@ -83,7 +84,7 @@ impl Build {
         ensures accepted { OnOk result (ring_refusal (build_state self.old) ≡ None) }
         ensures follows { IsBuilding live.new.heap.schema live.new.heap.log self.new }
         ensures unchanged { OnErr result ((live.new ≡ live.old) × (self.new ≡ self.old)) }
-        ensures refused { IfErr result (IsAnswerTo (ring_refusal (build_state self.old))) }
+        ensures refused { IfErr result (RefusedFor (ring_refusal (build_state self.old))) }
     {
         self.check()?;
         let page = self.scanned();
@@ -108,7 +109,7 @@ impl Build {
         ensures accepted { OnOk result (self.old.spoiled ≡ None) }
         ensures follows { (log : List LogRec) → IsBuilding schema.now log self.old → IsBuilding schema.now log self.new }
         ensures spoiled { IfErr result (λ fault. build_state self.new ≡ record (build_state self.old) { spoiled = Some fault }) }
-        ensures refused { IfErr result (IsAnswerTo self.old.spoiled) }
+        ensures refused { IfErr result (RefusedFor self.old.spoiled) }
     {
         self.check()?;
         let images = self.ring.len();

@@ -1,4 +1,5 @@
 ghost use Rattle.std.specs.Prelude.{◌≡◌, ◌≢◌, [], length, true, Some, None, is_some, IfOk, IfErr, OnOk, OnErr, MatchResult, slice_get};
+ghost use Rattle.keybytes.specs.Faults.{RefusedFor};
 ghost use Rattle.heap_log.specs.Standing.{live_at};
 ghost use Rattle.heap_table.specs.HeapState.{row_missing, after_visit};
 ghost use Rattle.heap_table.specs.Pages.{pages_written};
@@ -104,8 +105,7 @@ impl Core {
         ensures ok { IfOk result (λ row. live_at self.old.heap.log rid ≡ Some row) }
         ensures visited { OnOk result (self.new ≡ with_heap self.old (after_visit self.old.heap)) }
         ensures unchanged { OnErr result (self.new ≡ self.old) }
-        ensures refused { IfErr result (λ fault. fault ≢ Fault.Memory → row_missing (live_at self.old.heap.log rid) ≡ Some fault) }
-        ensures memory { IfErr result (λ fault. fault ≡ Fault.Memory → row_missing (live_at self.old.heap.log rid) ≡ None) }
+        ensures refused { IfErr result (RefusedFor (row_missing (live_at self.old.heap.log rid))) }
     {
         self.live.get(rid)
     }

@@ -1,4 +1,5 @@
 ghost use Rattle.std.specs.Prelude.{◌≡◌, ◌≢◌, ◌+◌, ◌<◌, ◌∷◌, ◌++◌, [], List, length, Some, None, IfOk, IfErr, OnOk, OnErr, IsOk, slice_get, MatchResult, vec_len, vec_capacity};
+ghost use Rattle.keybytes.specs.Faults.{RefusedFor};
 ghost use Rattle.keybytes.specs.Rows.{row_bytes};
 ghost use Rattle.heap_log.specs.declared.outcome.Outcome.{Outcome};
 ghost use Rattle.heap_table.specs.HeapState.{begin_refusal, txn_refusal, insert_refusal, insert_place, update_refusal, delete_refusal, undo_refusal, undone_number, after_begin, after_write, after_step, after_commit, after_switch, after_visit, row_missing};
@@ -73,8 +74,7 @@ impl Live {
         ensures begun { OnOk result (self.new ≡ live_with_heap self.old (after_begin self.old.heap)) }
         ensures accepted { OnOk result (begin_refusal self.old.heap ≡ None) }
         ensures unchanged { OnErr result (self.new ≡ self.old) }
-        ensures refused { IfErr result (λ fault. fault ≢ Fault.Memory → begin_refusal self.old.heap ≡ Some fault) }
-        ensures memory { IfErr result (λ fault. fault ≡ Fault.Memory → begin_refusal self.old.heap ≡ None) }
+        ensures refused { IfErr result (RefusedFor (begin_refusal self.old.heap)) }
     {
         self.heap.begin()
     }
@@ -111,8 +111,7 @@ impl Live {
         ensures written { OnOk result (self.new ≡ live_with_heap self.old (after_write self.old.heap txn rid None)) }
         ensures accepted { OnOk result (delete_refusal self.old.heap txn rid ≡ None) }
         ensures unchanged { OnErr result (self.new ≡ self.old) }
-        ensures refused { IfErr result (λ fault. fault ≢ Fault.Memory → delete_refusal self.old.heap txn rid ≡ Some fault) }
-        ensures memory { IfErr result (λ fault. fault ≡ Fault.Memory → delete_refusal self.old.heap txn rid ≡ None) }
+        ensures refused { IfErr result (RefusedFor (delete_refusal self.old.heap txn rid)) }
     {
         self.heap.delete(txn, rid)
     }
@@ -125,8 +124,7 @@ impl Live {
         ensures undone { OnOk result (self.new ≡ live_with_heap self.old (after_step self.old.heap txn (newest_standing self.old.heap.log txn))) }
         ensures accepted { OnOk result (undo_refusal self.old.heap txn ≡ None) }
         ensures unchanged { OnErr result (self.new ≡ self.old) }
-        ensures refused { IfErr result (λ fault. fault ≢ Fault.Memory → undo_refusal self.old.heap txn ≡ Some fault) }
-        ensures memory { IfErr result (λ fault. fault ≡ Fault.Memory → undo_refusal self.old.heap txn ≡ None) }
+        ensures refused { IfErr result (RefusedFor (undo_refusal self.old.heap txn)) }
     {
         self.heap.undo_step(txn)
     }
@@ -137,8 +135,7 @@ impl Live {
         ensures rows { KeepsRows self.old.heap.log self.new.heap.log }
         ensures accepted { OnOk result (txn_refusal self.old.heap txn ≡ None) }
         ensures unchanged { OnErr result (self.new ≡ self.old) }
-        ensures refused { IfErr result (λ fault. fault ≢ Fault.Memory → txn_refusal self.old.heap txn ≡ Some fault) }
-        ensures memory { IfErr result (λ fault. fault ≡ Fault.Memory → txn_refusal self.old.heap txn ≡ None) }
+        ensures refused { IfErr result (RefusedFor (txn_refusal self.old.heap txn)) }
     {
         self.heap.commit(txn)
     }
@@ -177,8 +174,7 @@ impl Live {
         ensures ok { IfOk result (λ row. live_at self.old.heap.log rid ≡ Some row) }
         ensures visited { OnOk result (self.new ≡ live_with_heap self.old (after_visit self.old.heap)) }
         ensures unchanged { OnErr result (self.new ≡ self.old) }
-        ensures refused { IfErr result (λ fault. fault ≢ Fault.Memory → row_missing (live_at self.old.heap.log rid) ≡ Some fault) }
-        ensures memory { IfErr result (λ fault. fault ≡ Fault.Memory → row_missing (live_at self.old.heap.log rid) ≡ None) }
+        ensures refused { IfErr result (RefusedFor (row_missing (live_at self.old.heap.log rid))) }
     {
         self.heap.get(rid)
     }

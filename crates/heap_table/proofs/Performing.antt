@@ -21,7 +21,7 @@ use Rattle.heap_log.proofs.Numbers.{newest_standing-of}
 use Rattle.slotted_page.specs.Slot.{Slot, reserve_of, IsRow as HasRow, IsHeld, IsTaken}
 use Rattle.slotted_page.specs.Page.{PageValue, room_for, fits_at}
 use Rattle.heap_table.specs.declared.ready.Ready.{Ready}
-use Rattle.heap_table.specs.HeapState.{HeapState, is_open, still_open, page_of, txn_refusal, held_refusal, growth_refusal, row_missing, insert_refusal, insert_place}
+use Rattle.heap_table.specs.HeapState.{HeapState, is_open, still_open, page_of, txn_refusal, held_refusal, growth_refusal, row_missing, insert_refusal, insert_place, new_row_refusal}
 use Rattle.heap_table.specs.Holders.{holder, row_size, room_needed}
 use Rattle.heap_table.specs.Kept.{IsKept, WritesFit}
 use Rattle.heap_table.specs.PageLists.{PagesValue, new_page, page_or_new, slot_in, with_slot_in, changed}
@@ -69,14 +69,14 @@ can_change s p txn rid None None kept is sized lawful = absurd lawful
 can_change s p txn rid None (Some new) kept is sized lawful =
     let goes = goes_to s p (length (row_bytes new)) rid kept sized.1 lawful.1 in
     let causes = both_none _ _ lawful.0 in
-    let shape = both_none _ _ causes.1 in
+    let early = both_none _ _ causes.0 in
     record {
-      opened = open_accepted s txn causes.0;
+      opened = open_accepted s txn early.0;
       free_for = ap (held_refusal txn) (slot_free s.log rid goes.empty).1;
       page = goes.page;
       slot = goes.slot;
       below = goes.limit;
-      fit = λ cells e. (subst IsRow (same_Some new cells e) sized.0, ap (fits s.schema) (sym (same_Some new cells e)) ∙ fits_accepted s.schema new shape.0);
+      fit = λ cells e. (subst IsRow (same_Some new cells e) sized.0, ap (fits s.schema) (sym (same_Some new cells e)) ∙ fits_accepted s.schema new early.1);
     }
 can_change s p txn rid (Some old) None kept is sized lawful =
     let place = standing_place s p rid old kept (sym is) in
@@ -93,15 +93,15 @@ can_change s p txn rid (Some old) None kept is sized lawful =
 can_change s p txn rid (Some old) (Some new) kept is sized lawful =
     let place = standing_place s p rid old kept (sym is) in
     let causes = both_none _ _ lawful in
-    let shape = both_none _ _ causes.1 in
-    let rest = both_none _ _ shape.1 in
+    let early = both_none _ _ causes.0 in
+    let rest = both_none _ _ causes.1 in
     record {
-      opened = open_accepted s txn causes.0;
+      opened = open_accepted s txn early.0;
       free_for = rest.0;
       page = omega (arith, place.0);
       slot = omega (arith, place.1.0);
       below = place.1.1;
-      fit = λ cells e. (subst IsRow (same_Some new cells e) sized.0, ap (fits s.schema) (sym (same_Some new cells e)) ∙ fits_accepted s.schema new shape.0);
+      fit = λ cells e. (subst IsRow (same_Some new cells e) sized.0, ap (fits s.schema) (sym (same_Some new cells e)) ∙ fits_accepted s.schema new early.1);
     }
 
 -- the room that an accepted update has
@@ -132,9 +132,8 @@ can_write s p txn rid None (Some new) kept memory is sized lawful =
 can_write s p txn rid (Some old) None kept memory is sized lawful =
     subst HasRow (sym (kept_slot s p rid kept)) (row_there s.log rid old (sym is))
 can_write s p txn rid (Some old) (Some new) kept memory is sized lawful =
-    let causes = both_none (txn_refusal s txn) _ lawful in
-    let shape = both_none (shape_refusal s.schema new) _ causes.1 in
-    let rest = both_none (held_refusal txn (holder s.log rid)) _ shape.1 in
+    let causes = both_none (new_row_refusal s txn new) _ lawful in
+    let rest = both_none (held_refusal txn (holder s.log rid)) _ causes.1 in
     let growth = both_none (row_missing (live_at s.log rid)) (growth_refusal s rid (length (row_bytes new))) rest.1 in (
       subst HasRow (sym (kept_slot s p rid kept)) (row_there s.log rid old (sym is)),
       ap (λ (q : PageValue). fits_at q rid.slot (length (row_bytes new))) (page_there s p rid old 0 kept (sym is))

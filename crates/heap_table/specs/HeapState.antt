@@ -80,15 +80,13 @@ abbrev pub place_refusal : Option Rid → Option Fault
 place_refusal None = Some TableFull
 place_refusal (Some rid) = None
 
--- why a write is refused before any memory is taken for it
-abbrev pub early_refusal : HeapState → ℕ → List Cell → Option Fault
-early_refusal s txn cells = first_cause (txn_refusal s txn) (shape_refusal s.schema cells)
+-- why a transaction may write no such row, wherever it goes
+abbrev pub new_row_refusal : HeapState → ℕ → List Cell → Option Fault
+new_row_refusal s txn cells = first_cause (txn_refusal s txn) (shape_refusal s.schema cells)
 
 -- why an insert is refused
 abbrev pub insert_refusal : HeapState → ℕ → List Cell → Option Fault
-insert_refusal s txn cells =
-    first_cause (txn_refusal s txn)
-    (first_cause (shape_refusal s.schema cells) (place_refusal (insert_place s (length (row_bytes cells)))))
+insert_refusal s txn cells = first_cause (new_row_refusal s txn cells) (place_refusal (insert_place s (length (row_bytes cells))))
 
 -- why there is no row to give
 abbrev pub row_missing : Option (List Cell) → Option Fault
@@ -112,10 +110,9 @@ delete_refusal s txn rid =
 -- why an update is refused
 abbrev pub update_refusal : HeapState → ℕ → Rid → List Cell → Option Fault
 update_refusal s txn rid cells =
-    first_cause (txn_refusal s txn)
-    (first_cause (shape_refusal s.schema cells)
+    first_cause (new_row_refusal s txn cells)
     (first_cause (held_refusal txn (holder s.log rid))
-    (first_cause (row_missing (live_at s.log rid)) (growth_refusal s rid (length (row_bytes cells))))))
+    (first_cause (row_missing (live_at s.log rid)) (growth_refusal s rid (length (row_bytes cells)))))
 
 -- why no write of a transaction is undone
 abbrev pub undo_refusal : HeapState → ℕ → Option Fault

@@ -1,9 +1,10 @@
 ghost use Rattle.std.specs.Prelude.{◌≡◌, ◌≢◌, ◌<◌, ◌≤◌, ◌+◌, ◌==◌, ℕ, if◌then◌else◌, length, filter, nat_lt, true, Some, None, IsSome, IfSome, IfOk, IfErr, OnOk, OnErr, MatchResult, List, Option};
 ghost use Rattle.keybytes.specs.declared.cell.Cell.{Cell};
+ghost use Rattle.keybytes.specs.Faults.{RefusedFor};
 ghost use Rattle.keybytes.specs.Rows.{row_bytes, shape_refusal};
 ghost use Rattle.heap_log.specs.Standing.{record_at, rid_of, place_of, live_at, row_at, newest_standing, standing_before, standing_count};
 ghost use Rattle.slotted_page.specs.Slot.{IsRowSize};
-ghost use Rattle.heap_table.specs.HeapState.{HeapState, limits_refusal, empty_heap, is_open, is_ending, txn_refusal, held_refusal, growth_refusal, undo_refusal, begin_refusal, insert_place, place_on, place_refusal, early_refusal, insert_refusal, update_refusal, delete_refusal, row_missing, without, after_begin, after_write, after_commit, after_switch, after_step, undone_number, with_room, after_visit, busy_txns};
+ghost use Rattle.heap_table.specs.HeapState.{HeapState, limits_refusal, empty_heap, is_open, is_ending, txn_refusal, held_refusal, growth_refusal, undo_refusal, begin_refusal, insert_place, place_on, place_refusal, new_row_refusal, insert_refusal, update_refusal, delete_refusal, row_missing, without, after_begin, after_write, after_commit, after_switch, after_step, undone_number, with_room, after_visit, busy_txns};
 ghost use Rattle.heap_table.specs.Holders.{holder};
 ghost use Rattle.heap_table.specs.Pages.{pages_written, rows_on, SetsRow, KeepsRows, RowsAreInside};
 ghost use Rattle.heap_table.specs.Kept.{RowsFit};
@@ -181,8 +182,7 @@ impl Heap {
         ensures begun { OnOk result (self.new ≡ after_begin self.old) }
         ensures accepted { OnOk result (begin_refusal self.old ≡ None) }
         ensures unchanged { OnErr result (self.new ≡ self.old) }
-        ensures refused { IfErr result (λ fault. fault ≢ Fault.Memory → begin_refusal self.old ≡ Some fault) }
-        ensures memory { IfErr result (λ fault. fault ≡ Fault.Memory → begin_refusal self.old ≡ None) }
+        ensures refused { IfErr result (RefusedFor (begin_refusal self.old)) }
     {
         if self.open_txns.len() >= OPEN_MAX || self.begun == u64::MAX {
             return Err(Fault::TooManyTxns);
@@ -231,8 +231,7 @@ impl Heap {
     /// The row that stands at a RID.
     fn read(&self, rid: Rid) -> Result<Row, Fault>
         ensures ok { IfOk result (λ row. live_at self.now.log rid ≡ Some row) }
-        ensures refused { IfErr result (λ fault. fault ≢ Fault.Memory → row_missing (live_at self.now.log rid) ≡ Some fault) }
-        ensures memory { IfErr result (λ fault. fault ≡ Fault.Memory → row_missing (live_at self.now.log rid) ≡ None) }
+        ensures refused { IfErr result (RefusedFor (row_missing (live_at self.now.log rid))) }
     {
         match self.row_at(rid)? {
             Some(row) => Ok(row),
@@ -274,7 +273,7 @@ impl Heap {
         ensures accepted { OnOk result (insert_refusal self.old txn row ≡ None) }
         ensures unchanged { OnErr result (self.new ≡ self.old) }
         ensures refused { IfErr result (λ fault. fault ≢ Fault.Memory → insert_refusal self.old txn row ≡ Some fault) }
-        ensures memory { IfErr result (λ fault. fault ≡ Fault.Memory → early_refusal self.old txn row ≡ None) }
+        ensures memory { IfErr result (λ fault. fault ≡ Fault.Memory → new_row_refusal self.old txn row ≡ None) }
     {
         self.check_txn(txn)?;
         let bytes = row.to_bytes(&self.schema)?;
@@ -299,7 +298,7 @@ impl Heap {
         ensures accepted { OnOk result (update_refusal self.old txn rid row ≡ None) }
         ensures unchanged { OnErr result (self.new ≡ self.old) }
         ensures refused { IfErr result (λ fault. fault ≢ Fault.Memory → update_refusal self.old txn rid row ≡ Some fault) }
-        ensures memory { IfErr result (λ fault. fault ≡ Fault.Memory → early_refusal self.old txn row ≡ None) }
+        ensures memory { IfErr result (λ fault. fault ≡ Fault.Memory → new_row_refusal self.old txn row ≡ None) }
     {
         self.check_txn(txn)?;
         let bytes = row.to_bytes(&self.schema)?;
@@ -325,8 +324,7 @@ impl Heap {
         ensures room { OnOk result (self.new ≡ with_room self.old) }
         ensures accepted { OnOk result (delete_refusal self.old txn rid ≡ None) }
         ensures unchanged { OnErr result (self.new ≡ self.old) }
-        ensures refused { IfErr result (λ fault. fault ≢ Fault.Memory → delete_refusal self.old txn rid ≡ Some fault) }
-        ensures memory { IfErr result (λ fault. fault ≡ Fault.Memory → delete_refusal self.old txn rid ≡ None) }
+        ensures refused { IfErr result (RefusedFor (delete_refusal self.old txn rid)) }
     {
         self.check_txn(txn)?;
         self.check_hold(txn, rid)?;
@@ -352,8 +350,7 @@ impl Heap {
         ensures none { result ≡ Ok None → (newest_standing self.old.log txn ≡ None) × (self.new ≡ self.old) }
         ensures accepted { OnOk result (undo_refusal self.old txn ≡ None) }
         ensures unchanged { OnErr result (self.new ≡ self.old) }
-        ensures refused { IfErr result (λ fault. fault ≢ Fault.Memory → undo_refusal self.old txn ≡ Some fault) }
-        ensures memory { IfErr result (λ fault. fault ≡ Fault.Memory → undo_refusal self.old txn ≡ None) }
+        ensures refused { IfErr result (RefusedFor (undo_refusal self.old txn)) }
     {
         if !has(&self.open_txns, txn) {
             return Err(Fault::NoSuchTxn);
@@ -475,7 +472,7 @@ impl Heap {
         ensures accepted { OnOk result (insert_refusal self.old txn row ≡ None) }
         ensures unchanged { OnErr result (self.new ≡ self.old) }
         ensures refused { IfErr result (λ fault. fault ≢ Fault.Memory → insert_refusal self.old txn row ≡ Some fault) }
-        ensures memory { IfErr result (λ fault. fault ≡ Fault.Memory → early_refusal self.old txn row ≡ None) }
+        ensures memory { IfErr result (λ fault. fault ≡ Fault.Memory → new_row_refusal self.old txn row ≡ None) }
     {
         let ready = self.ready_insert(txn, row)?;
         Ok(self.write(ready))
@@ -491,7 +488,7 @@ impl Heap {
         ensures accepted { OnOk result (update_refusal self.old txn rid row ≡ None) }
         ensures unchanged { OnErr result (self.new ≡ self.old) }
         ensures refused { IfErr result (λ fault. fault ≢ Fault.Memory → update_refusal self.old txn rid row ≡ Some fault) }
-        ensures memory { IfErr result (λ fault. fault ≡ Fault.Memory → early_refusal self.old txn row ≡ None) }
+        ensures memory { IfErr result (λ fault. fault ≡ Fault.Memory → new_row_refusal self.old txn row ≡ None) }
     {
         let ready = self.ready_update(txn, rid, row)?;
         Ok(self.write(ready))
@@ -505,8 +502,7 @@ impl Heap {
         ensures written { OnOk result (self.new ≡ after_write self.old txn rid None) }
         ensures accepted { OnOk result (delete_refusal self.old txn rid ≡ None) }
         ensures unchanged { OnErr result (self.new ≡ self.old) }
-        ensures refused { IfErr result (λ fault. fault ≢ Fault.Memory → delete_refusal self.old txn rid ≡ Some fault) }
-        ensures memory { IfErr result (λ fault. fault ≡ Fault.Memory → delete_refusal self.old txn rid ≡ None) }
+        ensures refused { IfErr result (RefusedFor (delete_refusal self.old txn rid)) }
     {
         let ready = self.ready_delete(txn, rid)?;
         Ok(self.write(ready))
@@ -523,8 +519,7 @@ impl Heap {
             → SetsRow self.old.log (rid_of (record_at self.old.log n)) (row_at self.old.log (standing_before self.old.log n)) self.new.log) }
         ensures accepted { OnOk result (undo_refusal self.old txn ≡ None) }
         ensures unchanged { OnErr result (self.new ≡ self.old) }
-        ensures refused { IfErr result (λ fault. fault ≢ Fault.Memory → undo_refusal self.old txn ≡ Some fault) }
-        ensures memory { IfErr result (λ fault. fault ≡ Fault.Memory → undo_refusal self.old txn ≡ None) }
+        ensures refused { IfErr result (RefusedFor (undo_refusal self.old txn)) }
     {
         let Some(ready) = self.ready_undo(txn)? else {
             end(&mut self.open_txns, txn);
@@ -544,8 +539,7 @@ impl Heap {
         ensures rows { KeepsRows self.old.log self.new.log }
         ensures accepted { OnOk result (txn_refusal self.old txn ≡ None) }
         ensures unchanged { OnErr result (self.new ≡ self.old) }
-        ensures refused { IfErr result (λ fault. fault ≢ Fault.Memory → txn_refusal self.old txn ≡ Some fault) }
-        ensures memory { IfErr result (λ fault. fault ≡ Fault.Memory → txn_refusal self.old txn ≡ None) }
+        ensures refused { IfErr result (RefusedFor (txn_refusal self.old txn)) }
     {
         self.check_txn(txn)?;
         self.log.reserve(1)?;
@@ -584,8 +578,7 @@ impl Heap {
         ensures ok { IfOk result (λ row. live_at self.old.log rid ≡ Some row) }
         ensures visited { OnOk result (self.new ≡ after_visit self.old) }
         ensures unchanged { OnErr result (self.new ≡ self.old) }
-        ensures refused { IfErr result (λ fault. fault ≢ Fault.Memory → row_missing (live_at self.old.log rid) ≡ Some fault) }
-        ensures memory { IfErr result (λ fault. fault ≡ Fault.Memory → row_missing (live_at self.old.log rid) ≡ None) }
+        ensures refused { IfErr result (RefusedFor (row_missing (live_at self.old.log rid))) }
     {
         let row = self.read(rid)?;
         self.visits = self.visits.saturating_add(1);

@@ -1,5 +1,5 @@
 -- How a key grows while its columns are written.
-use Rattle.std.proofs.Common.{◌≡◌, ℕ, zero, suc, ◌+◌, ◌<◌, ◌≤◌, nat_lt, true, List, [], ◌∷◌, ◌++◌, map, length, take, drop, get_or, slice_index_or, refl, sym, ap, ap₂, ◌∙◌, arith, append-nil, length-append, lit≤}
+use Rattle.std.proofs.Common.{◌≡◌, ℕ, zero, suc, ◌+◌, ◌<◌, ◌≤◌, nat_lt, true, List, [], ◌∷◌, ◌++◌, map, length, take, drop, get_or, slice_index_or, sym, ap, ap₂, ◌∙◌, arith, append-nil, length-append, lit≤}
 use Rattle.std.specs.List.{All, flat_map}
 use Rattle.std.proofs.lemmas.Bool.{and_parts, ltb-true, leb-true}
 use Rattle.std.proofs.lemmas.List.{map_more, take-map, get_or-map, length-map, drop_more, get_or_read}

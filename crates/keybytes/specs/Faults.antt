@@ -1,5 +1,5 @@
 -- The number and the name of each refusal.
-use Rattle.std.specs.Prelude.{ℕ, List, codes, Option, Some, None}
+use Rattle.std.specs.Prelude.{◌≡◌, ◌⊎◌, ℕ, List, codes, Option, Some, None}
 use Rattle.keybytes.specs.declared.fault.Fault.{Fault}
 use Rattle.keybytes.specs.declared.fault.Fault.TheVariants.{BadColumn, TextTooLong, RowShape, TableFull, NoSuchRow, RowHeld, PageFull, NoSuchTxn, TooManyTxns, TxnEnding, Fenced, Duplicate, KeyHeld, BuildRunning, NoBuild, BadRanges, BadCount, SpoolNotEmpty, RangeDone, RingFull, NotScanned, NotLoaded, Behind, Busy, NoPage, Short, BadScript, NotSealed, Memory}
 
@@ -71,3 +71,7 @@ name_of Memory = codes "Memory"
 abbrev pub first_cause : Option Fault → Option Fault → Option Fault
 first_cause (Some fault) rest = Some fault
 first_cause None rest = rest
+
+-- a refusal where there may be a cause: it is the cause, or want of memory where there is none
+abbrev pub RefusedFor : Option Fault → Fault → Type 0
+RefusedFor cause fault = (cause ≡ Some fault) ⊎ ((cause ≡ None) × (fault ≡ Memory))

@@ -1,5 +1,6 @@
-ghost use Rattle.std.specs.Prelude.{◌≡◌, ◌≤◌, ◌↔◌, List, IsTrue, IsOk, IfOk, IfErr, OnOk, true, None, length, unwrap_or};
+ghost use Rattle.std.specs.Prelude.{◌≡◌, ◌≤◌, ◌↔◌, List, IsTrue, IsOk, IfOk, IfErr, OnOk, true, None, length};
 ghost use Rattle.keybytes.specs.Cells.{fits};
+ghost use Rattle.keybytes.specs.Faults.{RefusedFor};
 ghost use Rattle.keybytes.specs.Keys.{are_key_columns, key_columns, key_columns_refusal, key_of, HasKey, IsKeyOf, IsRowOf, StandsForColumns};
 ghost use Rattle.keybytes.specs.declared.cell.Cell.{Cell};
 
@@ -45,7 +46,7 @@ impl KeySpec {
         ensures columns { IfOk result (λ spec. spec.columns ≡ columns.items) }
         ensures unique { IfOk result (λ spec. spec.unique ≡ unique) }
         ensures accepted { OnOk result (key_columns_refusal schema.now columns.items ≡ None) }
-        ensures refused { IfErr result (λ fault. fault ≡ unwrap_or (key_columns_refusal schema.now columns.items) Fault.Memory) }
+        ensures refused { IfErr result (RefusedFor (key_columns_refusal schema.now columns.items)) }
     {
         if !are_key_columns(schema.kinds(), columns.as_slice()) {
             return Err(Fault::BadColumn);

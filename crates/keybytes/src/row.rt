@@ -1,5 +1,6 @@
 ghost use Rattle.std.specs.Prelude.{List, ◌≡◌, ◌≢◌, ◌≤◌, ◌<◌, length, IfOk, IfErr, OnOk, Some, None, true};
 ghost use Rattle.keybytes.specs.declared.cell.Cell.{Cell};
+ghost use Rattle.keybytes.specs.Faults.{RefusedFor};
 ghost use Rattle.keybytes.specs.Rows.{IsRow, row_bytes, row_refusal, shape_refusal, Spells, RefusesRow};
 ghost use Rattle.keybytes.specs.Cells.{fits};
 
@@ -80,8 +81,7 @@ impl Row {
     pub fn to_bytes(&self, schema: &Schema) -> Result<Vec<u8>, Fault>
         ensures ok { IfOk result (λ bytes. bytes.items ≡ row_bytes self.now) }
         ensures accepted { OnOk result (shape_refusal schema.now self.now ≡ None) }
-        ensures refused { IfErr result (λ fault. fault ≢ Fault.Memory → shape_refusal schema.now self.now ≡ Some fault) }
-        ensures memory { IfErr result (λ fault. fault ≡ Fault.Memory → fits schema.now self.now ≡ true) }
+        ensures refused { IfErr result (RefusedFor (shape_refusal schema.now self.now)) }
         ensures is_row { OnOk result (IsRow self.now) }
         ensures some { IfOk result (λ bytes. 0 < length bytes.items) }
         ensures size { IfOk result (λ bytes. length bytes.items ≤ 1224) }

@@ -1,7 +1,7 @@
 -- The key specifications that a record names, taken one after the other.
-use Rattle.std.proofs.Common.{◌≡◌, ◌≢◌, unwrap_or, List, [], ◌∷◌, ◌++◌, map, Option, Some, None, refl, subst, ap, sym, ◌∙◌}
+use Rattle.std.proofs.Common.{◌≡◌, ◌≢◌, List, [], ◌∷◌, ◌++◌, map, Option, Some, None, inl, inr, refl, subst, ap, sym, ◌∙◌}
 use Rattle.std.proofs.lemmas.List.{append_assoc}
-use Rattle.keybytes.specs.Faults.{first_cause}
+use Rattle.keybytes.specs.Faults.{first_cause, RefusedFor}
 use Rattle.keybytes.specs.Keys.{KeySpecValue, key_columns_refusal}
 use Rattle.keybytes.specs.declared.fault.Fault.{Fault}
 use Rattle.keybytes.specs.declared.fault.Fault.TheVariants.{Memory}
@@ -28,12 +28,12 @@ pub accepted_first : (schema : List Kind) (spec : Spec) (rest : List Spec) → k
 accepted_first schema spec rest accepted = rw accepted refl
 
 -- the cause of a refusal that is not want of memory
-pub cause_of : (cause : Option Fault) (fault : Fault) → fault ≡ unwrap_or cause Memory → fault ≢ Memory → cause ≡ Some fault
-cause_of None fault is other = absurd (other is)
-cause_of (Some cause) fault is other = ap Some (sym is)
+cause_of : (cause : Option Fault) (fault : Fault) → RefusedFor cause fault → fault ≢ Memory → cause ≡ Some fault
+cause_of cause fault (inl is) other = is
+cause_of cause fault (inr (none, is)) other = absurd (other is)
 
 -- the first of the rest is refused
 pub refused_first : (schema : List Kind) (spec : Spec) (rest : List Spec) (fault : Fault)
-    → fault ≡ unwrap_or (key_columns_refusal schema spec.columns.items) Memory → fault ≢ Memory → specs_refusal schema (spec ∷ rest) ≡ Some fault
+    → RefusedFor (key_columns_refusal schema spec.columns.items) fault → fault ≢ Memory → specs_refusal schema (spec ∷ rest) ≡ Some fault
 refused_first schema spec rest fault is other =
     subst (λ (cause : Option Fault). first_cause cause (specs_refusal schema rest) ≡ Some fault) (sym (cause_of _ fault is other)) refl

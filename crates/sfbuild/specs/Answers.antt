@@ -1,7 +1,7 @@
 -- What a record is answered, and what it leaves of the table, the labels and the status.
 use Rattle.std.specs.Prelude.{◌≡◌, ◌≢◌, ℕ, zero, suc, false, not, is_some, vec_len, List, [], ◌∷◌, map, Option, Some, None, Result, Ok, Err, ◌⊎◌, if◌then◌else◌}
 use Rattle.std.specs.List.{list_any}
-use Rattle.keybytes.specs.Faults.{first_cause}
+use Rattle.keybytes.specs.Faults.{first_cause, RefusedFor}
 use Rattle.keybytes.specs.Keys.{key_columns_refusal}
 use Rattle.keybytes.specs.Rows.{row_refusal}
 use Rattle.keybytes.specs.declared.cell.Cell.{Cell}
@@ -100,15 +100,15 @@ AnswersRow cells old given new =
     × FailsToPut cells txn begun fault failed × TakesBack more failed txn new)
     ⊎ ((fault : Fault) × (given ≡ answer.Refused fault) × Step old event.Begin (reply.Refused fault) new)
 
--- the row that stands at the RID is given, or there is none; want of memory aside
+-- the row that stands at the RID is given, or there is none
 abbrev pub GivesRow : Rid → CoreState → Answer → CoreState → Type 0
 GivesRow rid old given new =
     ((row : List Cell) × (given ≡ answer.Cells row) × (live_at old.heap.log rid ≡ Some row) × (new ≡ with_heap old (after_visit old.heap)))
-    ⊎ ((fault : Fault) × (given ≡ answer.Refused fault) × (fault ≢ Memory → row_missing (live_at old.heap.log rid) ≡ Some fault) × (new ≡ old))
+    ⊎ ((fault : Fault) × (given ≡ answer.Refused fault) × RefusedFor (row_missing (live_at old.heap.log rid)) fault × (new ≡ old))
 
 -- why no plan is made of a record `start`
-abbrev pub plan_refusal : CoreState → Start → Option Fault
-plan_refusal s start =
+abbrev pub planning_refusal : CoreState → Start → Option Fault
+planning_refusal s start =
     first_cause (cause_if (is_some s.build) BuildRunning)
     (cause_if (not (is_in_limits start.workers (vec_len start.specs) start.quota)) BadCount)
 
@@ -147,7 +147,7 @@ AnswersRecord old (Undo label) given new =
 AnswersRecord old (Commit label) given new =
     OnTxn (named old.labels label) old.core given new (λ txn. AnswersEvent (event.Commit txn) old.core given new)
 AnswersRecord old (Get rid) given new = GivesRow rid old.core given new
-AnswersRecord old (StartRecord start) given new = Unless (plan_refusal old.core start) old.core given new (StartsPlan start old.core given new)
+AnswersRecord old (StartRecord start) given new = Unless (planning_refusal old.core start) old.core given new (StartsPlan start old.core given new)
 AnswersRecord old (Scan range worker) given new = AnswersEvent (event.Scan range worker) old.core given new
 AnswersRecord old (Seal worker) given new = AnswersEvent (event.Seal worker) old.core given new
 AnswersRecord old (Load index) given new = AnswersEvent (event.Load index) old.core given new

@@ -1,10 +1,11 @@
 -- The pairs of an index as they are listed: those of a ready one, and those of the table at rest.
-use Rattle.std.specs.Prelude.{◌≡◌, ◌≢◌, ℕ, Vec, slice_get, List, Option, Some, None, ◌⊎◌}
+use Rattle.std.specs.Prelude.{◌≡◌, ℕ, Vec, slice_get, List, Option, Some, None, ◌⊎◌}
 use Rattle.std.specs.declared.alloc.Global.{Global}
 use Rattle.std.specs.List.{AllZip}
+use Rattle.keybytes.specs.Faults.{RefusedFor}
 use Rattle.keybytes.specs.Keys.{KeySpecValue, HasKey, key_columns_refusal}
 use Rattle.keybytes.specs.declared.fault.Fault.{Fault}
-use Rattle.keybytes.specs.declared.fault.Fault.TheVariants.{BadCount, Memory}
+use Rattle.keybytes.specs.declared.fault.Fault.TheVariants.{BadCount}
 use Rattle.keybytes.specs.declared.kind.Kind.{Kind}
 use Rattle.builder_core.specs.CoreState.{CoreState, ReadyValue}
 use Rattle.builder_core.specs.Pairs.{pairs_at_rest}
@@ -32,20 +33,25 @@ abbrev pub ListsReady : Option ReadyValue → Answer → Type 0
 ListsReady None given = ⊥
 ListsReady (Some index) given = ListsPairs index.spec index.pairs given
 
--- the pairs of a ready index are listed, or there is no index of that number; want of memory aside
+-- why there is no index to list
+abbrev pub index_missing : Option ReadyValue → Option Fault
+index_missing None = Some BadCount
+index_missing (Some index) = None
+
+-- the pairs of a ready index are listed, or there is no index of that number
 abbrev pub AnswersPairs : ℕ → CoreState → Answer → CoreState → Type 0
 AnswersPairs number old given new =
     (new ≡ old)
     × (ListsReady (slice_get old.ready number) given
-    ⊎ ((fault : Fault) × (given ≡ answer.Refused fault) × (fault ≢ Memory → (fault ≡ BadCount) × (slice_get old.ready number ≡ None))))
+    ⊎ ((fault : Fault) × (given ≡ answer.Refused fault) × RefusedFor (index_missing (slice_get old.ready number)) fault))
 
 -- nothing has changed but how often rows were given out
 abbrev pub OnlyVisits : CoreState → CoreState → Type 0
 OnlyVisits old new = new ≡ with_heap old (record old.heap { visits = new.heap.visits })
 
--- the pairs of the rows that stand are listed, or the specification is refused; want of memory aside
+-- the pairs of the rows that stand are listed, or the specification is refused
 abbrev pub AnswersRest : Spec → CoreState → Answer → CoreState → Type 0
 AnswersRest spec old given new =
     OnlyVisits old new
     × (ListsPairs (key_spec_of old.heap.schema spec) (pairs_at_rest (key_spec_of old.heap.schema spec) old.heap.log) given
-    ⊎ ((fault : Fault) × (given ≡ answer.Refused fault) × (fault ≢ Memory → key_columns_refusal old.heap.schema spec.columns.items ≡ Some fault)))
+    ⊎ ((fault : Fault) × (given ≡ answer.Refused fault) × RefusedFor (key_columns_refusal old.heap.schema spec.columns.items) fault))

@@ -1,10 +1,11 @@
 //! The table that a script runs on.
-ghost use Rattle.std.specs.Prelude.{◌≡◌, ◌≢◌, ℕ, map, vec_len, unwrap_or, Some, None, OnOk, IfOk, IfErr};
+ghost use Rattle.std.specs.Prelude.{◌≡◌, ◌≢◌, ℕ, map, vec_len, Some, None, OnOk, IfOk, IfErr};
 ghost use Rattle.std.specs.List.{list_any, AllZip};
+ghost use Rattle.keybytes.specs.Faults.{RefusedFor};
 ghost use Rattle.keybytes.specs.Keys.{key_columns_refusal};
 ghost use Rattle.builder_core.specs.Pairs.{HaveKeysOf};
 ghost use Rattle.builder_core.specs.Steps.{Step};
-ghost use Rattle.sfbuild.specs.Answers.{answer_or_refusal, status_after, AnswersBegin, AnswersEvent, AnswersRecord, AnswersRow, FailsToPut, GivesRow, NotesBegun, NotesRecord, OnTxn, PutsRow, StartsPlan, TakesBack, Unless, plan_refusal, specs_refusal};
+ghost use Rattle.sfbuild.specs.Answers.{answer_or_refusal, status_after, AnswersBegin, AnswersEvent, AnswersRecord, AnswersRow, FailsToPut, GivesRow, NotesBegun, NotesRecord, OnTxn, PutsRow, StartsPlan, TakesBack, Unless, planning_refusal, specs_refusal};
 ghost use Rattle.builder_core.specs.declared.reply.Reply.{Reply as ReplyValue};
 ghost use Rattle.keybytes.specs.Rows.{row_refusal};
 ghost use Rattle.keybytes.specs.declared.rid.Rid.{Rid as RidValue};
@@ -222,7 +223,7 @@ impl Engine {
     }
 
     fn start(&mut self, start: Start) -> Result<Answer, Fault>
-        ensures core { Unless (plan_refusal self.old.core start) self.old.core (answer_or_refusal result) self.new.core (StartsPlan start self.old.core (answer_or_refusal result) self.new.core) }
+        ensures core { Unless (planning_refusal self.old.core start) self.old.core (answer_or_refusal result) self.new.core (StartsPlan start self.old.core (answer_or_refusal result) self.new.core) }
         ensures labels { self.new.labels ≡ self.old.labels }
         ensures status { self.new.status ≡ self.old.status }
     {
@@ -294,7 +295,7 @@ impl Engine {
         ensures columns { IfOk result (λ made. made.columns ≡ spec.columns.items) }
         ensures unique { IfOk result (λ made. made.unique ≡ spec.unique) }
         ensures accepted { OnOk result (key_columns_refusal self.now.core.heap.schema spec.columns.items ≡ None) }
-        ensures refused { IfErr result (λ fault. fault ≡ unwrap_or (key_columns_refusal self.now.core.heap.schema spec.columns.items) Fault.Memory) }
+        ensures refused { IfErr result (RefusedFor (key_columns_refusal self.now.core.heap.schema spec.columns.items)) }
     {
         KeySpec::new(self.alloc, self.core.schema(), spec.columns, spec.unique)
     }

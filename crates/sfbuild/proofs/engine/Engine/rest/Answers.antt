@@ -3,14 +3,14 @@ use Rattle.keybytes.specs.Keys.{KeySpecValue}
 use Rattle.builder_core.specs.Pairs.{pairs_at_rest}
 use Rattle.sfbuild.specs.Listings.{key_spec_of}
 use Rattle.sfbuild.proofs.KeyedPairs.{keyed_by, listed_by}
-use Rattle.sfbuild.proofs.SpecLists.{cause_of, is_named}
+use Rattle.sfbuild.proofs.SpecLists.{is_named}
 use Rattle.sfbuild.proofs.engine.Engine.rest.Goals as goal
 
 pub pair_lines-requires : goal.pair_lines-requires
 pair_lines-requires c = keyed_by _ _ _ _ refl c.as_slice.ensures.value c.in_ok-pairs.ensures.keys
 
 pub returns-in_err-spec-clause-core : goal.returns-in_err-spec-clause-core
-returns-in_err-spec-clause-core c = (refl, inr (c.in_err-spec.field-0.0, search rules, λ other. cause_of _ _ c.in_err-spec.ensures.refused other))
+returns-in_err-spec-clause-core c = (refl, inr (c.in_err-spec.field-0.0, search rules, c.in_err-spec.ensures.refused))
 
 pub returns-clause-core : goal.returns-clause-core
 returns-clause-core c =
