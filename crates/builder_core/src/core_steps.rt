@@ -1,11 +1,11 @@
-ghost use Rattle.std.specs.Prelude.{◌≡◌, ◌≢◌, [], length, true, Some, None, is_some, IfOk, IfErr, OnOk, OnErr, MatchResult, slice_get};
+ghost use Rattle.std.specs.Prelude.{◌≡◌, ◌≢◌, [], length, true, Some, None, is_some, IfOk, IfErr, OnOk, OnErr, MatchResult, MatchOption, slice_get};
 ghost use Rattle.keybytes.specs.Faults.{RefusedFor};
 ghost use Rattle.heap_log.specs.Standing.{live_at};
 ghost use Rattle.heap_table.specs.HeapState.{row_missing, after_visit};
-ghost use Rattle.heap_table.specs.Pages.{pages_written};
+ghost use Rattle.heap_table.specs.Pages.{pages_written, RowsAreInside};
 ghost use Rattle.builder_core.specs.Pairs.{pairs_at_rest, HaveKeysOf, AreInColumnOrder};
 ghost use Rattle.builder_core.specs.CoreState.{opening, live_of, after_visits, ReadyFollowTable};
-ghost use Rattle.builder_core.specs.Steps.{Step, Answers, is_one_range, with_heap, is_indexed};
+ghost use Rattle.builder_core.specs.Steps.{Step, Answers, only_spec, is_one_range, counts_fit, start_refusal, plan_refusal, with_heap, is_indexed};
 
 use crate::build::Build;
 use crate::{Dealing, Event, Live, Pair, Plan, ReadyIndex, Reply};
@@ -33,6 +33,16 @@ impl Model for Core {
     ghost view = { λ core. core_state core.live core.build };
 
     ghost invariant = { λ core. BuildFollows core.live.heap.schema core.live.heap.log core.build };
+}
+
+/// The specification of a plan with one.
+fn only_spec(plan: &Plan) -> Option<&KeySpec>
+    ensures { MatchOption result (only_spec plan.now.specs.items ≡ None) (λ spec. only_spec plan.now.specs.items ≡ Some spec.now) }
+{
+    match plan.specs.as_slice() {
+        [spec] => Some(spec),
+        _ => None,
+    }
 }
 
 /// Whether so many pages are dealt into one range.
@@ -213,23 +223,39 @@ impl Core {
         if self.build.is_some() {
             return Err(Fault::BuildRunning);
         }
-        let [spec] = plan.specs.as_slice() else {
-            return Err(Fault::BadCount);
-        };
-        if plan.workers != 1 || spec.unique() || self.live.ready().len() >= READY_MAX {
+        let spec = self.check_plan(plan)?.clone()?;
+        let pages = self.live.heap().pages();
+        self.build = Some(Build::new(self.live.allocator(), spec, pages));
+        Ok(Reply::Started { pages })
+    }
+
+    /// The one specification of a plan that the table can be built by.
+    fn check_plan<'p>(&self, plan: &'p Plan) -> Result<&'p KeySpec, Fault>
+        ensures spec { IfOk result (λ spec. only_spec plan.now.specs.items ≡ Some spec.now) }
+        ensures columns { IfOk result (λ spec. spec.now.kinds ≡ self.now.heap.schema) }
+        ensures accepted { IfOk result (λ spec. start_refusal self.now plan.now spec.now ≡ None) }
+        ensures inside { OnOk result (RowsAreInside self.now.heap.log) }
+        ensures refused { IfErr result (λ fault. plan_refusal self.now plan.now (only_spec plan.now.specs.items) ≡ Some fault) }
+    {
+        let spec = only_spec(plan).ok_or(Fault::BadCount)?;
+        if !self.counts_fit(plan, spec) {
             return Err(Fault::BadCount);
         }
         let heap = self.live.heap();
         if !spec.is_of(heap.schema()) {
             return Err(Fault::BadColumn);
         }
-        let pages = heap.pages();
-        if !is_one_range(&plan.dealing, pages) {
+        if !is_one_range(&plan.dealing, heap.pages()) {
             return Err(Fault::BadRanges);
         }
-        let spec = spec.clone()?;
-        self.build = Some(Build::new(self.live.allocator(), spec, pages));
-        Ok(Reply::Started { pages })
+        Ok(spec)
+    }
+
+    /// Whether a plan has one worker and an index that isn't unique, and there is room for one index more.
+    fn counts_fit(&self, plan: &Plan, spec: &KeySpec) -> bool
+        ensures { result ≡ counts_fit self.now plan.now spec.now }
+    {
+        plan.workers == 1 && !spec.unique() && self.live.ready().len() < READY_MAX
     }
 
     fn scan(&mut self, range: usize, worker: usize) -> Result<Reply, Fault>
