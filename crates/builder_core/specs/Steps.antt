@@ -14,8 +14,8 @@ use Rattle.heap_log.specs.declared.outcome.Outcome.TheVariants.{Ready}
 use Rattle.heap_log.specs.Standing.{newest_standing, standing_count}
 use Rattle.heap_table.specs.HeapState.{HeapState, begin_refusal, txn_refusal, insert_refusal, insert_place, update_refusal, delete_refusal, undo_refusal, undone_number, after_begin, after_write, after_step, after_commit, after_switch, after_visit}
 use Rattle.heap_table.specs.Pages.{rid_at, pages_written}
-use Rattle.builder_core.specs.declared.plan.Dealing.{Dealing}
-use Rattle.builder_core.specs.declared.plan.Dealing.TheVariants.{Ends, Even}
+use Rattle.builder_core.specs.declared.dealing.Dealing.{Dealing}
+use Rattle.builder_core.specs.declared.dealing.Dealing.TheVariants.{Ends, Even}
 use Rattle.builder_core.specs.declared.plan.Plan.{Plan}
 use Rattle.builder_core.specs.declared.event.Event.{Event}
 use Rattle.builder_core.specs.declared.event.Event.TheVariants.{Begin, Insert, Update, Delete, Undo, Commit, Start, Scan, Seal, Load, Switch}

@@ -12,6 +12,7 @@
 
 mod build;
 mod core_steps;
+mod dealing;
 mod event;
 mod live;
 mod pair;
@@ -25,10 +26,11 @@ mod tests;
 mod worker;
 
 pub use core_steps::Core;
+pub use dealing::Dealing;
 pub use event::Event;
 pub use live::Live;
 pub use pair::Pair;
-pub use plan::{Dealing, Plan};
+pub use plan::Plan;
 pub use ready_index::ReadyIndex;
 pub use reply::Reply;
 pub use rest::at_rest;

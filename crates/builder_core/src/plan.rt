@@ -1,13 +1,5 @@
+use crate::Dealing;
 use keybytes::KeySpec;
-
-/// How the pages of a table are dealt into ranges.
-#[derive(Debug, Drop)]
-pub enum Dealing {
-    /// With the page behind each range; the last of them is the number of pages.
-    Ends(Vec<u32>),
-    /// Into so many ranges that differ by at most one page.
-    Even(usize),
-}
 
 /// What an index build is to do.
 #[derive(Debug, Drop)]

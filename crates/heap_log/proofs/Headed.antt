@@ -6,10 +6,10 @@ use Rattle.keybytes.specs.declared.cell.Cell.{Cell}
 use Rattle.keybytes.specs.declared.rid.Rid.{Rid}
 use Rattle.heap_log.specs.declared.record.LogRec.{LogRec}
 use Rattle.heap_log.specs.declared.record.LogRec.TheVariants.{Write, Undo}
-use Rattle.heap_log.specs.declared.heads.TxnHead.{TxnHead}
-use Rattle.heap_log.specs.declared.heads.RidHead.{RidHead}
+use Rattle.heap_log.specs.declared.txn_head.TxnHead.{TxnHead}
+use Rattle.heap_log.specs.declared.rid_head.RidHead.{RidHead}
 use Rattle.heap_log.specs.declared.heads.Heads.{Heads}
-use Rattle.heap_log.specs.declared.link.Chain.TheVariants.{OfTxn}
+use Rattle.heap_log.specs.declared.chain.Chain.TheVariants.{OfTxn}
 use Rattle.std.specs.HashMap.{get}
 use Rattle.heap_log.specs.declared.link.Link.{Link}
 use Rattle.heap_log.specs.Heads.{RidHeads, key_eq, rid_head_in, txn_head, rid_head, with_rid, AreHeadsAfter}

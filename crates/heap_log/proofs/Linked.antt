@@ -10,8 +10,8 @@ use Rattle.keybytes.specs.declared.rid.Rid.{Rid}
 use Rattle.heap_log.specs.declared.record.LogRec.{LogRec}
 use Rattle.heap_log.specs.declared.record.LogRec.TheVariants.{Write}
 use Rattle.heap_log.specs.declared.link.Link.{Link}
-use Rattle.heap_log.specs.declared.link.Chain.{Chain}
-use Rattle.heap_log.specs.declared.link.Chain.TheVariants.{OfTxn, AtRid}
+use Rattle.heap_log.specs.declared.chain.Chain.{Chain}
+use Rattle.heap_log.specs.declared.chain.Chain.TheVariants.{OfTxn, AtRid}
 use Rattle.heap_log.specs.Links.{AreLinks, AreMarked, IsLinkOf, LeadsTo, on_chain, link_before, stands_by}
 use Rattle.heap_log.specs.Standing.{record_at, undone, last_below, last_of, is_write_of, is_write_at, is_undo_of, place_of, txn_of, rid_of, newest_standing, newest_at, NamesEarlier}
 use Rattle.heap_log.proofs.Added.{undone-later, last_of-kept}

@@ -7,8 +7,8 @@ use Rattle.std.specs.declared.hash.BuildHasherDefault.{BuildHasherDefault}
 use Rattle.keybytes.specs.declared.rid.Rid.{Rid}
 use Rattle.heap_log.specs.declared.record.LogRec.{LogRec}
 use Rattle.heap_log.specs.declared.link.Link.{Link}
-use Rattle.heap_log.specs.declared.heads.TxnHead.{TxnHead}
-use Rattle.heap_log.specs.declared.heads.RidHead.{RidHead}
+use Rattle.heap_log.specs.declared.txn_head.TxnHead.{TxnHead}
+use Rattle.heap_log.specs.declared.rid_head.RidHead.{RidHead}
 use Rattle.heap_log.specs.declared.heads.Heads.{Heads}
 use Rattle.heap_log.specs.Links.{AreLinks}
 use Rattle.heap_log.specs.Standing.{newest_standing, standing_count, newest_at, last_of, last_at, same_rid}

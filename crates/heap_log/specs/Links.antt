@@ -2,8 +2,8 @@
 use Rattle.std.specs.Prelude.{◌≡◌, ℕ, ◌+◌, ◌≤◌, ◌<◌, Bool, true, false, ◌&&◌, ◌||◌, not, if◌then◌else◌, List, length, Option, Some, None, IsSome, slice_index_or}
 use Rattle.heap_log.specs.declared.record.LogRec.{LogRec}
 use Rattle.heap_log.specs.declared.link.Link.{Link}
-use Rattle.heap_log.specs.declared.link.Chain.{Chain}
-use Rattle.heap_log.specs.declared.link.Chain.TheVariants.{OfTxn, AtRid}
+use Rattle.heap_log.specs.declared.chain.Chain.{Chain}
+use Rattle.heap_log.specs.declared.chain.Chain.TheVariants.{OfTxn, AtRid}
 use Rattle.heap_log.specs.Standing.{undone, record_at, last_below, last_of, is_number, is_undo_of, is_write_of, is_write_at, place_of, txn_of, rid_of}
 
 -- whether a record is a write on the same chain as that write

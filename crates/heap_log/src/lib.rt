@@ -9,13 +9,16 @@
 //! indexes, an [`Outcome`] each.
 #![tactic(auto)]
 
+mod chain;
 mod heads;
 mod link;
 mod log;
 mod outcome;
 mod record;
+mod rid_head;
 #[cfg(test)]
 mod tests;
+mod txn_head;
 mod verdicts;
 
 pub use keybytes::Rid;

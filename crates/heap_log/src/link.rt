@@ -3,13 +3,7 @@ ghost use Rattle.heap_log.specs.Links.{link_before, AreMarked};
 ghost use Rattle.heap_log.specs.Standing.{NamesEarlier};
 
 use crate::LogRec;
-
-/// The writes that belong together: those of one transaction, or those at one RID.
-#[derive(Clone, Copy)]
-pub(crate) enum Chain {
-    OfTxn,
-    AtRid,
-}
+use crate::chain::Chain;
 
 /// What the log keeps beside a record. A write's links lead to the writes that were the newest standing ones when it
 /// came; those may be undone since.

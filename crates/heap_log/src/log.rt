@@ -4,10 +4,11 @@ ghost use Rattle.heap_log.specs.Links.{newest_before, newest_without, IsLinkOf};
 ghost use Rattle.heap_log.specs.Standing.{record_at, undone, place_of, txn_of, is_number, is_write_of, is_write_at, last_of, last_at, stands_of, stands_at, newest_standing, standing_before, standing_count, IsWrite, NamesEarlier, AddsToLive, AddsToStanding, AddsToBefore, AddsToLast, AddsToNumbers};
 
 use crate::LogRec;
-use crate::heads::{
-    Heads, RidHead, RidHeads, TxnHead, TxnHeads, rid_head, set_rid_head, set_txn_head, txn_head,
-};
-use crate::link::{Chain, Link, mark_undone};
+use crate::chain::Chain;
+use crate::heads::Heads;
+use crate::link::{Link, mark_undone};
+use crate::rid_head::{RidHead, RidHeads, rid_head, set_rid_head};
+use crate::txn_head::{TxnHead, TxnHeads, set_txn_head, txn_head};
 use keybytes::{Fault, Rid};
 use std::alloc::Global;
 use std::collections::HashMap;

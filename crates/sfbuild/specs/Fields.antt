@@ -9,8 +9,8 @@ use Rattle.keybytes.specs.declared.cell.Cell.TheVariants.{Null, Int, Text, Flag}
 use Rattle.keybytes.specs.declared.kind.Kind.{Kind}
 use Rattle.keybytes.specs.declared.kind.Kind.TheVariants.{Int as IntKind, Text as TextKind, Flag as FlagKind}
 use Rattle.keybytes.specs.declared.rid.Rid.{Rid}
-use Rattle.builder_core.specs.declared.plan.Dealing.{Dealing}
-use Rattle.builder_core.specs.declared.plan.Dealing.TheVariants.{Ends, Even}
+use Rattle.builder_core.specs.declared.dealing.Dealing.{Dealing}
+use Rattle.builder_core.specs.declared.dealing.Dealing.TheVariants.{Ends, Even}
 use Rattle.sfbuild.specs.declared.script.spec.Spec.{Spec}
 
 -- one or more characters, all of them decimal digits

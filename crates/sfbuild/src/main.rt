@@ -9,6 +9,7 @@ mod command_line;
 mod engine;
 mod labels;
 mod output;
+mod output_failed;
 mod pair_line;
 mod replay;
 mod script;

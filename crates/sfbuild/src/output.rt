@@ -4,6 +4,7 @@ ghost use Rattle.std.specs.Io.KnownBytes.{Keeps};
 ghost use Rattle.csv.specs.Writing.{fields_written, text_written, writer_pending, writer_setup, writer_under};
 
 use crate::answer::Answer;
+use crate::output_failed::OutputFailed;
 use crate::pair_line::PairLine;
 use arrayvec::ArrayString;
 use csv::{Writer, WriterBuilder};
@@ -14,22 +15,6 @@ use std::io;
 
 /// The most bytes of a field: a text of 100 bytes behind `=`.
 const FIELD_MAX: usize = 101;
-
-/// The output could not be written.
-#[derive(Clone, Copy, Debug, PartialEq, Eq)]
-pub struct OutputFailed;
-
-impl From<csv::Error> for OutputFailed {
-    fn from(_error: csv::Error) -> OutputFailed {
-        OutputFailed
-    }
-}
-
-impl From<fmt::Error> for OutputFailed {
-    fn from(_error: fmt::Error) -> OutputFailed {
-        OutputFailed
-    }
-}
 
 /// Where the answers go. It takes no memory of its own.
 #[derive(Drop)]

@@ -3,7 +3,8 @@ ghost use Rattle.std.specs.Prelude.{◌≡◌, ◌≤◌};
 
 use crate::answer::Answer;
 use crate::engine::Engine;
-use crate::output::{Output, OutputFailed};
+use crate::output::Output;
+use crate::output_failed::OutputFailed;
 use crate::script::{Script, ScriptError};
 use crate::status::Status;
 use std::alloc::Global;

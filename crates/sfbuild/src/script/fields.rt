@@ -3,7 +3,7 @@ ghost use Rattle.std.specs.Prelude.{◌≡◌, ℕ, List, IfOk, IfErr, IfSome, I
 ghost use Rattle.keybytes.specs.declared.cell.Cell.{Cell as CellValue};
 ghost use Rattle.keybytes.specs.declared.kind.Kind.{Kind as KindValue};
 ghost use Rattle.keybytes.specs.declared.rid.Rid.{Rid as RidValue};
-ghost use Rattle.builder_core.specs.declared.plan.Dealing.{Dealing as DealingValue};
+ghost use Rattle.builder_core.specs.declared.dealing.Dealing.{Dealing as DealingValue};
 ghost use Rattle.sfbuild.specs.declared.script.spec.Spec.{Spec as SpecValue};
 ghost use Rattle.sfbuild.specs.Fields.{number_of, int_of, slot_of, texts, SpellEach, SpellsCell, SpellsDealing, SpellsKind, SpellsNumbers, SpellsRid, SpellsSpec};
 

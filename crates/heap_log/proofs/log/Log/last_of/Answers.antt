@@ -1,5 +1,5 @@
 use Rattle.std.proofs.Common.{ap}
-use Rattle.heap_log.specs.declared.heads.TxnHead.{TxnHead}
+use Rattle.heap_log.specs.declared.txn_head.TxnHead.{TxnHead}
 use Rattle.heap_log.proofs.Numbers.{last_of-writes}
 use Rattle.heap_log.proofs.log.Log.last_of.Goals as goal
 

@@ -1,6 +1,6 @@
 use Rattle.std.proofs.Common.{ap, refl}
-use Rattle.heap_log.specs.declared.heads.TxnHead.{TxnHead}
-use Rattle.heap_log.specs.declared.heads.RidHead.{RidHead}
+use Rattle.heap_log.specs.declared.txn_head.TxnHead.{TxnHead}
+use Rattle.heap_log.specs.declared.rid_head.RidHead.{RidHead}
 use Rattle.heap_log.proofs.Linked.{link_of-write}
 use Rattle.heap_log.proofs.log.Log.link_of.Goals as goal
 

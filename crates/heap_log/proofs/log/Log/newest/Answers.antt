@@ -1,5 +1,5 @@
 use Rattle.std.proofs.Common.{ap}
-use Rattle.heap_log.specs.declared.heads.TxnHead.{TxnHead}
+use Rattle.heap_log.specs.declared.txn_head.TxnHead.{TxnHead}
 use Rattle.heap_log.proofs.Numbers.{newest_standing-writes}
 use Rattle.heap_log.proofs.log.Log.newest.Goals as goal
 

@@ -2,7 +2,7 @@ use Rattle.std.proofs.Common.{◌≡◌, ◌∙◌, sym, ap, true}
 use Rattle.std.specs.Prelude.{not}
 use Rattle.std.proofs.lemmas.Bool.{and_parts, cond-true}
 use Rattle.keybytes.specs.declared.rid.Rid.{Rid}
-use Rattle.heap_log.specs.declared.heads.RidHead.{RidHead}
+use Rattle.heap_log.specs.declared.rid_head.RidHead.{RidHead}
 use Rattle.heap_log.specs.Standing.{is_number, is_write_at, last_below, newest_at, record_at, stands_at, undone}
 use Rattle.heap_log.proofs.Records.{rid_of-write}
 use Rattle.heap_log.proofs.log.Log.rid_head_without.Goals as goal

@@ -2,7 +2,7 @@ use Rattle.std.proofs.Common.{◌≡◌, ◌<◌, ◌∙◌, sym, ap, arith, Opt
 use Rattle.std.specs.Prelude.{not}
 use Rattle.std.proofs.lemmas.Bool.{and_parts, cond-true}
 use Rattle.heap_log.specs.declared.record.LogRec.{LogRec}
-use Rattle.heap_log.specs.declared.heads.TxnHead.{TxnHead}
+use Rattle.heap_log.specs.declared.txn_head.TxnHead.{TxnHead}
 use Rattle.heap_log.specs.Links.{stands_by}
 use Rattle.heap_log.specs.Standing.{is_number, is_write_of, last_below, newest_standing, record_at, standing_count, stands_of, undone}
 use Rattle.heap_log.proofs.Headed.{on_chain-of, standing-some}
