@@ -1,4 +1,4 @@
-ghost use Rattle.std.specs.Prelude.{◌≡◌, ◌≢◌, [], length, true, Some, None, is_some, IfOk, IfErr, OnOk, OnErr, MatchResult, MatchOption, slice_get};
+ghost use Rattle.std.specs.Prelude.{◌≡◌, [], length, true, Some, None, is_some, IfOk, IfErr, OnOk, OnErr, MatchResult, MatchOption, slice_get};
 ghost use Rattle.keybytes.specs.Faults.{RefusedFor};
 ghost use Rattle.heap_log.specs.Standing.{live_at};
 ghost use Rattle.heap_table.specs.HeapState.{row_missing, after_visit};
