@@ -18,11 +18,14 @@ use Rattle.keybytes.specs.Keys.{KeySpecValue}
 use Rattle.keybytes.specs.declared.cell.Cell.{Cell}
 use Rattle.keybytes.specs.declared.rid.Rid.{Rid}
 use Rattle.heap_log.specs.declared.record.LogRec.{LogRec}
-use Rattle.heap_log.specs.Standing.{live_at, same_rid}
+use Rattle.keybytes.specs.Rids.{same_rid}
+use Rattle.heap_log.specs.Standing.{live_at}
 use Rattle.heap_table.specs.Pages.{rid_at, slots_written, pages_written, RowsAreInside}
-use Rattle.builder_core.specs.declared.pair.Pair.{Pair}
-use Rattle.builder_core.specs.Pairs.{pair_cmp, pair_at, rids_on, pairs_on, pairs_from, written_rids, pairs_at_rest}
-use Rattle.builder_core.proofs.PairSets.{pairs_total, marked, tied_pairs, is_in, items_are, at_its_rid, all_listed}
+use Rattle.keybytes.specs.declared.pair.Pair.{Pair}
+use Rattle.keybytes.specs.Pairs.{pair_cmp}
+use Rattle.builder_core.specs.Pairs.{pair_at, rids_on, pairs_on, pairs_from, written_rids, pairs_at_rest}
+use Rattle.keybytes.proofs.PairSets.{pairs_total, marked, tied_pairs, is_in, items_are}
+use Rattle.builder_core.proofs.PairSets.{at_its_rid, all_listed}
 
 -- the RIDs of so many pages from that one on
 abbrev pub rids_from : List LogRec → ℕ → ℕ → List Rid

@@ -12,10 +12,11 @@ use Rattle.keybytes.specs.Cells.{columns_cmp}
 use Rattle.keybytes.specs.Keys.{KeySpecValue, key_of, key_columns, are_key_columns}
 use Rattle.keybytes.proofs.KeyLaws.{key_of-laws}
 use Rattle.heap_log.specs.declared.record.LogRec.{LogRec}
-use Rattle.builder_core.specs.declared.pair.Pair.{Pair}
+use Rattle.keybytes.specs.declared.pair.Pair.{Pair}
 use Rattle.keybytes.specs.Rids.{rid_cmp}
-use Rattle.builder_core.specs.Pairs.{pair_cmp, index_pairs, pairs_at_rest, IsBefore, AreInColumnOrder}
-use Rattle.builder_core.proofs.PairSets.{marked}
+use Rattle.keybytes.specs.Pairs.{pair_cmp, IsBefore, AreInColumnOrder}
+use Rattle.builder_core.specs.Pairs.{index_pairs, pairs_at_rest}
+use Rattle.keybytes.proofs.PairSets.{marked}
 
 is_less : (o : Ordering) → is_lt o ≡ true → o ≡ Less
 is_less Less e = refl

@@ -12,13 +12,14 @@ use Rattle.heap_log.specs.declared.outcome.Outcome.TheVariants.{Ready}
 use Rattle.heap_log.specs.declared.record.LogRec.{LogRec}
 use Rattle.heap_log.specs.declared.record.LogRec.TheVariants as logged
 use Rattle.heap_table.specs.Pages.{rid_at}
-use Rattle.builder_core.specs.declared.pair.Pair.{Pair}
+use Rattle.keybytes.specs.declared.pair.Pair.{Pair}
 use Rattle.builder_core.specs.declared.event.Event.TheVariants.{Scan, Seal, Load, Switch}
 use Rattle.builder_core.specs.declared.reply.Reply.TheVariants.{Scanned, Sealed, Loaded, Switched, Refused}
-use Rattle.builder_core.specs.Pairs.{pair_cmp, pairs_at_rest}
+use Rattle.keybytes.specs.Pairs.{pair_cmp}
+use Rattle.builder_core.specs.Pairs.{pairs_at_rest}
 use Rattle.builder_core.specs.CoreState.{CoreState}
 use Rattle.builder_core.specs.Steps.{outcome, after_memory}
-use Rattle.builder_core.proofs.PairSets.{is_in, items_are}
+use Rattle.keybytes.proofs.PairSets.{is_in, items_are}
 
 -- an index on a column of numbers
 abbrev on_number : KeySpecValue

@@ -14,7 +14,7 @@ use Rattle.heap_log.specs.declared.record.LogRec.{LogRec}
 use Rattle.heap_table.specs.Images.{ImageValue, IsImage, Shows, image_slot}
 use Rattle.heap_table.specs.Pages.{rid_at, pages_written, KeepsRows}
 use Rattle.heap_table.proofs.LogRows.{inside_kept}
-use Rattle.builder_core.specs.declared.pair.Pair.{Pair}
+use Rattle.keybytes.specs.declared.pair.Pair.{Pair}
 use Rattle.builder_core.specs.Pairs.{pair_at, rids_on, pairs_on, pairs_from, pairs_at_rest}
 use Rattle.builder_core.specs.CoreState.{BuildValue, ReadyValue, FollowTable, scanned_pages}
 use Rattle.builder_core.specs.Builds.{IsAtWork, IsBuilding, BuildFollows, IsOfSomeTable}

@@ -14,9 +14,11 @@ use Rattle.keybytes.specs.declared.kind.Kind.{Kind}
 use Rattle.heap_log.specs.declared.record.LogRec.{LogRec}
 use Rattle.heap_log.specs.Standing.{live_at}
 use Rattle.heap_table.specs.Kept.{RowsFit}
-use Rattle.builder_core.specs.declared.pair.Pair.{Pair}
-use Rattle.builder_core.specs.Pairs.{pair_cmp, pair_at, written_rids, set_of, pairs_at_rest, HaveKeysOf}
-use Rattle.builder_core.proofs.PairSets.{pairs_total, is_in, marked, found_mark, found, stands}
+use Rattle.keybytes.specs.declared.pair.Pair.{Pair}
+use Rattle.keybytes.specs.Pairs.{pair_cmp, set_of, HaveKeysOf}
+use Rattle.builder_core.specs.Pairs.{pair_at, written_rids, pairs_at_rest}
+use Rattle.keybytes.proofs.PairSets.{pairs_total, is_in, marked, found_mark}
+use Rattle.builder_core.proofs.PairSets.{found, stands}
 
 -- an element of a list is in it
 in_own : (pairs : List Pair) (k : ℕ) (d : Pair) → k < length pairs → is_in (get_or pairs k d) pairs ≡ true

@@ -17,7 +17,7 @@ use Rattle.heap_table.specs.HeapState.{HeapState, after_visit}
 use Rattle.heap_table.specs.Images.{ImageValue, IsImage}
 use Rattle.heap_table.specs.Kept.{RowsFit}
 use Rattle.heap_table.specs.Pages.{rid_at, row_in, rows_on, slots_written}
-use Rattle.builder_core.specs.declared.pair.Pair.{Pair}
+use Rattle.keybytes.specs.declared.pair.Pair.{Pair}
 use Rattle.builder_core.specs.Pairs.{pair_at, pair_of, pairs_on, pairs_from}
 use Rattle.builder_core.specs.CoreState.{after_visits}
 use Rattle.builder_core.specs.Builds.{AreImages}

@@ -19,12 +19,13 @@ use Rattle.keybytes.specs.declared.cell.Cell.{Cell}
 use Rattle.keybytes.specs.declared.rid.Rid.{Rid}
 use Rattle.heap_log.specs.declared.record.LogRec.{LogRec}
 use Rattle.heap_log.specs.declared.record.LogRec.TheVariants.{Write, Undo, Commit, Switch}
-use Rattle.heap_log.specs.Standing.{live_at, place_of, record_at, row_at, same_rid, is_write_at, last_below, stands_at, undone}
+use Rattle.heap_log.specs.Standing.{live_at, place_of, record_at, row_at, is_write_at, last_below, stands_at, undone}
 use Rattle.heap_log.proofs.Last.{IsLast, last_below_some}
-use Rattle.heap_log.proofs.Records.{same_rid-true}
-use Rattle.keybytes.specs.Rids.{rid_cmp, rid_cmp-total}
-use Rattle.builder_core.specs.declared.pair.Pair.{Pair}
-use Rattle.builder_core.specs.Pairs.{pair_cmp, pair_at, written_rids, set_of, pairs_at_rest}
+use Rattle.keybytes.proofs.SameRids.{same_rid-true}
+use Rattle.keybytes.specs.Rids.{rid_cmp, rid_cmp-total, same_rid}
+use Rattle.keybytes.specs.declared.pair.Pair.{Pair}
+use Rattle.keybytes.specs.Pairs.{pair_cmp, set_of}
+use Rattle.builder_core.specs.Pairs.{pair_at, written_rids, pairs_at_rest}
 
 pub pairs_total : IsTotalOrder pair_cmp
 pairs_total = then_total (on_total (λ p. p.key) nat_list_cmp_total) (on_total (λ p. p.rid) rid_cmp-total)

@@ -7,7 +7,7 @@ use Rattle.keybytes.specs.declared.fault.Fault.{Fault}
 use Rattle.heap_log.specs.declared.record.LogRec.{LogRec}
 use Rattle.heap_table.specs.HeapState.{HeapState, after_visit}
 use Rattle.heap_table.specs.Images.{ImageValue}
-use Rattle.builder_core.specs.declared.pair.Pair.{Pair}
+use Rattle.keybytes.specs.declared.pair.Pair.{Pair}
 use Rattle.builder_core.specs.Pairs.{pairs_at_rest}
 
 -- an index that is ready: what makes its keys, and its pairs in order

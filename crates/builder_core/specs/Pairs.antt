@@ -16,7 +16,7 @@ use Rattle.keybytes.specs.declared.rid.Rid.{Rid}
 use Rattle.heap_log.specs.declared.record.LogRec.{LogRec}
 use Rattle.heap_log.specs.Standing.{live_at, place_of}
 use Rattle.heap_table.specs.Pages.{rid_at, slots_written}
-use Rattle.builder_core.specs.declared.pair.Pair.{Pair}
+use Rattle.keybytes.specs.declared.pair.Pair.{Pair}
 
 -- by key, then by RID
 abbrev pub pair_cmp : Pair → Pair → Ordering

@@ -1,5 +1,5 @@
 ghost use Rattle.std.specs.Prelude.{◌≡◌};
-ghost use Rattle.builder_core.specs.Pairs.{HaveKeysOf};
+ghost use Rattle.keybytes.specs.Pairs.{HaveKeysOf};
 
 use crate::Pair;
 use keybytes::KeySpec;
@@ -17,7 +17,7 @@ impl Model for ReadyIndex {
 
     ghost Value = { ReadyValue };
 
-    ghost use Rattle.builder_core.specs.Pairs.{HaveKeysOf};
+    ghost use Rattle.keybytes.specs.Pairs.{HaveKeysOf};
 
     ghost view = { λ index. record { spec = index.spec; pairs = index.pairs.items } };
 

@@ -1,7 +1,8 @@
 ghost use Rattle.std.specs.Prelude.{◌≡◌, ◌++◌, All, map, true, IfOk, IfErr, OnOk};
 ghost use Rattle.keybytes.specs.Cells.{fits};
 ghost use Rattle.heap_table.specs.Pages.{pages_written};
-ghost use Rattle.builder_core.specs.Pairs.{pair_of, pairs_at_rest, HaveKeysOf, AreInColumnOrder};
+ghost use Rattle.keybytes.specs.Pairs.{HaveKeysOf, AreInColumnOrder};
+ghost use Rattle.builder_core.specs.Pairs.{pair_of, pairs_at_rest};
 ghost use Rattle.builder_core.specs.CoreState.{after_visits};
 
 use crate::Pair;

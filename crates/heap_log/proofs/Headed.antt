@@ -14,10 +14,12 @@ use Rattle.std.specs.HashMap.{get}
 use Rattle.heap_log.specs.declared.link.Link.{Link}
 use Rattle.heap_log.specs.Heads.{RidHeads, key_eq, rid_head_in, txn_head, rid_head, with_rid, AreHeadsAfter}
 use Rattle.heap_log.specs.Links.{newest_without, AreLinks, stands_by, on_chain}
-use Rattle.heap_log.specs.Standing.{record_at, undone, is_undo_of, is_write_of, is_write_at, last_of, last_at, same_rid, place_of, stands_of, stands_at, newest_standing, newest_at, standing_count, NamesEarlier}
+use Rattle.keybytes.specs.Rids.{same_rid}
+use Rattle.heap_log.specs.Standing.{record_at, undone, is_undo_of, is_write_of, is_write_at, last_of, last_at, place_of, stands_of, stands_at, newest_standing, newest_at, standing_count, NamesEarlier}
 use Rattle.heap_log.proofs.Last.{count_below-some, count_below-le}
 use Rattle.heap_log.proofs.Added.{last-added, undone-fresh, newest-plain, count-plain, newest-undo, count-undo, newest-unmoved, count-unmoved}
-use Rattle.heap_log.proofs.Records.{same_rid-true, same_rid-refl, txn_of-write, one_writer, one_place, some_place-by, some_place-there, write_within, record_at-read}
+use Rattle.keybytes.proofs.SameRids.{same_rid-true, same_rid-refl}
+use Rattle.heap_log.proofs.Records.{txn_of-write, one_writer, one_place, some_place-by, some_place-there, write_within, record_at-read}
 
 same_txn_head : (m n o p : Option ℕ) (a b : ℕ) → m ≡ n → o ≡ p → a ≡ b → ◌≡◌ {A = TxnHead} (record { last = m; newest = o; standing = a }) (record { last = n; newest = p; standing = b })
 same_txn_head m n o p a b e f g = rw (e, f, g) refl

@@ -8,7 +8,8 @@ use Rattle.std.proofs.lemmas.Option.{slice_get_past, slice_get_read}
 use Rattle.keybytes.specs.declared.rid.Rid.{Rid}
 use Rattle.heap_log.specs.declared.record.LogRec.{LogRec}
 use Rattle.heap_log.specs.declared.record.LogRec.TheVariants.{Write, Undo, Commit, Switch}
-use Rattle.heap_log.specs.Standing.{record_at, undone, is_undo_of, is_write_of, is_write_at, same_rid, place_of, txn_of, rid_of, NamesEarlier}
+use Rattle.keybytes.specs.Rids.{same_rid}
+use Rattle.heap_log.specs.Standing.{record_at, undone, is_undo_of, is_write_of, is_write_at, place_of, txn_of, rid_of, NamesEarlier}
 
 pub slice_get-append_left : {X : Type 0} (xs ys : List X) (i : ℕ) → i < length xs → slice_get (xs ++ ys) i ≡ slice_get xs i
 slice_get-append_left [] ys i l = absurd (omega arith)
@@ -74,17 +75,6 @@ record_at-read log zero x low high is = absurd (omega arith)
 record_at-read log (suc i) x low high is =
     let less : suc i - 1 ≡ i = omega arith in
     slice_get_read log (length log) i x refl (omega arith) (rw less at is)
-
-pub same_rid-true : (a b : Rid) → same_rid a b ≡ true → a ≡ b
-same_rid-true a b e =
-    let parts : (a.page == b.page ≡ true) × (a.slot == b.slot ≡ true) = and_parts (a.page == b.page) (a.slot == b.slot) e in
-    let page : a.page ≡ b.page = eqb-true a.page b.page parts.0 in
-    let slot : a.slot ≡ b.slot = eqb-true a.slot b.slot parts.1 in
-    let make : ℕ → ℕ → Rid = λ p q. record { page = p; slot = q } in
-    ap (λ p. make p a.slot) page ∙ ap (make b.page) slot
-
-pub same_rid-refl : (rid : Rid) → same_rid rid rid ≡ true
-same_rid-refl rid = and_from (rid.page == rid.page) (rid.slot == rid.slot) (eq-eqb rid.page rid.page refl) (eq-eqb rid.slot rid.slot refl)
 
 -- what a write says of itself
 pub txn_of-write : (txn : ℕ) (rec : Option LogRec) → is_write_of txn rec ≡ true → txn_of rec ≡ txn

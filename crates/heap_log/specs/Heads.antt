@@ -11,7 +11,8 @@ use Rattle.heap_log.specs.declared.txn_head.TxnHead.{TxnHead}
 use Rattle.heap_log.specs.declared.rid_head.RidHead.{RidHead}
 use Rattle.heap_log.specs.declared.heads.Heads.{Heads}
 use Rattle.heap_log.specs.Links.{AreLinks}
-use Rattle.heap_log.specs.Standing.{newest_standing, standing_count, newest_at, last_of, last_at, same_rid}
+use Rattle.keybytes.specs.Rids.{same_rid}
+use Rattle.heap_log.specs.Standing.{newest_standing, standing_count, newest_at, last_of, last_at}
 
 -- the maps, since antt has no names for the aliases
 abbrev pub TxnHeads : Type 0

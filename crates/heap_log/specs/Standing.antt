@@ -2,6 +2,7 @@
 use Rattle.std.specs.Prelude.{◌≡◌, ℕ, zero, suc, ◌+◌, ◌-◌, ◌≤◌, ◌<◌, ◌⊎◌, Bool, false, ◌&&◌, ◌||◌, not, ◌==◌, if◌then◌else◌, List, length, Option, Some, None, IsSome}
 use Rattle.std.specs.List.{slice_get, list_any}
 use Rattle.keybytes.specs.declared.cell.Cell.{Cell}
+use Rattle.keybytes.specs.Rids.{same_rid}
 use Rattle.keybytes.specs.declared.rid.Rid.{Rid}
 use Rattle.heap_log.specs.declared.record.LogRec.{LogRec}
 use Rattle.heap_log.specs.declared.record.LogRec.TheVariants.{Write, Undo, Commit, Switch}
@@ -20,10 +21,6 @@ count_below passes (suc n) = if passes n then count_below passes n + 1 else coun
 abbrev pub record_at : List LogRec → ℕ → Option LogRec
 record_at log zero = None
 record_at log (suc i) = slice_get log i
-
--- whether two RIDs are the same
-abbrev pub same_rid : Rid → Rid → Bool
-same_rid a b = (a.page == b.page) && (a.slot == b.slot)
 
 -- whether the record is a write of the transaction
 abbrev pub is_write_of : ℕ → Option LogRec → Bool

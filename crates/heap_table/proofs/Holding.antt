@@ -9,7 +9,8 @@ use Rattle.std.proofs.lemmas.Option.{same_Some}
 use Rattle.keybytes.specs.declared.rid.Rid.{Rid}
 use Rattle.heap_log.specs.declared.record.LogRec.{LogRec}
 use Rattle.heap_log.specs.declared.record.LogRec.TheVariants.{Write, Undo, Commit, Switch}
-use Rattle.heap_log.specs.Standing.{record_at, is_write_of, is_write_at, same_rid, is_number, last_at}
+use Rattle.keybytes.specs.Rids.{same_rid}
+use Rattle.heap_log.specs.Standing.{record_at, is_write_of, is_write_at, is_number, last_at}
 use Rattle.heap_log.proofs.Last.{IsLast, last_below_some, last_below_none}
 use Rattle.heap_log.proofs.Numbers.{write_at}
 use Rattle.heap_table.specs.HeapState.{HeapState, is_open}

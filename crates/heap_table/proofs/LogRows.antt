@@ -8,7 +8,8 @@ use Rattle.keybytes.specs.declared.rid.Rid.{Rid}
 use Rattle.heap_log.specs.declared.outcome.Outcome.{Outcome}
 use Rattle.heap_log.specs.declared.record.LogRec.{LogRec}
 use Rattle.heap_log.specs.declared.record.LogRec.TheVariants.{Write, Undo, Commit, Switch}
-use Rattle.heap_log.specs.Standing.{live_at, row_at, record_at, newest_at, stands_at, undone, is_write_of, is_write_at, same_rid}
+use Rattle.keybytes.specs.Rids.{same_rid}
+use Rattle.heap_log.specs.Standing.{live_at, row_at, record_at, newest_at, stands_at, undone, is_write_of, is_write_at}
 use Rattle.heap_log.proofs.Last.{IsLast, last_below_some}
 use Rattle.slotted_page.specs.Slot.{free}
 use Rattle.heap_table.specs.Holders.{writes, wrote, holder}

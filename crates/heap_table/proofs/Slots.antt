@@ -9,7 +9,8 @@ use Rattle.keybytes.specs.declared.cell.Cell.{Cell}
 use Rattle.keybytes.specs.declared.rid.Rid.{Rid}
 use Rattle.heap_log.specs.declared.record.LogRec.{LogRec}
 use Rattle.heap_log.specs.declared.record.LogRec.TheVariants.{Write, Undo, Commit, Switch}
-use Rattle.heap_log.specs.Standing.{is_write_of, is_write_at, same_rid, rid_of, live_at}
+use Rattle.keybytes.specs.Rids.{same_rid}
+use Rattle.heap_log.specs.Standing.{is_write_of, is_write_at, rid_of, live_at}
 use Rattle.slotted_page.specs.Slot.{held, reserve_of}
 use Rattle.heap_table.specs.HeapState.{HeapState, is_open, held_refusal}
 use Rattle.heap_table.specs.Holders.{writes, wrote, holder, row_size, before_first, size_written, greatest_written, room_held_by, room_needed}

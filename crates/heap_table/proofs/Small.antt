@@ -3,7 +3,7 @@ use Rattle.std.proofs.Common.{◌≡◌, ◌≢◌, ◌⊎◌, inl, inr, ℕ, ma
 use Rattle.std.proofs.lemmas.Bool.{cases_Bool, false≢true}
 use Rattle.std.proofs.lemmas.Bool.Decides.{nat_tests}
 use Rattle.keybytes.specs.declared.rid.Rid.{Rid}
-use Rattle.heap_log.specs.Standing.{same_rid}
+use Rattle.keybytes.specs.Rids.{same_rid}
 
 pub max_zero : (a : ℕ) → max a 0 ≡ a
 max_zero a = omega arith

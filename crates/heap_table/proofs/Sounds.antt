@@ -10,7 +10,8 @@ use Rattle.keybytes.specs.declared.rid.Rid.{Rid}
 use Rattle.heap_log.specs.declared.outcome.Outcome.{Outcome}
 use Rattle.heap_log.specs.declared.record.LogRec.{LogRec}
 use Rattle.heap_log.specs.declared.record.LogRec.TheVariants.{Write, Undo, Commit, Switch}
-use Rattle.heap_log.specs.Standing.{record_at, is_write_of, is_write_at, same_rid, stands_of, newest_standing, standing_count, count_below}
+use Rattle.keybytes.specs.Rids.{same_rid}
+use Rattle.heap_log.specs.Standing.{record_at, is_write_of, is_write_at, stands_of, newest_standing, standing_count, count_below}
 use Rattle.heap_log.proofs.Last.{last_below_none}
 use Rattle.heap_log.proofs.Numbers.{write_at, newest_standing-of}
 use Rattle.heap_table.specs.HeapState.{HeapState, is_open, held_refusal, without, still_open}

@@ -6,7 +6,8 @@ use Rattle.keybytes.specs.declared.cell.Cell.{Cell}
 use Rattle.keybytes.specs.declared.rid.Rid.{Rid}
 use Rattle.heap_log.specs.declared.record.LogRec.{LogRec}
 use Rattle.heap_log.specs.declared.record.LogRec.TheVariants.{Write, Undo, Commit, Switch}
-use Rattle.heap_log.specs.Standing.{is_write_of, is_write_at, same_rid, standing_count, row_of, live_at}
+use Rattle.keybytes.specs.Rids.{same_rid}
+use Rattle.heap_log.specs.Standing.{is_write_of, is_write_at, standing_count, row_of, live_at}
 
 -- whether the record is a write of the transaction at the RID
 abbrev pub writes : ℕ → Rid → LogRec → Bool

@@ -1,9 +1,12 @@
+pub mod ColumnOrder
 pub mod KeyExamples
 pub mod KeyLaws
 pub mod KeyOrder
 pub mod KeyReads
 pub mod KeyWrites
+pub mod PairSets
 pub mod Reading
 pub mod RowExamples
 pub mod RowFacts
+pub mod SameRids
 pub mod Spelling

@@ -1,9 +1,13 @@
--- The order of RIDs.
-use Rattle.std.specs.Prelude.{◌≡◌, ◌&&◌, nat_eq}
+-- RIDs: whether two are the same, and their order.
+use Rattle.std.specs.Prelude.{◌≡◌, ◌&&◌, ◌==◌, nat_eq, Bool}
 use Rattle.std.specs.declared.cmp.Ordering.{Ordering}
 use Rattle.std.specs.Cmp.{IsTotalOrder, then_total, on_total, nat_cmp_total, both_tied, unsigned_ties}
 use Rattle.std.specs.Ordering.{nat_cmp, then_cmp, on, eq_by_cmp}
 use Rattle.keybytes.specs.declared.rid.Rid.{Rid}
+
+-- whether two RIDs are the same
+abbrev pub same_rid : Rid → Rid → Bool
+same_rid a b = (a.page == b.page) && (a.slot == b.slot)
 
 -- by page, then by slot
 abbrev pub rid_cmp : Rid → Rid → Ordering

@@ -2,8 +2,8 @@
 //!
 //! A [`Row`] is a list of cells, and a [`KeySpec`] says which of its columns make a key. Key bytes compare, as lists
 //! of bytes, the way the columns compare, and no key of a specification begins another: so the layers above sort,
-//! merge and search bytes, and never look into a key. A [`Rid`] says where a row stands, and a [`Fault`] why a call of
-//! any layer was refused.
+//! merge and search bytes, and never look into a key. A [`Rid`] says where a row stands, a [`Pair`] is an entry of an index,
+//! and a [`Fault`] says why a call of any layer was refused.
 #![tactic(auto)]
 
 mod cell;
@@ -12,6 +12,7 @@ mod key;
 mod key_cell;
 mod key_spec;
 mod kind;
+mod pair;
 mod rid;
 mod row;
 mod row_bytes;
@@ -25,6 +26,7 @@ pub use fault::Fault;
 pub use key::{KEY_MAX, Key};
 pub use key_spec::{KEY_COLUMNS_MAX, KeySpec};
 pub use kind::Kind;
+pub use pair::Pair;
 pub use rid::Rid;
 pub use row::{CELLS_MAX, Row};
 pub use schema::{COLUMNS_MAX, Schema};

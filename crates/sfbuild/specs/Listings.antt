@@ -10,7 +10,7 @@ use Rattle.keybytes.specs.declared.kind.Kind.{Kind}
 use Rattle.builder_core.specs.CoreState.{CoreState, ReadyValue}
 use Rattle.builder_core.specs.Pairs.{pairs_at_rest}
 use Rattle.builder_core.specs.Steps.{with_heap}
-use Rattle.builder_core.specs.declared.pair.Pair.{Pair}
+use Rattle.keybytes.specs.declared.pair.Pair.{Pair}
 use Rattle.sfbuild.specs.declared.answer.Answer.{Answer}
 use Rattle.sfbuild.specs.declared.answer.Answer.TheVariants as answer
 use Rattle.sfbuild.specs.declared.pair_line.PairLine.{PairLine}

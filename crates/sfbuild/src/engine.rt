@@ -3,7 +3,7 @@ ghost use Rattle.std.specs.Prelude.{◌≡◌, ◌≢◌, ℕ, map, vec_len, Som
 ghost use Rattle.std.specs.List.{list_any, AllZip};
 ghost use Rattle.keybytes.specs.Faults.{RefusedFor};
 ghost use Rattle.keybytes.specs.Keys.{key_columns_refusal};
-ghost use Rattle.builder_core.specs.Pairs.{HaveKeysOf};
+ghost use Rattle.keybytes.specs.Pairs.{HaveKeysOf};
 ghost use Rattle.builder_core.specs.Steps.{Step};
 ghost use Rattle.sfbuild.specs.Answers.{answer_or_refusal, status_after, AnswersBegin, AnswersEvent, AnswersRecord, AnswersRow, FailsToPut, GivesRow, NotesBegun, NotesRecord, OnTxn, PutsRow, StartsPlan, TakesBack, Unless, planning_refusal, specs_refusal};
 ghost use Rattle.builder_core.specs.declared.reply.Reply.{Reply as ReplyValue};

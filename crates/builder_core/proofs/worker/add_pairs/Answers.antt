@@ -2,7 +2,7 @@ use Rattle.std.proofs.Common.{◌≡◌, ◌∙◌, ◌++◌, ◌∷◌, [], Lis
 use Rattle.keybytes.specs.Keys.{key_of}
 use Rattle.heap_log.specs.Standing.{live_at}
 use Rattle.heap_table.specs.Pages.{rid_at, slots_written}
-use Rattle.builder_core.specs.declared.pair.Pair.{Pair}
+use Rattle.keybytes.specs.declared.pair.Pair.{Pair}
 use Rattle.builder_core.proofs.Making.{pairs_before, slot_more, slot_some, slot_none, shown_fits}
 use Rattle.builder_core.proofs.worker.add_pairs.Goals.{in-Some+in_ok-key+in_ok-push, in_default}
 use Rattle.builder_core.proofs.worker.add_pairs.Goals as goal

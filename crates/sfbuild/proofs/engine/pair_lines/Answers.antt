@@ -1,7 +1,7 @@
 use Rattle.std.proofs.Common.{arith, refl, rules}
 use Rattle.std.proofs.lemmas.List.Elements.{All-get_or}
 use Rattle.keybytes.specs.Keys.{IsKeyOf}
-use Rattle.builder_core.specs.declared.pair.Pair.{Pair}
+use Rattle.keybytes.specs.declared.pair.Pair.{Pair}
 use Rattle.sfbuild.specs.Listings.{ListsPair}
 use Rattle.sfbuild.proofs.Zips.{zip_more}
 use Rattle.sfbuild.proofs.engine.pair_lines.Goals as goal

@@ -1,6 +1,6 @@
 use Rattle.std.proofs.Common.{sym, subst}
 use Rattle.builder_core.specs.CoreState.{BuildValue}
-use Rattle.builder_core.specs.Pairs.{HaveKeysOf}
+use Rattle.keybytes.specs.Pairs.{HaveKeysOf}
 use Rattle.builder_core.proofs.build.Build.into_ready.Goals as goal
 
 pub new-requires : goal.new-requires

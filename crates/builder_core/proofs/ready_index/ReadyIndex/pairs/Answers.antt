@@ -1,6 +1,6 @@
 use Rattle.std.proofs.Common.{subst}
 use Rattle.builder_core.specs.CoreState.{ReadyValue}
-use Rattle.builder_core.specs.Pairs.{HaveKeysOf}
+use Rattle.keybytes.specs.Pairs.{HaveKeysOf}
 use Rattle.builder_core.proofs.ready_index.ReadyIndex.pairs.Goals as goal
 
 pub returns-clause-keys : goal.returns-clause-keys

@@ -5,7 +5,8 @@ use Rattle.heap_log.specs.declared.record.LogRec.{LogRec}
 use Rattle.heap_log.specs.Links.{AreLinks}
 use Rattle.heap_log.specs.Standing.{is_write_of, is_write_at, record_at, stands_of, stands_at}
 use Rattle.heap_log.proofs.Headed.{heads-undo, heads-undone, heads-no_write, stands-read, undone-read}
-use Rattle.heap_log.proofs.Records.{record_at-read, same_rid-refl}
+use Rattle.keybytes.proofs.SameRids.{same_rid-refl}
+use Rattle.heap_log.proofs.Records.{record_at-read}
 use Rattle.heap_log.proofs.log.Log.heads_without.Goals as goal
 
 pub returns-then-index : goal.returns-then-index

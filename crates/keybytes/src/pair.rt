@@ -1,4 +1,4 @@
-use keybytes::{Key, Rid};
+use crate::{Key, Rid};
 
 /// An entry of an index: the key of a row, and where the row stands. Pairs are ordered by key, then by RID.
 #[derive(Debug, Drop, PartialEq, Eq, PartialOrd, Ord)]
