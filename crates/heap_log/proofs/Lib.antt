@@ -1,4 +1,5 @@
 pub mod Added
+pub mod Growing
 pub mod Headed
 pub mod Last
 pub mod Linked

@@ -14,6 +14,7 @@ use Rattle.heap_log.specs.declared.chain.Chain.{Chain}
 use Rattle.heap_log.specs.declared.chain.Chain.TheVariants.{OfTxn, AtRid}
 use Rattle.heap_log.specs.Links.{AreLinks, AreMarked, IsLinkOf, LeadsTo, on_chain, link_before, stands_by}
 use Rattle.heap_log.specs.Standing.{record_at, undone, last_below, last_of, is_write_of, is_write_at, is_undo_of, place_of, txn_of, rid_of, newest_standing, newest_at, NamesEarlier}
+use Rattle.heap_log.proofs.Growing.{undone-past, names_more}
 use Rattle.heap_log.proofs.Added.{undone-later, last_of-kept}
 use Rattle.heap_log.proofs.Last.{IsLast, last_below_some, last_below_none, last_below_is, last_below_none_is}
 use Rattle.heap_log.proofs.Records.{record_at-kept, record_at-added, undone-added, write_within, txn_of-write, rid_of-write, writes_there, writes_by, some_place-by, some_place-there}
@@ -147,7 +148,7 @@ links_grow log links marked rec link h m names is_link = record {
         ap (λ x. x.undone) (get_or_append_left marked (link ∷ []) d i (omega (arith, m.lengths))) ∙ m.flags i d in' ∙ ap (λ b. b || is_undo_of (i + 1) rec) (h.flags i d within) ∙ sym (undone-added log rec (i + 1))
     | inr past ↦
         let i_is : i ≡ length marked = omega (arith, length-append log (rec ∷ []), m.lengths, h.lengths) in
-        let none : undone (log ++ rec ∷ []) (i + 1) ≡ false = undone-later log rec (i + 1) (h.earlier (i + 1) (omega arith)) names (omega arith) in
+        let none : undone (log ++ rec ∷ []) (i + 1) ≡ false = undone-later log rec (i + 1) (undone-past log h.earlier (i + 1) (omega arith)) names (omega arith) in
         rw i_is (ap (λ x. x.undone) (get_or-append_seam marked link [] d) ∙ is_link.stands) ∙ sym none
   ];
   back = λ i d chain l some. elim (cases_lt i (length log)) [
@@ -183,9 +184,7 @@ links_grow log links marked rec link h m names is_link = record {
         let some' : IsSome (place_of (Some rec)) = rw added at some in
         rw (here, added, i_is) (is_link.previous some' ∙ sym (last_of-kept log rec (txn_of (Some rec)) (length log + 1) (omega arith)))
   ];
-  earlier = λ n l.
-      let before : length log < n = omega (arith, length-append log (rec ∷ [])) in
-      undone-later log rec n (h.earlier n before) names before;
+  earlier = names_more log rec h.earlier names;
 }
 
 -- the link of a write that comes next

@@ -1,4 +1,5 @@
 pub mod Copies
+pub mod Growing
 pub mod Heads
 pub mod Links
 pub mod LogValue

@@ -4,6 +4,7 @@ use Rattle.heap_log.specs.declared.record.LogRec.{LogRec}
 use Rattle.heap_log.specs.declared.link.Link.{Link}
 use Rattle.heap_log.specs.declared.chain.Chain.{Chain}
 use Rattle.heap_log.specs.declared.chain.Chain.TheVariants.{OfTxn, AtRid}
+use Rattle.heap_log.specs.Growing.{UndoesNameEarlier}
 use Rattle.heap_log.specs.Standing.{undone, record_at, last_below, last_of, is_number, is_undo_of, is_write_of, is_write_at, place_of, txn_of, rid_of}
 
 -- whether a record is a write on the same chain as that write
@@ -48,8 +49,7 @@ pub record AreLinks (log : List LogRec) (links : List Link) : Type 0 where
   pub flags : (i : ℕ) (d : Link) → i < length log → (slice_index_or links i d).undone ≡ undone log (i + 1)
   pub back : (i : ℕ) (d : Link) (chain : Chain) → i < length log → IsSome (place_of (record_at log (i + 1))) → LeadsTo (on_chain chain (record_at log (i + 1))) log (i + 1) (link_before chain (slice_index_or links i d))
   pub previous : (i : ℕ) (d : Link) → i < length log → IsSome (place_of (record_at log (i + 1))) → (slice_index_or links i d).previous ≡ last_of log (txn_of (record_at log (i + 1))) (i + 1)
-  -- no undo names what isn't there
-  pub earlier : (n : ℕ) → length log < n → undone log n ≡ false
+  pub earlier : UndoesNameEarlier log
 
 -- the same links, with those that the record undoes marked
 pub record AreMarked (added : LogRec) (old new : List Link) : Type 0 where

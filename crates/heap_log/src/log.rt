@@ -1,7 +1,8 @@
 ghost use Rattle.std.specs.Prelude.{◌≡◌, ℕ, ◌<◌, ◌≤◌, ◌+◌, ◌-◌, max, ◌++◌, ◌∷◌, [], length, Some, None, true, false, IsSome, IfSome, IsOk, IfErr, OnOk, OnErr};
+ghost use Rattle.heap_log.specs.Growing.{Added, UndoesNameEarlier};
 ghost use Rattle.heap_log.specs.Heads.{txn_head, rid_head, AreHeadsAfter};
 ghost use Rattle.heap_log.specs.Links.{newest_before, newest_without, IsLinkOf};
-ghost use Rattle.heap_log.specs.Standing.{record_at, undone, place_of, txn_of, is_number, is_write_of, is_write_at, last_of, last_at, stands_of, stands_at, newest_standing, standing_before, standing_count, IsWrite, NamesEarlier, AddsToLive, AddsToStanding, AddsToBefore, AddsToLast, AddsToNumbers};
+ghost use Rattle.heap_log.specs.Standing.{record_at, undone, place_of, txn_of, is_number, is_write_of, is_write_at, last_of, last_at, stands_of, stands_at, newest_standing, standing_before, standing_count, IsWrite, NamesEarlier};
 
 use crate::LogRec;
 use crate::chain::Chain;
@@ -81,10 +82,16 @@ impl Log {
         Ok(())
     }
 
-    /// How many records there are; no undo names a number past them.
+    /// Does nothing: its clause tells what every log keeps.
+    pub fn laws(&self)
+        ensures { UndoesNameEarlier self.now.records }
+    {
+        let _kept = &self.links;
+    }
+
+    /// How many records there are.
     pub fn len(&self) -> usize
-        ensures value { result ≡ length self.now.records }
-        ensures earlier { (n : ℕ) → length self.now.records < n → undone self.now.records n ≡ false }
+        ensures { result ≡ length self.now.records }
     {
         self.records.len()
     }
@@ -151,13 +158,8 @@ impl Log {
     pub fn add(&mut self, added: LogRec)
         requires room { 0 < self.old.room }
         requires earlier { NamesEarlier (length self.old.records) added }
-        ensures records { self.new.records ≡ self.old.records ++ added ∷ [] }
+        ensures added { Added self.old.records added self.new.records }
         ensures room { self.new.room + 1 ≡ self.old.room }
-        ensures live { AddsToLive self.old.records added self.new.records }
-        ensures standing { AddsToStanding self.old.records added self.new.records }
-        ensures before { AddsToBefore self.old.records added self.new.records }
-        ensures last { AddsToLast self.old.records added self.new.records }
-        ensures numbers { AddsToNumbers self.old.records added self.new.records }
     {
         let link = self.link_of(&added);
         let heads = self.heads_after(&added);

@@ -1,18 +1,17 @@
-use Rattle.std.proofs.Common.{◌≡◌, ◌+◌, ◌∙◌, sym, ap, arith, List, [], ◌∷◌, ◌++◌, length}
+use Rattle.std.proofs.Common.{◌≡◌, ◌∙◌, refl, sym, ap, arith, List, [], ◌∷◌, ◌++◌, length}
 use Rattle.heap_log.specs.LogValue.{LogValue}
 use Rattle.heap_log.specs.declared.record.LogRec.{LogRec}
+use Rattle.heap_log.specs.Growing.{Added}
 use Rattle.heap_log.specs.Heads.{AreHeadsAfter, with_txn, with_rid}
 use Rattle.heap_log.specs.Links.{IsLinkOf}
-use Rattle.heap_log.specs.Standing.{NamesEarlier, AddsToLive, AddsToStanding, AddsToBefore, AddsToLast, AddsToNumbers}
-use Rattle.heap_log.proofs.Added.{adds_to_before, adds_to_last, adds_to_numbers, adds_to_standing}
+use Rattle.heap_log.specs.Standing.{NamesEarlier}
+use Rattle.heap_log.proofs.Growing.{names_more}
 use Rattle.heap_log.proofs.Linked.{links_grow}
-use Rattle.heap_log.proofs.Live.{adds_to_live}
 use Rattle.heap_log.proofs.log.Log.add.Goals as goal
 
--- what one record more adds to the records, it adds to the log that contracts see
-shown : (P : List LogRec → List LogRec → Type 0) (log seen new : List LogRec) (added : LogRec) → log ≡ seen → new ≡ log ++ added ∷ []
-    → P log (log ++ added ∷ []) → P seen new
-shown P log seen new added same is adds = rw (← same, is) adds
+-- what one record more makes of the records, it makes of the log that contracts see
+shown : (log seen new : List LogRec) (added : LogRec) → log ≡ seen → new ≡ log ++ added ∷ [] → Added log added (log ++ added ∷ []) → Added seen added new
+shown log seen new added same is adds = rw (← same, is) adds
 
 -- a record that names an earlier one of the log that contracts see, names one of the records
 earlier : (log seen : List LogRec) (added : LogRec) → log ≡ seen → NamesEarlier (length seen) added → NamesEarlier (length log) added
@@ -35,35 +34,9 @@ invariant_of-self c =
       rids_room = omega arith;
     }
 
-pub returns-clause-live : goal.returns-clause-live
-returns-clause-live c =
+pub returns-clause-added : goal.returns-clause-added
+returns-clause-added c =
     let log : List LogRec = c.self.inside.records.items in
     let same : log ≡ c.args.self.now.records = ap (λ (v : LogValue). v.records) c.self.view_is in
-    let named = c.self.invariant.links.earlier (length log + 1) (omega arith) in
-    shown (λ old new. AddsToLive old c.args.added new) log _ _ c.args.added same c.push_reserved.ensures.items
-    (adds_to_live log c.args.added named (earlier log _ c.args.added same c.requires.earlier))
-
-pub returns-clause-standing : goal.returns-clause-standing
-returns-clause-standing c =
-    let log : List LogRec = c.self.inside.records.items in
-    let same : log ≡ c.args.self.now.records = ap (λ (v : LogValue). v.records) c.self.view_is in
-    let named = c.self.invariant.links.earlier (length log + 1) (omega arith) in
-    shown (λ old new. AddsToStanding old c.args.added new) log _ _ c.args.added same c.push_reserved.ensures.items
-    (adds_to_standing log c.args.added named (earlier log _ c.args.added same c.requires.earlier))
-
-pub returns-clause-before : goal.returns-clause-before
-returns-clause-before c =
-    shown (λ old new. AddsToBefore old c.args.added new) _ _ _ c.args.added (ap (λ (v : LogValue). v.records) c.self.view_is) c.push_reserved.ensures.items
-    (adds_to_before _ c.args.added)
-
-pub returns-clause-last : goal.returns-clause-last
-returns-clause-last c =
-    shown (λ old new. AddsToLast old c.args.added new) _ _ _ c.args.added (ap (λ (v : LogValue). v.records) c.self.view_is) c.push_reserved.ensures.items
-    (adds_to_last _ c.args.added)
-
-pub returns-clause-numbers : goal.returns-clause-numbers
-returns-clause-numbers c =
-    let log : List LogRec = c.self.inside.records.items in
-    let same : log ≡ c.args.self.now.records = ap (λ (v : LogValue). v.records) c.self.view_is in
-    shown (λ old new. AddsToNumbers old c.args.added new) log _ _ c.args.added same c.push_reserved.ensures.items
-    (adds_to_numbers log c.args.added c.self.invariant.links.earlier (earlier log _ c.args.added same c.requires.earlier))
+    let names = earlier log _ c.args.added same c.requires.earlier in
+    shown log _ _ c.args.added same c.push_reserved.ensures.items (record { records = refl; earlier = names_more log c.args.added c.self.invariant.links.earlier names })

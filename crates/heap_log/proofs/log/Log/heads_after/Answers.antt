@@ -2,6 +2,7 @@ use Rattle.std.proofs.Common.{◌≡◌, ◌+◌, ap, arith, length, refl}
 use Rattle.heap_log.specs.LogValue.{LogValue}
 use Rattle.heap_log.specs.Links.{AreLinks}
 use Rattle.heap_log.proofs.Headed.{heads-plain, heads-write}
+use Rattle.heap_log.proofs.Growing.{undone-past}
 use Rattle.heap_log.proofs.log.Log.heads_after.Goals as goal
 
 pub returns-in-Write : goal.returns-in-Write
@@ -10,15 +11,15 @@ returns-in-Write c =
     let h : AreLinks c.args.self.now.records c.self.inside.links.items = rw view at c.self.invariant.links in
     let number : c.len-number.result + 1 ≡ length c.args.self.now.records + 1 = omega (arith, ap length view, c.self.inside.records.ok) in
     rw c.in-Write.is (heads-write c.args.self.now.records c.in-Write.txn c.in-Write.rid c.in-Write.row c.heads_with.result
-    (h.earlier (length c.args.self.now.records + 1) (omega arith)) c.heads_with.ensures.txn c.heads_with.ensures.rid
+    (undone-past _ h.earlier (length c.args.self.now.records + 1) (omega arith)) c.heads_with.ensures.txn c.heads_with.ensures.rid
     (rw number at c.heads_with.ensures.last) (rw number at c.heads_with.ensures.newest) c.heads_with.ensures.standing (rw number at c.heads_with.ensures.at_rid))
 
 pub returns-in-Commit : goal.returns-in-Commit
 returns-in-Commit c =
     let h : AreLinks c.args.self.now.records c.self.inside.links.items = rw (ap (λ (v : LogValue). v.records) c.self.view_is) at c.self.invariant.links in
-    rw c.in-Commit.is (heads-plain c.args.self.now.records _ (h.earlier (length c.args.self.now.records + 1) (omega arith)) tt (λ k. refl) (λ txn. refl) (λ rid. refl))
+    rw c.in-Commit.is (heads-plain c.args.self.now.records _ (undone-past _ h.earlier (length c.args.self.now.records + 1) (omega arith)) tt (λ k. refl) (λ txn. refl) (λ rid. refl))
 
 pub returns-in-Switch : goal.returns-in-Switch
 returns-in-Switch c =
     let h : AreLinks c.args.self.now.records c.self.inside.links.items = rw (ap (λ (v : LogValue). v.records) c.self.view_is) at c.self.invariant.links in
-    rw c.in-Switch.is (heads-plain c.args.self.now.records _ (h.earlier (length c.args.self.now.records + 1) (omega arith)) tt (λ k. refl) (λ txn. refl) (λ rid. refl))
+    rw c.in-Switch.is (heads-plain c.args.self.now.records _ (undone-past _ h.earlier (length c.args.self.now.records + 1) (omega arith)) tt (λ k. refl) (λ txn. refl) (λ rid. refl))
