@@ -16,7 +16,7 @@ use Rattle.keybytes.specs.declared.pair.Pair.{Pair}
 use Rattle.builder_core.specs.declared.event.Event.TheVariants.{Scan, Seal, Load, Switch}
 use Rattle.builder_core.specs.declared.reply.Reply.TheVariants.{Scanned, Sealed, Loaded, Switched, Refused}
 use Rattle.keybytes.specs.Pairs.{pair_cmp}
-use Rattle.builder_core.specs.Pairs.{pairs_at_rest}
+use Rattle.heap_table.specs.TablePairs.{pairs_at_rest}
 use Rattle.builder_core.specs.CoreState.{CoreState}
 use Rattle.builder_core.specs.Steps.{outcome, after_memory}
 use Rattle.keybytes.proofs.PairSets.{is_in, items_are}

@@ -15,11 +15,11 @@ use Rattle.heap_table.specs.Images.{ImageValue, IsImage, Shows, image_slot}
 use Rattle.heap_table.specs.Pages.{rid_at, pages_written, KeepsRows}
 use Rattle.heap_table.proofs.LogRows.{inside_kept}
 use Rattle.keybytes.specs.declared.pair.Pair.{Pair}
-use Rattle.builder_core.specs.Pairs.{pair_at, rids_on, pairs_on, pairs_from, pairs_at_rest}
+use Rattle.heap_table.specs.TablePairs.{pair_at, rids_on, pairs_on, pairs_from, pairs_at_rest}
 use Rattle.builder_core.specs.CoreState.{BuildValue, ReadyValue, FollowTable, scanned_pages}
 use Rattle.builder_core.specs.Builds.{IsAtWork, IsBuilding, BuildFollows, IsOfSomeTable}
-use Rattle.builder_core.proofs.PairSets.{pairs_kept}
-use Rattle.builder_core.proofs.AtRest.{in_order, pairs_joined, InOrder}
+use Rattle.heap_table.proofs.TablePairs.{pairs_kept}
+use Rattle.heap_table.proofs.PairsAtRest.{in_order, pairs_joined, InOrder}
 
 filter_map_same : {X Y : Type 0} (f g : X → Option Y) → ((x : X) → f x ≡ g x) → (xs : List X) → filter_map f xs ≡ filter_map g xs
 filter_map_same f g same [] = refl

@@ -1,9 +1,5 @@
-pub mod AtRest
-pub mod ColumnOrder
 pub mod Examples
 pub mod Following
-pub mod KeysAtRest
 pub mod Making
-pub mod PairSets
 pub mod Runs
 pub mod Starts

@@ -18,10 +18,10 @@ use Rattle.heap_table.specs.Images.{ImageValue, IsImage}
 use Rattle.heap_table.specs.Kept.{RowsFit}
 use Rattle.heap_table.specs.Pages.{rid_at, row_in, rows_on, slots_written}
 use Rattle.keybytes.specs.declared.pair.Pair.{Pair}
-use Rattle.builder_core.specs.Pairs.{pair_at, pair_of, pairs_on, pairs_from}
+use Rattle.heap_table.specs.TablePairs.{pair_at, pair_of, pairs_on, pairs_from}
 use Rattle.builder_core.specs.CoreState.{after_visits}
 use Rattle.builder_core.specs.Builds.{AreImages}
-use Rattle.builder_core.proofs.AtRest.{pairs_joined}
+use Rattle.heap_table.proofs.PairsAtRest.{pairs_joined}
 
 range_more : (a n : ℕ) → range_with_len a (n + 1) ≡ range_with_len a n ++ (a + n) ∷ []
 range_more a zero = rw (add-zero a) refl

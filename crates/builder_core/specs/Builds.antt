@@ -5,7 +5,7 @@ use Rattle.keybytes.specs.declared.kind.Kind.{Kind}
 use Rattle.heap_log.specs.declared.record.LogRec.{LogRec}
 use Rattle.heap_table.specs.Images.{ImageValue, IsImage}
 use Rattle.heap_table.specs.Pages.{pages_written, RowsAreInside}
-use Rattle.builder_core.specs.Pairs.{pairs_at_rest, pairs_from}
+use Rattle.heap_table.specs.TablePairs.{pairs_at_rest, pairs_from}
 use Rattle.builder_core.specs.CoreState.{BuildValue, scanned_pages}
 
 -- copies of pages that follow one another, from that page on

@@ -8,7 +8,7 @@ use Rattle.heap_log.specs.declared.record.LogRec.{LogRec}
 use Rattle.heap_table.specs.HeapState.{HeapState, after_visit}
 use Rattle.heap_table.specs.Images.{ImageValue}
 use Rattle.keybytes.specs.declared.pair.Pair.{Pair}
-use Rattle.builder_core.specs.Pairs.{pairs_at_rest}
+use Rattle.heap_table.specs.TablePairs.{pairs_at_rest}
 
 -- an index that is ready: what makes its keys, and its pairs in order
 pub record ReadyValue : Type 0 where

@@ -1,4 +1,3 @@
 pub mod Builds
 pub mod CoreState
-pub mod Pairs
 pub mod Steps

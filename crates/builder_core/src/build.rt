@@ -4,7 +4,7 @@ ghost use Rattle.keybytes.specs.declared.kind.Kind.{Kind};
 ghost use Rattle.heap_log.specs.declared.record.LogRec.{LogRec};
 ghost use Rattle.heap_table.specs.HeapState.{after_visit};
 ghost use Rattle.keybytes.specs.Pairs.{HaveKeysOf};
-ghost use Rattle.builder_core.specs.Pairs.{pairs_at_rest};
+ghost use Rattle.heap_table.specs.TablePairs.{pairs_at_rest};
 ghost use Rattle.builder_core.specs.CoreState.{BuildValue, scanned_pages, build_state, live_with_heap};
 ghost use Rattle.builder_core.specs.Builds.{IsBuilding, IsOfSomeTable};
 ghost use Rattle.builder_core.specs.Steps.{ring_refusal, order_refusal, switch_refusal};

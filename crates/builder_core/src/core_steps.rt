@@ -4,7 +4,7 @@ ghost use Rattle.heap_log.specs.Standing.{live_at};
 ghost use Rattle.heap_table.specs.HeapState.{row_missing, after_visit};
 ghost use Rattle.heap_table.specs.Pages.{pages_written, RowsAreInside};
 ghost use Rattle.keybytes.specs.Pairs.{HaveKeysOf, AreInColumnOrder};
-ghost use Rattle.builder_core.specs.Pairs.{pairs_at_rest};
+ghost use Rattle.heap_table.specs.TablePairs.{pairs_at_rest};
 ghost use Rattle.builder_core.specs.CoreState.{opening, live_of, after_visits, ReadyFollowTable};
 ghost use Rattle.builder_core.specs.Steps.{Step, Answers, only_spec, is_one_range, counts_fit, start_refusal, plan_refusal, with_heap, is_indexed};
 

@@ -8,7 +8,7 @@ ghost use Rattle.heap_table.specs.Kept.{RowsFit};
 ghost use Rattle.heap_table.specs.Pages.{pages_written, KeepsRows, RowsAreInside};
 ghost use Rattle.heap_log.specs.Standing.{live_at, newest_standing, standing_count};
 ghost use Rattle.keybytes.specs.Pairs.{HaveKeysOf, AreInColumnOrder};
-ghost use Rattle.builder_core.specs.Pairs.{pairs_at_rest};
+ghost use Rattle.heap_table.specs.TablePairs.{pairs_at_rest};
 ghost use Rattle.builder_core.specs.CoreState.{LiveValue, FollowTable, live_with_heap, after_visits};
 
 use crate::build::Build;

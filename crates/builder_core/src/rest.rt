@@ -2,7 +2,7 @@ ghost use Rattle.std.specs.Prelude.{◌≡◌, ◌++◌, All, map, true, IfOk, I
 ghost use Rattle.keybytes.specs.Cells.{fits};
 ghost use Rattle.heap_table.specs.Pages.{pages_written};
 ghost use Rattle.keybytes.specs.Pairs.{HaveKeysOf, AreInColumnOrder};
-ghost use Rattle.builder_core.specs.Pairs.{pair_of, pairs_at_rest};
+ghost use Rattle.heap_table.specs.TablePairs.{pair_of, pairs_at_rest};
 ghost use Rattle.builder_core.specs.CoreState.{after_visits};
 
 use crate::Pair;

@@ -2,7 +2,7 @@
 ghost use Rattle.std.specs.Prelude.{◌≡◌, ◌++◌, ℕ, List, length, IfErr, OnOk};
 ghost use Rattle.heap_log.specs.declared.record.LogRec.{LogRec};
 ghost use Rattle.heap_table.specs.Images.{IsImage};
-ghost use Rattle.builder_core.specs.Pairs.{pairs_on, pairs_from};
+ghost use Rattle.heap_table.specs.TablePairs.{pairs_on, pairs_from};
 ghost use Rattle.builder_core.specs.Builds.{AreImages};
 
 use crate::Pair;

@@ -16,7 +16,7 @@ use Rattle.heap_table.specs.Kept.{IsKept}
 use Rattle.heap_table.specs.PageLists.{PagesValue, slot_in, with_slot_in, pages_by, changed, settled_if}
 use Rattle.heap_table.specs.Pages.{SetsRow, slot_under, slots_written, pages_written}
 use Rattle.heap_table.specs.Ready.{IsReady, IsLawful, HaveWritten}
-use Rattle.heap_table.proofs.Added.{Added}
+use Rattle.heap_log.proofs.Growing.{Grows}
 use Rattle.heap_table.proofs.KeptChanges.{kept_write, kept_undo, undo_sets, undo_inside}
 use Rattle.heap_table.proofs.Performing.{can_change, undoes, undid_from, undone_row}
 use Rattle.heap_table.proofs.Sounds.{sound_write}
@@ -29,7 +29,7 @@ HaveNew old limit ready new = new ≡ with_slot_in old limit ready.rid (changed 
 -- a write
 pub kept_performed :
     (s t : HeapState) (p q : PagesValue) (ready : Ready) → IsKept s p → IsReady s ready → ready.undone ≡ None
-    → Added s.log (Write ready.txn ready.rid ready.new) t.log → t.active ≡ s.active → t.begun ≡ s.begun
+    → Grows s.log (Write ready.txn ready.rid ready.new) t.log → t.active ≡ s.active → t.begun ≡ s.begun
     → t.schema ≡ s.schema → t.slot_limit ≡ s.slot_limit → t.page_limit ≡ s.page_limit
     → HaveNew p.pages p.limit ready q.pages → q.limit ≡ p.limit → t.room ≤ q.spare → IsKept t q
 kept_performed s t p q ready kept is_ready write added active begun schema slots limit pages pages_limit room =
@@ -47,7 +47,7 @@ kept_performed s t p q ready kept is_ready write added active begun schema slots
 -- an undo
 pub kept_undone :
     (s t : HeapState) (p m q : PagesValue) (ready : Ready) (n : ℕ) → IsKept s p → IsReady s ready → ready.undone ≡ Some n
-    → Added s.log (Undo ready.txn n) t.log → t.active ≡ still_open ready.txn (standing_count t.log ready.txn) s.active → t.begun ≡ s.begun
+    → Grows s.log (Undo ready.txn n) t.log → t.active ≡ still_open ready.txn (standing_count t.log ready.txn) s.active → t.begun ≡ s.begun
     → t.schema ≡ s.schema → t.slot_limit ≡ s.slot_limit → t.page_limit ≡ s.page_limit
     → HaveNew p.pages p.limit ready m.pages → m.limit ≡ p.limit
     → ((slot : Rid → Slot) (slots : ℕ → ℕ) (count limit : ℕ) → m.pages ≡ pages_by slot slots count limit
@@ -63,13 +63,13 @@ logged_undo s ready new = record s { log = new; active = still_open ready.txn (s
 
 logged_undid :
     (s : HeapState) (p : PagesValue) (ready : Ready) (n : ℕ) (new : List LogRec) → IsKept s p → IsReady s ready → ready.undone ≡ Some n
-    → Added s.log (Undo ready.txn n) new → Undid s (logged_undo s ready new) ready.txn n ready.rid
+    → Grows s.log (Undo ready.txn n) new → Undid s (logged_undo s ready new) ready.txn n ready.rid
 logged_undid s p ready n new kept is_ready undone added = undid_from s (logged_undo s ready new) p ready n kept is_ready undone added refl refl
 
 -- its pages then have a slot for each write
 pub undone_inside :
     (s : HeapState) (p m : PagesValue) (ready : Ready) (n : ℕ) (new : List LogRec) → IsKept s p → IsReady s ready → ready.undone ≡ Some n
-    → Added s.log (Undo ready.txn n) new → HaveNew p.pages p.limit ready m.pages
+    → Grows s.log (Undo ready.txn n) new → HaveNew p.pages p.limit ready m.pages
     → (slot : Rid → Slot) × (slots : ℕ → ℕ) × (count : ℕ) × (limit : ℕ) × HaveWritten m new ready.txn slot slots count limit
 undone_inside s p m ready n new kept is_ready undone added pages = (
   (λ (r : Rid). slot_under (holder s.log r) new r),
@@ -83,7 +83,7 @@ undone_inside s p m ready n new kept is_ready undone added pages = (
 -- and the row before the write is back
 pub undone_sets :
     (s : HeapState) (p : PagesValue) (ready : Ready) (n : ℕ) (new : List LogRec) → IsKept s p → IsReady s ready → ready.undone ≡ Some n
-    → Added s.log (Undo ready.txn n) new → SetsRow s.log (rid_of (record_at s.log n)) (row_at s.log (standing_before s.log n)) new
+    → Grows s.log (Undo ready.txn n) new → SetsRow s.log (rid_of (record_at s.log n)) (row_at s.log (standing_before s.log n)) new
 undone_sets s p ready n new kept is_ready undone added =
     subst (λ (r : Rid). SetsRow s.log r (row_at s.log (standing_before s.log n)) new) (undoes s ready n is_ready undone).2
     (undo_sets s (logged_undo s ready new) ready.txn n ready.rid (logged_undid s p ready n new kept is_ready undone added))

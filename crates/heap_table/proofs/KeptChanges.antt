@@ -23,7 +23,7 @@ use Rattle.heap_table.specs.PageLists.{PagesValue, slot_in, with_slot_in, pages_
 use Rattle.heap_table.specs.Pages.{page_end, slot_end, slots_written, pages_written, slot_under, slot_of, SetsRow}
 use Rattle.heap_table.specs.Ready.{HaveWritten}
 use Rattle.heap_table.specs.Sound.{IsSound, UndoFits}
-use Rattle.heap_table.proofs.Added.{Added}
+use Rattle.heap_log.proofs.Growing.{Grows}
 use Rattle.heap_table.proofs.Holding.{holder_wrote}
 use Rattle.heap_table.proofs.KeptFacts.{kept_slot}
 use Rattle.heap_table.proofs.LogRows.{slots_written-added, pages_written-added, slots_past, end_here, written_inside}
@@ -44,7 +44,7 @@ written_at (Some (Commit t)) cells e = absurd (cc)
 written_at (Some (Switch o)) cells e = absurd (cc)
 
 fit_added :
-    (kinds : List Kind) (log new : List LogRec) (rec : LogRec) → Added log rec new
+    (kinds : List Kind) (log new : List LogRec) (rec : LogRec) → Grows log rec new
     → ((cells : List Cell) → row_of (Some rec) ≡ Some cells → IsRow cells × (fits kinds cells ≡ true)) → WritesFit kinds log → WritesFit kinds new
 fit_added kinds log new rec added fit old = λ n cells e.
     let count : length new ≡ length log + 1 = ap length added.is ∙ length-append log (rec ∷ []) in
@@ -122,7 +122,7 @@ same_counts log new rec is pages slots =
 
 -- a record that is no write, after which each slot is what the pages have
 kept_after :
-    (s t : HeapState) (p q : PagesValue) (rec : LogRec) (slot : Rid → Slot) → IsKept s p → IsSound t → UndoFits t.log → Added s.log rec t.log
+    (s t : HeapState) (p q : PagesValue) (rec : LogRec) (slot : Rid → Slot) → IsKept s p → IsSound t → UndoFits t.log → Grows s.log rec t.log
     → row_of (Some rec) ≡ None → pages_written (rec ∷ []) ≡ 0 → ((page : ℕ) → slots_written (rec ∷ []) page ≡ 0)
     → t.schema ≡ s.schema → t.slot_limit ≡ s.slot_limit → t.page_limit ≡ s.page_limit
     → q.pages ≡ pages_by slot (slots_written s.log) (pages_written s.log) s.slot_limit → ((rid : Rid) → slot rid ≡ slot_of t.log rid)
@@ -146,7 +146,7 @@ kept_after s t p q rec slot kept sound undo_fits added none no_page no_slot sche
 
 -- a switch leaves every slot
 pub kept_switch :
-    (s t : HeapState) (p q : PagesValue) (verdicts : List Outcome) → IsKept s p → Added s.log (Switch verdicts) t.log → t.active ≡ s.active → t.begun ≡ s.begun
+    (s t : HeapState) (p q : PagesValue) (verdicts : List Outcome) → IsKept s p → Grows s.log (Switch verdicts) t.log → t.active ≡ s.active → t.begun ≡ s.begun
     → t.schema ≡ s.schema → t.slot_limit ≡ s.slot_limit → t.page_limit ≡ s.page_limit
     → q.pages ≡ p.pages → q.limit ≡ p.limit → t.room ≤ q.spare → IsKept t q
 kept_switch s t p q verdicts kept added active begun schema slots limit pages pages_limit room =
@@ -165,7 +165,7 @@ have_written s p txn log kept same = (kept.pages_are, λ rid e. written_inside s
 
 -- a commit settles the slots that its transaction wrote
 pub kept_commit :
-    (s t : HeapState) (p q : PagesValue) (txn : ℕ) → IsKept s p → is_open s.active txn ≡ true → Added s.log (Commit txn) t.log
+    (s t : HeapState) (p q : PagesValue) (txn : ℕ) → IsKept s p → is_open s.active txn ≡ true → Grows s.log (Commit txn) t.log
     → t.active ≡ without txn s.active → t.begun ≡ s.begun → t.schema ≡ s.schema → t.slot_limit ≡ s.slot_limit → t.page_limit ≡ s.page_limit
     → ((slot : Rid → Slot) (slots : ℕ → ℕ) (count limit : ℕ) → p.pages ≡ pages_by slot slots count limit → q.pages ≡ pages_by (λ rid. settled_if (wrote t.log txn rid) (slot rid)) slots count limit)
     → q.limit ≡ p.limit → t.room ≤ q.spare → IsKept t q

@@ -1,11 +1,12 @@
-pub mod Added
 pub mod Done
 pub mod Holding
 pub mod KeptChanges
 pub mod KeptFacts
+pub mod KeysAtRest
 pub mod LogRows
 pub mod OpenOnes
 pub mod PageLists
+pub mod PairsAtRest
 pub mod Performing
 pub mod RoomsOfPages
 pub mod Settling
@@ -13,6 +14,7 @@ pub mod Showing
 pub mod Slots
 pub mod Small
 pub mod Sounds
+pub mod TablePairs
 pub mod Tournament
 pub mod Undoing
 pub mod Writers

@@ -1,7 +1,7 @@
 -- What a record more does to the rows that stand and to the pages that are written.
 use Rattle.std.proofs.Common.{◌≡◌, inl, inr, ℕ, ◌+◌, ◌≤◌, max, true, List, [], ◌∷◌, ◌++◌, ◌<◌, length, Option, Some, None, refl, sym, ap, ◌∙◌, arith}
 use Rattle.std.specs.Prelude.{not, ◌==◌}
-use Rattle.std.proofs.lemmas.Bool.{false≢true, or_cases, and_parts, eq-eqb}
+use Rattle.std.proofs.lemmas.Bool.{false≢true, false_from_ne_true, or_cases, and_parts, eq-eqb, cond-true, cond-false}
 use Rattle.std.proofs.lemmas.Bool.Decides.{nat_tests}
 use Rattle.keybytes.specs.declared.cell.Cell.{Cell}
 use Rattle.keybytes.specs.declared.rid.Rid.{Rid}
@@ -9,12 +9,13 @@ use Rattle.heap_log.specs.declared.outcome.Outcome.{Outcome}
 use Rattle.heap_log.specs.declared.record.LogRec.{LogRec}
 use Rattle.heap_log.specs.declared.record.LogRec.TheVariants.{Write, Undo, Commit, Switch}
 use Rattle.keybytes.specs.Rids.{same_rid}
+use Rattle.keybytes.proofs.SameRids.{same_rid-true, same_rid-refl}
 use Rattle.heap_log.specs.Standing.{live_at, row_at, record_at, newest_at, stands_at, undone, is_write_of, is_write_at}
 use Rattle.heap_log.proofs.Last.{IsLast, last_below_some}
 use Rattle.slotted_page.specs.Slot.{free}
 use Rattle.heap_table.specs.Holders.{writes, wrote, holder}
-use Rattle.heap_table.specs.Pages.{slot_end, slots_written, page_end, pages_written, slot_with, slot_of, KeepsRows, RowsAreInside}
-use Rattle.heap_table.proofs.Added.{Added}
+use Rattle.heap_table.specs.Pages.{slot_end, slots_written, page_end, pages_written, slot_with, slot_of, KeepsRows, SetsRow, RowsAreInside}
+use Rattle.heap_log.proofs.Growing.{Grows}
 use Rattle.heap_table.proofs.Holding.{holder_wrote}
 use Rattle.heap_table.proofs.Writers.{wrote_from}
 use Rattle.heap_table.proofs.Small.{max_turned, max_zero, same_rid_is, some_or_none}
@@ -34,14 +35,14 @@ pages_written-added [] rec = max_comm (page_end rec) 0
 pages_written-added (first ∷ log) rec =
     rw (pages_written-added log rec) (max_turned (page_end first) (pages_written log) (page_end rec))
 
-pub keeps_commit : (log new : List LogRec) (txn : ℕ) → Added log (Commit txn) new → KeepsRows log new
+pub keeps_commit : (log new : List LogRec) (txn : ℕ) → Grows log (Commit txn) new → KeepsRows log new
 keeps_commit log new txn added = record {
   live = added.live.live;
   pages = rw added.is (pages_written-added log (Commit txn) ∙ max_zero (pages_written log));
   slots = λ page. rw added.is (slots_written-added log (Commit txn) page ∙ max_zero (slots_written log page));
 }
 
-pub keeps_switch : (log new : List LogRec) (verdicts : List Outcome) → Added log (Switch verdicts) new → KeepsRows log new
+pub keeps_switch : (log new : List LogRec) (verdicts : List Outcome) → Grows log (Switch verdicts) new → KeepsRows log new
 keeps_switch log new verdicts added = record {
   live = added.live.live;
   pages = rw added.is (pages_written-added log (Switch verdicts) ∙ max_zero (pages_written log));
@@ -132,3 +133,12 @@ slot_free log rid e = by (live_at log rid) (holder log rid) _ e where
   by None None reserve f = (refl, refl)
   by None (Some txn) reserve f = absurd (cc)
   by (Some cells) h reserve f = absurd (cc)
+
+-- a write puts its row at its RID, and nothing else changes
+pub write_sets : (log new : List LogRec) (txn : ℕ) (rid : Rid) (row : Option (List Cell)) → Grows log (Write txn rid row) new → SetsRow log rid row new
+write_sets log new txn rid row added = record {
+  here = added.live.live rid ∙ cond-true (same_rid rid rid) row (live_at log rid) (same_rid-refl rid);
+  elsewhere = λ other differs.
+      added.live.live other
+      ∙ cond-false (same_rid rid other) row (live_at log other) (false_from_ne_true (same_rid rid other) (λ e. differs (sym (same_rid-true rid other e))));
+}

@@ -27,7 +27,7 @@ use Rattle.heap_table.specs.Kept.{IsKept, WritesFit}
 use Rattle.heap_table.specs.PageLists.{PagesValue, new_page, page_or_new, slot_in, with_slot_in, changed}
 use Rattle.heap_table.specs.Pages.{pages_written, slots_written, slot_with, slot_of}
 use Rattle.heap_table.specs.Ready.{IsSized, IsLawful, IsReady, CanWrite, CanRestore}
-use Rattle.heap_table.proofs.Added.{Added}
+use Rattle.heap_log.proofs.Growing.{Grows}
 use Rattle.heap_table.proofs.Holding.{holder_is}
 use Rattle.heap_table.proofs.KeptFacts.{goes_to, kept_count, kept_page, kept_page_or_new, kept_slot, fits_accepted}
 use Rattle.heap_table.proofs.LogRows.{rows_are_inside, slot_free}
@@ -203,7 +203,7 @@ undoes s ready n is_ready undone = subst (λ (o : Option ℕ). IsLawful s ready.
 -- a ready undo undoes its write
 pub undid_from :
     (s t : HeapState) (p : PagesValue) (ready : Ready) (n : ℕ) → IsKept s p → IsReady s ready → ready.undone ≡ Some n
-    → Added s.log (Undo ready.txn n) t.log → t.active ≡ still_open ready.txn (standing_count t.log ready.txn) s.active → t.begun ≡ s.begun
+    → Grows s.log (Undo ready.txn n) t.log → t.active ≡ still_open ready.txn (standing_count t.log ready.txn) s.active → t.begun ≡ s.begun
     → Undid s t ready.txn n ready.rid
 undid_from s t p ready n kept is_ready undone added active begun =
     let lawful = undoes s ready n is_ready undone in

@@ -17,7 +17,7 @@ use Rattle.heap_table.specs.Holders.{writes, wrote, holder, row_size, before_fir
 use Rattle.heap_table.specs.PageLists.{changed}
 use Rattle.heap_table.specs.Pages.{slot_with, slot_under, slot_of}
 use Rattle.heap_table.specs.Sound.{IsSound}
-use Rattle.heap_table.proofs.Added.{Added}
+use Rattle.heap_log.proofs.Growing.{Grows}
 use Rattle.heap_table.proofs.Holding.{holder_is, holder_open, holder_wrote, same_holder}
 use Rattle.heap_table.proofs.Sounds.{wrote_then, wrote_still, busy_write, free_for}
 use Rattle.heap_table.proofs.Writers.{greatest_written-added, before_first_kept, before_first_next, greatest_none}
@@ -75,7 +75,7 @@ writes_here txn rid row = and_from (txn == txn) (same_rid rid rid) (eq-eqb txn t
 pub record Wrote (s t : HeapState) (txn : ℕ) (rid : Rid) (row : Option (List Cell)) : Type 0 where
   pub was : IsSound s
   pub sound : IsSound t
-  pub added : Added s.log (Write txn rid row) t.log
+  pub added : Grows s.log (Write txn rid row) t.log
   pub active : t.active ≡ s.active
   pub opened : is_open s.active txn ≡ true
   pub free_for : held_refusal txn (holder s.log rid) ≡ None

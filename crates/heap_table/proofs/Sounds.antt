@@ -17,7 +17,7 @@ use Rattle.heap_log.proofs.Numbers.{write_at, newest_standing-of}
 use Rattle.heap_table.specs.HeapState.{HeapState, is_open, held_refusal, without, still_open}
 use Rattle.heap_table.specs.Holders.{writes, wrote, is_commit_of, committed, is_busy, holder}
 use Rattle.heap_table.specs.Sound.{IsSound}
-use Rattle.heap_table.proofs.Added.{Added}
+use Rattle.heap_log.proofs.Growing.{Grows}
 use Rattle.heap_table.proofs.Holding.{holder_is}
 use Rattle.heap_table.proofs.OpenOnes.{open_without_self, open_without_other, without_fewer, open_marked, open_begun, open_still_other, still_fewer}
 use Rattle.heap_table.proofs.Writers.{HasWrite, wrote_from, wrote-added, committed-added, one_writer}
@@ -38,7 +38,7 @@ committed_then : (log new : List LogRec) (rec : LogRec) (txn : ℕ) → new ≡ 
 committed_then log new rec txn is = ap (λ (l : List LogRec). committed l txn) is ∙ committed-added log rec txn
 
 sound_added :
-    (s t : HeapState) (rec : LogRec) → IsSound s → Added s.log rec t.log → t.begun ≡ s.begun
+    (s t : HeapState) (rec : LogRec) → IsSound s → Grows s.log rec t.log → t.begun ≡ s.begun
     → ((txn : ℕ) → is_open t.active txn ≡ true → is_open s.active txn ≡ true) → MayAdd s rec t → IsSound t
 sound_added s t rec h added begun fewer may =
     let is = added.is in
@@ -95,7 +95,7 @@ free_for s h txn other rid free is has = unheld txn other (ap (held_refusal txn)
 
 -- who is busy after a write
 pub busy_write :
-    (s t : HeapState) (txn : ℕ) (rid : Rid) (row : Option (List Cell)) → IsSound s → Added s.log (Write txn rid row) t.log
+    (s t : HeapState) (txn : ℕ) (rid : Rid) (row : Option (List Cell)) → IsSound s → Grows s.log (Write txn rid row) t.log
     → is_open s.active txn ≡ true → (other : ℕ)
     → is_busy t.log other ≡ (if txn == other then true else is_busy s.log other)
 busy_write s t txn rid row h added opened other =
@@ -113,7 +113,7 @@ busy_write s t txn rid row h added opened other =
     ]
 
 pub sound_write :
-    (s t : HeapState) (txn : ℕ) (rid : Rid) (row : Option (List Cell)) → IsSound s → Added s.log (Write txn rid row) t.log
+    (s t : HeapState) (txn : ℕ) (rid : Rid) (row : Option (List Cell)) → IsSound s → Grows s.log (Write txn rid row) t.log
     → t.active ≡ s.active → t.begun ≡ s.begun → is_open s.active txn ≡ true → held_refusal txn (holder s.log rid) ≡ None → IsSound t
 sound_write s t txn rid row h added active begun opened free =
     sound_added s t (Write txn rid row) h added begun (λ u e. sym (ap (λ a. is_open a u) active) ∙ e) (record {
@@ -143,7 +143,7 @@ wrote_still log new rec txn rid is none = wrote_then log new rec txn rid is ∙ 
 
 -- who is busy after a commit
 busy_commit :
-    (s t : HeapState) (txn : ℕ) → Added s.log (Commit txn) t.log → (other : ℕ)
+    (s t : HeapState) (txn : ℕ) → Grows s.log (Commit txn) t.log → (other : ℕ)
     → is_busy t.log other ≡ (if txn == other then false else is_busy s.log other)
 busy_commit s t txn added other = elim (cases_Bool (txn == other)) [
   | inl same ↦
@@ -158,7 +158,7 @@ eq_turned : (a b : ℕ) → (a == b) ≡ false → b ≢ a
 eq_turned a b e same = false≢true (sym e ∙ eq-eqb a b (sym same))
 
 pub sound_commit :
-    (s t : HeapState) (txn : ℕ) → IsSound s → Added s.log (Commit txn) t.log → t.active ≡ without txn s.active → t.begun ≡ s.begun
+    (s t : HeapState) (txn : ℕ) → IsSound s → Grows s.log (Commit txn) t.log → t.active ≡ without txn s.active → t.begun ≡ s.begun
     → is_open s.active txn ≡ true → IsSound t
 sound_commit s t txn h added active begun opened =
     sound_added s t (Commit txn) h added begun (λ u e. without_fewer txn u s.active (sym (ap (λ a. is_open a u) active) ∙ e)) (record {
@@ -178,7 +178,7 @@ sound_commit s t txn h added active begun opened =
     })
 
 pub sound_switch :
-    (s t : HeapState) (verdicts : List Outcome) → IsSound s → Added s.log (Switch verdicts) t.log → t.active ≡ s.active → t.begun ≡ s.begun → IsSound t
+    (s t : HeapState) (verdicts : List Outcome) → IsSound s → Grows s.log (Switch verdicts) t.log → t.active ≡ s.active → t.begun ≡ s.begun → IsSound t
 sound_switch s t verdicts h added active begun =
     sound_added s t (Switch verdicts) h added begun (λ u e. sym (ap (λ a. is_open a u) active) ∙ e) (record {
       known = λ u place e. absurd (false≢true e);
@@ -200,7 +200,7 @@ stands_other log txn other n by differs = elim (cases_Bool (is_write_of other (r
 
 -- who is busy after an undo of the transaction's newest standing write
 busy_undo :
-    (s t : HeapState) (txn n : ℕ) → IsSound s → Added s.log (Undo txn n) t.log
+    (s t : HeapState) (txn n : ℕ) → IsSound s → Grows s.log (Undo txn n) t.log
     → newest_standing s.log txn ≡ Some n → is_open s.active txn ≡ true → (other : ℕ)
     → is_busy t.log other ≡ (if txn == other then nat_lt 0 (standing_count t.log txn) else is_busy s.log other)
 busy_undo s t txn n h added newest opened other =
@@ -218,7 +218,7 @@ busy_undo s t txn n h added newest opened other =
     ]
 
 pub sound_undo :
-    (s t : HeapState) (txn n : ℕ) → IsSound s → Added s.log (Undo txn n) t.log
+    (s t : HeapState) (txn n : ℕ) → IsSound s → Grows s.log (Undo txn n) t.log
     → t.active ≡ still_open txn (standing_count t.log txn) s.active → t.begun ≡ s.begun
     → newest_standing s.log txn ≡ Some n → is_open s.active txn ≡ true → IsSound t
 sound_undo s t txn n h added active begun newest opened =

@@ -19,7 +19,7 @@ use Rattle.heap_table.specs.Holders.{writes, wrote, holder, row_size, room_held_
 use Rattle.heap_table.specs.PageLists.{settled, settled_if, changed}
 use Rattle.heap_table.specs.Pages.{slot_with, slot_under, slot_of}
 use Rattle.heap_table.specs.Sound.{IsSound, UndoFits}
-use Rattle.heap_table.proofs.Added.{Added}
+use Rattle.heap_log.proofs.Growing.{Grows}
 use Rattle.heap_table.proofs.Holding.{holder_is, holder_open, holder_wrote, no_holder, same_holder}
 use Rattle.heap_table.proofs.Slots.{at_its_rid, rid_is, reserve_slot, room_kept, under_kept, Wrote, write_holder, write_other_holder, write_live, write_other_live, write_room, write_other_slot}
 use Rattle.heap_table.proofs.Sounds.{wrote_still}
@@ -28,7 +28,7 @@ use Rattle.heap_table.proofs.Small.{none_some, rid_cases, same_rid_is, some_or_n
 
 -- a row before a write, once a record that leaves it is added
 row_before_kept :
-    (log new : List LogRec) (rec : LogRec) (n : ℕ) → Added log rec new → n ≤ length log → KeepsBefore log n rec
+    (log new : List LogRec) (rec : LogRec) (n : ℕ) → Grows log rec new → n ≤ length log → KeepsBefore log n rec
     → row_at new (standing_before new n) ≡ row_at log (standing_before log n)
 row_before_kept log new rec n added within keeps =
     ap (row_at new) (added.before.before n within keeps) ∙ by (standing_before log n) refl where
@@ -39,7 +39,7 @@ row_before_kept log new rec n added within keeps =
           ap row_of (added.numbers.earlier k (omega (arith, last.below, within)))
 
 -- what stands of a transaction among the records that were there
-stood : (log new : List LogRec) (rec : LogRec) (txn n : ℕ) → Added log rec new → n ≤ length log → is_undo_of n rec ≡ false → stands_of new txn n ≡ true → stands_of log txn n ≡ true
+stood : (log new : List LogRec) (rec : LogRec) (txn n : ℕ) → Grows log rec new → n ≤ length log → is_undo_of n rec ≡ false → stands_of new txn n ≡ true → stands_of log txn n ≡ true
 stood log new rec txn n added within none e =
     let parts = and_parts (is_write_of txn (record_at new n)) (not (undone new n)) e in
     let same : undone new n ≡ undone log n = added.numbers.undoes n ∙ rw none (or-false (undone log n)) in
@@ -122,7 +122,7 @@ fits_after s t rec h k is none fewer live before = record {
 
 -- a write is not the last record, where that is none
 old_number :
-    (s t : HeapState) (rec : LogRec) (n : ℕ) (rid : Rid) → Added s.log rec t.log → ((rid : Rid) → is_write_at rid (Some rec) ≡ false)
+    (s t : HeapState) (rec : LogRec) (n : ℕ) (rid : Rid) → Grows s.log rec t.log → ((rid : Rid) → is_write_at rid (Some rec) ≡ false)
     → is_write_at rid (record_at t.log n) ≡ true → n ≤ length s.log
 old_number s t rec n rid added nowhere there =
     let count : length t.log ≡ length s.log + 1 = ap length added.is ∙ length-append s.log (rec ∷ []) in
@@ -134,7 +134,7 @@ old_number s t rec n rid added nowhere there =
 
 -- a record that leaves the rows and is no write
 pub fits_quiet :
-    (s t : HeapState) (rec : LogRec) → IsSound s → IsSound t → Added s.log rec t.log → ((txn : ℕ) (rid : Rid) → writes txn rid rec ≡ false)
+    (s t : HeapState) (rec : LogRec) → IsSound s → IsSound t → Grows s.log rec t.log → ((txn : ℕ) (rid : Rid) → writes txn rid rec ≡ false)
     → ((rid : Rid) → is_write_at rid (Some rec) ≡ false) → ((n : ℕ) → is_undo_of n rec ≡ false) → ((n : ℕ) → KeepsBefore s.log n rec)
     → ((txn : ℕ) → is_open t.active txn ≡ true → is_open s.active txn ≡ true) → ((rid : Rid) → live_at t.log rid ≡ live_at s.log rid) → UndoFits s.log → UndoFits t.log
 fits_quiet s t rec h k added none nowhere undoes keeps fewer live fits =
@@ -218,7 +218,7 @@ pub record Undid (s t : HeapState) (txn n : ℕ) (rid : Rid) : Type 0 where
   pub was : IsSound s
   pub sound : IsSound t
   pub fits : UndoFits s.log
-  pub added : Added s.log (Undo txn n) t.log
+  pub added : Grows s.log (Undo txn n) t.log
   pub fewer : (other : ℕ) → is_open t.active other ≡ true → is_open s.active other ≡ true
   pub newest : newest_standing s.log txn ≡ Some n
   pub opened : is_open s.active txn ≡ true

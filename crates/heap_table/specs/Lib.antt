@@ -7,3 +7,4 @@ pub mod Pages
 pub mod Ready
 pub mod Rooms
 pub mod Sound
+pub mod TablePairs

@@ -408,6 +408,7 @@ impl Heap {
     pub fn perform(&mut self, ready: Ready) -> Performed
         requires { IsReady self.old ready }
         ensures performed { self.new ≡ after_ready self.old ready }
+        ensures rows { SetsRow self.old.log ready.rid ready.new self.new.log }
         ensures answer { result ≡ answer_of self.new ready.txn ready.rid ready.undone }
     {
         match ready.undone {

@@ -8,7 +8,7 @@ use Rattle.keybytes.specs.declared.fault.Fault.{Fault}
 use Rattle.keybytes.specs.declared.fault.Fault.TheVariants.{BadCount}
 use Rattle.keybytes.specs.declared.kind.Kind.{Kind}
 use Rattle.builder_core.specs.CoreState.{CoreState, ReadyValue}
-use Rattle.builder_core.specs.Pairs.{pairs_at_rest}
+use Rattle.heap_table.specs.TablePairs.{pairs_at_rest}
 use Rattle.builder_core.specs.Steps.{with_heap}
 use Rattle.keybytes.specs.declared.pair.Pair.{Pair}
 use Rattle.sfbuild.specs.declared.answer.Answer.{Answer}

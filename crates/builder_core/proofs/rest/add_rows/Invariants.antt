@@ -1,5 +1,5 @@
 use Rattle.std.proofs.Common.{◌≡◌, ◌++◌, map, take}
-use Rattle.builder_core.specs.Pairs.{pair_of}
+use Rattle.heap_table.specs.TablePairs.{pair_of}
 use Rattle.builder_core.proofs.rest.add_rows.Given as goal
 
 abbrev pub invariant-loop-rid : goal.invariant-loop-rid

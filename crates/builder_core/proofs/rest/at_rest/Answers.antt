@@ -6,12 +6,12 @@ use Rattle.keybytes.specs.declared.kind.Kind.{Kind}
 use Rattle.keybytes.specs.declared.rid.Rid.{Rid}
 use Rattle.heap_table.specs.HeapState.{HeapState, after_visit}
 use Rattle.heap_table.specs.Pages.{pages_written, rows_on}
-use Rattle.builder_core.specs.Pairs.{pair_of, pairs_on, pairs_from}
+use Rattle.heap_table.specs.TablePairs.{pair_of, pairs_on, pairs_from}
 use Rattle.keybytes.specs.Pairs.{HaveKeysOf, AreInColumnOrder}
-use Rattle.builder_core.proofs.KeysAtRest.{keys_at_rest}
-use Rattle.builder_core.proofs.ColumnOrder.{column_order}
+use Rattle.heap_table.proofs.KeysAtRest.{keys_at_rest}
+use Rattle.keybytes.proofs.ColumnOrder.{column_order}
 use Rattle.builder_core.proofs.Making.{rows_pairs, rows_fit_page, page_more, visits_only, visit_more, visits_changed}
-use Rattle.builder_core.proofs.AtRest.{in_order}
+use Rattle.heap_table.proofs.PairsAtRest.{in_order}
 use Rattle.builder_core.proofs.rest.at_rest.Goals as goal
 
 pub page_rows-requires : goal.page_rows-requires

@@ -1,5 +1,5 @@
 use Rattle.std.proofs.Common.{◌≡◌}
-use Rattle.builder_core.specs.Pairs.{pairs_from}
+use Rattle.heap_table.specs.TablePairs.{pairs_from}
 use Rattle.builder_core.specs.CoreState.{after_visits}
 use Rattle.builder_core.proofs.rest.at_rest.Given as goal
 

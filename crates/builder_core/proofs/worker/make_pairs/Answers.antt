@@ -1,5 +1,5 @@
 use Rattle.std.proofs.Common.{◌∙◌, ◌+◌, ◌++◌, ap, sym, append_assoc}
-use Rattle.builder_core.specs.Pairs.{pairs_on, pairs_from}
+use Rattle.heap_table.specs.TablePairs.{pairs_on, pairs_from}
 use Rattle.builder_core.proofs.Making.{page_more, image_at, its_page}
 use Rattle.builder_core.proofs.worker.make_pairs.Goals as goal
 

@@ -1,6 +1,6 @@
 use Rattle.std.proofs.Common.{◌≡◌, ◌++◌, ℕ, List}
 use Rattle.heap_log.specs.declared.record.LogRec.{LogRec}
-use Rattle.builder_core.specs.Pairs.{pairs_from}
+use Rattle.heap_table.specs.TablePairs.{pairs_from}
 use Rattle.builder_core.specs.Builds.{AreImages}
 use Rattle.builder_core.proofs.worker.make_pairs.Given as goal
 

@@ -1,7 +1,7 @@
 use Rattle.std.proofs.Common.{◌≡◌, ◌≤◌, ◌∙◌, ap, subst, sym, length, None, false, arith, rules}
 use Rattle.builder_core.specs.CoreState.{BuildValue, scanned_pages}
 use Rattle.builder_core.specs.Builds.{IsBuilding}
-use Rattle.builder_core.specs.Pairs.{pairs_at_rest}
+use Rattle.heap_table.specs.TablePairs.{pairs_at_rest}
 use Rattle.builder_core.specs.contracts.build.Build.{the_view}
 use Rattle.builder_core.proofs.Following.{loaded_all, loaded_pairs}
 use Rattle.builder_core.proofs.build.Build.load.Goals as goal

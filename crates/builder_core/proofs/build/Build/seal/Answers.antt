@@ -1,6 +1,6 @@
 use Rattle.std.proofs.Common.{◌≡◌, ◌∙◌, ◌+◌, ◌++◌, ℕ, List, [], length, None, ap, sym, subst, arith}
 use Rattle.heap_table.specs.Images.{ImageValue}
-use Rattle.builder_core.specs.Pairs.{pairs_from}
+use Rattle.heap_table.specs.TablePairs.{pairs_from}
 use Rattle.builder_core.specs.CoreState.{BuildValue}
 use Rattle.builder_core.specs.Builds.{AreImages, IsBuilding}
 use Rattle.builder_core.specs.contracts.build.Build.{the_view}

@@ -1,9 +1,9 @@
 use Rattle.std.proofs.Common.{◌≡◌, ap, ◌∙◌, subst, sym}
 use Rattle.builder_core.specs.CoreState.{LiveValue, ReadyValue}
 use Rattle.keybytes.specs.Pairs.{HaveKeysOf}
-use Rattle.builder_core.specs.Pairs.{pairs_at_rest}
+use Rattle.heap_table.specs.TablePairs.{pairs_at_rest}
 use Rattle.builder_core.proofs.Following.{follow_more}
-use Rattle.builder_core.proofs.KeysAtRest.{keys_at_rest}
+use Rattle.heap_table.proofs.KeysAtRest.{keys_at_rest}
 use Rattle.builder_core.proofs.live.Live.switch_in.Goals as goal
 
 pub invariant_of-self : goal.invariant_of-self

@@ -5,7 +5,7 @@ use Rattle.heap_log.specs.declared.record.LogRec.TheVariants.{Commit}
 use Rattle.heap_table.specs.HeapState.{HeapState, is_open}
 use Rattle.heap_table.specs.Holders.{wrote}
 use Rattle.heap_table.specs.Pages.{slots_written, pages_written, slot_of, KeepsRows}
-use Rattle.heap_table.proofs.Added.{Added}
+use Rattle.heap_log.proofs.Growing.{Grows, grows}
 use Rattle.heap_table.proofs.LogRows.{keeps_commit}
 use Rattle.heap_table.proofs.KeptChanges.{have_written, kept_commit}
 use Rattle.heap_table.proofs.OpenOnes.{open_accepted}
@@ -14,14 +14,8 @@ use Rattle.heap_table.proofs.heap.Heap.commit.Goals as goal
 
 pub settle_writes-requires : goal.settle_writes-requires
 settle_writes-requires c =
-    let added : Added c.self.inside.log.records (Commit c.args.txn) c.add.new.self.records =
-    subst (λ (l : List LogRec). Added l (Commit c.args.txn) c.add.new.self.records) c.in_ok-reserve.ensures.records (record {
-      is = c.add.ensures.records;
-      live = c.add.ensures.live;
-      standing = c.add.ensures.standing;
-      before = c.add.ensures.before;
-      numbers = c.add.ensures.numbers;
-    }) in
+    let added : Grows c.self.inside.log.records (Commit c.args.txn) c.add.new.self.records =
+    subst (λ (l : List LogRec). Grows l (Commit c.args.txn) c.add.new.self.records) c.in_ok-reserve.ensures.records (grows _ _ _ c.add.ensures.added) in
     let log = c.self.inside.log.records in
     let have = have_written _ c.self.inside.pages c.args.txn c.add.new.self.records c.self.invariant
     (λ (rid : Rid) (e : wrote c.add.new.self.records c.args.txn rid ≡ true). sym (wrote_still log c.add.new.self.records (Commit c.args.txn) c.args.txn rid added.is refl) ∙ e) in
@@ -29,14 +23,8 @@ settle_writes-requires c =
 
 pub invariant_of-self-2 : goal.invariant_of-self-2
 invariant_of-self-2 c =
-    let added : Added c.self.inside.log.records (Commit c.args.txn) c.add.new.self.records =
-    subst (λ (l : List LogRec). Added l (Commit c.args.txn) c.add.new.self.records) c.in_ok-reserve.ensures.records (record {
-      is = c.add.ensures.records;
-      live = c.add.ensures.live;
-      standing = c.add.ensures.standing;
-      before = c.add.ensures.before;
-      numbers = c.add.ensures.numbers;
-    }) in
+    let added : Grows c.self.inside.log.records (Commit c.args.txn) c.add.new.self.records =
+    subst (λ (l : List LogRec). Grows l (Commit c.args.txn) c.add.new.self.records) c.in_ok-reserve.ensures.records (grows _ _ _ c.add.ensures.added) in
     let opened : is_open c.self.inside.open_txns.items c.args.txn ≡ true =
     subst (λ (s : HeapState). is_open s.active c.args.txn ≡ true) (sym c.self.view_is) (open_accepted c.args.self.now c.args.txn c.in_ok-check_txn.ensures) in
     kept_commit _ _ c.self.inside.pages c.settle_writes.new.pages c.args.txn c.self.invariant opened added c.end.ensures refl refl refl refl
@@ -45,12 +33,6 @@ invariant_of-self-2 c =
 
 pub returns-clause-rows : goal.returns-clause-rows
 returns-clause-rows c =
-    let added : Added c.self.inside.log.records (Commit c.args.txn) c.add.new.self.records =
-    subst (λ (l : List LogRec). Added l (Commit c.args.txn) c.add.new.self.records) c.in_ok-reserve.ensures.records (record {
-      is = c.add.ensures.records;
-      live = c.add.ensures.live;
-      standing = c.add.ensures.standing;
-      before = c.add.ensures.before;
-      numbers = c.add.ensures.numbers;
-    }) in
+    let added : Grows c.self.inside.log.records (Commit c.args.txn) c.add.new.self.records =
+    subst (λ (l : List LogRec). Grows l (Commit c.args.txn) c.add.new.self.records) c.in_ok-reserve.ensures.records (grows _ _ _ c.add.ensures.added) in
     subst (λ (s : HeapState). KeepsRows s.log c.add.new.self.records) c.self.view_is (keeps_commit _ _ c.args.txn added)

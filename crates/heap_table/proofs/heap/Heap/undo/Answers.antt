@@ -6,7 +6,7 @@ use Rattle.heap_table.specs.HeapState.{HeapState, still_open}
 use Rattle.heap_table.specs.Kept.{IsKept}
 use Rattle.heap_table.specs.Pages.{SetsRow}
 use Rattle.heap_table.specs.Ready.{IsReady, IsLawful}
-use Rattle.heap_table.proofs.Added.{Added}
+use Rattle.heap_log.proofs.Growing.{Grows, grows}
 use Rattle.heap_table.proofs.Done.{kept_undone, undone_inside, undone_sets}
 use Rattle.heap_table.proofs.Performing.{can_restore, undoes}
 use Rattle.heap_table.proofs.heap.Heap.undo.Goals as goal
@@ -30,13 +30,7 @@ add-requires-clause-earlier c =
 pub go_on_ending-requires : goal.go_on_ending-requires
 go_on_ending-requires c =
     let is_ready = subst (λ (s : HeapState). IsReady s c.args.ready) (sym c.self.view_is) c.requires.ready in
-    let added : Added c.self.inside.log.records (Undo c.args.ready.txn c.args.number) c.add.new.self.records = record {
-      is = c.add.ensures.records;
-      live = c.add.ensures.live;
-      standing = c.add.ensures.standing;
-      before = c.add.ensures.before;
-      numbers = c.add.ensures.numbers;
-    } in
+    let added : Grows c.self.inside.log.records (Undo c.args.ready.txn c.args.number) c.add.new.self.records = grows _ _ _ c.add.ensures.added in
     undone_inside _ c.self.inside.pages c.undo_slot.new.pages c.args.ready c.args.number c.add.new.self.records c.self.invariant is_ready c.requires.undo added
     c.undo_slot.ensures.pages
 
@@ -44,13 +38,7 @@ pub invariant_of-self : goal.invariant_of-self
 invariant_of-self c =
     let txn = c.args.ready.txn in
     let is_ready = subst (λ (s : HeapState). IsReady s c.args.ready) (sym c.self.view_is) c.requires.ready in
-    let added : Added c.self.inside.log.records (Undo c.args.ready.txn c.args.number) c.add.new.self.records = record {
-      is = c.add.ensures.records;
-      live = c.add.ensures.live;
-      standing = c.add.ensures.standing;
-      before = c.add.ensures.before;
-      numbers = c.add.ensures.numbers;
-    } in
+    let added : Grows c.self.inside.log.records (Undo c.args.ready.txn c.args.number) c.add.new.self.records = grows _ _ _ c.add.ensures.added in
     kept_undone _ _ c.self.inside.pages c.undo_slot.new.pages c.go_on_ending.new.pages c.args.ready c.args.number c.self.invariant is_ready c.requires.undo added
     (c.go_on_ending.ensures.active ∙ ap (λ (left : ℕ). still_open txn left c.self.inside.open_txns.items) c.standing-left.ensures) refl refl refl refl
     c.undo_slot.ensures.pages c.undo_slot.ensures.limit
@@ -61,12 +49,6 @@ pub returns-clause-rows : goal.returns-clause-rows
 returns-clause-rows c =
     let n = c.args.number in
     let is_ready = subst (λ (s : HeapState). IsReady s c.args.ready) (sym c.self.view_is) c.requires.ready in
-    let added : Added c.self.inside.log.records (Undo c.args.ready.txn c.args.number) c.add.new.self.records = record {
-      is = c.add.ensures.records;
-      live = c.add.ensures.live;
-      standing = c.add.ensures.standing;
-      before = c.add.ensures.before;
-      numbers = c.add.ensures.numbers;
-    } in
+    let added : Grows c.self.inside.log.records (Undo c.args.ready.txn c.args.number) c.add.new.self.records = grows _ _ _ c.add.ensures.added in
     subst (λ (s : HeapState). SetsRow s.log (rid_of (record_at s.log n)) (row_at s.log (standing_before s.log n)) c.add.new.self.records) c.self.view_is
     (undone_sets _ c.self.inside.pages c.args.ready n c.add.new.self.records c.self.invariant is_ready c.requires.undo added)

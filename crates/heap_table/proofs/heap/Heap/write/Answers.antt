@@ -2,9 +2,11 @@ use Rattle.std.proofs.Common.{ℕ, Option, refl, sym, subst, arith}
 use Rattle.heap_log.specs.declared.record.LogRec.TheVariants.{Write}
 use Rattle.heap_table.specs.HeapState.{HeapState}
 use Rattle.heap_table.specs.Kept.{IsKept}
+use Rattle.heap_table.specs.Pages.{SetsRow}
 use Rattle.heap_table.specs.Ready.{IsReady, IsLawful}
-use Rattle.heap_table.proofs.Added.{Added}
+use Rattle.heap_log.proofs.Growing.{Grows, grows}
 use Rattle.heap_table.proofs.Done.{kept_performed}
+use Rattle.heap_table.proofs.LogRows.{write_sets}
 use Rattle.heap_table.proofs.Performing.{can_write}
 use Rattle.heap_table.proofs.heap.Heap.write.Goals as goal
 
@@ -20,12 +22,12 @@ pub invariant_of-self : goal.invariant_of-self
 invariant_of-self c =
     let ready = c.args.ready in
     let is_ready = subst (λ (s : HeapState). IsReady s ready) (sym c.self.view_is) c.requires.ready in
-    let added : Added c.self.inside.log.records (Write ready.txn ready.rid ready.new) c.add.new.self.records = record {
-      is = c.add.ensures.records;
-      live = c.add.ensures.live;
-      standing = c.add.ensures.standing;
-      before = c.add.ensures.before;
-      numbers = c.add.ensures.numbers;
-    } in
+    let added : Grows c.self.inside.log.records (Write ready.txn ready.rid ready.new) c.add.new.self.records = grows _ _ _ c.add.ensures.added in
     kept_performed _ _ c.self.inside.pages c.write_slot.new.pages ready c.self.invariant is_ready c.requires.write added refl refl refl refl refl
     c.write_slot.ensures.pages c.write_slot.ensures.limit (omega (arith, c.write_slot.ensures.spare, c.add.ensures.room, c.self.invariant.room))
+
+pub returns-clause-rows : goal.returns-clause-rows
+returns-clause-rows c =
+    let ready = c.args.ready in
+    let added : Grows c.self.inside.log.records (Write ready.txn ready.rid ready.new) c.add.new.self.records = grows _ _ _ c.add.ensures.added in
+    subst (λ (s : HeapState). SetsRow s.log ready.rid ready.new c.add.new.self.records) c.self.view_is (write_sets _ _ ready.txn ready.rid ready.new added)

@@ -1,6 +1,6 @@
 use Rattle.std.proofs.Common.{ap, inl, inr, refl, rules, ◌∙◌}
 use Rattle.keybytes.specs.Keys.{KeySpecValue}
-use Rattle.builder_core.specs.Pairs.{pairs_at_rest}
+use Rattle.heap_table.specs.TablePairs.{pairs_at_rest}
 use Rattle.sfbuild.specs.Listings.{key_spec_of}
 use Rattle.sfbuild.proofs.KeyedPairs.{keyed_by, listed_by}
 use Rattle.sfbuild.proofs.SpecLists.{is_named}

@@ -1,13 +1,13 @@
 -- The pairs of all pages, put in order, are the pairs at rest.
 use Rattle.std.proofs.Common.{◌≡◌, ℕ, zero, suc, add-zero, zero-add, ◌+◌, ◌<◌, Bool, true, false, List, [], ◌∷◌, ◌++◌, append_assoc, Option, Some, None, refl, sym, ap, ◌∙◌, arith, inl, inr, subst}
-use Rattle.std.specs.Prelude.{◌||◌, ◌&&◌, filter_map, flat_map, map, T, IsPermutation}
+use Rattle.std.specs.Prelude.{filter_map, flat_map, map, T, IsPermutation}
 use Rattle.std.specs.declared.cmp.Ordering.{Ordering}
 use Rattle.std.specs.declared.cmp.Ordering.TheVariants.{Less, Equal, Greater}
 use Rattle.std.specs.Ordering.{eq_by_cmp, is_eq, is_lt, ordering_reverse}
 use Rattle.std.specs.List.{list_any, range_with_len, cons_option, IsDistinct, AllByRecursion, All}
 use Rattle.std.specs.List.Sorted.{IsSortedBy}
 use Rattle.std.specs.FinMap.Entries.{is_sorted, below_all}
-use Rattle.std.proofs.lemmas.Bool.{or_cases, or_left, or_right, false≢true}
+use Rattle.std.proofs.lemmas.Bool.{or_cases, or_left, or_right, and_from, false≢true, false_from_ne_true}
 use native.Mathlib.Numerals.{unary_clauses}
 use Rattle.std.proofs.lemmas.Bool.Decides.{nat_tests}
 use Rattle.std.proofs.lemmas.Cmp.{eq_by_cmp_equiv}
@@ -23,9 +23,10 @@ use Rattle.heap_log.specs.Standing.{live_at}
 use Rattle.heap_table.specs.Pages.{rid_at, slots_written, pages_written, RowsAreInside}
 use Rattle.keybytes.specs.declared.pair.Pair.{Pair}
 use Rattle.keybytes.specs.Pairs.{pair_cmp}
-use Rattle.builder_core.specs.Pairs.{pair_at, rids_on, pairs_on, pairs_from, written_rids, pairs_at_rest}
+use Rattle.heap_table.specs.TablePairs.{pair_at, rids_on, pairs_on, pairs_from, written_rids, pairs_at_rest}
 use Rattle.keybytes.proofs.PairSets.{pairs_total, marked, tied_pairs, is_in, items_are}
-use Rattle.builder_core.proofs.PairSets.{at_its_rid, all_listed}
+use Rattle.keybytes.proofs.SameRids.{same_rid-refl}
+use Rattle.heap_table.proofs.TablePairs.{own_pair, all_listed, row_written, listed_on}
 
 -- the RIDs of so many pages from that one on
 abbrev pub rids_from : List LogRec → ℕ → ℕ → List Rid
@@ -89,22 +90,15 @@ rids_distinct log first (suc count) =
     (λ r e. all_weaker (λ y. first < y.page) (λ y. same_rid r y ≡ false) (λ y less. pages_apart r y (omega (arith, e, less))) rest later)
     (rids_on log first) (on_page first 0 (slots_written log first)))
 
-not_true : (b : Bool) → (b ≡ true → ⊥) → b ≡ false
-not_true true f = absurd (f refl)
-not_true false f = refl
-
-rid_itself : (r : Rid) → same_rid r r ≡ true
-rid_itself r = grind (arith, nat_tests)
-
 one_apart :
     (spec : KeySpecValue) (log : List LogRec) (p : Pair) (r : Rid) (rs : List Rid) (o : Option Pair) → pair_at spec log r ≡ o → same_rid p.rid r ≡ false
     → AllByRecursion (λ y. eq_by_cmp pair_cmp p y ≡ false) (filter_map (pair_at spec log) rs)
     → AllByRecursion (λ y. eq_by_cmp pair_cmp p y ≡ false) (cons_option o (filter_map (pair_at spec log) rs))
 one_apart spec log p r rs None is here rest = rest
 one_apart spec log p r rs (Some q) is here rest = (
-  not_true (eq_by_cmp pair_cmp p q) (λ e.
-      let same : p.rid ≡ r = ap (λ (x : Pair). x.rid) (tied_pairs p q e) ∙ sym (at_its_rid spec log r q is) in
-      false≢true (sym here ∙ ap (λ x. same_rid x r) same ∙ rid_itself r)),
+  false_from_ne_true (eq_by_cmp pair_cmp p q) (λ e.
+      let same : p.rid ≡ r = ap (λ (x : Pair). x.rid) (tied_pairs p q e) ∙ own_pair spec r (live_at log r) q is in
+      false≢true (sym here ∙ ap (λ x. same_rid x r) same ∙ same_rid-refl r)),
   rest,
 )
 
@@ -121,24 +115,12 @@ one_distinct :
 unfolding IsDistinct
 one_distinct spec log r rs None is apart rest = rest
 one_distinct spec log r rs (Some p) is apart rest =
-    (pairs_apart spec log p rs (subst (λ (x : Rid). AllByRecursion (λ y. same_rid x y ≡ false) rs) (at_its_rid spec log r p is) apart), rest)
+    (pairs_apart spec log p rs (subst (λ (x : Rid). AllByRecursion (λ y. same_rid x y ≡ false) rs) (sym (own_pair spec r (live_at log r) p is)) apart), rest)
 
 pairs_distinct : (spec : KeySpecValue) (log : List LogRec) (rids : List Rid) → IsDistinct same_rid rids → IsDistinct (eq_by_cmp pair_cmp) (filter_map (pair_at spec log) rids)
 unfolding IsDistinct
 pairs_distinct spec log [] apart = tt
 pairs_distinct spec log (r ∷ rs) apart = one_distinct spec log r rs (pair_at spec log r) refl apart.0 (pairs_distinct spec log rs apart.1)
-
--- a page below the last one is listed with its slots
-in_range : (test : ℕ → Bool) (first count k : ℕ) → k < count → test (first + k) ≡ true → list_any test (range_with_len first count) ≡ true
-in_range test first zero k less e = absurd (omega arith)
-in_range test first (suc count) zero less e = or_left (test first) (list_any test (range_with_len (first + 1) count)) (ap test (sym (add-zero first)) ∙ e)
-in_range test first (suc count) (suc k) less e =
-    or_right (test first) (list_any test (range_with_len (first + 1) count))
-    (in_range test (first + 1) count k (omega arith) (let same : first + 1 + k ≡ first + suc k = omega arith in ap test same ∙ e))
-
-any_map : {X Y : Type 0} (test : Y → Bool) (f : X → Y) (xs : List X) → list_any test (map f xs) ≡ list_any (λ x. test (f x)) xs
-any_map test f [] = refl
-any_map test f (x ∷ xs) = ap (λ b. test (f x) || b) (any_map test f xs)
 
 any_append : {X : Type 0} (test : X → Bool) (xs ys : List X) → list_any test xs ≡ true → list_any test (xs ++ ys) ≡ true
 any_append test [] ys e = absurd (false≢true e)
@@ -151,12 +133,6 @@ any_append test (x ∷ xs) ys e =
 any_after : {X : Type 0} (test : X → Bool) (xs ys : List X) → list_any test ys ≡ true → list_any test (xs ++ ys) ≡ true
 any_after test [] ys e = e
 any_after test (x ∷ xs) ys e = or_right (test x) (list_any test (xs ++ ys)) (any_after test xs ys e)
-
-listed_on : (log : List LogRec) (rid : Rid) → rid.slot < slots_written log rid.page → list_any (λ r. same_rid r rid) (rids_on log rid.page) ≡ true
-listed_on log rid less =
-    any_map (λ r. same_rid r rid) (rid_at rid.page) (range_with_len 0 (slots_written log rid.page))
-    ∙ in_range (λ slot. same_rid (rid_at rid.page slot) rid) 0 (slots_written log rid.page) rid.slot less
-    (ap (λ slot. same_rid (rid_at rid.page slot) rid) (zero-add rid.slot) ∙ rid_itself rid)
 
 listed_from : (log : List LogRec) (rid : Rid) (first count k : ℕ) → k < count → first + k ≡ rid.page → rid.slot < slots_written log rid.page → list_any (λ r. same_rid r rid) (rids_from log first count) ≡ true
 listed_from log rid first zero k less page slot = absurd (omega arith)
@@ -177,14 +153,10 @@ by_order_of Less a b = refl
 by_order_of Equal a b = absurd (false≢true (sym b))
 by_order_of Greater a b = absurd (false≢true (sym a))
 
-both : (a b : Bool) → a ≡ true → b ≡ true → (a && b) ≡ true
-both true b p q = q
-both false b p q = absurd (false≢true p)
-
 rises_above : (x : Pair) (ys : List Pair) → AllByRecursion (λ y. is_lt (pair_cmp y x) ≡ false) ys → AllByRecursion (λ y. eq_by_cmp pair_cmp x y ≡ false) ys → below_all pair_cmp x (marked ys) ≡ true
 rises_above x [] a b = refl
 rises_above x (y ∷ ys) a b =
-    both (is_lt (pair_cmp x y)) (below_all pair_cmp x (marked ys))
+    and_from (is_lt (pair_cmp x y)) (below_all pair_cmp x (marked ys))
     (by_order_of (pair_cmp x y) (ap is_lt (sym (pairs_total.antisymm y x)) ∙ a.0) b.0) (rises_above x ys a.1 b.1)
 
 abbrev pub InOrder : List Pair → Type 0
@@ -200,7 +172,7 @@ rises : (ys : List Pair) → InOrder ys → IsDistinct (eq_by_cmp pair_cmp) ys �
 unfolding IsDistinct
 rises [] h apart = refl
 rises (x ∷ ys) h apart =
-    both (below_all pair_cmp x (marked ys)) (is_sorted pair_cmp (marked ys))
+    and_from (below_all pair_cmp x (marked ys)) (is_sorted pair_cmp (marked ys))
     (rises_above x ys (recursion_from_All (λ y. is_lt (pair_cmp y x) ≡ false) ys (above_first x ys h)) apart.0)
     (rises ys (order_tail x ys h) apart.1)
 
@@ -217,7 +189,8 @@ in_order spec log made ys inside is moved sorted =
     IsDistinct-IsPermutation (eq_by_cmp pair_cmp) (eq_by_cmp_equiv pairs_total).symm made ys moved apart in
     items_are ys (filter_map (pair_at spec log) (written_rids log)) (subst T (sym (rises ys sorted apart_now)) tt) (λ q.
     sym (list_any-IsPermutation (eq_by_cmp pair_cmp q) made ys moved)
-    ∙ ap (is_in q) made_is ∙ all_listed spec log rids (listed_all log inside) q)
+    ∙ ap (is_in q) made_is ∙ all_listed spec log rids (listed_all log inside) q
+    ∙ sym (all_listed spec log (written_rids log) (row_written log) q))
 
 -- the pairs of pages one after another
 pub pairs_joined : (spec : KeySpecValue) (log : List LogRec) (first n m : ℕ) → pairs_from spec log first (n + m) ≡ pairs_from spec log first n ++ pairs_from spec log (first + n) m

@@ -1,9 +1,8 @@
 -- Each pair of the rows that stand has the key of its row.
 use Rattle.std.proofs.Common.{◌≡◌, ℕ, zero, suc, ◌<◌, true, List, [], ◌∷◌, length, get_or, Some, sym, ap, ◌∙◌, subst, arith}
-use Rattle.std.specs.Prelude.{filter_map, is_some}
+use Rattle.std.specs.Prelude.{filter_map}
 use Rattle.std.specs.Option.{option_map}
 use Rattle.std.specs.Ordering.{eq_by_cmp, is_eq}
-use Rattle.std.specs.FinMap.{keys, contains_key-keys, get-from_entries}
 use Rattle.std.proofs.lemmas.Cmp.{tied_itself}
 use Rattle.std.proofs.lemmas.Option.{same_Some}
 use Rattle.std.proofs.lemmas.Bool.{or_left, or_right}
@@ -15,10 +14,10 @@ use Rattle.heap_log.specs.declared.record.LogRec.{LogRec}
 use Rattle.heap_log.specs.Standing.{live_at}
 use Rattle.heap_table.specs.Kept.{RowsFit}
 use Rattle.keybytes.specs.declared.pair.Pair.{Pair}
-use Rattle.keybytes.specs.Pairs.{pair_cmp, set_of, HaveKeysOf}
-use Rattle.builder_core.specs.Pairs.{pair_at, written_rids, pairs_at_rest}
-use Rattle.keybytes.proofs.PairSets.{pairs_total, is_in, marked, found_mark}
-use Rattle.builder_core.proofs.PairSets.{found, stands}
+use Rattle.keybytes.specs.Pairs.{pair_cmp, HaveKeysOf}
+use Rattle.heap_table.specs.TablePairs.{pair_at, written_rids, pairs_at_rest}
+use Rattle.keybytes.proofs.PairSets.{pairs_total, is_in, in_set}
+use Rattle.heap_table.proofs.TablePairs.{all_listed, pair_there, row_there, row_written}
 
 -- an element of a list is in it
 in_own : (pairs : List Pair) (k : ℕ) (d : Pair) → k < length pairs → is_in (get_or pairs k d) pairs ≡ true
@@ -26,10 +25,6 @@ in_own [] k d below = absurd (omega arith)
 in_own (p ∷ pairs) zero d below = or_left (eq_by_cmp pair_cmp p p) (is_in p pairs) (ap is_eq (tied_itself pairs_total p))
 in_own (p ∷ pairs) (suc k) d below =
     or_right (eq_by_cmp pair_cmp (get_or pairs k d) p) (is_in (get_or pairs k d) pairs) (in_own pairs k d (omega arith))
-
--- what is among a set's pairs in order is among those that it was made of
-in_set : (q : Pair) (pairs : List Pair) → is_in q (keys (set_of pairs)) ≡ is_in q pairs
-in_set q pairs = sym (contains_key-keys (set_of pairs) q) ∙ (ap is_some (get-from_entries pairs_total (marked pairs) q) ∙ found_mark q pairs)
 
 key_is : (spec : KeySpecValue) (log : List LogRec) (q : Pair) (row : List Cell) → pair_at spec log q.rid ≡ Some q → live_at log q.rid ≡ Some row → key_of spec row ≡ q.key
 key_is spec log q row at live =
@@ -41,7 +36,8 @@ keys_at_rest spec kinds log same fit = λ k d below.
     let q = get_or (pairs_at_rest spec log) k d in
     let here : is_in q (filter_map (pair_at spec log) (written_rids log)) ≡ true =
     sym (in_set q (filter_map (pair_at spec log) (written_rids log))) ∙ in_own (pairs_at_rest spec log) k d below in
-    let at = found spec log q (written_rids log) here in
-    let row = stands spec log q at in
+    let counts = sym (all_listed spec log (written_rids log) (row_written log) q) ∙ here in
+    let at = pair_there (pair_at spec log q.rid) q counts in
+    let row = row_there spec log q counts in
     let of_table : IsRowOf spec row.0 = record { is_row = fit.is_row q.rid row.0 row.1; fits_kinds = subst (λ (ks : List Kind). fits ks row.0 ≡ true) (sym same) (fit.fitting q.rid row.0 row.1) } in
     (row.0, (of_table, key_is spec log q row.0 at row.1))
