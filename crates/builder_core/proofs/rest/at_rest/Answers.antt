@@ -6,7 +6,7 @@ use Rattle.keybytes.specs.declared.kind.Kind.{Kind}
 use Rattle.keybytes.specs.declared.rid.Rid.{Rid}
 use Rattle.heap_table.specs.HeapState.{HeapState, after_visit}
 use Rattle.heap_table.specs.Pages.{pages_written, rows_on}
-use Rattle.heap_table.specs.TablePairs.{pair_of, pairs_on, pairs_from}
+use Rattle.heap_table.specs.TablePairs.{pair_of, pairs_on, pairs_from, index_pairs}
 use Rattle.keybytes.specs.Pairs.{HaveKeysOf, AreInColumnOrder}
 use Rattle.heap_table.proofs.KeysAtRest.{keys_at_rest}
 use Rattle.keybytes.proofs.ColumnOrder.{column_order}
@@ -76,4 +76,4 @@ returns-clause-keys c =
 
 pub returns-clause-order : goal.returns-clause-order
 returns-clause-order c =
-    subst (AreInColumnOrder c.args.spec.now) (sym (returns-clause-ok c)) (column_order c.args.spec.now c.args.heap.now.log c.columns-columns.ensures.key)
+    subst (AreInColumnOrder c.args.spec.now) (sym (returns-clause-ok c)) (column_order c.args.spec.now (index_pairs c.args.spec.now c.args.heap.now.log) c.columns-columns.ensures.key)
