@@ -1,5 +1,5 @@
 -- Reading a row from the left: what is read so far, and what the rest may still be.
-use Rattle.std.proofs.Common.{◌≡◌, inl, inr, ℕ, ℤ, ◌^◌, ◌<◌, true, false, List, [], ◌∷◌, ◌++◌, length, take, drop, refl, ap, ap₂, sym, ◌∙◌, subst, arith, append_assoc, append-nil}
+use Rattle.std.proofs.Common.{◌≡◌, inl, inr, ℕ, ℤ, ◌^◌, ◌<◌, true, false, List, [], ◌∷◌, ◌++◌, length, take, drop, refl, ap, ap₂, sym, ◌∙◌, subst, arith, append_assoc, append-nil, get_or, add-one, drop-cons, ◌+◌}
 use Rattle.std.specs.Int.{w64, cast_unsigned, cast_signed, to_be_bytes, from_be_bytes}
 use Rattle.std.proofs.Common.{FitsSigned}
 use Rattle.std.proofs.lemmas.Int.{to_z-of_z, ints}
@@ -102,6 +102,10 @@ spells-split kind kinds bytes rest cell (other ∷ more) first spells =
         record { held = All-tail IsCell other more spells.held; fitting = fitting.1; bytes_are = sym same.1 },
       ),
     )
+
+-- the columns that are left are the next one and those behind it
+pub next_kind : (kinds : List Kind) (i : ℕ) → i < length kinds → drop i kinds ≡ get_or kinds i IntKind ∷ drop (i + 1) kinds
+next_kind kinds i below = rw (add-one, drop-cons kinds i IntKind) refl
 
 -- one cell more
 pub has_read_more :

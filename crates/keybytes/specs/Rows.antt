@@ -8,7 +8,7 @@ use Rattle.keybytes.specs.declared.cell.Cell.TheVariants.{Null, Int, Text, Flag}
 use Rattle.keybytes.specs.declared.kind.Kind.{Kind}
 use Rattle.keybytes.specs.declared.kind.Kind.TheVariants.{Text as TextKind}
 use Rattle.keybytes.specs.declared.fault.Fault.{Fault}
-use Rattle.keybytes.specs.declared.fault.Fault.TheVariants.{RowShape, TextTooLong}
+use Rattle.keybytes.specs.declared.fault.Fault.TheVariants.{RowShape, TextTooLong, Memory}
 
 -- a row has 1 to 12 cells, each of which a row may hold
 pub record IsRow (cells : List Cell) : Type 0 where
@@ -79,3 +79,8 @@ pub record RefusesRow (kinds : List Kind) (bytes : List ℕ) (fault : Fault) : T
   pub why :
       ((fault ≡ TextTooLong) × LeavesAtLongText kinds bytes)
       ⊎ ((fault ≡ RowShape) × (LeavesAtLongText kinds bytes → ⊥))
+
+-- reading the bytes as a row is refused: they spell none, or they do and memory is wanting
+abbrev pub RefusesReading : List Kind → List ℕ → Fault → Type 0
+RefusesReading kinds bytes fault =
+    RefusesRow kinds bytes fault ⊎ ((fault ≡ Memory) × (cells : List Cell) × Spells kinds bytes cells)

@@ -1,10 +1,10 @@
 ghost use Rattle.std.specs.Prelude.{List, ◌≡◌, ◌≢◌, ◌≤◌, ◌<◌, length, IfOk, IfErr, OnOk, Some, None, true};
 ghost use Rattle.keybytes.specs.declared.cell.Cell.{Cell};
 ghost use Rattle.keybytes.specs.Faults.{RefusedFor};
-ghost use Rattle.keybytes.specs.Rows.{IsRow, row_bytes, row_refusal, shape_refusal, Spells, RefusesRow};
+ghost use Rattle.keybytes.specs.Rows.{IsRow, row_bytes, row_refusal, shape_refusal, Spells, RefusesRow, RefusesReading};
 ghost use Rattle.keybytes.specs.Cells.{fits};
 
-use crate::row_bytes::{push_cell, read_cell};
+use crate::row_bytes::{cell_size, push_cell, read_cell, skip_cell};
 use crate::{Cell, Fault, Kind, Schema};
 use std::alloc::Global;
 use std::marker::Model;
@@ -76,6 +76,19 @@ impl Row {
         cells_fit(schema.kinds(), self.cells())
     }
 
+    /// How many bytes [`Row::to_bytes`] makes of the row.
+    pub fn size(&self) -> usize
+        ensures size { result ≡ length (row_bytes self.now) }
+        ensures some { 0 < result }
+        ensures limit { result ≤ 1224 }
+    {
+        let mut size = 0;
+        for cell in &self.cells {
+            size += cell_size(cell);
+        }
+        size
+    }
+
     /// The bytes of the row, 1 to 1,224 of them; a row that does not fit the columns is [`Fault::RowShape`], before any
     /// memory is asked for.
     pub fn to_bytes(&self, schema: &Schema) -> Result<Vec<u8>, Fault>
@@ -97,8 +110,25 @@ impl Row {
     }
 
     /// Reads the bytes of a row that fits the columns. A text's length above 100 is [`Fault::TextTooLong`] where the
-    /// bytes leave the spelling there first; every other departure is [`Fault::RowShape`].
+    /// bytes leave the spelling there first; every other departure is [`Fault::RowShape`]. [`Fault::Memory`] is answered
+    /// only of bytes that spell a row.
     pub fn read(alloc: Global, bytes: &[u8], schema: &Schema) -> Result<Row, Fault>
+        ensures ok { IfOk result (λ row. Spells schema.now bytes.now row) }
+        ensures alone { IfOk result (λ row. (cells : List Cell) → Spells schema.now bytes.now cells → cells ≡ row) }
+        ensures refused { IfErr result (RefusesReading schema.now bytes.now) }
+    {
+        match Row::read_cells(alloc, bytes, schema) {
+            Ok(row) => Ok(row),
+            Err(Fault::Memory) => {
+                check_spelling(schema.kinds(), bytes)?;
+                Err(Fault::Memory)
+            }
+            Err(fault) => Err(fault),
+        }
+    }
+
+    /// Reads the cells one after the other; memory may be wanting for one before a later one turns out to be misspelled.
+    fn read_cells(alloc: Global, bytes: &[u8], schema: &Schema) -> Result<Row, Fault>
         ensures ok { IfOk result (λ row. Spells schema.now bytes.now row) }
         ensures alone { IfOk result (λ row. (cells : List Cell) → Spells schema.now bytes.now cells → cells ≡ row) }
         ensures refused { IfErr result (λ fault. fault ≢ Fault.Memory → RefusesRow schema.now bytes.now fault) }
@@ -115,6 +145,21 @@ impl Row {
             return Err(Fault::RowShape);
         }
         Ok(Row { cells })
+    }
+}
+
+/// Whether bytes spell a row of these columns. Takes no memory.
+fn check_spelling(kinds: &[Kind], bytes: &[u8]) -> Result<(), Fault>
+    ensures ok { OnOk result ((cells : List Cell) × Spells kinds.now bytes.now cells) }
+    ensures refused { IfErr result (RefusesRow kinds.now bytes.now) }
+{
+    let mut rest = bytes;
+    for kind in kinds {
+        rest = skip_cell(*kind, rest)?;
+    }
+    match rest {
+        [] => Ok(()),
+        _ => Err(Fault::RowShape),
     }
 }
 

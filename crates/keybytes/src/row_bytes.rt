@@ -1,6 +1,7 @@
 //! The bytes of a row: its cells' bytes one after the other, in the order of the columns, with nothing between.
-ghost use Rattle.std.specs.Prelude.{◌≡◌, ◌≢◌, ◌++◌, ◌∷◌, IfOk, IfErr, OnOk};
+ghost use Rattle.std.specs.Prelude.{◌≡◌, ◌≢◌, ◌<◌, ◌≤◌, ◌++◌, ◌∷◌, length, IfOk, IfErr, OnOk};
 ghost use Rattle.keybytes.specs.Cells.{IsCell};
+ghost use Rattle.keybytes.specs.declared.cell.Cell.{Cell};
 ghost use Rattle.keybytes.specs.Rows.{cell_bytes, BeginsWith, RefusesCell};
 
 use crate::{Cell, Fault, Kind, TEXT_MAX, Text};
@@ -12,6 +13,21 @@ const NULL: u8 = 0;
 
 /// The tag of every other cell.
 const PRESENT: u8 = 1;
+
+/// How many bytes a cell has in a row.
+pub fn cell_size(cell: &Cell) -> usize
+    requires { IsCell cell.now }
+    ensures size { result ≡ length (cell_bytes cell.now) }
+    ensures some { 0 < result }
+    ensures limit { result ≤ 102 }
+{
+    match cell {
+        Cell::Null => 1,
+        Cell::Int(_) => 9,
+        Cell::Text(text) => 2 + text.as_str().len(),
+        Cell::Flag(_) => 2,
+    }
+}
 
 /// Puts a cell's bytes behind those that are there.
 pub fn push_cell(bytes: &mut Vec<u8>, cell: &Cell) -> Result<(), Fault>
@@ -65,6 +81,33 @@ pub fn read_cell(alloc: Global, kind: Kind, bytes: &[u8]) -> Result<(Cell, &[u8]
     }
 }
 
+/// Passes over the cell with which the bytes begin, in a column of that kind, and answers what follows it. Takes no memory.
+pub fn skip_cell(kind: Kind, bytes: &[u8]) -> Result<&[u8], Fault>
+    ensures ok { IfOk result (λ after. (cell : Cell) × BeginsWith kind bytes.now cell after.now) }
+    ensures refused { IfErr result (RefusesCell kind bytes.now) }
+{
+    let Some((tag, rest)) = bytes.split_first() else {
+        return Err(Fault::RowShape);
+    };
+    match *tag {
+        NULL => Ok(rest),
+        PRESENT => skip_present(kind, rest),
+        _ => Err(Fault::RowShape),
+    }
+}
+
+/// Passes over what follows the tag of a cell that is not Null.
+fn skip_present(kind: Kind, rest: &[u8]) -> Result<&[u8], Fault>
+    ensures ok { IfOk result (λ after. (cell : Cell) × BeginsWith kind (1 ∷ rest.now) cell after.now) }
+    ensures refused { IfErr result (RefusesCell kind (1 ∷ rest.now)) }
+{
+    match kind {
+        Kind::Int => Ok(read_int(rest)?.1),
+        Kind::Text => Ok(text_in(rest)?.1),
+        Kind::Flag => Ok(read_flag(rest)?.1),
+    }
+}
+
 /// Reads what follows the tag of a cell that is not Null.
 fn read_present(alloc: Global, kind: Kind, rest: &[u8]) -> Result<(Cell, &[u8]), Fault>
     ensures ok { IfOk result (λ read. BeginsWith kind (1 ∷ rest.now) read.0 read.1.now) }
@@ -92,6 +135,16 @@ fn read_text(alloc: Global, rest: &[u8]) -> Result<(Cell, &[u8]), Fault>
     ensures ok { IfOk result (λ read. BeginsWith Kind.Text (1 ∷ rest.now) read.0 read.1.now) }
     ensures refused { IfErr result (λ fault. fault ≢ Fault.Memory → RefusesCell Kind.Text (1 ∷ rest.now) fault) }
 {
+    let (text, after) = text_in(rest)?;
+    let string = String::from_str(alloc, text)?;
+    Ok((Cell::Text(Text::new(string)), after))
+}
+
+/// The text that follows a tag, still among the bytes, and what follows it.
+fn text_in(rest: &[u8]) -> Result<(&str, &[u8]), Fault>
+    ensures ok { IfOk result (λ read. BeginsWith Kind.Text (1 ∷ rest.now) (Cell.Text read.0.now) read.1.now) }
+    ensures refused { IfErr result (RefusesCell Kind.Text (1 ∷ rest.now)) }
+{
     let Some((len, body)) = rest.split_first() else {
         return Err(Fault::RowShape);
     };
@@ -105,8 +158,7 @@ fn read_text(alloc: Global, rest: &[u8]) -> Result<(Cell, &[u8]), Fault>
     let Ok(text) = str::from_utf8(bytes) else {
         return Err(Fault::RowShape);
     };
-    let string = String::from_str(alloc, text)?;
-    Ok((Cell::Text(Text::new(string)), after))
+    Ok((text, after))
 }
 
 fn read_flag(rest: &[u8]) -> Result<(Cell, &[u8]), Fault>

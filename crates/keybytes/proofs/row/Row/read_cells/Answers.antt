@@ -1,17 +1,12 @@
-use Rattle.std.proofs.Common.{◌≡◌, ◌<◌, ◌+◌, ℕ, List, [], ◌∷◌, length, get_or, drop, refl, subst, arith, add-one, drop-cons}
+use Rattle.std.proofs.Common.{◌≡◌, ℕ, List, [], drop, subst, arith}
 use Rattle.std.proofs.lemmas.List.{drop_all}
 use Rattle.std.proofs.lemmas.Result.{err_from_is_err_and}
 use Rattle.std.proofs.lemmas.Bool.Decides.{nat_tests}
 use Rattle.std.proofs.lemmas.Grind.{common_steps}
 use Rattle.keybytes.specs.Rows.{Spells, RefusesRow}
 use Rattle.keybytes.specs.declared.kind.Kind.{Kind}
-use Rattle.keybytes.specs.declared.kind.Kind.TheVariants.{Int}
-use Rattle.keybytes.proofs.Reading.{HasRead, has_read_more, refuses_row, read_whole, IsRow-from_Spells}
-use Rattle.keybytes.proofs.row.Row.read.Goals as goal
-
--- the columns that are left are the next one and those behind it
-next_kind : (kinds : List Kind) (i : ℕ) → i < length kinds → drop i kinds ≡ get_or kinds i Int ∷ drop (i + 1) kinds
-next_kind kinds i below = rw (add-one, drop-cons kinds i Int) refl
+use Rattle.keybytes.proofs.Reading.{HasRead, next_kind, has_read_more, refuses_row, read_whole, IsRow-from_Spells}
+use Rattle.keybytes.proofs.row.Row.read_cells.Goals as goal
 
 pub returns-in_err-cell-clause-refused : goal.returns-in_err-cell-clause-refused
 returns-in_err-cell-clause-refused c =
