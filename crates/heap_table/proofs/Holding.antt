@@ -1,22 +1,23 @@
 -- Who holds a RID.
-use Rattle.std.proofs.Common.{◌≡◌, inl, inr, ℕ, ◌+◌, Bool, true, false, List, [], ◌∷◌, length, Option, Some, None, refl, sym, ap, ◌∙◌, arith}
+use Rattle.std.proofs.Common.{◌≡◌, inl, inr, ℕ, zero, suc, ◌+◌, ◌<◌, Bool, true, false, List, [], ◌∷◌, length, Option, Some, None, refl, sym, ap, ◌∙◌, arith}
 use Rattle.std.proofs.Math.Bool.{and-false, and-true}
-use Rattle.std.specs.Prelude.{◌||◌, ◌==◌, if◌then◌else◌}
+use Rattle.std.specs.Prelude.{◌||◌, ◌==◌, if◌then◌else◌, ◌&&◌, not, nat_lt}
 use Rattle.std.specs.Bool.{then_some}
 use Rattle.std.specs.List.{filter_map, find, cons_option}
-use Rattle.std.proofs.lemmas.Bool.{cases_Bool, cases_order, false≢true, eqb-true, eq-eqb, or_cases, or_left, or_right}
+use Rattle.std.proofs.lemmas.Bool.{cases_Bool, cases_order, false≢true, eqb-true, eq-eqb, or_cases, or_left, or_right, and_left, and_right}
 use Rattle.std.proofs.lemmas.Option.{same_Some}
 use Rattle.keybytes.specs.declared.rid.Rid.{Rid}
 use Rattle.heap_log.specs.declared.record.LogRec.{LogRec}
 use Rattle.heap_log.specs.declared.record.LogRec.TheVariants.{Write, Undo, Commit, Switch}
 use Rattle.keybytes.specs.Rids.{same_rid}
-use Rattle.heap_log.specs.Standing.{record_at, is_write_of, is_write_at, is_number, last_at}
+use Rattle.heap_log.specs.Standing.{count_below, record_at, is_write_of, is_write_at, is_number, last_at, newest_standing, standing_count, stands_of, rid_of}
 use Rattle.heap_log.proofs.Last.{IsLast, last_below_some, last_below_none}
-use Rattle.heap_log.proofs.Numbers.{write_at}
+use Rattle.heap_log.proofs.Numbers.{write_at, newest_standing-of, newest_standing-write}
 use Rattle.heap_table.specs.HeapState.{HeapState, is_open}
-use Rattle.heap_table.specs.Holders.{writes, wrote, is_busy, writer_at, holder}
+use Rattle.heap_table.specs.Holders.{writes, wrote, is_busy, writer_at, holder, committed}
 use Rattle.heap_table.specs.Sound.{IsSound, HoldsFollowLog}
 use Rattle.heap_table.proofs.Writers.{HasWrite, wrote_some, wrote_from, one_writer}
+use Rattle.heap_log.proofs.Records.{writes_there}
 use Rattle.heap_table.proofs.Small.{some_or_none}
 
 -- a record is a write of its writer
@@ -137,9 +138,41 @@ holder_last s h rid n txn e by =
           false≢true (sym closed ∙ (ap (is_open s.active) (sym same) ∙ is))))
     ]
 
+-- a transaction without a newest standing write has none
+count_none : (p : ℕ → Bool) (n : ℕ) → ((k : ℕ) → k < n → p k ≡ false) → count_below p n ≡ 0
+count_none p zero none = refl
+count_none p (suc n) none = rw (none n (omega arith)) (count_none p n (λ k l. none k (omega arith)))
+
+pub none_standing : (log : List LogRec) (txn : ℕ) → newest_standing log txn ≡ None → standing_count log txn ≡ 0
+none_standing log txn e = count_none (stands_of log txn) (length log + 1) (last_below_none (stands_of log txn) (length log + 1) e)
+
+and_yes : (b : Bool) → (b && true) ≡ b
+and_yes true = refl
+and_yes false = refl
+
+-- a busy transaction is an open one with a standing write
+busy_opens : (s : HeapState) → IsSound s → (txn : ℕ) → is_busy s.log txn ≡ (is_open s.active txn && nat_lt 0 (standing_count s.log txn))
+busy_opens s h txn =
+    let opened : Bool = is_open s.active txn in
+    elim (cases_Bool (nat_lt 0 (standing_count s.log txn))) [
+      | inl some ↦ elim (some_or_none (newest_standing s.log txn)) [
+        | inl none ↦ absurd (false≢true (sym (ap (nat_lt 0) (none_standing s.log txn none)) ∙ some))
+        | inr newest ↦
+            let rid : Rid = rid_of (record_at s.log newest.0) in
+            let there = writes_there (record_at s.log newest.0) (newest_standing-write s.log txn newest.0 newest.1).write in
+            h.busy txn rid (wrote_from s.log txn rid newest.0 (newest_standing-of s.log txn newest.0 newest.1) there)
+            ∙ sym (ap (λ b. opened && b) some ∙ and_yes opened)
+      ]
+      | inr none ↦
+          and_left (nat_lt 0 (standing_count s.log txn)) (not (committed s.log txn)) none
+          ∙ sym (and_right opened (nat_lt 0 (standing_count s.log txn)) none)
+    ]
+
 -- what a sound table tells of its holds
 pub holds_follow : (s : HeapState) → IsSound s → HoldsFollowLog s
 holds_follow s h = record {
+  busy = busy_opens s h;
+  uncommitted = h.uncommitted;
   alone = λ txn rid busy has. holder_is s h rid txn (sym (h.busy txn rid has) ∙ busy) has;
   is_open = λ txn rid e. holder_open s h rid txn e;
   held = λ txn n m rid e l by there at. h.held txn n m rid (holder_open s h rid txn e) l by there at;

@@ -15,7 +15,7 @@ use Rattle.keybytes.specs.declared.fault.Fault.TheVariants.{PageFull}
 use Rattle.keybytes.specs.declared.rid.Rid.{Rid}
 use Rattle.heap_log.specs.declared.record.LogRec.{LogRec}
 use Rattle.heap_log.specs.declared.record.LogRec.TheVariants.{Undo}
-use Rattle.heap_log.specs.Standing.{record_at, row_of, rid_of, undone, is_write_at, stands_of, live_at, row_at, newest_standing, standing_before, standing_count}
+use Rattle.heap_log.specs.Standing.{record_at, row_of, rid_of, undone, is_write_at, stands_of, live_at, row_at, newest_standing, standing_before, standing_count, newest_at}
 use Rattle.heap_log.proofs.Last.{IsLast, last_below_some}
 use Rattle.heap_log.proofs.Numbers.{newest_standing-of}
 use Rattle.slotted_page.specs.Slot.{Slot, reserve_of, IsRow as HasRow, IsHeld, IsTaken}
@@ -23,10 +23,10 @@ use Rattle.slotted_page.specs.Page.{PageValue, room_for, fits_at}
 use Rattle.heap_table.specs.declared.ready.Ready.{Ready}
 use Rattle.heap_table.specs.HeapState.{HeapState, is_open, still_open, page_of, txn_refusal, held_refusal, growth_refusal, row_missing, insert_refusal, insert_place, new_row_refusal}
 use Rattle.heap_table.specs.Holders.{holder, row_size, room_needed}
-use Rattle.heap_table.specs.Kept.{IsKept, WritesFit}
+use Rattle.heap_table.specs.Kept.{IsKept, WritesFit, IsTableRow}
 use Rattle.heap_table.specs.PageLists.{PagesValue, new_page, page_or_new, slot_in, with_slot_in, changed}
 use Rattle.heap_table.specs.Pages.{pages_written, slots_written, slot_with, slot_of}
-use Rattle.heap_table.specs.Ready.{IsSized, IsLawful, IsReady, CanWrite, CanRestore}
+use Rattle.heap_table.specs.Ready.{IsSized, IsLawful, IsReady, CanWrite, CanRestore, IsLawfulChange}
 use Rattle.heap_log.proofs.Growing.{Grows}
 use Rattle.heap_table.proofs.Holding.{holder_is}
 use Rattle.heap_table.proofs.KeptFacts.{goes_to, kept_count, kept_page, kept_page_or_new, kept_slot, fits_accepted}
@@ -61,6 +61,10 @@ standing_place s p rid cells kept stands =
     let inside = rows_are_inside s.log in
     let page = inside.page rid cells stands in
     (page, (inside.slot rid cells stands, omega (arith, page, kept.within)))
+
+if_some : (o : Option (List Cell)) (P : List Cell → Type 0) → ((cells : List Cell) → o ≡ Some cells → P cells) → IfSome o P
+if_some None P each = tt
+if_some (Some cells) P each = each cells refl
 
 pub can_change :
     (s : HeapState) (p : PagesValue) (txn : ℕ) (rid : Rid) (old new : Option (List Cell)) → IsKept s p → old ≡ live_at s.log rid → IfSome new IsSized
@@ -172,17 +176,37 @@ can_restore s p txn n rid old new kept is lawful =
       by None (Some new) x reserve is size = (subst IsTaken (sym is) tt, size)
       by (Some cells) (Some new) x reserve is size = (subst IsTaken (sym is) tt, size)
 
--- a row that was written passes the columns' test
+-- a row that was written is one of the table's columns
+written_fits : (kinds : List Kind) (log : List LogRec) (place : Option ℕ) → WritesFit kinds log → IfSome (row_at log place) (IsTableRow kinds)
+written_fits kinds log None fit = tt
+written_fits kinds log (Some n) fit = if_some (row_of (record_at log n)) (IsTableRow kinds) (fit n)
+
+-- and passes their test
 pub shape_written :
     (kinds : List Kind) (log : List LogRec) (place : Option ℕ) → WritesFit kinds log → IfSome (row_at log place) (λ cells. shape_refusal kinds cells ≡ None)
-shape_written kinds log place fit = by place where
-  accepted : (cells : Option (List Cell)) → ((row : List Cell) → cells ≡ Some row → fits kinds row ≡ true) → IfSome cells (λ row. shape_refusal kinds row ≡ None)
-  accepted None fit = tt
-  accepted (Some row) fit = rw (fit row refl) refl
+shape_written kinds log place fit = accepted (row_at log place) (written_fits kinds log place fit) where
+  accepted : (cells : Option (List Cell)) → IfSome cells (IsTableRow kinds) → IfSome cells (λ row. shape_refusal kinds row ≡ None)
+  accepted None fits_it = tt
+  accepted (Some row) fits_it = rw fits_it.1 refl
 
-  by : (o : Option ℕ) → IfSome (row_at log o) (λ cells. shape_refusal kinds cells ≡ None)
-  by None = tt
-  by (Some n) = accepted (row_of (record_at log n)) (λ row e. (fit n row e).1)
+new_fits :
+    (s : HeapState) (p : PagesValue) (txn : ℕ) (rid : Rid) (undone : Option ℕ) (old new : Option (List Cell)) → IsKept s p → old ≡ live_at s.log rid → IfSome new IsSized
+    → IsLawful s txn rid undone old new → IfSome new (IsTableRow s.schema)
+new_fits s p txn rid None old new kept is sized lawful = if_some new (IsTableRow s.schema) (can_change s p txn rid old new kept is sized lawful).fit
+new_fits s p txn rid (Some n) old new kept is sized lawful =
+    subst (λ (row : Option (List Cell)). IfSome row (IsTableRow s.schema)) (sym lawful.3) (written_fits s.schema s.log (standing_before s.log n) kept.writes_fit)
+
+-- what holds of a change that is made ready
+pub lawful_change : (s : HeapState) (p : PagesValue) (ready : Ready) → IsKept s p → IsReady s ready → IsLawfulChange s ready
+lawful_change s p ready kept is = record {
+  old_fits = subst (λ (row : Option (List Cell)). IfSome row (IsTableRow s.schema)) (sym is.old) (written_fits s.schema s.log (newest_at s.log ready.rid) kept.writes_fit);
+  new_fits = new_fits s p ready.txn ready.rid ready.undone ready.old ready.new kept is.old is.new is.lawful;
+  writer = λ none.
+      let lawful : IsLawful s ready.txn ready.rid None ready.old ready.new =
+      subst (λ (o : Option ℕ). IsLawful s ready.txn ready.rid o ready.old ready.new) none is.lawful in
+      let can = can_change s p ready.txn ready.rid ready.old ready.new kept is.old is.new lawful in
+      record { opened = can.opened; free = can.free_for };
+}
 
 -- the row of a RID that has one
 pub some_row : (log : List LogRec) (rid : Rid) → IsSome (live_at log rid) → (cells : List Cell) × (live_at log rid ≡ Some cells)

@@ -1,8 +1,8 @@
 -- What a slot that shows a row is read as.
-use Rattle.std.proofs.Common.{◌≡◌, ◌≢◌, ℕ, List, get_or, Option, Some, None, refl, sym, ap, ◌∙◌, subst}
+use Rattle.std.proofs.Common.{◌≡◌, inl, inr, ℕ, List, get_or, Option, Some, None, refl, sym, ap, ◌∙◌, subst}
 use Rattle.std.specs.Prelude.{IsSome}
 use Rattle.std.proofs.lemmas.Option.{same_Some}
-use Rattle.keybytes.specs.Rows.{row_bytes, Spells, RefusesRow}
+use Rattle.keybytes.specs.Rows.{row_bytes, Spells, RefusesReading}
 use Rattle.keybytes.specs.declared.cell.Cell.{Cell}
 use Rattle.keybytes.specs.declared.kind.Kind.{Kind}
 use Rattle.keybytes.specs.declared.fault.Fault.{Fault}
@@ -11,10 +11,6 @@ use Rattle.slotted_page.specs.Slot.{Slot, bytes_of, free}
 use Rattle.slotted_page.specs.Image.{slots_in}
 use Rattle.heap_table.specs.HeapState.{row_missing}
 use Rattle.heap_table.specs.Images.{Shows, ImageValue, image_slot}
-
-memory_or_other : (fault : Fault) → (fault ≢ Memory → ⊥) → fault ≡ Memory
-memory_or_other Memory never = refl
-memory_or_other fault never = absurd (never (λ e. cc))
 
 -- a slot with no bytes shows no row
 pub shows_none : (kinds : List Kind) (slot : Slot) (cells : Option (List Cell)) → bytes_of slot ≡ None → Shows kinds slot cells → None ≡ cells
@@ -33,8 +29,9 @@ shows_spelled kinds slot bytes (Some row) some shows =
 -- such bytes are refused for want of memory alone
 pub spelled_memory :
     (kinds : List Kind) (bytes : List ℕ) (row : List Cell) (fault : Fault) → Spells kinds bytes row
-    → (fault ≢ Memory → RefusesRow kinds bytes fault) → fault ≡ Memory
-spelled_memory kinds bytes row fault spells refused = memory_or_other fault (λ other. (refused other).none row spells)
+    → RefusesReading kinds bytes fault → fault ≡ Memory
+spelled_memory kinds bytes row fault spells (inl refused) = absurd (refused.none row spells)
+spelled_memory kinds bytes row fault spells (inr wants) = wants.0
 
 -- what a slot of a copy has, by the copy's bytes
 pub seen_bytes :

@@ -1,5 +1,5 @@
 -- A table stays sound.
-use Rattle.std.proofs.Common.{◌≡◌, ◌≢◌, ◌⊎◌, inl, inr, ℕ, zero, suc, ◌+◌, ◌<◌, ◌≤◌, Bool, true, false, List, [], ◌∷◌, ◌++◌, length, Option, Some, None, refl, sym, ap, ◌∙◌, subst, arith, length-append}
+use Rattle.std.proofs.Common.{◌≡◌, ◌≢◌, ◌⊎◌, inl, inr, ℕ, ◌+◌, ◌≤◌, Bool, true, false, List, [], ◌∷◌, ◌++◌, length, Option, Some, None, refl, sym, ap, ◌∙◌, subst, arith, length-append}
 use Rattle.std.proofs.Math.Bool.{and-false, and-true, or-false, or-true}
 use Rattle.std.specs.Prelude.{◌||◌, ◌&&◌, not, nat_lt, ◌==◌, if◌then◌else◌}
 use Rattle.std.proofs.lemmas.Bool.{cases_Bool, cases_eq, cases_lt, false≢true, eqb-true, eq-eqb, ne_eqb, or_cases, and_parts}
@@ -11,14 +11,13 @@ use Rattle.heap_log.specs.declared.outcome.Outcome.{Outcome}
 use Rattle.heap_log.specs.declared.record.LogRec.{LogRec}
 use Rattle.heap_log.specs.declared.record.LogRec.TheVariants.{Write, Undo, Commit, Switch}
 use Rattle.keybytes.specs.Rids.{same_rid}
-use Rattle.heap_log.specs.Standing.{record_at, is_write_of, is_write_at, stands_of, newest_standing, standing_count, count_below}
-use Rattle.heap_log.proofs.Last.{last_below_none}
+use Rattle.heap_log.specs.Standing.{record_at, is_write_of, is_write_at, stands_of, newest_standing, standing_count}
 use Rattle.heap_log.proofs.Numbers.{write_at, newest_standing-of}
 use Rattle.heap_table.specs.HeapState.{HeapState, is_open, held_refusal, without, still_open}
 use Rattle.heap_table.specs.Holders.{writes, wrote, is_commit_of, committed, is_busy, holder}
 use Rattle.heap_table.specs.Sound.{IsSound}
 use Rattle.heap_log.proofs.Growing.{Grows}
-use Rattle.heap_table.proofs.Holding.{holder_is}
+use Rattle.heap_table.proofs.Holding.{holder_is, none_standing}
 use Rattle.heap_table.proofs.OpenOnes.{open_without_self, open_without_other, without_fewer, open_marked, open_begun, open_still_other, still_fewer}
 use Rattle.heap_table.proofs.Writers.{HasWrite, wrote_from, wrote-added, committed-added, one_writer}
 use Rattle.heap_table.proofs.Small.{same_rid_is}
@@ -239,14 +238,6 @@ sound_undo s t txn n h added active begun newest opened =
         | inl ended ↦ let none : nat_lt 0 left ≡ false = grind (arith, nat_tests, ended) in rw (ended, none) (open_without_self txn s.active)
         | inr more ↦ let some : nat_lt 0 left ≡ true = grind (arith, nat_tests, more) in rw (more, some) (open_marked txn txn s.active ∙ opened)
       ]
-
--- a transaction without a newest standing write has none
-count_none : (p : ℕ → Bool) (n : ℕ) → ((k : ℕ) → k < n → p k ≡ false) → count_below p n ≡ 0
-count_none p zero none = refl
-count_none p (suc n) none = rw (none n (omega arith)) (count_none p n (λ k l. none k (omega arith)))
-
-pub none_standing : (log : List LogRec) (txn : ℕ) → newest_standing log txn ≡ None → standing_count log txn ≡ 0
-none_standing log txn e = count_none (stands_of log txn) (length log + 1) (last_below_none (stands_of log txn) (length log + 1) e)
 
 -- a transaction without a standing write ends
 pub sound_ended :

@@ -12,6 +12,10 @@ use Rattle.heap_table.specs.PageLists.{PagesValue}
 use Rattle.heap_table.specs.Pages.{pages_written}
 use Rattle.heap_table.specs.Sound.{IsSound, UndoFits}
 
+-- a row of these columns
+abbrev pub IsTableRow : List Kind → List Cell → Type 0
+IsTableRow kinds cells = IsRow cells × (fits kinds cells ≡ true)
+
 -- every row that stands is a row of these columns
 pub record RowsFit (kinds : List Kind) (log : List LogRec) : Type 0 where
   pub is_row : (rid : Rid) (cells : List Cell) → live_at log rid ≡ Some cells → IsRow cells
@@ -19,7 +23,7 @@ pub record RowsFit (kinds : List Kind) (log : List LogRec) : Type 0 where
 
 -- so is every row that was written
 abbrev pub WritesFit : List Kind → List LogRec → Type 0
-WritesFit kinds log = (n : ℕ) (cells : List Cell) → row_of (record_at log n) ≡ Some cells → IsRow cells × (fits kinds cells ≡ true)
+WritesFit kinds log = (n : ℕ) (cells : List Cell) → row_of (record_at log n) ≡ Some cells → IsTableRow kinds cells
 
 -- the pages are those that the log tells, and there is room for that many records more
 pub record IsKept (s : HeapState) (pages : PagesValue) : Type 0 where

@@ -12,6 +12,8 @@ use Rattle.heap_table.specs.declared.performed.Performed.TheVariants.{Written, U
 use Rattle.heap_table.specs.declared.ready.Ready.{Ready}
 use Rattle.heap_table.specs.HeapState.{HeapState, is_open, insert_refusal, insert_place, update_refusal, delete_refusal, after_write, after_undo}
 use Rattle.heap_table.specs.Holders.{wrote}
+use Rattle.heap_table.specs.Kept.{IsTableRow}
+use Rattle.heap_table.specs.Sound.{IsWriterAt}
 use Rattle.heap_table.specs.PageLists.{PagesValue, page_or_new, slot_in, pages_by}
 
 -- the bytes of a row, none without one
@@ -40,6 +42,14 @@ pub record IsReady (s : HeapState) (ready : Ready) : Type 0 where
   pub new : IfSome ready.new IsSized
   pub bytes : ready.bytes.items ≡ bytes_of_row ready.new
   pub lawful : IsLawful s ready.txn ready.rid ready.undone ready.old ready.new
+
+-- what holds of a change that is made ready
+pub record IsLawfulChange (s : HeapState) (ready : Ready) : Type 0 where
+  -- its rows are rows of the table's columns
+  pub old_fits : IfSome ready.old (IsTableRow s.schema)
+  pub new_fits : IfSome ready.new (IsTableRow s.schema)
+  -- a write is by who may write there
+  pub writer : ready.undone ≡ None → IsWriterAt s ready.txn ready.rid
 
 -- it is the transaction's write of that row, or of none
 pub record Writes (ready : Ready) (txn : ℕ) (row : Option (List Cell)) : Type 0 where

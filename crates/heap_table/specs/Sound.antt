@@ -1,19 +1,28 @@
 -- What a table's log and open transactions keep between its calls.
-use Rattle.std.specs.Prelude.{◌≡◌, ◌<◌, ◌≤◌, ℕ, true, false, List, Some}
+use Rattle.std.specs.Prelude.{◌≡◌, ◌<◌, ◌≤◌, ◌&&◌, nat_lt, ℕ, true, false, List, Some, None}
 use Rattle.keybytes.specs.declared.rid.Rid.{Rid}
 use Rattle.heap_log.specs.declared.record.LogRec.{LogRec}
-use Rattle.heap_log.specs.Standing.{record_at, is_write_of, is_write_at, stands_of, live_at, row_at, standing_before}
-use Rattle.heap_table.specs.HeapState.{HeapState, is_open}
+use Rattle.heap_log.specs.Standing.{record_at, is_write_of, is_write_at, stands_of, standing_count, live_at, row_at, standing_before}
+use Rattle.heap_table.specs.HeapState.{HeapState, is_open, held_refusal}
 use Rattle.heap_table.specs.Holders.{wrote, committed, is_busy, holder, row_size, room_needed}
 
 -- the holds follow the log
 pub record HoldsFollowLog (s : HeapState) : Type 0 where
+  -- a busy transaction is an open one with a standing write
+  pub busy : (txn : ℕ) → is_busy s.log txn ≡ (is_open s.active txn && nat_lt 0 (standing_count s.log txn))
+  -- no open transaction has committed
+  pub uncommitted : (txn : ℕ) → is_open s.active txn ≡ true → committed s.log txn ≡ false
   -- at most one transaction holds a RID
   pub alone : (txn : ℕ) (rid : Rid) → is_busy s.log txn ≡ true → wrote s.log txn rid ≡ true → holder s.log rid ≡ Some txn
   -- it is open
   pub is_open : (txn : ℕ) (rid : Rid) → holder s.log rid ≡ Some txn → is_open s.active txn ≡ true
   -- and from its first write there on, each write there is its own
   pub held : (txn n m : ℕ) (rid : Rid) → holder s.log rid ≡ Some txn → n < m → is_write_of txn (record_at s.log n) ≡ true → is_write_at rid (record_at s.log n) ≡ true → is_write_at rid (record_at s.log m) ≡ true → is_write_of txn (record_at s.log m) ≡ true
+
+-- who may write at a RID: an open transaction, where no other holds the RID
+pub record IsWriterAt (s : HeapState) (txn : ℕ) (rid : Rid) : Type 0 where
+  pub opened : is_open s.active txn ≡ true
+  pub free : held_refusal txn (holder s.log rid) ≡ None
 
 pub record IsSound (s : HeapState) : Type 0 where
   -- who wrote, committed or is open was begun

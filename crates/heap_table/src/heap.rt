@@ -2,6 +2,7 @@ ghost use Rattle.std.specs.Prelude.{◌≡◌, ◌≢◌, ◌<◌, ◌≤◌, �
 ghost use Rattle.keybytes.specs.declared.cell.Cell.{Cell};
 ghost use Rattle.keybytes.specs.Faults.{RefusedFor};
 ghost use Rattle.keybytes.specs.Rows.{row_bytes, shape_refusal};
+ghost use Rattle.heap_log.specs.Growing.{UndoesNameEarlier};
 ghost use Rattle.heap_log.specs.Standing.{record_at, rid_of, place_of, live_at, row_at, newest_standing, standing_before, standing_count};
 ghost use Rattle.slotted_page.specs.Slot.{IsRowSize};
 ghost use Rattle.heap_table.specs.HeapState.{HeapState, limits_refusal, empty_heap, is_open, is_ending, txn_refusal, held_refusal, growth_refusal, undo_refusal, begin_refusal, insert_place, place_on, place_refusal, new_row_refusal, insert_refusal, update_refusal, delete_refusal, row_missing, without, after_begin, after_write, after_commit, after_switch, after_step, undone_number, with_room, after_visit, busy_txns};
@@ -9,7 +10,8 @@ ghost use Rattle.heap_table.specs.Holders.{holder};
 ghost use Rattle.heap_table.specs.Pages.{pages_written, rows_on, SetsRow, KeepsRows, RowsAreInside};
 ghost use Rattle.heap_table.specs.Kept.{RowsFit};
 ghost use Rattle.heap_table.specs.Images.{IsImage};
-ghost use Rattle.heap_table.specs.Ready.{IsReady, IsSized, Writes, Undoes, after_ready, answer_of, bytes_of_row};
+ghost use Rattle.heap_table.specs.declared.ready.Ready.{Ready};
+ghost use Rattle.heap_table.specs.Ready.{IsReady, IsLawfulChange, IsSized, Writes, Undoes, after_ready, answer_of, bytes_of_row};
 ghost use Rattle.heap_table.specs.Sound.{HoldsFollowLog};
 
 use crate::changes::{end, go_on_ending, settle_writes, undo_slot, write_slot};
@@ -92,12 +94,19 @@ impl Heap {
         })
     }
 
-    /// The columns. The clauses tell what holds of every table.
-    pub fn schema(&self) -> &Schema
-        ensures schema { result.now ≡ self.now.schema }
-        ensures rows_fit { RowsFit self.now.schema self.now.log }
-        ensures inside { RowsAreInside self.now.log }
+    /// Does nothing: its clauses tell what holds of every table.
+    pub fn laws(&self)
+        ensures rows { RowsFit self.now.schema self.now.log }
         ensures holds { HoldsFollowLog self.now }
+        ensures undos { UndoesNameEarlier self.now.log }
+        ensures ready { (ready : Ready) → IsReady self.now ready → IsLawfulChange self.now ready }
+    {
+        self.log.laws();
+    }
+
+    /// The columns.
+    pub fn schema(&self) -> &Schema
+        ensures { result.now ≡ self.now.schema }
     {
         &self.schema
     }
@@ -264,6 +273,53 @@ impl Heap {
         Ok(())
     }
 
+    /// Why an insert of the row would be refused, and else where it would go. Takes no memory.
+    pub fn check_insert(&self, txn: u64, row: &Row) -> Result<Rid, Fault>
+        ensures place { IfOk result (λ rid. insert_place self.now (length (row_bytes row.now)) ≡ Some rid) }
+        ensures accepted { OnOk result (insert_refusal self.now txn row.now ≡ None) }
+        ensures refused { IfErr result (λ fault. insert_refusal self.now txn row.now ≡ Some fault) }
+    {
+        self.check_row(txn, row)?;
+        self.place(row.size())
+    }
+
+    /// Why an update to the row would be refused. Takes no memory.
+    pub fn check_update(&self, txn: u64, rid: Rid, row: &Row) -> Result<(), Fault>
+        ensures { MatchResult result
+            (λ _. update_refusal self.now txn rid row.now ≡ None)
+            (λ fault. update_refusal self.now txn rid row.now ≡ Some fault) }
+    {
+        self.check_row(txn, row)?;
+        self.check_hold(txn, rid)?;
+        self.check_there(rid)?;
+        self.check_growth(rid, row.size())
+    }
+
+    /// Why a transaction may write no such row, wherever it goes.
+    fn check_row(&self, txn: u64, row: &Row) -> Result<(), Fault>
+        ensures { MatchResult result
+            (λ _. new_row_refusal self.now txn row.now ≡ None)
+            (λ fault. new_row_refusal self.now txn row.now ≡ Some fault) }
+    {
+        self.check_txn(txn)?;
+        if !row.fits(&self.schema) {
+            return Err(Fault::RowShape);
+        }
+        Ok(())
+    }
+
+    /// Whether a row stands at a RID.
+    fn check_there(&self, rid: Rid) -> Result<(), Fault>
+        ensures { MatchResult result
+            (λ _. row_missing (live_at self.now.log rid) ≡ None)
+            (λ fault. row_missing (live_at self.now.log rid) ≡ Some fault) }
+    {
+        match self.pages.row(rid) {
+            Some(_) => Ok(()),
+            None => Err(Fault::NoSuchRow),
+        }
+    }
+
     /// Makes an insert ready, as [`Heap::insert`] would do it: its memory is taken, and the table is as before.
     pub fn ready_insert(&mut self, txn: u64, row: Row) -> Result<Ready, Fault>
         ensures ready { IfOk result (λ ready. IsReady self.new ready) }
@@ -272,12 +328,10 @@ impl Heap {
         ensures room { OnOk result (self.new ≡ with_room self.old) }
         ensures accepted { OnOk result (insert_refusal self.old txn row ≡ None) }
         ensures unchanged { OnErr result (self.new ≡ self.old) }
-        ensures refused { IfErr result (λ fault. fault ≢ Fault.Memory → insert_refusal self.old txn row ≡ Some fault) }
-        ensures memory { IfErr result (λ fault. fault ≡ Fault.Memory → new_row_refusal self.old txn row ≡ None) }
+        ensures refused { IfErr result (RefusedFor (insert_refusal self.old txn row)) }
     {
-        self.check_txn(txn)?;
+        let rid = self.check_insert(txn, &row)?;
         let bytes = row.to_bytes(&self.schema)?;
-        let rid = self.place(bytes.len())?;
         self.reserve()?;
         Ok(Ready {
             rid,
@@ -297,14 +351,11 @@ impl Heap {
         ensures room { OnOk result (self.new ≡ with_room self.old) }
         ensures accepted { OnOk result (update_refusal self.old txn rid row ≡ None) }
         ensures unchanged { OnErr result (self.new ≡ self.old) }
-        ensures refused { IfErr result (λ fault. fault ≢ Fault.Memory → update_refusal self.old txn rid row ≡ Some fault) }
-        ensures memory { IfErr result (λ fault. fault ≡ Fault.Memory → new_row_refusal self.old txn row ≡ None) }
+        ensures refused { IfErr result (RefusedFor (update_refusal self.old txn rid row)) }
     {
-        self.check_txn(txn)?;
+        self.check_update(txn, rid, &row)?;
         let bytes = row.to_bytes(&self.schema)?;
-        self.check_hold(txn, rid)?;
         let old = self.read(rid)?;
-        self.check_growth(rid, bytes.len())?;
         self.reserve()?;
         Ok(Ready {
             rid,
@@ -472,8 +523,7 @@ impl Heap {
         ensures written { IfOk result (λ written. self.new ≡ after_write self.old txn written.1 (Some row)) }
         ensures accepted { OnOk result (insert_refusal self.old txn row ≡ None) }
         ensures unchanged { OnErr result (self.new ≡ self.old) }
-        ensures refused { IfErr result (λ fault. fault ≢ Fault.Memory → insert_refusal self.old txn row ≡ Some fault) }
-        ensures memory { IfErr result (λ fault. fault ≡ Fault.Memory → new_row_refusal self.old txn row ≡ None) }
+        ensures refused { IfErr result (RefusedFor (insert_refusal self.old txn row)) }
     {
         let ready = self.ready_insert(txn, row)?;
         Ok(self.write(ready))
@@ -488,8 +538,7 @@ impl Heap {
         ensures written { OnOk result (self.new ≡ after_write self.old txn rid (Some row)) }
         ensures accepted { OnOk result (update_refusal self.old txn rid row ≡ None) }
         ensures unchanged { OnErr result (self.new ≡ self.old) }
-        ensures refused { IfErr result (λ fault. fault ≢ Fault.Memory → update_refusal self.old txn rid row ≡ Some fault) }
-        ensures memory { IfErr result (λ fault. fault ≡ Fault.Memory → new_row_refusal self.old txn row ≡ None) }
+        ensures refused { IfErr result (RefusedFor (update_refusal self.old txn rid row)) }
     {
         let ready = self.ready_update(txn, rid, row)?;
         Ok(self.write(ready))

@@ -2,7 +2,8 @@ use Rattle.std.proofs.Common.{◌≡◌, ◌∙◌, None, Ok, refl, sym, ap, sub
 use Rattle.heap_log.specs.Standing.{newest_standing}
 use Rattle.heap_table.specs.HeapState.{HeapState}
 use Rattle.heap_table.proofs.KeptChanges.{kept_same}
-use Rattle.heap_table.proofs.Sounds.{sound_ended, none_standing}
+use Rattle.heap_table.proofs.Sounds.{sound_ended}
+use Rattle.heap_table.proofs.Holding.{none_standing}
 use Rattle.heap_table.proofs.heap.Heap.undo_step.Goals as goal
 
 pub invariant_of-self : goal.invariant_of-self
