@@ -1,5 +1,5 @@
 -- The definitions computed at small values that a reader can check by hand.
-use Rattle.std.proofs.Common.{◌≡◌, ℕ, pos, negsuc, Bool, true, false, List, [], ◌∷◌, length, Option, Some, None, refl, sym, ap}
+use Rattle.std.proofs.Common.{◌≡◌, ℕ, pos, negsuc, Bool, true, false, List, [], ◌∷◌, length, Option, Some, None, refl, ap}
 use Rattle.std.specs.Prelude.{◌||◌}
 use Rattle.std.specs.Ordering.{eq_by_cmp}
 use Rattle.keybytes.specs.Keys.{KeySpecValue}
@@ -14,11 +14,12 @@ use Rattle.heap_log.specs.declared.record.LogRec.TheVariants as logged
 use Rattle.heap_table.specs.Pages.{rid_at}
 use Rattle.keybytes.specs.declared.pair.Pair.{Pair}
 use Rattle.builder_core.specs.declared.event.Event.TheVariants.{Scan, Seal, Load, Switch}
-use Rattle.builder_core.specs.declared.reply.Reply.TheVariants.{Scanned, Sealed, Loaded, Switched, Refused}
+use Rattle.builder_core.specs.declared.reply.Reply.{Reply}
+use Rattle.builder_core.specs.declared.reply.Reply.TheVariants.{Scanned, Sealed, Loaded, Switched}
 use Rattle.keybytes.specs.Pairs.{pair_cmp}
 use Rattle.heap_table.specs.TablePairs.{pairs_at_rest}
 use Rattle.builder_core.specs.CoreState.{CoreState}
-use Rattle.builder_core.specs.Steps.{outcome, after_memory}
+use Rattle.builder_core.specs.Steps.{refusal, Does, AfterMemory}
 use Rattle.keybytes.proofs.PairSets.{is_in, items_are}
 
 -- an index on a column of numbers
@@ -101,42 +102,42 @@ while_built pages scanned waiting loaded spoiled = record {
 abbrev before_a_scan : CoreState
 before_a_scan = while_built 2 1 1 false None
 
-next_page : (outcome before_a_scan (Scan 0 0)).1 ≡ Scanned 1
-next_page = refl
+next_page : (new : CoreState) (reply : Reply) → Does before_a_scan (Scan 0 0) reply new → reply ≡ Scanned 1
+next_page new reply does = does.0
 
-load_before_a_scan : outcome before_a_scan (Load 0) ≡ (before_a_scan, Refused (NotScanned 0))
+load_before_a_scan : refusal before_a_scan (Load 0) ≡ Some (NotScanned 0)
 load_before_a_scan = refl
 
-no_page_left : (outcome (while_built 2 2 2 false None) (Scan 0 0)).1 ≡ Refused RangeDone
+no_page_left : refusal (while_built 2 2 2 false None) (Scan 0 0) ≡ Some RangeDone
 no_page_left = refl
 
-four_wait : (outcome (while_built 5 4 4 false None) (Scan 0 0)).1 ≡ Refused RingFull
+four_wait : refusal (while_built 5 4 4 false None) (Scan 0 0) ≡ Some RingFull
 four_wait = refl
 
-seal_takes_all : outcome (while_built 2 2 2 false None) (Seal 0) ≡ (while_built 2 2 0 false None, Sealed 2)
-seal_takes_all = refl
+seal_takes_all : Does (while_built 2 2 2 false None) (Seal 0) (Sealed 2) (while_built 2 2 0 false None)
+seal_takes_all = (refl, refl)
 
-load_before_a_seal : (outcome (while_built 2 2 2 false None) (Load 0)).1 ≡ Refused (NotSealed 0)
+load_before_a_seal : refusal (while_built 2 2 2 false None) (Load 0) ≡ Some (NotSealed 0)
 load_before_a_seal = refl
 
-first_load : outcome (while_built 2 2 0 false None) (Load 0) ≡ (while_built 2 2 0 true None, Loaded 3)
-first_load = ap (λ (pairs : List Pair). (while_built 2 2 0 true None, Loaded (length pairs))) (sym equal_keys)
+first_load : Does (while_built 2 2 0 false None) (Load 0) (Loaded 3) (while_built 2 2 0 true None)
+first_load = (ap (λ (pairs : List Pair). Loaded (length pairs)) equal_keys, refl)
 
-second_load : outcome (while_built 2 2 0 true None) (Load 0) ≡ (while_built 2 2 0 true None, Loaded 0)
-second_load = refl
+second_load : Does (while_built 2 2 0 true None) (Load 0) (Loaded 0) (while_built 2 2 0 true None)
+second_load = (refl, refl)
 
-switch_before_a_load : (outcome (while_built 2 2 0 false None) Switch).1 ≡ Refused (NotLoaded 0)
+switch_before_a_load : refusal (while_built 2 2 0 false None) Switch ≡ Some (NotLoaded 0)
 switch_before_a_load = refl
 
-switched : (outcome (while_built 2 2 0 true None) Switch).1 ≡ Switched 7 (Ready 0 ∷ [])
-switched = refl
+switched : (new : CoreState) (reply : Reply) → Does (while_built 2 2 0 true None) Switch reply new → reply ≡ Switched 7 (Ready 0 ∷ [])
+switched new reply does = does.0
 
 -- a seal that wants memory spoils the build, which from then on answers so after the counts
-spoils : after_memory before_a_scan (Seal 0) ≡ while_built 2 1 1 false (Some Memory)
+spoils : AfterMemory before_a_scan (Seal 0) (while_built 2 1 1 false (Some Memory))
 spoils = refl
 
-spoiled_scan : (outcome (while_built 2 1 1 false (Some Memory)) (Scan 0 0)).1 ≡ Refused Memory
+spoiled_scan : refusal (while_built 2 1 1 false (Some Memory)) (Scan 0 0) ≡ Some Memory
 spoiled_scan = refl
 
-spoiled_count : (outcome (while_built 2 1 1 false (Some Memory)) (Scan 0 1)).1 ≡ Refused BadCount
+spoiled_count : refusal (while_built 2 1 1 false (Some Memory)) (Scan 0 1) ≡ Some BadCount
 spoiled_count = refl

@@ -13,7 +13,6 @@ use Rattle.keybytes.specs.declared.kind.Kind.{Kind}
 use Rattle.heap_log.specs.declared.record.LogRec.{LogRec}
 use Rattle.heap_table.specs.Images.{ImageValue, IsImage, Shows, image_slot}
 use Rattle.heap_table.specs.Pages.{rid_at, pages_written, KeepsRows}
-use Rattle.heap_table.proofs.LogRows.{inside_kept}
 use Rattle.keybytes.specs.declared.pair.Pair.{Pair}
 use Rattle.heap_table.specs.TablePairs.{pair_at, rids_on, pairs_on, pairs_from, pairs_at_rest}
 use Rattle.builder_core.specs.CoreState.{BuildValue, ReadyValue, FollowTable, scanned_pages}
@@ -51,7 +50,6 @@ building_kept kinds old new b keeps is = record {
   limit = is.limit;
   within = is.within;
   few = is.few;
-  inside = inside_kept old new keeps is.inside;
   work = λ e. let w = is.work e in record {
     copies = record { each = λ i image at. image_kept kinds old new (b.sealed + i) image keeps (w.copies.each i image at) };
     made = λ l. w.made l ∙ sym (from_kept b.spec old new keeps 0 b.sealed);
@@ -92,7 +90,6 @@ copied kinds log b image is sound more room copy = record {
   limit = is.limit;
   within = let len = length-append b.ring (image ∷ []) in omega (arith, len, more);
   few = let len = length-append b.ring (image ∷ []) in omega (arith, len, room);
-  inside = is.inside;
   work = λ e. let w = is.work e in record {
     copies = record {
       each = λ i other at. elim (get_pushed b.ring image other i at) [
@@ -119,7 +116,6 @@ sealed_all kinds log b pairs is sound are = record {
   limit = is.limit;
   within = let within : b.sealed + length b.ring ≤ b.pages = is.within in omega (arith, within);
   few = omega arith;
-  inside = is.inside;
   work = λ e. let w = is.work sound in record {
     copies = record { each = λ i image at. absurd (none_at i image at) };
     made = λ l. are ∙ ap (λ ps. ps ++ pairs_from b.spec log b.sealed (length b.ring)) (w.made l) ∙ sym (pairs_from_start w l);
@@ -144,7 +140,6 @@ spoiled_by kinds log b pairs why is = record {
   limit = is.limit;
   within = is.within;
   few = is.few;
-  inside = is.inside;
   work = λ e. absurd (cc);
 }
 
@@ -156,7 +151,7 @@ loaded_pairs kinds log b pairs is sound fresh all none moved sorted =
     let w = is.work sound in
     let within : b.sealed + length b.ring ≤ b.pages = is.within in
     let pages : b.sealed ≡ pages_written log = let e = is.pages in omega (arith, e, within, all, none) in
-    in_order b.spec log b.pairs pairs is.inside (w.made fresh ∙ ap (pairs_from b.spec log 0) pages) moved sorted
+    in_order b.spec log b.pairs pairs (w.made fresh ∙ ap (pairs_from b.spec log 0) pages) moved sorted
 
 pub loaded_all :
     (kinds : List Kind) (log : List LogRec) (b : BuildValue) (pairs : List Pair) → IsBuilding kinds log b → b.spoiled ≡ None → b.loaded ≡ false
@@ -168,7 +163,6 @@ loaded_all kinds log b pairs is sound fresh all none moved sorted = record {
   limit = is.limit;
   within = is.within;
   few = is.few;
-  inside = is.inside;
   work = λ e. let w = is.work e in record {
     copies = w.copies;
     made = λ l. absurd (false≢true (sym l));

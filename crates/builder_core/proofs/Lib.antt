@@ -3,3 +3,4 @@ pub mod Following
 pub mod Making
 pub mod Runs
 pub mod Starts
+pub mod Switching

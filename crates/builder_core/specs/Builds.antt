@@ -4,7 +4,7 @@ use Rattle.std.specs.List.{slice_get}
 use Rattle.keybytes.specs.declared.kind.Kind.{Kind}
 use Rattle.heap_log.specs.declared.record.LogRec.{LogRec}
 use Rattle.heap_table.specs.Images.{ImageValue, IsImage}
-use Rattle.heap_table.specs.Pages.{pages_written, RowsAreInside}
+use Rattle.heap_table.specs.Pages.{pages_written}
 use Rattle.heap_table.specs.TablePairs.{pairs_at_rest, pairs_from}
 use Rattle.builder_core.specs.CoreState.{BuildValue, scanned_pages}
 
@@ -27,7 +27,6 @@ pub record IsBuilding (kinds : List Kind) (log : List LogRec) (b : BuildValue) :
   pub limit : b.pages ≤ 65536
   pub within : scanned_pages b ≤ b.pages
   pub few : length b.ring ≤ 4
-  pub inside : RowsAreInside log
   pub work : b.spoiled ≡ None → IsAtWork kinds log b
 
 -- the running build, if any, is one of that table

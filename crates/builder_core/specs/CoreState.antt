@@ -3,6 +3,7 @@ use Rattle.std.specs.Prelude.{◌≡◌, ℕ, zero, suc, ◌+◌, Bool, List, le
 use Rattle.std.specs.List.{All}
 use Rattle.std.specs.Option.{option_map}
 use Rattle.keybytes.specs.Keys.{KeySpecValue}
+use Rattle.keybytes.specs.Pairs.{HaveKeysOf, AreInColumnOrder}
 use Rattle.keybytes.specs.declared.fault.Fault.{Fault}
 use Rattle.heap_log.specs.declared.record.LogRec.{LogRec}
 use Rattle.heap_table.specs.HeapState.{HeapState, after_visit}
@@ -14,6 +15,11 @@ use Rattle.heap_table.specs.TablePairs.{pairs_at_rest}
 pub record ReadyValue : Type 0 where
   pub spec : KeySpecValue
   pub pairs : List Pair
+
+-- each pair has the key of a row, and they stand in the order of the key's columns, then of their RIDs
+pub record IsIndex (spec : KeySpecValue) (pairs : List Pair) : Type 0 where
+  pub keys : HaveKeysOf spec pairs
+  pub order : AreInColumnOrder spec pairs
 
 -- a table with its ready indexes
 pub record LiveValue : Type 0 where

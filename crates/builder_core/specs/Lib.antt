@@ -1,3 +1,4 @@
 pub mod Builds
 pub mod CoreState
+pub mod Headline
 pub mod Steps

@@ -28,15 +28,15 @@ use Rattle.builder_core.specs.CoreState.{ReadyValue, BuildState, CoreState}
 abbrev pub cause_if : Bool → Fault → Option Fault
 cause_if test fault = if test then Some fault else None
 
--- the refusal, if there is one, and no change; else the new state and the reply
-abbrev pub unless : Option Fault → CoreState → CoreState → Reply → CoreState × Reply
-unless None old new reply = (new, reply)
-unless (Some fault) old new reply = (old, Refused fault)
+-- why the running build refuses an event; that there is none is a reason too
+abbrev pub refusal_of : Option BuildState → (BuildState → Option Fault) → Option Fault
+refusal_of None cause = Some NoBuild
+refusal_of (Some b) cause = cause b
 
--- what a running build makes of an event
-abbrev pub with_build : CoreState → Option BuildState → (BuildState → CoreState × Reply) → CoreState × Reply
-with_build s None answer = (s, Refused NoBuild)
-with_build s (Some b) answer = answer b
+-- what holds of the running build; nothing does where none runs
+abbrev pub OnBuild : Option BuildState → (BuildState → Type 0) → Type 0
+OnBuild None P = ⊥
+OnBuild (Some b) P = P b
 
 -- the same with that table
 abbrev pub with_heap : CoreState → HeapState → CoreState
@@ -119,10 +119,15 @@ start_refusal s plan spec =
 abbrev pub after_start : CoreState → KeySpecValue → CoreState
 after_start s spec = record s { build = Some (record { spec = spec; pages = pages_written s.heap.log; scanned = 0; waiting = 0; loaded = false; spoiled = None }) }
 
--- what a plan with that one specification, if any, comes to
-abbrev pub start_outcome : CoreState → Plan → Option KeySpecValue → CoreState × Reply
-start_outcome s plan None = (s, Refused BadCount)
-start_outcome s plan (Some spec) = unless (start_refusal s plan spec) s (after_start s spec) (Started (pages_written s.heap.log))
+-- why a plan with that one specification, if any, starts no build
+abbrev pub plan_refusal : CoreState → Plan → Option KeySpecValue → Option Fault
+plan_refusal s plan None = Some BadCount
+plan_refusal s plan (Some spec) = start_refusal s plan spec
+
+-- a build of that one specification has begun
+abbrev pub StartsBy : CoreState → Option KeySpecValue → CoreState → Type 0
+StartsBy s None new = ⊥
+StartsBy s (Some spec) new = new ≡ after_start s spec
 
 -- why a build copies no further page
 abbrev pub ring_refusal : BuildState → Option Fault
@@ -182,90 +187,72 @@ ready_index s b = record { spec = b.spec; pairs = pairs_at_rest b.spec s.heap.lo
 abbrev pub after_switch_in : CoreState → BuildState → CoreState
 after_switch_in s b = record { heap = after_switch s.heap (verdicts_on s); ready = s.ready ++ ready_index s b ∷ []; build = None }
 
--- the state after an event and its reply, memory allowing
-abbrev pub outcome : CoreState → Event → CoreState × Reply
-outcome s Begin = unless (begin_refusal s.heap) s (with_heap s (after_begin s.heap)) (Begun (s.heap.begun + 1))
-outcome s (Insert txn row) =
-    unless (unless_indexed s (insert_refusal s.heap txn row)) s
-    (with_heap s (after_write s.heap txn (row_place s row) (Some row)))
-    (Written (length s.heap.log + 1) (row_place s row))
-outcome s (Update txn rid row) =
-    unless (unless_indexed s (update_refusal s.heap txn rid row)) s
-    (with_heap s (after_write s.heap txn rid (Some row)))
-    (Written (length s.heap.log + 1) rid)
-outcome s (Delete txn rid) =
-    unless (unless_indexed s (delete_refusal s.heap txn rid)) s
-    (with_heap s (after_write s.heap txn rid None))
-    (Written (length s.heap.log + 1) rid)
-outcome s (Undo txn) =
-    unless (unless_indexed s (undo_refusal s.heap txn)) s
-    (with_heap s (after_newest s.heap txn))
-    (undone_reply s.heap txn)
-outcome s (Commit txn) =
-    unless (txn_refusal s.heap txn) s (with_heap s (after_commit s.heap txn)) (Committed (length s.heap.log + 1))
-outcome s (Start plan) = if is_some s.build then (s, Refused BuildRunning) else start_outcome s plan (only_spec plan.specs.items)
-outcome s (Scan range worker) = with_build s s.build (λ b. unless (scan_refusal b range worker) s (after_scan s b) (Scanned b.scanned))
-outcome s (Seal worker) = with_build s s.build (λ b. unless (seal_refusal b worker) s (after_seal s b) (Sealed b.waiting))
-outcome s (Load index) = with_build s s.build (λ b. unless (load_refusal b index) s (after_load s b) (Loaded (pairs_loaded s b)))
-outcome s Switch =
-    with_build s s.build (λ b. unless (switch_refusal b) s (after_switch_in s b) (Switched (length s.heap.log + 1) (verdicts_on s)))
+-- why an event is refused: the first of its causes
+abbrev pub refusal : CoreState → Event → Option Fault
+refusal s Begin = begin_refusal s.heap
+refusal s (Insert txn row) = unless_indexed s (insert_refusal s.heap txn row)
+refusal s (Update txn rid row) = unless_indexed s (update_refusal s.heap txn rid row)
+refusal s (Delete txn rid) = unless_indexed s (delete_refusal s.heap txn rid)
+refusal s (Undo txn) = unless_indexed s (undo_refusal s.heap txn)
+refusal s (Commit txn) = txn_refusal s.heap txn
+refusal s (Start plan) = if is_some s.build then Some BuildRunning else plan_refusal s plan (only_spec plan.specs.items)
+refusal s (Scan range worker) = refusal_of s.build (λ b. scan_refusal b range worker)
+refusal s (Seal worker) = refusal_of s.build (λ b. seal_refusal b worker)
+refusal s (Load index) = refusal_of s.build (λ b. load_refusal b index)
+refusal s Switch = refusal_of s.build switch_refusal
 
--- why the running build refuses an event; that there is none is a reason too
-abbrev pub refusal_of : Option BuildState → (BuildState → Option Fault) → Option Fault
-refusal_of None cause = Some NoBuild
-refusal_of (Some b) cause = cause b
-
--- why a plan with that one specification, if any, starts no build
-abbrev pub plan_refusal : CoreState → Plan → Option KeySpecValue → Option Fault
-plan_refusal s plan None = Some BadCount
-plan_refusal s plan (Some spec) = start_refusal s plan spec
-
--- why an event is refused before any memory is taken for it; for a change of a row that comes with one, a copy is made right
--- behind the look at the build
-abbrev pub early_refusal : CoreState → Event → Option Fault
-early_refusal s Begin = begin_refusal s.heap
-early_refusal s (Insert txn row) = unless_indexed s None
-early_refusal s (Update txn rid row) = unless_indexed s None
-early_refusal s (Delete txn rid) = unless_indexed s (delete_refusal s.heap txn rid)
-early_refusal s (Undo txn) = unless_indexed s (undo_refusal s.heap txn)
-early_refusal s (Commit txn) = txn_refusal s.heap txn
-early_refusal s (Start plan) = if is_some s.build then Some BuildRunning else plan_refusal s plan (only_spec plan.specs.items)
-early_refusal s (Scan range worker) = refusal_of s.build (λ b. scan_refusal b range worker)
-early_refusal s (Seal worker) = refusal_of s.build (λ b. seal_refusal b worker)
-early_refusal s (Load index) = refusal_of s.build (λ b. load_refusal b index)
-early_refusal s Switch = refusal_of s.build switch_refusal
+-- what an event does that is not refused: its reply, and the state that it leaves
+abbrev pub Does : CoreState → Event → Reply → CoreState → Type 0
+Does s Begin reply new = (reply ≡ Begun (s.heap.begun + 1)) × (new ≡ with_heap s (after_begin s.heap))
+Does s (Insert txn row) reply new =
+    (reply ≡ Written (length s.heap.log + 1) (row_place s row))
+    × (new ≡ with_heap s (after_write s.heap txn (row_place s row) (Some row)))
+Does s (Update txn rid row) reply new =
+    (reply ≡ Written (length s.heap.log + 1) rid) × (new ≡ with_heap s (after_write s.heap txn rid (Some row)))
+Does s (Delete txn rid) reply new =
+    (reply ≡ Written (length s.heap.log + 1) rid) × (new ≡ with_heap s (after_write s.heap txn rid None))
+Does s (Undo txn) reply new = (reply ≡ undone_reply s.heap txn) × (new ≡ with_heap s (after_newest s.heap txn))
+Does s (Commit txn) reply new = (reply ≡ Committed (length s.heap.log + 1)) × (new ≡ with_heap s (after_commit s.heap txn))
+Does s (Start plan) reply new = (reply ≡ Started (pages_written s.heap.log)) × StartsBy s (only_spec plan.specs.items) new
+Does s (Scan range worker) reply new = OnBuild s.build (λ b. (reply ≡ Scanned b.scanned) × (new ≡ after_scan s b))
+Does s (Seal worker) reply new = OnBuild s.build (λ b. (reply ≡ Sealed b.waiting) × (new ≡ after_seal s b))
+Does s (Load index) reply new = OnBuild s.build (λ b. (reply ≡ Loaded (pairs_loaded s b)) × (new ≡ after_load s b))
+Does s Switch reply new =
+    OnBuild s.build (λ b. (reply ≡ Switched (length s.heap.log + 1) (verdicts_on s)) × (new ≡ after_switch_in s b))
 
 -- the running build, if any, is spoiled
 abbrev pub spoiled_by : Fault → Option BuildState → Option BuildState
 spoiled_by fault None = None
 spoiled_by fault (Some b) = Some (record b { spoiled = Some fault })
 
--- want of memory changes nothing, but spoils a build whose worker was at work
-abbrev pub after_memory : CoreState → Event → CoreState
-after_memory s Begin = s
-after_memory s (Insert txn row) = s
-after_memory s (Update txn rid row) = s
-after_memory s (Delete txn rid) = s
-after_memory s (Undo txn) = s
-after_memory s (Commit txn) = s
-after_memory s (Start plan) = s
-after_memory s (Scan range worker) = s
-after_memory s (Seal worker) = record s { build = spoiled_by Memory s.build }
-after_memory s (Load index) = record s { build = spoiled_by Memory s.build }
-after_memory s Switch = s
+-- what want of memory leaves: it changes nothing, but spoils a build whose worker was at work
+abbrev pub AfterMemory : CoreState → Event → CoreState → Type 0
+AfterMemory s Begin new = new ≡ s
+AfterMemory s (Insert txn row) new = new ≡ s
+AfterMemory s (Update txn rid row) new = new ≡ s
+AfterMemory s (Delete txn rid) new = new ≡ s
+AfterMemory s (Undo txn) new = new ≡ s
+AfterMemory s (Commit txn) new = new ≡ s
+AfterMemory s (Start plan) new = new ≡ s
+AfterMemory s (Scan range worker) new = new ≡ s
+AfterMemory s (Seal worker) new = new ≡ record s { build = spoiled_by Memory s.build }
+AfterMemory s (Load index) new = new ≡ record s { build = spoiled_by Memory s.build }
+AfterMemory s Switch new = new ≡ s
 
--- what want of memory leaves; it is answered only where nothing that is looked at before refuses the event
-abbrev pub WantsMemory : CoreState → Event → CoreState → Type 0
-WantsMemory s event new = (new ≡ after_memory s event) × (early_refusal s event ≡ None)
+-- an event is refused for a fault: its cause, and nothing changes; or want of memory, where it has no cause
+abbrev pub IsRefused : CoreState → Event → Fault → CoreState → Type 0
+IsRefused s event fault new =
+    ((refusal s event ≡ Some fault) × (new ≡ s)) ⊎ ((refusal s event ≡ None) × (fault ≡ Memory) × AfterMemory s event new)
 
--- one event: its outcome, or want of memory
+-- one event: it is refused, or it has no cause to be and is done
 abbrev pub Step : CoreState → Event → Reply → CoreState → Type 0
-Step s event reply new = ((new, reply) ≡ outcome s event) ⊎ ((reply ≡ Refused Memory) × WantsMemory s event new)
+Step s event reply new =
+    ((fault : Fault) × (reply ≡ Refused fault) × IsRefused s event fault new) ⊎ ((refusal s event ≡ None) × Does s event reply new)
 
 -- the reply to an event, or the fault of its refusal
 abbrev pub Answers : CoreState → Event → Result Reply Fault → CoreState → Type 0
-Answers s event (Ok reply) new = Step s event reply new
-Answers s event (Err fault) new = Step s event (Refused fault) new
+Answers s event (Ok reply) new = (refusal s event ≡ None) × Does s event reply new
+Answers s event (Err fault) new = IsRefused s event fault new
 
 -- one event after another
 abbrev pub Run : CoreState → List Event → List Reply → CoreState → Type 0

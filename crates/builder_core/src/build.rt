@@ -165,9 +165,12 @@ impl Build {
 
     /// The index with the pairs as they are.
     pub fn into_ready(self) -> ReadyIndex
-        requires { HaveKeysOf self.spec self.pairs }
+        requires keys { HaveKeysOf self.spec self.pairs }
+        requires at_rest { (log : List LogRec) × (self.pairs ≡ pairs_at_rest self.spec log) }
         ensures { result ≡ record { spec = self.spec; pairs = self.pairs } }
     {
+        // The specification tells that its columns make a key, whose bytes are then in the columns' order.
+        let _columns = self.spec.columns();
         ReadyIndex::new(self.spec, self.pairs)
     }
 }

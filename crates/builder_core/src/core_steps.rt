@@ -2,7 +2,7 @@ ghost use Rattle.std.specs.Prelude.{◌≡◌, [], length, true, Some, None, is_
 ghost use Rattle.keybytes.specs.Faults.{RefusedFor};
 ghost use Rattle.heap_log.specs.Standing.{live_at};
 ghost use Rattle.heap_table.specs.HeapState.{row_missing, after_visit};
-ghost use Rattle.heap_table.specs.Pages.{pages_written, RowsAreInside};
+ghost use Rattle.heap_table.specs.Pages.{pages_written};
 ghost use Rattle.keybytes.specs.Pairs.{HaveKeysOf, AreInColumnOrder};
 ghost use Rattle.heap_table.specs.TablePairs.{pairs_at_rest};
 ghost use Rattle.builder_core.specs.CoreState.{opening, live_of, after_visits, ReadyFollowTable};
@@ -92,10 +92,14 @@ impl Core {
     /// The ready index of that number, from 0; [`Fault::BadCount`] where there is none.
     pub fn ready(&self, number: usize) -> Result<&ReadyIndex, Fault>
         ensures index { MatchResult result (λ index. slice_get self.now.ready number ≡ Some index.now) (λ fault. slice_get self.now.ready number ≡ None) }
+        ensures order { IfOk result (λ index. AreInColumnOrder index.now.spec index.now.pairs) }
         ensures refused { IfErr result (λ fault. fault ≡ Fault.BadCount) }
         ensures follow { ReadyFollowTable self.now }
     {
-        self.live.ready().get(number).ok_or(Fault::BadCount)
+        let index = self.live.ready().get(number).ok_or(Fault::BadCount)?;
+        // They tell their order.
+        let _pairs = index.pairs();
+        Ok(index)
     }
 
     /// The pairs that an index of this specification would have now, read from the table: one visit a page.
@@ -183,6 +187,7 @@ impl Core {
         ensures { Answers self.old (Event.Insert txn row.now) result self.new }
     {
         self.check_unindexed()?;
+        let _place = self.live.heap().check_insert(txn, row)?;
         let (number, rid) = self.live.insert(txn, row.clone()?)?;
         Ok(Reply::Written { number, rid })
     }
@@ -191,6 +196,7 @@ impl Core {
         ensures { Answers self.old (Event.Update txn rid row.now) result self.new }
     {
         self.check_unindexed()?;
+        self.live.heap().check_update(txn, rid, row)?;
         let (number, rid) = self.live.update(txn, rid, row.clone()?)?;
         Ok(Reply::Written { number, rid })
     }
@@ -235,7 +241,6 @@ impl Core {
         ensures spec { IfOk result (λ spec. only_spec plan.now.specs.items ≡ Some spec.now) }
         ensures columns { IfOk result (λ spec. spec.now.kinds ≡ self.now.heap.schema) }
         ensures accepted { IfOk result (λ spec. start_refusal self.now plan.now spec.now ≡ None) }
-        ensures inside { OnOk result (RowsAreInside self.now.heap.log) }
         ensures refused { IfErr result (λ fault. plan_refusal self.now plan.now (only_spec plan.now.specs.items) ≡ Some fault) }
     {
         let spec = only_spec(plan).ok_or(Fault::BadCount)?;

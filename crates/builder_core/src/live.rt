@@ -5,7 +5,7 @@ ghost use Rattle.heap_log.specs.declared.outcome.Outcome.{Outcome};
 ghost use Rattle.heap_table.specs.HeapState.{begin_refusal, txn_refusal, insert_refusal, insert_place, update_refusal, delete_refusal, undo_refusal, undone_number, after_begin, after_write, after_step, after_commit, after_switch, after_visit, row_missing};
 ghost use Rattle.heap_table.specs.Images.{IsImage};
 ghost use Rattle.heap_table.specs.Kept.{RowsFit};
-ghost use Rattle.heap_table.specs.Pages.{pages_written, KeepsRows, RowsAreInside};
+ghost use Rattle.heap_table.specs.Pages.{pages_written, KeepsRows};
 ghost use Rattle.heap_log.specs.Standing.{live_at, newest_standing, standing_count};
 ghost use Rattle.keybytes.specs.Pairs.{HaveKeysOf, AreInColumnOrder};
 ghost use Rattle.heap_table.specs.TablePairs.{pairs_at_rest};
@@ -88,7 +88,7 @@ impl Live {
         ensures written { IfOk result (λ written. self.new ≡ live_with_heap self.old (after_write self.old.heap txn written.1 (Some row))) }
         ensures accepted { OnOk result (insert_refusal self.old.heap txn row ≡ None) }
         ensures unchanged { OnErr result (self.new ≡ self.old) }
-        ensures refused { IfErr result (λ fault. fault ≢ Fault.Memory → insert_refusal self.old.heap txn row ≡ Some fault) }
+        ensures refused { IfErr result (RefusedFor (insert_refusal self.old.heap txn row)) }
     {
         self.heap.insert(txn, row)
     }
@@ -100,7 +100,7 @@ impl Live {
         ensures written { OnOk result (self.new ≡ live_with_heap self.old (after_write self.old.heap txn rid (Some row))) }
         ensures accepted { OnOk result (update_refusal self.old.heap txn rid row ≡ None) }
         ensures unchanged { OnErr result (self.new ≡ self.old) }
-        ensures refused { IfErr result (λ fault. fault ≢ Fault.Memory → update_refusal self.old.heap txn rid row ≡ Some fault) }
+        ensures refused { IfErr result (RefusedFor (update_refusal self.old.heap txn rid row)) }
     {
         self.heap.update(txn, rid, row)
     }
@@ -160,8 +160,7 @@ impl Live {
         ensures build { IfErr result (λ back. back.0 ≡ build) }
         ensures memory { IfErr result (λ back. back.1 ≡ Fault.Memory) }
     {
-        // The heap tells that its rows have the columns of its schema.
-        let _fitting = self.heap.schema();
+        self.heap.laws();
         match note_ready(self.alloc, &mut self.heap, &mut self.ready) {
             Ok(noted) => {
                 self.ready.push_reserved(build.into_ready());

@@ -1,5 +1,6 @@
 ghost use Rattle.std.specs.Prelude.{◌≡◌};
-ghost use Rattle.keybytes.specs.Pairs.{HaveKeysOf};
+ghost use Rattle.builder_core.specs.CoreState.{IsIndex};
+ghost use Rattle.keybytes.specs.Pairs.{HaveKeysOf, AreInColumnOrder};
 
 use crate::Pair;
 use keybytes::KeySpec;
@@ -17,16 +18,16 @@ impl Model for ReadyIndex {
 
     ghost Value = { ReadyValue };
 
-    ghost use Rattle.keybytes.specs.Pairs.{HaveKeysOf};
+    ghost use Rattle.builder_core.specs.CoreState.{IsIndex};
 
     ghost view = { λ index. record { spec = index.spec; pairs = index.pairs.items } };
 
-    ghost invariant = { λ index. HaveKeysOf index.spec index.pairs.items };
+    ghost invariant = { λ index. IsIndex index.spec index.pairs.items };
 }
 
 impl ReadyIndex {
     pub(crate) fn new(spec: KeySpec, pairs: Vec<Pair>) -> ReadyIndex
-        requires { HaveKeysOf spec pairs.items }
+        requires { IsIndex spec pairs.items }
         ensures spec { result.spec ≡ spec }
         ensures pairs { result.pairs ≡ pairs.items }
     {
@@ -44,6 +45,7 @@ impl ReadyIndex {
     pub fn pairs(&self) -> &[Pair]
         ensures pairs { result.now ≡ self.now.pairs }
         ensures keys { HaveKeysOf self.now.spec self.now.pairs }
+        ensures order { AreInColumnOrder self.now.spec self.now.pairs }
     {
         self.pairs.as_slice()
     }

@@ -33,6 +33,7 @@ pub fn at_rest(heap: &mut Heap, spec: &KeySpec) -> Result<Vec<Pair>, Fault>
     ensures rows { heap.new ≡ record heap.old { visits = heap.new.visits } }
     ensures memory { IfErr result (λ fault. fault ≡ Fault.Memory) }
 {
+    heap.laws();
     let schema = heap.schema();
     prove!(spec.is_of(schema));
     // The specification tells that its columns make a key, whose bytes are then in the columns' order.

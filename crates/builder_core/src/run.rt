@@ -1,6 +1,6 @@
 ghost use Rattle.std.specs.Prelude.{◌≡◌, IfOk, IfErr, OnErr};
-ghost use Rattle.builder_core.specs.CoreState.{CoreState, LiveValue, opening, live_of, FollowTable};
-ghost use Rattle.builder_core.specs.Steps.{Run};
+ghost use Rattle.builder_core.specs.CoreState.{FollowTable};
+ghost use Rattle.builder_core.specs.Headline.{RunsAsAtRest};
 
 use crate::{Core, Event, Live, Reply};
 use keybytes::Fault;
@@ -9,7 +9,7 @@ use std::alloc::Global;
 /// Does all events in turn, and answers each. Want of memory before the first event does none of them. A build that
 /// still runs behind the last event is abandoned.
 pub fn run_events(alloc: Global, live: Live, events: &[Event]) -> (Live, Result<Vec<Reply>, Fault>)
-    ensures run { IfOk result.1 (λ replies. (end : CoreState) × Run (opening live) events.now replies.items end × (result.0 ≡ live_of end)) }
+    ensures headline { IfOk result.1 (λ replies. RunsAsAtRest live events.now replies.items result.0) }
     ensures ready { FollowTable result.0.heap.log result.0.ready }
     ensures unchanged { OnErr result.1 (result.0 ≡ live) }
     ensures memory { IfErr result.1 (λ fault. fault ≡ Fault.Memory) }

@@ -20,12 +20,13 @@ use Rattle.keybytes.specs.declared.rid.Rid.{Rid}
 use Rattle.heap_log.specs.declared.record.LogRec.{LogRec}
 use Rattle.keybytes.specs.Rids.{same_rid}
 use Rattle.heap_log.specs.Standing.{live_at}
-use Rattle.heap_table.specs.Pages.{rid_at, slots_written, pages_written, RowsAreInside}
+use Rattle.heap_table.specs.Pages.{rid_at, slots_written, pages_written}
 use Rattle.keybytes.specs.declared.pair.Pair.{Pair}
 use Rattle.keybytes.specs.Pairs.{pair_cmp}
 use Rattle.heap_table.specs.TablePairs.{pair_at, rids_on, pairs_on, pairs_from, written_rids, pairs_at_rest}
 use Rattle.keybytes.proofs.PairSets.{pairs_total, marked, tied_pairs, is_in, items_are}
 use Rattle.keybytes.proofs.SameRids.{same_rid-refl}
+use Rattle.heap_table.proofs.LogRows.{rows_are_inside}
 use Rattle.heap_table.proofs.TablePairs.{own_pair, all_listed, row_written, listed_on}
 
 -- the RIDs of so many pages from that one on
@@ -143,8 +144,9 @@ listed_from log rid first (suc count) (suc k) less page slot =
     any_after (λ r. same_rid r rid) (rids_on log first) (rids_from log (first + 1) count)
     (listed_from log rid (first + 1) count k (omega arith) (omega (arith, page)) slot)
 
-listed_all : (log : List LogRec) → RowsAreInside log → (rid : Rid) (row : List Cell) → live_at log rid ≡ Some row → list_any (λ r. same_rid r rid) (rids_from log 0 (pages_written log)) ≡ true
-listed_all log inside rid row live =
+listed_all : (log : List LogRec) (rid : Rid) (row : List Cell) → live_at log rid ≡ Some row → list_any (λ r. same_rid r rid) (rids_from log 0 (pages_written log)) ≡ true
+listed_all log rid row live =
+    let inside = rows_are_inside log in
     listed_from log rid 0 (pages_written log) rid.page (inside.page rid row live) (zero-add rid.page) (inside.slot rid row live)
 
 -- a list in order with no pair twice rises
@@ -178,9 +180,9 @@ rises (x ∷ ys) h apart =
 
 -- the pairs of all pages, put in order, are those at rest
 pub in_order :
-    (spec : KeySpecValue) (log : List LogRec) (made ys : List Pair) → RowsAreInside log → made ≡ pairs_from spec log 0 (pages_written log)
+    (spec : KeySpecValue) (log : List LogRec) (made ys : List Pair) → made ≡ pairs_from spec log 0 (pages_written log)
     → IsPermutation made ys → InOrder ys → ys ≡ pairs_at_rest spec log
-in_order spec log made ys inside is moved sorted =
+in_order spec log made ys is moved sorted =
     let rids : List Rid = rids_from log 0 (pages_written log) in
     let made_is : made ≡ filter_map (pair_at spec log) rids = is ∙ pairs_of_rids spec log 0 (pages_written log) in
     let apart : IsDistinct (eq_by_cmp pair_cmp) made =
@@ -189,7 +191,7 @@ in_order spec log made ys inside is moved sorted =
     IsDistinct-IsPermutation (eq_by_cmp pair_cmp) (eq_by_cmp_equiv pairs_total).symm made ys moved apart in
     items_are ys (filter_map (pair_at spec log) (written_rids log)) (subst T (sym (rises ys sorted apart_now)) tt) (λ q.
     sym (list_any-IsPermutation (eq_by_cmp pair_cmp q) made ys moved)
-    ∙ ap (is_in q) made_is ∙ all_listed spec log rids (listed_all log inside) q
+    ∙ ap (is_in q) made_is ∙ all_listed spec log rids (listed_all log) q
     ∙ sym (all_listed spec log (written_rids log) (row_written log) q))
 
 -- the pairs of pages one after another

@@ -32,7 +32,7 @@ add_rows-requires c =
     let Fit : List Kind → List (Rid × List Cell) → Type 0 = λ kinds rows. All (λ row. fits kinds row.1 ≡ true) rows in
     subst (Fit c.args.spec.now.kinds) (sym rows)
     (subst (λ kinds. Fit kinds (rows_on c.args.heap.now.log page)) (sym c.requires)
-    (rows_fit_page c.args.heap.now.schema c.args.heap.now.log page c.schema-schema.ensures.rows_fit))
+    (rows_fit_page c.args.heap.now.schema c.args.heap.now.log page c.laws.ensures.rows))
 
 pub returns-in_err-add_rows-clause-rows : goal.returns-in_err-add_rows-clause-rows
 returns-in_err-add_rows-clause-rows c =
@@ -63,7 +63,7 @@ pub returns-clause-ok : goal.returns-clause-ok
 returns-clause-ok c =
     let log = c.args.heap.now.log in
     let all : c.loop-page.page ≡ pages_written log = omega (arith, c.loop-page-test.false, c.loop-page.auto.page-end, c.pages-page-end.ensures.pages) in
-    in_order c.args.spec.now log c.loop-page.pairs.items c.sort_unstable.new.self.items c.schema-schema.ensures.inside
+    in_order c.args.spec.now log c.loop-page.pairs.items c.sort_unstable.new.self.items
     (c.loop-page.invariant.made ∙ ap (pairs_from c.args.spec.now log 0) all) c.sort_unstable.ensures.permutation c.sort_unstable.ensures.sorted
 
 pub returns-clause-rows : goal.returns-clause-rows
@@ -72,7 +72,7 @@ returns-clause-rows c = visits_changed c.args.heap.now c.loop-page.heap c.loop-p
 pub returns-clause-keys : goal.returns-clause-keys
 returns-clause-keys c =
     subst (HaveKeysOf c.args.spec.now) (sym (returns-clause-ok c))
-    (keys_at_rest c.args.spec.now c.args.heap.now.schema c.args.heap.now.log c.requires c.schema-schema.ensures.rows_fit)
+    (keys_at_rest c.args.spec.now c.args.heap.now.schema c.args.heap.now.log c.requires c.laws.ensures.rows)
 
 pub returns-clause-order : goal.returns-clause-order
 returns-clause-order c =

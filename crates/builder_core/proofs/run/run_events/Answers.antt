@@ -1,8 +1,10 @@
-use Rattle.std.proofs.Common.{◌≡◌, ◌+◌, ◌++◌, ◌∷◌, [], List, take, ap, sym, ◌∙◌, arith}
-use Rattle.std.proofs.lemmas.List.{take_more}
+use Rattle.std.proofs.Common.{◌≡◌, ◌+◌, ◌++◌, ◌∷◌, [], List, take, ap, sym, subst, ◌∙◌, arith}
+use Rattle.std.proofs.lemmas.List.{take_all, take_more}
 use Rattle.builder_core.specs.declared.event.Event.{Event}
 use Rattle.builder_core.specs.CoreState.{opening}
+use Rattle.builder_core.specs.Steps.{Run}
 use Rattle.builder_core.proofs.Runs.{run_more}
+use Rattle.builder_core.proofs.Switching.{each_switch}
 use Rattle.builder_core.proofs.run.run_events.Goals as goal
 
 pub loop-event-preserved : goal.loop-event-preserved
@@ -16,4 +18,18 @@ loop-event-preserved c =
           (run_more (opening c.args.live) c.loop-event.core c.answer.new.self (take i events) c.event-item.result c.loop-event.replies.items c.answer.result c.loop-event.invariant.run c.answer.ensures.step);
       room = omega (arith, c.loop-event.invariant.room, c.push_reserved.ensures.capacity);
       count = omega (arith, c.push_reserved.ensures.len, c.push_reserved.new.self.ok, c.loop-event.replies.ok, c.loop-event.invariant.count);
+    }
+
+pub returns-clause-headline : goal.returns-clause-headline
+returns-clause-headline c =
+    let events : List Event = c.args.events.now in
+    let start = opening c.args.live in
+    let all : take c.loop-event.event-index events ≡ events = take_all c.loop-event.event-index events c.loop-event-test.false in
+    let run : Run start events c.loop-event.replies.items c.loop-event.core =
+    subst (λ (es : List Event). Run start es c.loop-event.replies.items c.loop-event.core) all c.loop-event.invariant.run in
+    record {
+      end = c.loop-event.core;
+      run = run;
+      left_is = c.into_live-live.ensures;
+      switches = each_switch start c.loop-event.core events c.loop-event.replies.items run;
     }

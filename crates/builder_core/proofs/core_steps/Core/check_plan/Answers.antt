@@ -14,7 +14,7 @@ returns-then-not-is_of-clause-refused c =
     let there : only_spec c.args.plan.now.specs.items ≡ Some spec = search rules in
     let counts : counts_fit s c.args.plan.now spec ≡ true = search rules in
     let schema : c.schema.result.now ≡ s.heap.schema =
-    c.schema.ensures.schema ∙ ap (λ (h : HeapState). h.schema) c.heap-heap.ensures.heap ∙ ap (λ (s : CoreState). s.heap.schema) c.self.view_is in
+    c.schema.ensures ∙ ap (λ (h : HeapState). h.schema) c.heap-heap.ensures.heap ∙ ap (λ (s : CoreState). s.heap.schema) c.self.view_is in
     plan_is s c.args.plan.now spec _ there (bad_column s c.args.plan.now spec counts (kinds_differ spec.kinds s.heap.schema (λ e. false≢true (c.if-not-is_of.ensures.1 (e ∙ sym schema)))))
 
 pub returns-then-not-is_one_range-clause-refused : goal.returns-then-not-is_one_range-clause-refused
@@ -24,7 +24,7 @@ returns-then-not-is_one_range-clause-refused c =
     let there : only_spec c.args.plan.now.specs.items ≡ Some spec = search rules in
     let counts : counts_fit s c.args.plan.now spec ≡ true = search rules in
     let schema : c.schema.result.now ≡ s.heap.schema =
-    c.schema.ensures.schema ∙ ap (λ (h : HeapState). h.schema) c.heap-heap.ensures.heap ∙ ap (λ (s : CoreState). s.heap.schema) c.self.view_is in
+    c.schema.ensures ∙ ap (λ (h : HeapState). h.schema) c.heap-heap.ensures.heap ∙ ap (λ (s : CoreState). s.heap.schema) c.self.view_is in
     let ranges : is_one_range (pages_written s.heap.log) c.args.plan.now.dealing ≡ false = search rules in
     plan_is s c.args.plan.now spec _ there (bad_ranges s c.args.plan.now spec counts (kinds_agree spec.kinds s.heap.schema (c.if-not-is_of.ensures.0 refl ∙ schema)) ranges)
 
@@ -34,6 +34,6 @@ returns-clause-accepted c =
     let spec = c.in_ok-spec.spec.now in
     let counts : counts_fit s c.args.plan.now spec ≡ true = search rules in
     let schema : c.schema.result.now ≡ s.heap.schema =
-    c.schema.ensures.schema ∙ ap (λ (h : HeapState). h.schema) c.heap-heap.ensures.heap ∙ ap (λ (s : CoreState). s.heap.schema) c.self.view_is in
+    c.schema.ensures ∙ ap (λ (h : HeapState). h.schema) c.heap-heap.ensures.heap ∙ ap (λ (s : CoreState). s.heap.schema) c.self.view_is in
     let ranges : is_one_range (pages_written s.heap.log) c.args.plan.now.dealing ≡ true = search rules in
     nothing_bad s c.args.plan.now spec counts (kinds_agree spec.kinds s.heap.schema (c.if-not-is_of.ensures.0 refl ∙ schema)) ranges

@@ -1,6 +1,5 @@
 use Rattle.std.proofs.Common.{rules, ◌≡◌, ap, sym, ◌∙◌}
 use Rattle.keybytes.specs.Keys.{KeySpecValue}
-use Rattle.heap_table.specs.Pages.{RowsAreInside}
 use Rattle.builder_core.specs.CoreState.{CoreState}
 use Rattle.builder_core.proofs.core_steps.Core.start.Goals as goal
 
@@ -8,5 +7,4 @@ pub invariant_of-self : goal.invariant_of-self
 invariant_of-self c =
     let columns : c.in_ok-spec.spec.kinds ≡ c.self.inside.live.heap.schema =
     ap (λ (spec : KeySpecValue). spec.kinds) c.in_ok-spec.ensures.same ∙ c.in_ok-check_plan.ensures.columns ∙ sym (ap (λ (s : CoreState). s.heap.schema) c.self.view_is) in
-    let inside : RowsAreInside c.self.inside.live.heap.log = rw (ap (λ (s : CoreState). s.heap.log) c.self.view_is) c.in_ok-check_plan.ensures.inside in
     search rules

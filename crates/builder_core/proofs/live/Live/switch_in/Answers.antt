@@ -16,11 +16,14 @@ invariant_of-self c =
     rw (c.push_reserved.ensures.items, c.in-Ok.ensures.ready)
     (follow_more c.self.inside.heap.log c.note_ready.new.heap.log c.self.inside.ready.items c.into_ready.result c.in-Ok.ensures.rows c.self.invariant made)
 
-pub into_ready-requires : goal.into_ready-requires
-into_ready-requires c =
+pub into_ready-requires-clause-keys : goal.into_ready-requires-clause-keys
+into_ready-requires-clause-keys c =
     let columns : c.args.build.spec.kinds ≡ c.self.inside.heap.schema =
     c.requires.columns ∙ ap (λ (live : LiveValue). live.heap.schema) (sym c.self.view_is) in
     let pairs : c.args.build.pairs ≡ pairs_at_rest c.args.build.spec c.self.inside.heap.log =
     c.requires.pairs ∙ ap (λ (live : LiveValue). pairs_at_rest c.args.build.spec live.heap.log) (sym c.self.view_is) in
     subst (HaveKeysOf c.args.build.spec) (sym pairs)
-    (keys_at_rest c.args.build.spec c.self.inside.heap.schema c.self.inside.heap.log columns c.schema-fitting.ensures.rows_fit)
+    (keys_at_rest c.args.build.spec c.self.inside.heap.schema c.self.inside.heap.log columns c.laws.ensures.rows)
+
+pub into_ready-requires-clause-at_rest : goal.into_ready-requires-clause-at_rest
+into_ready-requires-clause-at_rest c = (c.args.self.now.heap.log, c.requires.pairs)

@@ -1,0 +1,45 @@
+-- The headline: each index as it is switched in has the pairs of the rows then live, as a build at rest gives them.
+use Rattle.std.specs.Prelude.{◌≡◌, ℕ, suc, List, take, drop, Some}
+use Rattle.std.specs.List.{slice_get}
+use Rattle.heap_log.specs.Growing.{first_records}
+use Rattle.heap_log.specs.declared.outcome.Outcome.{Outcome}
+use Rattle.heap_log.specs.declared.outcome.Outcome.TheVariants.{Ready}
+use Rattle.heap_log.specs.declared.record.LogRec.{LogRec}
+use Rattle.heap_table.specs.TablePairs.{pairs_at_rest}
+use Rattle.builder_core.specs.declared.event.Event.{Event}
+use Rattle.builder_core.specs.declared.reply.Reply.{Reply}
+use Rattle.builder_core.specs.declared.reply.Reply.TheVariants.{Switched}
+use Rattle.builder_core.specs.CoreState.{CoreState, LiveValue, ReadyValue, opening, live_of}
+use Rattle.builder_core.specs.Steps.{Run}
+
+-- an index that a switch made ready under that number has the pairs at rest of the rows of that log
+pub record HasPairsAtRest (log : List LogRec) (ready : List ReadyValue) (number : ℕ) : Type 0 where
+  pub index : ReadyValue
+  pub there : slice_get ready number ≡ Some index
+  pub at_rest : index.pairs ≡ pairs_at_rest index.spec log
+
+-- the switch that was answered in that place of the list of events, with the number of its log record and its verdicts, on a
+-- run that ends in that state
+pub record SwitchesIn (start end : CoreState) (events : List Event) (replies : List Reply) (place number : ℕ) (verdicts : List Outcome) : Type 0 where
+  -- the state that the switch left, on the way
+  pub left : CoreState
+  pub before : Run start (take (suc place) events) (take (suc place) replies) left
+  pub after : Run left (drop (suc place) events) (drop (suc place) replies) end
+  -- its log is the beginning of the final one that ends with the switch
+  pub beginning : left.heap.log ≡ first_records number end.heap.log
+  -- and each index that it made ready has the pairs of the rows that this beginning leaves
+  pub ready : (i k : ℕ) → slice_get verdicts i ≡ Some (Ready k) → HasPairsAtRest (first_records number end.heap.log) left.ready k
+
+-- so does every switch of the run that decided
+abbrev pub EachSwitchIsAtRest : CoreState → CoreState → List Event → List Reply → Type 0
+EachSwitchIsAtRest start end events replies =
+    (place number : ℕ) (verdicts : List Outcome) → slice_get replies place ≡ Some (Switched number verdicts)
+    → SwitchesIn start end events replies place number verdicts
+
+-- what a list of events comes to on a table: a run of the step relation, in which each index as it is switched in has the pairs
+-- that a build at rest gives of the rows then live
+pub record RunsAsAtRest (live : LiveValue) (events : List Event) (replies : List Reply) (left : LiveValue) : Type 0 where
+  pub end : CoreState
+  pub run : Run (opening live) events replies end
+  pub left_is : left ≡ live_of end
+  pub switches : EachSwitchIsAtRest (opening live) end events replies
