@@ -1,4 +1,3 @@
 mod faulty;
 mod refused_words;
-mod spellings;
 mod worked_scripts;
