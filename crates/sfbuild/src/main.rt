@@ -4,22 +4,13 @@
 //! thread and prints an answer for each. `main` only hands the script and the standard streams in.
 #![tactic(auto)]
 
-mod answer;
 mod command_line;
-mod engine;
-mod labels;
-mod output;
-mod output_failed;
-mod pair_line;
-mod replay;
-mod script;
-mod status;
 #[cfg(test)]
 mod tests;
 
 use command_line::Choice;
+use replay::Status;
 use script::ScriptError;
-use status::Status;
 use std::fs::File;
 use std::process::ExitCode;
 use std::{env, io};

@@ -1,3 +1,1 @@
-mod faulty;
 mod refused_words;
-mod worked_scripts;
