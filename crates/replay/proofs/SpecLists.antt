@@ -6,8 +6,8 @@ use Rattle.keybytes.specs.Keys.{KeySpecValue, key_columns_refusal}
 use Rattle.keybytes.specs.declared.fault.Fault.{Fault}
 use Rattle.keybytes.specs.declared.fault.Fault.TheVariants.{Memory}
 use Rattle.keybytes.specs.declared.kind.Kind.{Kind}
-use Rattle.replay.specs.Answers.{specs_refusal}
 use Rattle.replay.specs.Listings.{key_spec_of}
+use Rattle.replay.specs.Plans.{specs_refusal}
 use Rattle.script.specs.declared.spec.Spec.{Spec}
 
 -- a specification of those columns is the one that is named

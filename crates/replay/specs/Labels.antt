@@ -1,5 +1,5 @@
 -- Which transaction each label names.
-use Rattle.std.specs.Prelude.{◌≡◌, ℕ, List, Option, Some, None, cond}
+use Rattle.std.specs.Prelude.{◌≡◌, ℕ, List, Option, Some, None, IsSome, cond}
 use Rattle.std.specs.BTreeMap.{get_by_text}
 use Rattle.std.specs.Str.{bytes_eq}
 use Rattle.replay.specs.declared.labels.Labels.{Labels}
@@ -17,10 +17,14 @@ in_note (Some txn) = txn
 abbrev pub named : Labels → List ℕ → Option ℕ
 named labels text = in_note (noted labels text)
 
--- the same is noted
-abbrev pub SameNotes : Labels → Labels → Type 0
-SameNotes old new = (text : List ℕ) → noted new text ≡ noted old text
+-- something is noted of the text
+abbrev pub IsNoted : Labels → List ℕ → Type 0
+IsNoted labels text = IsSome (noted labels text)
 
--- the same is noted, but for that label
-abbrev pub Notes : Labels → List ℕ → Option ℕ → Labels → Type 0
-Notes old label txn new = (text : List ℕ) → noted new text ≡ cond (bytes_eq label text) (Some txn) (noted old text)
+-- no label names a transaction
+abbrev pub NamesNone : Labels → Type 0
+NamesNone labels = (text : List ℕ) → named labels text ≡ None
+
+-- that label names the transaction, or none, and each other one names what it named
+abbrev pub Renames : Labels → List ℕ → Option ℕ → Labels → Type 0
+Renames old label txn new = (text : List ℕ) → named new text ≡ cond (bytes_eq label text) txn (named old text)

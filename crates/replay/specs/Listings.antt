@@ -39,8 +39,8 @@ index_missing None = Some BadCount
 index_missing (Some index) = None
 
 -- the pairs of a ready index are listed, or there is no index of that number
-abbrev pub AnswersPairs : ℕ → CoreState → Answer → CoreState → Type 0
-AnswersPairs number old given new =
+abbrev pub ListsIndex : ℕ → CoreState → Answer → CoreState → Type 0
+ListsIndex number old given new =
     (new ≡ old)
     × (ListsReady (slice_get old.ready number) given
     ⊎ ((fault : Fault) × (given ≡ answer.Refused fault) × RefusedFor (index_missing (slice_get old.ready number)) fault))
@@ -50,8 +50,8 @@ abbrev pub OnlyVisits : CoreState → CoreState → Type 0
 OnlyVisits old new = new ≡ with_heap old (record old.heap { visits = new.heap.visits })
 
 -- the pairs of the rows that stand are listed, or the specification is refused
-abbrev pub AnswersRest : Spec → CoreState → Answer → CoreState → Type 0
-AnswersRest spec old given new =
+abbrev pub ListsRest : Spec → CoreState → Answer → CoreState → Type 0
+ListsRest spec old given new =
     OnlyVisits old new
     × (ListsPairs (key_spec_of old.heap.schema spec) (pairs_at_rest (key_spec_of old.heap.schema spec) old.heap.log) given
     ⊎ ((fault : Fault) × (given ≡ answer.Refused fault) × RefusedFor (key_columns_refusal old.heap.schema spec.columns.items) fault))

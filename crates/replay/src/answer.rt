@@ -3,7 +3,7 @@ use heap_log::Verdicts;
 use keybytes::{Fault, Rid, Row};
 
 /// What a command is answered.
-#[derive(Debug, Drop)]
+#[derive(Drop)]
 pub enum Answer {
     Done,
     /// A number alone: of a transaction, a log record or a page, or how many there are of something.

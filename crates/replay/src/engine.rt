@@ -1,24 +1,21 @@
 //! The table that a script runs on.
-ghost use Rattle.std.specs.Prelude.{◌≡◌, ◌≢◌, ℕ, map, vec_len, Some, None, OnOk, IfOk, IfErr};
-ghost use Rattle.std.specs.List.{list_any, AllZip};
+ghost use Rattle.std.specs.Prelude.{◌≡◌, ◌≢◌, map, Some, None, OnOk, IfOk, IfErr};
+ghost use Rattle.std.specs.List.{list_any};
 ghost use Rattle.keybytes.specs.Faults.{RefusedFor};
 ghost use Rattle.keybytes.specs.Keys.{key_columns_refusal};
-ghost use Rattle.builder_core.specs.Pairs.{HaveKeysOf};
-ghost use Rattle.builder_core.specs.Steps.{Step};
-ghost use Rattle.replay.specs.Answers.{answer_or_refusal, status_after, AnswersBegin, AnswersEvent, AnswersCommand, AnswersRow, FailsToPut, GivesRow, NotesBegun, NotesCommand, OnTxn, PutsRow, StartsPlan, TakesBack, Unless, dealing_of, planning_refusal, specs_refusal};
-ghost use Rattle.builder_core.specs.declared.reply.Reply.{Reply as ReplyValue};
-ghost use Rattle.keybytes.specs.Rows.{row_refusal};
-ghost use Rattle.keybytes.specs.declared.rid.Rid.{Rid as RidValue};
-ghost use Rattle.replay.specs.declared.status.Status.{Status as StatusValue};
-ghost use Rattle.replay.specs.Labels.{named};
-ghost use Rattle.replay.specs.Listings.{key_spec_of, AnswersPairs, AnswersRest, ListsPair};
-ghost use Rattle.replay.specs.Limits.{is_in_limits, is_refusal, table_refusal};
+ghost use Rattle.replay.specs.Answers.{Happens, answer_of};
+ghost use Rattle.replay.specs.Engines.{Answers, IsNew, Runs};
+ghost use Rattle.replay.specs.Limits.{is_refusal, table_refusal};
+ghost use Rattle.replay.specs.Listings.{key_spec_of};
+ghost use Rattle.replay.specs.Plans.{specs_refusal};
 
 use crate::answer::Answer;
 use crate::labels::Labels;
-use crate::pair_line::PairLine;
+use crate::listing::pair_lines;
+use crate::plan::{dealing_of, is_in_limits};
 use crate::status::Status;
-use builder_core::{Core, Dealing, Event, Live, Pair, Plan, Reply};
+use crate::txn::{begin, put, take_back};
+use builder_core::{Core, Event, Live, Plan, Reply};
 use heap_log::{Outcome, Verdicts};
 use heap_table::Heap;
 use keybytes::{Cell, Fault, KeySpec, Rid, Row, Schema};
@@ -30,15 +27,6 @@ const PAGE_LIMIT: u32 = 65_536;
 
 /// The most slots that a page may have.
 const SLOT_LIMIT_MAX: u32 = 255;
-
-/// How many workers a build may have.
-const WORKERS_MAX: usize = 16;
-
-/// How many indexes a build may have.
-const INDEXES_MAX: usize = 8;
-
-/// How many pages a spool may lease.
-const QUOTA_MAX: usize = 1_024;
 
 /// A table, the transactions on it that a script has named, and its build if one runs.
 #[derive(Drop)]
@@ -52,9 +40,9 @@ pub struct Engine {
 impl Engine {
     /// An empty table. Its slot limit is looked at before its columns.
     pub fn new(alloc: Global, table: Table) -> Result<Engine, Fault>
-        ensures accepted { OnOk result (table_refusal table.slot_limit table.kinds.items ≡ None) }
-        ensures refused { IfErr result (λ fault. fault ≢ Fault.Memory → table_refusal table.slot_limit table.kinds.items ≡ Some fault) }
-        ensures status { IfOk result (λ engine. engine.status ≡ Status.Done) }
+        ensures accepted { OnOk result (table_refusal table ≡ None) }
+        ensures refused { IfErr result (λ fault. table_refusal table ≡ Some fault) }
+        ensures empty { IfOk result (IsNew table) }
     {
         if table.slot_limit == 0 || table.slot_limit > SLOT_LIMIT_MAX {
             return Err(Fault::BadCount);
@@ -78,9 +66,7 @@ impl Engine {
 
     /// Runs a command, and answers it.
     pub fn run(&mut self, command: Command) -> Answer
-        ensures core { AnswersCommand self.old command result self.new.core }
-        ensures labels { NotesCommand self.old.labels command result self.new.labels }
-        ensures status { self.new.status ≡ status_after self.old.status result }
+        ensures { Runs self.old command result self.new }
     {
         match self.answer(command) {
             Ok(answer) => answer,
@@ -89,9 +75,7 @@ impl Engine {
     }
 
     fn answer(&mut self, command: Command) -> Result<Answer, Fault>
-        ensures core { AnswersCommand self.old command (answer_or_refusal result) self.new.core }
-        ensures labels { NotesCommand self.old.labels command (answer_or_refusal result) self.new.labels }
-        ensures status { self.new.status ≡ status_after self.old.status (answer_or_refusal result) }
+        ensures { Answers self.old command result self.new }
     {
         match command {
             Command::Row { cells } => self.put_row(cells),
@@ -114,7 +98,7 @@ impl Engine {
 
     /// Runs an event that stands for a whole command.
     fn step(&mut self, event: Event) -> Result<Answer, Fault>
-        ensures core { AnswersEvent event self.old.core (answer_or_refusal result) self.new.core }
+        ensures core { Happens event self.old.core (answer_of result) self.new.core }
         ensures labels { self.new.labels ≡ self.old.labels }
         ensures status { self.new.status ≡ self.old.status }
     {
@@ -138,9 +122,7 @@ impl Engine {
     /// Puts a row in, by a transaction of its own. Where that is refused once the transaction has begun, what it wrote is
     /// taken back.
     fn put_row(&mut self, cells: Vec<Cell>) -> Result<Answer, Fault>
-        ensures core { Unless (row_refusal cells.items) self.old.core (answer_or_refusal result) self.new.core (AnswersRow cells.items self.old.core (answer_or_refusal result) self.new.core) }
-        ensures labels { self.new.labels ≡ self.old.labels }
-        ensures status { self.new.status ≡ status_after self.old.status (answer_or_refusal result) }
+        ensures { Answers self.old (Command.Row cells) result self.new }
     {
         let row = Row::new(cells)?;
         let txn = begin(&mut self.core)?;
@@ -155,20 +137,16 @@ impl Engine {
 
     /// Begins a transaction that the label names; where that is refused, it names none.
     fn begin_named(&mut self, label: &Label) -> Result<Answer, Fault>
-        ensures core { AnswersBegin self.old.core (answer_or_refusal result) self.new.core }
-        ensures labels { NotesBegun self.old.labels label.now (answer_or_refusal result) self.new.labels }
-        ensures status { self.new.status ≡ status_after self.old.status (answer_or_refusal result) }
+        ensures { Answers self.old (Command.Begin label.now) result self.new }
     {
         self.labels.forget(label)?;
         let txn = begin(&mut self.core)?;
-        self.labels.set(label, txn);
+        self.labels.name(label, txn);
         Ok(Answer::Number { number: txn })
     }
 
     fn insert_named(&mut self, label: &Label, cells: Vec<Cell>) -> Result<Answer, Fault>
-        ensures core { Unless (row_refusal cells.items) self.old.core (answer_or_refusal result) self.new.core (OnTxn (named self.old.labels label.now) self.old.core (answer_or_refusal result) self.new.core (λ txn. AnswersEvent (Event.Insert txn cells.items) self.old.core (answer_or_refusal result) self.new.core)) }
-        ensures labels { self.new.labels ≡ self.old.labels }
-        ensures status { self.new.status ≡ self.old.status }
+        ensures { Answers self.old (Command.Insert label.now cells) result self.new }
     {
         let row = Row::new(cells)?;
         let txn = self.labels.txn(label)?;
@@ -176,9 +154,7 @@ impl Engine {
     }
 
     fn update_named(&mut self, label: &Label, rid: Rid, cells: Vec<Cell>) -> Result<Answer, Fault>
-        ensures core { Unless (row_refusal cells.items) self.old.core (answer_or_refusal result) self.new.core (OnTxn (named self.old.labels label.now) self.old.core (answer_or_refusal result) self.new.core (λ txn. AnswersEvent (Event.Update txn rid cells.items) self.old.core (answer_or_refusal result) self.new.core)) }
-        ensures labels { self.new.labels ≡ self.old.labels }
-        ensures status { self.new.status ≡ self.old.status }
+        ensures { Answers self.old (Command.Update label.now rid cells) result self.new }
     {
         let row = Row::new(cells)?;
         let txn = self.labels.txn(label)?;
@@ -186,9 +162,7 @@ impl Engine {
     }
 
     fn delete_named(&mut self, label: &Label, rid: Rid) -> Result<Answer, Fault>
-        ensures core { OnTxn (named self.old.labels label.now) self.old.core (answer_or_refusal result) self.new.core (λ txn. AnswersEvent (Event.Delete txn rid) self.old.core (answer_or_refusal result) self.new.core) }
-        ensures labels { self.new.labels ≡ self.old.labels }
-        ensures status { self.new.status ≡ self.old.status }
+        ensures { Answers self.old (Command.Delete label.now rid) result self.new }
     {
         let txn = self.labels.txn(label)?;
         self.step(Event::Delete { txn, rid })
@@ -196,36 +170,28 @@ impl Engine {
 
     /// Undoes one write; the label names the transaction still.
     fn undo_named(&mut self, label: &Label) -> Result<Answer, Fault>
-        ensures core { OnTxn (named self.old.labels label.now) self.old.core (answer_or_refusal result) self.new.core (λ txn. AnswersEvent (Event.Undo txn) self.old.core (answer_or_refusal result) self.new.core) }
-        ensures labels { self.new.labels ≡ self.old.labels }
-        ensures status { self.new.status ≡ self.old.status }
+        ensures { Answers self.old (Command.Undo label.now) result self.new }
     {
         let txn = self.labels.txn(label)?;
         self.step(Event::Undo { txn })
     }
 
     fn commit_named(&mut self, label: &Label) -> Result<Answer, Fault>
-        ensures core { OnTxn (named self.old.labels label.now) self.old.core (answer_or_refusal result) self.new.core (λ txn. AnswersEvent (Event.Commit txn) self.old.core (answer_or_refusal result) self.new.core) }
-        ensures labels { self.new.labels ≡ self.old.labels }
-        ensures status { self.new.status ≡ self.old.status }
+        ensures { Answers self.old (Command.Commit label.now) result self.new }
     {
         let txn = self.labels.txn(label)?;
         self.step(Event::Commit { txn })
     }
 
     fn get(&mut self, rid: Rid) -> Result<Answer, Fault>
-        ensures core { GivesRow rid self.old.core (answer_or_refusal result) self.new.core }
-        ensures labels { self.new.labels ≡ self.old.labels }
-        ensures status { self.new.status ≡ status_after self.old.status (answer_or_refusal result) }
+        ensures { Answers self.old (Command.Get rid) result self.new }
     {
         let row = self.core.get(rid)?;
         Ok(Answer::Cells { row })
     }
 
     fn start(&mut self, start: Start) -> Result<Answer, Fault>
-        ensures core { Unless (planning_refusal self.old.core start) self.old.core (answer_or_refusal result) self.new.core (StartsPlan start self.old.core (answer_or_refusal result) self.new.core) }
-        ensures labels { self.new.labels ≡ self.old.labels }
-        ensures status { self.new.status ≡ self.old.status }
+        ensures { Answers self.old (Command.Start start) result self.new }
     {
         if self.core.is_building() {
             return Err(Fault::BuildRunning);
@@ -256,9 +222,7 @@ impl Engine {
 
     /// Tries to bring the build's indexes into use, and notes whether one was refused.
     fn switch(&mut self) -> Result<Answer, Fault>
-        ensures core { AnswersEvent Event.Switch self.old.core (answer_or_refusal result) self.new.core }
-        ensures labels { self.new.labels ≡ self.old.labels }
-        ensures status { self.new.status ≡ status_after self.old.status (answer_or_refusal result) }
+        ensures { Answers self.old Command.Switch result self.new }
     {
         let answer = self.step(Event::Switch)?;
         if let Answer::Switched { verdicts, .. } = &answer
@@ -270,8 +234,7 @@ impl Engine {
     }
 
     fn pairs(&self, number: usize) -> Result<Answer, Fault>
-        ensures core { AnswersPairs number self.now.core (answer_or_refusal result) self.now.core }
-        ensures status { (status : StatusValue) → status_after status (answer_or_refusal result) ≡ status }
+        ensures { Answers self.now (Command.Pairs number) result self.now }
     {
         let index = self.core.ready(number)?;
         let lines = pair_lines(self.alloc, index.spec(), index.pairs())?;
@@ -279,9 +242,7 @@ impl Engine {
     }
 
     fn rest(&mut self, spec: Spec) -> Result<Answer, Fault>
-        ensures core { AnswersRest spec self.old.core (answer_or_refusal result) self.new.core }
-        ensures labels { self.new.labels ≡ self.old.labels }
-        ensures status { self.new.status ≡ status_after self.old.status (answer_or_refusal result) }
+        ensures { Answers self.old (Command.Rest spec) result self.new }
     {
         let spec = self.key_spec(spec)?;
         let pairs = self.core.rest(&spec)?;
@@ -301,87 +262,6 @@ impl Engine {
     }
 }
 
-/// Begins a transaction, and answers its number.
-fn begin(core: &mut Core) -> Result<u64, Fault>
-    ensures ok { IfOk result (λ txn. Step core.old Event.Begin (Reply.Begun txn) core.new) }
-    ensures refused { IfErr result (λ fault. Step core.old Event.Begin (Reply.Refused fault) core.new) }
-{
-    match core.step(Event::Begin) {
-        Reply::Begun { txn } => Ok(txn),
-        Reply::Refused { fault } => Err(fault),
-        _ => unreachable!(),
-    }
-}
-
-/// Inserts a row, and answers where it stands.
-fn insert(core: &mut Core, txn: u64, row: Row) -> Result<Rid, Fault>
-    ensures ok { IfOk result (λ rid. (number : ℕ) × Step core.old (Event.Insert txn row) (Reply.Written number rid) core.new) }
-    ensures refused { IfErr result (λ fault. Step core.old (Event.Insert txn row) (Reply.Refused fault) core.new) }
-{
-    match core.step(Event::Insert { txn, row }) {
-        Reply::Written { rid, .. } => Ok(rid),
-        Reply::Refused { fault } => Err(fault),
-        _ => unreachable!(),
-    }
-}
-
-/// Commits a transaction.
-fn commit(core: &mut Core, txn: u64) -> Result<(), Fault>
-    ensures ok { OnOk result ((number : ℕ) × Step core.old (Event.Commit txn) (Reply.Committed number) core.new) }
-    ensures refused { IfErr result (λ fault. Step core.old (Event.Commit txn) (Reply.Refused fault) core.new) }
-{
-    match core.step(Event::Commit { txn }) {
-        Reply::Committed { .. } => Ok(()),
-        Reply::Refused { fault } => Err(fault),
-        _ => unreachable!(),
-    }
-}
-
-/// Inserts a row and commits, and answers where the row stands.
-fn put(core: &mut Core, txn: u64, row: Row) -> Result<Rid, Fault>
-    ensures ok { IfOk result (λ rid. PutsRow row txn core.old rid core.new) }
-    ensures refused { IfErr result (λ fault. FailsToPut row txn core.old fault core.new) }
-{
-    let rid = insert(core, txn, row)?;
-    commit(core, txn)?;
-    Ok(rid)
-}
-
-/// Undoes the transaction's writes until it has ended. Where an undo is refused, because a build runs, an index is ready
-/// or memory is wanting, the transaction stays open.
-fn take_back(core: &mut Core, txn: u64)
-    ensures { (more : ℕ) × TakesBack more core.old txn core.new }
-{
-    match core.step(Event::Undo { txn }) {
-        Reply::Undone { left, .. } => {
-            if left > 0 {
-                take_back(core, txn);
-            }
-        }
-        Reply::Refused { .. } => {}
-        _ => unreachable!(),
-    }
-}
-
-/// How a build deals the pages that a command deals so.
-fn dealing_of(asked: script::Dealing) -> Dealing
-    ensures { result ≡ dealing_of asked }
-{
-    match asked {
-        script::Dealing::Ends(ends) => Dealing::Ends(ends),
-        script::Dealing::Even(ranges) => Dealing::Even(ranges),
-    }
-}
-
-/// Whether the workers, the indexes and the quota are as many as a build may have.
-fn is_in_limits(start: &Start) -> bool
-    ensures { result ≡ is_in_limits start.now.workers (vec_len start.now.specs) start.now.quota }
-{
-    (1..=WORKERS_MAX).contains(&start.workers)
-        && (1..=INDEXES_MAX).contains(&start.specs.len())
-        && start.quota <= QUOTA_MAX
-}
-
 fn has_refused(verdicts: &Verdicts) -> bool
     ensures { result ≡ list_any is_refusal verdicts.now }
 {
@@ -389,21 +269,4 @@ fn has_refused(verdicts: &Verdicts) -> bool
         .as_slice()
         .iter()
         .any(|outcome| matches!(outcome, Outcome::Shared { .. }))
-}
-
-/// The pairs of an index as they are printed.
-fn pair_lines(alloc: Global, spec: &KeySpec, pairs: &[Pair]) -> Result<Vec<PairLine>, Fault>
-    requires { HaveKeysOf spec.now pairs.now }
-    ensures lists { IfOk result (λ lines. AllZip (ListsPair spec.now) pairs.now lines.items) }
-    ensures memory { IfErr result (λ fault. fault ≡ Fault.Memory) }
-{
-    let mut lines = Vec::with_capacity(alloc, pairs.len())?;
-    for pair in pairs {
-        let cells = spec.cells(&pair.key)?;
-        lines.push(PairLine {
-            cells,
-            rid: pair.rid,
-        })?;
-    }
-    Ok(lines)
 }

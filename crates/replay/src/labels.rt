@@ -1,5 +1,5 @@
-ghost use Rattle.std.specs.Prelude.{◌≡◌, ℕ, List, IfOk, IfErr, OnOk, OnErr, IsSome, Some, None};
-ghost use Rattle.replay.specs.Labels.{Notes, SameNotes, named, noted};
+ghost use Rattle.std.specs.Prelude.{◌≡◌, IfOk, IfErr, OnOk, Some, None};
+ghost use Rattle.replay.specs.Labels.{IsNoted, NamesNone, Renames, named};
 
 use keybytes::Fault;
 use script::Label;
@@ -14,7 +14,7 @@ pub struct Labels {
 
 impl Labels {
     pub fn new(alloc: Global) -> Labels
-        ensures { (text : List ℕ) → noted result text ≡ None }
+        ensures { NamesNone result }
     {
         Labels {
             txns: BTreeMap::new(alloc),
@@ -32,10 +32,11 @@ impl Labels {
         }
     }
 
-    /// Notes that the label names none, until [`Labels::set`] says which.
+    /// Has the label name none, and makes room for what [`Labels::name`] says. Where there is no memory for that, it named
+    /// none before.
     pub fn forget(&mut self, label: &Label) -> Result<(), Fault>
-        ensures ok { OnOk result (Notes self.old label.now None self.new) }
-        ensures unchanged { OnErr result (SameNotes self.old self.new) }
+        ensures none { Renames self.old label.now None self.new }
+        ensures noted { OnOk result (IsNoted self.new label.now) }
         ensures memory { IfErr result (λ fault. fault ≡ Fault.Memory) }
     {
         if let Some(txn) = self.txns.get_mut(label.as_str()) {
@@ -47,10 +48,10 @@ impl Labels {
         Ok(())
     }
 
-    /// Notes the transaction that the label names; something has to be noted of it already. Takes no memory.
-    pub fn set(&mut self, label: &Label, txn: u64)
-        requires { IsSome (noted self.old label.now) }
-        ensures { Notes self.old label.now (Some txn) self.new }
+    /// Has the label name the transaction. Takes no memory, since [`Labels::forget`] has made room.
+    pub fn name(&mut self, label: &Label, txn: u64)
+        requires { IsNoted self.old label.now }
+        ensures { Renames self.old label.now (Some txn) self.new }
     {
         if let Some(named) = self.txns.get_mut(label.as_str()) {
             *named = Some(txn);

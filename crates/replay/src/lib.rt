@@ -7,11 +7,16 @@
 mod answer;
 mod engine;
 mod labels;
+mod listing;
 mod output;
 mod output_failed;
 mod pair_line;
+mod plan;
+mod report;
 mod run;
 mod status;
+mod txn;
 
-pub use run::{refuse, replay};
+pub use report::refuse;
+pub use run::replay;
 pub use status::Status;

@@ -1,7 +1,7 @@
 use std::fmt;
 
 /// The output could not be written.
-#[derive(Clone, Copy, Debug, PartialEq, Eq)]
+#[derive(Drop)]
 pub struct OutputFailed;
 
 impl From<csv::Error> for OutputFailed {

@@ -1,6 +1,6 @@
 use Rattle.std.proofs.Common.{◌≡◌, ◌≢◌, Some, rules, ◌∙◌}
 use Rattle.keybytes.specs.declared.fault.Fault.TheVariants.{Memory}
-use Rattle.replay.specs.Answers.{specs_refusal}
+use Rattle.replay.specs.Plans.{specs_refusal}
 use Rattle.replay.proofs.SpecLists.{accepted_first, is_named, made_more, refused_first}
 use Rattle.replay.proofs.engine.Engine.key_specs.Goals as goal
 

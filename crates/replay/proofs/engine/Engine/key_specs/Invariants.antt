@@ -1,5 +1,5 @@
 use Rattle.std.proofs.Common.{◌≡◌, ◌++◌, map}
-use Rattle.replay.specs.Answers.{specs_refusal}
+use Rattle.replay.specs.Plans.{specs_refusal}
 use Rattle.replay.specs.Listings.{key_spec_of}
 use Rattle.replay.proofs.engine.Engine.key_specs.Given as goal
 

@@ -8,11 +8,13 @@ use Rattle.replay.proofs.engine.Engine.pairs.Goals as goal
 pub pair_lines-requires : goal.pair_lines-requires
 pair_lines-requires c = keyed_by _ _ _ _ c.spec.ensures c.pairs.ensures.pairs c.pairs.ensures.keys
 
-pub returns-clause-core : goal.returns-clause-core
-returns-clause-core c =
+pub returns : goal.returns
+returns c =
     let index = c.in_ok-index.index.now in
-    let lines = c.in_ok-lines.lines in (
-      refl,
-      inl (subst (λ (found : Option ReadyValue). ListsReady found (Pairs lines)) (sym c.in_ok-index.ensures.index)
-          (lines, refl, listed_by index.spec _ index.pairs _ lines.items c.spec.ensures c.pairs.ensures.pairs c.in_ok-lines.ensures.lists)),
-    )
+    let lines = c.in_ok-lines.lines in
+    let listed = listed_by index.spec _ index.pairs _ lines.items c.spec.ensures c.pairs.ensures.pairs c.in_ok-lines.ensures.lists in
+    record {
+      core = (refl, inl (subst (λ (found : Option ReadyValue). ListsReady found (Pairs lines)) (sym c.in_ok-index.ensures.index) (lines, refl, listed)));
+      labels = refl;
+      status = refl;
+    }

@@ -6,18 +6,16 @@ use Rattle.replay.proofs.KeyedPairs.{keyed_by, listed_by}
 use Rattle.replay.proofs.SpecLists.{is_named}
 use Rattle.replay.proofs.engine.Engine.rest.Goals as goal
 
-pub pair_lines-requires : goal.pair_lines-requires
-pair_lines-requires c = keyed_by _ _ _ _ refl c.as_slice.ensures.value c.in_ok-pairs.ensures.keys
-
-pub returns-in_err-spec-clause-core : goal.returns-in_err-spec-clause-core
-returns-in_err-spec-clause-core c = (refl, inr (c.in_err-spec.field-0.0, search rules, c.in_err-spec.ensures.refused))
-
-pub returns-clause-core : goal.returns-clause-core
-returns-clause-core c =
+pub returns : goal.returns
+returns c =
     let core = c.args.self.now.core in
     let asked = key_spec_of core.heap.schema c.args.spec in
     let made = c.in_ok-spec.spec in
     let named = is_named core.heap.schema c.args.spec made c.in_ok-spec.ensures.table c.in_ok-spec.ensures.columns c.in_ok-spec.ensures.unique in
     let pairs = c.as_slice.ensures.value ∙ c.in_ok-pairs.ensures.ok ∙ ap (λ (spec : KeySpecValue). pairs_at_rest spec core.heap.log) named in
     let lines = c.in_ok-lines.lines in
-    (c.rest.ensures.rows, inl (lines, refl, listed_by asked made (pairs_at_rest asked core.heap.log) _ lines.items named pairs c.in_ok-lines.ensures.lists))
+    record {
+      core = (c.rest.ensures.rows, inl (lines, refl, listed_by asked made (pairs_at_rest asked core.heap.log) _ lines.items named pairs c.in_ok-lines.ensures.lists));
+      labels = refl;
+      status = refl;
+    }

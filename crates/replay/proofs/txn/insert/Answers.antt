@@ -1,5 +1,5 @@
 use Rattle.replay.proofs.Replies.{written}
-use Rattle.replay.proofs.engine.insert.Goals as goal
+use Rattle.replay.proofs.txn.insert.Goals as goal
 
 pub unreachable-requires : goal.unreachable-requires
 unreachable-requires c =

@@ -4,7 +4,7 @@ use Rattle.keybytes.specs.Keys.{IsKeyOf}
 use Rattle.builder_core.specs.declared.pair.Pair.{Pair}
 use Rattle.replay.specs.Listings.{ListsPair}
 use Rattle.script.proofs.Zips.{zip_more}
-use Rattle.replay.proofs.engine.pair_lines.Goals as goal
+use Rattle.replay.proofs.listing.pair_lines.Goals as goal
 
 pub cells-requires : goal.cells-requires
 cells-requires c =

@@ -5,7 +5,7 @@ use Rattle.builder_core.specs.declared.event.Event.TheVariants.{Undo}
 use Rattle.builder_core.specs.declared.reply.Reply.TheVariants.{Undone}
 use Rattle.replay.proofs.Replies.{undone}
 use Rattle.replay.proofs.TakenBack.{fewer_left, has_ended}
-use Rattle.replay.proofs.engine.+take_back.Goals as goal
+use Rattle.replay.proofs.txn.+take_back.Goals as goal
 
 pub unreachable-requires : goal.unreachable-requires
 unreachable-requires t c =

@@ -1,5 +1,5 @@
 use Rattle.replay.proofs.Replies.{begun}
-use Rattle.replay.proofs.engine.begin.Goals as goal
+use Rattle.replay.proofs.txn.begin.Goals as goal
 
 pub unreachable-requires : goal.unreachable-requires
 unreachable-requires c =

@@ -1,5 +1,5 @@
 use Rattle.replay.proofs.Replies.{committed}
-use Rattle.replay.proofs.engine.commit.Goals as goal
+use Rattle.replay.proofs.txn.commit.Goals as goal
 
 pub unreachable-requires : goal.unreachable-requires
 unreachable-requires c =
