@@ -1,7 +1,7 @@
 //! Scripts, run on a table of their own.
 //!
 //! [`replay`] reads a script, runs its commands one after the other in one thread and prints an answer for each. A script
-//! that can't be run is named on another stream, and then nothing runs.
+//! that can't be run is named on another stream, and then nothing runs. [`check`] only looks at a script.
 #![tactic(auto)]
 
 mod answer;
@@ -17,6 +17,6 @@ mod run;
 mod status;
 mod txn;
 
-pub use report::refuse;
+pub use report::{check, refuse};
 pub use run::replay;
 pub use status::Status;
