@@ -5,6 +5,9 @@ use clap::{Arg, ArgAction, ArgMatches, Command, Error};
 use std::alloc::{AllocError, Global};
 use std::convert::AsStr;
 
+/// The program's own version, and what it is proved and built by.
+const VERSION: &str = "0.1.0 (rattle-kit-13b logic dac8208d650f15bf)";
+
 /// What follows the options in the help of the program.
 const EXAMPLE: &str = "\
 Example: a file three.csv with the lines
@@ -19,47 +22,82 @@ pairs of an index on its first column. `sfbuild replay three.csv` then prints
   1,ok
   2,ok,0.0
   3,ok,1
-  3,pair,5,0.0";
+  3,pair,5,0.0
 
-/// What the words ask for.
-#[derive(Debug, Drop)]
-pub enum Choice<'a> {
-    /// To replay a script: a file's path, or `-` for standard input.
-    Replay { script: &'a str },
+`sfbuild check three.csv` runs nothing, and says whether all records are good.";
+
+/// What the words ask for: something that is to be done with a script, which is a file's path, or `-` for standard input.
+#[derive(Drop)]
+pub struct Choice<'a> {
+    pub task: Task,
+    pub script: &'a str,
+}
+
+/// What is to be done with a script.
+#[derive(Clone, Copy, PartialEq, Eq)]
+pub enum Task {
+    Replay,
+    Check,
 }
 
 /// Reads the words, the first of which is the program's name. The error is what to print, and where: a refusal, or
-/// help that was asked for.
+/// help or the version that was asked for.
 pub fn read<'a, S: AsStr>(alloc: Global, words: &'a [S]) -> Result<Choice<'a>, Error> {
     let mut command = command(alloc)?;
     let matches = command.try_get_matches_from_mut(words)?;
     match chosen(&matches) {
         Some(choice) => Ok(choice),
-        None => {
-            let error = command.error(ErrorKind::MissingSubcommand, "a command is missing")?;
-            Err(error)
-        }
+        None => Err(missing(&mut command)?),
     }
 }
 
 fn chosen<'a>(matches: &ArgMatches<'a>) -> Option<Choice<'a>> {
-    let replay = matches.subcommand_matches("replay")?;
-    let script = replay.get_str("SCRIPT")?;
-    Some(Choice::Replay { script })
+    let (name, arguments) = matches.subcommand()?;
+    let task = task_named(name)?;
+    let script = arguments.get_str("SCRIPT")?;
+    Some(Choice { task, script })
+}
+
+fn task_named(name: &str) -> Option<Task> {
+    match name {
+        "replay" => Some(Task::Replay),
+        "check" => Some(Task::Check),
+        _ => None,
+    }
+}
+
+fn missing(command: &mut Command) -> Result<Error, AllocError> {
+    command.error(ErrorKind::MissingSubcommand, "a command is missing")
 }
 
 fn command<'a>(alloc: Global) -> Result<Command<'a>, AllocError> {
-    let script = Arg::new(alloc, "SCRIPT")
-        .help("The script's file, or - for standard input")
-        .required(true)
-        .action(ArgAction::Set);
-    let replay = Command::new(alloc, "replay")
-        .about("Runs the records of a script one after the other, and prints an answer for each")
-        .after_help(EXAMPLE)
-        .arg(script)?;
     Command::new(alloc, "sfbuild")
+        .version(VERSION)
         .about("Builds indexes on a table that is in use")
         .after_help(EXAMPLE)
         .subcommand_required(true)
-        .subcommand(replay)
+        .subcommand(replay(alloc)?)?
+        .subcommand(check(alloc)?)
+}
+
+fn replay<'a>(alloc: Global) -> Result<Command<'a>, AllocError> {
+    Command::new(alloc, "replay")
+        .about("Runs the records of a script one after the other, and prints an answer for each")
+        .after_help(EXAMPLE)
+        .arg(script(alloc))
+}
+
+fn check<'a>(alloc: Global) -> Result<Command<'a>, AllocError> {
+    Command::new(alloc, "check")
+        .about(
+            "Runs nothing, and says whether all records of a script are good, or what is wrong with the first bad one",
+        )
+        .arg(script(alloc))
+}
+
+fn script<'a>(alloc: Global) -> Arg<'a> {
+    Arg::new(alloc, "SCRIPT")
+        .help("The script's file, or - for standard input")
+        .required(true)
+        .action(ArgAction::Set)
 }

@@ -1,26 +1,18 @@
 //! The program `sfbuild`: builds indexes on a table that is in use, as a script of records tells it to.
 //!
-//! [`command_line`] reads the words that the program is given, [`script`] the records, and [`replay`] runs them in one
-//! thread and prints an answer for each. `main` only hands the script and the standard streams in.
+//! [`command_line`] reads the words that the program is given, and the library [`replay`] runs the script or looks at it.
+//! `main` only hands the script and the standard streams in.
 #![tactic(auto)]
 
-mod answer;
 mod command_line;
-mod engine;
-mod labels;
-mod output;
-mod output_failed;
-mod pair_line;
-mod replay;
-mod script;
-mod status;
 #[cfg(test)]
 mod tests;
 
-use command_line::Choice;
+use command_line::{Choice, Task};
+use replay::Status;
 use script::ScriptError;
-use status::Status;
 use std::fs::File;
+use std::io::Read;
 use std::process::ExitCode;
 use std::{env, io};
 
@@ -44,24 +36,33 @@ fn words(rt: &HostRuntime) -> io::Result<Vec<String>> {
 /// Does what the words ask for, and answers the program's exit status.
 fn obey(rt: &HostRuntime, words: &[String]) -> u8 {
     match command_line::read(rt.alloc(), words) {
-        Ok(Choice::Replay { script }) => replay_script(rt, script),
-        Err(error) => {
-            let is_refusal = error.use_stderr();
-            match error.print(rt) {
-                Ok(()) if !is_refusal => Status::Done as u8,
-                _ => Status::Failed as u8,
-            }
-        }
+        Ok(Choice { task, script }) => run(rt, task, script),
+        Err(error) => print(rt, &error),
     }
 }
 
-/// Replays the script of that path, or of standard input where the path is `-`.
-fn replay_script(rt: &HostRuntime, path: &str) -> u8 {
+/// Prints a refusal of the words, or what they asked for, and answers the exit status.
+fn print(rt: &HostRuntime, error: &clap::Error) -> u8 {
+    match error.print(rt) {
+        Ok(()) if !error.use_stderr() => Status::Done as u8,
+        _ => Status::Failed as u8,
+    }
+}
+
+/// Does the task with the script of that path, or of standard input where the path is `-`.
+fn run(rt: &HostRuntime, task: Task, path: &str) -> u8 {
     if path == "-" {
-        return replay::replay(rt.alloc(), rt.stdin(), rt.stdout(), rt.stderr());
+        return run_on(rt, task, rt.stdin());
     }
     match File::open(rt, path) {
-        Ok(script) => replay::replay(rt.alloc(), script, rt.stdout(), rt.stderr()),
+        Ok(script) => run_on(rt, task, script),
         Err(_) => replay::refuse(ScriptError::CannotRead, rt.stderr()),
+    }
+}
+
+fn run_on<R: Read + Drop>(rt: &HostRuntime, task: Task, script: R) -> u8 {
+    match task {
+        Task::Replay => replay::replay(rt.alloc(), script, rt.stdout(), rt.stderr()),
+        Task::Check => replay::check(rt.alloc(), script, rt.stdout(), rt.stderr()),
     }
 }

@@ -1,0 +1,4 @@
+mod KeyedPairs
+mod Replies
+mod SpecLists
+mod TakenBack

@@ -1,0 +1,39 @@
+-- The key specifications that a command names, taken one after the other.
+use Rattle.std.proofs.Common.{◌≡◌, ◌≢◌, List, [], ◌∷◌, ◌++◌, map, Option, Some, None, inl, inr, refl, subst, ap, sym, ◌∙◌}
+use Rattle.std.proofs.lemmas.List.{append_assoc}
+use Rattle.keybytes.specs.Faults.{first_cause, RefusedFor}
+use Rattle.keybytes.specs.Keys.{KeySpecValue, key_columns_refusal}
+use Rattle.keybytes.specs.declared.fault.Fault.{Fault}
+use Rattle.keybytes.specs.declared.fault.Fault.TheVariants.{Memory}
+use Rattle.keybytes.specs.declared.kind.Kind.{Kind}
+use Rattle.replay.specs.Listings.{key_spec_of}
+use Rattle.replay.specs.Plans.{specs_refusal}
+use Rattle.script.specs.declared.spec.Spec.{Spec}
+
+-- a specification of those columns is the one that is named
+pub is_named : (schema : List Kind) (spec : Spec) (one : KeySpecValue) → one.kinds ≡ schema → one.columns ≡ spec.columns.items → one.unique ≡ spec.unique
+    → one ≡ key_spec_of schema spec
+is_named schema spec one kinds columns unique = rw (← kinds, ← columns, ← unique) refl
+
+-- one specification more is made
+pub made_more : (schema : List Kind) (all rest : List Spec) (made : List KeySpecValue) (spec : Spec) (one : KeySpecValue)
+    → map (key_spec_of schema) all ≡ made ++ map (key_spec_of schema) (spec ∷ rest) → one ≡ key_spec_of schema spec
+    → map (key_spec_of schema) all ≡ (made ++ one ∷ []) ++ map (key_spec_of schema) rest
+made_more schema all rest made spec one same is =
+    same ∙ ap (λ (last : KeySpecValue). made ++ last ∷ map (key_spec_of schema) rest) (sym is) ∙ sym (append_assoc made (one ∷ []) (map (key_spec_of schema) rest))
+
+-- the first of the rest is accepted
+pub accepted_first : (schema : List Kind) (spec : Spec) (rest : List Spec) → key_columns_refusal schema spec.columns.items ≡ None
+    → specs_refusal schema (spec ∷ rest) ≡ specs_refusal schema rest
+accepted_first schema spec rest accepted = rw accepted refl
+
+-- the cause of a refusal that is not want of memory
+cause_of : (cause : Option Fault) (fault : Fault) → RefusedFor cause fault → fault ≢ Memory → cause ≡ Some fault
+cause_of cause fault (inl is) other = is
+cause_of cause fault (inr (none, is)) other = absurd (other is)
+
+-- the first of the rest is refused
+pub refused_first : (schema : List Kind) (spec : Spec) (rest : List Spec) (fault : Fault)
+    → RefusedFor (key_columns_refusal schema spec.columns.items) fault → fault ≢ Memory → specs_refusal schema (spec ∷ rest) ≡ Some fault
+refused_first schema spec rest fault is other =
+    subst (λ (cause : Option Fault). first_cause cause (specs_refusal schema rest) ≡ Some fault) (sym (cause_of _ fault is other)) refl

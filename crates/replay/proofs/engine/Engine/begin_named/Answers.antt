@@ -1,0 +1,9 @@
+use Rattle.std.proofs.Common.{inr, rules}
+use Rattle.replay.proofs.engine.Engine.begin_named.Goals as goal
+
+pub returns-in_err-txn : goal.returns-in_err-txn
+returns-in_err-txn c = record {
+  core = search rules;
+  labels = inr (c.in_err-txn.field-0.0, search rules, c.forget.ensures.none);
+  status = search rules;
+}

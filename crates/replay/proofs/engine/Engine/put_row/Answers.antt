@@ -1,0 +1,18 @@
+use Rattle.std.proofs.Common.{Option, inl, inr, refl, subst, sym}
+use Rattle.keybytes.specs.declared.fault.Fault.{Fault}
+use Rattle.replay.specs.Answers.{AddsRow, Unless}
+use Rattle.replay.specs.declared.answer.Answer.TheVariants.{Refused}
+use Rattle.replay.proofs.engine.Engine.put_row.Goals as goal
+
+pub returns-in-Err : goal.returns-in-Err
+returns-in-Err c =
+    let core = c.args.self.now.core in
+    let left = c.take_back.new.core in
+    let given = Refused c.in-Err.fault in
+    let failed = rw c.in_ok-row.ensures.ok at c.in-Err.ensures.refused in
+    record {
+      core = subst (λ (cause : Option Fault). Unless cause (AddsRow c.args.cells.items) core given left) (sym c.in_ok-row.ensures.accepted)
+          (inr (inl (c.in_ok-txn.txn, c.begin.new.core, c.in-Err.fault, c.put.new.core, c.take_back.ensures.0, refl, c.in_ok-txn.ensures.ok, failed, c.take_back.ensures.1)));
+      labels = refl;
+      status = refl;
+    }

@@ -1,0 +1,6 @@
+use Rattle.std.proofs.Common.{◌≡◌}
+use Rattle.csv.specs.Writing.{fields_written}
+use Rattle.replay.proofs.output.Output.lines_after.Given as goal
+
+abbrev pub invariant-loop-line : goal.invariant-loop-line
+invariant-loop-line g l = fields_written l.self.writer ≡ 0

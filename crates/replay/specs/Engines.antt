@@ -1,0 +1,90 @@
+-- The table of a script with its labels and its status: before the script, after a command, and after all of them.
+use Rattle.std.specs.Prelude.{◌≡◌, ℕ, List, [], ◌∷◌, None, Some, Result, ◌⊎◌, if◌then◌else◌}
+use Rattle.std.specs.List.{list_any}
+use Rattle.keybytes.specs.declared.fault.Fault.{Fault}
+use Rattle.heap_table.specs.HeapState.{empty_heap}
+use Rattle.builder_core.specs.CoreState.{CoreState}
+use Rattle.script.specs.declared.command.Command.{Command}
+use Rattle.script.specs.declared.command.Command.TheVariants.{Row, Begin, Insert, Update, Delete, Undo, Commit, Get, Start as StartCommand, Scan, Seal, Load, Switch, Pairs, Rest}
+use Rattle.script.specs.declared.numbered_command.NumberedCommand.{NumberedCommand}
+use Rattle.script.specs.declared.table.Table.{Table}
+use Rattle.replay.specs.Answers.{CarriesOut, answer_of}
+use Rattle.replay.specs.Labels.{NamesNone, Renames}
+use Rattle.replay.specs.Limits.{is_refusal, table_refusal}
+use Rattle.replay.specs.declared.answer.Answer.{Answer}
+use Rattle.replay.specs.declared.answer.Answer.TheVariants as answer
+use Rattle.replay.specs.declared.engine.Engine.{Engine}
+use Rattle.replay.specs.declared.labels.Labels.{Labels}
+use Rattle.replay.specs.declared.status.Status.{Status}
+use Rattle.replay.specs.declared.status.Status.TheVariants.{Done, IndexRefused, Failed}
+
+-- an empty table of up to 65,536 pages: no transaction was begun on it, no row given out, and it has no index and no build
+abbrev pub empty_table : Table → CoreState
+empty_table table = record { heap = empty_heap table.kinds.items table.slot_limit 65536; ready = []; build = None }
+
+-- nothing has happened on the table yet
+pub record IsNew (table : Table) (engine : Engine) : Type 0 where
+  pub core : engine.core ≡ empty_table table
+  pub labels : NamesNone engine.labels
+  pub status : engine.status ≡ Done
+
+-- a begin leaves the label with the transaction that has begun, or with none where it is refused
+abbrev pub NamesBegun : Labels → List ℕ → Answer → Labels → Type 0
+NamesBegun old label given new =
+    ((txn : ℕ) × (given ≡ answer.Number txn) × Renames old label (Some txn) new)
+    ⊎ ((fault : Fault) × (given ≡ answer.Refused fault) × Renames old label None new)
+
+-- what a command leaves of the labels
+abbrev pub NotesCommand : Labels → Command → Answer → Labels → Type 0
+NotesCommand old (Row cells) given new = new ≡ old
+NotesCommand old (Begin label) given new = NamesBegun old label given new
+NotesCommand old (Insert label cells) given new = new ≡ old
+NotesCommand old (Update label rid cells) given new = new ≡ old
+NotesCommand old (Delete label rid) given new = new ≡ old
+NotesCommand old (Undo label) given new = new ≡ old
+NotesCommand old (Commit label) given new = new ≡ old
+NotesCommand old (Get rid) given new = new ≡ old
+NotesCommand old (StartCommand start) given new = new ≡ old
+NotesCommand old (Scan range worker) given new = new ≡ old
+NotesCommand old (Seal worker) given new = new ≡ old
+NotesCommand old (Load index) given new = new ≡ old
+NotesCommand old Switch given new = new ≡ old
+NotesCommand old (Pairs number) given new = new ≡ old
+NotesCommand old (Rest spec) given new = new ≡ old
+
+-- how the script has gone after an answer: a switch may have refused an index
+abbrev pub status_after : Status → Answer → Status
+status_after status answer.Done = status
+status_after status (answer.Number number) = status
+status_after status (answer.Row rid) = status
+status_after status (answer.Written number rid) = status
+status_after status (answer.Undone number left) = status
+status_after status (answer.Cells row) = status
+status_after status (answer.Switched number verdicts) = if list_any is_refusal verdicts then IndexRefused else status
+status_after status (answer.Pairs lines) = status
+status_after status (answer.Refused fault) = status
+
+-- the command is run and answered
+pub record Runs (old : Engine) (command : Command) (given : Answer) (new : Engine) : Type 0 where
+  pub core : CarriesOut old.labels command old.core given new.core
+  pub labels : NotesCommand old.labels command given new.labels
+  pub status : new.status ≡ status_after old.status given
+
+-- the command is run, and answered as the result says
+abbrev pub Answers : Engine → Command → Result Answer Fault → Engine → Type 0
+Answers old command result new = Runs old command (answer_of result) new
+
+-- the next command of a script is run
+abbrev pub RunsNext : Engine → NumberedCommand → Engine → Type 0
+RunsNext old next new = (given : Answer) × Runs old next.command given new
+
+-- the commands are run one after the other
+abbrev pub RunsAll : Engine → List NumberedCommand → Engine → Type 0
+RunsAll old [] new = new ≡ old
+RunsAll old (first ∷ rest) new = (mid : Engine) × RunsNext old first mid × RunsAll mid rest new
+
+-- commands run on a table of their own end with that status; a refused table fails, and no command is run
+abbrev pub EndsWith : Table → List NumberedCommand → Status → Type 0
+EndsWith table commands status =
+    ((fault : Fault) × (table_refusal table ≡ Some fault) × (status ≡ Failed))
+    ⊎ ((begun : Engine) × (end : Engine) × IsNew table begun × RunsAll begun commands end × (status ≡ end.status))

@@ -1,0 +1,57 @@
+-- The pairs of an index as they are listed: those of a ready one, and those of the table at rest.
+use Rattle.std.specs.Prelude.{◌≡◌, ℕ, Vec, slice_get, List, Option, Some, None, ◌⊎◌}
+use Rattle.std.specs.declared.alloc.Global.{Global}
+use Rattle.std.specs.List.{AllZip}
+use Rattle.keybytes.specs.Faults.{RefusedFor}
+use Rattle.keybytes.specs.Keys.{KeySpecValue, HasKey, key_columns_refusal}
+use Rattle.keybytes.specs.declared.fault.Fault.{Fault}
+use Rattle.keybytes.specs.declared.fault.Fault.TheVariants.{BadCount}
+use Rattle.keybytes.specs.declared.kind.Kind.{Kind}
+use Rattle.builder_core.specs.CoreState.{CoreState, ReadyValue}
+use Rattle.heap_table.specs.TablePairs.{pairs_at_rest}
+use Rattle.builder_core.specs.Steps.{with_heap}
+use Rattle.keybytes.specs.declared.pair.Pair.{Pair}
+use Rattle.replay.specs.declared.answer.Answer.{Answer}
+use Rattle.replay.specs.declared.answer.Answer.TheVariants as answer
+use Rattle.replay.specs.declared.pair_line.PairLine.{PairLine}
+use Rattle.script.specs.declared.spec.Spec.{Spec}
+
+-- the key specification that a script names, of a table with these columns
+abbrev pub key_spec_of : List Kind → Spec → KeySpecValue
+key_spec_of schema spec = record { kinds = schema; columns = spec.columns.items; unique = spec.unique }
+
+-- the line lists the pair: the columns of its key, and where its row stands
+abbrev pub ListsPair : KeySpecValue → Pair → PairLine → Type 0
+ListsPair spec pair line = HasKey spec pair.key line.cells.items × (line.rid ≡ pair.rid)
+
+-- the answer lists the pairs, a line each, in their order
+abbrev pub ListsPairs : KeySpecValue → List Pair → Answer → Type 0
+ListsPairs spec pairs given = (lines : Vec PairLine Global) × (given ≡ answer.Pairs lines) × AllZip (ListsPair spec) pairs lines.items
+
+-- the pairs of the ready index of that number, if there is one, are listed
+abbrev pub ListsReady : Option ReadyValue → Answer → Type 0
+ListsReady None given = ⊥
+ListsReady (Some index) given = ListsPairs index.spec index.pairs given
+
+-- why there is no index to list
+abbrev pub index_missing : Option ReadyValue → Option Fault
+index_missing None = Some BadCount
+index_missing (Some index) = None
+
+-- the pairs of a ready index are listed, or there is no index of that number
+abbrev pub ListsIndex : ℕ → CoreState → Answer → CoreState → Type 0
+ListsIndex number old given new =
+    (new ≡ old)
+    × (ListsReady (slice_get old.ready number) given
+    ⊎ ((fault : Fault) × (given ≡ answer.Refused fault) × RefusedFor (index_missing (slice_get old.ready number)) fault))
+
+-- nothing has changed but how often rows were given out
+abbrev pub OnlyVisits : CoreState → CoreState → Type 0
+OnlyVisits old new = new ≡ with_heap old (record old.heap { visits = new.heap.visits })
+
+-- the pairs of the rows that stand are listed, or the specification is refused
+abbrev pub ListsRest : Spec → CoreState → Answer → CoreState → Type 0
+ListsRest spec old given new =
+    OnlyVisits old new
+    × (ListsPairs (key_spec_of old.heap.schema spec) (pairs_at_rest (key_spec_of old.heap.schema spec) old.heap.log) given
+    ⊎ ((fault : Fault) × (given ≡ answer.Refused fault) × RefusedFor (key_columns_refusal old.heap.schema spec.columns.items) fault))

@@ -1,0 +1,24 @@
+use crate::pair_line::PairLine;
+use heap_log::Verdicts;
+use keybytes::{Fault, Rid, Row};
+
+/// What a command is answered.
+#[derive(Drop)]
+pub enum Answer {
+    Done,
+    /// A number alone: of a transaction, a log record or a page, or how many there are of something.
+    Number { number: u64 },
+    /// Where a row stands.
+    Row { rid: Rid },
+    /// A change, with the number of its log record.
+    Written { number: usize, rid: Rid },
+    /// An undo, with the number of its log record, 0 where there was nothing to undo, and the number of writes that are left.
+    Undone { number: usize, left: usize },
+    /// The row at a RID.
+    Cells { row: Row },
+    /// A switch that decided, with the number of its log record.
+    Switched { number: usize, verdicts: Verdicts },
+    /// The pairs of an index, in order.
+    Pairs { lines: Vec<PairLine> },
+    Refused { fault: Fault },
+}

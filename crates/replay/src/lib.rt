@@ -1,0 +1,22 @@
+//! Scripts, run on a table of their own.
+//!
+//! [`replay`] reads a script, runs its commands one after the other in one thread and prints an answer for each. A script
+//! that can't be run is named on another stream, and then nothing runs. [`check`] only looks at a script.
+#![tactic(auto)]
+
+mod answer;
+mod engine;
+mod labels;
+mod listing;
+mod output;
+mod output_failed;
+mod pair_line;
+mod plan;
+mod report;
+mod run;
+mod status;
+mod txn;
+
+pub use report::{check, refuse};
+pub use run::replay;
+pub use status::Status;

@@ -1,0 +1,88 @@
+//! A script, run from its first command to its last in one thread.
+ghost use Rattle.std.specs.Prelude.{◌≤◌, OnOk, IfOk};
+ghost use Rattle.replay.specs.Engines.{EndsWith, RunsAll, RunsNext};
+
+use crate::answer::Answer;
+use crate::engine::Engine;
+use crate::output::Output;
+use crate::output_failed::OutputFailed;
+use crate::report::refuse;
+use crate::status::Status;
+use script::{NumberedCommand, Script};
+use std::alloc::Global;
+use std::io::{Read, Write};
+
+/// Runs the script that the reader gives, and prints the answers to `out`. A script that can't be run is named on
+/// `err`, and then nothing is printed to `out`. Answers the exit status.
+pub fn replay<R: Read + Drop, W: Write + Drop, E: Write + Drop>(
+    alloc: Global,
+    mut reader: R,
+    out: W,
+    err: E,
+) -> u8
+    ensures { result ≤ 2 }
+{
+    let script = match Script::read(alloc, &mut reader) {
+        Ok(script) => script,
+        Err(error) => return refuse(error, err),
+    };
+    match run(alloc, script, out) {
+        Ok(status) => status as u8,
+        Err(OutputFailed) => Status::Failed as u8,
+    }
+}
+
+/// Runs a script on a table of its own, and answers how it went.
+fn run<W: Write + Drop>(alloc: Global, script: Script, out: W) -> Result<Status, OutputFailed>
+    ensures { IfOk result (EndsWith script.table script.commands.items) }
+{
+    let mut output = Output::new(out);
+    let status = answer(alloc, script, &mut output)?;
+    output.flush()?;
+    Ok(status)
+}
+
+/// Answers the table and the commands. Where the table is refused, that is the one answer.
+fn answer<W: Write + Drop>(
+    alloc: Global,
+    script: Script,
+    output: &mut Output<W>,
+) -> Result<Status, OutputFailed>
+    ensures { IfOk result (EndsWith script.table script.commands.items) }
+{
+    match Engine::new(alloc, script.table) {
+        Ok(mut engine) => {
+            output.print(script.table_number, &Answer::Done)?;
+            answer_all(&mut engine, script.commands, output)?;
+            Ok(engine.status())
+        }
+        Err(fault) => {
+            output.print(script.table_number, &Answer::Refused { fault })?;
+            Ok(Status::Failed)
+        }
+    }
+}
+
+fn answer_all<W: Write + Drop>(
+    engine: &mut Engine,
+    commands: Vec<NumberedCommand>,
+    output: &mut Output<W>,
+) -> Result<(), OutputFailed>
+    ensures { OnOk result (RunsAll engine.old commands.items engine.new) }
+{
+    for command in commands {
+        answer_next(engine, command, output)?;
+    }
+    Ok(())
+}
+
+fn answer_next<W: Write + Drop>(
+    engine: &mut Engine,
+    command: NumberedCommand,
+    output: &mut Output<W>,
+) -> Result<(), OutputFailed>
+    ensures { RunsNext engine.old command engine.new }
+{
+    let answer = engine.run(command.command);
+    output.print(command.number, &answer)
+}

@@ -1,0 +1,7 @@
+//! Tests of the library `replay`: whole scripts with what they print, and readers and writers that fail.
+#![tactic(auto)]
+
+#[cfg(test)]
+mod faulty;
+#[cfg(test)]
+mod worked_scripts;

@@ -1,0 +1,5 @@
+mod AskedCommands
+mod FieldLemmas
+mod RidPoints
+mod SpelledLists
+pub mod Zips

@@ -1,0 +1,13 @@
+use Rattle.std.proofs.Common.{Err, arith, ap, sym, ◌∙◌}
+use Rattle.script.specs.Fields.{SpellsCell}
+use Rattle.script.proofs.SpelledLists.{spelled_more, spelled_none}
+use Rattle.script.proofs.fields.cells.Goals as goal
+
+pub returns-in_err-cell-clause-refused : goal.returns-in_err-cell-clause-refused
+returns-in_err-cell-clause-refused c = λ bad.
+    let error = rw bad at c.from_residual-in_err-cell.ensures in
+    spelled_none SpellsCell c.args.fields.now c.loop-field.field-index (omega arith) (c.cell.ensures.refused (c.in_err-cell.was ∙ ap Err (sym error.1)))
+
+pub loop-field-preserved : goal.loop-field-preserved
+loop-field-preserved c =
+    spelled_more SpellsCell _ _ _ _ _ (omega arith) c.in_ok-push.ensures.items c.loop-field.invariant c.in_ok-cell.ensures.ok

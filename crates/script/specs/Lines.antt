@@ -1,0 +1,78 @@
+-- What the fields of a record ask for.
+use Rattle.std.specs.Prelude.{◌≡◌, ℕ, true, List, [], ◌∷◌, ◌++◌, codes}
+use Rattle.std.specs.List.{AllZip}
+use Rattle.script.specs.Fields.{is_label, SpellEach, SpellsCell, SpellsDealing, SpellsKind, SpellsNumber, SpellsRid, SpellsSpec}
+use Rattle.script.specs.declared.line.Line.{Line}
+use Rattle.script.specs.declared.line.Line.TheVariants.{PassedOver, Table as TableLine, Command as CommandLine}
+use Rattle.script.specs.declared.command.Command.{Command}
+use Rattle.script.specs.declared.command.Command.TheVariants.{Row, Begin, Insert, Update, Delete, Undo, Commit, Get, Start as StartCommand, Scan, Seal, Load, Switch, Pairs, Rest}
+use Rattle.script.specs.declared.start.Start.{Start}
+use Rattle.script.specs.declared.table.Table.{Table}
+
+-- there is a first field, and P holds of it and of those behind it
+abbrev pub AtFirst : (List ℕ → List (List ℕ) → Type 0) → List (List ℕ) → Type 0
+AtFirst P [] = ⊥
+AtFirst P (first ∷ rest) = P first rest
+
+-- the text spells the label
+abbrev pub SpellsLabel : List ℕ → List ℕ → Type 0
+SpellsLabel text label = (text ≡ label) × (is_label text ≡ true)
+
+-- the fields of a record `table`: the most slots of a page, and the kinds of the columns
+abbrev pub SpellTable : List (List ℕ) → Table → Type 0
+SpellTable fields table = AtFirst (λ limit columns. SpellsNumber limit table.slot_limit × SpellEach SpellsKind columns table.kinds.items) fields
+
+-- the fields of a record `start`: workers, the quota, the dealing and the indexes
+abbrev pub SpellStart : List (List ℕ) → Start → Type 0
+SpellStart fields start =
+    AtFirst (λ workers more. SpellsNumber workers start.workers
+    × AtFirst (λ quota more. SpellsNumber quota start.quota
+    × AtFirst (λ ranges indexes. SpellsDealing ranges start.dealing × SpellEach SpellsSpec indexes start.specs.items) more) more) fields
+
+-- the name of a command, which is the first field
+abbrev pub name_of : Command → List ℕ
+name_of (Row cells) = codes "row"
+name_of (Begin label) = codes "begin"
+name_of (Insert label cells) = codes "insert"
+name_of (Update label rid cells) = codes "update"
+name_of (Delete label rid) = codes "delete"
+name_of (Undo label) = codes "undo"
+name_of (Commit label) = codes "commit"
+name_of (Get rid) = codes "get"
+name_of (StartCommand start) = codes "start"
+name_of (Scan range worker) = codes "scan"
+name_of (Seal worker) = codes "seal"
+name_of (Load index) = codes "load"
+name_of Switch = codes "switch"
+name_of (Pairs number) = codes "pairs"
+name_of (Rest spec) = codes "rest"
+
+-- the fields behind the name spell what the command comes with
+abbrev pub SpellParts : List (List ℕ) → Command → Type 0
+SpellParts fields (Row cells) = SpellEach SpellsCell fields cells.items
+SpellParts fields (Begin label) = AllZip SpellsLabel fields (label ∷ [])
+SpellParts fields (Insert label cells) = AtFirst (λ txn columns. SpellsLabel txn label × SpellEach SpellsCell columns cells.items) fields
+SpellParts fields (Update label rid cells) =
+    AtFirst (λ txn more. SpellsLabel txn label
+    × AtFirst (λ place columns. SpellsRid place rid × SpellEach SpellsCell columns cells.items) more) fields
+SpellParts fields (Delete label rid) = AtFirst (λ txn more. SpellsLabel txn label × AllZip SpellsRid more (rid ∷ [])) fields
+SpellParts fields (Undo label) = AllZip SpellsLabel fields (label ∷ [])
+SpellParts fields (Commit label) = AllZip SpellsLabel fields (label ∷ [])
+SpellParts fields (Get rid) = AllZip SpellsRid fields (rid ∷ [])
+SpellParts fields (StartCommand start) = SpellStart fields start
+SpellParts fields (Scan range worker) = AllZip SpellsNumber fields (range ∷ worker ∷ [])
+SpellParts fields (Seal worker) = AllZip SpellsNumber fields (worker ∷ [])
+SpellParts fields (Load index) = AllZip SpellsNumber fields (index ∷ [])
+SpellParts fields Switch = fields ≡ []
+SpellParts fields (Pairs number) = AllZip SpellsNumber fields (number ∷ [])
+SpellParts fields (Rest spec) = AllZip SpellsSpec fields (spec ∷ [])
+
+-- the name and the fields behind it spell the command
+abbrev pub SpellCommand : List ℕ → List (List ℕ) → Command → Type 0
+SpellCommand name fields command = (name ≡ name_of command) × SpellParts fields command
+
+-- the fields ask for the line: a remark begins with `#`
+abbrev pub SpellLine : List (List ℕ) → Line → Type 0
+SpellLine fields PassedOver = AtFirst (λ first rest. (remark : List ℕ) × (first ≡ codes "#" ++ remark)) fields
+SpellLine fields (TableLine table) = AtFirst (λ name parts. (name ≡ codes "table") × SpellTable parts table) fields
+SpellLine fields (CommandLine command) = AtFirst (λ name parts. SpellCommand name parts command) fields

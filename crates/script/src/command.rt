@@ -1,0 +1,60 @@
+use crate::{Label, Spec, Start};
+use keybytes::{Cell, Rid};
+
+/// A line of a script that is run on the table.
+#[derive(Drop)]
+pub enum Command {
+    /// Puts a row in, by a transaction of its own.
+    Row {
+        cells: Vec<Cell>,
+    },
+    /// Begins the transaction that the label names from then on.
+    Begin {
+        label: Label,
+    },
+    Insert {
+        label: Label,
+        cells: Vec<Cell>,
+    },
+    Update {
+        label: Label,
+        rid: Rid,
+        cells: Vec<Cell>,
+    },
+    Delete {
+        label: Label,
+        rid: Rid,
+    },
+    /// Takes the transaction's newest write back.
+    Undo {
+        label: Label,
+    },
+    Commit {
+        label: Label,
+    },
+    /// Asks for the row at a RID.
+    Get {
+        rid: Rid,
+    },
+    /// Starts a build.
+    Start(Start),
+    Scan {
+        range: usize,
+        worker: usize,
+    },
+    Seal {
+        worker: usize,
+    },
+    Load {
+        index: usize,
+    },
+    Switch,
+    /// Asks for the pairs of a ready index.
+    Pairs {
+        number: usize,
+    },
+    /// Asks for the pairs that an index of the rows as they stand would have.
+    Rest {
+        spec: Spec,
+    },
+}

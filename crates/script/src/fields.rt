@@ -1,0 +1,196 @@
+//! How the fields of a record are spelled.
+ghost use Rattle.std.specs.Prelude.{◌≡◌, ℕ, List, IfOk, IfErr, IfSome, IfNone, Some, None};
+ghost use Rattle.keybytes.specs.declared.cell.Cell.{Cell as CellValue};
+ghost use Rattle.keybytes.specs.declared.kind.Kind.{Kind as KindValue};
+ghost use Rattle.keybytes.specs.declared.rid.Rid.{Rid as RidValue};
+ghost use Rattle.script.specs.declared.dealing.Dealing.{Dealing as DealingValue};
+ghost use Rattle.script.specs.declared.spec.Spec.{Spec as SpecValue};
+ghost use Rattle.script.specs.Fields.{number_of, int_of, slot_of, texts, SpellEach, SpellsCell, SpellsDealing, SpellsKind, SpellsNumbers, SpellsRid, SpellsSpec};
+
+use crate::record_error::RecordError;
+use crate::{Dealing, Spec};
+use keybytes::{Cell, Kind, Rid, Text};
+use std::alloc::Global;
+
+/// A number: decimal digits, at most 4,294,967,295.
+pub fn number(text: &str) -> Option<u32>
+    ensures { result ≡ number_of text.now }
+{
+    if text.starts_with('+') {
+        return None;
+    }
+    text.parse::<u32>().ok()
+}
+
+/// A number that counts or names something.
+pub fn count(text: &str) -> Result<usize, RecordError>
+    ensures ok { IfOk result (λ number. number_of text.now ≡ Some number) }
+    ensures refused { IfErr result (λ error. (error ≡ RecordError.Bad) × (number_of text.now ≡ None)) }
+{
+    match number(text) {
+        Some(number) => Ok(number as usize),
+        None => Err(RecordError::Bad),
+    }
+}
+
+/// The number of a slot: decimal digits, at most 65,535.
+fn slot(text: &str) -> Option<u16>
+    ensures { result ≡ slot_of text.now }
+{
+    if text.starts_with('+') {
+        return None;
+    }
+    text.parse::<u16>().ok()
+}
+
+/// A RID: a page and a slot, joined by a point.
+pub fn rid(text: &str) -> Result<Rid, RecordError>
+    ensures ok { IfOk result (λ rid. SpellsRid text.now rid) }
+    ensures refused { IfErr result (λ error. (error ≡ RecordError.Bad) × ((rid : RidValue) → SpellsRid text.now rid → ⊥)) }
+{
+    match text.split_once('.') {
+        Some((page_text, slot_text)) => match (number(page_text), slot(slot_text)) {
+            (Some(page), Some(slot)) => Ok(Rid { page, slot }),
+            _ => Err(RecordError::Bad),
+        },
+        None => Err(RecordError::Bad),
+    }
+}
+
+/// A number of 64 bits: digits, with or without `-` in front.
+fn int(text: &str) -> Option<i64>
+    ensures { result ≡ int_of text.now }
+{
+    if text.starts_with('+') {
+        return None;
+    }
+    text.parse::<i64>().ok()
+}
+
+/// A cell: `~` for Null, digits with or without `-` for a number, `=` and a text, `true` or `false`.
+fn cell(alloc: Global, text: &str) -> Result<Cell, RecordError>
+    ensures ok { IfOk result (λ cell. SpellsCell text.now cell) }
+    ensures refused { result ≡ Err RecordError.Bad → (cell : CellValue) → SpellsCell text.now cell → ⊥ }
+{
+    if let Some(text) = text.strip_prefix('=') {
+        let string = String::from_str(alloc, text)?;
+        return Ok(Cell::Text(Text::new(string)));
+    }
+    match text {
+        "~" => Ok(Cell::Null),
+        "true" => Ok(Cell::Flag(true)),
+        "false" => Ok(Cell::Flag(false)),
+        _ => match int(text) {
+            Some(number) => Ok(Cell::Int(number)),
+            None => Err(RecordError::Bad),
+        },
+    }
+}
+
+/// One or more cells.
+pub fn cells(alloc: Global, fields: &[&str]) -> Result<Vec<Cell>, RecordError>
+    ensures ok { IfOk result (λ cells. SpellEach SpellsCell (texts fields.now) cells.items) }
+    ensures refused { result ≡ Err RecordError.Bad → (cells : List CellValue) → SpellEach SpellsCell (texts fields.now) cells → ⊥ }
+{
+    if fields.is_empty() {
+        return Err(RecordError::Bad);
+    }
+    let mut cells = Vec::with_capacity(alloc, fields.len())?;
+    for field in fields {
+        cells.push(cell(alloc, field)?)?;
+    }
+    Ok(cells)
+}
+
+fn kind(text: &str) -> Option<Kind>
+    ensures some { IfSome result (λ kind. SpellsKind text.now kind) }
+    ensures none { IfNone result ((kind : KindValue) → SpellsKind text.now kind → ⊥) }
+{
+    match text {
+        "int" => Some(Kind::Int),
+        "text" => Some(Kind::Text),
+        "flag" => Some(Kind::Flag),
+        _ => None,
+    }
+}
+
+/// One or more kinds of columns.
+pub fn kinds(alloc: Global, fields: &[&str]) -> Result<Vec<Kind>, RecordError>
+    ensures ok { IfOk result (λ kinds. SpellEach SpellsKind (texts fields.now) kinds.items) }
+    ensures refused { result ≡ Err RecordError.Bad → (kinds : List KindValue) → SpellEach SpellsKind (texts fields.now) kinds → ⊥ }
+{
+    if fields.is_empty() {
+        return Err(RecordError::Bad);
+    }
+    let mut kinds = Vec::with_capacity(alloc, fields.len())?;
+    for field in fields {
+        kinds.push(kind(field).ok_or(RecordError::Bad)?)?;
+    }
+    Ok(kinds)
+}
+
+/// Numbers of columns, joined by `;`.
+fn columns(alloc: Global, text: &str) -> Result<Vec<usize>, RecordError>
+    ensures ok { IfOk result (λ columns. SpellsNumbers text.now columns.items) }
+    ensures refused { result ≡ Err RecordError.Bad → (columns : List ℕ) → SpellsNumbers text.now columns → ⊥ }
+{
+    let mut columns = Vec::new(alloc);
+    for column in text.split(';') {
+        columns.push(count(column)?)?;
+    }
+    Ok(columns)
+}
+
+/// A key specification: `n:` or, for a unique one, `u:`, and the numbers of its columns joined by `;`.
+pub fn spec(alloc: Global, text: &str) -> Result<Spec, RecordError>
+    ensures ok { IfOk result (λ spec. SpellsSpec text.now spec) }
+    ensures refused { result ≡ Err RecordError.Bad → (spec : SpecValue) → SpellsSpec text.now spec → ⊥ }
+{
+    let (unique, numbers) = match text.split_once(':') {
+        Some(("n", numbers)) => (false, numbers),
+        Some(("u", numbers)) => (true, numbers),
+        _ => return Err(RecordError::Bad),
+    };
+    Ok(Spec {
+        unique,
+        columns: columns(alloc, numbers)?,
+    })
+}
+
+/// One or more key specifications.
+pub fn specs(alloc: Global, fields: &[&str]) -> Result<Vec<Spec>, RecordError>
+    ensures ok { IfOk result (λ specs. SpellEach SpellsSpec (texts fields.now) specs.items) }
+    ensures refused { result ≡ Err RecordError.Bad → (specs : List SpecValue) → SpellEach SpellsSpec (texts fields.now) specs → ⊥ }
+{
+    if fields.is_empty() {
+        return Err(RecordError::Bad);
+    }
+    let mut specs = Vec::with_capacity(alloc, fields.len())?;
+    for field in fields {
+        specs.push(spec(alloc, field)?)?;
+    }
+    Ok(specs)
+}
+
+/// Ends of ranges, joined by `;`.
+fn ends(alloc: Global, text: &str) -> Result<Vec<u32>, RecordError>
+    ensures ok { IfOk result (λ ends. SpellsNumbers text.now ends.items) }
+    ensures refused { result ≡ Err RecordError.Bad → (ends : List ℕ) → SpellsNumbers text.now ends → ⊥ }
+{
+    let mut ends = Vec::new(alloc);
+    for end in text.split(';') {
+        ends.push(number(end).ok_or(RecordError::Bad)?)?;
+    }
+    Ok(ends)
+}
+
+/// How the pages are dealt into ranges: the ends of the ranges joined by `;`, or `even:` and how many there are.
+pub fn dealing(alloc: Global, text: &str) -> Result<Dealing, RecordError>
+    ensures ok { IfOk result (λ dealing. SpellsDealing text.now dealing) }
+    ensures refused { result ≡ Err RecordError.Bad → (dealing : DealingValue) → SpellsDealing text.now dealing → ⊥ }
+{
+    match text.strip_prefix("even:") {
+        Some(ranges) => Ok(Dealing::Even(count(ranges)?)),
+        None => Ok(Dealing::Ends(ends(alloc, text)?)),
+    }
+}

@@ -1,9 +1,0 @@
-mod AskedRecords
-mod FieldLemmas
-mod KeyedPairs
-mod Replies
-mod RidPoints
-mod SpecLists
-mod SpelledLists
-mod TakenBack
-mod Zips

@@ -1,5 +1,0 @@
-use Rattle.heap_log.specs.Standing.{standing_count}
-use Rattle.sfbuild.proofs.engine.+take_back.Given as goal
-
-abbrev pub decreases-take_back : goal.decreases-take_back
-decreases-take_back l = standing_count l.core.now.heap.log l.txn

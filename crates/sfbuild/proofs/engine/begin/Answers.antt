@@ -1,6 +1,0 @@
-use Rattle.sfbuild.proofs.Replies.{begun}
-use Rattle.sfbuild.proofs.engine.begin.Goals as goal
-
-pub unreachable-requires : goal.unreachable-requires
-unreachable-requires c =
-    begun c.args.core.now c.step.new.self c.step.result c.step.ensures.step c.in_default.not-Begun c.in_default.not-Refused

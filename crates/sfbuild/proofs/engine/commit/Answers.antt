@@ -1,6 +1,0 @@
-use Rattle.sfbuild.proofs.Replies.{committed}
-use Rattle.sfbuild.proofs.engine.commit.Goals as goal
-
-pub unreachable-requires : goal.unreachable-requires
-unreachable-requires c =
-    committed c.args.core.now c.step.new.self c.args.txn c.step.result c.step.ensures.step c.in_default.not-Committed c.in_default.not-Refused

@@ -1,6 +1,0 @@
-use Rattle.std.proofs.Common.{◌≡◌}
-use Rattle.csv.specs.Writing.{fields_written}
-use Rattle.sfbuild.proofs.output.Output.lines_after.Given as goal
-
-abbrev pub invariant-loop-line : goal.invariant-loop-line
-invariant-loop-line g l = fields_written l.self.writer ≡ 0

@@ -1,6 +1,0 @@
-use Rattle.std.specs.List.{AllZip}
-use Rattle.sfbuild.specs.Fields.{texts, SpellsNumber}
-use Rattle.sfbuild.proofs.script.fields.columns.Given as goal
-
-abbrev pub invariant-loop-column : goal.invariant-loop-column
-invariant-loop-column l = AllZip SpellsNumber (texts l.yielded) l.columns.items

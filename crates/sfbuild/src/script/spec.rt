@@ -1,6 +1,0 @@
-/// A key specification as it is spelled: whether it is unique, and the numbers of its columns.
-#[derive(Debug, Drop)]
-pub struct Spec {
-    pub unique: bool,
-    pub columns: Vec<usize>,
-}

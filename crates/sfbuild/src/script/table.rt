@@ -1,9 +1,0 @@
-use keybytes::Kind;
-
-/// The record `table`.
-#[derive(Debug, Drop)]
-pub struct Table {
-    /// How many slots a page may have.
-    pub slot_limit: u32,
-    pub kinds: Vec<Kind>,
-}
