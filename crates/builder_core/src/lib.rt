@@ -20,8 +20,6 @@ mod ready_index;
 mod reply;
 mod rest;
 mod run;
-#[cfg(test)]
-mod tests;
 mod worker;
 
 pub use core_steps::Core;
