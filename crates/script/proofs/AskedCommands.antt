@@ -1,5 +1,5 @@
 -- Which command a name with the fields behind it asks for.
-use Rattle.std.proofs.Common.{◌≡◌, ℕ, List, [], ◌∷◌, ◌++◌, codes, subst, sym, ◌∙◌}
+use Rattle.std.proofs.Common.{◌≡◌, ℕ, List, [], ◌∷◌, ◌++◌, codes, refl, subst, sym, ◌∙◌}
 use Rattle.std.specs.Bool.{MatchBool}
 use Rattle.std.specs.List.{AllZip}
 use Rattle.std.specs.Str.{bytes_eq}
@@ -70,3 +70,11 @@ pub table_asked : (name : List ℕ) (parts : List (List ℕ)) → name ≡ codes
 table_asked name parts is PassedOver spelled = absurd (no_table_remark spelled.0 (sym is ∙ spelled.1))
 table_asked name parts is (TableLine table) spelled = (table, spelled.1)
 table_asked name parts is (CommandLine command) spelled = absurd (no_table_command name parts is command spelled)
+
+-- fields that spell a table spell nothing else
+pub same_table : (fields : List (List ℕ)) (table : Table) (line : Line) → SpellLine fields (TableLine table) → SpellLine fields line
+    → (again : Table) × (line ≡ TableLine again)
+same_table [] table line is spelled = absurd is
+same_table (name ∷ parts) table PassedOver is spelled = absurd (no_table_remark spelled.0 (sym is.0 ∙ spelled.1))
+same_table (name ∷ parts) table (TableLine again) is spelled = (again, refl)
+same_table (name ∷ parts) table (CommandLine command) is spelled = absurd (no_table_command name parts is.0 command spelled)

@@ -1,5 +1,7 @@
 mod AskedCommands
+mod Drafted
 mod FieldLemmas
+mod RecordsLeft
 mod RidPoints
 mod SpelledLists
 pub mod Zips

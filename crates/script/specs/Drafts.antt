@@ -1,5 +1,5 @@
 -- What was read of a script so far.
-use Rattle.std.specs.Prelude.{ℕ, Bool, true, false, List, [], ◌∷◌, ◌++◌, Option, Some, None}
+use Rattle.std.specs.Prelude.{◌≡◌, ℕ, List, [], ◌∷◌, ◌++◌, Option, Some, None, ⊤}
 use Rattle.script.specs.declared.line.Line.{Line}
 use Rattle.script.specs.declared.line.Line.TheVariants.{PassedOver, Table, Command}
 use Rattle.script.specs.declared.numbered_command.NumberedCommand.{NumberedCommand}
@@ -11,20 +11,17 @@ pub record DraftValue : Type 0 where
   -- the commands behind it
   pub commands : List NumberedCommand
 
--- whether no record that counts was read
-abbrev pub is_blank : DraftValue → Bool
-is_blank draft = elim draft.table [
-  | None ↦ elim draft.commands [ [] ↦ true | command ∷ commands ↦ false ]
-  | Some table ↦ false
-]
+-- no record that counts was read
+abbrev pub IsBlank : DraftValue → Type 0
+IsBlank draft = (draft.table ≡ None) × (draft.commands ≡ [])
 
--- the record may stand behind those that were read: a record `table` has to be the first that counts
-abbrev pub may_follow : DraftValue → Line → Bool
-may_follow draft PassedOver = true
-may_follow draft (Table table) = is_blank draft
-may_follow draft (Command command) = true
+-- the line may stand behind those that were read: a table has to be the first that counts
+abbrev pub MayFollow : DraftValue → Line → Type 0
+MayFollow draft PassedOver = ⊤
+MayFollow draft (Table table) = IsBlank draft
+MayFollow draft (Command command) = ⊤
 
--- the draft with one more record, of that number
+-- the draft with one more line, of that number
 abbrev pub with_line : DraftValue → ℕ → Line → DraftValue
 with_line draft number PassedOver = draft
 with_line draft number (Table table) = record draft { table = Some (number, table) }

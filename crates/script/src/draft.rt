@@ -1,5 +1,5 @@
-ghost use Rattle.std.specs.Prelude.{◌≡◌, ◌⊎◌, [], Some, None, true, false, IfOk, IfErr, OnOk, OnErr};
-ghost use Rattle.script.specs.Drafts.{may_follow, with_line};
+ghost use Rattle.std.specs.Prelude.{◌≡◌, ◌⊎◌, ℕ, [], Some, None, IfOk, IfErr, OnOk, OnErr};
+ghost use Rattle.script.specs.Drafts.{MayFollow, with_line};
 
 use crate::line::Line;
 use crate::{NumberedCommand, Script, ScriptError, Table};
@@ -35,8 +35,8 @@ impl Draft {
     /// Adds the record of that number. A record `table` is bad unless it is the first that counts.
     pub fn add(&mut self, number: usize, line: Line) -> Result<(), ScriptError>
         ensures ok { OnOk result (self.new ≡ with_line self.old number line) }
-        ensures accepted { OnOk result (may_follow self.old line ≡ true) }
-        ensures bad { result ≡ Err (ScriptError.Bad number) → may_follow self.old line ≡ false }
+        ensures accepted { OnOk result (MayFollow self.old line) }
+        ensures bad { (bad : ℕ) → result ≡ Err (ScriptError.Bad bad) → (bad ≡ number) × ¬ (MayFollow self.old line) }
         ensures refused { IfErr result (λ error. (error ≡ ScriptError.Bad number) ⊎ (error ≡ ScriptError.NoMemory)) }
         ensures unchanged { OnErr result (self.new ≡ self.old) }
     {

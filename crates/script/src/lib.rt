@@ -14,6 +14,7 @@ mod line;
 mod numbered_command;
 mod parse;
 mod record_error;
+mod records;
 mod script;
 mod script_error;
 mod spec;

@@ -10,6 +10,7 @@ pub enum RecordError {
     /// It is not spelled as a record is.
     Bad,
     NoMemory,
+    CannotRead,
 }
 
 impl RecordError {
@@ -17,10 +18,12 @@ impl RecordError {
     pub fn at(self, number: usize) -> ScriptError
         ensures bad { self ≡ RecordError.Bad → result ≡ ScriptError.Bad number }
         ensures no_memory { self ≡ RecordError.NoMemory → result ≡ ScriptError.NoMemory }
+        ensures unread { self ≡ RecordError.CannotRead → result ≡ ScriptError.CannotRead }
     {
         match self {
             RecordError::Bad => ScriptError::Bad(number),
             RecordError::NoMemory => ScriptError::NoMemory,
+            RecordError::CannotRead => ScriptError::CannotRead,
         }
     }
 }

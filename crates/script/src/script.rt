@@ -1,9 +1,13 @@
-ghost use Rattle.std.specs.Prelude.{OnOk};
+ghost use Rattle.std.specs.Prelude.{◌≡◌, ℕ, [], Some, IfOk, IfSome, OnOk, MatchOption};
 ghost use Rattle.std.specs.Io.KnownBytes.{IsAtEnd};
+ghost use Rattle.script.specs.Scripts.{BeginsBadly, IsFirstBad, SpellsScript, TakesLine};
 
 use crate::draft::Draft;
+use crate::line::Line;
+use crate::record_error::RecordError;
+use crate::records::Records;
 use crate::{NumberedCommand, ScriptError, Table, parse};
-use csv::{ErrorKind, Reader, ReaderBuilder, StringRecord};
+use csv::StringRecord;
 use std::alloc::Global;
 use std::io::{self, Read};
 
@@ -19,7 +23,9 @@ pub struct Script {
 impl Script {
     /// Reads a script to its end, and then looks at its records.
     pub fn read<R: Read>(alloc: Global, reader: &mut R) -> Result<Script, ScriptError>
-        ensures { OnOk result (IsAtEnd (R.remaining reader.new)) }
+        ensures good { IfSome (R.remaining reader.old) (λ text. IfOk result (SpellsScript text)) }
+        ensures bad { IfSome (R.remaining reader.old) (λ text. (number : ℕ) → result ≡ Err (ScriptError.Bad number) → IsFirstBad text number) }
+        ensures end { OnOk result (IsAtEnd (R.remaining reader.new)) }
     {
         let mut text = Vec::new(alloc);
         match reader.read_to_end(&mut text) {
@@ -30,19 +36,17 @@ impl Script {
     }
 
     /// Looks at all records of a script. Records are numbered from 1, the ones that are passed over among them.
-    pub fn parse(alloc: Global, text: &[u8]) -> Result<Script, ScriptError> {
-        let mut reader = ReaderBuilder::new()
-            .has_headers(false)
-            .flexible(true)
-            .from_reader(alloc, text);
+    pub fn parse(alloc: Global, text: &[u8]) -> Result<Script, ScriptError>
+        ensures good { IfOk result (SpellsScript text.now) }
+        ensures bad { (number : ℕ) → result ≡ Err (ScriptError.Bad number) → IsFirstBad text.now number }
+    {
+        let mut records = Records::new(alloc, text);
         let mut record = StringRecord::new(alloc);
         let mut draft = Draft::new(alloc);
         for number in 1..usize::MAX {
-            if !read_record(&mut reader, &mut record, number)? {
-                return draft.finish(number);
-            }
-            match parse::line(alloc, &record) {
-                Ok(line) => draft.add(number, line)?,
+            match next_line(alloc, &mut records, &mut record) {
+                Ok(Some(line)) => draft.add(number, line)?,
+                Ok(None) => return draft.finish(number),
                 Err(error) => return Err(error.at(number)),
             }
         }
@@ -50,18 +54,18 @@ impl Script {
     }
 }
 
-/// Reads the record of that number, and answers whether there is one.
-fn read_record(
-    reader: &mut Reader<&[u8]>,
+/// The line that the next record is, if there is one.
+fn next_line(
+    alloc: Global,
+    records: &mut Records,
     record: &mut StringRecord,
-    number: usize,
-) -> Result<bool, ScriptError> {
-    match reader.read_record(record) {
-        Ok(found) => Ok(found),
-        Err(error) => Err(match error.kind() {
-            ErrorKind::OutOfMemory => ScriptError::NoMemory,
-            ErrorKind::Utf8 { .. } => ScriptError::Bad(number),
-            _ => ScriptError::CannotRead,
-        }),
+) -> Result<Option<Line>, RecordError>
+    ensures found { IfOk result (λ found. MatchOption found (records.old ≡ []) (TakesLine records.old records.new)) }
+    ensures bad { result ≡ Err RecordError.Bad → BeginsBadly records.old }
+{
+    if !records.read(record)? {
+        return Ok(None);
     }
+    let line = parse::line(alloc, record)?;
+    Ok(Some(line))
 }

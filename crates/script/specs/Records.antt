@@ -1,0 +1,13 @@
+-- The comma-separated records of a text.
+use Rattle.std.specs.Prelude.{ℕ, List, [], ◌∷◌}
+use Rattle.csv.specs.Reading.{default_config, records, strip_bom}
+use Rattle.csv.specs.Records.{AllText}
+
+-- the records of a text, each with its fields; no line of it is a header
+abbrev pub records_of : List ℕ → List (List (List ℕ))
+records_of text = records default_config (strip_bom text)
+
+-- there is a first record, and it isn't UTF-8
+abbrev pub BeginsWithBytes : List (List (List ℕ)) → Type 0
+BeginsWithBytes [] = ⊥
+BeginsWithBytes (fields ∷ rest) = ¬ (AllText fields)

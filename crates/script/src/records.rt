@@ -1,0 +1,69 @@
+ghost use Rattle.std.specs.Prelude.{◌≡◌, [], ◌∷◌, true, false};
+ghost use Rattle.csv.specs.Reading.{error_kind, is_io, stops_reader};
+ghost use Rattle.csv.specs.Records.{AllText, fields_of};
+ghost use Rattle.script.specs.Readers.{IsReadError, IsUtf8Error};
+ghost use Rattle.script.specs.Records.{BeginsWithBytes, records_of};
+
+use crate::record_error::RecordError;
+use csv::{ErrorKind, Reader, ReaderBuilder, StringRecord};
+use std::alloc::Global;
+use std::marker::Model;
+
+/// The records of a text, one after the other. Contracts see the fields of those that are still to come.
+#[derive(Drop)]
+pub struct Records<'a> {
+    reader: Reader<&'a [u8]>,
+}
+
+impl<'a> Model for Records<'a> {
+    ghost use Rattle.std.specs.Prelude.{ℕ, List};
+
+    ghost Value = { List (List (List ℕ)) };
+
+    ghost use Rattle.script.specs.Readers.{Reads, records_left};
+
+    ghost view = { λ records. records_left records.reader };
+
+    ghost invariant = { λ records. Reads records.reader };
+}
+
+impl<'a> Records<'a> {
+    pub fn new(alloc: Global, text: &'a [u8]) -> Records<'a>
+        ensures { result ≡ records_of text.now }
+    {
+        Records {
+            reader: ReaderBuilder::new()
+                .has_headers(false)
+                .flexible(true)
+                .from_reader(alloc, text),
+        }
+    }
+
+    /// Reads the next record, and answers whether there is one.
+    pub fn read(&mut self, record: &mut StringRecord) -> Result<bool, RecordError>
+        ensures found { result ≡ Ok true → self.old ≡ fields_of «record».new ∷ self.new }
+        ensures text { result ≡ Ok true → AllText (fields_of «record».new) }
+        ensures ended { result ≡ Ok false → self.old ≡ [] }
+        ensures bad { result ≡ Err RecordError.Bad → BeginsWithBytes self.old }
+    {
+        match self.reader.read_record(record) {
+            Ok(found) => Ok(found),
+            Err(error) => Err(cause(error)),
+        }
+    }
+}
+
+/// Why a record was not read.
+fn cause(error: csv::Error) -> RecordError
+    requires { IsReadError (error_kind error) }
+    ensures bad { result ≡ RecordError.Bad → IsUtf8Error (error_kind error) }
+    ensures no_memory { result ≡ RecordError.NoMemory → stops_reader (error_kind error) ≡ true }
+    ensures unread { result ≡ RecordError.CannotRead → is_io (error_kind error) ≡ true }
+{
+    match error.kind() {
+        ErrorKind::OutOfMemory => RecordError::NoMemory,
+        ErrorKind::Utf8 { .. } => RecordError::Bad,
+        ErrorKind::Io(_) => RecordError::CannotRead,
+        _ => unreachable!(),
+    }
+}
