@@ -10,7 +10,7 @@ use Rattle.script.specs.declared.line.Line.TheVariants.{PassedOver, Table as Tab
 use Rattle.script.specs.declared.numbered_command.NumberedCommand.{NumberedCommand}
 use Rattle.script.specs.declared.script.Script.{Script}
 use Rattle.script.specs.declared.table.Table.{Table}
-use Rattle.script.proofs.AskedCommands.{same_table}
+use Rattle.script.proofs.Shaped.{same_table}
 use Rattle.script.proofs.Zips.{zip_push}
 
 -- the table that a draft has, as a list

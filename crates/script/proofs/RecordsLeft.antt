@@ -11,8 +11,8 @@ use Rattle.csv.specs.declared.reader.Trim.TheVariants as trim
 use Rattle.csv.specs.Records.{AllText}
 use Rattle.csv.specs.declared.error.ErrorKind.{ErrorKind}
 use Rattle.csv.specs.declared.error.ErrorKind.TheVariants as errors
-use Rattle.script.specs.Readers.{IsReadError, IsUtf8Error, Reads, records_in, records_left}
-use Rattle.script.specs.Records.{BeginsWithBytes}
+use Rattle.script.specs.Readers.{IsReadError, Reads, cause_of, records_in, records_left}
+use Rattle.script.specs.Records.{BeginsWithBytes, FailsToRead}
 use Rattle.script.proofs.FieldLemmas.{bool_cases}
 
 -- what is known of a text in memory
@@ -149,14 +149,14 @@ read_error a b (errors.UnequalLengths place expected len) good goes explains =
 read_error a b (errors.Serialize text) good goes explains = absurd (explains (good goes).untrimmed (good goes).ready)
 read_error a b (errors.Deserialize place error) good goes explains = absurd (explains (good goes).untrimmed (good goes).ready)
 
--- a record that an error of its bytes names is no text
-pub bytes_error : (a b : Reader (Bor (List ℕ))) (kind : ErrorKind) → Reads a → has_failed a ≡ false
-    → (reader_trim a ≡ trim.None → Ready a → ExplainsRead text_bytes a b true kind) → IsUtf8Error kind → BeginsWithBytes (records_left a)
-bytes_error a b (errors.Utf8 place error) good goes explains is =
+-- why it was not read
+pub fails_to_read : (a b : Reader (Bor (List ℕ))) (kind : ErrorKind) → Reads a → has_failed a ≡ false
+    → (reader_trim a ≡ trim.None → Ready a → ExplainsRead text_bytes a b true kind) → FailsToRead (records_left a) (cause_of kind)
+fails_to_read a b (errors.Utf8 place error) good goes explains =
     let found = explains (good goes).untrimmed (good goes).ready in
     left_bytes a b found.1 good goes found.2 found.3
-bytes_error a b (errors.Io error) good goes explains is = absurd is
-bytes_error a b errors.OutOfMemory good goes explains is = absurd is
-bytes_error a b (errors.UnequalLengths place expected len) good goes explains is = absurd is
-bytes_error a b (errors.Serialize text) good goes explains is = absurd is
-bytes_error a b (errors.Deserialize place error) good goes explains is = absurd is
+fails_to_read a b (errors.Io error) good goes explains = tt
+fails_to_read a b errors.OutOfMemory good goes explains = tt
+fails_to_read a b (errors.UnequalLengths place expected len) good goes explains = tt
+fails_to_read a b (errors.Serialize text) good goes explains = tt
+fails_to_read a b (errors.Deserialize place error) good goes explains = tt

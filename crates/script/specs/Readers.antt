@@ -7,6 +7,8 @@ use Rattle.csv.specs.declared.error.ErrorKind.TheVariants.{Deserialize, Io, OutO
 use Rattle.csv.specs.declared.parser.State.{State}
 use Rattle.csv.specs.declared.reader.Reader.{Reader}
 use Rattle.csv.specs.declared.reader.Trim.TheVariants as trim
+use Rattle.script.specs.declared.record_error.RecordError.{RecordError}
+use Rattle.script.specs.declared.record_error.RecordError.TheVariants.{CannotRead, NoMemory, NotText}
 
 -- the records of the bytes that are left in that state, if there are any
 abbrev pub records_in : State → Option (List ℕ) → List (List (List ℕ))
@@ -28,15 +30,6 @@ pub record IsAtRecord (reader : Reader (Bor (List ℕ))) : Type 0 where
 abbrev pub Reads : Reader (Bor (List ℕ)) → Type 0
 Reads reader = has_failed reader ≡ false → IsAtRecord reader
 
--- the error is of fields that are no UTF-8
-abbrev pub IsUtf8Error : ErrorKind → Type 0
-IsUtf8Error (Utf8 place error) = ⊤
-IsUtf8Error (Io error) = ⊥
-IsUtf8Error OutOfMemory = ⊥
-IsUtf8Error (UnequalLengths place expected len) = ⊥
-IsUtf8Error (Serialize text) = ⊥
-IsUtf8Error (Deserialize place error) = ⊥
-
 -- the error may come of a read of a record, of any number of fields
 abbrev pub IsReadError : ErrorKind → Type 0
 IsReadError (Utf8 place error) = ⊤
@@ -45,3 +38,12 @@ IsReadError OutOfMemory = ⊤
 IsReadError (UnequalLengths place expected len) = ⊥
 IsReadError (Serialize text) = ⊥
 IsReadError (Deserialize place error) = ⊥
+
+-- why a record was not read; only the first three come of a read
+abbrev pub cause_of : ErrorKind → RecordError
+cause_of (Utf8 place error) = NotText
+cause_of OutOfMemory = NoMemory
+cause_of (Io error) = CannotRead
+cause_of (UnequalLengths place expected len) = CannotRead
+cause_of (Serialize text) = CannotRead
+cause_of (Deserialize place error) = CannotRead

@@ -1,7 +1,9 @@
 -- The comma-separated records of a text.
-use Rattle.std.specs.Prelude.{ℕ, List, [], ◌∷◌}
+use Rattle.std.specs.Prelude.{ℕ, List, [], ◌∷◌, ⊤}
 use Rattle.csv.specs.Reading.{default_config, records, strip_bom}
 use Rattle.csv.specs.Records.{AllText}
+use Rattle.script.specs.declared.record_error.RecordError.{RecordError}
+use Rattle.script.specs.declared.record_error.RecordError.TheVariants.{CannotRead, LateTable, Misspelled, NoMemory, NotText}
 
 -- the records of a text, each with its fields; no line of it is a header
 abbrev pub records_of : List ℕ → List (List (List ℕ))
@@ -11,3 +13,11 @@ records_of text = records default_config (strip_bom text)
 abbrev pub BeginsWithBytes : List (List (List ℕ)) → Type 0
 BeginsWithBytes [] = ⊥
 BeginsWithBytes (fields ∷ rest) = ¬ (AllText fields)
+
+-- why the first of the records is not read
+abbrev pub FailsToRead : List (List (List ℕ)) → RecordError → Type 0
+FailsToRead records NotText = BeginsWithBytes records
+FailsToRead records Misspelled = ⊥
+FailsToRead records LateTable = ⊥
+FailsToRead records NoMemory = ⊤
+FailsToRead records CannotRead = ⊤

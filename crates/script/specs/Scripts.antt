@@ -14,15 +14,6 @@ use Rattle.script.specs.declared.table.Table.{Table}
 abbrev pub RecordSpells : List (List ℕ) → Line → Type 0
 RecordSpells fields line = AllText fields × SpellLine fields line
 
--- the first of the records spells the line, and the others stay
-abbrev pub TakesLine : List (List (List ℕ)) → List (List (List ℕ)) → Line → Type 0
-TakesLine records rest line = (fields : List (List ℕ)) × (records ≡ fields ∷ rest) × RecordSpells fields line
-
--- there is a first record, and it spells no line
-abbrev pub BeginsBadly : List (List (List ℕ)) → Type 0
-BeginsBadly [] = ⊥
-BeginsBadly (fields ∷ rest) = (line : Line) → RecordSpells fields line → ⊥
-
 -- no line is a table
 abbrev pub NoTable : List Line → Type 0
 NoTable [] = ⊤
@@ -63,13 +54,22 @@ IsScript lines script = (tables_from 1 lines ≡ (script.table_number, script.ta
 abbrev pub SpellsScript : List ℕ → Script → Type 0
 SpellsScript text script = (lines : List Line) × SpellLines (records_of text) lines × IsScript lines script
 
+-- the first records of the text spell these lines, and the others stand behind them, the first of those with that number
+pub record StandsBehind (text : List ℕ) (lines : List Line) (behind : List (List (List ℕ))) (number : ℕ) : Type 0 where
+  pub before : List (List (List ℕ))
+  pub split : records_of text ≡ before ++ behind
+  pub spelled : SpellLines before lines
+  pub numbered : number ≡ length lines + 1
+
 -- the first of the records is bad behind these lines: it spells no line that may stand there, or there is none and no table came
 abbrev pub IsBadBehind : List Line → List (List (List ℕ)) → Type 0
 IsBadBehind lines [] = NoTable lines
-IsBadBehind lines (fields ∷ rest) = (line : Line) → RecordSpells fields line → InOrder (lines ++ line ∷ []) → ⊥
+IsBadBehind lines (fields ∷ rest) = (line : Line) → RecordSpells fields line → ¬ (InOrder (lines ++ line ∷ []))
 
--- the records before the one of that number are good, and it is bad behind them
+-- the records before the one of that number are good, and it is bad
 abbrev pub IsFirstBad : List ℕ → ℕ → Type 0
-IsFirstBad text number =
-    (before : List (List (List ℕ))) × (behind : List (List (List ℕ))) × (lines : List Line)
-    × (records_of text ≡ before ++ behind) × SpellLines before lines × (number ≡ length lines + 1) × IsBadBehind lines behind
+IsFirstBad text number = (lines : List Line) × (behind : List (List (List ℕ))) × StandsBehind text lines behind number × IsBadBehind lines behind
+
+-- so many records are all of the text, and all are good
+abbrev pub AreGood : List ℕ → ℕ → Type 0
+AreGood text count = (lines : List Line) × SpellLines (records_of text) lines × ¬ (NoTable lines) × (count ≡ length (records_of text))

@@ -1,7 +1,8 @@
-ghost use Rattle.std.specs.Prelude.{◌≡◌, ◌⊎◌, ℕ, [], Some, None, IfOk, IfErr, OnOk, OnErr};
+ghost use Rattle.std.specs.Prelude.{◌≡◌, ◌⊎◌, [], Some, None, IfOk, IfErr, IsSome, IsTrue, OnOk, OnErr, ◌↔◌};
 ghost use Rattle.script.specs.Drafts.{MayFollow, with_line};
 
 use crate::line::Line;
+use crate::record_error::RecordError;
 use crate::{NumberedCommand, Script, ScriptError, Table};
 use std::alloc::Global;
 use std::marker::Model;
@@ -33,18 +34,18 @@ impl Draft {
     }
 
     /// Adds the record of that number. A record `table` is bad unless it is the first that counts.
-    pub fn add(&mut self, number: usize, line: Line) -> Result<(), ScriptError>
+    pub fn add(&mut self, number: usize, line: Line) -> Result<(), RecordError>
         ensures ok { OnOk result (self.new ≡ with_line self.old number line) }
         ensures accepted { OnOk result (MayFollow self.old line) }
-        ensures bad { (bad : ℕ) → result ≡ Err (ScriptError.Bad bad) → (bad ≡ number) × ¬ (MayFollow self.old line) }
-        ensures refused { IfErr result (λ error. (error ≡ ScriptError.Bad number) ⊎ (error ≡ ScriptError.NoMemory)) }
+        ensures late { result ≡ Err RecordError.LateTable → ¬ (MayFollow self.old line) }
+        ensures refused { IfErr result (λ error. (error ≡ RecordError.LateTable) ⊎ (error ≡ RecordError.NoMemory)) }
         ensures unchanged { OnErr result (self.new ≡ self.old) }
     {
         match line {
             Line::PassedOver => Ok(()),
             Line::Table(table) => {
                 if self.table.is_some() || !self.commands.is_empty() {
-                    return Err(ScriptError::Bad(number));
+                    return Err(RecordError::LateTable);
                 }
                 self.table = Some((number, table));
                 Ok(())
@@ -54,6 +55,13 @@ impl Draft {
                 Ok(())
             }
         }
+    }
+
+    /// Whether the table was read.
+    pub fn has_table(&self) -> bool
+        ensures { IsTrue result ↔ IsSome self.now.table }
+    {
+        self.table.is_some()
     }
 
     /// The script, whose records end before that number. One with no table is bad there.

@@ -1,14 +1,19 @@
 ghost use Rattle.std.specs.Prelude.{◌≡◌};
+ghost use Rattle.script.specs.Errors.{error_at};
 ghost use Rattle.script.specs.declared.record_error.RecordError.TheVariants.{NoMemory};
 
 use crate::ScriptError;
 use std::alloc::{AllocError, AllocFailed};
 
 /// Why a record of a script was not taken.
-#[derive(Clone, Copy, Debug, PartialEq, Eq)]
+#[derive(Clone, Copy, PartialEq, Eq)]
 pub enum RecordError {
+    /// Its bytes are no UTF-8.
+    NotText,
     /// It is not spelled as a record is.
-    Bad,
+    Misspelled,
+    /// It is a table behind a record that counts.
+    LateTable,
     NoMemory,
     CannotRead,
 }
@@ -16,12 +21,12 @@ pub enum RecordError {
 impl RecordError {
     /// The error of a script in which the record of that number was not taken.
     pub fn at(self, number: usize) -> ScriptError
-        ensures bad { self ≡ RecordError.Bad → result ≡ ScriptError.Bad number }
-        ensures no_memory { self ≡ RecordError.NoMemory → result ≡ ScriptError.NoMemory }
-        ensures unread { self ≡ RecordError.CannotRead → result ≡ ScriptError.CannotRead }
+        ensures { result ≡ error_at number self }
     {
         match self {
-            RecordError::Bad => ScriptError::Bad(number),
+            RecordError::NotText | RecordError::Misspelled | RecordError::LateTable => {
+                ScriptError::Bad(number)
+            }
             RecordError::NoMemory => ScriptError::NoMemory,
             RecordError::CannotRead => ScriptError::CannotRead,
         }

@@ -1,8 +1,8 @@
-ghost use Rattle.std.specs.Prelude.{◌≡◌, [], ◌∷◌, true, false};
-ghost use Rattle.csv.specs.Reading.{error_kind, is_io, stops_reader};
+ghost use Rattle.std.specs.Prelude.{◌≡◌, [], ◌∷◌, true, false, IfErr};
+ghost use Rattle.csv.specs.Reading.{error_kind};
 ghost use Rattle.csv.specs.Records.{AllText, fields_of};
-ghost use Rattle.script.specs.Readers.{IsReadError, IsUtf8Error};
-ghost use Rattle.script.specs.Records.{BeginsWithBytes, records_of};
+ghost use Rattle.script.specs.Readers.{IsReadError, cause_of};
+ghost use Rattle.script.specs.Records.{FailsToRead, records_of};
 
 use crate::record_error::RecordError;
 use csv::{ErrorKind, Reader, ReaderBuilder, StringRecord};
@@ -44,7 +44,7 @@ impl<'a> Records<'a> {
         ensures found { result ≡ Ok true → self.old ≡ fields_of «record».new ∷ self.new }
         ensures text { result ≡ Ok true → AllText (fields_of «record».new) }
         ensures ended { result ≡ Ok false → self.old ≡ [] }
-        ensures bad { result ≡ Err RecordError.Bad → BeginsWithBytes self.old }
+        ensures refused { IfErr result (FailsToRead self.old) }
     {
         match self.reader.read_record(record) {
             Ok(found) => Ok(found),
@@ -56,13 +56,11 @@ impl<'a> Records<'a> {
 /// Why a record was not read.
 fn cause(error: csv::Error) -> RecordError
     requires { IsReadError (error_kind error) }
-    ensures bad { result ≡ RecordError.Bad → IsUtf8Error (error_kind error) }
-    ensures no_memory { result ≡ RecordError.NoMemory → stops_reader (error_kind error) ≡ true }
-    ensures unread { result ≡ RecordError.CannotRead → is_io (error_kind error) ≡ true }
+    ensures { result ≡ cause_of (error_kind error) }
 {
     match error.kind() {
         ErrorKind::OutOfMemory => RecordError::NoMemory,
-        ErrorKind::Utf8 { .. } => RecordError::Bad,
+        ErrorKind::Utf8 { .. } => RecordError::NotText,
         ErrorKind::Io(_) => RecordError::CannotRead,
         _ => unreachable!(),
     }

@@ -1,12 +1,16 @@
-ghost use Rattle.std.specs.Prelude.{◌≡◌, ℕ, [], Some, IfOk, IfSome, OnOk, MatchOption};
+ghost use Rattle.std.specs.Prelude.{◌≡◌, ℕ, IfOk, IfErr, IfSome, OnOk};
 ghost use Rattle.std.specs.Io.KnownBytes.{IsAtEnd};
-ghost use Rattle.script.specs.Scripts.{BeginsBadly, IsFirstBad, SpellsScript, TakesLine};
+ghost use Rattle.csv.specs.Records.{fields_of};
+ghost use Rattle.script.specs.Explanations.{Explains, ExplainsStop};
+ghost use Rattle.script.specs.Scripts.{AreGood, IsFirstBad, SpellsScript};
+ghost use Rattle.script.specs.Shapes.{HasShape};
 
 use crate::draft::Draft;
-use crate::line::Line;
+use crate::misfit::misfit;
+use crate::reading::read_lines;
 use crate::record_error::RecordError;
-use crate::records::Records;
-use crate::{NumberedCommand, ScriptError, Table, parse};
+use crate::stop::Stop;
+use crate::{CheckError, Explanation, NumberedCommand, ScriptError, Table};
 use csv::StringRecord;
 use std::alloc::Global;
 use std::io::{self, Read};
@@ -27,12 +31,8 @@ impl Script {
         ensures bad { IfSome (R.remaining reader.old) (λ text. (number : ℕ) → result ≡ Err (ScriptError.Bad number) → IsFirstBad text number) }
         ensures end { OnOk result (IsAtEnd (R.remaining reader.new)) }
     {
-        let mut text = Vec::new(alloc);
-        match reader.read_to_end(&mut text) {
-            Ok(_) => Script::parse(alloc, text.as_slice()),
-            Err(error) if error.kind() == io::ErrorKind::OutOfMemory => Err(ScriptError::NoMemory),
-            Err(_) => Err(ScriptError::CannotRead),
-        }
+        let text = read_text(alloc, reader)?;
+        Script::parse(alloc, text.as_slice())
     }
 
     /// Looks at all records of a script. Records are numbered from 1, the ones that are passed over among them.
@@ -40,32 +40,64 @@ impl Script {
         ensures good { IfOk result (SpellsScript text.now) }
         ensures bad { (number : ℕ) → result ≡ Err (ScriptError.Bad number) → IsFirstBad text.now number }
     {
-        let mut records = Records::new(alloc, text);
-        let mut record = StringRecord::new(alloc);
         let mut draft = Draft::new(alloc);
-        for number in 1..usize::MAX {
-            match next_line(alloc, &mut records, &mut record) {
-                Ok(Some(line)) => draft.add(number, line)?,
-                Ok(None) => return draft.finish(number),
-                Err(error) => return Err(error.at(number)),
-            }
+        let mut record = StringRecord::new(alloc);
+        match read_lines(alloc, text, &mut draft, &mut record) {
+            Ok(number) => draft.finish(number),
+            Err(stop) => Err(stop.error.at(stop.number)),
         }
-        Err(ScriptError::NoMemory)
+    }
+
+    /// Looks at all records of a script, and answers how many there are, or what is wrong with the first bad one.
+    pub fn check(alloc: Global, text: &[u8]) -> Result<usize, CheckError>
+        ensures good { IfOk result (AreGood text.now) }
+        ensures bad { IfErr result (Explains text.now) }
+    {
+        let mut draft = Draft::new(alloc);
+        let mut record = StringRecord::new(alloc);
+        match read_lines(alloc, text, &mut draft, &mut record) {
+            Ok(number) if draft.has_table() => Ok(number - 1),
+            Ok(number) => Err(CheckError::Bad {
+                number,
+                explanation: Explanation::NoTable,
+            }),
+            Err(stop) => Err(explain(alloc, stop, &record)),
+        }
     }
 }
 
-/// The line that the next record is, if there is one.
-fn next_line(
-    alloc: Global,
-    records: &mut Records,
-    record: &mut StringRecord,
-) -> Result<Option<Line>, RecordError>
-    ensures found { IfOk result (λ found. MatchOption found (records.old ≡ []) (TakesLine records.old records.new)) }
-    ensures bad { result ≡ Err RecordError.Bad → BeginsBadly records.old }
+/// Reads the text of a script to its end.
+pub fn read_text<R: Read>(alloc: Global, reader: &mut R) -> Result<Vec<u8>, ScriptError>
+    ensures text { IfSome (R.remaining reader.old) (λ known. IfOk result (λ text. text.items ≡ known)) }
+    ensures end { OnOk result (IsAtEnd (R.remaining reader.new)) }
+    ensures unread { (number : ℕ) → result ≡ Err (ScriptError.Bad number) → ⊥ }
 {
-    if !records.read(record)? {
-        return Ok(None);
+    let mut text = Vec::new(alloc);
+    match reader.read_to_end(&mut text) {
+        Ok(_) => Ok(text),
+        Err(error) if error.kind() == io::ErrorKind::OutOfMemory => Err(ScriptError::NoMemory),
+        Err(_) => Err(ScriptError::CannotRead),
     }
-    let line = parse::line(alloc, record)?;
-    Ok(Some(line))
+}
+
+/// What is wrong with the record at which the reading stopped, whose fields are in the record where they could be read.
+fn explain(alloc: Global, stop: Stop, record: &StringRecord) -> CheckError
+    requires { stop.error ≡ RecordError.Misspelled → ¬ (HasShape (fields_of «record».now)) }
+    ensures { ExplainsStop stop (fields_of «record».now) result }
+{
+    let explanation = match stop.error {
+        RecordError::NotText => Explanation::NotText,
+        RecordError::LateTable => Explanation::LateTable,
+        RecordError::Misspelled => match misfit(alloc, record) {
+            Ok(Some(explanation)) => explanation,
+            Ok(None) => unreachable!(),
+            Err(_) => return CheckError::NoMemory,
+        },
+        RecordError::NoMemory => return CheckError::NoMemory,
+        RecordError::CannotRead => return CheckError::CannotRead,
+    };
+    CheckError::Bad {
+        number: stop.number,
+        explanation,
+    }
 }

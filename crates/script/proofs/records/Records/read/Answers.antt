@@ -1,7 +1,7 @@
 use Rattle.std.proofs.Common.{◌≡◌, true, false, Ok, Err, ap, sym, ◌∙◌}
 use Rattle.csv.specs.Reading.{has_failed}
 use Rattle.script.proofs.FieldLemmas.{bool_cases}
-use Rattle.script.proofs.RecordsLeft.{bytes_error, left_failed, left_more, left_none, read_error}
+use Rattle.script.proofs.RecordsLeft.{fails_to_read, left_failed, left_more, left_none, read_error}
 use Rattle.script.proofs.records.Records.read.Goals.{in-Ok, in-Err}
 use Rattle.script.proofs.records.Records.read.Goals as goal
 
@@ -38,15 +38,14 @@ returns-clause-ended c = λ found.
     let fields = (rw read at c.read_record.ensures.reads) (c.self.invariant goes).untrimmed (c.self.invariant goes).ready in
     sym c.self.view_is ∙ left_none reader c.read_record.new.self _ c.self.invariant goes fields)
 
-pub returns-clause-bad : goal.returns-clause-bad
-returns-clause-bad c = λ bad. elim c.match-read_record.branch [
-  | in-Ok w ↦ absurd (let both = sym w.result-is ∙ bad in cc)
+pub returns-clause-refused : goal.returns-clause-refused
+returns-clause-refused c = elim c.match-read_record.branch [
+  | in-Ok w ↦ rw w.result-is tt
   | in-Err w ↦
       let reader = c.self.inside.reader in
       let why = rw w.in-Err.is at c.read_record.ensures.why in
       let goes : has_failed reader ≡ false = bool_cases (has_failed reader)
       (λ failed. let both = sym w.in-Err.is ∙ c.read_record.ensures.failed failed in cc)
       (λ goes. goes) in
-      let is : w.cause.result ≡ _ = (let same = sym w.result-is ∙ bad in cc) in
-      rw (← c.self.view_is) (bytes_error reader c.read_record.new.self _ c.self.invariant goes why (w.cause.ensures.bad is))
+      rw (w.result-is, w.cause.ensures, ← c.self.view_is) (fails_to_read reader c.read_record.new.self _ c.self.invariant goes why)
 ]
