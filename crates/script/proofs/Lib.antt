@@ -1,7 +1,10 @@
 mod Drafted
 mod FieldLemmas
+mod Misfits
+mod Ordered
 mod RecordsLeft
 mod RidPoints
 mod Shaped
 mod SpelledLists
+mod Stopped
 pub mod Zips

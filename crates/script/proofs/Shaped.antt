@@ -75,7 +75,7 @@ command_fits (f ∷ fs) (Insert label cells) spelled = (spelled.0.1, each_fits S
 command_fits [] (Update label rid cells) spelled = spelled
 command_fits (f ∷ []) (Update label rid cells) spelled = absurd spelled.1
 command_fits (f ∷ g ∷ fs) (Update label rid cells) spelled =
-    (spelled.0.1, (rid, spelled.1.0), each_fits SpellsCell part.Cell reads_cell fs cells.items spelled.1.1)
+    (spelled.0.1, ((rid, spelled.1.0), each_fits SpellsCell part.Cell reads_cell fs cells.items spelled.1.1))
 command_fits [] (Delete label rid) spelled = spelled
 command_fits (f ∷ fs) (Delete label rid) spelled = (spelled.0.1, one_fits SpellsRid part.Rid reads_rid fs rid spelled.1)
 command_fits fields (Undo label) spelled = one_fits SpellsLabel part.Label reads_label fields label spelled
@@ -85,8 +85,8 @@ command_fits [] (StartCommand start) spelled = spelled
 command_fits (f ∷ []) (StartCommand start) spelled = absurd spelled.1
 command_fits (f ∷ g ∷ []) (StartCommand start) spelled = absurd spelled.1.1
 command_fits (f ∷ g ∷ h ∷ fs) (StartCommand start) spelled =
-    ((start.workers, spelled.0), (start.quota, spelled.1.0), (start.dealing, spelled.1.1.0),
-    each_fits SpellsSpec part.Spec reads_spec fs start.specs.items spelled.1.1.1)
+    let specs = each_fits SpellsSpec part.Spec reads_spec fs start.specs.items spelled.1.1.1 in
+    ((start.workers, spelled.0), ((start.quota, spelled.1.0), ((start.dealing, spelled.1.1.0), specs)))
 command_fits fields (Scan range worker) spelled = two_fit SpellsNumber part.Number reads_number fields range worker spelled
 command_fits fields (Seal worker) spelled = one_fits SpellsNumber part.Number reads_number fields worker spelled
 command_fits fields (Load index) spelled = one_fits SpellsNumber part.Number reads_number fields index spelled

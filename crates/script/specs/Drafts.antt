@@ -1,6 +1,8 @@
 -- What was read of a script so far.
 use Rattle.std.specs.Prelude.{◌≡◌, ℕ, List, [], ◌∷◌, ◌++◌, Option, Some, None, ⊤}
 use Rattle.script.specs.Scripts.{StandsBehind, commands_from, tables_from}
+use Rattle.script.specs.declared.cause.Cause.{Cause}
+use Rattle.script.specs.declared.cause.Cause.TheVariants.{CannotRead, LateTable, Misspelled, NoMemory, NotText}
 use Rattle.script.specs.declared.line.Line.{Line}
 use Rattle.script.specs.declared.line.Line.TheVariants.{PassedOver, Table, Command}
 use Rattle.script.specs.declared.numbered_command.NumberedCommand.{NumberedCommand}
@@ -21,6 +23,14 @@ abbrev pub MayFollow : DraftValue → Line → Type 0
 MayFollow draft PassedOver = ⊤
 MayFollow draft (Table table) = IsBlank draft
 MayFollow draft (Command command) = ⊤
+
+-- why the line was not put into the draft
+abbrev pub IsNotAdded : DraftValue → Line → Cause → Type 0
+IsNotAdded draft line LateTable = ¬ (MayFollow draft line)
+IsNotAdded draft line NoMemory = ⊤
+IsNotAdded draft line NotText = ⊥
+IsNotAdded draft line Misspelled = ⊥
+IsNotAdded draft line CannotRead = ⊥
 
 -- the draft with one more line, of that number
 abbrev pub with_line : DraftValue → ℕ → Line → DraftValue

@@ -11,8 +11,8 @@ use Rattle.script.specs.declared.explanation.Explanation.{Explanation}
 use Rattle.script.specs.declared.explanation.Explanation.TheVariants.{LateTable, Misspelled, NoTable as TableMissing, NotText, TooFewFields, TooManyFields, UnknownCommand}
 use Rattle.script.specs.declared.line.Line.{Line}
 use Rattle.script.specs.declared.part.Part.{Part}
-use Rattle.script.specs.declared.record_error.RecordError.{RecordError}
-use Rattle.script.specs.declared.record_error.RecordError.TheVariants as record_error
+use Rattle.script.specs.declared.cause.Cause.{Cause}
+use Rattle.script.specs.declared.cause.Cause.TheVariants as causes
 use Rattle.script.specs.declared.stop.Stop.{Stop}
 
 -- the text is neither the name of a command nor a remark
@@ -79,17 +79,17 @@ Explains text (Bad number explanation) =
     × StandsBehind text lines behind number × IsBadBehind lines behind × Tells lines behind explanation
 
 -- the explanation is of that error, and of these fields where they were misspelled
-abbrev pub IsOfError : RecordError → List (List ℕ) → Explanation → Type 0
-IsOfError error fields NotText = error ≡ record_error.NotText
-IsOfError error fields LateTable = error ≡ record_error.LateTable
-IsOfError error fields TableMissing = ⊥
-IsOfError error fields (UnknownCommand text) = (error ≡ record_error.Misspelled) × TellsFields fields (UnknownCommand text)
-IsOfError error fields (TooFewFields name) = (error ≡ record_error.Misspelled) × TellsFields fields (TooFewFields name)
-IsOfError error fields (TooManyFields name) = (error ≡ record_error.Misspelled) × TellsFields fields (TooManyFields name)
-IsOfError error fields (Misspelled number text part) = (error ≡ record_error.Misspelled) × TellsFields fields (Misspelled number text part)
+abbrev pub IsOfCause : Cause → List (List ℕ) → Explanation → Type 0
+IsOfCause cause fields NotText = cause ≡ causes.NotText
+IsOfCause cause fields LateTable = cause ≡ causes.LateTable
+IsOfCause cause fields TableMissing = ⊥
+IsOfCause cause fields (UnknownCommand text) = (cause ≡ causes.Misspelled) × TellsFields fields (UnknownCommand text)
+IsOfCause cause fields (TooFewFields name) = (cause ≡ causes.Misspelled) × TellsFields fields (TooFewFields name)
+IsOfCause cause fields (TooManyFields name) = (cause ≡ causes.Misspelled) × TellsFields fields (TooManyFields name)
+IsOfCause cause fields (Misspelled number text part) = (cause ≡ causes.Misspelled) × TellsFields fields (Misspelled number text part)
 
 -- the error explains why the reading stopped
 abbrev pub ExplainsStop : Stop → List (List ℕ) → CheckError → Type 0
 ExplainsStop stop fields CannotRead = ⊤
 ExplainsStop stop fields NoMemory = ⊤
-ExplainsStop stop fields (Bad number explanation) = (number ≡ stop.number) × IsOfError stop.error fields explanation
+ExplainsStop stop fields (Bad number explanation) = (number ≡ stop.number) × IsOfCause stop.cause fields explanation

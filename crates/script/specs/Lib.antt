@@ -1,5 +1,5 @@
+pub mod Causes
 pub mod Drafts
-pub mod Errors
 pub mod Explanations
 pub mod Fields
 pub mod Lines

@@ -7,8 +7,8 @@ use Rattle.csv.specs.declared.error.ErrorKind.TheVariants.{Deserialize, Io, OutO
 use Rattle.csv.specs.declared.parser.State.{State}
 use Rattle.csv.specs.declared.reader.Reader.{Reader}
 use Rattle.csv.specs.declared.reader.Trim.TheVariants as trim
-use Rattle.script.specs.declared.record_error.RecordError.{RecordError}
-use Rattle.script.specs.declared.record_error.RecordError.TheVariants.{CannotRead, NoMemory, NotText}
+use Rattle.script.specs.declared.cause.Cause.{Cause}
+use Rattle.script.specs.declared.cause.Cause.TheVariants.{CannotRead, NoMemory, NotText}
 
 -- the records of the bytes that are left in that state, if there are any
 abbrev pub records_in : State → Option (List ℕ) → List (List (List ℕ))
@@ -40,7 +40,7 @@ IsReadError (Serialize text) = ⊥
 IsReadError (Deserialize place error) = ⊥
 
 -- why a record was not read; only the first three come of a read
-abbrev pub cause_of : ErrorKind → RecordError
+abbrev pub cause_of : ErrorKind → Cause
 cause_of (Utf8 place error) = NotText
 cause_of OutOfMemory = NoMemory
 cause_of (Io error) = CannotRead

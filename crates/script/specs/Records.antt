@@ -2,8 +2,8 @@
 use Rattle.std.specs.Prelude.{ℕ, List, [], ◌∷◌, ⊤}
 use Rattle.csv.specs.Reading.{default_config, records, strip_bom}
 use Rattle.csv.specs.Records.{AllText}
-use Rattle.script.specs.declared.record_error.RecordError.{RecordError}
-use Rattle.script.specs.declared.record_error.RecordError.TheVariants.{CannotRead, LateTable, Misspelled, NoMemory, NotText}
+use Rattle.script.specs.declared.cause.Cause.{Cause}
+use Rattle.script.specs.declared.cause.Cause.TheVariants.{CannotRead, LateTable, Misspelled, NoMemory, NotText}
 
 -- the records of a text, each with its fields; no line of it is a header
 abbrev pub records_of : List ℕ → List (List (List ℕ))
@@ -15,7 +15,7 @@ BeginsWithBytes [] = ⊥
 BeginsWithBytes (fields ∷ rest) = ¬ (AllText fields)
 
 -- why the first of the records is not read
-abbrev pub FailsToRead : List (List (List ℕ)) → RecordError → Type 0
+abbrev pub FailsToRead : List (List (List ℕ)) → Cause → Type 0
 FailsToRead records NotText = BeginsWithBytes records
 FailsToRead records Misspelled = ⊥
 FailsToRead records LateTable = ⊥

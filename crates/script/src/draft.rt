@@ -1,8 +1,8 @@
-ghost use Rattle.std.specs.Prelude.{◌≡◌, ◌⊎◌, [], Some, None, IfOk, IfErr, IsSome, IsTrue, OnOk, OnErr, ◌↔◌};
-ghost use Rattle.script.specs.Drafts.{MayFollow, with_line};
+ghost use Rattle.std.specs.Prelude.{◌≡◌, [], Some, None, IfOk, IfErr, OnOk, OnErr, is_some};
+ghost use Rattle.script.specs.Drafts.{IsNotAdded, MayFollow, with_line};
 
+use crate::cause::Cause;
 use crate::line::Line;
-use crate::record_error::RecordError;
 use crate::{NumberedCommand, Script, ScriptError, Table};
 use std::alloc::Global;
 use std::marker::Model;
@@ -34,18 +34,17 @@ impl Draft {
     }
 
     /// Adds the record of that number. A record `table` is bad unless it is the first that counts.
-    pub fn add(&mut self, number: usize, line: Line) -> Result<(), RecordError>
+    pub fn add(&mut self, number: usize, line: Line) -> Result<(), Cause>
         ensures ok { OnOk result (self.new ≡ with_line self.old number line) }
         ensures accepted { OnOk result (MayFollow self.old line) }
-        ensures late { result ≡ Err RecordError.LateTable → ¬ (MayFollow self.old line) }
-        ensures refused { IfErr result (λ error. (error ≡ RecordError.LateTable) ⊎ (error ≡ RecordError.NoMemory)) }
+        ensures refused { IfErr result (IsNotAdded self.old line) }
         ensures unchanged { OnErr result (self.new ≡ self.old) }
     {
         match line {
             Line::PassedOver => Ok(()),
             Line::Table(table) => {
                 if self.table.is_some() || !self.commands.is_empty() {
-                    return Err(RecordError::LateTable);
+                    return Err(Cause::LateTable);
                 }
                 self.table = Some((number, table));
                 Ok(())
@@ -59,7 +58,7 @@ impl Draft {
 
     /// Whether the table was read.
     pub fn has_table(&self) -> bool
-        ensures { IsTrue result ↔ IsSome self.now.table }
+        ensures { result ≡ is_some self.now.table }
     {
         self.table.is_some()
     }

@@ -5,6 +5,7 @@
 //! layers above run commands, and only where every record is good.
 #![tactic(auto)]
 
+mod cause;
 mod check_error;
 mod command;
 mod command_name;

@@ -4,10 +4,10 @@ ghost use Rattle.csv.specs.Records.{fields_of};
 ghost use Rattle.script.specs.Drafts.{HasRead, IsBlank};
 ghost use Rattle.script.specs.Stops.{FailsToSpell, StopsAt, TakesLine};
 
+use crate::cause::Cause;
 use crate::draft::Draft;
 use crate::line::Line;
 use crate::parse;
-use crate::record_error::RecordError;
 use crate::records::Records;
 use crate::stop::Stop;
 use csv::StringRecord;
@@ -29,17 +29,17 @@ pub fn read_lines(
     for number in 1..usize::MAX {
         match next_line(alloc, &mut records, record) {
             Ok(Some(line)) => {
-                if let Err(error) = draft.add(number, line) {
-                    return Err(Stop { number, error });
+                if let Err(cause) = draft.add(number, line) {
+                    return Err(Stop { number, cause });
                 }
             }
             Ok(None) => return Ok(number),
-            Err(error) => return Err(Stop { number, error }),
+            Err(cause) => return Err(Stop { number, cause }),
         }
     }
     Err(Stop {
         number: usize::MAX,
-        error: RecordError::NoMemory,
+        cause: Cause::NoMemory,
     })
 }
 
@@ -48,7 +48,7 @@ fn next_line(
     alloc: Global,
     records: &mut Records,
     record: &mut StringRecord,
-) -> Result<Option<Line>, RecordError>
+) -> Result<Option<Line>, Cause>
     ensures found { IfOk result (λ found. MatchOption found (records.old ≡ []) (TakesLine records.old records.new)) }
     ensures refused { IfErr result (FailsToSpell records.old (fields_of «record».new)) }
 {

@@ -1,36 +1,14 @@
 ghost use Rattle.std.specs.Prelude.{◌≡◌};
-ghost use Rattle.script.specs.Errors.{error_at};
 ghost use Rattle.script.specs.declared.record_error.RecordError.TheVariants.{NoMemory};
 
-use crate::ScriptError;
 use std::alloc::{AllocError, AllocFailed};
 
-/// Why a record of a script was not taken.
+/// Why the fields of a record were refused.
 #[derive(Clone, Copy, PartialEq, Eq)]
 pub enum RecordError {
-    /// Its bytes are no UTF-8.
-    NotText,
-    /// It is not spelled as a record is.
+    /// They are not spelled as those of a record are.
     Misspelled,
-    /// It is a table behind a record that counts.
-    LateTable,
     NoMemory,
-    CannotRead,
-}
-
-impl RecordError {
-    /// The error of a script in which the record of that number was not taken.
-    pub fn at(self, number: usize) -> ScriptError
-        ensures { result ≡ error_at number self }
-    {
-        match self {
-            RecordError::NotText | RecordError::Misspelled | RecordError::LateTable => {
-                ScriptError::Bad(number)
-            }
-            RecordError::NoMemory => ScriptError::NoMemory,
-            RecordError::CannotRead => ScriptError::CannotRead,
-        }
-    }
 }
 
 impl From<AllocError> for RecordError {

@@ -4,7 +4,7 @@ ghost use Rattle.csv.specs.Records.{AllText, fields_of};
 ghost use Rattle.script.specs.Readers.{IsReadError, cause_of};
 ghost use Rattle.script.specs.Records.{FailsToRead, records_of};
 
-use crate::record_error::RecordError;
+use crate::cause::Cause;
 use csv::{ErrorKind, Reader, ReaderBuilder, StringRecord};
 use std::alloc::Global;
 use std::marker::Model;
@@ -40,7 +40,7 @@ impl<'a> Records<'a> {
     }
 
     /// Reads the next record, and answers whether there is one.
-    pub fn read(&mut self, record: &mut StringRecord) -> Result<bool, RecordError>
+    pub fn read(&mut self, record: &mut StringRecord) -> Result<bool, Cause>
         ensures found { result ≡ Ok true → self.old ≡ fields_of «record».new ∷ self.new }
         ensures text { result ≡ Ok true → AllText (fields_of «record».new) }
         ensures ended { result ≡ Ok false → self.old ≡ [] }
@@ -54,14 +54,14 @@ impl<'a> Records<'a> {
 }
 
 /// Why a record was not read.
-fn cause(error: csv::Error) -> RecordError
+fn cause(error: csv::Error) -> Cause
     requires { IsReadError (error_kind error) }
     ensures { result ≡ cause_of (error_kind error) }
 {
     match error.kind() {
-        ErrorKind::OutOfMemory => RecordError::NoMemory,
-        ErrorKind::Utf8 { .. } => RecordError::NotText,
-        ErrorKind::Io(_) => RecordError::CannotRead,
+        ErrorKind::OutOfMemory => Cause::NoMemory,
+        ErrorKind::Utf8 { .. } => Cause::NotText,
+        ErrorKind::Io(_) => Cause::CannotRead,
         _ => unreachable!(),
     }
 }

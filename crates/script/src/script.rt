@@ -5,10 +5,10 @@ ghost use Rattle.script.specs.Explanations.{Explains, ExplainsStop};
 ghost use Rattle.script.specs.Scripts.{AreGood, IsFirstBad, SpellsScript};
 ghost use Rattle.script.specs.Shapes.{HasShape};
 
+use crate::cause::Cause;
 use crate::draft::Draft;
 use crate::misfit::misfit;
 use crate::reading::read_lines;
-use crate::record_error::RecordError;
 use crate::stop::Stop;
 use crate::{CheckError, Explanation, NumberedCommand, ScriptError, Table};
 use csv::StringRecord;
@@ -44,7 +44,7 @@ impl Script {
         let mut record = StringRecord::new(alloc);
         match read_lines(alloc, text, &mut draft, &mut record) {
             Ok(number) => draft.finish(number),
-            Err(stop) => Err(stop.error.at(stop.number)),
+            Err(stop) => Err(stop.cause.at(stop.number)),
         }
     }
 
@@ -82,19 +82,19 @@ pub fn read_text<R: Read>(alloc: Global, reader: &mut R) -> Result<Vec<u8>, Scri
 
 /// What is wrong with the record at which the reading stopped, whose fields are in the record where they could be read.
 fn explain(alloc: Global, stop: Stop, record: &StringRecord) -> CheckError
-    requires { stop.error ≡ RecordError.Misspelled → ¬ (HasShape (fields_of «record».now)) }
+    requires { stop.cause ≡ Cause.Misspelled → ¬ (HasShape (fields_of «record».now)) }
     ensures { ExplainsStop stop (fields_of «record».now) result }
 {
-    let explanation = match stop.error {
-        RecordError::NotText => Explanation::NotText,
-        RecordError::LateTable => Explanation::LateTable,
-        RecordError::Misspelled => match misfit(alloc, record) {
+    let explanation = match stop.cause {
+        Cause::NotText => Explanation::NotText,
+        Cause::LateTable => Explanation::LateTable,
+        Cause::Misspelled => match misfit(alloc, record) {
             Ok(Some(explanation)) => explanation,
             Ok(None) => unreachable!(),
             Err(_) => return CheckError::NoMemory,
         },
-        RecordError::NoMemory => return CheckError::NoMemory,
-        RecordError::CannotRead => return CheckError::CannotRead,
+        Cause::NoMemory => return CheckError::NoMemory,
+        Cause::CannotRead => return CheckError::CannotRead,
     };
     CheckError::Bad {
         number: stop.number,

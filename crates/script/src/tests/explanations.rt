@@ -85,7 +85,10 @@ const EXPLAINED: [(&[u8], &str); 24] = [
         b"row,1\n#\n",
         "record 3 is bad: no record is a table (table,L,KIND,..)",
     ),
-    (b"", "record 1 is bad: no record is a table (table,L,KIND,..)"),
+    (
+        b"",
+        "record 1 is bad: no record is a table (table,L,KIND,..)",
+    ),
     (
         b"table,2,int\nscan,0\n",
         "record 2 is bad: it has too few fields (scan,R,W)",
