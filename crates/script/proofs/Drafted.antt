@@ -5,13 +5,12 @@ use Rattle.std.proofs.lemmas.Slice.Zip.{AllZip-long}
 use Rattle.script.specs.Drafts.{DraftValue, HasRead, IsBlank, IsDraft, MayFollow, listed, with_line}
 use Rattle.script.specs.Explanations.{Explains}
 use Rattle.script.specs.Records.{records_of}
-use Rattle.script.specs.Scripts.{AreGood, InOrder, IsFirstBad, NoTable, RecordSpells, SpellsScript, StandsBehind, commands_from, tables_from}
+use Rattle.script.specs.Scripts.{AreGood, InOrder, IsFirstBad, NoTable, RecordSpells, StandsBehind, commands_from, tables_from}
 use Rattle.script.specs.Stops.{TakesLine}
 use Rattle.script.specs.declared.check_error.CheckError.TheVariants.{Bad}
 use Rattle.script.specs.declared.explanation.Explanation.TheVariants.{NoTable as TableMissing}
 use Rattle.script.specs.declared.line.Line.{Line}
 use Rattle.script.specs.declared.line.Line.TheVariants.{PassedOver, Table as TableLine, Command as CommandLine}
-use Rattle.script.specs.declared.script.Script.{Script}
 use Rattle.script.specs.declared.table.Table.{Table}
 use Rattle.script.proofs.Ordered.{InOrder-more, commands_from-append, no_tables, table_first, tables_from-append, tables_none}
 use Rattle.script.proofs.Zips.{zip_push}
@@ -81,12 +80,6 @@ all_before : (text : List ℕ) (lines : List Line) (left : List (List (List ℕ)
     → records_of text ≡ behind.before
 all_before text lines left number behind ended =
     behind.split ∙ ap (λ (more : List (List (List ℕ))). behind.before ++ more) ended ∙ append-nil behind.before
-
--- no record is left, and the draft is the script
-pub good_end : (text : List ℕ) (draft : DraftValue) (number : ℕ) (script : Script) → HasRead text [] draft number
-    → draft.table ≡ Some (script.table_number, script.table) → script.commands.items ≡ draft.commands → SpellsScript text script
-good_end text draft number script read table commands =
-    (read.0, rw (all_before text read.0 [] number read.1 refl) read.1.spelled, (read.2.0 ∙ ap listed table, commands ∙ read.2.1))
 
 -- no record is left, and no table came
 pub no_table : (text : List ℕ) (draft : DraftValue) (number : ℕ) (read : HasRead text [] draft number) → draft.table ≡ None → NoTable read.0

@@ -1,6 +1,6 @@
 -- Fields that are read one after the other, and the parts that they spell.
 use denote.Ref.{Bor}
-use Rattle.std.proofs.Common.{◌≡◌, ℕ, zero, suc, ◌<◌, ◌≤◌, get_or, List, [], ◌∷◌, length, map, slice_get, MatchOption, Option, Some, None, arith, refl}
+use Rattle.std.proofs.Common.{◌≡◌, ℕ, zero, suc, ◌<◌, ◌≤◌, get_or, List, [], ◌∷◌, length, slice_get, MatchOption, Option, Some, None, arith, refl}
 use Rattle.script.specs.Fields.{texts}
 use Rattle.script.specs.Shapes.{Fit, IsSpelled, part_at}
 use Rattle.script.specs.declared.part.Part.{Part}

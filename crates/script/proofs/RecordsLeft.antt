@@ -1,6 +1,6 @@
 -- What one read takes from the records that a reader has left.
 use denote.Ref.{Bor}
-use Rattle.std.proofs.Common.{◌≡◌, ◌==◌, ◌&&◌, not, ℕ, zero, suc, ◌+◌, ◌-◌, ◌<◌, ◌≤◌, Bool, true, false, List, [], ◌∷◌, ◌++◌, length, take, drop, Option, Some, None, add-one, arith, refl, ap, sym, ◌∙◌}
+use Rattle.std.proofs.Common.{◌≡◌, ◌==◌, ◌&&◌, not, ℕ, zero, suc, ◌+◌, ◌-◌, ◌<◌, ◌≤◌, true, false, List, [], ◌∷◌, ◌++◌, length, take, drop, Option, Some, None, add-one, arith, refl, ap, sym, ◌∙◌}
 use Rattle.csv.specs.Machine.{Read, ends_at_end, field_after, fields_after, is_end, next_record, step}
 use Rattle.csv.specs.Reading.{ExplainsRead, NextIs, ReadRecord, Ready, ReadsNext, TookRecord, default_config, has_failed, pending_of, reader_trim, records_from, records_next, source_of, strip_bom}
 use Rattle.csv.specs.declared.parser.Config.{Config}

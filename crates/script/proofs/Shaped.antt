@@ -2,8 +2,8 @@
 use Rattle.std.proofs.Common.{◌≡◌, ◌==◌, ℕ, true, false, List, [], ◌∷◌, slice_index, codes, if◌then◌else◌, Some, None, arith, inl, inr, ap, refl, sym, ◌∙◌}
 use Rattle.std.specs.List.{AllZip}
 use Rattle.std.specs.Str.{bytes_eq}
-use Rattle.script.specs.Fields.{SpellEach, SpellsCell, SpellsDealing, SpellsKind, SpellsNumber, SpellsRid, SpellsSpec}
-use Rattle.script.specs.Lines.{SpellLine, SpellParts, SpellStart, SpellTable, SpellsLabel, name_of}
+use Rattle.script.specs.Fields.{SpellEach, SpellsCell, SpellsKind, SpellsNumber, SpellsRid, SpellsSpec}
+use Rattle.script.specs.Lines.{SpellLine, SpellParts, SpellTable, SpellsLabel, name_of}
 use Rattle.script.specs.Shapes.{Fit, HasShape, IsRemark, IsSpelled, parts_of, repeated_of, written}
 use Rattle.script.specs.declared.command.Command.{Command}
 use Rattle.script.specs.declared.command.Command.TheVariants.{Row, Begin, Insert, Update, Delete, Undo, Commit, Get, Start as StartCommand, Scan, Seal, Load, Switch, Pairs, Rest}
@@ -16,84 +16,84 @@ use Rattle.script.specs.declared.part.Part.TheVariants as part
 use Rattle.script.specs.declared.table.Table.{Table}
 
 -- a relation of texts to values spells the part
-abbrev Reads : {A : Type 0} → (List ℕ → A → Type 0) → Part → Type 0
-Reads {A} Spells one = (text : List ℕ) (value : A) → Spells text value → IsSpelled one text
+abbrev SpellsPart : {A : Type 0} → (List ℕ → A → Type 0) → Part → Type 0
+SpellsPart {A} Spells one = (text : List ℕ) (value : A) → Spells text value → IsSpelled one text
 
-reads_label : Reads SpellsLabel part.Label
-reads_label text label spelled = spelled.1
+label_part : SpellsPart SpellsLabel part.Label
+label_part text label spelled = spelled.1
 
-reads_rid : Reads SpellsRid part.Rid
-reads_rid text rid spelled = (rid, spelled)
+rid_part : SpellsPart SpellsRid part.Rid
+rid_part text rid spelled = (rid, spelled)
 
-reads_number : Reads SpellsNumber part.Number
-reads_number text number spelled = (number, spelled)
+number_part : SpellsPart SpellsNumber part.Number
+number_part text number spelled = (number, spelled)
 
-reads_cell : Reads SpellsCell part.Cell
-reads_cell text cell spelled = (cell, spelled)
+cell_part : SpellsPart SpellsCell part.Cell
+cell_part text cell spelled = (cell, spelled)
 
-reads_kind : Reads SpellsKind part.Kind
-reads_kind text kind spelled = (kind, spelled)
+kind_part : SpellsPart SpellsKind part.Kind
+kind_part text kind spelled = (kind, spelled)
 
-reads_spec : Reads SpellsSpec part.Spec
-reads_spec text spec spelled = (spec, spelled)
+spec_part : SpellsPart SpellsSpec part.Spec
+spec_part text spec spelled = (spec, spelled)
 
 -- one text for one value, two for two, and one or more
-one_fits : {A : Type 0} (Spells : List ℕ → A → Type 0) (one : Part) → Reads Spells one → (fields : List (List ℕ)) (value : A)
+one_fits : {A : Type 0} (Spells : List ℕ → A → Type 0) (one : Part) → SpellsPart Spells one → (fields : List (List ℕ)) (value : A)
     → AllZip Spells fields (value ∷ []) → Fit (one ∷ []) None fields
-one_fits Spells one reads [] value spelled = spelled
-one_fits Spells one reads (f ∷ []) value spelled = (reads f value spelled.0, tt)
-one_fits Spells one reads (f ∷ g ∷ fs) value spelled = absurd spelled.1
+one_fits Spells one part_is [] value spelled = spelled
+one_fits Spells one part_is (f ∷ []) value spelled = (part_is f value spelled.0, tt)
+one_fits Spells one part_is (f ∷ g ∷ fs) value spelled = absurd spelled.1
 
-two_fit : {A : Type 0} (Spells : List ℕ → A → Type 0) (one : Part) → Reads Spells one → (fields : List (List ℕ)) (first second : A)
+two_fit : {A : Type 0} (Spells : List ℕ → A → Type 0) (one : Part) → SpellsPart Spells one → (fields : List (List ℕ)) (first second : A)
     → AllZip Spells fields (first ∷ second ∷ []) → Fit (one ∷ one ∷ []) None fields
-two_fit Spells one reads [] first second spelled = spelled
-two_fit Spells one reads (f ∷ fs) first second spelled = (reads f first spelled.0, one_fits Spells one reads fs second spelled.1)
+two_fit Spells one part_is [] first second spelled = spelled
+two_fit Spells one part_is (f ∷ fs) first second spelled = (part_is f first spelled.0, one_fits Spells one part_is fs second spelled.1)
 
-more_fit : {A : Type 0} (Spells : List ℕ → A → Type 0) (one : Part) → Reads Spells one → (fields : List (List ℕ)) (values : List A)
+more_fit : {A : Type 0} (Spells : List ℕ → A → Type 0) (one : Part) → SpellsPart Spells one → (fields : List (List ℕ)) (values : List A)
     → AllZip Spells fields values → Fit [] (Some one) fields
-more_fit Spells one reads [] values spelled = tt
-more_fit Spells one reads (f ∷ fs) [] spelled = absurd spelled
-more_fit Spells one reads (f ∷ fs) (v ∷ vs) spelled = (reads f v spelled.0, more_fit Spells one reads fs vs spelled.1)
+more_fit Spells one part_is [] values spelled = tt
+more_fit Spells one part_is (f ∷ fs) [] spelled = absurd spelled
+more_fit Spells one part_is (f ∷ fs) (v ∷ vs) spelled = (part_is f v spelled.0, more_fit Spells one part_is fs vs spelled.1)
 
-each_fits : {A : Type 0} (Spells : List ℕ → A → Type 0) (one : Part) → Reads Spells one → (fields : List (List ℕ)) (values : List A)
+each_fits : {A : Type 0} (Spells : List ℕ → A → Type 0) (one : Part) → SpellsPart Spells one → (fields : List (List ℕ)) (values : List A)
     → SpellEach Spells fields values → Fit (one ∷ []) (Some one) fields
-each_fits Spells one reads [] values spelled = omega (arith, spelled.0)
-each_fits Spells one reads (f ∷ fs) [] spelled = absurd spelled.1
-each_fits Spells one reads (f ∷ fs) (v ∷ vs) spelled = (reads f v spelled.1.0, more_fit Spells one reads fs vs spelled.1.1)
+each_fits Spells one part_is [] values spelled = omega (arith, spelled.0)
+each_fits Spells one part_is (f ∷ fs) [] spelled = absurd spelled.1
+each_fits Spells one part_is (f ∷ fs) (v ∷ vs) spelled = (part_is f v spelled.1.0, more_fit Spells one part_is fs vs spelled.1.1)
 
 -- the fields of a table and those of a start
 table_fits : (fields : List (List ℕ)) (table : Table) → SpellTable fields table → Fit (parts_of name.Table) (repeated_of name.Table) fields
 table_fits [] table spelled = spelled
-table_fits (f ∷ fs) table spelled = ((table.slot_limit, spelled.0), each_fits SpellsKind part.Kind reads_kind fs table.kinds.items spelled.1)
+table_fits (f ∷ fs) table spelled = ((table.slot_limit, spelled.0), each_fits SpellsKind part.Kind kind_part fs table.kinds.items spelled.1)
 
 -- the fields of a command
 command_fits : (fields : List (List ℕ)) (command : Command) → SpellParts fields command → Fit (parts_of (name_of command)) (repeated_of (name_of command)) fields
-command_fits fields (Row cells) spelled = each_fits SpellsCell part.Cell reads_cell fields cells.items spelled
-command_fits fields (Begin label) spelled = one_fits SpellsLabel part.Label reads_label fields label spelled
+command_fits fields (Row cells) spelled = each_fits SpellsCell part.Cell cell_part fields cells.items spelled
+command_fits fields (Begin label) spelled = one_fits SpellsLabel part.Label label_part fields label spelled
 command_fits [] (Insert label cells) spelled = spelled
-command_fits (f ∷ fs) (Insert label cells) spelled = (spelled.0.1, each_fits SpellsCell part.Cell reads_cell fs cells.items spelled.1)
+command_fits (f ∷ fs) (Insert label cells) spelled = (spelled.0.1, each_fits SpellsCell part.Cell cell_part fs cells.items spelled.1)
 command_fits [] (Update label rid cells) spelled = spelled
 command_fits (f ∷ []) (Update label rid cells) spelled = absurd spelled.1
 command_fits (f ∷ g ∷ fs) (Update label rid cells) spelled =
-    (spelled.0.1, ((rid, spelled.1.0), each_fits SpellsCell part.Cell reads_cell fs cells.items spelled.1.1))
+    (spelled.0.1, ((rid, spelled.1.0), each_fits SpellsCell part.Cell cell_part fs cells.items spelled.1.1))
 command_fits [] (Delete label rid) spelled = spelled
-command_fits (f ∷ fs) (Delete label rid) spelled = (spelled.0.1, one_fits SpellsRid part.Rid reads_rid fs rid spelled.1)
-command_fits fields (Undo label) spelled = one_fits SpellsLabel part.Label reads_label fields label spelled
-command_fits fields (Commit label) spelled = one_fits SpellsLabel part.Label reads_label fields label spelled
-command_fits fields (Get rid) spelled = one_fits SpellsRid part.Rid reads_rid fields rid spelled
+command_fits (f ∷ fs) (Delete label rid) spelled = (spelled.0.1, one_fits SpellsRid part.Rid rid_part fs rid spelled.1)
+command_fits fields (Undo label) spelled = one_fits SpellsLabel part.Label label_part fields label spelled
+command_fits fields (Commit label) spelled = one_fits SpellsLabel part.Label label_part fields label spelled
+command_fits fields (Get rid) spelled = one_fits SpellsRid part.Rid rid_part fields rid spelled
 command_fits [] (StartCommand start) spelled = spelled
 command_fits (f ∷ []) (StartCommand start) spelled = absurd spelled.1
 command_fits (f ∷ g ∷ []) (StartCommand start) spelled = absurd spelled.1.1
 command_fits (f ∷ g ∷ h ∷ fs) (StartCommand start) spelled =
-    let specs = each_fits SpellsSpec part.Spec reads_spec fs start.specs.items spelled.1.1.1 in
+    let specs = each_fits SpellsSpec part.Spec spec_part fs start.specs.items spelled.1.1.1 in
     ((start.workers, spelled.0), ((start.quota, spelled.1.0), ((start.dealing, spelled.1.1.0), specs)))
-command_fits fields (Scan range worker) spelled = two_fit SpellsNumber part.Number reads_number fields range worker spelled
-command_fits fields (Seal worker) spelled = one_fits SpellsNumber part.Number reads_number fields worker spelled
-command_fits fields (Load index) spelled = one_fits SpellsNumber part.Number reads_number fields index spelled
+command_fits fields (Scan range worker) spelled = two_fit SpellsNumber part.Number number_part fields range worker spelled
+command_fits fields (Seal worker) spelled = one_fits SpellsNumber part.Number number_part fields worker spelled
+command_fits fields (Load index) spelled = one_fits SpellsNumber part.Number number_part fields index spelled
 command_fits [] Switch spelled = tt
 command_fits (f ∷ fs) Switch spelled = cc
-command_fits fields (Pairs number) spelled = one_fits SpellsNumber part.Number reads_number fields number spelled
-command_fits fields (Rest spec) spelled = one_fits SpellsSpec part.Spec reads_spec fields spec spelled
+command_fits fields (Pairs number) spelled = one_fits SpellsNumber part.Number number_part fields number spelled
+command_fits fields (Rest spec) spelled = one_fits SpellsSpec part.Spec spec_part fields spec spelled
 
 -- fields that spell a line have its shape
 pub line_shape : (fields : List (List ℕ)) (line : Line) → SpellLine fields line → HasShape fields

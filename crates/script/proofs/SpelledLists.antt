@@ -1,6 +1,6 @@
 -- Lists of texts and the values that they spell.
 use denote.Ref.{Bor}
-use Rattle.std.proofs.Common.{◌≡◌, ℕ, zero, suc, ◌+◌, ◌<◌, get_or, List, [], ◌∷◌, ◌++◌, length, take, arith, refl, subst, sym, ◌∙◌, Some, None}
+use Rattle.std.proofs.Common.{◌≡◌, ℕ, zero, suc, ◌+◌, ◌<◌, get_or, List, [], ◌∷◌, ◌++◌, length, take, arith, subst, sym, ◌∙◌, Some, None}
 use Rattle.std.proofs.lemmas.List.{get_or-map, length-map}
 use Rattle.std.specs.List.{AllZip}
 use Rattle.script.specs.Fields.{number_of, texts, SpellsNumber}
@@ -40,11 +40,6 @@ pub none_fit : (one : Part) (fields : List (Bor (List ℕ))) (i : ℕ) → i < l
 none_fit one [] i inside none fits = fits
 none_fit one (f ∷ fs) zero inside none fits = none fits.0
 none_fit one (f ∷ fs) (suc i) inside none fits = not_fit one fs i (omega arith) none fits.1
-
--- no texts are fewer than one
-pub empty_fit : (one : Part) (fields : List (Bor (List ℕ))) → length fields ≡ 0 → Fit (one ∷ []) (Some one) (texts fields) → ⊥
-empty_fit one [] empty fits = fits
-empty_fit one (f ∷ fs) empty fits = omega (arith, empty)
 
 -- where the part at a place spells nothing, the parts spell nothing
 pub parts_none : {A : Type 0} (Spells : List ℕ → A → Type 0) (parts : List (List ℕ)) (i : ℕ) (part : List ℕ)

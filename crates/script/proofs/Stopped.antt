@@ -3,9 +3,8 @@ use Rattle.std.proofs.Common.{◌≡◌, ℕ, List, [], ◌∷◌, ◌++◌, sub
 use Rattle.script.specs.Drafts.{DraftValue, HasRead, IsDraft, IsNotAdded, MayFollow}
 use Rattle.script.specs.Causes.{error_at}
 use Rattle.script.specs.Explanations.{Explains, ExplainsStop, IsOfCause, Tells, TellsFields, TellsFirst}
-use Rattle.script.specs.Scripts.{InOrder, IsBadBehind, IsFirstBad, RecordSpells, StandsBehind}
+use Rattle.script.specs.Scripts.{InOrder, IsBadBehind, IsFirstBad, StandsBehind}
 use Rattle.script.specs.Records.{BeginsWithBytes}
-use Rattle.script.specs.Shapes.{HasShape}
 use Rattle.script.specs.Stops.{IsLateTable, IsMisspelled, IsStopped, StopsAt, TakesLine}
 use Rattle.script.specs.declared.check_error.CheckError.{CheckError}
 use Rattle.script.specs.declared.check_error.CheckError.TheVariants as errors
@@ -102,7 +101,3 @@ explains text fields stop errors.NoMemory stops is = tt
 explains text fields stop (errors.Bad number explanation) stops is =
     let told = explained stops.0 stops.1 fields stop.cause explanation stops.3 is.1 in
     (stops.0, stops.1, rw is.0 stops.2, told.0, told.1)
-
--- fields that were misspelled have no shape of a line
-pub no_shape : (text : List ℕ) (fields : List (List ℕ)) (stop : Stop) → StopsAt text fields stop → stop.cause ≡ Misspelled → HasShape fields → ⊥
-no_shape text fields stop stops is = let misspelled = subst (IsStopped stops.0 stops.1 fields) is stops.3 in misspelled.3

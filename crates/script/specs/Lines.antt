@@ -1,6 +1,8 @@
 -- What the fields of a record ask for.
 use Rattle.std.specs.Prelude.{◌≡◌, ℕ, true, List, [], ◌∷◌}
 use Rattle.std.specs.List.{AllZip}
+use Rattle.keybytes.specs.declared.cell.Cell.{Cell}
+use Rattle.keybytes.specs.declared.rid.Rid.{Rid}
 use Rattle.script.specs.Fields.{is_label, SpellEach, SpellsCell, SpellsDealing, SpellsKind, SpellsNumber, SpellsRid, SpellsSpec}
 use Rattle.script.specs.Shapes.{IsRemark, written}
 use Rattle.script.specs.declared.line.Line.{Line}
@@ -24,6 +26,20 @@ SpellsLabel text label = (text ≡ label) × (is_label text ≡ true)
 -- the fields of a record `table`: the most slots of a page, and the kinds of the columns
 abbrev pub SpellTable : List (List ℕ) → Table → Type 0
 SpellTable fields table = AtFirst (λ limit columns. SpellsNumber limit table.slot_limit × SpellEach SpellsKind columns table.kinds.items) fields
+
+-- a label and the cells of a row
+abbrev pub SpellLabelAndCells : List (List ℕ) → List ℕ → List Cell → Type 0
+SpellLabelAndCells fields label cells = AtFirst (λ txn columns. SpellsLabel txn label × SpellEach SpellsCell columns cells) fields
+
+-- a label, a RID and the cells of a row
+abbrev pub SpellLabelRidAndCells : List (List ℕ) → List ℕ → Rid → List Cell → Type 0
+SpellLabelRidAndCells fields label rid cells =
+    AtFirst (λ txn more. SpellsLabel txn label
+    × AtFirst (λ place columns. SpellsRid place rid × SpellEach SpellsCell columns cells) more) fields
+
+-- a label and a RID
+abbrev pub SpellLabelAndRid : List (List ℕ) → List ℕ → Rid → Type 0
+SpellLabelAndRid fields label rid = AtFirst (λ txn more. SpellsLabel txn label × AllZip SpellsRid more (rid ∷ [])) fields
 
 -- the fields of a record `start`: workers, the quota, the dealing and the indexes
 abbrev pub SpellStart : List (List ℕ) → Start → Type 0
@@ -54,11 +70,9 @@ name_of (Rest spec) = name.Rest
 abbrev pub SpellParts : List (List ℕ) → Command → Type 0
 SpellParts fields (Row cells) = SpellEach SpellsCell fields cells.items
 SpellParts fields (Begin label) = AllZip SpellsLabel fields (label ∷ [])
-SpellParts fields (Insert label cells) = AtFirst (λ txn columns. SpellsLabel txn label × SpellEach SpellsCell columns cells.items) fields
-SpellParts fields (Update label rid cells) =
-    AtFirst (λ txn more. SpellsLabel txn label
-    × AtFirst (λ place columns. SpellsRid place rid × SpellEach SpellsCell columns cells.items) more) fields
-SpellParts fields (Delete label rid) = AtFirst (λ txn more. SpellsLabel txn label × AllZip SpellsRid more (rid ∷ [])) fields
+SpellParts fields (Insert label cells) = SpellLabelAndCells fields label cells.items
+SpellParts fields (Update label rid cells) = SpellLabelRidAndCells fields label rid cells.items
+SpellParts fields (Delete label rid) = SpellLabelAndRid fields label rid
 SpellParts fields (Undo label) = AllZip SpellsLabel fields (label ∷ [])
 SpellParts fields (Commit label) = AllZip SpellsLabel fields (label ∷ [])
 SpellParts fields (Get rid) = AllZip SpellsRid fields (rid ∷ [])

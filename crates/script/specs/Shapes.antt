@@ -91,6 +91,10 @@ Fit [] repeated [] = ⊤
 Fit [] None (field ∷ fields) = ⊥
 Fit [] (Some one) (field ∷ fields) = IsSpelled one field × Fit [] (Some one) fields
 
+-- the fields behind a name are those that it wants
+abbrev pub Fits : CommandName → List (List ℕ) → Type 0
+Fits name fields = Fit (parts_of name) (repeated_of name) fields
+
 -- the text is the beginning of a remark
 abbrev pub IsRemark : List ℕ → Type 0
 IsRemark text = (remark : List ℕ) × (text ≡ codes "#" ++ remark)
@@ -98,4 +102,4 @@ IsRemark text = (remark : List ℕ) × (text ≡ codes "#" ++ remark)
 -- the fields are a remark, or a name and fields that fit it
 abbrev pub HasShape : List (List ℕ) → Type 0
 HasShape [] = ⊥
-HasShape (first ∷ fields) = IsRemark first ⊎ ((name : CommandName) × (first ≡ written name) × Fit (parts_of name) (repeated_of name) fields)
+HasShape (first ∷ fields) = IsRemark first ⊎ ((name : CommandName) × (first ≡ written name) × Fits name fields)

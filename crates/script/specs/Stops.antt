@@ -1,7 +1,6 @@
 -- Where the reading of a script stops.
 use Rattle.std.specs.Prelude.{◌≡◌, ℕ, List, [], ◌∷◌, ◌++◌, ⊤}
 use Rattle.csv.specs.Records.{AllText}
-use Rattle.script.specs.Lines.{SpellLine}
 use Rattle.script.specs.Records.{BeginsWithBytes}
 use Rattle.script.specs.Scripts.{InOrder, RecordSpells, StandsBehind}
 use Rattle.script.specs.Shapes.{HasShape}

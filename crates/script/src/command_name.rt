@@ -5,7 +5,7 @@ ghost use Rattle.script.specs.declared.command_name.CommandName.{CommandName as 
 use crate::Part;
 
 /// The names that commands have, and `table`.
-#[derive(Clone, Copy, PartialEq, Eq)]
+#[derive(Clone, Copy)]
 pub enum CommandName {
     Table,
     Row,

@@ -16,9 +16,9 @@ pub enum Explanation {
     TooManyFields {
         name: CommandName,
     },
-    /// The field at that place, the first of all being 1, is this text, and was to spell that part.
+    /// The field of that number, of which the name is the first, is this text, and was to spell that part.
     Misspelled {
-        place: usize,
+        field: usize,
         text: String,
         part: Part,
     },
@@ -48,9 +48,9 @@ impl fmt::Display for Explanation {
                 let usage = name.usage();
                 write!(f, "it has too many fields ({usage})")
             }
-            Explanation::Misspelled { place, text, part } => {
+            Explanation::Misspelled { field, text, part } => {
                 let text = Excerpt(text);
-                write!(f, "field {place}, {text}, is no {part}")
+                write!(f, "field {field}, {text}, is no {part}")
             }
             Explanation::LateTable => f.write_str("a table comes first, and only once"),
             Explanation::NoTable => f.write_str("no record is a table (table,L,KIND,..)"),

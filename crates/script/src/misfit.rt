@@ -3,7 +3,7 @@ ghost use Rattle.std.specs.Prelude.{◌≡◌, IfOk, MatchOption};
 ghost use Rattle.csv.specs.Records.{fields_of};
 ghost use Rattle.script.specs.Explanations.{TellsFields, TellsParts};
 ghost use Rattle.script.specs.Fields.{texts};
-ghost use Rattle.script.specs.Shapes.{Fit, HasShape, parts_of, repeated_of, written};
+ghost use Rattle.script.specs.Shapes.{Fits, HasShape};
 
 use crate::parse::fields;
 use crate::record_error::RecordError;
@@ -44,7 +44,7 @@ fn misfit_behind(
     name: CommandName,
     fields: &[&str],
 ) -> Result<Option<Explanation>, RecordError>
-    ensures { IfOk result (λ found. MatchOption found (Fit (parts_of name) (repeated_of name) (texts fields.now)) (TellsParts name (texts fields.now))) }
+    ensures { IfOk result (λ found. MatchOption found (Fits name (texts fields.now)) (TellsParts name (texts fields.now))) }
 {
     for (place, field) in fields.iter().enumerate() {
         let Some(part) = name.part(place) else {
@@ -53,7 +53,7 @@ fn misfit_behind(
         if !part.accepts(alloc, field)? {
             let text = String::from_str(alloc, field)?;
             return Ok(Some(Explanation::Misspelled {
-                place: place + 2,
+                field: place + 2,
                 text,
                 part,
             }));

@@ -3,8 +3,9 @@ ghost use Rattle.std.specs.Prelude.{◌≡◌, ℕ, List, [], ◌∷◌, Some, N
 ghost use Rattle.std.specs.List.{AllZip};
 ghost use Rattle.csv.specs.Records.{fields_of};
 ghost use Rattle.script.specs.Fields.{texts, SpellEach, SpellsCell, SpellsNumber, SpellsRid, SpellsSpec};
-ghost use Rattle.script.specs.Lines.{AtFirst, SpellLine, SpellStart, SpellTable, SpellsLabel};
-ghost use Rattle.script.specs.Shapes.{Fit, HasShape, parts_of, repeated_of, written};
+ghost use Rattle.script.specs.Lines.{SpellLabelAndCells, SpellLabelAndRid, SpellLabelRidAndCells, SpellLine, SpellStart, SpellTable, SpellsLabel};
+ghost use Rattle.script.specs.Shapes.{Fit, Fits, HasShape, written};
+ghost use Rattle.script.specs.declared.command_name.CommandName.TheVariants as name;
 ghost use Rattle.script.specs.declared.part.Part.{Part as PartValue};
 ghost use Rattle.script.specs.declared.part.Part.TheVariants as part;
 
@@ -71,7 +72,7 @@ fn only<'a>(fields: &[&'a str]) -> Result<&'a str, RecordError>
 
 fn table(alloc: Global, fields: &[&str]) -> Result<Table, RecordError>
     ensures ok { IfOk result (λ table. SpellTable (texts fields.now) table) }
-    ensures refused { result ≡ Err RecordError.Misspelled → ¬ (Fit (part.Number ∷ part.Kind ∷ []) (Some part.Kind) (texts fields.now)) }
+    ensures refused { result ≡ Err RecordError.Misspelled → ¬ (Fits name.Table (texts fields.now)) }
 {
     let (slot_limit, columns) = first(fields)?;
     Ok(Table {
@@ -83,7 +84,7 @@ fn table(alloc: Global, fields: &[&str]) -> Result<Table, RecordError>
 /// The line of that name with those fields behind it.
 fn named(alloc: Global, name: CommandName, fields: &[&str]) -> Result<Line, RecordError>
     ensures ok { IfOk result (λ line. SpellLine (written name ∷ texts fields.now) line) }
-    ensures refused { result ≡ Err RecordError.Misspelled → ¬ (Fit (parts_of name) (repeated_of name) (texts fields.now)) }
+    ensures refused { result ≡ Err RecordError.Misspelled → ¬ (Fits name (texts fields.now)) }
 {
     Ok(Line::Command(match name {
         CommandName::Table => return Ok(Line::Table(table(alloc, fields)?)),
@@ -156,8 +157,8 @@ fn only_label(alloc: Global, fields: &[&str]) -> Result<Label, RecordError>
 }
 
 fn label_and_cells(alloc: Global, fields: &[&str]) -> Result<(Label, Vec<Cell>), RecordError>
-    ensures ok { IfOk result (λ parts. AtFirst (λ txn columns. SpellsLabel txn parts.0 × SpellEach SpellsCell columns parts.1.items) (texts fields.now)) }
-    ensures refused { result ≡ Err RecordError.Misspelled → ¬ (Fit (part.Label ∷ part.Cell ∷ []) (Some part.Cell) (texts fields.now)) }
+    ensures ok { IfOk result (λ parts. SpellLabelAndCells (texts fields.now) parts.0 parts.1.items) }
+    ensures refused { result ≡ Err RecordError.Misspelled → ¬ (Fits name.Insert (texts fields.now)) }
 {
     let (label, columns) = first(fields)?;
     Ok((Label::read(alloc, label)?, cells(alloc, columns)?))
@@ -167,8 +168,8 @@ fn label_rid_and_cells(
     alloc: Global,
     fields: &[&str],
 ) -> Result<(Label, Rid, Vec<Cell>), RecordError>
-    ensures ok { IfOk result (λ parts. AtFirst (λ txn more. SpellsLabel txn parts.0 × AtFirst (λ place columns. SpellsRid place parts.1 × SpellEach SpellsCell columns parts.2.items) more) (texts fields.now)) }
-    ensures refused { result ≡ Err RecordError.Misspelled → ¬ (Fit (part.Label ∷ part.Rid ∷ part.Cell ∷ []) (Some part.Cell) (texts fields.now)) }
+    ensures ok { IfOk result (λ parts. SpellLabelRidAndCells (texts fields.now) parts.0 parts.1 parts.2.items) }
+    ensures refused { result ≡ Err RecordError.Misspelled → ¬ (Fits name.Update (texts fields.now)) }
 {
     let (label, more) = first(fields)?;
     let (place, columns) = first(more)?;
@@ -180,8 +181,8 @@ fn label_rid_and_cells(
 }
 
 fn label_and_rid(alloc: Global, fields: &[&str]) -> Result<(Label, Rid), RecordError>
-    ensures ok { IfOk result (λ parts. AtFirst (λ txn more. SpellsLabel txn parts.0 × AllZip SpellsRid more (parts.1 ∷ [])) (texts fields.now)) }
-    ensures refused { result ≡ Err RecordError.Misspelled → ¬ (Fit (part.Label ∷ part.Rid ∷ []) None (texts fields.now)) }
+    ensures ok { IfOk result (λ parts. SpellLabelAndRid (texts fields.now) parts.0 parts.1) }
+    ensures refused { result ≡ Err RecordError.Misspelled → ¬ (Fits name.Delete (texts fields.now)) }
 {
     let (label, more) = first(fields)?;
     Ok((Label::read(alloc, label)?, only_rid(more)?))
@@ -189,7 +190,7 @@ fn label_and_rid(alloc: Global, fields: &[&str]) -> Result<(Label, Rid), RecordE
 
 fn only_rid(fields: &[&str]) -> Result<Rid, RecordError>
     ensures ok { IfOk result (λ rid. AllZip SpellsRid (texts fields.now) (rid ∷ [])) }
-    ensures refused { result ≡ Err RecordError.Misspelled → ¬ (Fit (part.Rid ∷ []) None (texts fields.now)) }
+    ensures refused { result ≡ Err RecordError.Misspelled → ¬ (Fits name.Get (texts fields.now)) }
 {
     rid(only(fields)?)
 }
@@ -203,7 +204,7 @@ fn only_count(fields: &[&str]) -> Result<usize, RecordError>
 
 fn two_counts(fields: &[&str]) -> Result<(usize, usize), RecordError>
     ensures ok { IfOk result (λ numbers. AllZip SpellsNumber (texts fields.now) (numbers.0 ∷ numbers.1 ∷ [])) }
-    ensures refused { result ≡ Err RecordError.Misspelled → ¬ (Fit (part.Number ∷ part.Number ∷ []) None (texts fields.now)) }
+    ensures refused { result ≡ Err RecordError.Misspelled → ¬ (Fits name.Scan (texts fields.now)) }
 {
     let (one, more) = first(fields)?;
     let two = only(more)?;
@@ -212,7 +213,7 @@ fn two_counts(fields: &[&str]) -> Result<(usize, usize), RecordError>
 
 fn only_spec(alloc: Global, fields: &[&str]) -> Result<Spec, RecordError>
     ensures ok { IfOk result (λ spec. AllZip SpellsSpec (texts fields.now) (spec ∷ [])) }
-    ensures refused { result ≡ Err RecordError.Misspelled → ¬ (Fit (part.Spec ∷ []) None (texts fields.now)) }
+    ensures refused { result ≡ Err RecordError.Misspelled → ¬ (Fits name.Rest (texts fields.now)) }
 {
     spec(alloc, only(fields)?)
 }
@@ -220,7 +221,7 @@ fn only_spec(alloc: Global, fields: &[&str]) -> Result<Spec, RecordError>
 /// The workers, the quota, the dealing and the indexes of a build.
 fn start(alloc: Global, fields: &[&str]) -> Result<Start, RecordError>
     ensures ok { IfOk result (λ start. SpellStart (texts fields.now) start) }
-    ensures refused { result ≡ Err RecordError.Misspelled → ¬ (Fit (part.Number ∷ part.Number ∷ part.Dealing ∷ part.Spec ∷ []) (Some part.Spec) (texts fields.now)) }
+    ensures refused { result ≡ Err RecordError.Misspelled → ¬ (Fits name.Start (texts fields.now)) }
 {
     let (workers, more) = first(fields)?;
     let (quota, more) = first(more)?;

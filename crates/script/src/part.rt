@@ -8,7 +8,7 @@ use std::alloc::Global;
 use std::fmt;
 
 /// What one field of a record spells.
-#[derive(Clone, Copy, PartialEq, Eq)]
+#[derive(Clone, Copy)]
 pub enum Part {
     Number,
     Label,

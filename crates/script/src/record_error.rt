@@ -4,7 +4,7 @@ ghost use Rattle.script.specs.declared.record_error.RecordError.TheVariants.{NoM
 use std::alloc::{AllocError, AllocFailed};
 
 /// Why the fields of a record were refused.
-#[derive(Clone, Copy, PartialEq, Eq)]
+#[derive(Clone, Copy)]
 pub enum RecordError {
     /// They are not spelled as those of a record are.
     Misspelled,

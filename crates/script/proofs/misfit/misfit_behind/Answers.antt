@@ -1,6 +1,6 @@
 use borrow.Author.Count.{below_more}
-use Rattle.std.proofs.Common.{◌≡◌, ℕ, get_or, true, length, List, Some, Ok, arith, sym, ap, ◌∙◌}
-use Rattle.script.specs.Shapes.{part_at, parts_of, repeated_of}
+use Rattle.std.proofs.Common.{get_or, length, List, Ok, arith, sym, ap, ◌∙◌}
+use Rattle.script.specs.Shapes.{parts_of, repeated_of}
 use Rattle.script.specs.declared.part.Part.{Part}
 use Rattle.script.proofs.Misfits.{SpelledAt, all_fit}
 use Rattle.script.proofs.SpelledLists.{no_field}

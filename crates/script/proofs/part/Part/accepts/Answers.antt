@@ -1,5 +1,4 @@
-use Rattle.std.proofs.Common.{◌≡◌, Result, Ok, Err, IfOk, IsOk, sym}
-use Rattle.script.specs.Shapes.{IsSpelled}
+use Rattle.std.proofs.Common.{Result, Ok, Err, IfOk, IsOk}
 use Rattle.script.proofs.part.Part.accepts.Goals as goal
 
 -- what is known of a value that was read

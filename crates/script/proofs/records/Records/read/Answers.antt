@@ -1,4 +1,4 @@
-use Rattle.std.proofs.Common.{◌≡◌, true, false, Ok, Err, ap, sym, ◌∙◌}
+use Rattle.std.proofs.Common.{◌≡◌, true, false, Ok, sym, ◌∙◌}
 use Rattle.csv.specs.Reading.{has_failed}
 use Rattle.script.proofs.FieldLemmas.{bool_cases}
 use Rattle.script.proofs.RecordsLeft.{fails_to_read, left_failed, left_more, left_none, read_error}
