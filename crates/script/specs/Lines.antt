@@ -1,11 +1,16 @@
 -- What the fields of a record ask for.
-use Rattle.std.specs.Prelude.{◌≡◌, ℕ, true, List, [], ◌∷◌, ◌++◌, codes}
+use Rattle.std.specs.Prelude.{◌≡◌, ℕ, true, List, [], ◌∷◌}
 use Rattle.std.specs.List.{AllZip}
+use Rattle.keybytes.specs.declared.cell.Cell.{Cell}
+use Rattle.keybytes.specs.declared.rid.Rid.{Rid}
 use Rattle.script.specs.Fields.{is_label, SpellEach, SpellsCell, SpellsDealing, SpellsKind, SpellsNumber, SpellsRid, SpellsSpec}
+use Rattle.script.specs.Shapes.{IsRemark, written}
 use Rattle.script.specs.declared.line.Line.{Line}
 use Rattle.script.specs.declared.line.Line.TheVariants.{PassedOver, Table as TableLine, Command as CommandLine}
 use Rattle.script.specs.declared.command.Command.{Command}
 use Rattle.script.specs.declared.command.Command.TheVariants.{Row, Begin, Insert, Update, Delete, Undo, Commit, Get, Start as StartCommand, Scan, Seal, Load, Switch, Pairs, Rest}
+use Rattle.script.specs.declared.command_name.CommandName.{CommandName}
+use Rattle.script.specs.declared.command_name.CommandName.TheVariants as name
 use Rattle.script.specs.declared.start.Start.{Start}
 use Rattle.script.specs.declared.table.Table.{Table}
 
@@ -22,6 +27,20 @@ SpellsLabel text label = (text ≡ label) × (is_label text ≡ true)
 abbrev pub SpellTable : List (List ℕ) → Table → Type 0
 SpellTable fields table = AtFirst (λ limit columns. SpellsNumber limit table.slot_limit × SpellEach SpellsKind columns table.kinds.items) fields
 
+-- a label and the cells of a row
+abbrev pub SpellLabelAndCells : List (List ℕ) → List ℕ → List Cell → Type 0
+SpellLabelAndCells fields label cells = AtFirst (λ txn columns. SpellsLabel txn label × SpellEach SpellsCell columns cells) fields
+
+-- a label, a RID and the cells of a row
+abbrev pub SpellLabelRidAndCells : List (List ℕ) → List ℕ → Rid → List Cell → Type 0
+SpellLabelRidAndCells fields label rid cells =
+    AtFirst (λ txn more. SpellsLabel txn label
+    × AtFirst (λ place columns. SpellsRid place rid × SpellEach SpellsCell columns cells) more) fields
+
+-- a label and a RID
+abbrev pub SpellLabelAndRid : List (List ℕ) → List ℕ → Rid → Type 0
+SpellLabelAndRid fields label rid = AtFirst (λ txn more. SpellsLabel txn label × AllZip SpellsRid more (rid ∷ [])) fields
+
 -- the fields of a record `start`: workers, the quota, the dealing and the indexes
 abbrev pub SpellStart : List (List ℕ) → Start → Type 0
 SpellStart fields start =
@@ -29,33 +48,31 @@ SpellStart fields start =
     × AtFirst (λ quota more. SpellsNumber quota start.quota
     × AtFirst (λ ranges indexes. SpellsDealing ranges start.dealing × SpellEach SpellsSpec indexes start.specs.items) more) more) fields
 
--- the name of a command, which is the first field
-abbrev pub name_of : Command → List ℕ
-name_of (Row cells) = codes "row"
-name_of (Begin label) = codes "begin"
-name_of (Insert label cells) = codes "insert"
-name_of (Update label rid cells) = codes "update"
-name_of (Delete label rid) = codes "delete"
-name_of (Undo label) = codes "undo"
-name_of (Commit label) = codes "commit"
-name_of (Get rid) = codes "get"
-name_of (StartCommand start) = codes "start"
-name_of (Scan range worker) = codes "scan"
-name_of (Seal worker) = codes "seal"
-name_of (Load index) = codes "load"
-name_of Switch = codes "switch"
-name_of (Pairs number) = codes "pairs"
-name_of (Rest spec) = codes "rest"
+-- the name of a command
+abbrev pub name_of : Command → CommandName
+name_of (Row cells) = name.Row
+name_of (Begin label) = name.Begin
+name_of (Insert label cells) = name.Insert
+name_of (Update label rid cells) = name.Update
+name_of (Delete label rid) = name.Delete
+name_of (Undo label) = name.Undo
+name_of (Commit label) = name.Commit
+name_of (Get rid) = name.Get
+name_of (StartCommand start) = name.Start
+name_of (Scan range worker) = name.Scan
+name_of (Seal worker) = name.Seal
+name_of (Load index) = name.Load
+name_of Switch = name.Switch
+name_of (Pairs number) = name.Pairs
+name_of (Rest spec) = name.Rest
 
 -- the fields behind the name spell what the command comes with
 abbrev pub SpellParts : List (List ℕ) → Command → Type 0
 SpellParts fields (Row cells) = SpellEach SpellsCell fields cells.items
 SpellParts fields (Begin label) = AllZip SpellsLabel fields (label ∷ [])
-SpellParts fields (Insert label cells) = AtFirst (λ txn columns. SpellsLabel txn label × SpellEach SpellsCell columns cells.items) fields
-SpellParts fields (Update label rid cells) =
-    AtFirst (λ txn more. SpellsLabel txn label
-    × AtFirst (λ place columns. SpellsRid place rid × SpellEach SpellsCell columns cells.items) more) fields
-SpellParts fields (Delete label rid) = AtFirst (λ txn more. SpellsLabel txn label × AllZip SpellsRid more (rid ∷ [])) fields
+SpellParts fields (Insert label cells) = SpellLabelAndCells fields label cells.items
+SpellParts fields (Update label rid cells) = SpellLabelRidAndCells fields label rid cells.items
+SpellParts fields (Delete label rid) = SpellLabelAndRid fields label rid
 SpellParts fields (Undo label) = AllZip SpellsLabel fields (label ∷ [])
 SpellParts fields (Commit label) = AllZip SpellsLabel fields (label ∷ [])
 SpellParts fields (Get rid) = AllZip SpellsRid fields (rid ∷ [])
@@ -67,12 +84,8 @@ SpellParts fields Switch = fields ≡ []
 SpellParts fields (Pairs number) = AllZip SpellsNumber fields (number ∷ [])
 SpellParts fields (Rest spec) = AllZip SpellsSpec fields (spec ∷ [])
 
--- the name and the fields behind it spell the command
-abbrev pub SpellCommand : List ℕ → List (List ℕ) → Command → Type 0
-SpellCommand name fields command = (name ≡ name_of command) × SpellParts fields command
-
--- the fields ask for the line: a remark begins with `#`
+-- the fields ask for the line: they are a remark, or a name and what stands behind it
 abbrev pub SpellLine : List (List ℕ) → Line → Type 0
-SpellLine fields PassedOver = AtFirst (λ first rest. (remark : List ℕ) × (first ≡ codes "#" ++ remark)) fields
-SpellLine fields (TableLine table) = AtFirst (λ name parts. (name ≡ codes "table") × SpellTable parts table) fields
-SpellLine fields (CommandLine command) = AtFirst (λ name parts. SpellCommand name parts command) fields
+SpellLine fields PassedOver = AtFirst (λ first rest. IsRemark first) fields
+SpellLine fields (TableLine table) = AtFirst (λ first parts. (first ≡ written name.Table) × SpellTable parts table) fields
+SpellLine fields (CommandLine command) = AtFirst (λ first parts. (first ≡ written (name_of command)) × SpellParts parts command) fields
