@@ -3,7 +3,9 @@ use denote.Ref.{Bor}
 use Rattle.std.proofs.Common.{◌≡◌, ℕ, zero, suc, ◌+◌, ◌<◌, get_or, List, [], ◌∷◌, ◌++◌, length, take, arith, refl, subst, sym, ◌∙◌, Some, None}
 use Rattle.std.proofs.lemmas.List.{get_or-map, length-map}
 use Rattle.std.specs.List.{AllZip}
-use Rattle.script.specs.Fields.{number_of, texts, SpellEach, SpellsNumber}
+use Rattle.script.specs.Fields.{number_of, texts, SpellsNumber}
+use Rattle.script.specs.Shapes.{Fit, IsSpelled}
+use Rattle.script.specs.declared.part.Part.{Part}
 use Rattle.script.proofs.Zips.{zip_more}
 
 -- what is read past the end of a list of fields
@@ -26,16 +28,23 @@ spelled_more Spells fields values more i value inside is all one =
     let texts_read = get_or-map (λ (field : Bor (List ℕ)). field.now) fields i no_field [] inside in
     zip_more Spells (texts fields) values more i [] value (rw (length-map) inside) is all (subst (λ (text : List ℕ). Spells text value) (sym texts_read) one)
 
--- where a text spells nothing, the list spells nothing
-pub spelled_none : {A : Type 0} (Spells : List ℕ → A → Type 0) (fields : List (Bor (List ℕ))) (i : ℕ)
-    → i < length fields → ((value : A) → Spells (get_or fields i no_field).now value → ⊥)
-    → (values : List A) → SpellEach Spells (texts fields) values → ⊥
-spelled_none Spells [] i inside none values all = absurd (omega arith)
-spelled_none Spells (f ∷ fs) i inside none [] all = all.1
-spelled_none Spells (f ∷ fs) zero inside none (v ∷ vs) all = none v all.1.0
-spelled_none Spells (f ∷ []) (suc i) inside none (v ∷ vs) all = absurd (omega arith)
-spelled_none Spells (f ∷ g ∷ fs) (suc i) inside none (v ∷ vs) all =
-    spelled_none Spells (g ∷ fs) i (omega arith) none vs (omega arith, all.1.1)
+-- where a text does not spell the part, the texts do not fit
+pub not_fit : (one : Part) (fields : List (Bor (List ℕ))) (i : ℕ) → i < length fields → (IsSpelled one (get_or fields i no_field).now → ⊥)
+    → Fit [] (Some one) (texts fields) → ⊥
+not_fit one [] i inside none fits = omega arith
+not_fit one (f ∷ fs) zero inside none fits = none fits.0
+not_fit one (f ∷ fs) (suc i) inside none fits = not_fit one fs i (omega arith) none fits.1
+
+pub none_fit : (one : Part) (fields : List (Bor (List ℕ))) (i : ℕ) → i < length fields → (IsSpelled one (get_or fields i no_field).now → ⊥)
+    → Fit (one ∷ []) (Some one) (texts fields) → ⊥
+none_fit one [] i inside none fits = fits
+none_fit one (f ∷ fs) zero inside none fits = none fits.0
+none_fit one (f ∷ fs) (suc i) inside none fits = not_fit one fs i (omega arith) none fits.1
+
+-- no texts are fewer than one
+pub empty_fit : (one : Part) (fields : List (Bor (List ℕ))) → length fields ≡ 0 → Fit (one ∷ []) (Some one) (texts fields) → ⊥
+empty_fit one [] empty fits = fits
+empty_fit one (f ∷ fs) empty fits = omega (arith, empty)
 
 -- where the part at a place spells nothing, the parts spell nothing
 pub parts_none : {A : Type 0} (Spells : List ℕ → A → Type 0) (parts : List (List ℕ)) (i : ℕ) (part : List ℕ)
@@ -48,10 +57,3 @@ parts_none Spells (p ∷ ps) (suc i) part inside is none (v ∷ vs) all = parts_
 -- a text that is no number spells none
 pub no_number : (text : List ℕ) → number_of text ≡ None → (number : ℕ) → SpellsNumber text number → ⊥
 no_number text none number spelled = let both : None ≡ Some number = sym none ∙ spelled in cc
-
--- one value is spelled by one text
-pub one_text : {A : Type 0} (Spells : List ℕ → A → Type 0) (parts : List (List ℕ)) (value : A)
-    → AllZip Spells parts (value ∷ []) → (part : List ℕ) × (parts ≡ part ∷ []) × Spells part value
-one_text Spells [] value all = absurd all
-one_text Spells (p ∷ []) value all = (p, refl, all.0)
-one_text Spells (p ∷ q ∷ ps) value all = absurd all.1

@@ -10,6 +10,13 @@ zip_next R (x ∷ xs) [] (suc i) d y inside all one = absurd all
 zip_next R (x ∷ xs) (z ∷ zs) zero d y inside all one = absurd all
 zip_next R (x ∷ xs) (z ∷ zs) (suc i) d y inside all one = (all.0, zip_next R xs zs i d y (omega arith) all.1 one)
 
+-- one more at the end of both
+pub zip_push : {A B : Type 0} (R : A → B → Type 0) (xs : List A) (ys : List B) (x : A) (y : B) → AllZip R xs ys → R x y → AllZip R (xs ++ x ∷ []) (ys ++ y ∷ [])
+zip_push R [] [] x y all one = (one, tt)
+zip_push R [] (w ∷ ws) x y all one = absurd all
+zip_push R (z ∷ zs) [] x y all one = absurd all
+zip_push R (z ∷ zs) (w ∷ ws) x y all one = (all.0, zip_push R zs ws x y all.1 one)
+
 -- one place more is read, and one value more put behind
 pub zip_more : {A B : Type 0} (R : A → B → Type 0) (xs : List A) (ys more : List B) (i : ℕ) (d : A) (y : B)
     → i < length xs → more ≡ ys ++ y ∷ [] → AllZip R (take i xs) ys → R (get_or xs i d) y → AllZip R (take (i + 1) xs) more

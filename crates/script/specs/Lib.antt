@@ -1,3 +1,10 @@
+pub mod Causes
 pub mod Drafts
+pub mod Explanations
 pub mod Fields
 pub mod Lines
+pub mod Readers
+pub mod Records
+pub mod Scripts
+pub mod Shapes
+pub mod Stops

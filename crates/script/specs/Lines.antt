@@ -1,11 +1,14 @@
 -- What the fields of a record ask for.
-use Rattle.std.specs.Prelude.{◌≡◌, ℕ, true, List, [], ◌∷◌, ◌++◌, codes}
+use Rattle.std.specs.Prelude.{◌≡◌, ℕ, true, List, [], ◌∷◌}
 use Rattle.std.specs.List.{AllZip}
 use Rattle.script.specs.Fields.{is_label, SpellEach, SpellsCell, SpellsDealing, SpellsKind, SpellsNumber, SpellsRid, SpellsSpec}
+use Rattle.script.specs.Shapes.{IsRemark, written}
 use Rattle.script.specs.declared.line.Line.{Line}
 use Rattle.script.specs.declared.line.Line.TheVariants.{PassedOver, Table as TableLine, Command as CommandLine}
 use Rattle.script.specs.declared.command.Command.{Command}
 use Rattle.script.specs.declared.command.Command.TheVariants.{Row, Begin, Insert, Update, Delete, Undo, Commit, Get, Start as StartCommand, Scan, Seal, Load, Switch, Pairs, Rest}
+use Rattle.script.specs.declared.command_name.CommandName.{CommandName}
+use Rattle.script.specs.declared.command_name.CommandName.TheVariants as name
 use Rattle.script.specs.declared.start.Start.{Start}
 use Rattle.script.specs.declared.table.Table.{Table}
 
@@ -29,23 +32,23 @@ SpellStart fields start =
     × AtFirst (λ quota more. SpellsNumber quota start.quota
     × AtFirst (λ ranges indexes. SpellsDealing ranges start.dealing × SpellEach SpellsSpec indexes start.specs.items) more) more) fields
 
--- the name of a command, which is the first field
-abbrev pub name_of : Command → List ℕ
-name_of (Row cells) = codes "row"
-name_of (Begin label) = codes "begin"
-name_of (Insert label cells) = codes "insert"
-name_of (Update label rid cells) = codes "update"
-name_of (Delete label rid) = codes "delete"
-name_of (Undo label) = codes "undo"
-name_of (Commit label) = codes "commit"
-name_of (Get rid) = codes "get"
-name_of (StartCommand start) = codes "start"
-name_of (Scan range worker) = codes "scan"
-name_of (Seal worker) = codes "seal"
-name_of (Load index) = codes "load"
-name_of Switch = codes "switch"
-name_of (Pairs number) = codes "pairs"
-name_of (Rest spec) = codes "rest"
+-- the name of a command
+abbrev pub name_of : Command → CommandName
+name_of (Row cells) = name.Row
+name_of (Begin label) = name.Begin
+name_of (Insert label cells) = name.Insert
+name_of (Update label rid cells) = name.Update
+name_of (Delete label rid) = name.Delete
+name_of (Undo label) = name.Undo
+name_of (Commit label) = name.Commit
+name_of (Get rid) = name.Get
+name_of (StartCommand start) = name.Start
+name_of (Scan range worker) = name.Scan
+name_of (Seal worker) = name.Seal
+name_of (Load index) = name.Load
+name_of Switch = name.Switch
+name_of (Pairs number) = name.Pairs
+name_of (Rest spec) = name.Rest
 
 -- the fields behind the name spell what the command comes with
 abbrev pub SpellParts : List (List ℕ) → Command → Type 0
@@ -67,12 +70,8 @@ SpellParts fields Switch = fields ≡ []
 SpellParts fields (Pairs number) = AllZip SpellsNumber fields (number ∷ [])
 SpellParts fields (Rest spec) = AllZip SpellsSpec fields (spec ∷ [])
 
--- the name and the fields behind it spell the command
-abbrev pub SpellCommand : List ℕ → List (List ℕ) → Command → Type 0
-SpellCommand name fields command = (name ≡ name_of command) × SpellParts fields command
-
--- the fields ask for the line: a remark begins with `#`
+-- the fields ask for the line: they are a remark, or a name and what stands behind it
 abbrev pub SpellLine : List (List ℕ) → Line → Type 0
-SpellLine fields PassedOver = AtFirst (λ first rest. (remark : List ℕ) × (first ≡ codes "#" ++ remark)) fields
-SpellLine fields (TableLine table) = AtFirst (λ name parts. (name ≡ codes "table") × SpellTable parts table) fields
-SpellLine fields (CommandLine command) = AtFirst (λ name parts. SpellCommand name parts command) fields
+SpellLine fields PassedOver = AtFirst (λ first rest. IsRemark first) fields
+SpellLine fields (TableLine table) = AtFirst (λ first parts. (first ≡ written name.Table) × SpellTable parts table) fields
+SpellLine fields (CommandLine command) = AtFirst (λ first parts. (first ≡ written (name_of command)) × SpellParts parts command) fields

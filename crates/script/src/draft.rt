@@ -1,6 +1,7 @@
-ghost use Rattle.std.specs.Prelude.{◌≡◌, ◌⊎◌, [], Some, None, true, false, IfOk, IfErr, OnOk, OnErr};
-ghost use Rattle.script.specs.Drafts.{may_follow, with_line};
+ghost use Rattle.std.specs.Prelude.{◌≡◌, [], Some, None, IfOk, IfErr, OnOk, OnErr, is_some};
+ghost use Rattle.script.specs.Drafts.{IsNotAdded, MayFollow, with_line};
 
+use crate::cause::Cause;
 use crate::line::Line;
 use crate::{NumberedCommand, Script, ScriptError, Table};
 use std::alloc::Global;
@@ -33,18 +34,17 @@ impl Draft {
     }
 
     /// Adds the record of that number. A record `table` is bad unless it is the first that counts.
-    pub fn add(&mut self, number: usize, line: Line) -> Result<(), ScriptError>
+    pub fn add(&mut self, number: usize, line: Line) -> Result<(), Cause>
         ensures ok { OnOk result (self.new ≡ with_line self.old number line) }
-        ensures accepted { OnOk result (may_follow self.old line ≡ true) }
-        ensures bad { result ≡ Err (ScriptError.Bad number) → may_follow self.old line ≡ false }
-        ensures refused { IfErr result (λ error. (error ≡ ScriptError.Bad number) ⊎ (error ≡ ScriptError.NoMemory)) }
+        ensures accepted { OnOk result (MayFollow self.old line) }
+        ensures refused { IfErr result (IsNotAdded self.old line) }
         ensures unchanged { OnErr result (self.new ≡ self.old) }
     {
         match line {
             Line::PassedOver => Ok(()),
             Line::Table(table) => {
                 if self.table.is_some() || !self.commands.is_empty() {
-                    return Err(ScriptError::Bad(number));
+                    return Err(Cause::LateTable);
                 }
                 self.table = Some((number, table));
                 Ok(())
@@ -54,6 +54,13 @@ impl Draft {
                 Ok(())
             }
         }
+    }
+
+    /// Whether the table was read.
+    pub fn has_table(&self) -> bool
+        ensures { result ≡ is_some self.now.table }
+    {
+        self.table.is_some()
     }
 
     /// The script, whose records end before that number. One with no table is bad there.

@@ -1,10 +1,12 @@
 //! How the fields of a record are spelled.
-ghost use Rattle.std.specs.Prelude.{◌≡◌, ℕ, List, IfOk, IfErr, IfSome, IfNone, Some, None};
+ghost use Rattle.std.specs.Prelude.{◌≡◌, ℕ, List, [], ◌∷◌, IfOk, IfErr, IfSome, IfNone, Some, None};
 ghost use Rattle.keybytes.specs.declared.cell.Cell.{Cell as CellValue};
 ghost use Rattle.keybytes.specs.declared.kind.Kind.{Kind as KindValue};
 ghost use Rattle.keybytes.specs.declared.rid.Rid.{Rid as RidValue};
 ghost use Rattle.script.specs.declared.dealing.Dealing.{Dealing as DealingValue};
 ghost use Rattle.script.specs.declared.spec.Spec.{Spec as SpecValue};
+ghost use Rattle.script.specs.declared.part.Part.TheVariants as part;
+ghost use Rattle.script.specs.Shapes.{Fit};
 ghost use Rattle.script.specs.Fields.{number_of, int_of, slot_of, texts, SpellEach, SpellsCell, SpellsDealing, SpellsKind, SpellsNumbers, SpellsRid, SpellsSpec};
 
 use crate::record_error::RecordError;
@@ -25,11 +27,11 @@ pub fn number(text: &str) -> Option<u32>
 /// A number that counts or names something.
 pub fn count(text: &str) -> Result<usize, RecordError>
     ensures ok { IfOk result (λ number. number_of text.now ≡ Some number) }
-    ensures refused { IfErr result (λ error. (error ≡ RecordError.Bad) × (number_of text.now ≡ None)) }
+    ensures refused { IfErr result (λ error. (error ≡ RecordError.Misspelled) × (number_of text.now ≡ None)) }
 {
     match number(text) {
         Some(number) => Ok(number as usize),
-        None => Err(RecordError::Bad),
+        None => Err(RecordError::Misspelled),
     }
 }
 
@@ -46,14 +48,14 @@ fn slot(text: &str) -> Option<u16>
 /// A RID: a page and a slot, joined by a point.
 pub fn rid(text: &str) -> Result<Rid, RecordError>
     ensures ok { IfOk result (λ rid. SpellsRid text.now rid) }
-    ensures refused { IfErr result (λ error. (error ≡ RecordError.Bad) × ((rid : RidValue) → SpellsRid text.now rid → ⊥)) }
+    ensures refused { IfErr result (λ error. (error ≡ RecordError.Misspelled) × ((rid : RidValue) → SpellsRid text.now rid → ⊥)) }
 {
     match text.split_once('.') {
         Some((page_text, slot_text)) => match (number(page_text), slot(slot_text)) {
             (Some(page), Some(slot)) => Ok(Rid { page, slot }),
-            _ => Err(RecordError::Bad),
+            _ => Err(RecordError::Misspelled),
         },
-        None => Err(RecordError::Bad),
+        None => Err(RecordError::Misspelled),
     }
 }
 
@@ -68,9 +70,9 @@ fn int(text: &str) -> Option<i64>
 }
 
 /// A cell: `~` for Null, digits with or without `-` for a number, `=` and a text, `true` or `false`.
-fn cell(alloc: Global, text: &str) -> Result<Cell, RecordError>
+pub fn cell(alloc: Global, text: &str) -> Result<Cell, RecordError>
     ensures ok { IfOk result (λ cell. SpellsCell text.now cell) }
-    ensures refused { result ≡ Err RecordError.Bad → (cell : CellValue) → SpellsCell text.now cell → ⊥ }
+    ensures refused { result ≡ Err RecordError.Misspelled → (cell : CellValue) → SpellsCell text.now cell → ⊥ }
 {
     if let Some(text) = text.strip_prefix('=') {
         let string = String::from_str(alloc, text)?;
@@ -82,7 +84,7 @@ fn cell(alloc: Global, text: &str) -> Result<Cell, RecordError>
         "false" => Ok(Cell::Flag(false)),
         _ => match int(text) {
             Some(number) => Ok(Cell::Int(number)),
-            None => Err(RecordError::Bad),
+            None => Err(RecordError::Misspelled),
         },
     }
 }
@@ -90,10 +92,10 @@ fn cell(alloc: Global, text: &str) -> Result<Cell, RecordError>
 /// One or more cells.
 pub fn cells(alloc: Global, fields: &[&str]) -> Result<Vec<Cell>, RecordError>
     ensures ok { IfOk result (λ cells. SpellEach SpellsCell (texts fields.now) cells.items) }
-    ensures refused { result ≡ Err RecordError.Bad → (cells : List CellValue) → SpellEach SpellsCell (texts fields.now) cells → ⊥ }
+    ensures refused { result ≡ Err RecordError.Misspelled → ¬ (Fit (part.Cell ∷ []) (Some part.Cell) (texts fields.now)) }
 {
     if fields.is_empty() {
-        return Err(RecordError::Bad);
+        return Err(RecordError::Misspelled);
     }
     let mut cells = Vec::with_capacity(alloc, fields.len())?;
     for field in fields {
@@ -102,7 +104,7 @@ pub fn cells(alloc: Global, fields: &[&str]) -> Result<Vec<Cell>, RecordError>
     Ok(cells)
 }
 
-fn kind(text: &str) -> Option<Kind>
+pub fn kind(text: &str) -> Option<Kind>
     ensures some { IfSome result (λ kind. SpellsKind text.now kind) }
     ensures none { IfNone result ((kind : KindValue) → SpellsKind text.now kind → ⊥) }
 {
@@ -117,14 +119,14 @@ fn kind(text: &str) -> Option<Kind>
 /// One or more kinds of columns.
 pub fn kinds(alloc: Global, fields: &[&str]) -> Result<Vec<Kind>, RecordError>
     ensures ok { IfOk result (λ kinds. SpellEach SpellsKind (texts fields.now) kinds.items) }
-    ensures refused { result ≡ Err RecordError.Bad → (kinds : List KindValue) → SpellEach SpellsKind (texts fields.now) kinds → ⊥ }
+    ensures refused { result ≡ Err RecordError.Misspelled → ¬ (Fit (part.Kind ∷ []) (Some part.Kind) (texts fields.now)) }
 {
     if fields.is_empty() {
-        return Err(RecordError::Bad);
+        return Err(RecordError::Misspelled);
     }
     let mut kinds = Vec::with_capacity(alloc, fields.len())?;
     for field in fields {
-        kinds.push(kind(field).ok_or(RecordError::Bad)?)?;
+        kinds.push(kind(field).ok_or(RecordError::Misspelled)?)?;
     }
     Ok(kinds)
 }
@@ -132,7 +134,7 @@ pub fn kinds(alloc: Global, fields: &[&str]) -> Result<Vec<Kind>, RecordError>
 /// Numbers of columns, joined by `;`.
 fn columns(alloc: Global, text: &str) -> Result<Vec<usize>, RecordError>
     ensures ok { IfOk result (λ columns. SpellsNumbers text.now columns.items) }
-    ensures refused { result ≡ Err RecordError.Bad → (columns : List ℕ) → SpellsNumbers text.now columns → ⊥ }
+    ensures refused { result ≡ Err RecordError.Misspelled → (columns : List ℕ) → SpellsNumbers text.now columns → ⊥ }
 {
     let mut columns = Vec::new(alloc);
     for column in text.split(';') {
@@ -144,12 +146,12 @@ fn columns(alloc: Global, text: &str) -> Result<Vec<usize>, RecordError>
 /// A key specification: `n:` or, for a unique one, `u:`, and the numbers of its columns joined by `;`.
 pub fn spec(alloc: Global, text: &str) -> Result<Spec, RecordError>
     ensures ok { IfOk result (λ spec. SpellsSpec text.now spec) }
-    ensures refused { result ≡ Err RecordError.Bad → (spec : SpecValue) → SpellsSpec text.now spec → ⊥ }
+    ensures refused { result ≡ Err RecordError.Misspelled → (spec : SpecValue) → SpellsSpec text.now spec → ⊥ }
 {
     let (unique, numbers) = match text.split_once(':') {
         Some(("n", numbers)) => (false, numbers),
         Some(("u", numbers)) => (true, numbers),
-        _ => return Err(RecordError::Bad),
+        _ => return Err(RecordError::Misspelled),
     };
     Ok(Spec {
         unique,
@@ -160,10 +162,10 @@ pub fn spec(alloc: Global, text: &str) -> Result<Spec, RecordError>
 /// One or more key specifications.
 pub fn specs(alloc: Global, fields: &[&str]) -> Result<Vec<Spec>, RecordError>
     ensures ok { IfOk result (λ specs. SpellEach SpellsSpec (texts fields.now) specs.items) }
-    ensures refused { result ≡ Err RecordError.Bad → (specs : List SpecValue) → SpellEach SpellsSpec (texts fields.now) specs → ⊥ }
+    ensures refused { result ≡ Err RecordError.Misspelled → ¬ (Fit (part.Spec ∷ []) (Some part.Spec) (texts fields.now)) }
 {
     if fields.is_empty() {
-        return Err(RecordError::Bad);
+        return Err(RecordError::Misspelled);
     }
     let mut specs = Vec::with_capacity(alloc, fields.len())?;
     for field in fields {
@@ -175,11 +177,11 @@ pub fn specs(alloc: Global, fields: &[&str]) -> Result<Vec<Spec>, RecordError>
 /// Ends of ranges, joined by `;`.
 fn ends(alloc: Global, text: &str) -> Result<Vec<u32>, RecordError>
     ensures ok { IfOk result (λ ends. SpellsNumbers text.now ends.items) }
-    ensures refused { result ≡ Err RecordError.Bad → (ends : List ℕ) → SpellsNumbers text.now ends → ⊥ }
+    ensures refused { result ≡ Err RecordError.Misspelled → (ends : List ℕ) → SpellsNumbers text.now ends → ⊥ }
 {
     let mut ends = Vec::new(alloc);
     for end in text.split(';') {
-        ends.push(number(end).ok_or(RecordError::Bad)?)?;
+        ends.push(number(end).ok_or(RecordError::Misspelled)?)?;
     }
     Ok(ends)
 }
@@ -187,7 +189,7 @@ fn ends(alloc: Global, text: &str) -> Result<Vec<u32>, RecordError>
 /// How the pages are dealt into ranges: the ends of the ranges joined by `;`, or `even:` and how many there are.
 pub fn dealing(alloc: Global, text: &str) -> Result<Dealing, RecordError>
     ensures ok { IfOk result (λ dealing. SpellsDealing text.now dealing) }
-    ensures refused { result ≡ Err RecordError.Bad → (dealing : DealingValue) → SpellsDealing text.now dealing → ⊥ }
+    ensures refused { result ≡ Err RecordError.Misspelled → (dealing : DealingValue) → SpellsDealing text.now dealing → ⊥ }
 {
     match text.strip_prefix("even:") {
         Some(ranges) => Ok(Dealing::Even(count(ranges)?)),

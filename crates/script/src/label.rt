@@ -34,10 +34,10 @@ impl Label {
     pub fn read(alloc: Global, text: &str) -> Result<Label, RecordError>
         ensures ok { IfOk result (λ label. label ≡ text.now) }
         ensures accepted { OnOk result (is_label text.now ≡ true) }
-        ensures refused { result ≡ Err RecordError.Bad → is_label text.now ≡ false }
+        ensures refused { result ≡ Err RecordError.Misspelled → is_label text.now ≡ false }
     {
         if !is_label(text) {
-            return Err(RecordError::Bad);
+            return Err(RecordError::Misspelled);
         }
         let text = String::from_str(alloc, text)?;
         Ok(Label { text })
@@ -57,7 +57,8 @@ impl Label {
     }
 }
 
-fn is_label(text: &str) -> bool
+/// Whether the text is one of 1 to 16 ASCII letters and digits.
+pub fn is_label(text: &str) -> bool
     ensures { result ≡ is_label text.now }
 {
     !text.is_empty() && text.len() <= LABEL_MAX && has_letters_and_digits_only(text)

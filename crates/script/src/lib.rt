@@ -5,28 +5,41 @@
 //! layers above run commands, and only where every record is good.
 #![tactic(auto)]
 
+mod cause;
+mod check_error;
 mod command;
+mod command_name;
 mod dealing;
 mod draft;
+mod explanation;
 mod fields;
 mod label;
 mod line;
+mod misfit;
 mod numbered_command;
 mod parse;
+mod part;
+mod reading;
 mod record_error;
+mod records;
 mod script;
 mod script_error;
 mod spec;
 mod start;
+mod stop;
 mod table;
 #[cfg(test)]
 mod tests;
 
+pub use check_error::CheckError;
 pub use command::Command;
+pub use command_name::CommandName;
 pub use dealing::Dealing;
+pub use explanation::Explanation;
 pub use label::Label;
 pub use numbered_command::NumberedCommand;
-pub use script::Script;
+pub use part::Part;
+pub use script::{Script, read_text};
 pub use script_error::ScriptError;
 pub use spec::Spec;
 pub use start::Start;

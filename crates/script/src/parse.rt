@@ -1,21 +1,17 @@
 //! From the fields of a record to what it asks for.
-ghost use Rattle.std.specs.Prelude.{◌≡◌, ℕ, List, [], ◌∷◌, IfOk, IfErr};
+ghost use Rattle.std.specs.Prelude.{◌≡◌, ℕ, List, [], ◌∷◌, Some, None, IfOk, IfErr};
 ghost use Rattle.std.specs.List.{AllZip};
 ghost use Rattle.csv.specs.Records.{fields_of};
-ghost use Rattle.keybytes.specs.declared.cell.Cell.{Cell as CellValue};
-ghost use Rattle.keybytes.specs.declared.rid.Rid.{Rid as RidValue};
 ghost use Rattle.script.specs.Fields.{texts, SpellEach, SpellsCell, SpellsNumber, SpellsRid, SpellsSpec};
-ghost use Rattle.script.specs.Lines.{AtFirst, SpellLine, SpellCommand, SpellStart, SpellTable, SpellsLabel};
-ghost use Rattle.script.specs.declared.line.Line.{Line as LineValue};
-ghost use Rattle.script.specs.declared.command.Command.{Command as CommandValue};
-ghost use Rattle.script.specs.declared.spec.Spec.{Spec as SpecValue};
-ghost use Rattle.script.specs.declared.start.Start.{Start as StartValue};
-ghost use Rattle.script.specs.declared.table.Table.{Table as TableValue};
+ghost use Rattle.script.specs.Lines.{AtFirst, SpellLine, SpellStart, SpellTable, SpellsLabel};
+ghost use Rattle.script.specs.Shapes.{Fit, HasShape, parts_of, repeated_of, written};
+ghost use Rattle.script.specs.declared.part.Part.{Part as PartValue};
+ghost use Rattle.script.specs.declared.part.Part.TheVariants as part;
 
 use crate::fields::{cells, count, dealing, kinds, number, rid, spec, specs};
 use crate::line::Line;
 use crate::record_error::RecordError;
-use crate::{Command, Label, Spec, Start, Table};
+use crate::{Command, CommandName, Label, Spec, Start, Table};
 use csv::StringRecord;
 use keybytes::{Cell, Rid};
 use std::alloc::Global;
@@ -23,13 +19,14 @@ use std::alloc::Global;
 /// What a record of a script asks for.
 pub fn line(alloc: Global, record: &StringRecord) -> Result<Line, RecordError>
     ensures ok { IfOk result (λ line. SpellLine (fields_of «record».now) line) }
-    ensures refused { result ≡ Err RecordError.Bad → (line : LineValue) → SpellLine (fields_of «record».now) line → ⊥ }
+    ensures refused { result ≡ Err RecordError.Misspelled → ¬ (HasShape (fields_of «record».now)) }
 {
     let fields = fields(alloc, record)?;
     line_of(alloc, fields.as_slice())
 }
 
-fn fields<'a>(alloc: Global, record: &'a StringRecord) -> Result<Vec<&'a str>, RecordError>
+/// The fields of a record.
+pub fn fields<'a>(alloc: Global, record: &'a StringRecord) -> Result<Vec<&'a str>, RecordError>
     ensures ok { IfOk result (λ fields. texts fields.items ≡ fields_of «record».now) }
     ensures refused { IfErr result (λ error. error ≡ RecordError.NoMemory) }
 {
@@ -39,129 +36,128 @@ fn fields<'a>(alloc: Global, record: &'a StringRecord) -> Result<Vec<&'a str>, R
 
 fn line_of(alloc: Global, fields: &[&str]) -> Result<Line, RecordError>
     ensures ok { IfOk result (λ line. SpellLine (texts fields.now) line) }
-    ensures refused { result ≡ Err RecordError.Bad → (line : LineValue) → SpellLine (texts fields.now) line → ⊥ }
+    ensures refused { result ≡ Err RecordError.Misspelled → ¬ (HasShape (texts fields.now)) }
 {
-    let (name, parts) = first(fields)?;
-    if name.starts_with('#') {
+    let (first, parts) = first(fields)?;
+    if first.starts_with('#') {
         return Ok(Line::PassedOver);
     }
-    match name {
-        "table" => Ok(Line::Table(table(alloc, parts)?)),
-        _ => Ok(Line::Command(command(alloc, name, parts)?)),
+    match CommandName::read(first) {
+        Some(name) => named(alloc, name, parts),
+        None => Err(RecordError::Misspelled),
     }
 }
 
 /// The first field, and those behind it.
 fn first<'a, 'b>(fields: &'b [&'a str]) -> Result<(&'a str, &'b [&'a str]), RecordError>
     ensures ok { IfOk result (λ found. texts fields.now ≡ found.0.now ∷ texts found.1.now) }
-    ensures refused { IfErr result (λ error. (error ≡ RecordError.Bad) × (texts fields.now ≡ [])) }
+    ensures refused { IfErr result (λ error. (error ≡ RecordError.Misspelled) × (texts fields.now ≡ [])) }
 {
     match fields.split_first() {
         Some((first, rest)) => Ok((*first, rest)),
-        None => Err(RecordError::Bad),
+        None => Err(RecordError::Misspelled),
     }
 }
 
 /// The only field.
 fn only<'a>(fields: &[&'a str]) -> Result<&'a str, RecordError>
     ensures ok { IfOk result (λ field. texts fields.now ≡ field.now ∷ []) }
-    ensures refused { IfErr result (λ error. (error ≡ RecordError.Bad) × ((field : List ℕ) → texts fields.now ≡ field ∷ [] → ⊥)) }
+    ensures refused { IfErr result (λ error. (one : PartValue) → ¬ (Fit (one ∷ []) None (texts fields.now))) }
 {
-    match fields {
-        [field] => Ok(*field),
-        _ => Err(RecordError::Bad),
-    }
+    let (field, rest) = first(fields)?;
+    none(rest)?;
+    Ok(field)
 }
 
 fn table(alloc: Global, fields: &[&str]) -> Result<Table, RecordError>
     ensures ok { IfOk result (λ table. SpellTable (texts fields.now) table) }
-    ensures refused { result ≡ Err RecordError.Bad → (table : TableValue) → SpellTable (texts fields.now) table → ⊥ }
+    ensures refused { result ≡ Err RecordError.Misspelled → ¬ (Fit (part.Number ∷ part.Kind ∷ []) (Some part.Kind) (texts fields.now)) }
 {
     let (slot_limit, columns) = first(fields)?;
     Ok(Table {
-        slot_limit: number(slot_limit).ok_or(RecordError::Bad)?,
+        slot_limit: number(slot_limit).ok_or(RecordError::Misspelled)?,
         kinds: kinds(alloc, columns)?,
     })
 }
 
-/// The command of that name with those fields behind it.
-fn command(alloc: Global, name: &str, fields: &[&str]) -> Result<Command, RecordError>
-    ensures ok { IfOk result (λ command. SpellCommand name.now (texts fields.now) command) }
-    ensures refused { result ≡ Err RecordError.Bad → (command : CommandValue) → SpellCommand name.now (texts fields.now) command → ⊥ }
+/// The line of that name with those fields behind it.
+fn named(alloc: Global, name: CommandName, fields: &[&str]) -> Result<Line, RecordError>
+    ensures ok { IfOk result (λ line. SpellLine (written name ∷ texts fields.now) line) }
+    ensures refused { result ≡ Err RecordError.Misspelled → ¬ (Fit (parts_of name) (repeated_of name) (texts fields.now)) }
 {
-    Ok(match name {
-        "row" => Command::Row {
+    Ok(Line::Command(match name {
+        CommandName::Table => return Ok(Line::Table(table(alloc, fields)?)),
+        CommandName::Row => Command::Row {
             cells: cells(alloc, fields)?,
         },
-        "begin" => Command::Begin {
+        CommandName::Begin => Command::Begin {
             label: only_label(alloc, fields)?,
         },
-        "insert" => {
+        CommandName::Insert => {
             let (label, cells) = label_and_cells(alloc, fields)?;
             Command::Insert { label, cells }
         }
-        "update" => {
+        CommandName::Update => {
             let (label, rid, cells) = label_rid_and_cells(alloc, fields)?;
             Command::Update { label, rid, cells }
         }
-        "delete" => {
+        CommandName::Delete => {
             let (label, rid) = label_and_rid(alloc, fields)?;
             Command::Delete { label, rid }
         }
-        "undo" => Command::Undo {
+        CommandName::Undo => Command::Undo {
             label: only_label(alloc, fields)?,
         },
-        "commit" => Command::Commit {
+        CommandName::Commit => Command::Commit {
             label: only_label(alloc, fields)?,
         },
-        "get" => Command::Get {
+        CommandName::Get => Command::Get {
             rid: only_rid(fields)?,
         },
-        "start" => Command::Start(start(alloc, fields)?),
-        "scan" => {
+        CommandName::Start => Command::Start(start(alloc, fields)?),
+        CommandName::Scan => {
             let (range, worker) = two_counts(fields)?;
             Command::Scan { range, worker }
         }
-        "seal" => Command::Seal {
+        CommandName::Seal => Command::Seal {
             worker: only_count(fields)?,
         },
-        "load" => Command::Load {
+        CommandName::Load => Command::Load {
             index: only_count(fields)?,
         },
-        "switch" => {
+        CommandName::Switch => {
             none(fields)?;
             Command::Switch
         }
-        "pairs" => Command::Pairs {
+        CommandName::Pairs => Command::Pairs {
             number: only_count(fields)?,
         },
-        "rest" => Command::Rest {
+        CommandName::Rest => Command::Rest {
             spec: only_spec(alloc, fields)?,
         },
-        _ => return Err(RecordError::Bad),
-    })
+    }))
 }
 
 fn none(fields: &[&str]) -> Result<(), RecordError>
     ensures ok { IfOk result (λ _. texts fields.now ≡ []) }
-    ensures refused { result ≡ Err RecordError.Bad → texts fields.now ≡ [] → ⊥ }
+    ensures refused { IfErr result (λ error. (error ≡ RecordError.Misspelled) × ¬ (Fit [] None (texts fields.now))) }
 {
     match fields {
         [] => Ok(()),
-        _ => Err(RecordError::Bad),
+        _ => Err(RecordError::Misspelled),
     }
 }
 
 fn only_label(alloc: Global, fields: &[&str]) -> Result<Label, RecordError>
     ensures ok { IfOk result (λ label. AllZip SpellsLabel (texts fields.now) (label ∷ [])) }
-    ensures refused { result ≡ Err RecordError.Bad → (label : List ℕ) → AllZip SpellsLabel (texts fields.now) (label ∷ []) → ⊥ }
+    ensures refused { result ≡ Err RecordError.Misspelled → ¬ (Fit (part.Label ∷ []) None (texts fields.now)) }
 {
     Label::read(alloc, only(fields)?)
 }
 
 fn label_and_cells(alloc: Global, fields: &[&str]) -> Result<(Label, Vec<Cell>), RecordError>
     ensures ok { IfOk result (λ parts. AtFirst (λ txn columns. SpellsLabel txn parts.0 × SpellEach SpellsCell columns parts.1.items) (texts fields.now)) }
-    ensures refused { result ≡ Err RecordError.Bad → (label : List ℕ) → (cells : List CellValue) → AtFirst (λ txn columns. SpellsLabel txn label × SpellEach SpellsCell columns cells) (texts fields.now) → ⊥ }
+    ensures refused { result ≡ Err RecordError.Misspelled → ¬ (Fit (part.Label ∷ part.Cell ∷ []) (Some part.Cell) (texts fields.now)) }
 {
     let (label, columns) = first(fields)?;
     Ok((Label::read(alloc, label)?, cells(alloc, columns)?))
@@ -172,7 +168,7 @@ fn label_rid_and_cells(
     fields: &[&str],
 ) -> Result<(Label, Rid, Vec<Cell>), RecordError>
     ensures ok { IfOk result (λ parts. AtFirst (λ txn more. SpellsLabel txn parts.0 × AtFirst (λ place columns. SpellsRid place parts.1 × SpellEach SpellsCell columns parts.2.items) more) (texts fields.now)) }
-    ensures refused { result ≡ Err RecordError.Bad → (label : List ℕ) → (rid : RidValue) → (cells : List CellValue) → AtFirst (λ txn more. SpellsLabel txn label × AtFirst (λ place columns. SpellsRid place rid × SpellEach SpellsCell columns cells) more) (texts fields.now) → ⊥ }
+    ensures refused { result ≡ Err RecordError.Misspelled → ¬ (Fit (part.Label ∷ part.Rid ∷ part.Cell ∷ []) (Some part.Cell) (texts fields.now)) }
 {
     let (label, more) = first(fields)?;
     let (place, columns) = first(more)?;
@@ -185,7 +181,7 @@ fn label_rid_and_cells(
 
 fn label_and_rid(alloc: Global, fields: &[&str]) -> Result<(Label, Rid), RecordError>
     ensures ok { IfOk result (λ parts. AtFirst (λ txn more. SpellsLabel txn parts.0 × AllZip SpellsRid more (parts.1 ∷ [])) (texts fields.now)) }
-    ensures refused { result ≡ Err RecordError.Bad → (label : List ℕ) → (rid : RidValue) → AtFirst (λ txn more. SpellsLabel txn label × AllZip SpellsRid more (rid ∷ [])) (texts fields.now) → ⊥ }
+    ensures refused { result ≡ Err RecordError.Misspelled → ¬ (Fit (part.Label ∷ part.Rid ∷ []) None (texts fields.now)) }
 {
     let (label, more) = first(fields)?;
     Ok((Label::read(alloc, label)?, only_rid(more)?))
@@ -193,21 +189,21 @@ fn label_and_rid(alloc: Global, fields: &[&str]) -> Result<(Label, Rid), RecordE
 
 fn only_rid(fields: &[&str]) -> Result<Rid, RecordError>
     ensures ok { IfOk result (λ rid. AllZip SpellsRid (texts fields.now) (rid ∷ [])) }
-    ensures refused { result ≡ Err RecordError.Bad → (rid : RidValue) → AllZip SpellsRid (texts fields.now) (rid ∷ []) → ⊥ }
+    ensures refused { result ≡ Err RecordError.Misspelled → ¬ (Fit (part.Rid ∷ []) None (texts fields.now)) }
 {
     rid(only(fields)?)
 }
 
 fn only_count(fields: &[&str]) -> Result<usize, RecordError>
     ensures ok { IfOk result (λ number. AllZip SpellsNumber (texts fields.now) (number ∷ [])) }
-    ensures refused { result ≡ Err RecordError.Bad → (number : ℕ) → AllZip SpellsNumber (texts fields.now) (number ∷ []) → ⊥ }
+    ensures refused { result ≡ Err RecordError.Misspelled → ¬ (Fit (part.Number ∷ []) None (texts fields.now)) }
 {
     count(only(fields)?)
 }
 
 fn two_counts(fields: &[&str]) -> Result<(usize, usize), RecordError>
     ensures ok { IfOk result (λ numbers. AllZip SpellsNumber (texts fields.now) (numbers.0 ∷ numbers.1 ∷ [])) }
-    ensures refused { result ≡ Err RecordError.Bad → (one two : ℕ) → AllZip SpellsNumber (texts fields.now) (one ∷ two ∷ []) → ⊥ }
+    ensures refused { result ≡ Err RecordError.Misspelled → ¬ (Fit (part.Number ∷ part.Number ∷ []) None (texts fields.now)) }
 {
     let (one, more) = first(fields)?;
     let two = only(more)?;
@@ -216,7 +212,7 @@ fn two_counts(fields: &[&str]) -> Result<(usize, usize), RecordError>
 
 fn only_spec(alloc: Global, fields: &[&str]) -> Result<Spec, RecordError>
     ensures ok { IfOk result (λ spec. AllZip SpellsSpec (texts fields.now) (spec ∷ [])) }
-    ensures refused { result ≡ Err RecordError.Bad → (spec : SpecValue) → AllZip SpellsSpec (texts fields.now) (spec ∷ []) → ⊥ }
+    ensures refused { result ≡ Err RecordError.Misspelled → ¬ (Fit (part.Spec ∷ []) None (texts fields.now)) }
 {
     spec(alloc, only(fields)?)
 }
@@ -224,7 +220,7 @@ fn only_spec(alloc: Global, fields: &[&str]) -> Result<Spec, RecordError>
 /// The workers, the quota, the dealing and the indexes of a build.
 fn start(alloc: Global, fields: &[&str]) -> Result<Start, RecordError>
     ensures ok { IfOk result (λ start. SpellStart (texts fields.now) start) }
-    ensures refused { result ≡ Err RecordError.Bad → (start : StartValue) → SpellStart (texts fields.now) start → ⊥ }
+    ensures refused { result ≡ Err RecordError.Misspelled → ¬ (Fit (part.Number ∷ part.Number ∷ part.Dealing ∷ part.Spec ∷ []) (Some part.Spec) (texts fields.now)) }
 {
     let (workers, more) = first(fields)?;
     let (quota, more) = first(more)?;

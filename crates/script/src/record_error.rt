@@ -1,28 +1,14 @@
 ghost use Rattle.std.specs.Prelude.{◌≡◌};
 ghost use Rattle.script.specs.declared.record_error.RecordError.TheVariants.{NoMemory};
 
-use crate::ScriptError;
 use std::alloc::{AllocError, AllocFailed};
 
-/// Why a record of a script was not taken.
-#[derive(Clone, Copy, Debug, PartialEq, Eq)]
+/// Why the fields of a record were refused.
+#[derive(Clone, Copy, PartialEq, Eq)]
 pub enum RecordError {
-    /// It is not spelled as a record is.
-    Bad,
+    /// They are not spelled as those of a record are.
+    Misspelled,
     NoMemory,
-}
-
-impl RecordError {
-    /// The error of a script in which the record of that number was not taken.
-    pub fn at(self, number: usize) -> ScriptError
-        ensures bad { self ≡ RecordError.Bad → result ≡ ScriptError.Bad number }
-        ensures no_memory { self ≡ RecordError.NoMemory → result ≡ ScriptError.NoMemory }
-    {
-        match self {
-            RecordError::Bad => ScriptError::Bad(number),
-            RecordError::NoMemory => ScriptError::NoMemory,
-        }
-    }
 }
 
 impl From<AllocError> for RecordError {

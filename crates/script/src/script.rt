@@ -1,9 +1,17 @@
-ghost use Rattle.std.specs.Prelude.{OnOk};
+ghost use Rattle.std.specs.Prelude.{◌≡◌, ℕ, IfOk, IfErr, IfSome, OnOk};
 ghost use Rattle.std.specs.Io.KnownBytes.{IsAtEnd};
+ghost use Rattle.csv.specs.Records.{fields_of};
+ghost use Rattle.script.specs.Explanations.{Explains, ExplainsStop};
+ghost use Rattle.script.specs.Scripts.{AreGood, IsFirstBad, SpellsScript};
+ghost use Rattle.script.specs.Shapes.{HasShape};
 
+use crate::cause::Cause;
 use crate::draft::Draft;
-use crate::{NumberedCommand, ScriptError, Table, parse};
-use csv::{ErrorKind, Reader, ReaderBuilder, StringRecord};
+use crate::misfit::misfit;
+use crate::reading::read_lines;
+use crate::stop::Stop;
+use crate::{CheckError, Explanation, NumberedCommand, ScriptError, Table};
+use csv::StringRecord;
 use std::alloc::Global;
 use std::io::{self, Read};
 
@@ -19,49 +27,77 @@ pub struct Script {
 impl Script {
     /// Reads a script to its end, and then looks at its records.
     pub fn read<R: Read>(alloc: Global, reader: &mut R) -> Result<Script, ScriptError>
-        ensures { OnOk result (IsAtEnd (R.remaining reader.new)) }
+        ensures good { IfSome (R.remaining reader.old) (λ text. IfOk result (SpellsScript text)) }
+        ensures bad { IfSome (R.remaining reader.old) (λ text. (number : ℕ) → result ≡ Err (ScriptError.Bad number) → IsFirstBad text number) }
+        ensures end { OnOk result (IsAtEnd (R.remaining reader.new)) }
     {
-        let mut text = Vec::new(alloc);
-        match reader.read_to_end(&mut text) {
-            Ok(_) => Script::parse(alloc, text.as_slice()),
-            Err(error) if error.kind() == io::ErrorKind::OutOfMemory => Err(ScriptError::NoMemory),
-            Err(_) => Err(ScriptError::CannotRead),
-        }
+        let text = read_text(alloc, reader)?;
+        Script::parse(alloc, text.as_slice())
     }
 
     /// Looks at all records of a script. Records are numbered from 1, the ones that are passed over among them.
-    pub fn parse(alloc: Global, text: &[u8]) -> Result<Script, ScriptError> {
-        let mut reader = ReaderBuilder::new()
-            .has_headers(false)
-            .flexible(true)
-            .from_reader(alloc, text);
-        let mut record = StringRecord::new(alloc);
+    pub fn parse(alloc: Global, text: &[u8]) -> Result<Script, ScriptError>
+        ensures good { IfOk result (SpellsScript text.now) }
+        ensures bad { (number : ℕ) → result ≡ Err (ScriptError.Bad number) → IsFirstBad text.now number }
+    {
         let mut draft = Draft::new(alloc);
-        for number in 1..usize::MAX {
-            if !read_record(&mut reader, &mut record, number)? {
-                return draft.finish(number);
-            }
-            match parse::line(alloc, &record) {
-                Ok(line) => draft.add(number, line)?,
-                Err(error) => return Err(error.at(number)),
-            }
+        let mut record = StringRecord::new(alloc);
+        match read_lines(alloc, text, &mut draft, &mut record) {
+            Ok(number) => draft.finish(number),
+            Err(stop) => Err(stop.cause.at(stop.number)),
         }
-        Err(ScriptError::NoMemory)
+    }
+
+    /// Looks at all records of a script, and answers how many there are, or what is wrong with the first bad one.
+    pub fn check(alloc: Global, text: &[u8]) -> Result<usize, CheckError>
+        ensures good { IfOk result (AreGood text.now) }
+        ensures bad { IfErr result (Explains text.now) }
+    {
+        let mut draft = Draft::new(alloc);
+        let mut record = StringRecord::new(alloc);
+        match read_lines(alloc, text, &mut draft, &mut record) {
+            Ok(number) if draft.has_table() => Ok(number - 1),
+            Ok(number) => Err(CheckError::Bad {
+                number,
+                explanation: Explanation::NoTable,
+            }),
+            Err(stop) => Err(explain(alloc, stop, &record)),
+        }
     }
 }
 
-/// Reads the record of that number, and answers whether there is one.
-fn read_record(
-    reader: &mut Reader<&[u8]>,
-    record: &mut StringRecord,
-    number: usize,
-) -> Result<bool, ScriptError> {
-    match reader.read_record(record) {
-        Ok(found) => Ok(found),
-        Err(error) => Err(match error.kind() {
-            ErrorKind::OutOfMemory => ScriptError::NoMemory,
-            ErrorKind::Utf8 { .. } => ScriptError::Bad(number),
-            _ => ScriptError::CannotRead,
-        }),
+/// Reads the text of a script to its end.
+pub fn read_text<R: Read>(alloc: Global, reader: &mut R) -> Result<Vec<u8>, ScriptError>
+    ensures text { IfSome (R.remaining reader.old) (λ known. IfOk result (λ text. text.items ≡ known)) }
+    ensures end { OnOk result (IsAtEnd (R.remaining reader.new)) }
+    ensures unread { (number : ℕ) → result ≡ Err (ScriptError.Bad number) → ⊥ }
+{
+    let mut text = Vec::new(alloc);
+    match reader.read_to_end(&mut text) {
+        Ok(_) => Ok(text),
+        Err(error) if error.kind() == io::ErrorKind::OutOfMemory => Err(ScriptError::NoMemory),
+        Err(_) => Err(ScriptError::CannotRead),
+    }
+}
+
+/// What is wrong with the record at which the reading stopped, whose fields are in the record where they could be read.
+fn explain(alloc: Global, stop: Stop, record: &StringRecord) -> CheckError
+    requires { stop.cause ≡ Cause.Misspelled → ¬ (HasShape (fields_of «record».now)) }
+    ensures { ExplainsStop stop (fields_of «record».now) result }
+{
+    let explanation = match stop.cause {
+        Cause::NotText => Explanation::NotText,
+        Cause::LateTable => Explanation::LateTable,
+        Cause::Misspelled => match misfit(alloc, record) {
+            Ok(Some(explanation)) => explanation,
+            Ok(None) => unreachable!(),
+            Err(_) => return CheckError::NoMemory,
+        },
+        Cause::NoMemory => return CheckError::NoMemory,
+        Cause::CannotRead => return CheckError::CannotRead,
+    };
+    CheckError::Bad {
+        number: stop.number,
+        explanation,
     }
 }

@@ -1,1 +1,2 @@
+mod explanations;
 mod spellings;

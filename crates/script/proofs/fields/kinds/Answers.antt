@@ -1,13 +1,14 @@
 use Rattle.std.proofs.Common.{get_or, Option, IfSome, IfNone, arith, subst}
 use Rattle.script.specs.Fields.{SpellsKind}
 use Rattle.keybytes.specs.declared.kind.Kind.{Kind}
-use Rattle.script.proofs.SpelledLists.{no_field, spelled_more, spelled_none}
+use Rattle.script.specs.declared.part.Part.TheVariants as part
+use Rattle.script.proofs.SpelledLists.{no_field, none_fit, spelled_more}
 use Rattle.script.proofs.fields.kinds.Goals as goal
 
 pub returns-in_err-ok_or-clause-refused : goal.returns-in_err-ok_or-clause-refused
 returns-in_err-ok_or-clause-refused c = λ _.
     let none = subst (λ (o : Option Kind). IfNone o ((kind : Kind) → SpellsKind (get_or c.args.fields.now c.loop-field.field-index no_field).now kind → ⊥)) c.in_err-ok_or.ensures.ok_part c.kind.ensures.none in
-    spelled_none SpellsKind c.args.fields.now c.loop-field.field-index (omega arith) none
+    none_fit part.Kind c.args.fields.now c.loop-field.field-index (omega arith) (λ spelled. none spelled.0 spelled.1)
 
 pub loop-field-preserved : goal.loop-field-preserved
 loop-field-preserved c =

@@ -1,12 +1,14 @@
 use Rattle.std.proofs.Common.{Err, arith, ap, sym, ◌∙◌}
 use Rattle.script.specs.Fields.{SpellsSpec}
-use Rattle.script.proofs.SpelledLists.{spelled_more, spelled_none}
+use Rattle.script.specs.declared.part.Part.TheVariants as part
+use Rattle.script.proofs.SpelledLists.{none_fit, spelled_more}
 use Rattle.script.proofs.fields.specs.Goals as goal
 
 pub returns-in_err-spec-clause-refused : goal.returns-in_err-spec-clause-refused
 returns-in_err-spec-clause-refused c = λ bad.
     let error = rw bad at c.from_residual-in_err-spec.ensures in
-    spelled_none SpellsSpec c.args.fields.now c.loop-field.field-index (omega arith) (c.spec.ensures.refused (c.in_err-spec.was ∙ ap Err (sym error.1)))
+    let none = c.spec.ensures.refused (c.in_err-spec.was ∙ ap Err (sym error.1)) in
+    none_fit part.Spec c.args.fields.now c.loop-field.field-index (omega arith) (λ spelled. none spelled.0 spelled.1)
 
 pub loop-field-preserved : goal.loop-field-preserved
 loop-field-preserved c =

@@ -1,14 +1,11 @@
-use Rattle.script.specs.Fields.{SpellsRid}
-use Rattle.script.proofs.SpelledLists.{one_text}
+use Rattle.script.specs.declared.part.Part.TheVariants as part
 use Rattle.script.proofs.parse.only_rid.Goals as goal
 
 pub returns-in_err-only-clause-refused : goal.returns-in_err-only-clause-refused
-returns-in_err-only-clause-refused c = λ _ rid spelled.
-    let one = one_text SpellsRid _ rid spelled in
-    c.in_err-only.ensures.refused.1 one.0 one.1
+returns-in_err-only-clause-refused c = λ _. c.in_err-only.ensures.refused part.Rid
 
 pub returns-clause-refused : goal.returns-clause-refused
-returns-clause-refused c = λ bad rid spelled.
-    let here = rw c.in_ok-only.ensures.ok at spelled in
+returns-clause-refused c = λ bad fits.
+    let here = rw c.in_ok-only.ensures.ok at fits in
     let refused = rw bad at c.rid.ensures.refused in
-    refused.1 rid here.0
+    refused.1 here.0.0 here.0.1

@@ -1,0 +1,197 @@
+-- Fields that spell a line have the shape of one.
+use Rattle.std.proofs.Common.{◌≡◌, ◌==◌, ℕ, true, false, List, [], ◌∷◌, slice_index, codes, if◌then◌else◌, Some, None, arith, inl, inr, ap, refl, sym, ◌∙◌}
+use Rattle.std.specs.List.{AllZip}
+use Rattle.std.specs.Str.{bytes_eq}
+use Rattle.script.specs.Fields.{SpellEach, SpellsCell, SpellsDealing, SpellsKind, SpellsNumber, SpellsRid, SpellsSpec}
+use Rattle.script.specs.Lines.{SpellLine, SpellParts, SpellStart, SpellTable, SpellsLabel, name_of}
+use Rattle.script.specs.Shapes.{Fit, HasShape, IsRemark, IsSpelled, parts_of, repeated_of, written}
+use Rattle.script.specs.declared.command.Command.{Command}
+use Rattle.script.specs.declared.command.Command.TheVariants.{Row, Begin, Insert, Update, Delete, Undo, Commit, Get, Start as StartCommand, Scan, Seal, Load, Switch, Pairs, Rest}
+use Rattle.script.specs.declared.command_name.CommandName.{CommandName}
+use Rattle.script.specs.declared.command_name.CommandName.TheVariants as name
+use Rattle.script.specs.declared.line.Line.{Line}
+use Rattle.script.specs.declared.line.Line.TheVariants.{PassedOver, Table as TableLine, Command as CommandLine}
+use Rattle.script.specs.declared.part.Part.{Part}
+use Rattle.script.specs.declared.part.Part.TheVariants as part
+use Rattle.script.specs.declared.table.Table.{Table}
+
+-- a relation of texts to values spells the part
+abbrev Reads : {A : Type 0} → (List ℕ → A → Type 0) → Part → Type 0
+Reads {A} Spells one = (text : List ℕ) (value : A) → Spells text value → IsSpelled one text
+
+reads_label : Reads SpellsLabel part.Label
+reads_label text label spelled = spelled.1
+
+reads_rid : Reads SpellsRid part.Rid
+reads_rid text rid spelled = (rid, spelled)
+
+reads_number : Reads SpellsNumber part.Number
+reads_number text number spelled = (number, spelled)
+
+reads_cell : Reads SpellsCell part.Cell
+reads_cell text cell spelled = (cell, spelled)
+
+reads_kind : Reads SpellsKind part.Kind
+reads_kind text kind spelled = (kind, spelled)
+
+reads_spec : Reads SpellsSpec part.Spec
+reads_spec text spec spelled = (spec, spelled)
+
+-- one text for one value, two for two, and one or more
+one_fits : {A : Type 0} (Spells : List ℕ → A → Type 0) (one : Part) → Reads Spells one → (fields : List (List ℕ)) (value : A)
+    → AllZip Spells fields (value ∷ []) → Fit (one ∷ []) None fields
+one_fits Spells one reads [] value spelled = spelled
+one_fits Spells one reads (f ∷ []) value spelled = (reads f value spelled.0, tt)
+one_fits Spells one reads (f ∷ g ∷ fs) value spelled = absurd spelled.1
+
+two_fit : {A : Type 0} (Spells : List ℕ → A → Type 0) (one : Part) → Reads Spells one → (fields : List (List ℕ)) (first second : A)
+    → AllZip Spells fields (first ∷ second ∷ []) → Fit (one ∷ one ∷ []) None fields
+two_fit Spells one reads [] first second spelled = spelled
+two_fit Spells one reads (f ∷ fs) first second spelled = (reads f first spelled.0, one_fits Spells one reads fs second spelled.1)
+
+more_fit : {A : Type 0} (Spells : List ℕ → A → Type 0) (one : Part) → Reads Spells one → (fields : List (List ℕ)) (values : List A)
+    → AllZip Spells fields values → Fit [] (Some one) fields
+more_fit Spells one reads [] values spelled = tt
+more_fit Spells one reads (f ∷ fs) [] spelled = absurd spelled
+more_fit Spells one reads (f ∷ fs) (v ∷ vs) spelled = (reads f v spelled.0, more_fit Spells one reads fs vs spelled.1)
+
+each_fits : {A : Type 0} (Spells : List ℕ → A → Type 0) (one : Part) → Reads Spells one → (fields : List (List ℕ)) (values : List A)
+    → SpellEach Spells fields values → Fit (one ∷ []) (Some one) fields
+each_fits Spells one reads [] values spelled = omega (arith, spelled.0)
+each_fits Spells one reads (f ∷ fs) [] spelled = absurd spelled.1
+each_fits Spells one reads (f ∷ fs) (v ∷ vs) spelled = (reads f v spelled.1.0, more_fit Spells one reads fs vs spelled.1.1)
+
+-- the fields of a table and those of a start
+table_fits : (fields : List (List ℕ)) (table : Table) → SpellTable fields table → Fit (parts_of name.Table) (repeated_of name.Table) fields
+table_fits [] table spelled = spelled
+table_fits (f ∷ fs) table spelled = ((table.slot_limit, spelled.0), each_fits SpellsKind part.Kind reads_kind fs table.kinds.items spelled.1)
+
+-- the fields of a command
+command_fits : (fields : List (List ℕ)) (command : Command) → SpellParts fields command → Fit (parts_of (name_of command)) (repeated_of (name_of command)) fields
+command_fits fields (Row cells) spelled = each_fits SpellsCell part.Cell reads_cell fields cells.items spelled
+command_fits fields (Begin label) spelled = one_fits SpellsLabel part.Label reads_label fields label spelled
+command_fits [] (Insert label cells) spelled = spelled
+command_fits (f ∷ fs) (Insert label cells) spelled = (spelled.0.1, each_fits SpellsCell part.Cell reads_cell fs cells.items spelled.1)
+command_fits [] (Update label rid cells) spelled = spelled
+command_fits (f ∷ []) (Update label rid cells) spelled = absurd spelled.1
+command_fits (f ∷ g ∷ fs) (Update label rid cells) spelled =
+    (spelled.0.1, ((rid, spelled.1.0), each_fits SpellsCell part.Cell reads_cell fs cells.items spelled.1.1))
+command_fits [] (Delete label rid) spelled = spelled
+command_fits (f ∷ fs) (Delete label rid) spelled = (spelled.0.1, one_fits SpellsRid part.Rid reads_rid fs rid spelled.1)
+command_fits fields (Undo label) spelled = one_fits SpellsLabel part.Label reads_label fields label spelled
+command_fits fields (Commit label) spelled = one_fits SpellsLabel part.Label reads_label fields label spelled
+command_fits fields (Get rid) spelled = one_fits SpellsRid part.Rid reads_rid fields rid spelled
+command_fits [] (StartCommand start) spelled = spelled
+command_fits (f ∷ []) (StartCommand start) spelled = absurd spelled.1
+command_fits (f ∷ g ∷ []) (StartCommand start) spelled = absurd spelled.1.1
+command_fits (f ∷ g ∷ h ∷ fs) (StartCommand start) spelled =
+    let specs = each_fits SpellsSpec part.Spec reads_spec fs start.specs.items spelled.1.1.1 in
+    ((start.workers, spelled.0), ((start.quota, spelled.1.0), ((start.dealing, spelled.1.1.0), specs)))
+command_fits fields (Scan range worker) spelled = two_fit SpellsNumber part.Number reads_number fields range worker spelled
+command_fits fields (Seal worker) spelled = one_fits SpellsNumber part.Number reads_number fields worker spelled
+command_fits fields (Load index) spelled = one_fits SpellsNumber part.Number reads_number fields index spelled
+command_fits [] Switch spelled = tt
+command_fits (f ∷ fs) Switch spelled = cc
+command_fits fields (Pairs number) spelled = one_fits SpellsNumber part.Number reads_number fields number spelled
+command_fits fields (Rest spec) spelled = one_fits SpellsSpec part.Spec reads_spec fields spec spelled
+
+-- fields that spell a line have its shape
+pub line_shape : (fields : List (List ℕ)) (line : Line) → SpellLine fields line → HasShape fields
+line_shape [] PassedOver spelled = spelled
+line_shape [] (TableLine table) spelled = spelled
+line_shape [] (CommandLine command) spelled = spelled
+line_shape (f ∷ fs) PassedOver spelled = inl spelled
+line_shape (f ∷ fs) (TableLine table) spelled = inr (name.Table, spelled.0, table_fits fs table spelled.1)
+line_shape (f ∷ fs) (CommandLine command) spelled = inr (name_of command, spelled.0, command_fits fs command spelled.1)
+
+-- the name that a text is, where it is one
+named : List ℕ → CommandName
+named text =
+    if bytes_eq text (codes "table") then name.Table
+    else if bytes_eq text (codes "row") then name.Row
+    else if bytes_eq text (codes "begin") then name.Begin
+    else if bytes_eq text (codes "insert") then name.Insert
+    else if bytes_eq text (codes "update") then name.Update
+    else if bytes_eq text (codes "delete") then name.Delete
+    else if bytes_eq text (codes "undo") then name.Undo
+    else if bytes_eq text (codes "commit") then name.Commit
+    else if bytes_eq text (codes "get") then name.Get
+    else if bytes_eq text (codes "start") then name.Start
+    else if bytes_eq text (codes "scan") then name.Scan
+    else if bytes_eq text (codes "seal") then name.Seal
+    else if bytes_eq text (codes "load") then name.Load
+    else if bytes_eq text (codes "switch") then name.Switch
+    else if bytes_eq text (codes "pairs") then name.Pairs
+    else name.Rest
+
+named_written : (one : CommandName) → named (written one) ≡ one
+unfolding named
+named_written name.Table = refl
+named_written name.Row = refl
+named_written name.Begin = refl
+named_written name.Insert = refl
+named_written name.Update = refl
+named_written name.Delete = refl
+named_written name.Undo = refl
+named_written name.Commit = refl
+named_written name.Get = refl
+named_written name.Start = refl
+named_written name.Scan = refl
+named_written name.Seal = refl
+named_written name.Load = refl
+named_written name.Switch = refl
+named_written name.Pairs = refl
+named_written name.Rest = refl
+
+-- no two names are written alike
+pub same_name : (one other : CommandName) → written one ≡ written other → one ≡ other
+same_name one other same = sym (named_written one) ∙ ap named same ∙ named_written other
+
+-- no name is a remark
+begins_plain : (one : CommandName) → (slice_index (written one) 0 == 35) ≡ false
+begins_plain name.Table = refl
+begins_plain name.Row = refl
+begins_plain name.Begin = refl
+begins_plain name.Insert = refl
+begins_plain name.Update = refl
+begins_plain name.Delete = refl
+begins_plain name.Undo = refl
+begins_plain name.Commit = refl
+begins_plain name.Get = refl
+begins_plain name.Start = refl
+begins_plain name.Scan = refl
+begins_plain name.Seal = refl
+begins_plain name.Load = refl
+begins_plain name.Switch = refl
+begins_plain name.Pairs = refl
+begins_plain name.Rest = refl
+
+no_remark : (one : CommandName) → IsRemark (written one) → ⊥
+no_remark one remark =
+    let both : true ≡ false = ap (λ (text : List ℕ). slice_index text 0 == 35) (sym remark.1) ∙ begins_plain one in cc
+
+-- no command has the name of a table
+not_table : (command : Command) → name.Table ≡ name_of command → ⊥
+not_table (Row cells) is = cc
+not_table (Begin label) is = cc
+not_table (Insert label cells) is = cc
+not_table (Update label rid cells) is = cc
+not_table (Delete label rid) is = cc
+not_table (Undo label) is = cc
+not_table (Commit label) is = cc
+not_table (Get rid) is = cc
+not_table (StartCommand start) is = cc
+not_table (Scan range worker) is = cc
+not_table (Seal worker) is = cc
+not_table (Load index) is = cc
+not_table Switch is = cc
+not_table (Pairs number) is = cc
+not_table (Rest spec) is = cc
+
+-- fields that spell a table spell nothing else
+pub same_table : (fields : List (List ℕ)) (table : Table) (line : Line) → SpellLine fields (TableLine table) → SpellLine fields line
+    → (again : Table) × (line ≡ TableLine again)
+same_table [] table line is spelled = absurd is
+same_table (f ∷ fs) table PassedOver is spelled = absurd (no_remark name.Table (rw is.0 at spelled))
+same_table (f ∷ fs) table (TableLine again) is spelled = (again, refl)
+same_table (f ∷ fs) table (CommandLine command) is spelled = absurd (not_table command (same_name name.Table (name_of command) (sym is.0 ∙ spelled.0)))

@@ -1,0 +1,101 @@
+-- Which fields the record of a command has.
+use Rattle.std.specs.Prelude.{◌≡◌, ℕ, true, List, [], ◌∷◌, ◌++◌, slice_get, codes, Option, Some, None, ⊤, ◌⊎◌}
+use Rattle.std.specs.Option.{option_or}
+use Rattle.keybytes.specs.declared.cell.Cell.{Cell}
+use Rattle.keybytes.specs.declared.kind.Kind.{Kind}
+use Rattle.keybytes.specs.declared.rid.Rid.{Rid}
+use Rattle.script.specs.Fields.{is_label, SpellsCell, SpellsDealing, SpellsKind, SpellsNumber, SpellsRid, SpellsSpec}
+use Rattle.script.specs.declared.command_name.CommandName.{CommandName}
+use Rattle.script.specs.declared.command_name.CommandName.TheVariants.{Table, Row, Begin, Insert, Update, Delete, Undo, Commit, Get, Start, Scan, Seal, Load, Switch, Pairs, Rest}
+use Rattle.script.specs.declared.dealing.Dealing.{Dealing}
+use Rattle.script.specs.declared.part.Part.{Part}
+use Rattle.script.specs.declared.part.Part.TheVariants as part
+use Rattle.script.specs.declared.spec.Spec.{Spec}
+
+-- how the names of commands are written
+abbrev pub written : CommandName → List ℕ
+written Table = codes "table"
+written Row = codes "row"
+written Begin = codes "begin"
+written Insert = codes "insert"
+written Update = codes "update"
+written Delete = codes "delete"
+written Undo = codes "undo"
+written Commit = codes "commit"
+written Get = codes "get"
+written Start = codes "start"
+written Scan = codes "scan"
+written Seal = codes "seal"
+written Load = codes "load"
+written Switch = codes "switch"
+written Pairs = codes "pairs"
+written Rest = codes "rest"
+
+-- what the fields behind a name spell, one part each
+abbrev pub parts_of : CommandName → List Part
+parts_of Table = part.Number ∷ part.Kind ∷ []
+parts_of Row = part.Cell ∷ []
+parts_of Begin = part.Label ∷ []
+parts_of Insert = part.Label ∷ part.Cell ∷ []
+parts_of Update = part.Label ∷ part.Rid ∷ part.Cell ∷ []
+parts_of Delete = part.Label ∷ part.Rid ∷ []
+parts_of Undo = part.Label ∷ []
+parts_of Commit = part.Label ∷ []
+parts_of Get = part.Rid ∷ []
+parts_of Start = part.Number ∷ part.Number ∷ part.Dealing ∷ part.Spec ∷ []
+parts_of Scan = part.Number ∷ part.Number ∷ []
+parts_of Seal = part.Number ∷ []
+parts_of Load = part.Number ∷ []
+parts_of Switch = []
+parts_of Pairs = part.Number ∷ []
+parts_of Rest = part.Spec ∷ []
+
+-- what any further fields spell, where there may be some
+abbrev pub repeated_of : CommandName → Option Part
+repeated_of Table = Some part.Kind
+repeated_of Row = Some part.Cell
+repeated_of Insert = Some part.Cell
+repeated_of Update = Some part.Cell
+repeated_of Start = Some part.Spec
+repeated_of Begin = None
+repeated_of Delete = None
+repeated_of Undo = None
+repeated_of Commit = None
+repeated_of Get = None
+repeated_of Scan = None
+repeated_of Seal = None
+repeated_of Load = None
+repeated_of Switch = None
+repeated_of Pairs = None
+repeated_of Rest = None
+
+-- the text spells a value of that part
+abbrev pub IsSpelled : Part → List ℕ → Type 0
+IsSpelled part.Number text = (number : ℕ) × SpellsNumber text number
+IsSpelled part.Label text = is_label text ≡ true
+IsSpelled part.Rid text = (rid : Rid) × SpellsRid text rid
+IsSpelled part.Cell text = (cell : Cell) × SpellsCell text cell
+IsSpelled part.Kind text = (kind : Kind) × SpellsKind text kind
+IsSpelled part.Dealing text = (dealing : Dealing) × SpellsDealing text dealing
+IsSpelled part.Spec text = (spec : Spec) × SpellsSpec text spec
+
+-- the part that the field at a place spells: one of its own, or the repeated one
+abbrev pub part_at : List Part → Option Part → ℕ → Option Part
+part_at parts repeated place = option_or (slice_get parts place) repeated
+
+-- the fields spell the parts, one each, and further fields the repeated one
+abbrev pub Fit : List Part → Option Part → List (List ℕ) → Type 0
+Fit (one ∷ parts) repeated (field ∷ fields) = IsSpelled one field × Fit parts repeated fields
+Fit (one ∷ parts) repeated [] = ⊥
+Fit [] repeated [] = ⊤
+Fit [] None (field ∷ fields) = ⊥
+Fit [] (Some one) (field ∷ fields) = IsSpelled one field × Fit [] (Some one) fields
+
+-- the text is the beginning of a remark
+abbrev pub IsRemark : List ℕ → Type 0
+IsRemark text = (remark : List ℕ) × (text ≡ codes "#" ++ remark)
+
+-- the fields are a remark, or a name and fields that fit it
+abbrev pub HasShape : List (List ℕ) → Type 0
+HasShape [] = ⊥
+HasShape (first ∷ fields) = IsRemark first ⊎ ((name : CommandName) × (first ≡ written name) × Fit (parts_of name) (repeated_of name) fields)

@@ -1,0 +1,117 @@
+ghost use Rattle.std.specs.Prelude.{◌≡◌, IfSome, IfNone};
+ghost use Rattle.script.specs.Shapes.{part_at, parts_of, repeated_of, written};
+ghost use Rattle.script.specs.declared.command_name.CommandName.{CommandName as Name};
+
+use crate::Part;
+
+/// The names that commands have, and `table`.
+#[derive(Clone, Copy, PartialEq, Eq)]
+pub enum CommandName {
+    Table,
+    Row,
+    Begin,
+    Insert,
+    Update,
+    Delete,
+    Undo,
+    Commit,
+    Get,
+    Start,
+    Scan,
+    Seal,
+    Load,
+    Switch,
+    Pairs,
+    Rest,
+}
+
+impl CommandName {
+    pub fn read(text: &str) -> Option<CommandName>
+        ensures known { IfSome result (λ name. text.now ≡ written name) }
+        ensures unknown { IfNone result ((name : Name) → text.now ≡ written name → ⊥) }
+    {
+        Some(match text {
+            "table" => CommandName::Table,
+            "row" => CommandName::Row,
+            "begin" => CommandName::Begin,
+            "insert" => CommandName::Insert,
+            "update" => CommandName::Update,
+            "delete" => CommandName::Delete,
+            "undo" => CommandName::Undo,
+            "commit" => CommandName::Commit,
+            "get" => CommandName::Get,
+            "start" => CommandName::Start,
+            "scan" => CommandName::Scan,
+            "seal" => CommandName::Seal,
+            "load" => CommandName::Load,
+            "switch" => CommandName::Switch,
+            "pairs" => CommandName::Pairs,
+            "rest" => CommandName::Rest,
+            _ => return None,
+        })
+    }
+
+    /// What the fields behind the name spell, one part each.
+    pub fn parts(self) -> &'static [Part]
+        ensures { result.now ≡ parts_of self }
+    {
+        match self {
+            CommandName::Table => &[Part::Number, Part::Kind],
+            CommandName::Row => &[Part::Cell],
+            CommandName::Begin | CommandName::Undo | CommandName::Commit => &[Part::Label],
+            CommandName::Insert => &[Part::Label, Part::Cell],
+            CommandName::Update => &[Part::Label, Part::Rid, Part::Cell],
+            CommandName::Delete => &[Part::Label, Part::Rid],
+            CommandName::Get => &[Part::Rid],
+            CommandName::Start => &[Part::Number, Part::Number, Part::Dealing, Part::Spec],
+            CommandName::Scan => &[Part::Number, Part::Number],
+            CommandName::Seal | CommandName::Load | CommandName::Pairs => &[Part::Number],
+            CommandName::Switch => &[],
+            CommandName::Rest => &[Part::Spec],
+        }
+    }
+
+    /// What any further fields spell, if there may be some.
+    pub fn repeated(self) -> Option<Part>
+        ensures { result ≡ repeated_of self }
+    {
+        match self {
+            CommandName::Table => Some(Part::Kind),
+            CommandName::Row | CommandName::Insert | CommandName::Update => Some(Part::Cell),
+            CommandName::Start => Some(Part::Spec),
+            _ => None,
+        }
+    }
+
+    /// What the field at that place behind the name spells, if there may be one; places begin with 0.
+    pub fn part(self, place: usize) -> Option<Part>
+        ensures { result ≡ part_at (parts_of self) (repeated_of self) place }
+    {
+        match self.parts().get(place) {
+            Some(part) => Some(*part),
+            None => self.repeated(),
+        }
+    }
+
+    /// How its record is written.
+    pub fn usage(self) -> &'static str {
+        match self {
+            CommandName::Table => "table,L,KIND,..",
+            CommandName::Row => "row,CELL,..",
+            CommandName::Begin => "begin,A",
+            CommandName::Insert => "insert,A,CELL,..",
+            CommandName::Update => "update,A,RID,CELL,..",
+            CommandName::Delete => "delete,A,RID",
+            CommandName::Undo => "undo,A",
+            CommandName::Commit => "commit,A",
+            CommandName::Get => "get,RID",
+            CommandName::Start => "start,W,Q,DEALING,SPEC,..",
+            CommandName::Scan => "scan,R,W",
+            CommandName::Seal => "seal,W",
+            CommandName::Load => "load,I",
+            CommandName::Switch => "switch",
+            CommandName::Pairs => "pairs,K",
+            CommandName::Rest => "rest,SPEC",
+        }
+    }
+}
