@@ -1,6 +1,6 @@
 //! A script, run from its first command to its last in one thread.
-ghost use Rattle.std.specs.Prelude.{◌≡◌, ◌≤◌, OnOk, IfOk};
-ghost use Rattle.replay.specs.Engines.{EndsWith, RunsAll, RunsNext};
+ghost use Rattle.std.specs.Prelude.{◌≡◌, ◌≤◌, IfSome, OnOk, IfOk};
+ghost use Rattle.replay.specs.Engines.{EndsWith, ExitsWith, RunsAll, RunsNext};
 
 use crate::answer::Answer;
 use crate::engine::Engine;
@@ -21,7 +21,8 @@ pub fn replay<R: Read + Drop, W: Write + Drop, E: Write + Drop>(
     out: W,
     err: E,
 ) -> u8
-    ensures { result ≤ 2 }
+    ensures limit { result ≤ 2 }
+    ensures status { IfSome (R.remaining reader) (λ text. ExitsWith text result) }
 {
     let script = match Script::read(alloc, &mut reader) {
         Ok(script) => script,
