@@ -7,6 +7,8 @@ use Rattle.builder_core.specs.CoreState.{CoreState}
 use Rattle.script.specs.declared.command.Command.{Command}
 use Rattle.script.specs.declared.command.Command.TheVariants.{Row, Begin, Insert, Update, Delete, Undo, Commit, Get, Start as StartCommand, Scan, Seal, Load, Switch, Pairs, Rest}
 use Rattle.script.specs.declared.numbered_command.NumberedCommand.{NumberedCommand}
+use Rattle.script.specs.Scripts.{SpellsScript}
+use Rattle.script.specs.declared.script.Script.{Script}
 use Rattle.script.specs.declared.table.Table.{Table}
 use Rattle.replay.specs.Answers.{CarriesOut, answer_of}
 use Rattle.replay.specs.Labels.{NamesNone, Renames}
@@ -88,3 +90,15 @@ abbrev pub EndsWith : Table → List NumberedCommand → Status → Type 0
 EndsWith table commands status =
     ((fault : Fault) × (table_refusal table ≡ Some fault) × (status ≡ Failed))
     ⊎ ((begun : Engine) × (end : Engine) × IsNew table begun × RunsAll begun commands end × (status ≡ end.status))
+
+-- a status as a number
+abbrev pub number_of : Status → ℕ
+number_of Done = 0
+number_of IndexRefused = 1
+number_of Failed = 2
+
+-- the exit status of a text: 2, or that of the script that the text spells
+abbrev pub ExitsWith : List ℕ → ℕ → Type 0
+ExitsWith text number =
+    (number ≡ 2)
+    ⊎ ((script : Script) × (status : Status) × SpellsScript text script × EndsWith script.table script.commands.items status × (number ≡ number_of status))

@@ -38,18 +38,9 @@ impl<W: io::Write + Drop> Output<W> {
         ensures whole { OnOk result (fields_written self.new.writer ≡ 0) }
     {
         self.field(number)?;
-        match answer {
-            Answer::Refused { fault } => {
-                self.refusal(*fault)?;
-                self.end()
-            }
-            _ => {
-                self.text("ok")?;
-                self.values(answer)?;
-                self.end()?;
-                self.lines_after(number, answer)
-            }
-        }
+        self.outcome(answer)?;
+        self.end()?;
+        self.lines_after(number, answer)
     }
 
     /// Sends on what was printed.
@@ -61,20 +52,24 @@ impl<W: io::Write + Drop> Output<W> {
         Ok(())
     }
 
+    fn outcome(&mut self, answer: &Answer) -> Result<(), OutputFailed> {
+        match answer {
+            Answer::Refused { fault } => self.refusal(*fault),
+            _ => {
+                self.text("ok")?;
+                self.values(answer)
+            }
+        }
+    }
+
     /// The values of an answer that is no refusal.
     fn values(&mut self, answer: &Answer) -> Result<(), OutputFailed> {
         match answer {
             Answer::Done | Answer::Refused { .. } => Ok(()),
             Answer::Number { number } => self.field(*number),
             Answer::Row { rid } => self.field(*rid),
-            Answer::Written { number, rid } => {
-                self.field(*number)?;
-                self.field(*rid)
-            }
-            Answer::Undone { number, left } => {
-                self.field(*number)?;
-                self.field(*left)
-            }
+            Answer::Written { number, rid } => self.fields(*number, *rid),
+            Answer::Undone { number, left } => self.fields(*number, *left),
             Answer::Cells { row } => self.cells(row.cells()),
             Answer::Switched { number, verdicts } => {
                 self.field(*number)?;
@@ -86,12 +81,16 @@ impl<W: io::Write + Drop> Output<W> {
 
     fn verdicts(&mut self, verdicts: &Verdicts) -> Result<(), OutputFailed> {
         for outcome in verdicts.as_slice() {
-            match outcome {
-                Outcome::Ready(number) => self.field(format_args!("ready:{number}"))?,
-                Outcome::Shared { .. } => self.text("shared")?,
-            }
+            self.verdict(outcome)?;
         }
         Ok(())
+    }
+
+    fn verdict(&mut self, outcome: &Outcome) -> Result<(), OutputFailed> {
+        match outcome {
+            Outcome::Ready(number) => self.field(format_args!("ready:{number}")),
+            Outcome::Shared { .. } => self.text("shared"),
+        }
     }
 
     /// The records that follow the answer's own.
@@ -100,12 +99,7 @@ impl<W: io::Write + Drop> Output<W> {
         ensures { OnOk result (fields_written self.new.writer ≡ 0) }
     {
         match answer {
-            Answer::Switched { .. } => {
-                self.field(number)?;
-                self.text("pages")?;
-                self.field(0usize)?;
-                self.end()
-            }
+            Answer::Switched { .. } => self.pages(number),
             Answer::Pairs { lines } => {
                 for line in lines {
                     self.pair(number, line)?;
@@ -116,11 +110,19 @@ impl<W: io::Write + Drop> Output<W> {
         }
     }
 
+    /// How many leased pages are missing: none, while none are leased.
+    fn pages(&mut self, number: usize) -> Result<(), OutputFailed>
+        ensures { OnOk result (fields_written self.new.writer ≡ 0) }
+    {
+        self.fields(number, "pages")?;
+        self.field(0usize)?;
+        self.end()
+    }
+
     fn pair(&mut self, number: usize, line: &PairLine) -> Result<(), OutputFailed>
         ensures { OnOk result (fields_written self.new.writer ≡ 0) }
     {
-        self.field(number)?;
-        self.text("pair")?;
+        self.fields(number, "pair")?;
         self.cells(line.cells.as_slice())?;
         self.field(line.rid)?;
         self.end()
@@ -145,21 +147,18 @@ impl<W: io::Write + Drop> Output<W> {
         }
     }
 
-    /// A refusal: its number, its name and what it comes with.
     fn refusal(&mut self, fault: Fault) -> Result<(), OutputFailed> {
         self.text("refused")?;
-        self.field(fault.number())?;
-        self.text(fault.name())?;
+        self.fields(fault.number(), fault.name())?;
+        self.details(fault)
+    }
+
+    /// What a refusal comes with, behind its number and its name.
+    fn details(&mut self, fault: Fault) -> Result<(), OutputFailed> {
         match fault {
             Fault::RowHeld(txn) => self.field(txn),
-            Fault::Duplicate(index, rid) => {
-                self.field(index)?;
-                self.field(rid)
-            }
-            Fault::KeyHeld(index, txn) => {
-                self.field(index)?;
-                self.field(txn)
-            }
+            Fault::Duplicate(index, rid) => self.fields(index, rid),
+            Fault::KeyHeld(index, txn) => self.fields(index, txn),
             Fault::NotScanned(count)
             | Fault::NotLoaded(count)
             | Fault::Behind(count)
@@ -176,6 +175,15 @@ impl<W: io::Write + Drop> Output<W> {
         let mut text: ArrayString<FIELD_MAX> = ArrayString::new();
         write!(text, "{value}")?;
         self.text(text.as_str())
+    }
+
+    fn fields<D: fmt::Display + Drop, E: fmt::Display + Drop>(
+        &mut self,
+        first: D,
+        second: E,
+    ) -> Result<(), OutputFailed> {
+        self.field(first)?;
+        self.field(second)
     }
 
     fn text(&mut self, text: &str) -> Result<(), OutputFailed> {

@@ -1,39 +1,52 @@
 //! What is said of a script as a whole.
-ghost use Rattle.std.specs.Prelude.{◌≡◌, ◌≤◌};
+ghost use Rattle.std.specs.Prelude.{◌≡◌, ◌⊎◌, ℕ, IfSome};
+ghost use Rattle.script.specs.Scripts.{AreGood};
 
 use crate::status::Status;
-use script::{Script, ScriptError};
+use script::{Script, read_text};
 use std::alloc::Global;
+use std::fmt;
 use std::io::{Read, Write};
 
-/// Looks at the script that the reader gives, and runs nothing. Says on `out` that all its records are good, or on `err`
-/// what is wrong with the first bad one. Answers the exit status.
+/// Looks at the script that the reader gives, and runs nothing. Says on `out` how many records it has where all are good,
+/// or on `err` what is wrong with the first bad one. Answers the exit status.
 pub fn check<R: Read + Drop, W: Write + Drop, E: Write + Drop>(
     alloc: Global,
     mut reader: R,
     out: W,
     err: E,
 ) -> u8
-    ensures { result ≤ 2 }
+    ensures status { (result ≡ 0) ⊎ (result ≡ 2) }
+    ensures good { IfSome (R.remaining reader) (λ text. result ≡ 0 → (count : ℕ) × AreGood text count) }
 {
-    match Script::read(alloc, &mut reader) {
-        Ok(script) => approve(script.commands.len() + 1, out),
+    match read_text(alloc, &mut reader) {
+        Ok(text) => check_text(alloc, text.as_slice(), out, err),
+        Err(error) => refuse(error, err),
+    }
+}
+
+fn check_text<W: Write + Drop, E: Write + Drop>(alloc: Global, text: &[u8], out: W, err: E) -> u8
+    ensures status { (result ≡ 0) ⊎ (result ≡ 2) }
+    ensures good { result ≡ 0 → (count : ℕ) × AreGood text.now count }
+{
+    match Script::check(alloc, text) {
+        Ok(count) => approve(count, out),
         Err(error) => refuse(error, err),
     }
 }
 
 /// Says that so many records are good, and answers the exit status.
-fn approve<W: Write + Drop>(records: usize, mut out: W) -> u8
-    ensures { result ≤ 2 }
+fn approve<W: Write + Drop>(count: usize, mut out: W) -> u8
+    ensures { (result ≡ 0) ⊎ (result ≡ 2) }
 {
-    match writeln!(out, "script: {records} records, all good") {
+    match writeln!(out, "script: {count} records, all good") {
         Ok(()) => Status::Done as u8,
         Err(_) => Status::Failed as u8,
     }
 }
 
 /// Says why the script can't be run, and answers the exit status.
-pub fn refuse<E: Write + Drop>(error: ScriptError, mut err: E) -> u8
+pub fn refuse<D: fmt::Display + Drop, E: Write + Drop>(error: D, mut err: E) -> u8
     ensures { result ≡ 2 }
 {
     let _ = writeln!(err, "script: {error}");

@@ -1,6 +1,6 @@
 //! A script, run from its first command to its last in one thread.
-ghost use Rattle.std.specs.Prelude.{◌≤◌, OnOk, IfOk};
-ghost use Rattle.replay.specs.Engines.{EndsWith, RunsAll, RunsNext};
+ghost use Rattle.std.specs.Prelude.{◌≡◌, ◌≤◌, IfSome, OnOk, IfOk};
+ghost use Rattle.replay.specs.Engines.{EndsWith, ExitsWith, RunsAll, RunsNext};
 
 use crate::answer::Answer;
 use crate::engine::Engine;
@@ -8,6 +8,7 @@ use crate::output::Output;
 use crate::output_failed::OutputFailed;
 use crate::report::refuse;
 use crate::status::Status;
+use keybytes::Fault;
 use script::{NumberedCommand, Script};
 use std::alloc::Global;
 use std::io::{Read, Write};
@@ -20,7 +21,8 @@ pub fn replay<R: Read + Drop, W: Write + Drop, E: Write + Drop>(
     out: W,
     err: E,
 ) -> u8
-    ensures { result ≤ 2 }
+    ensures limit { result ≤ 2 }
+    ensures status { IfSome (R.remaining reader) (λ text. ExitsWith text result) }
 {
     let script = match Script::read(alloc, &mut reader) {
         Ok(script) => script,
@@ -50,17 +52,42 @@ fn answer<W: Write + Drop>(
 ) -> Result<Status, OutputFailed>
     ensures { IfOk result (EndsWith script.table script.commands.items) }
 {
-    match Engine::new(alloc, script.table) {
-        Ok(mut engine) => {
-            output.print(script.table_number, &Answer::Done)?;
-            answer_all(&mut engine, script.commands, output)?;
-            Ok(engine.status())
-        }
-        Err(fault) => {
-            output.print(script.table_number, &Answer::Refused { fault })?;
-            Ok(Status::Failed)
-        }
+    let Script {
+        table_number,
+        table,
+        commands,
+    } = script;
+    match Engine::new(alloc, table) {
+        Ok(mut engine) => answer_table(&mut engine, table_number, commands, output),
+        Err(fault) => refuse_table(table_number, fault, output),
     }
+}
+
+/// Answers that the table is refused.
+fn refuse_table<W: Write + Drop>(
+    number: usize,
+    fault: Fault,
+    output: &mut Output<W>,
+) -> Result<Status, OutputFailed>
+    ensures { IfOk result (λ status. status ≡ Status.Failed) }
+{
+    output.print(number, &Answer::Refused { fault })?;
+    Ok(Status::Failed)
+}
+
+/// Answers that the table is made, and then the commands.
+fn answer_table<W: Write + Drop>(
+    engine: &mut Engine,
+    number: usize,
+    commands: Vec<NumberedCommand>,
+    output: &mut Output<W>,
+) -> Result<Status, OutputFailed>
+    ensures run { OnOk result (RunsAll engine.old commands.items engine.new) }
+    ensures status { IfOk result (λ status. status ≡ engine.new.status) }
+{
+    output.print(number, &Answer::Done)?;
+    answer_all(engine, commands, output)?;
+    Ok(engine.status())
 }
 
 fn answer_all<W: Write + Drop>(

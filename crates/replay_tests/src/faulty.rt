@@ -1,9 +1,9 @@
 //! Readers and writers that fail.
 
-use replay::replay;
+use crate::printed::Printed;
+use replay::{check, replay};
+use std::alloc::Global;
 use std::io::{self, Read, Write};
-use std::str;
-use std::test::Fail;
 
 /// Gives its text, and then fails.
 #[derive(Drop)]
@@ -42,39 +42,47 @@ impl Write for Full {
     }
 }
 
-const SCRIPT: &[u8] = b"table,2,int\nrow,5\nfly\n";
+const SCRIPT: &[u8] = b"table,2,int\nrow,5\n";
 
 #[test]
-fn a_script_that_breaks_off(rt: HostRuntime) -> Result<(), Fail> {
+fn a_script_that_breaks_off(rt: HostRuntime) {
     let kinds = [
         (io::ErrorKind::PermissionDenied, "script: cannot be read\n"),
         (io::ErrorKind::OutOfMemory, "script: no memory\n"),
     ];
     for (kind, said) in kinds {
-        let mut out = Vec::new(rt.alloc());
-        let mut err = Vec::new(rt.alloc());
-        let reader = Broken { text: SCRIPT, kind };
-        let status = replay(rt.alloc(), reader, &mut out, &mut err);
-        assert_eq!(rt; status, 2);
-        assert!(rt; out.is_empty());
-        assert_eq!(rt; str::from_utf8(err.as_slice())?, said);
+        let text: &[u8] = b"table,2,int\nrow,5\nfly\n";
+        for printed in [
+            Printed::by_replay(rt.alloc(), Broken { text, kind }),
+            Printed::by_check(rt.alloc(), Broken { text, kind }),
+        ] {
+            assert_eq!(rt; printed.status, 2);
+            assert_eq!(rt; printed.out(), "");
+            assert_eq!(rt; printed.err(), said);
+        }
     }
-    Ok(())
+}
+
+/// The status of a run whose output has that much room, if nothing is said of the script.
+fn replayed(alloc: Global, room: usize) -> Option<u8> {
+    let mut err = Vec::new(alloc);
+    let status = replay(alloc, SCRIPT, Full { room }, &mut err);
+    err.is_empty().then_some(status)
+}
+
+/// The status of a check whose output has that much room, if nothing is said of the script.
+fn checked(alloc: Global, room: usize) -> Option<u8> {
+    let mut err = Vec::new(alloc);
+    let status = check(alloc, SCRIPT, Full { room }, &mut err);
+    err.is_empty().then_some(status)
 }
 
 #[test]
-fn an_output_that_fills_up(rt: HostRuntime) -> Result<(), Fail> {
-    let script: &[u8] = b"table,2,int\nrow,5\n";
-    for room in 0..15 {
-        let mut err = Vec::new(rt.alloc());
-        let status = replay(rt.alloc(), script, Full { room }, &mut err);
-        let wanted = if room < "1,ok\n2,ok,0.0\n".len() {
-            2
-        } else {
-            0
-        };
-        assert_eq!(rt; status, wanted, "{room}");
-        assert!(rt; err.is_empty());
+fn an_output_that_fills_up(rt: HostRuntime) {
+    for (room, status) in [(0, 2), (1, 2), (4, 2), (5, 2), (13, 2), (14, 0), (15, 0)] {
+        assert_eq!(rt; replayed(rt.alloc(), room), Some(status), "{room}");
     }
-    Ok(())
+    for (room, status) in [(0, 2), (1, 2), (27, 2), (28, 0), (29, 0)] {
+        assert_eq!(rt; checked(rt.alloc(), room), Some(status), "{room}");
+    }
 }

@@ -2,6 +2,10 @@
 #![tactic(auto)]
 
 #[cfg(test)]
+mod case;
+#[cfg(test)]
 mod faulty;
 #[cfg(test)]
-mod worked_scripts;
+mod printed;
+#[cfg(test)]
+mod scripts;

@@ -43,11 +43,10 @@ pub enum Task {
 /// Reads the words, the first of which is the program's name. The error is what to print, and where: a refusal, or
 /// help or the version that was asked for.
 pub fn read<'a, S: AsStr>(alloc: Global, words: &'a [S]) -> Result<Choice<'a>, Error> {
-    let mut command = command(alloc)?;
-    let matches = command.try_get_matches_from_mut(words)?;
+    let matches = command(alloc)?.try_get_matches_from(words)?;
     match chosen(&matches) {
         Some(choice) => Ok(choice),
-        None => Err(missing(&mut command)?),
+        None => Err(missing(alloc)?),
     }
 }
 
@@ -66,18 +65,25 @@ fn task_named(name: &str) -> Option<Task> {
     }
 }
 
-fn missing(command: &mut Command) -> Result<Error, AllocError> {
+fn missing(alloc: Global) -> Result<Error, AllocError> {
+    let mut command = command(alloc)?;
     command.error(ErrorKind::MissingSubcommand, "a command is missing")
 }
 
 fn command<'a>(alloc: Global) -> Result<Command<'a>, AllocError> {
+    let replay = replay(alloc)?;
+    let check = check(alloc)?;
+    let command = program(alloc).subcommand(replay)?;
+    command.subcommand(check)
+}
+
+/// The program without its commands.
+fn program<'a>(alloc: Global) -> Command<'a> {
     Command::new(alloc, "sfbuild")
         .version(VERSION)
         .about("Builds indexes on a table that is in use")
         .after_help(EXAMPLE)
         .subcommand_required(true)
-        .subcommand(replay(alloc)?)?
-        .subcommand(check(alloc)?)
 }
 
 fn replay<'a>(alloc: Global) -> Result<Command<'a>, AllocError> {

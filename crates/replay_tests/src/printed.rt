@@ -1,0 +1,42 @@
+use replay::{check, replay};
+use std::alloc::Global;
+use std::io::Read;
+use std::str;
+
+/// What a script printed to its two streams, and its exit status.
+#[derive(Drop)]
+pub struct Printed {
+    out: Vec<u8>,
+    err: Vec<u8>,
+    pub status: u8,
+}
+
+impl Printed {
+    /// What a run prints.
+    pub fn by_replay<R: Read + Drop>(alloc: Global, script: R) -> Printed {
+        let mut out = Vec::new(alloc);
+        let mut err = Vec::new(alloc);
+        let status = replay(alloc, script, &mut out, &mut err);
+        Printed { out, err, status }
+    }
+
+    /// What a check says.
+    pub fn by_check<R: Read + Drop>(alloc: Global, script: R) -> Printed {
+        let mut out = Vec::new(alloc);
+        let mut err = Vec::new(alloc);
+        let status = check(alloc, script, &mut out, &mut err);
+        Printed { out, err, status }
+    }
+
+    pub fn out(&self) -> &str {
+        text(self.out.as_slice())
+    }
+
+    pub fn err(&self) -> &str {
+        text(self.err.as_slice())
+    }
+}
+
+fn text(bytes: &[u8]) -> &str {
+    str::from_utf8(bytes).unwrap_or("(no text)")
+}

@@ -1,0 +1,112 @@
+//! Builds, and the pairs of an index.
+
+use crate::case::Case;
+
+pub const CASES: [Case; 3] = [
+    Case {
+        name: "equal keys stand by RID",
+        script: b"table,2,int
+row,5
+row,3
+row,5
+start,1,4,2,n:0
+scan,0,0
+load,0
+scan,0,0
+scan,0,0
+seal,0
+load,0
+switch
+pairs,0
+",
+        out: "1,ok
+2,ok,0.0
+3,ok,0.1
+4,ok,1.0
+5,ok,2
+6,ok,0
+7,refused,47,NotScanned,0
+8,ok,1
+9,refused,45,RangeDone
+10,ok,2
+11,ok,3
+12,ok,7,ready:0
+12,pages,0
+13,ok,3
+13,pair,3,0.1
+13,pair,5,0.0
+13,pair,5,1.0
+",
+        err: "",
+        status: 0,
+        check: "script: 13 records, all good\n",
+    },
+    Case {
+        name: "the pairs of one row",
+        script: b"table,2,int
+row,5
+rest,n:0
+",
+        out: "1,ok
+2,ok,0.0
+3,ok,1
+3,pair,5,0.0
+",
+        err: "",
+        status: 0,
+        check: "script: 3 records, all good\n",
+    },
+    Case {
+        name: "each refusal in its order",
+        script: b"# what is refused, and what it leaves
+table,2,int,text,flag
+begin,A
+insert,A,-0,=one,true
+insert,B,1,~,~
+insert,B,1,1,1,1,1,1,1,1,1,1,1,1,1
+row,1,1,1,1,1,1,1,1,1,1,1,1,1
+start,0,1,0,n:0
+start,17,1,0,n:0
+start,1,1025,0,n:0
+start,1,1,0,n:0,n:0,n:0,n:0,n:0,n:0,n:0,n:0,n:0
+start,1,1,0,n:3
+start,1,1,0,n:0;0
+commit,A
+commit,A
+pairs,0
+scan,0,0
+rest,n:1;0
+rest,n:2
+rest,n:0;1;2;3;4
+start,1,1,1,n:0
+start,0,1,1,n:0
+",
+        out: "2,ok
+3,ok,1
+4,ok,1,0.0
+5,refused,24,NoSuchTxn
+6,refused,12,RowShape
+7,refused,12,RowShape
+8,refused,43,BadCount
+9,refused,43,BadCount
+10,refused,43,BadCount
+11,refused,43,BadCount
+12,refused,10,BadColumn
+13,refused,10,BadColumn
+14,ok,2
+15,refused,24,NoSuchTxn
+16,refused,43,BadCount
+17,refused,41,NoBuild
+18,ok,1
+18,pair,=one,0,0.0
+19,ok,1
+19,pair,true,0.0
+20,refused,10,BadColumn
+21,ok,1
+22,refused,40,BuildRunning
+",
+        err: "",
+        status: 0,
+        check: "script: 22 records, all good\n",
+    },
+];
