@@ -2,7 +2,7 @@
 use Rattle.std.proofs.Common.{◌≡◌, ℕ, List, [], ◌∷◌, ◌++◌, subst, sym}
 use Rattle.script.specs.Drafts.{DraftValue, HasRead, IsDraft, IsNotAdded, MayFollow}
 use Rattle.script.specs.Causes.{error_at}
-use Rattle.script.specs.Explanations.{Explains, ExplainsStop, IsOfCause, Tells, TellsFields, TellsFirst}
+use Rattle.script.specs.Explanations.{Explains, ExplainsStop, IsOfCause, Tells, TellsFirst}
 use Rattle.script.specs.Scripts.{InOrder, IsBadBehind, IsFirstBad, StandsBehind}
 use Rattle.script.specs.Records.{BeginsWithBytes}
 use Rattle.script.specs.Stops.{IsLateTable, IsMisspelled, IsStopped, StopsAt, TakesLine}
@@ -70,29 +70,18 @@ pub first_bad : (text : List ℕ) (fields : List (List ℕ)) (stop : Stop) (numb
     → IsFirstBad text number
 first_bad text fields stop number stops is = first_bad_at text stops.0 stops.1 fields stop.number number stop.cause stops.2 stops.3 is
 
--- what is wrong with the fields is wrong with the first of the records
-tells_first : (lines : List Line) (left : List (List (List ℕ))) (fields : List (List ℕ)) (cause : Cause) (explanation : Explanation)
-    → IsStopped lines left fields cause → cause ≡ Misspelled → TellsFields fields explanation → IsBadBehind lines left × TellsFirst left explanation
-tells_first lines left fields cause explanation stopped is tells =
-    let misspelled = subst (IsStopped lines left fields) is stopped in
-    (misspelled_bad lines left fields misspelled, subst (λ (records : List (List (List ℕ))). TellsFirst records explanation) (sym misspelled.1) tells)
-
 -- the explanation of a cause is one of the record
 explained : (lines : List Line) (left : List (List (List ℕ))) (fields : List (List ℕ)) (cause : Cause) (explanation : Explanation)
     → IsStopped lines left fields cause → IsOfCause cause fields explanation → IsBadBehind lines left × Tells lines left explanation
 explained lines left fields cause explanations.NotText stopped is =
     let bytes = subst (IsStopped lines left fields) is stopped in (bytes_bad lines left bytes, bytes)
+explained lines left fields cause (explanations.Misfit misfit) stopped is =
+    let misspelled = subst (IsStopped lines left fields) is.0 stopped in
+    let told = subst (λ (records : List (List (List ℕ))). TellsFirst records misfit) (sym misspelled.1) is.1 in
+    (misspelled_bad lines left fields misspelled, told)
 explained lines left fields cause explanations.LateTable stopped is =
     let late = subst (IsStopped lines left fields) is stopped in (late_bad lines left late, late)
 explained lines left fields cause explanations.NoTable stopped is = absurd is
-explained lines left fields cause (explanations.UnknownCommand text) stopped is =
-    tells_first lines left fields cause (explanations.UnknownCommand text) stopped is.0 is.1
-explained lines left fields cause (explanations.TooFewFields name) stopped is =
-    tells_first lines left fields cause (explanations.TooFewFields name) stopped is.0 is.1
-explained lines left fields cause (explanations.TooManyFields name) stopped is =
-    tells_first lines left fields cause (explanations.TooManyFields name) stopped is.0 is.1
-explained lines left fields cause (explanations.Misspelled number text part) stopped is =
-    tells_first lines left fields cause (explanations.Misspelled number text part) stopped is.0 is.1
 
 pub explains : (text : List ℕ) (fields : List (List ℕ)) (stop : Stop) (error : CheckError) → StopsAt text fields stop → ExplainsStop stop fields error
     → Explains text error

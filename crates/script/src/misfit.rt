@@ -1,66 +1,69 @@
-//! What keeps the fields of a record from being a line.
-ghost use Rattle.std.specs.Prelude.{◌≡◌, IfOk, MatchOption};
-ghost use Rattle.csv.specs.Records.{fields_of};
-ghost use Rattle.script.specs.Explanations.{TellsFields, TellsParts};
-ghost use Rattle.script.specs.Fields.{texts};
-ghost use Rattle.script.specs.Shapes.{Fits, HasShape};
+use crate::{CommandName, Part};
+use std::fmt;
 
-use crate::parse::fields;
-use crate::record_error::RecordError;
-use crate::{CommandName, Explanation};
-use csv::StringRecord;
-use std::alloc::Global;
-
-/// What is wrong with the fields of a record, if anything is.
-pub fn misfit(alloc: Global, record: &StringRecord) -> Result<Option<Explanation>, RecordError>
-    ensures { IfOk result (λ found. MatchOption found (HasShape (fields_of «record».now)) (TellsFields (fields_of «record».now))) }
-{
-    let fields = fields(alloc, record)?;
-    misfit_of(alloc, fields.as_slice())
+/// What is wrong with the fields of a record.
+#[derive(Drop)]
+pub enum Misfit {
+    /// The first is this text, which names no command.
+    UnknownCommand {
+        text: String,
+    },
+    TooFewFields {
+        name: CommandName,
+    },
+    TooManyFields {
+        name: CommandName,
+    },
+    /// The one of that number, of which the name is the first, is this text, and was to spell that part.
+    Misspelled {
+        field: usize,
+        text: String,
+        part: Part,
+    },
 }
 
-fn misfit_of(alloc: Global, fields: &[&str]) -> Result<Option<Explanation>, RecordError>
-    ensures { IfOk result (λ found. MatchOption found (HasShape (texts fields.now)) (TellsFields (texts fields.now))) }
-{
-    let Some((first, parts)) = fields.split_first() else {
-        let text = String::new(alloc);
-        return Ok(Some(Explanation::UnknownCommand { text }));
-    };
-    if first.starts_with('#') {
-        return Ok(None);
-    }
-    match CommandName::read(first) {
-        Some(name) => misfit_behind(alloc, name, parts),
-        None => {
-            let text = String::from_str(alloc, first)?;
-            Ok(Some(Explanation::UnknownCommand { text }))
+/// The names of all commands.
+const NAMES: &str =
+    "table, row, begin, insert, update, delete, undo, commit, get, start, scan, seal, load, switch, pairs or rest";
+
+impl fmt::Display for Misfit {
+    fn fmt<W: fmt::Write>(&self, f: &mut fmt::Formatter<W>) -> fmt::Result {
+        match self {
+            Misfit::UnknownCommand { text } => {
+                let text = Excerpt(text);
+                write!(f, "field 1, {text}, is no command ({NAMES})")
+            }
+            Misfit::TooFewFields { name } => {
+                let usage = name.usage();
+                write!(f, "it has too few fields ({usage})")
+            }
+            Misfit::TooManyFields { name } => {
+                let usage = name.usage();
+                write!(f, "it has too many fields ({usage})")
+            }
+            Misfit::Misspelled { field, text, part } => {
+                let text = Excerpt(text);
+                write!(f, "field {field}, {text}, is no {part}")
+            }
         }
     }
 }
 
-/// What is wrong with the fields behind a name.
-fn misfit_behind(
-    alloc: Global,
-    name: CommandName,
-    fields: &[&str],
-) -> Result<Option<Explanation>, RecordError>
-    ensures { IfOk result (λ found. MatchOption found (Fits name (texts fields.now)) (TellsParts name (texts fields.now))) }
-{
-    for (place, field) in fields.iter().enumerate() {
-        let Some(part) = name.part(place) else {
-            return Ok(Some(Explanation::TooManyFields { name }));
-        };
-        if !part.accepts(alloc, field)? {
-            let text = String::from_str(alloc, field)?;
-            return Ok(Some(Explanation::Misspelled {
-                field: place + 2,
-                text,
-                part,
-            }));
+/// How many characters of a text are shown.
+const SHOWN_MAX: usize = 40;
+
+/// The beginning of a text, in quotes.
+#[derive(Drop)]
+struct Excerpt<'a>(&'a str);
+
+impl fmt::Display for Excerpt<'_> {
+    fn fmt<W: fmt::Write>(&self, f: &mut fmt::Formatter<W>) -> fmt::Result {
+        f.write_str("\"")?;
+        for character in self.0.chars().take(SHOWN_MAX) {
+            let character = character.escape_debug();
+            write!(f, "{character}")?;
         }
+        let is_cut = self.0.chars().nth(SHOWN_MAX).is_some();
+        f.write_str(if is_cut { "..\"" } else { "\"" })
     }
-    if fields.len() < name.parts().len() {
-        return Ok(Some(Explanation::TooFewFields { name }));
-    }
-    Ok(None)
 }

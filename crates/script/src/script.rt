@@ -7,7 +7,7 @@ ghost use Rattle.script.specs.Shapes.{HasShape};
 
 use crate::cause::Cause;
 use crate::draft::Draft;
-use crate::misfit::misfit;
+use crate::fitting::misfit;
 use crate::reading::read_lines;
 use crate::stop::Stop;
 use crate::{CheckError, Explanation, NumberedCommand, ScriptError, Table};
@@ -89,7 +89,7 @@ fn explain(alloc: Global, stop: Stop, record: &StringRecord) -> CheckError
         Cause::NotText => Explanation::NotText,
         Cause::LateTable => Explanation::LateTable,
         Cause::Misspelled => match misfit(alloc, record) {
-            Ok(Some(explanation)) => explanation,
+            Ok(Some(misfit)) => Explanation::Misfit(misfit),
             Ok(None) => unreachable!(),
             Err(_) => return CheckError::NoMemory,
         },

@@ -4,7 +4,7 @@ use Rattle.script.specs.Shapes.{parts_of, repeated_of}
 use Rattle.script.specs.declared.part.Part.{Part}
 use Rattle.script.proofs.Misfits.{SpelledAt, all_fit}
 use Rattle.script.proofs.SpelledLists.{no_field}
-use Rattle.script.proofs.misfit.misfit_behind.Goals as goal
+use Rattle.script.proofs.fitting.misfit_behind.Goals as goal
 
 pub loop-place-preserved : goal.loop-place-preserved
 loop-place-preserved c =
