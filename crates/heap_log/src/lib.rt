@@ -16,8 +16,6 @@ mod log;
 mod outcome;
 mod record;
 mod rid_head;
-#[cfg(test)]
-mod tests;
 mod txn_head;
 mod verdicts;
 

@@ -20,10 +20,6 @@ mod pages;
 mod performed;
 mod ready;
 mod rooms;
-#[cfg(test)]
-mod tests;
-#[cfg(test)]
-mod tests_rooms;
 mod undone;
 
 pub use heap::Heap;

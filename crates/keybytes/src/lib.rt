@@ -17,8 +17,6 @@ mod rid;
 mod row;
 mod row_bytes;
 mod schema;
-#[cfg(test)]
-mod tests;
 mod text;
 
 pub use cell::{Cell, TEXT_MAX};

@@ -22,8 +22,6 @@ mod entry;
 mod image;
 mod page;
 mod rows;
-#[cfg(test)]
-mod tests;
 
 pub use entry::MAX_ROW_SIZE;
 pub use image::{PAGE_SIZE, image_row, image_slots};
