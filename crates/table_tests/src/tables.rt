@@ -348,3 +348,31 @@ fn the_last_of_300_pages(rt: HostRuntime) {
         Ok(None)
     );
 }
+
+/// What a table would say to a row: where it would be inserted, and whether an update would take it.
+fn checks(heap: &Heap, row: &Row) -> (Result<Rid, Fault>, Result<(), Fault>) {
+    heap.laws();
+    (heap.check_insert(1, row), heap.check_update(1, FIRST, row))
+}
+
+/// The checks of a row of one number, with the row's size, on a new table with an open transaction.
+fn checks_of_a_number(
+    heap: &mut Heap,
+) -> Result<(usize, Result<Rid, Fault>, Result<(), Fault>), Fault> {
+    let row = number_row(heap.allocator(), 5)?;
+    heap.begin()?;
+    let (insert, update) = checks(heap, &row);
+    Ok((row.size(), insert, update))
+}
+
+#[test]
+fn checks_before_memory_is_taken(rt: HostRuntime) {
+    let checked = match schema(rt.alloc(), &[Kind::Int]) {
+        Ok(schema) => match Heap::new(rt.alloc(), schema, 1, 1) {
+            Ok(mut heap) => checks_of_a_number(&mut heap),
+            Err(fault) => Err(fault),
+        },
+        Err(fault) => Err(fault),
+    };
+    assert_eq!(rt; checked, Ok((9, Ok(FIRST), Err(Fault::NoSuchRow))));
+}
