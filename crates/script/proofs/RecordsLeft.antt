@@ -85,7 +85,7 @@ taken_records s [] p is =
 taken_records s (c ∷ rest) p is =
     let fewer = shrinks default_config s [] [] (c ∷ rest) p is in
     let same = same_records (suc (length rest)) (length p.2 + 1) p.1 p.2 (omega arith) (omega arith) in
-    rw (add-one, is) (ap (λ (more : List (List (List ℕ))). p.0 ∷ more) same)
+    rw (add-one (length (c ∷ rest)), is) (ap (λ (more : List (List (List ℕ))). p.0 ∷ more) same)
 
 no_records : (s : State) (xs : List ℕ) → next_record default_config s [] [] xs ≡ None → records_from default_config (length xs + 1) s xs ≡ []
 unfolding records_from

@@ -1,8 +1,9 @@
 //! Scripts: texts of comma-separated records, each with the name of a command first.
 //!
 //! [`Script::parse`] looks at all records of a text. It gives the table that the script is about and its [`Command`]s
-//! in their order, each with the number of its record, or the number of the first bad record. Nothing runs here: the
-//! layers above run commands, and only where every record is good.
+//! in their order, each with the number of its record, or the number of the first bad record. [`Script::check`] says
+//! what is wrong with that record. Nothing runs here: the layers above run commands, and only where every record is
+//! good.
 #![tactic(auto)]
 
 mod cause;
@@ -11,6 +12,7 @@ mod command;
 mod command_name;
 mod dealing;
 mod draft;
+mod excerpt;
 mod explanation;
 mod fields;
 mod fitting;
