@@ -12,7 +12,17 @@ pub struct Case {
 }
 
 impl Case {
-    pub fn is_good(&self) -> bool {
-        self.err.is_empty()
+    /// The two streams and the status of a run.
+    pub fn replayed(&self) -> (&str, &str, u8) {
+        (self.out, self.err, self.status)
+    }
+
+    /// The two streams and the status of a check.
+    pub fn checked(&self) -> (&str, &str, u8) {
+        if self.err.is_empty() {
+            (self.check, "", 0)
+        } else {
+            ("", self.check, 2)
+        }
     }
 }

@@ -44,23 +44,30 @@ impl Write for Full {
 
 const SCRIPT: &[u8] = b"table,2,int\nrow,5\n";
 
+/// Whether a run and a check of a script that breaks off so say just that.
+fn is_said(alloc: Global, kind: io::ErrorKind, said: &str) -> bool {
+    let text: &[u8] = b"table,2,int\nrow,5\nfly\n";
+    let run = Printed::by_replay(alloc, Broken { text, kind });
+    let check = Printed::by_check(alloc, Broken { text, kind });
+    run.parts() == ("", said, 2) && check.parts() == ("", said, 2)
+}
+
 #[test]
 fn a_script_that_breaks_off(rt: HostRuntime) {
-    let kinds = [
-        (io::ErrorKind::PermissionDenied, "script: cannot be read\n"),
-        (io::ErrorKind::OutOfMemory, "script: no memory\n"),
-    ];
-    for (kind, said) in kinds {
-        let text: &[u8] = b"table,2,int\nrow,5\nfly\n";
-        for printed in [
-            Printed::by_replay(rt.alloc(), Broken { text, kind }),
-            Printed::by_check(rt.alloc(), Broken { text, kind }),
-        ] {
-            assert_eq!(rt; printed.status, 2);
-            assert_eq!(rt; printed.out(), "");
-            assert_eq!(rt; printed.err(), said);
-        }
-    }
+    assert!(rt;
+        is_said(
+            rt.alloc(),
+            io::ErrorKind::PermissionDenied,
+            "script: cannot be read\n"
+        )
+    );
+    assert!(rt;
+        is_said(
+            rt.alloc(),
+            io::ErrorKind::OutOfMemory,
+            "script: no memory\n"
+        )
+    );
 }
 
 /// The status of a run whose output has that much room, if nothing is said of the script.

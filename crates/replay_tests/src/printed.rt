@@ -8,7 +8,7 @@ use std::str;
 pub struct Printed {
     out: Vec<u8>,
     err: Vec<u8>,
-    pub status: u8,
+    status: u8,
 }
 
 impl Printed {
@@ -20,7 +20,7 @@ impl Printed {
         Printed { out, err, status }
     }
 
-    /// What a check says.
+    /// What a check prints.
     pub fn by_check<R: Read + Drop>(alloc: Global, script: R) -> Printed {
         let mut out = Vec::new(alloc);
         let mut err = Vec::new(alloc);
@@ -28,12 +28,11 @@ impl Printed {
         Printed { out, err, status }
     }
 
-    pub fn out(&self) -> &str {
-        text(self.out.as_slice())
-    }
-
-    pub fn err(&self) -> &str {
-        text(self.err.as_slice())
+    /// The two streams and the status.
+    pub fn parts(&self) -> (&str, &str, u8) {
+        let out = text(self.out.as_slice());
+        let err = text(self.err.as_slice());
+        (out, err, self.status)
     }
 }
 
