@@ -1,4 +1,4 @@
-//! A core that runs events, and the pairs of a table at rest.
+//! What a table and its index build answer, one event after another.
 
 use builder_core::{Core, Dealing, Event, Live, Pair, Plan, Reply, at_rest, run_events};
 use heap_table::Heap;
@@ -6,416 +6,385 @@ use keybytes::{Cell, Fault, KeySpec, Kind, Rid, Row, Schema};
 use std::alloc::Global;
 use std::test::Fail;
 
-const FIVE: [u8; 9] = [1, 128, 0, 0, 0, 0, 0, 0, 5];
-
-const THREE: [u8; 9] = [1, 128, 0, 0, 0, 0, 0, 0, 3];
-
 const FIRST: Rid = Rid { page: 0, slot: 0 };
 
-fn int_schema(alloc: Global) -> Result<Schema, Fault> {
+fn schema(alloc: Global) -> Result<Schema, Fault> {
     Schema::new(vec![in alloc; Kind::Int]?)
 }
 
-fn int_spec(alloc: Global) -> Result<KeySpec, Fault> {
-    KeySpec::new(alloc, &int_schema(alloc)?, vec![in alloc; 0]?, false)
+fn spec(alloc: Global) -> Result<KeySpec, Fault> {
+    KeySpec::new(alloc, &schema(alloc)?, vec![in alloc; 0]?, false)
 }
 
-fn int_row(alloc: Global, number: i64) -> Result<Row, Fault> {
+fn number_row(alloc: Global, number: i64) -> Result<Row, Fault> {
     Row::new(vec![in alloc; Cell::Int(number)]?)
 }
 
-fn two_slots(alloc: Global) -> Result<Heap, Fault> {
-    Heap::new(alloc, int_schema(alloc)?, 2, 8)
-}
-
-fn empty_core(alloc: Global) -> Result<Core, Fault> {
-    Ok(Core::new(Live::new(alloc, two_slots(alloc)?)))
-}
-
-fn plan(alloc: Global, dealing: Dealing) -> Result<Plan, Fault> {
-    Ok(Plan {
-        specs: vec![in alloc; int_spec(alloc)?]?,
-        workers: 1,
-        dealing,
-        tries: 3,
-        keep_pairs: false,
-    })
-}
-
-/// What a test does to a core; events own memory, and these are made of no memory.
+/// An event of a table of one column of numbers.
 #[derive(Clone, Copy)]
-enum Step {
+enum Ask {
     Begin,
     Insert(u64, i64),
+    /// The row at 0.0 becomes another.
     Update(u64, i64),
+    /// The row at 0.0 goes.
     Delete(u64),
     Undo(u64),
     Commit(u64),
-    /// Over one range.
-    Start,
-    StartTo(u32),
-    StartTwice(u32),
+    /// A build of one index starts, over ranges that end there.
+    Start(&'static [u32]),
+    /// Over so many even ranges.
+    StartEven(usize),
     Scan,
     Seal,
     Load,
     Switch,
 }
 
-fn event(alloc: Global, step: Step) -> Result<Event, Fault> {
-    Ok(match step {
-        Step::Insert(txn, number) => insert(txn, int_row(alloc, number)?),
-        Step::Update(txn, number) => update(txn, int_row(alloc, number)?),
-        Step::Start => start(plan(alloc, Dealing::Even(1))?),
-        Step::StartTo(end) => start(plan(alloc, Dealing::Ends(vec![in alloc; end]?))?),
-        Step::StartTwice(end) => start(plan(alloc, Dealing::Ends(vec![in alloc; 1, end]?))?),
-        _ => plain_event(step),
-    })
+fn start(alloc: Global, dealing: Dealing) -> Result<Event, Fault> {
+    let plan = Plan {
+        specs: vec![in alloc; spec(alloc)?]?,
+        workers: 1,
+        dealing,
+        tries: 3,
+        keep_pairs: false,
+    };
+    Ok(Event::Start { plan })
 }
 
-fn insert(txn: u64, row: Row) -> Event {
-    Event::Insert { txn, row }
-}
-
-fn update(txn: u64, row: Row) -> Event {
-    Event::Update {
-        txn,
-        rid: FIRST,
-        row,
+/// A change of a row.
+fn change(alloc: Global, ask: Ask) -> Result<Event, Fault> {
+    let rid = FIRST;
+    match ask {
+        Ask::Insert(txn, number) => Ok(Event::Insert {
+            txn,
+            row: number_row(alloc, number)?,
+        }),
+        Ask::Update(txn, number) => Ok(Event::Update {
+            txn,
+            rid,
+            row: number_row(alloc, number)?,
+        }),
+        Ask::Delete(txn) => Ok(Event::Delete { txn, rid }),
+        _ => Err(Fault::BadCount),
     }
 }
 
-fn start(plan: Plan) -> Event {
-    Event::Start { plan }
-}
-
-/// An event that takes no memory.
-fn plain_event(step: Step) -> Event {
-    match step {
-        Step::Delete(txn) => Event::Delete { txn, rid: FIRST },
-        Step::Undo(txn) => Event::Undo { txn },
-        Step::Commit(txn) => Event::Commit { txn },
-        Step::Scan => Event::Scan {
+fn event(alloc: Global, ask: Ask) -> Result<Event, Fault> {
+    match ask {
+        Ask::Begin => Ok(Event::Begin),
+        Ask::Undo(txn) => Ok(Event::Undo { txn }),
+        Ask::Commit(txn) => Ok(Event::Commit { txn }),
+        Ask::Start(ends) => start(alloc, Dealing::Ends(ends.to_vec(alloc)?)),
+        Ask::StartEven(ranges) => start(alloc, Dealing::Even(ranges)),
+        Ask::Scan => Ok(Event::Scan {
             range: 0,
             worker: 0,
-        },
-        Step::Seal => Event::Seal { worker: 0 },
-        Step::Load => Event::Load { index: 0 },
-        Step::Switch => Event::Switch,
-        _ => Event::Begin,
+        }),
+        Ask::Seal => Ok(Event::Seal { worker: 0 }),
+        Ask::Load => Ok(Event::Load { index: 0 }),
+        Ask::Switch => Ok(Event::Switch),
+        _ => change(alloc, ask),
     }
 }
 
-/// The number that a reply tells, or why the event was refused.
-fn number_in(reply: &Reply) -> Result<usize, Fault> {
+/// The numbers that a reply tells, of a row's place its page; 0 where there is no second. Or why the event was refused.
+fn numbers_in(reply: &Reply) -> Result<(usize, usize), Fault> {
     match reply {
-        Reply::Begun { txn } => Ok(*txn as usize),
-        Reply::Written { number, .. } => Ok(*number),
-        Reply::Undone { left, .. } => Ok(*left),
-        Reply::Committed { number } => Ok(*number),
-        Reply::Started { pages } => Ok(*pages as usize),
-        Reply::Scanned { page } => Ok(*page as usize),
-        Reply::Sealed { images } => Ok(*images),
-        Reply::Loaded { pairs } => Ok(*pairs),
-        Reply::Switched { number, .. } => Ok(*number),
+        Reply::Begun { txn } => Ok((*txn as usize, 0)),
+        Reply::Written { number, rid } => Ok((*number, rid.page as usize)),
+        Reply::Undone { number, left } => Ok((*number, *left)),
+        Reply::Committed { number } => Ok((*number, 0)),
+        Reply::Started { pages } => Ok((*pages as usize, 0)),
+        Reply::Scanned { page } => Ok((*page as usize, 0)),
+        Reply::Sealed { images } => Ok((*images, 0)),
+        Reply::Loaded { pairs } => Ok((*pairs, 0)),
+        Reply::Switched { number, .. } => Ok((*number, 0)),
         Reply::Refused { fault } => Err(*fault),
     }
 }
 
-fn answer(core: &mut Core, alloc: Global, step: Step) -> Result<usize, Fault> {
-    number_in(&core.step(event(alloc, step)?))
+fn answer(core: &mut Core, alloc: Global, ask: Ask) -> Result<(usize, usize), Fault> {
+    numbers_in(&core.step(event(alloc, ask)?))
 }
 
-/// Whether each step is answered as it should be.
-fn answers(core: &mut Core, alloc: Global, steps: &[(Step, Result<usize, Fault>)]) -> bool {
-    for (step, wanted) in steps {
-        if answer(core, alloc, *step) != *wanted {
+/// An event that is asked for once more where memory ran out.
+fn answer_again(core: &mut Core, alloc: Global, ask: Ask) -> Result<(usize, usize), Fault> {
+    match answer(core, alloc, ask) {
+        Err(Fault::Memory) => answer(core, alloc, ask),
+        told => told,
+    }
+}
+
+/// The bytes of a key, and where its row stands.
+struct Entry {
+    key: &'static [u8],
+    rid: Rid,
+}
+
+/// Pairs of the rows 5 and 3 on page 0, and 5 on page 1.
+const ENTRIES: &[Entry] = &[
+    Entry {
+        key: b"\x01\x80\0\0\0\0\0\0\x03",
+        rid: Rid { page: 0, slot: 1 },
+    },
+    Entry {
+        key: b"\x01\x80\0\0\0\0\0\0\x05",
+        rid: FIRST,
+    },
+    Entry {
+        key: b"\x01\x80\0\0\0\0\0\0\x05",
+        rid: Rid { page: 1, slot: 0 },
+    },
+];
+
+fn are_entries(pairs: &[Pair]) -> bool {
+    for (entry, pair) in ENTRIES.iter().zip(pairs) {
+        if pair.key.bytes() != entry.key || pair.rid != entry.rid {
             return false;
         }
     }
-    true
+    pairs.len() == ENTRIES.len()
 }
 
-/// Runs the steps in turn, and answers the first that is refused.
-fn run_all(core: &mut Core, alloc: Global, steps: &[Step]) -> Result<usize, Fault> {
-    let mut last = 0;
-    for step in steps {
-        last = answer(core, alloc, *step)?;
+/// Whether the pairs that an index would have now are those of the three rows.
+fn are_at_rest(core: &mut Core, spec: &KeySpec) -> Result<bool, Fault> {
+    if !spec.is_of(core.schema()) {
+        return Err(Fault::BadColumn);
     }
-    Ok(last)
+    Ok(are_entries(&core.rest(spec)?))
 }
 
-/// Three transactions insert the rows 5, 3 and 5, two of them on page 0.
-const THREE_ROWS: [Step; 9] = [
-    Step::Begin,
-    Step::Insert(1, 5),
-    Step::Commit(1),
-    Step::Begin,
-    Step::Insert(2, 3),
-    Step::Commit(2),
-    Step::Begin,
-    Step::Insert(3, 5),
-    Step::Commit(3),
-];
-
-/// Steps on a table of three rows, or of none, and their answers.
-struct Case {
-    name: &'static str,
-    has_rows: bool,
-    steps: &'static [(Step, Result<usize, Fault>)],
+/// Whether the first index is on the table's column, and has the pairs of the three rows.
+fn are_ready(core: &Core) -> Result<bool, Fault> {
+    let index = core.ready(0)?;
+    Ok(are_entries(index.pairs()) && index.spec().columns() == &[0][..])
 }
 
-const CASES: [Case; 4] = [
-    Case {
-        name: "a build from its start to its switch",
-        has_rows: true,
-        steps: &[
-            (Step::Start, Ok(2)),
-            (Step::Start, Err(Fault::BuildRunning)),
-            (Step::Scan, Ok(0)),
-            (Step::Load, Err(Fault::NotScanned(0))),
-            (Step::Scan, Ok(1)),
-            (Step::Scan, Err(Fault::RangeDone)),
-            (Step::Load, Err(Fault::NotSealed(0))),
-            (Step::Seal, Ok(2)),
-            (Step::Switch, Err(Fault::NotLoaded(0))),
-            (Step::Load, Ok(3)),
-            (Step::Load, Ok(0)),
-            (Step::Switch, Ok(7)),
-        ],
-    },
-    Case {
-        name: "ranges that don't end at the last page",
-        has_rows: true,
-        steps: &[
-            (Step::StartTwice(2), Err(Fault::BadRanges)),
-            (Step::StartTo(1), Err(Fault::BadRanges)),
-            (Step::StartTo(2), Ok(2)),
-        ],
-    },
-    Case {
-        name: "changes while a build runs",
-        has_rows: false,
-        steps: &[
-            (Step::Start, Ok(0)),
-            (Step::Insert(9, 1), Err(Fault::BuildRunning)),
-            (Step::Update(9, 2), Err(Fault::BuildRunning)),
-            (Step::Delete(9), Err(Fault::BuildRunning)),
-            (Step::Undo(9), Err(Fault::BuildRunning)),
-        ],
-    },
-    Case {
-        name: "changes of no transaction",
-        has_rows: false,
-        steps: &[
-            (Step::Insert(9, 1), Err(Fault::NoSuchTxn)),
-            (Step::Update(9, 2), Err(Fault::NoSuchTxn)),
-            (Step::Delete(9), Err(Fault::NoSuchTxn)),
-            (Step::Undo(9), Err(Fault::NoSuchTxn)),
-            (Step::Commit(9), Err(Fault::NoSuchTxn)),
-        ],
-    },
-];
-
-fn passes_on(core: &mut Core, alloc: Global, case: &Case) -> Result<bool, Fault> {
-    if case.has_rows {
-        run_all(core, alloc, &THREE_ROWS)?;
-    }
-    Ok(answers(core, alloc, case.steps))
-}
-
-// A function that owns a core is proved in a time that grows with its exits: so such functions make it and pass it on.
-fn passes(alloc: Global, case: &Case) -> Result<bool, Fault> {
-    let mut core = empty_core(alloc)?;
-    passes_on(&mut core, alloc, case)
-}
-
-#[test]
-fn events_are_answered(rt: HostRuntime) -> Result<(), Fail> {
-    for case in &CASES {
-        let passed = passes(rt.alloc(), case);
-        let name = case.name;
-        assert_eq!(rt; passed, Ok(true), "{name}");
-    }
-    Ok(())
-}
-
-fn are_three_and_fives(pairs: &[Pair]) -> bool {
-    match pairs {
-        [three, first, second] => {
-            three.key.bytes() == &THREE[..]
-                && three.rid == Rid { page: 0, slot: 1 }
-                && first.key.bytes() == &FIVE[..]
-                && first.rid == Rid { page: 0, slot: 0 }
-                && second.key.bytes() == &FIVE[..]
-                && second.rid == Rid { page: 1, slot: 0 }
-        }
-        _ => false,
+fn number_at(core: &mut Core, rid: Rid) -> Result<Option<i64>, Fault> {
+    match core.get(rid)?.cells() {
+        [Cell::Int(number)] => Ok(Some(*number)),
+        _ => Ok(None),
     }
 }
 
-const BUILD: [Step; 6] = [
-    Step::Start,
-    Step::Scan,
-    Step::Scan,
-    Step::Seal,
-    Step::Load,
-    Step::Switch,
-];
-
-fn build_on(core: &mut Core, alloc: Global) -> Result<bool, Fault> {
-    run_all(core, alloc, &THREE_ROWS)?;
-    let last = run_all(core, alloc, &BUILD)?;
-    Ok(last == 7 && are_three_and_fives(core.ready(0)?.pairs()))
+/// A call, and what it answers.
+enum Call {
+    Event(Ask, Result<(usize, usize), Fault>),
+    Begins(usize),
+    Get(Rid, Result<Option<i64>, Fault>),
+    Rest(Result<bool, Fault>),
+    Ready(Result<bool, Fault>),
+    Building(bool),
 }
 
-/// Whether a whole build gives the index.
-fn whole_build(alloc: Global) -> Result<bool, Fault> {
-    let mut core = empty_core(alloc)?;
-    build_on(&mut core, alloc)
-}
-
-// `rt try --test --fail-alloc N` for each N shows that no allocation that fails gives a wrong answer.
-#[test]
-fn a_build_where_memory_may_run_out(rt: HostRuntime) -> Result<(), Fail> {
-    let built = whole_build(rt.alloc());
-    assert!(rt; matches!(built, Ok(true) | Err(Fault::Memory)));
-    Ok(())
-}
-
-fn reads_of(core: &mut Core, alloc: Global) -> Result<bool, Fault> {
-    run_all(core, alloc, &THREE_ROWS)?;
-    let spec = int_spec(alloc)?;
-    if core.is_building() || core.ready(0).is_ok() || !spec.is_of(core.schema()) {
-        return Ok(false);
-    }
-    let row = core.get(Rid { page: 1, slot: 0 })?;
-    Ok(row.cells().len() == 1 && are_three_and_fives(&core.rest(&spec)?))
-}
-
-fn reads(alloc: Global) -> Result<bool, Fault> {
-    let mut core = empty_core(alloc)?;
-    reads_of(&mut core, alloc)
-}
-
-fn gives_the_table_back(alloc: Global) -> Result<bool, Fault> {
-    let live = empty_core(alloc)?.into_live();
-    Ok(live.ready().is_empty())
-}
-
-#[test]
-fn reads_of_a_table(rt: HostRuntime) -> Result<(), Fail> {
-    assert_eq!(rt; reads(rt.alloc()), Ok(true));
-    assert_eq!(rt; gives_the_table_back(rt.alloc()), Ok(true));
-    Ok(())
-}
-
-/// Whether just 64 transactions may be open.
-fn begins_of(core: &mut Core, alloc: Global) -> bool {
-    for number in 1..65 {
-        if answer(core, alloc, Step::Begin) != Ok(number) {
-            return false;
-        }
-    }
-    answer(core, alloc, Step::Begin) == Err(Fault::TooManyTxns)
-}
-
-fn begins(alloc: Global) -> Result<bool, Fault> {
-    let mut core = empty_core(alloc)?;
-    Ok(begins_of(&mut core, alloc))
-}
-
-#[test]
-fn a_transaction_too_many(rt: HostRuntime) -> Result<(), Fail> {
-    assert_eq!(rt; begins(rt.alloc()), Ok(true));
-    Ok(())
-}
-
-/// An undo that is taken up again where memory ran out.
-fn undo_again(core: &mut Core, alloc: Global) -> Result<usize, Fault> {
-    match answer(core, alloc, Step::Undo(1)) {
-        Err(Fault::Memory) => answer(core, alloc, Step::Undo(1)),
-        done => done,
-    }
-}
-
-const WRITES: [Step; 4] = [
-    Step::Begin,
-    Step::Insert(1, 5),
-    Step::Update(1, 6),
-    Step::Update(1, 7),
-];
-
-fn undo_on(core: &mut Core, alloc: Global) -> Result<bool, Fault> {
-    run_all(core, alloc, &WRITES)?;
-    for left in [2, 1, 0] {
-        if undo_again(core, alloc) != Ok(left) {
+fn begins(core: &mut Core, alloc: Global, count: usize) -> Result<bool, Fault> {
+    for number in 1..=count {
+        if answer(core, alloc, Ask::Begin)? != (number, 0) {
             return Ok(false);
         }
     }
-    Ok(matches!(core.get(FIRST), Err(Fault::NoSuchRow)))
+    Ok(true)
 }
 
-/// Whether three writes are undone one by one.
-fn undo_all(alloc: Global) -> Result<bool, Fault> {
-    let mut core = empty_core(alloc)?;
-    undo_on(&mut core, alloc)
+/// Whether it is answered so. Want of memory is passed on where a second event of the same kind doesn't help.
+fn is_answered(core: &mut Core, alloc: Global, call: &Call) -> Result<bool, Fault> {
+    match call {
+        Call::Event(ask, answer) => {
+            let told = answer_again(core, alloc, *ask);
+            if told == Err(Fault::Memory) {
+                return Err(Fault::Memory);
+            }
+            Ok(told == *answer)
+        }
+        Call::Begins(count) => begins(core, alloc, *count),
+        Call::Get(rid, answer) => Ok(number_at(core, *rid) == *answer),
+        Call::Rest(answer) => Ok(are_at_rest(core, &spec(alloc)?) == *answer),
+        Call::Ready(answer) => Ok(are_ready(core) == *answer),
+        Call::Building(answer) => Ok(core.is_building() == *answer),
+    }
 }
 
-// As above.
+/// The number of the first call that is answered otherwise.
+fn first_other(core: &mut Core, alloc: Global, calls: &[Call]) -> Result<Option<usize>, Fault> {
+    for (number, call) in calls.iter().enumerate() {
+        if !is_answered(core, alloc, call)? {
+            return Ok(Some(number));
+        }
+    }
+    Ok(None)
+}
+
+/// An empty table, of two slots a page.
+fn two_slots(alloc: Global) -> Result<Live, Fault> {
+    Ok(Live::new(alloc, Heap::new(alloc, schema(alloc)?, 2, 8)?))
+}
+
+/// The first other answer among those calls behind others of an empty table.
+fn differing(alloc: Global, before: &[Call], calls: &[Call]) -> Result<Option<usize>, Fault> {
+    let mut core = Core::new(two_slots(alloc)?);
+    match first_other(&mut core, alloc, before)? {
+        None => first_other(&mut core, alloc, calls),
+        other => Ok(other),
+    }
+}
+
+/// Three transactions insert the rows 5, 3 and 5, two of them on page 0.
+const ROWS: [Call; 9] = [
+    Call::Event(Ask::Begin, Ok((1, 0))),
+    Call::Event(Ask::Insert(1, 5), Ok((1, 0))),
+    Call::Event(Ask::Commit(1), Ok((2, 0))),
+    Call::Event(Ask::Begin, Ok((2, 0))),
+    Call::Event(Ask::Insert(2, 3), Ok((3, 0))),
+    Call::Event(Ask::Commit(2), Ok((4, 0))),
+    Call::Event(Ask::Begin, Ok((3, 0))),
+    Call::Event(Ask::Insert(3, 5), Ok((5, 1))),
+    Call::Event(Ask::Commit(3), Ok((6, 0))),
+];
+
+const BUILD: [Call; 14] = [
+    Call::Event(Ask::StartEven(1), Ok((2, 0))),
+    Call::Event(Ask::Scan, Ok((0, 0))),
+    Call::Event(Ask::Load, Err(Fault::NotScanned(0))),
+    Call::Event(Ask::Scan, Ok((1, 0))),
+    Call::Event(Ask::Scan, Err(Fault::RangeDone)),
+    Call::Event(Ask::Load, Err(Fault::NotSealed(0))),
+    Call::Event(Ask::Seal, Ok((2, 0))),
+    Call::Event(Ask::Switch, Err(Fault::NotLoaded(0))),
+    Call::Event(Ask::Load, Ok((3, 0))),
+    Call::Event(Ask::Load, Ok((0, 0))),
+    Call::Building(true),
+    Call::Event(Ask::Switch, Ok((7, 0))),
+    Call::Building(false),
+    Call::Ready(Ok(true)),
+];
+
 #[test]
-fn an_undo_where_memory_may_run_out(rt: HostRuntime) -> Result<(), Fail> {
-    let undone = undo_all(rt.alloc());
-    assert!(rt; matches!(undone, Ok(true) | Err(Fault::Memory)));
-    Ok(())
+fn a_build_from_its_start_to_its_switch(rt: HostRuntime) {
+    assert_eq!(rt; differing(rt.alloc(), &ROWS, &BUILD), Ok(None));
 }
 
-fn events(alloc: Global) -> Result<Vec<Event>, Fault> {
+/// `rt try --test --fail-alloc N` for each N shows that no allocation that fails gives a wrong answer.
+#[test]
+fn a_build_where_memory_may_run_out(rt: HostRuntime) {
+    let other = differing(rt.alloc(), &ROWS, &BUILD);
+    assert!(rt; other == Ok(None) || other == Err(Fault::Memory));
+}
+
+const REFUSED: [Call; 10] = [
+    Call::Event(Ask::Start(&[1, 2]), Err(Fault::BadRanges)),
+    Call::Building(false),
+    Call::Event(Ask::Start(&[2]), Ok((2, 0))),
+    Call::Building(true),
+    Call::Ready(Err(Fault::BadCount)),
+    Call::Event(Ask::StartEven(1), Err(Fault::BuildRunning)),
+    Call::Event(Ask::Insert(9, 1), Err(Fault::BuildRunning)),
+    Call::Event(Ask::Update(9, 1), Err(Fault::BuildRunning)),
+    Call::Event(Ask::Delete(9), Err(Fault::BuildRunning)),
+    Call::Event(Ask::Undo(9), Err(Fault::BuildRunning)),
+];
+
+#[test]
+fn what_a_build_refuses(rt: HostRuntime) {
+    assert_eq!(rt; differing(rt.alloc(), &ROWS, &REFUSED), Ok(None));
+}
+
+const READS: [Call; 3] = [
+    Call::Get(Rid { page: 1, slot: 0 }, Ok(Some(5))),
+    Call::Get(Rid { page: 1, slot: 1 }, Err(Fault::NoSuchRow)),
+    Call::Rest(Ok(true)),
+];
+
+#[test]
+fn reads_of_a_table(rt: HostRuntime) {
+    assert_eq!(rt; differing(rt.alloc(), &ROWS, &READS), Ok(None));
+}
+
+const TRANSACTIONS: [Call; 7] = [
+    Call::Event(Ask::Insert(9, 1), Err(Fault::NoSuchTxn)),
+    Call::Event(Ask::Update(9, 1), Err(Fault::NoSuchTxn)),
+    Call::Event(Ask::Delete(9), Err(Fault::NoSuchTxn)),
+    Call::Event(Ask::Undo(9), Err(Fault::NoSuchTxn)),
+    Call::Event(Ask::Commit(9), Err(Fault::NoSuchTxn)),
+    Call::Begins(64),
+    Call::Event(Ask::Begin, Err(Fault::TooManyTxns)),
+];
+
+#[test]
+fn transactions_that_are_not_open(rt: HostRuntime) {
+    assert_eq!(rt; differing(rt.alloc(), &[], &TRANSACTIONS), Ok(None));
+}
+
+/// A transaction inserts a row, changes it twice, and is undone.
+const UNDONE: [Call; 9] = [
+    Call::Event(Ask::Begin, Ok((1, 0))),
+    Call::Event(Ask::Insert(1, 5), Ok((1, 0))),
+    Call::Event(Ask::Update(1, 6), Ok((2, 0))),
+    Call::Event(Ask::Update(1, 7), Ok((3, 0))),
+    Call::Event(Ask::Undo(1), Ok((4, 2))),
+    Call::Event(Ask::Undo(1), Ok((5, 1))),
+    Call::Event(Ask::Undo(1), Ok((6, 0))),
+    Call::Event(Ask::Undo(1), Err(Fault::NoSuchTxn)),
+    Call::Get(FIRST, Err(Fault::NoSuchRow)),
+];
+
+/// An undo that was refused for want of memory is taken up again.
+#[test]
+fn an_undo_where_memory_may_run_out(rt: HostRuntime) {
+    let other = differing(rt.alloc(), &[], &UNDONE);
+    assert!(rt; other == Ok(None) || other == Err(Fault::Memory));
+}
+
+fn events(alloc: Global, calls: &[Call]) -> Result<Vec<Event>, Fault> {
     let mut events = Vec::new(alloc);
-    for step in &THREE_ROWS {
-        events.push(event(alloc, *step)?)?;
+    for call in calls {
+        if let Call::Event(ask, _) = call {
+            events.push(event(alloc, *ask)?)?;
+        }
     }
     Ok(events)
 }
 
-/// How many replies a list of events has.
-fn replies(alloc: Global, events: &[Event]) -> Result<usize, Fault> {
-    let live = Live::new(alloc, two_slots(alloc)?);
-    let (_live, replies) = run_events(alloc, live, events);
-    replies.map(|replies| replies.len())
+/// How many replies a list of events has, and how many indexes are ready behind it.
+fn run(alloc: Global, events: &[Event]) -> Result<(usize, usize), Fault> {
+    let (live, replies) = run_events(alloc, two_slots(alloc)?, events);
+    let replies = replies?;
+    Ok((replies.len(), live.ready().len()))
 }
 
 #[test]
 fn a_list_of_events(rt: HostRuntime) -> Result<(), Fail> {
-    let events = events(rt.alloc())?;
-    assert_eq!(rt; replies(rt.alloc(), &events), Ok(9));
+    let events = events(rt.alloc(), &ROWS)?;
+    assert!(rt; run(rt.alloc(), &events) == Ok((9, 0)));
+    assert!(rt;
+        Core::new(two_slots(rt.alloc())?)
+            .into_live()
+            .ready()
+            .is_empty()
+    );
     Ok(())
 }
 
-fn insert_all(heap: &mut Heap, alloc: Global) -> Result<(), Fault> {
+fn insert_rows(heap: &mut Heap) -> Result<(), Fault> {
     let txn = heap.begin()?;
     for number in [5, 3, 5] {
-        let _written = heap.insert(txn, int_row(alloc, number)?)?;
+        heap.insert(txn, number_row(heap.allocator(), number)?)?;
     }
     Ok(())
 }
 
-fn rests(heap: &mut Heap, alloc: Global) -> Result<bool, Fault> {
-    insert_all(heap, alloc)?;
-    let spec = int_spec(alloc)?;
+/// Whether the pairs of the table are those of the three rows.
+fn are_at_rest_in(heap: &mut Heap, spec: &KeySpec) -> Result<bool, Fault> {
     if !spec.is_of(heap.schema()) {
-        return Ok(false);
+        return Err(Fault::BadColumn);
     }
-    let pairs = at_rest(heap, &spec)?;
-    Ok(are_three_and_fives(&pairs) && heap.visits() == 2)
-}
-
-fn table_at_rest(alloc: Global) -> Result<bool, Fault> {
-    let mut heap = two_slots(alloc)?;
-    rests(&mut heap, alloc)
+    Ok(are_entries(&at_rest(heap, spec)?))
 }
 
 #[test]
 fn the_pairs_of_a_table_at_rest(rt: HostRuntime) -> Result<(), Fail> {
-    assert_eq!(rt; table_at_rest(rt.alloc()), Ok(true));
+    let mut heap = Heap::new(rt.alloc(), schema(rt.alloc())?, 2, 8)?;
+    assert!(rt; insert_rows(&mut heap).is_ok());
+    assert!(rt; are_at_rest_in(&mut heap, &spec(rt.alloc())?) == Ok(true) && heap.visits() == 2);
     Ok(())
 }

@@ -1,4 +1,4 @@
-//! Tests of the crates that build indexes, by their public calls alone.
+//! Tests of the crates that index builds are made of, by their public calls alone.
 #![tactic(auto)]
 
 #[cfg(test)]
