@@ -1,16 +1,18 @@
 -- A draft of a script, and the lines that were read.
-use Rattle.std.proofs.Common.{◌≡◌, ℕ, ◌+◌, ◌-◌, List, [], ◌∷◌, ◌++◌, length, Option, Some, None, is_some, true, false, arith, length-append, refl, sym, ap, ◌∙◌}
+use Rattle.std.proofs.Common.{◌≡◌, ℕ, ◌+◌, ◌-◌, List, [], ◌∷◌, ◌++◌, length, Option, Some, None, Result, Ok, Err, IfOk, is_some, true, false, arith, length-append, refl, sym, ap, ◌∙◌}
 use Rattle.std.proofs.lemmas.List.{append-nil, append_assoc}
 use Rattle.std.proofs.lemmas.Slice.Zip.{AllZip-long}
 use Rattle.script.specs.Drafts.{DraftValue, HasRead, IsBlank, IsDraft, MayFollow, listed, with_line}
 use Rattle.script.specs.Explanations.{Explains}
 use Rattle.script.specs.Records.{records_of}
-use Rattle.script.specs.Scripts.{AreGood, InOrder, IsFirstBad, NoTable, RecordSpells, StandsBehind, commands_from, tables_from}
+use Rattle.script.specs.Scripts.{AreGood, InOrder, IsFirstBad, NoTable, RecordSpells, SpellsScript, StandsBehind, commands_from, tables_from}
 use Rattle.script.specs.Stops.{TakesLine}
 use Rattle.script.specs.declared.check_error.CheckError.TheVariants.{Bad}
 use Rattle.script.specs.declared.explanation.Explanation.TheVariants.{NoTable as TableMissing}
 use Rattle.script.specs.declared.line.Line.{Line}
 use Rattle.script.specs.declared.line.Line.TheVariants.{PassedOver, Table as TableLine, Command as CommandLine}
+use Rattle.script.specs.declared.script.Script.{Script}
+use Rattle.script.specs.declared.script_error.ScriptError.{ScriptError}
 use Rattle.script.specs.declared.table.Table.{Table}
 use Rattle.script.proofs.Ordered.{InOrder-more, commands_from-append, no_tables, table_first, tables_from-append, tables_none}
 use Rattle.script.proofs.Zips.{zip_push}
@@ -81,8 +83,16 @@ all_before : (text : List ℕ) (lines : List Line) (left : List (List (List ℕ)
 all_before text lines left number behind ended =
     behind.split ∙ ap (λ (more : List (List (List ℕ))). behind.before ++ more) ended ∙ append-nil behind.before
 
+-- no record is left, and the draft is the script that is given
+pub good_end : (text : List ℕ) (draft : DraftValue) (number : ℕ) (given : Result Script ScriptError) → HasRead text [] draft number
+    → IfOk given (λ script. draft.table ≡ Some (script.table_number, script.table)) → IfOk given (λ script. script.commands.items ≡ draft.commands)
+    → IfOk given (SpellsScript text)
+good_end text draft number (Err error) read table commands = tt
+good_end text draft number (Ok script) read table commands =
+    (read.0, rw (all_before text read.0 [] number read.1 refl) read.1.spelled, (read.2.0 ∙ ap listed table, commands ∙ read.2.1))
+
 -- no record is left, and no table came
-pub no_table : (text : List ℕ) (draft : DraftValue) (number : ℕ) (read : HasRead text [] draft number) → draft.table ≡ None → NoTable read.0
+no_table : (text : List ℕ) (draft : DraftValue) (number : ℕ) (read : HasRead text [] draft number) → draft.table ≡ None → NoTable read.0
 no_table text draft number read none = no_tables 1 read.0 (read.2.0 ∙ ap listed none)
 
 pub bad_end : (text : List ℕ) (draft : DraftValue) (number : ℕ) → HasRead text [] draft number → draft.table ≡ None → IsFirstBad text number

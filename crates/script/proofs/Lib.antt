@@ -1,3 +1,4 @@
+mod Agreed
 mod Drafted
 mod FieldLemmas
 mod Misfits

@@ -166,12 +166,12 @@ begins_plain name.Switch = refl
 begins_plain name.Pairs = refl
 begins_plain name.Rest = refl
 
-no_remark : (one : CommandName) → IsRemark (written one) → ⊥
+pub no_remark : (one : CommandName) → IsRemark (written one) → ⊥
 no_remark one remark =
     let both : true ≡ false = ap (λ (text : List ℕ). slice_index text 0 == 35) (sym remark.1) ∙ begins_plain one in cc
 
 -- no command has the name of a table
-not_table : (command : Command) → name.Table ≡ name_of command → ⊥
+pub not_table : (command : Command) → name.Table ≡ name_of command → ⊥
 not_table (Row cells) is = cc
 not_table (Begin label) is = cc
 not_table (Insert label cells) is = cc

@@ -38,7 +38,9 @@ impl Script {
     /// Looks at all records of a script. Records are numbered from 1, the ones that are passed over among them.
     pub fn parse(alloc: Global, text: &[u8]) -> Result<Script, ScriptError>
         ensures good { IfOk result (SpellsScript text.now) }
+        ensures none_bad { OnOk result ((number : ℕ) → ¬ (IsFirstBad text.now number)) }
         ensures bad { (number : ℕ) → result ≡ Err (ScriptError.Bad number) → IsFirstBad text.now number }
+        ensures no_other { (number other : ℕ) → result ≡ Err (ScriptError.Bad number) → IsFirstBad text.now other → other ≡ number }
     {
         let mut draft = Draft::new(alloc);
         let mut record = StringRecord::new(alloc);
