@@ -1,9 +1,9 @@
-//! Index builds over a table in use, one event after another.
+//! The build of an index over a table, one event after another.
 //!
 //! An event is a write, an undo, a commit or one step of a build, and is answered before the next is looked at. A build copies
 //! the table's pages, makes the pairs of key and RID of their rows, puts the pairs in order, and is then switched in:
-//! from there on the index is ready. What each event does, and why it is refused, is said once, by `outcome` of
-//! `specs/Steps.antt`; a refused event changes nothing, unless memory ran out in the midst of a build's work, which
+//! from there on the index is ready. Why an event is refused and what it does otherwise is said once, by `refusal` and `Does`
+//! of `specs/Steps.antt`; a refused event changes nothing, unless memory ran out in the midst of a build's work, which
 //! spoils that build.
 //!
 //! [`Live`] is a table with its ready indexes, and [`Core`] is that with the build that may be running: [`Core::step`]

@@ -81,7 +81,7 @@ fn command<'a>(alloc: Global) -> Result<Command<'a>, AllocError> {
 fn program<'a>(alloc: Global) -> Command<'a> {
     Command::new(alloc, "sfbuild")
         .version(VERSION)
-        .about("Builds indexes on a table that is in use")
+        .about("Builds the index of a table, as a script tells it to")
         .after_help(EXAMPLE)
         .subcommand_required(true)
 }

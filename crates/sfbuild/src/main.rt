@@ -1,4 +1,4 @@
-//! The program `sfbuild`: builds indexes on a table that is in use, as a script of records tells it to.
+//! The program `sfbuild`: builds the index of a table, as a script tells it to.
 //!
 //! [`command_line`] reads the words that the program is given, and the library [`replay`] runs the script or looks at it.
 //! `main` only hands the script and the standard streams in.
