@@ -31,8 +31,6 @@ mod spec;
 mod start;
 mod stop;
 mod table;
-#[cfg(test)]
-mod tests;
 
 pub use check_error::CheckError;
 pub use command::Command;

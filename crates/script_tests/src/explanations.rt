@@ -1,10 +1,10 @@
 //! What is wrong with a bad script, in words.
 
-use crate::Script;
+use script::Script;
 use std::test::Fail;
 
 /// Bad scripts, each with what is said of it.
-const EXPLAINED: [(&[u8], &str); 24] = [
+const EXPLAINED: [(&[u8], &str); 26] = [
     (
         b"table,2,int\nrow,x\n",
         "record 2 is bad: field 2, \"x\", is no cell (~, a number, =text, true or false)",
@@ -44,6 +44,14 @@ const EXPLAINED: [(&[u8], &str); 24] = [
     (
         b"table,2,int\nrow,012345678901234567890123456789012345678\xc3\xa41\n",
         "record 2 is bad: field 2, \"012345678901234567890123456789012345678\u{e4}..\", is no cell (~, a number, =text, true or false)",
+    ),
+    (
+        b"table,2,int\nrow,1,x,y\n",
+        "record 2 is bad: field 3, \"x\", is no cell (~, a number, =text, true or false)",
+    ),
+    (
+        b"table,2,int\nupdate,a_b\n",
+        "record 2 is bad: field 2, \"a_b\", is no label (1 to 16 ASCII letters and digits)",
     ),
     (
         b"table,2,int\nfly\n",

@@ -1,6 +1,6 @@
 //! Which records are bad.
 
-use crate::{Script, ScriptError};
+use script::{Script, ScriptError};
 use std::test::Fail;
 
 /// Records that are taken, each behind a record `table`.

@@ -1,2 +1,0 @@
-mod explanations;
-mod spellings;
