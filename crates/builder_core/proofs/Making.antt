@@ -20,49 +20,7 @@ use Rattle.heap_table.specs.Pages.{rid_at, row_in, rows_on, slots_written}
 use Rattle.keybytes.specs.declared.pair.Pair.{Pair}
 use Rattle.heap_table.specs.TablePairs.{pair_at, pair_of, pairs_on, pairs_from}
 use Rattle.builder_core.specs.CoreState.{after_visits}
-use Rattle.builder_core.specs.Builds.{AreImages}
 use Rattle.heap_table.proofs.PairsAtRest.{pairs_joined}
-
-range_more : (a n : ℕ) → range_with_len a (n + 1) ≡ range_with_len a n ++ (a + n) ∷ []
-range_more a zero = rw (add-zero a) refl
-range_more a (suc n) =
-    let next : suc n + 1 ≡ suc (n + 1) = omega arith in
-    let last : a + 1 + n ≡ a + suc n = omega arith in
-    ap (range_with_len a) next
-    ∙ ap (λ (xs : List ℕ). a ∷ xs) (range_more (a + 1) n ∙ ap (λ (k : ℕ). range_with_len (a + 1) n ++ k ∷ []) last)
-
--- the pairs in the first slots of a page
-abbrev pub pairs_before : KeySpecValue → List LogRec → ℕ → ℕ → List Pair
-pairs_before spec log page slots = filter_map (pair_at spec log) (map (rid_at page) (range_with_len 0 slots))
-
-alone : {X : Type 0} (o : Option X) → cons_option o [] ≡ option_to_list o
-alone None = refl
-alone (Some x) = refl
-
-pub slot_more :
-    (spec : KeySpecValue) (log : List LogRec) (page slot : ℕ) (o : Option Pair) → pair_at spec log (rid_at page slot) ≡ o
-    → pairs_before spec log page (slot + 1) ≡ pairs_before spec log page slot ++ option_to_list o
-slot_more spec log page slot o is =
-    let more : range_with_len 0 (slot + 1) ≡ range_with_len 0 slot ++ slot ∷ [] = range_more 0 slot ∙ ap (λ k. range_with_len 0 slot ++ k ∷ []) (zero-add slot) in
-    ap (λ slots. filter_map (pair_at spec log) (map (rid_at page) slots)) more
-    ∙ ap (filter_map (pair_at spec log)) (map-append (rid_at page) (range_with_len 0 slot) (slot ∷ []))
-    ∙ filter_map-append (pair_at spec log) (map (rid_at page) (range_with_len 0 slot)) (rid_at page slot ∷ [])
-    ∙ ap (λ x. pairs_before spec log page slot ++ cons_option x []) is
-    ∙ ap (λ ps. pairs_before spec log page slot ++ ps) (alone o)
-
--- a slot with that row, or with none
-pub slot_some : (spec : KeySpecValue) (log : List LogRec) (page slot : ℕ) (row : List Cell) → Some row ≡ live_at log (rid_at page slot) → pair_at spec log (rid_at page slot) ≡ Some (record { key = key_of spec row; rid = rid_at page slot })
-slot_some spec log page slot row is = ap (option_map (λ cells. record { key = key_of spec cells; rid = rid_at page slot })) (sym is)
-
-pub slot_none : (spec : KeySpecValue) (log : List LogRec) (page slot : ℕ) → None ≡ live_at log (rid_at page slot) → pair_at spec log (rid_at page slot) ≡ None
-slot_none spec log page slot is = ap (option_map (λ cells. record { key = key_of spec cells; rid = rid_at page slot })) (sym is)
-
--- a row on a copy fits the columns
-pub shown_fits : (kinds : List Kind) (log : List LogRec) (page slot : ℕ) (image : ImageValue) (row : List Cell) → IsImage kinds log page image → Some row ≡ live_at log (rid_at page slot) → fits kinds row ≡ true
-shown_fits kinds log page slot image row is live =
-    let Spelled : Option (List Cell) → Type 0 = λ cells. IfSome cells (λ r. Spells kinds (row_bytes r) r) in
-    let spells : Spelled (Some row) = subst Spelled (sym live) ((is.rows slot).spells) in
-    spells.fitting
 
 -- the pairs of rows with their RIDs
 rows_step :
@@ -107,15 +65,6 @@ visits_only heap (suc n) = ap after_visit (visits_only heap n)
 
 pub visit_more : (heap : HeapState) (n : ℕ) → after_visits heap (n + 1) ≡ after_visit (after_visits heap n)
 visit_more heap n = ap (after_visits heap) (add-one n)
-
--- a copy among those of pages that follow one another
-pub image_at :
-    (kinds : List Kind) (log : List LogRec) (first i : ℕ) (images : List ImageValue) (image : ImageValue) → AreImages kinds log first images → i < length images
-    → image ≡ get_or images i image → IsImage kinds log (first + i) image
-image_at kinds log first i images image are below is = are.each i image (slice_get_read images (length images) i image refl below is)
-
-pub its_page : (kinds : List Kind) (log : List LogRec) (page : ℕ) (image : ImageValue) → IsImage kinds log page image → IsImage kinds log image.page image
-its_page kinds log page image is = subst (λ n. IsImage kinds log n image) (sym is.number) is
 
 pub visits_changed : (heap new : HeapState) (n : ℕ) → new ≡ after_visits heap n → new ≡ record heap { visits = new.visits }
 visits_changed heap new n is =

@@ -1,16 +1,16 @@
 -- When a build starts.
 use Rattle.std.proofs.Common.{◌≡◌, Bool, true, false, List, [], ◌∷◌, Option, Some, None, refl, sym, ap, ◌∙◌}
-use Rattle.std.specs.Prelude.{◌&&◌}
-use Rattle.std.proofs.lemmas.Bool.{and_parts, false≢true}
+use Rattle.std.specs.Prelude.{◌&&◌, ◌||◌, is_some}
+use Rattle.std.specs.List.{list_any, list_all}
+use Rattle.std.proofs.lemmas.Bool.{and_parts, and_from, false≢true, false_from_ne_true}
 use Rattle.keybytes.specs.Keys.{KeySpecValue}
 use Rattle.keybytes.specs.declared.kind.Kind.{Kind}
 use Rattle.keybytes.specs.declared.kind.Kind.TheVariants.{Int, Text, Flag}
-use Rattle.keybytes.specs.declared.fault.Fault.{Fault}
 use Rattle.keybytes.specs.declared.fault.Fault.TheVariants.{BadColumn, BadRanges}
 use Rattle.heap_table.specs.Pages.{pages_written}
 use Rattle.builder_core.specs.declared.plan.Plan.{Plan}
-use Rattle.builder_core.specs.CoreState.{CoreState}
-use Rattle.builder_core.specs.Steps.{same_kind, same_kinds, only_spec, is_one_range, counts_fit, start_refusal, plan_refusal}
+use Rattle.builder_core.specs.CoreState.{LiveState}
+use Rattle.builder_core.specs.Steps.{same_kind, same_kinds, is_one_range, counts_fit, start_refusal}
 
 same_kind-true : (a b : Kind) → same_kind a b ≡ true → a ≡ b
 same_kind-true Int Int e = refl
@@ -36,37 +36,40 @@ same_kinds-true (a ∷ rest) (b ∷ bs) e =
     let parts = and_parts (same_kind a b) (same_kinds rest bs) e in
     ap (λ x. x ∷ rest) (same_kind-true a b parts.0) ∙ ap (λ xs. b ∷ xs) (same_kinds-true rest bs parts.1)
 
-both : (a b : Bool) → a ≡ true → b ≡ true → (a && b) ≡ true
-both true b p q = q
-both false b p q = absurd (false≢true p)
-
 same_kinds-itself : (kinds : List Kind) → same_kinds kinds kinds ≡ true
 same_kinds-itself [] = refl
-same_kinds-itself (a ∷ rest) = both (same_kind a a) (same_kinds rest rest) (same_kind-itself a) (same_kinds-itself rest)
-
-not_true : (b : Bool) → (b ≡ true → ⊥) → b ≡ false
-not_true true f = absurd (f refl)
-not_true false f = refl
+same_kinds-itself (a ∷ rest) = and_from (same_kind a a) (same_kinds rest rest) (same_kind-itself a) (same_kinds-itself rest)
 
 pub kinds_differ : (xs ys : List Kind) → (xs ≡ ys → ⊥) → same_kinds xs ys ≡ false
-kinds_differ xs ys f = not_true (same_kinds xs ys) (λ e. f (same_kinds-true xs ys e))
+kinds_differ xs ys f = false_from_ne_true (same_kinds xs ys) (λ e. f (same_kinds-true xs ys e))
 
 pub kinds_agree : (xs ys : List Kind) → xs ≡ ys → same_kinds xs ys ≡ true
 kinds_agree xs ys e = ap (same_kinds xs) (sym e) ∙ same_kinds-itself xs
 
--- why no build starts by a plan with one specification
-pub plan_is : (s : CoreState) (plan : Plan) (spec : KeySpecValue) (cause : Option Fault) → only_spec plan.specs.items ≡ Some spec
-    → start_refusal s plan spec ≡ cause → plan_refusal s plan (only_spec plan.specs.items) ≡ cause
-plan_is s plan spec cause is why = ap (plan_refusal s plan) is ∙ why
+and_true : (b : Bool) → (b && true) ≡ b
+and_true true = refl
+and_true false = refl
 
-pub bad_column : (s : CoreState) (plan : Plan) (spec : KeySpecValue) → counts_fit s plan spec ≡ true → same_kinds spec.kinds s.heap.schema ≡ false
-    → start_refusal s plan spec ≡ Some BadColumn
-bad_column s plan spec counts columns = rw (counts, columns) refl
+or_false : (b : Bool) → (b || false) ≡ b
+or_false true = refl
+or_false false = refl
 
-pub bad_ranges : (s : CoreState) (plan : Plan) (spec : KeySpecValue) → counts_fit s plan spec ≡ true → same_kinds spec.kinds s.heap.schema ≡ true
-    → is_one_range (pages_written s.heap.log) plan.dealing ≡ false → start_refusal s plan spec ≡ Some BadRanges
-bad_ranges s plan spec counts columns ranges = rw (counts, columns, ranges) refl
+-- what holds of all specifications of a plan with one
+pub all_of_one : (test : KeySpecValue → Bool) (specs : List KeySpecValue) (spec : KeySpecValue) → specs ≡ spec ∷ [] → list_all test specs ≡ test spec
+all_of_one test specs spec is = ap (list_all test) is ∙ and_true (test spec)
 
-pub nothing_bad : (s : CoreState) (plan : Plan) (spec : KeySpecValue) → counts_fit s plan spec ≡ true → same_kinds spec.kinds s.heap.schema ≡ true
-    → is_one_range (pages_written s.heap.log) plan.dealing ≡ true → start_refusal s plan spec ≡ None
-nothing_bad s plan spec counts columns ranges = rw (counts, columns, ranges) refl
+pub any_of_one : (test : KeySpecValue → Bool) (specs : List KeySpecValue) (spec : KeySpecValue) → specs ≡ spec ∷ [] → list_any test specs ≡ test spec
+any_of_one test specs spec is = ap (list_any test) is ∙ or_false (test spec)
+
+module _ (live : LiveState) (plan : Plan) (spec : KeySpecValue) (one : plan.specs.items ≡ spec ∷ []) (still : is_some live.build ≡ false) (counts : counts_fit live plan ≡ true) where
+  columns_are : list_all (λ s. same_kinds s.kinds live.heap.schema) plan.specs.items ≡ same_kinds spec.kinds live.heap.schema
+  columns_are = all_of_one (λ s. same_kinds s.kinds live.heap.schema) plan.specs.items spec one
+
+  pub bad_column : same_kinds spec.kinds live.heap.schema ≡ false → start_refusal live plan ≡ Some BadColumn
+  bad_column columns = rw (still, counts, columns_are, columns) refl
+
+  pub bad_ranges : same_kinds spec.kinds live.heap.schema ≡ true → is_one_range (pages_written live.heap.log) plan.dealing ≡ false → start_refusal live plan ≡ Some BadRanges
+  bad_ranges columns ranges = rw (still, counts, columns_are, columns, ranges) refl
+
+  pub nothing_bad : same_kinds spec.kinds live.heap.schema ≡ true → is_one_range (pages_written live.heap.log) plan.dealing ≡ true → start_refusal live plan ≡ None
+  nothing_bad columns ranges = rw (still, counts, columns_are, columns, ranges) refl

@@ -1,5 +1,6 @@
 -- Each switch of a run makes its indexes ready with the pairs at rest of the rows then live.
-use Rattle.std.proofs.Common.{◌≡◌, ℕ, zero, suc, ◌+◌, List, [], ◌∷◌, ◌++◌, length, take, append_assoc, append-nil, length-append, Option, Some, None, refl, sym, ap, ◌∙◌, subst, inl, inr}
+use Rattle.std.proofs.Common.{◌≡◌, ℕ, zero, suc, zero-add, ◌+◌, ◌<◌, arith, List, [], ◌∷◌, ◌++◌, length, take, append_assoc, append-nil, length-append, Option, Some, None, refl, sym, ap, ◌∙◌, subst, inl, inr}
+use Rattle.std.specs.Prelude.{map}
 use Rattle.std.specs.List.{slice_get}
 use Rattle.std.proofs.Math.Seq.{take-append_seam}
 use Rattle.std.proofs.lemmas.Option.{same_Some}
@@ -11,7 +12,6 @@ use Rattle.heap_log.specs.declared.outcome.Outcome.TheVariants.{Ready}
 use Rattle.heap_log.specs.declared.record.LogRec.{LogRec}
 use Rattle.heap_log.specs.declared.record.LogRec.TheVariants as logged
 use Rattle.heap_log.proofs.Growing.{live_kept}
-use Rattle.heap_log.proofs.Records.{slice_get-append_seam}
 use Rattle.heap_table.specs.HeapState.{HeapState, after_step}
 use Rattle.heap_table.specs.TablePairs.{pairs_at_rest}
 use Rattle.heap_table.proofs.TablePairs.{pairs_kept}
@@ -19,9 +19,9 @@ use Rattle.builder_core.specs.declared.event.Event.{Event}
 use Rattle.builder_core.specs.declared.event.Event.TheVariants.{Begin, Insert, Update, Delete, Undo, Commit, Start, Scan, Seal, Load, Switch}
 use Rattle.builder_core.specs.declared.reply.Reply.{Reply}
 use Rattle.builder_core.specs.declared.reply.Reply.TheVariants.{Switched, Refused}
-use Rattle.builder_core.specs.CoreState.{CoreState, BuildState, ReadyValue}
+use Rattle.builder_core.specs.CoreState.{CoreState, LiveState, BuildState, ReadyValue}
 use Rattle.builder_core.specs.Headline.{HasPairsAtRest, EachSwitchIsAtRest}
-use Rattle.builder_core.specs.Steps.{Step, Run, Does, AfterMemory, OnBuild, StartsBy, only_spec, after_switch_in, verdicts_on}
+use Rattle.builder_core.specs.Steps.{Step, Run, Does, AfterMemory, OnBuild, ready_from, index_now, after_switch_in, verdicts_on}
 
 -- the second log is the first, and more
 abbrev pub GoesOn : List LogRec → List LogRec → Type 0
@@ -37,118 +37,145 @@ on_build : (o : Option BuildState) (P : BuildState → Type 0) → OnBuild o P �
 on_build None P holds = absurd holds
 on_build (Some b) P holds = (b, holds)
 
-starts_log : (s new : CoreState) (spec : Option KeySpecValue) → StartsBy s spec new → new.heap.log ≡ s.heap.log
-starts_log s new None holds = absurd holds
-starts_log s new (Some spec) holds = ap (λ (t : CoreState). t.heap.log) holds
-
 undo_goes_on : (heap : HeapState) (txn : ℕ) (newest : Option ℕ) → GoesOn heap.log (after_step heap txn newest).log
 undo_goes_on heap txn None = goes_same heap.log heap.log refl
 undo_goes_on heap txn (Some n) = (logged.Undo txn n ∷ [], refl)
 
-same_log : (s new : CoreState) (heap : HeapState) → new.heap ≡ heap → GoesOn s.heap.log heap.log → GoesOn s.heap.log new.heap.log
-same_log s new heap is goes = subst (λ (h : HeapState). GoesOn s.heap.log h.log) (sym is) goes
+same_log : (s new : CoreState) (heap : HeapState) → new.live.heap ≡ heap → GoesOn s.live.heap.log heap.log → GoesOn s.live.heap.log new.live.heap.log
+same_log s new heap is goes = subst (λ (h : HeapState). GoesOn s.live.heap.log h.log) (sym is) goes
 
-done_goes_on : (s : CoreState) (event : Event) (reply : Reply) (new : CoreState) → Does s event reply new → GoesOn s.heap.log new.heap.log
-done_goes_on s Begin reply new does = same_log s new _ (ap (λ (t : CoreState). t.heap) does.1) (goes_same s.heap.log s.heap.log refl)
-done_goes_on s (Insert txn row) reply new does = same_log s new _ (ap (λ (t : CoreState). t.heap) does.1) (_, refl)
-done_goes_on s (Update txn rid row) reply new does = same_log s new _ (ap (λ (t : CoreState). t.heap) does.1) (_, refl)
-done_goes_on s (Delete txn rid) reply new does = same_log s new _ (ap (λ (t : CoreState). t.heap) does.1) (_, refl)
+keeps_log : (s new state : CoreState) → new ≡ state → state.live.heap.log ≡ s.live.heap.log → GoesOn s.live.heap.log new.live.heap.log
+keeps_log s new state is same = goes_same s.live.heap.log new.live.heap.log (ap (λ (t : CoreState). t.live.heap.log) is ∙ same)
+
+done_goes_on : (s : CoreState) (event : Event) (reply : Reply) (new : CoreState) → Does s event reply new → GoesOn s.live.heap.log new.live.heap.log
+done_goes_on s Begin reply new does = same_log s new _ does.2.0.0.1 (goes_same s.live.heap.log s.live.heap.log refl)
+done_goes_on s (Insert txn row) reply new does = same_log s new _ does.2.0.0.2 (_, refl)
+done_goes_on s (Update txn rid row) reply new does = same_log s new _ does.2.0.0.2 (_, refl)
+done_goes_on s (Delete txn rid) reply new does = same_log s new _ does.2.0.0.2 (_, refl)
 done_goes_on s (Undo txn) reply new does =
-    same_log s new _ (ap (λ (t : CoreState). t.heap) does.1) (undo_goes_on s.heap txn (newest_standing s.heap.log txn))
-done_goes_on s (Commit txn) reply new does = same_log s new _ (ap (λ (t : CoreState). t.heap) does.1) (_, refl)
-done_goes_on s (Start plan) reply new does = goes_same s.heap.log new.heap.log (starts_log s new (only_spec plan.specs.items) does.1)
-done_goes_on s (Scan range worker) reply new does =
-    let on = on_build s.build _ does in goes_same s.heap.log new.heap.log (ap (λ (t : CoreState). t.heap.log) on.1.1)
-done_goes_on s (Seal worker) reply new does =
-    let on = on_build s.build _ does in goes_same s.heap.log new.heap.log (ap (λ (t : CoreState). t.heap.log) on.1.1)
-done_goes_on s (Load index) reply new does =
-    let on = on_build s.build _ does in goes_same s.heap.log new.heap.log (ap (λ (t : CoreState). t.heap.log) on.1.1)
+    same_log s new _ does.2.0.0.2 (undo_goes_on s.live.heap txn (newest_standing s.live.heap.log txn))
+done_goes_on s (Commit txn) reply new does = same_log s new _ does.2.0.0.1 (_, refl)
+done_goes_on s (Start plan) reply new does = keeps_log s new _ does.2.1 refl
+done_goes_on s (Scan range worker) reply new does = let on = on_build s.live.build _ does.2 in keeps_log s new _ on.1.1 refl
+done_goes_on s (Seal worker) reply new does = let on = on_build s.live.build _ does.2 in keeps_log s new _ on.1.1 refl
+done_goes_on s (Load index) reply new does = let on = on_build s.live.build _ does.2 in keeps_log s new _ on.1.1 refl
 done_goes_on s Switch reply new does =
-    let on = on_build s.build _ does in same_log s new _ (ap (λ (t : CoreState). t.heap) on.1.1) (_, refl)
+    let on = on_build s.live.build _ does.2 in same_log s new _ (ap (λ (t : CoreState). t.live.heap) on.1.2) (_, refl)
 
-memory_keeps : (s : CoreState) (event : Event) (new : CoreState) → AfterMemory s event new → new.heap.log ≡ s.heap.log
-memory_keeps s Begin new is = ap (λ (t : CoreState). t.heap.log) is
-memory_keeps s (Insert txn row) new is = ap (λ (t : CoreState). t.heap.log) is
-memory_keeps s (Update txn rid row) new is = ap (λ (t : CoreState). t.heap.log) is
-memory_keeps s (Delete txn rid) new is = ap (λ (t : CoreState). t.heap.log) is
-memory_keeps s (Undo txn) new is = ap (λ (t : CoreState). t.heap.log) is
-memory_keeps s (Commit txn) new is = ap (λ (t : CoreState). t.heap.log) is
-memory_keeps s (Start plan) new is = ap (λ (t : CoreState). t.heap.log) is
-memory_keeps s (Scan range worker) new is = ap (λ (t : CoreState). t.heap.log) is
-memory_keeps s (Seal worker) new is = ap (λ (t : CoreState). t.heap.log) is
-memory_keeps s (Load index) new is = ap (λ (t : CoreState). t.heap.log) is
-memory_keeps s Switch new is = ap (λ (t : CoreState). t.heap.log) is
+memory_keeps : (s : CoreState) (event : Event) (new : CoreState) → AfterMemory event s new → new.live.heap.log ≡ s.live.heap.log
+memory_keeps s Begin new is = ap (λ (t : CoreState). t.live.heap.log) is
+memory_keeps s (Insert txn row) new is = ap (λ (t : CoreState). t.live.heap.log) is
+memory_keeps s (Update txn rid row) new is = ap (λ (t : CoreState). t.live.heap.log) is
+memory_keeps s (Delete txn rid) new is = ap (λ (t : CoreState). t.live.heap.log) is
+memory_keeps s (Undo txn) new is = ap (λ (t : CoreState). t.live.heap.log) is
+memory_keeps s (Commit txn) new is = ap (λ (t : CoreState). t.live.heap.log) is
+memory_keeps s (Start plan) new is = ap (λ (t : CoreState). t.live.heap.log) is
+memory_keeps s (Scan range worker) new is = ap (λ (t : CoreState). t.live.heap.log) is
+memory_keeps s (Seal worker) new is = ap (λ (t : CoreState). t.live.heap.log) is
+memory_keeps s (Load index) new is = ap (λ (t : CoreState). t.live.heap.log) is
+memory_keeps s Switch new is = ap (λ (t : CoreState). t.live.heap.log) is
 
 -- a step adds to the log alone
-step_goes_on : (s : CoreState) (event : Event) (reply : Reply) (new : CoreState) → Step s event reply new → GoesOn s.heap.log new.heap.log
+step_goes_on : (s : CoreState) (event : Event) (reply : Reply) (new : CoreState) → Step s event reply new → GoesOn s.live.heap.log new.live.heap.log
 step_goes_on s event reply new (inl refused) = elim refused.2 [
-  | inl cause ↦ goes_same s.heap.log new.heap.log (ap (λ (t : CoreState). t.heap.log) cause.1)
-  | inr wants ↦ goes_same s.heap.log new.heap.log (memory_keeps s event new wants.2)
+  | inl cause ↦ goes_same s.live.heap.log new.live.heap.log (ap (λ (t : CoreState). t.live.heap.log) cause.1)
+  | inr wants ↦ goes_same s.live.heap.log new.live.heap.log (memory_keeps s event new wants.2)
 ]
 step_goes_on s event reply new (inr done) = done_goes_on s event reply new done.1
 
 -- and so does a run
-run_goes_on : (s : CoreState) (events : List Event) (replies : List Reply) (end : CoreState) → Run s events replies end → GoesOn s.heap.log end.heap.log
-run_goes_on s [] [] end run = goes_same s.heap.log end.heap.log (ap (λ (t : CoreState). t.heap.log) run)
+run_goes_on : (s : CoreState) (events : List Event) (replies : List Reply) (end : CoreState) → Run s events replies end → GoesOn s.live.heap.log end.live.heap.log
+run_goes_on s [] [] end run = goes_same s.live.heap.log end.live.heap.log (ap (λ (t : CoreState). t.live.heap.log) run)
 run_goes_on s [] (reply ∷ replies) end run = absurd run
 run_goes_on s (event ∷ events) [] end run = absurd run
 run_goes_on s (event ∷ events) (reply ∷ replies) end run =
-    goes_on s.heap.log run.0.heap.log end.heap.log (step_goes_on s event reply run.0 run.1) (run_goes_on run.0 events replies end run.2)
+    goes_on s.live.heap.log run.0.live.heap.log end.live.heap.log (step_goes_on s event reply run.0 run.1) (run_goes_on run.0 events replies end run.2)
 
 -- what a switch did that decided
-pub record Switches (s : CoreState) (number : ℕ) (verdicts : List Outcome) (new : CoreState) : Type 0 where
+pub record Switched_in (s : CoreState) (number : ℕ) (verdicts : List Outcome) (new : CoreState) : Type 0 where
   pub build : BuildState
-  pub number_is : number ≡ length s.heap.log + 1
-  pub verdicts_are : verdicts ≡ verdicts_on s
-  pub new_is : new ≡ after_switch_in s build
+  pub number_is : number ≡ length s.live.heap.log + 1
+  pub verdicts_are : verdicts ≡ verdicts_on s.live build
+  pub new_is : new.live ≡ after_switch_in s.live build
 
-does_switch : (s : CoreState) (event : Event) (number : ℕ) (verdicts : List Outcome) (new : CoreState) → Does s event (Switched number verdicts) new → Switches s number verdicts new
-does_switch s Begin number verdicts new does = absurd (let bad = does.0 in cc)
-does_switch s (Insert txn row) number verdicts new does = absurd (let bad = does.0 in cc)
-does_switch s (Update txn rid row) number verdicts new does = absurd (let bad = does.0 in cc)
-does_switch s (Delete txn rid) number verdicts new does = absurd (let bad = does.0 in cc)
-does_switch s (Undo txn) number verdicts new does = absurd (let bad = does.0 in cc)
-does_switch s (Commit txn) number verdicts new does = absurd (let bad = does.0 in cc)
-does_switch s (Start plan) number verdicts new does = absurd (let bad = does.0 in cc)
-does_switch s (Scan range worker) number verdicts new does = let on = on_build s.build _ does in absurd (let bad = on.1.0 in cc)
-does_switch s (Seal worker) number verdicts new does = let on = on_build s.build _ does in absurd (let bad = on.1.0 in cc)
-does_switch s (Load index) number verdicts new does = let on = on_build s.build _ does in absurd (let bad = on.1.0 in cc)
+does_switch : (s : CoreState) (event : Event) (number : ℕ) (verdicts : List Outcome) (new : CoreState) → Does s event (Switched number verdicts) new → Switched_in s number verdicts new
+does_switch s Begin number verdicts new does = absurd (let bad = does.1 in cc)
+does_switch s (Insert txn row) number verdicts new does = absurd (let bad = does.1 in cc)
+does_switch s (Update txn rid row) number verdicts new does = absurd (let bad = does.1 in cc)
+does_switch s (Delete txn rid) number verdicts new does = absurd (let bad = does.1 in cc)
+does_switch s (Undo txn) number verdicts new does = absurd (let bad = does.1 in cc)
+does_switch s (Commit txn) number verdicts new does = absurd (let bad = does.1 in cc)
+does_switch s (Start plan) number verdicts new does = absurd (let bad = does.1 in cc)
+does_switch s (Scan range worker) number verdicts new does = absurd (let bad = does.1 in cc)
+does_switch s (Seal worker) number verdicts new does = absurd (let bad = does.1 in cc)
+does_switch s (Load index) number verdicts new does = absurd (let bad = does.1 in cc)
 does_switch s Switch number verdicts new does =
-    let on = on_build s.build _ does in
-    let same : Switched number verdicts ≡ Switched (length s.heap.log + 1) (verdicts_on s) = on.1.0 in
-    record { build = on.0; number_is = cc; verdicts_are = cc; new_is = on.1.1 }
+    let on = on_build s.live.build _ does.2 in
+    let told : ℕ × List Outcome = does.0 in
+    let same : Switched number verdicts ≡ Switched told.0 told.1 = does.1 in
+    let number_told : number ≡ told.0 = cc in
+    let verdicts_told : verdicts ≡ told.1 = cc in
+    record {
+      build = on.0;
+      number_is = number_told ∙ on.1.0;
+      verdicts_are = verdicts_told ∙ on.1.1;
+      new_is = ap (λ (t : CoreState). t.live) on.1.2;
+    }
 
-switches : (s : CoreState) (event : Event) (number : ℕ) (verdicts : List Outcome) (new : CoreState) → Step s event (Switched number verdicts) new → Switches s number verdicts new
+switches : (s : CoreState) (event : Event) (number : ℕ) (verdicts : List Outcome) (new : CoreState) → Step s event (Switched number verdicts) new → Switched_in s number verdicts new
 switches s event number verdicts new (inl refused) = absurd (let bad : Switched number verdicts ≡ Refused refused.0 = refused.1 in cc)
 switches s event number verdicts new (inr done) = does_switch s event number verdicts new done.1
 
--- its one verdict is on the index that it adds
-only_verdict : (s : CoreState) (i k : ℕ) → slice_get (verdicts_on s) i ≡ Some (Ready k) → length s.ready ≡ k
-only_verdict s zero k at = let same : Ready (length s.ready) ≡ Ready k = same_Some (Ready (length s.ready)) (Ready k) at in cc
-only_verdict s (suc i) k at = absurd (let bad : None ≡ Some (Ready k) = at in cc)
+-- the verdicts that so many indexes are ready, one by one
+ready_at : (first count i k : ℕ) → slice_get (ready_from first count) i ≡ Some (Ready k) → (i < count) × (k ≡ first + i)
+ready_at first zero i k at = absurd (let bad : None ≡ Some (Ready k) = at in cc)
+ready_at first (suc count) zero k at =
+    let same : Ready first ≡ Ready k = same_Some (Ready first) (Ready k) at in
+    let number : first ≡ k = cc in
+    (omega arith, omega (arith, number))
+ready_at first (suc count) (suc i) k at =
+    let rest = ready_at (first + 1) count i k at in
+    (omega (arith, rest.0), omega (arith, rest.1))
 
-module _ (s : CoreState) (number : ℕ) (verdicts : List Outcome) (new end : CoreState) (switch : Switches s number verdicts new) (goes : GoesOn new.heap.log end.heap.log) where
-  log_is : new.heap.log ≡ s.heap.log ++ logged.Switch (verdicts_on s) ∷ []
-  log_is = ap (λ (t : CoreState). t.heap.log) switch.new_is
+-- and the indexes behind those that were ready
+index_at : (log : List LogRec) (specs : List KeySpecValue) (i : ℕ) → i < length specs → (spec : KeySpecValue) × (slice_get (map (index_now log) specs) i ≡ Some (index_now log spec))
+index_at log [] i less = absurd (omega arith)
+index_at log (spec ∷ specs) zero less = (spec, refl)
+index_at log (spec ∷ specs) (suc i) less = index_at log specs i (omega arith)
 
-  length_is : length new.heap.log ≡ number
-  length_is = ap length log_is ∙ length-append s.heap.log (logged.Switch (verdicts_on s) ∷ []) ∙ sym switch.number_is
+behind : (ready more : List ReadyValue) (i : ℕ) → slice_get (ready ++ more) (length ready + i) ≡ slice_get more i
+behind [] more i = ap (slice_get more) (zero-add i)
+behind (index ∷ ready) more i =
+    let next : suc (length ready) + i ≡ suc (length ready + i) = omega arith in
+    ap (slice_get (index ∷ ready ++ more)) next ∙ behind ready more i
 
-  beginning_is : new.heap.log ≡ first_records number end.heap.log
-  beginning_is = sym (ap (λ n. take n end.heap.log) (sym length_is) ∙ ap (take (length new.heap.log)) goes.1 ∙ take-append_seam new.heap.log goes.0)
+module _ (s : CoreState) (number : ℕ) (verdicts : List Outcome) (new end : CoreState) (switch : Switched_in s number verdicts new) (goes : GoesOn new.live.heap.log end.live.heap.log) where
+  abbrev noted : LogRec
+  noted = logged.Switch (verdicts_on s.live switch.build)
 
-  ready_is : (i k : ℕ) → slice_get verdicts i ≡ Some (Ready k) → HasPairsAtRest (first_records number end.heap.log) new.ready k
+  log_is : new.live.heap.log ≡ s.live.heap.log ++ noted ∷ []
+  log_is = ap (λ (live : LiveState). live.heap.log) switch.new_is
+
+  length_is : length new.live.heap.log ≡ number
+  length_is = ap length log_is ∙ length-append s.live.heap.log (noted ∷ []) ∙ sym switch.number_is
+
+  beginning_is : new.live.heap.log ≡ first_records number end.live.heap.log
+  beginning_is =
+      sym (ap (λ n. take n end.live.heap.log) (sym length_is) ∙ ap (take (length new.live.heap.log)) goes.1 ∙ take-append_seam new.live.heap.log goes.0)
+
+  ready_is : (i k : ℕ) → slice_get verdicts i ≡ Some (Ready k) → HasPairsAtRest (first_records number end.live.heap.log) new.live.ready k
   ready_is i k at =
-      let spec : KeySpecValue = switch.build.spec in
-      let index : ReadyValue = record { spec = spec; pairs = pairs_at_rest spec s.heap.log } in
-      let last : length s.ready ≡ k = only_verdict s i k (ap (λ vs. slice_get vs i) (sym switch.verdicts_are) ∙ at) in
-      let kept : pairs_at_rest spec new.heap.log ≡ pairs_at_rest spec s.heap.log =
-      ap (pairs_at_rest spec) log_is
-      ∙ pairs_kept spec s.heap.log (s.heap.log ++ logged.Switch (verdicts_on s) ∷ []) (λ rid. live_kept s.heap.log (logged.Switch (verdicts_on s)) rid refl) in
+      let log : List LogRec = s.live.heap.log in
+      let which = ready_at (length s.live.ready) (length switch.build.specs) i k (ap (λ vs. slice_get vs i) (sym switch.verdicts_are) ∙ at) in
+      let index = index_at log switch.build.specs i which.0 in
+      let kept : pairs_at_rest index.0 new.live.heap.log ≡ pairs_at_rest index.0 log =
+      ap (pairs_at_rest index.0) log_is ∙ pairs_kept index.0 log (log ++ noted ∷ []) (λ rid. live_kept log noted rid refl) in
       record {
-        index = index;
-        there = ap (λ (t : CoreState). slice_get t.ready k) switch.new_is ∙ ap (slice_get (s.ready ++ index ∷ [])) (sym last) ∙ slice_get-append_seam s.ready index;
-        at_rest = sym kept ∙ ap (pairs_at_rest spec) beginning_is;
+        index = index_now log index.0;
+        there = ap (λ (live : LiveState). slice_get live.ready k) switch.new_is
+            ∙ ap (slice_get (s.live.ready ++ map (index_now log) switch.build.specs)) which.1
+            ∙ behind s.live.ready (map (index_now log) switch.build.specs) i ∙ index.1;
+        at_rest = sym kept ∙ ap (pairs_at_rest index.0) beginning_is;
       }
 
 -- the headline, of every run

@@ -1,39 +1,105 @@
--- What a table, its ready indexes and the running build keep between events.
-use Rattle.std.specs.Prelude.{◌≡◌, ℕ, ◌+◌, ◌≤◌, true, false, List, length, Option, Some, None}
-use Rattle.std.specs.List.{slice_get}
+-- What a table and the workers of its build keep between events, and how the two go together.
+use Rattle.std.specs.Prelude.{◌≡◌, ℕ, ◌+◌, ◌≤◌, List, [], ◌∷◌, ◌++◌, length, take, drop, filter, flat_map, is_some, nat_lt, ◌==◌, true, Option, Some, None}
+use Rattle.std.specs.FinMap.{keys}
+use Rattle.keybytes.specs.Keys.{KeySpecValue}
+use Rattle.keybytes.specs.Pairs.{set_of}
+use Rattle.keybytes.specs.declared.fault.Fault.{Fault}
 use Rattle.keybytes.specs.declared.kind.Kind.{Kind}
+use Rattle.keybytes.specs.declared.pair.Pair.{Pair}
 use Rattle.heap_log.specs.declared.record.LogRec.{LogRec}
-use Rattle.heap_table.specs.Images.{ImageValue, IsImage}
-use Rattle.heap_table.specs.Pages.{pages_written}
-use Rattle.heap_table.specs.TablePairs.{pairs_at_rest, pairs_from}
-use Rattle.builder_core.specs.CoreState.{BuildValue, scanned_pages}
+use Rattle.heap_table.specs.Images.{ImageValue}
+use Rattle.builder_core.specs.CoreState.{BuildState, LiveState, WorkerState, IndexState, WorkState, CoreState, scanning_of, idle}
+use Rattle.builder_core.specs.ImagePairs.{HavePairs}
+use Rattle.builder_core.specs.Scanning.{Scanning, IsScanned, AreCopies, scanned_at, pairs_at_scan, scanned_pairs}
+use Rattle.builder_core.specs.SideEntries.{side_entries}
+use Rattle.builder_core.specs.declared.scan.Scan.{Scan}
 
--- copies of pages that follow one another, from that page on
-pub record AreImages (kinds : List Kind) (log : List LogRec) (first : ℕ) (images : List ImageValue) : Type 0 where
-  pub each : (i : ℕ) (image : ImageValue) → slice_get images i ≡ Some image → IsImage kinds log (first + i) image
+-- a worker: the copies that wait for it, the pairs of those that it took, and how many these were
+pub record WorkerValue : Type 0 where
+  pub ring : List ImageValue
+  pub pairs : List Pair
+  pub taken : ℕ
 
--- the work of a build that isn't spoiled
-pub record IsAtWork (kinds : List Kind) (log : List LogRec) (b : BuildValue) : Type 0 where
-  -- the copies that wait are of the pages behind those whose pairs are made
-  pub copies : AreImages kinds log b.sealed b.ring
-  pub made : b.loaded ≡ false → b.pairs ≡ pairs_from b.spec log 0 b.sealed
-  pub in_order : b.loaded ≡ true → b.pairs ≡ pairs_at_rest b.spec log
-  pub done : b.loaded ≡ true → b.sealed ≡ b.pages
+-- the work of a build of one index by one worker
+pub record WorkValue : Type 0 where
+  pub spec : KeySpecValue
+  pub worker : WorkerValue
+  -- the index's pairs, once they are in order
+  pub tree : Option (List Pair)
+  pub spoiled : Option Fault
 
--- a build reads all pages of the table, whose columns are those of its index
-pub record IsBuilding (kinds : List Kind) (log : List LogRec) (b : BuildValue) : Type 0 where
-  pub columns : b.spec.kinds ≡ kinds
-  pub pages : b.pages ≡ pages_written log
-  pub limit : b.pages ≤ 65536
-  pub within : scanned_pages b ≤ b.pages
-  pub few : length b.ring ≤ 4
-  pub work : b.spoiled ≡ None → IsAtWork kinds log b
+-- a worker seals whatever it took
+abbrev pub worker_state : WorkerValue → WorkerState
+worker_state worker = record { taken = worker.taken; sealed = worker.taken }
+
+abbrev pub index_state : Option (List Pair) → IndexState
+index_state tree = record { loaded = is_some tree; fed = 0; applied = 0 }
+
+-- what callers see of the work
+abbrev pub work_state : Option WorkValue → WorkState
+work_state None = idle
+work_state (Some work) = record { workers = worker_state work.worker ∷ []; indexes = index_state work.tree ∷ []; spoiled = work.spoiled }
+
+-- what callers see of a table and the work of its build
+abbrev pub core_state : LiveState → Option WorkValue → CoreState
+core_state live work = record { live = live; work = work_state work }
+
+-- a worker with one copy more
+abbrev pub after_put : WorkerValue → ImageValue → WorkerValue
+after_put worker image = record worker { ring = worker.ring ++ image ∷ [] }
+
+-- a worker took all copies, and has their pairs
+pub record HasSealed (spec : KeySpecValue) (old new : WorkerValue) : Type 0 where
+  pub ring : new.ring ≡ []
+  pub taken : new.taken ≡ old.taken + length old.ring
+  pub pairs : (made : List Pair) → HavePairs spec old.ring made → new.pairs ≡ old.pairs ++ made
+
+-- one worker copies the pages of one range in their order
+pub record ScansInTurn (pages : ℕ) (scans : List Scan) : Type 0 where
+  pub limit : pages ≤ 65536
+  pub within : length scans ≤ pages
+  pub in_turn : (page : ℕ) → is_some (scanned_at scans page) ≡ nat_lt page (length scans)
+  pub alone : filter (λ scan. scan.worker == 0) scans ≡ scans
+
+-- a build of one index over one range, on the table with that log; nothing that it can see was changed since it started
+pub record IsBuildOf (kinds : List Kind) (log : List LogRec) (b : BuildState) : Type 0 where
+  pub spec : KeySpecValue
+  pub one_index : b.specs ≡ spec ∷ []
+  pub one_range : b.ends ≡ b.pages ∷ []
+  pub columns : spec.kinds ≡ kinds
+  pub in_turn : ScansInTurn b.pages b.scans
+  pub scanned : IsScanned (scanning_of b spec) log
+  pub no_entries : side_entries (scanning_of b spec) log ≡ []
 
 -- the running build, if any, is one of that table
-abbrev pub BuildFollows : List Kind → List LogRec → Option BuildValue → Type 0
+abbrev pub BuildFollows : List Kind → List LogRec → Option BuildState → Type 0
 BuildFollows kinds log None = Unit {0}
-BuildFollows kinds log (Some b) = IsBuilding kinds log b
+BuildFollows kinds log (Some b) = IsBuildOf kinds log b
 
--- a build of some table
-abbrev pub IsOfSomeTable : BuildValue → Type 0
-IsOfSomeTable b = (kinds : List Kind) × (log : List LogRec) × IsBuilding kinds log b
+-- the work of a build that isn't spoiled: the pairs of the first scans are made, and the copies of the others wait
+pub record IsSound (kinds : List Kind) (log : List LogRec) (b : BuildState) (work : WorkValue) : Type 0 where
+  pub copies : AreCopies kinds log (drop work.worker.taken b.scans) work.worker.ring
+  pub made : work.tree ≡ None → work.worker.pairs ≡ flat_map (pairs_at_scan (scanning_of b work.spec) log) (take work.worker.taken b.scans)
+  -- in order they are the index's
+  pub loaded : (pairs : List Pair) → work.tree ≡ Some pairs → pairs ≡ keys (set_of (scanned_pairs (scanning_of b work.spec) log))
+
+-- it is the work of that build
+pub record IsWorkOn (kinds : List Kind) (log : List LogRec) (b : BuildState) (work : WorkValue) : Type 0 where
+  pub specs : b.specs ≡ work.spec ∷ []
+  pub columns : work.spec.kinds ≡ kinds
+  -- each scan's copy was taken or waits
+  pub put : work.worker.taken + length work.worker.ring ≡ length b.scans
+  pub few : length work.worker.ring ≤ 4
+  pub all : is_some work.tree ≡ true → work.worker.taken ≡ b.pages
+  pub sound : work.spoiled ≡ None → IsSound kinds log b work
+
+-- there is work exactly where a build runs, and it is that build's
+abbrev pub IsWorkOf : List Kind → List LogRec → Option BuildState → Option WorkValue → Type 0
+IsWorkOf kinds log None None = Unit {0}
+IsWorkOf kinds log None (Some work) = ⊥
+IsWorkOf kinds log (Some b) None = ⊥
+IsWorkOf kinds log (Some b) (Some work) = IsWorkOn kinds log b work
+
+-- the same of a table
+abbrev pub WorksOn : LiveState → Option WorkValue → Type 0
+WorksOn live work = IsWorkOf live.heap.schema live.heap.log live.build work

@@ -1,15 +1,16 @@
--- A table, its ready indexes and the build that runs, as callers see them.
-use Rattle.std.specs.Prelude.{◌≡◌, ℕ, zero, suc, ◌+◌, Bool, List, length, Option, None}
+-- A table, its ready indexes and the build that runs, as callers see them, in two halves: what a lock has to keep, and what the
+-- workers of the build do beside it.
+use Rattle.std.specs.Prelude.{◌≡◌, ℕ, zero, suc, Bool, List, [], Option, None}
 use Rattle.std.specs.List.{All}
-use Rattle.std.specs.Option.{option_map}
 use Rattle.keybytes.specs.Keys.{KeySpecValue}
 use Rattle.keybytes.specs.Pairs.{HaveKeysOf, AreInColumnOrder}
 use Rattle.keybytes.specs.declared.fault.Fault.{Fault}
+use Rattle.keybytes.specs.declared.pair.Pair.{Pair}
 use Rattle.heap_log.specs.declared.record.LogRec.{LogRec}
 use Rattle.heap_table.specs.HeapState.{HeapState, after_visit}
-use Rattle.heap_table.specs.Images.{ImageValue}
-use Rattle.keybytes.specs.declared.pair.Pair.{Pair}
 use Rattle.heap_table.specs.TablePairs.{pairs_at_rest}
+use Rattle.builder_core.specs.Scanning.{Scanning}
+use Rattle.builder_core.specs.declared.scan.Scan.{Scan}
 
 -- an index that is ready: what makes its keys, and its pairs in order
 pub record ReadyValue : Type 0 where
@@ -21,67 +22,74 @@ pub record IsIndex (spec : KeySpecValue) (pairs : List Pair) : Type 0 where
   pub keys : HaveKeysOf spec pairs
   pub order : AreInColumnOrder spec pairs
 
--- a table with its ready indexes
-pub record LiveValue : Type 0 where
-  pub heap : HeapState
-  pub ready : List ReadyValue
-
--- a running build
+-- a running build as the table knows it
 pub record BuildState : Type 0 where
-  pub spec : KeySpecValue
-  -- the number of pages that it reads
+  -- its number, from 1
+  pub number : ℕ
+  -- what makes the keys of its indexes
+  pub specs : List KeySpecValue
+  -- how many records the log had when it started, and how many pages the table
+  pub opened : ℕ
   pub pages : ℕ
-  -- the number of pages that are copied
-  pub scanned : ℕ
-  -- the number of copies that wait for the worker
-  pub waiting : ℕ
-  -- whether the pairs are in order
-  pub loaded : Bool
-  -- why the build can't go on
-  pub spoiled : Option Fault
+  -- the page behind each of its ranges
+  pub ends : List ℕ
+  -- the pages that were copied since, in that order
+  pub scans : List Scan
 
--- a table, its ready indexes and the running build, if any
-pub record CoreState : Type 0 where
+-- what a build has read of the table, for one of its indexes
+abbrev pub scanning_of : BuildState → KeySpecValue → Scanning
+scanning_of b spec = record { spec = spec; opened = b.opened; pages = b.pages; scans = b.scans }
+
+-- a table with its ready indexes, the number of builds that ever started, and the one that runs
+pub record LiveState : Type 0 where
   pub heap : HeapState
   pub ready : List ReadyValue
+  pub builds : ℕ
   pub build : Option BuildState
 
--- a running build with its work
-pub record BuildValue : Type 0 where
-  pub spec : KeySpecValue
-  pub pages : ℕ
-  -- the number of pages whose pairs are made
+-- a worker: how many of the copies that were put to it it took, and how many these were when it last sealed
+pub record WorkerState : Type 0 where
+  pub taken : ℕ
   pub sealed : ℕ
-  -- the copies that wait
-  pub ring : List ImageValue
-  -- the pairs that are made
-  pub pairs : List Pair
+
+-- an index of the build: whether its pairs are in order, how many entries of its side-file were fed to it since, and how
+-- many of them it applied. No row changes during a build as yet, so there is no entry and both are 0
+pub record IndexState : Type 0 where
   pub loaded : Bool
+  pub fed : ℕ
+  pub applied : ℕ
+
+-- what the workers of a build have done, and why it can't go on
+pub record WorkState : Type 0 where
+  pub workers : List WorkerState
+  pub indexes : List IndexState
   pub spoiled : Option Fault
 
--- the number of pages that are copied
-abbrev pub scanned_pages : BuildValue → ℕ
-scanned_pages b = b.sealed + length b.ring
+-- no build is at work
+abbrev pub idle : WorkState
+idle = record { workers = []; indexes = []; spoiled = None }
 
--- what callers see of a running build
-abbrev pub build_state : BuildValue → BuildState
-build_state b = record { spec = b.spec; pages = b.pages; scanned = scanned_pages b; waiting = length b.ring; loaded = b.loaded; spoiled = b.spoiled }
-
--- what callers see of a table and its build
-abbrev pub core_state : LiveValue → Option BuildValue → CoreState
-core_state live build = record { heap = live.heap; ready = live.ready; build = option_map build_state build }
+pub record CoreState : Type 0 where
+  pub live : LiveState
+  pub work : WorkState
 
 -- the same with that table
-abbrev pub live_with_heap : LiveValue → HeapState → LiveValue
+abbrev pub live_with_heap : LiveState → HeapState → LiveState
 live_with_heap live heap = record live { heap = heap }
 
--- nothing runs yet
-abbrev pub opening : LiveValue → CoreState
-opening live = record { heap = live.heap; ready = live.ready; build = None }
+abbrev pub with_live : CoreState → LiveState → CoreState
+with_live s live = record s { live = live }
 
--- the table and its ready indexes; a running build is given up
-abbrev pub live_of : CoreState → LiveValue
-live_of s = record { heap = s.heap; ready = s.ready }
+abbrev pub with_heap : CoreState → HeapState → CoreState
+with_heap s heap = with_live s (live_with_heap s.live heap)
+
+-- the table once its build is given up
+abbrev pub abandoned : LiveState → LiveState
+abandoned live = record live { build = None }
+
+-- nothing runs
+abbrev pub opening : LiveState → CoreState
+opening live = record { live = abandoned live; work = idle }
 
 -- the table once rows were given out that many times more
 abbrev pub after_visits : HeapState → ℕ → HeapState
@@ -93,5 +101,5 @@ abbrev pub FollowTable : List LogRec → List ReadyValue → Type 0
 FollowTable log ready = All (λ index. index.pairs ≡ pairs_at_rest index.spec log) ready
 
 -- the ready indexes follow the table
-abbrev pub ReadyFollowTable : CoreState → Type 0
-ReadyFollowTable s = FollowTable s.heap.log s.ready
+abbrev pub ReadyFollowTable : LiveState → Type 0
+ReadyFollowTable live = FollowTable live.heap.log live.ready

@@ -9,7 +9,7 @@ use Rattle.heap_table.specs.TablePairs.{pairs_at_rest}
 use Rattle.builder_core.specs.declared.event.Event.{Event}
 use Rattle.builder_core.specs.declared.reply.Reply.{Reply}
 use Rattle.builder_core.specs.declared.reply.Reply.TheVariants.{Switched}
-use Rattle.builder_core.specs.CoreState.{CoreState, LiveValue, ReadyValue, opening, live_of}
+use Rattle.builder_core.specs.CoreState.{CoreState, LiveState, ReadyValue, opening, abandoned}
 use Rattle.builder_core.specs.Steps.{Run}
 
 -- an index that a switch made ready under that number has the pairs at rest of the rows of that log
@@ -26,9 +26,9 @@ pub record SwitchesIn (start end : CoreState) (events : List Event) (replies : L
   pub before : Run start (take (suc place) events) (take (suc place) replies) left
   pub after : Run left (drop (suc place) events) (drop (suc place) replies) end
   -- its log is the beginning of the final one that ends with the switch
-  pub beginning : left.heap.log ≡ first_records number end.heap.log
+  pub beginning : left.live.heap.log ≡ first_records number end.live.heap.log
   -- and each index that it made ready has the pairs of the rows that this beginning leaves
-  pub ready : (i k : ℕ) → slice_get verdicts i ≡ Some (Ready k) → HasPairsAtRest (first_records number end.heap.log) left.ready k
+  pub ready : (i k : ℕ) → slice_get verdicts i ≡ Some (Ready k) → HasPairsAtRest (first_records number end.live.heap.log) left.live.ready k
 
 -- so does every switch of the run that decided
 abbrev pub EachSwitchIsAtRest : CoreState → CoreState → List Event → List Reply → Type 0
@@ -38,8 +38,8 @@ EachSwitchIsAtRest start end events replies =
 
 -- what a list of events comes to on a table: a run of the step relation, in which each index as it is switched in has the pairs
 -- that a build at rest gives of the rows then live
-pub record RunsAsAtRest (live : LiveValue) (events : List Event) (replies : List Reply) (left : LiveValue) : Type 0 where
+pub record RunsAsAtRest (live : LiveState) (events : List Event) (replies : List Reply) (left : LiveState) : Type 0 where
   pub end : CoreState
   pub run : Run (opening live) events replies end
-  pub left_is : left ≡ live_of end
+  pub left_is : left ≡ abandoned end.live
   pub switches : EachSwitchIsAtRest (opening live) end events replies

@@ -1,4 +1,9 @@
 pub mod Builds
 pub mod CoreState
 pub mod Headline
+pub mod ImagePairs
+pub mod Ranges
+pub mod Scanning
+pub mod SideEntries
 pub mod Steps
+pub mod Workers

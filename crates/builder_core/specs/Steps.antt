@@ -1,9 +1,10 @@
 -- What each event does and why it is refused; one step, and a run of events.
-use Rattle.std.specs.Prelude.{◌≡◌, ℕ, ◌+◌, Bool, true, false, ◌&&◌, ◌||◌, not, ◌==◌, nat_lt, nat_le, if◌then◌else◌, List, [], ◌∷◌, ◌++◌, ◌⊎◌, length, is_some, Option, Some, None, Result, Ok, Err}
+use Rattle.std.specs.Prelude.{◌≡◌, ℕ, ◌+◌, Bool, true, false, ◌&&◌, ◌||◌, not, ◌==◌, nat_lt, nat_le, if◌then◌else◌, is_some, is_none, List, [], ◌∷◌, ◌++◌, ◌⊎◌, length, map, replicate, get_or, set, Option, Some, None, Result}
+use Rattle.std.specs.List.{list_any, list_all, range_with_len, slice_get}
+use Rattle.std.specs.Option.{option_map}
+use Rattle.keybytes.specs.Answered.{Refused as RefusedBy, AnsweredInWant}
 use Rattle.keybytes.specs.Faults.{first_cause}
-use Rattle.keybytes.specs.Rows.{row_bytes}
 use Rattle.keybytes.specs.Keys.{KeySpecValue}
-use Rattle.keybytes.specs.declared.cell.Cell.{Cell}
 use Rattle.keybytes.specs.declared.kind.Kind.{Kind}
 use Rattle.keybytes.specs.declared.kind.Kind.TheVariants.{Int, Text, Flag}
 use Rattle.keybytes.specs.declared.rid.Rid.{Rid}
@@ -11,9 +12,11 @@ use Rattle.keybytes.specs.declared.fault.Fault.{Fault}
 use Rattle.keybytes.specs.declared.fault.Fault.TheVariants.{BuildRunning, NoBuild, BadCount, BadColumn, BadRanges, RangeDone, RingFull, NotScanned, NotSealed, NotLoaded, Memory}
 use Rattle.heap_log.specs.declared.outcome.Outcome.{Outcome}
 use Rattle.heap_log.specs.declared.outcome.Outcome.TheVariants.{Ready}
-use Rattle.heap_log.specs.Standing.{newest_standing, standing_count}
-use Rattle.heap_table.specs.HeapState.{HeapState, begin_refusal, txn_refusal, insert_refusal, insert_place, update_refusal, delete_refusal, undo_refusal, undone_number, after_begin, after_write, after_step, after_commit, after_switch, after_visit}
-use Rattle.heap_table.specs.Pages.{rid_at, pages_written}
+use Rattle.heap_log.specs.declared.record.LogRec.{LogRec}
+use Rattle.heap_table.specs.Calls.{Begins, Inserts, Updates, Deletes, Undoes, Commits}
+use Rattle.heap_table.specs.HeapState.{HeapState, begin_refusal, txn_refusal, insert_refusal, update_refusal, delete_refusal, undo_refusal, after_switch, after_visit}
+use Rattle.heap_table.specs.Pages.{pages_written}
+use Rattle.heap_table.specs.TablePairs.{pairs_at_rest}
 use Rattle.builder_core.specs.declared.dealing.Dealing.{Dealing}
 use Rattle.builder_core.specs.declared.dealing.Dealing.TheVariants.{Ends, Even}
 use Rattle.builder_core.specs.declared.plan.Plan.{Plan}
@@ -21,52 +24,34 @@ use Rattle.builder_core.specs.declared.event.Event.{Event}
 use Rattle.builder_core.specs.declared.event.Event.TheVariants.{Begin, Insert, Update, Delete, Undo, Commit, Start, Scan, Seal, Load, Switch}
 use Rattle.builder_core.specs.declared.reply.Reply.{Reply}
 use Rattle.builder_core.specs.declared.reply.Reply.TheVariants.{Begun, Written, Undone, Committed, Started, Scanned, Sealed, Loaded, Switched, Refused}
-use Rattle.heap_table.specs.TablePairs.{pairs_at_rest}
-use Rattle.builder_core.specs.CoreState.{ReadyValue, BuildState, CoreState}
+use Rattle.builder_core.specs.CoreState.{ReadyValue, BuildState, LiveState, IndexState, WorkState, CoreState, scanning_of, live_with_heap, with_live, idle}
+use Rattle.builder_core.specs.Ranges.{dealt_ends, next_page, open_range}
+use Rattle.builder_core.specs.Scanning.{scanned_pairs}
+use Rattle.builder_core.specs.Workers.{put_to, waiting, loud_worker, unloaded_index}
 
 -- the cause where the test holds
 abbrev pub cause_if : Bool → Fault → Option Fault
 cause_if test fault = if test then Some fault else None
 
--- why the running build refuses an event; that there is none is a reason too
-abbrev pub refusal_of : Option BuildState → (BuildState → Option Fault) → Option Fault
-refusal_of None cause = Some NoBuild
-refusal_of (Some b) cause = cause b
+-- Writes, undos and commits.
 
--- what holds of the running build; nothing does where none runs
-abbrev pub OnBuild : Option BuildState → (BuildState → Type 0) → Type 0
-OnBuild None P = ⊥
-OnBuild (Some b) P = P b
+-- a call of the table within it
+abbrev pub OnHeap : {R : Type 0} → (HeapState → R → HeapState → Type 0) → LiveState → R → LiveState → Type 0
+OnHeap Does live answer new = Does live.heap answer new.heap × (new ≡ live_with_heap live new.heap)
 
--- the same with that table
-abbrev pub with_heap : CoreState → HeapState → CoreState
-with_heap s heap = record s { heap = heap }
+-- a step of the table and its indexes beside which the workers do nothing
+abbrev pub OnLive : {R : Type 0} → (LiveState → R → LiveState → Type 0) → CoreState → R → CoreState → Type 0
+OnLive Does s answer new = Does s.live answer new.live × (new ≡ with_live s new.live)
 
 -- whether a build runs or an index is ready
-abbrev pub is_indexed : CoreState → Bool
-is_indexed s = is_some s.build || nat_lt 0 (length s.ready)
+abbrev pub is_indexed : LiveState → Bool
+is_indexed live = is_some live.build || nat_lt 0 (length live.ready)
 
--- a row is changed only while no build runs and no index is ready
-abbrev pub unless_indexed : CoreState → Option Fault → Option Fault
-unless_indexed s cause = first_cause (cause_if (is_indexed s) BuildRunning) cause
+-- a row is changed only while no build runs and no index is ready, as yet
+abbrev pub unless_indexed : LiveState → Option Fault → Option Fault
+unless_indexed live cause = first_cause (cause_if (is_indexed live) BuildRunning) cause
 
--- the RID, if there is one
-abbrev pub rid_or_first : Option Rid → Rid
-rid_or_first None = rid_at 0 0
-rid_or_first (Some rid) = rid
-
--- where an insert puts the row
-abbrev pub row_place : CoreState → List Cell → Rid
-row_place s row = rid_or_first (insert_place s.heap (length (row_bytes row)))
-
--- the transaction's newest standing write is undone; one without a write just ends
-abbrev pub after_newest : HeapState → ℕ → HeapState
-after_newest heap txn = after_step heap txn (newest_standing heap.log txn)
-
--- what that undo tells: its record, if there is one, and how many writes of the transaction still stand
-abbrev pub undone_reply : HeapState → ℕ → Reply
-undone_reply heap txn =
-    Undone (undone_number heap (newest_standing heap.log txn)) (standing_count (after_newest heap txn).log txn)
+-- Start.
 
 -- whether two columns are of one kind
 abbrev pub same_kind : Kind → Kind → Bool
@@ -87,12 +72,6 @@ same_kinds [] (b ∷ bs) = false
 same_kinds (a ∷ rest) [] = false
 same_kinds (a ∷ rest) (b ∷ bs) = same_kind a b && same_kinds rest bs
 
--- the specification of a plan with one
-abbrev pub only_spec : List KeySpecValue → Option KeySpecValue
-only_spec [] = None
-only_spec (spec ∷ []) = Some spec
-only_spec (spec ∷ other ∷ specs) = None
-
 -- whether these are the ends of one range over all pages
 abbrev pub is_one_end : ℕ → List ℕ → Bool
 is_one_end pages [] = false
@@ -104,155 +83,219 @@ abbrev pub is_one_range : ℕ → Dealing → Bool
 is_one_range pages (Ends ends) = is_one_end pages ends.items
 is_one_range pages (Even ranges) = ranges == 1
 
--- one worker, an index that isn't unique, and room for one more index
-abbrev pub counts_fit : CoreState → Plan → KeySpecValue → Bool
-counts_fit s plan spec = (plan.workers == 1) && not spec.unique && nat_lt (length s.ready) 32
+-- one worker, one index that isn't unique, room for it among the ready ones, and a number for the build
+abbrev pub counts_fit : LiveState → Plan → Bool
+counts_fit live plan =
+    (plan.workers == 1) && (length plan.specs.items == 1) && not (list_any (λ spec. spec.unique) plan.specs.items)
+    && nat_lt (length live.ready) 32 && nat_lt live.builds 18446744073709551615
 
--- why a plan with that specification starts no build
-abbrev pub start_refusal : CoreState → Plan → KeySpecValue → Option Fault
-start_refusal s plan spec =
-    first_cause (cause_if (not (counts_fit s plan spec)) BadCount)
-    (first_cause (cause_if (not (same_kinds spec.kinds s.heap.schema)) BadColumn)
-    (cause_if (not (is_one_range (pages_written s.heap.log) plan.dealing)) BadRanges))
+-- why a plan starts no build
+abbrev pub start_refusal : LiveState → Plan → Option Fault
+start_refusal live plan =
+    first_cause (cause_if (is_some live.build) BuildRunning)
+    (first_cause (cause_if (not (counts_fit live plan)) BadCount)
+    (first_cause (cause_if (not (list_all (λ spec. same_kinds spec.kinds live.heap.schema) plan.specs.items)) BadColumn)
+    (cause_if (not (is_one_range (pages_written live.heap.log) plan.dealing)) BadRanges)))
 
--- a build has begun
-abbrev pub after_start : CoreState → KeySpecValue → CoreState
-after_start s spec = record s { build = Some (record { spec = spec; pages = pages_written s.heap.log; scanned = 0; waiting = 0; loaded = false; spoiled = None }) }
+-- the build that a plan starts
+abbrev pub started : LiveState → Plan → BuildState
+started live plan = record {
+  number = live.builds + 1;
+  specs = plan.specs.items;
+  opened = length live.heap.log;
+  pages = pages_written live.heap.log;
+  ends = dealt_ends (pages_written live.heap.log) plan.dealing;
+  scans = [];
+}
 
--- why a plan with that one specification, if any, starts no build
-abbrev pub plan_refusal : CoreState → Plan → Option KeySpecValue → Option Fault
-plan_refusal s plan None = Some BadCount
-plan_refusal s plan (Some spec) = start_refusal s plan spec
+-- its workers and indexes, before any work
+abbrev pub fresh_work : Plan → WorkState
+fresh_work plan = record {
+  workers = replicate plan.workers (record { taken = 0; sealed = 0 });
+  indexes = map (λ spec. record { loaded = false; fed = 0; applied = 0 }) plan.specs.items;
+  spoiled = None;
+}
 
--- a build of that one specification has begun
-abbrev pub StartsBy : CoreState → Option KeySpecValue → CoreState → Type 0
-StartsBy s None new = ⊥
-StartsBy s (Some spec) new = new ≡ after_start s spec
+-- a build starts; answered with the number of pages that it reads
+abbrev pub Starts : Plan → CoreState → ℕ → CoreState → Type 0
+Starts plan s pages new =
+    (pages ≡ pages_written s.live.heap.log)
+    × (new ≡ record {
+      live = record s.live { builds = s.live.builds + 1; build = Some (started s.live plan) };
+      work = fresh_work plan;
+    })
 
--- why a build copies no further page
-abbrev pub ring_refusal : BuildState → Option Fault
-ring_refusal b =
-    first_cause b.spoiled
-    (first_cause (cause_if (nat_le b.pages b.scanned) RangeDone) (cause_if (nat_le 4 b.waiting) RingFull))
+-- Scan, Seal, Load and Switch.
 
--- why no page is copied
-abbrev pub scan_refusal : BuildState → ℕ → ℕ → Option Fault
-scan_refusal b range worker = first_cause (cause_if (nat_lt 0 range || nat_lt 0 worker) BadCount) (ring_refusal b)
+-- why the running build refuses an event; that none runs is a reason too
+abbrev pub refusal_of : Option BuildState → (BuildState → Option Fault) → Option Fault
+refusal_of None cause = Some NoBuild
+refusal_of (Some b) cause = cause b
 
--- one page more is copied, and waits
-abbrev pub after_scan : CoreState → BuildState → CoreState
-after_scan s b = record s { heap = after_visit s.heap; build = Some (record b { scanned = b.scanned + 1; waiting = b.waiting + 1 }) }
+-- what holds of the running build; nothing does where none runs
+abbrev pub OnBuild : Option BuildState → (BuildState → Type 0) → Type 0
+OnBuild None P = ⊥
+OnBuild (Some b) P = P b
+
+-- why the range gives no further page
+abbrev pub range_refusal : Option ℕ → Option Fault
+range_refusal page = if is_none page then Some RangeDone else None
+
+-- why no page of the range is copied for the worker
+abbrev pub scan_refusal : BuildState → WorkState → ℕ → ℕ → Option Fault
+scan_refusal b work range worker =
+    first_cause (cause_if (nat_le (length b.ends) range || nat_le (length work.workers) worker) BadCount)
+    (first_cause work.spoiled
+    (first_cause (range_refusal (next_page b range)) (cause_if (nat_le 4 (waiting b work worker)) RingFull)))
+
+-- one page more is copied, by that worker
+abbrev pub after_scan : LiveState → BuildState → ℕ → ℕ → LiveState
+after_scan live b worker page = record live {
+  heap = after_visit live.heap;
+  build = Some (record b { scans = b.scans ++ record { worker = worker; page = page; records = length live.heap.log } ∷ [] });
+}
+
+-- the lowest page of the range that is left is copied for the worker; answered with its number
+abbrev pub Scans : ℕ → ℕ → CoreState → ℕ → CoreState → Type 0
+Scans range worker s page new =
+    OnBuild s.live.build (λ b. (next_page b range ≡ Some page) × (new ≡ with_live s (after_scan s.live b worker page)))
 
 -- why a worker makes no pairs
-abbrev pub seal_refusal : BuildState → ℕ → Option Fault
-seal_refusal b worker = first_cause (cause_if (nat_lt 0 worker) BadCount) b.spoiled
+abbrev pub seal_refusal : WorkState → ℕ → Option Fault
+seal_refusal work worker = first_cause (cause_if (nat_le (length work.workers) worker) BadCount) work.spoiled
 
--- no copy waits
-abbrev pub after_seal : CoreState → BuildState → CoreState
-after_seal s b = record s { build = Some (record b { waiting = 0 }) }
+-- the worker took all that was put to it, and sealed
+abbrev pub after_seal : BuildState → WorkState → ℕ → WorkState
+after_seal b work worker =
+    let put = length (put_to b worker) in record work { workers = set work.workers worker (record { taken = put; sealed = put }) }
 
--- why a build can't put its pairs in order
-abbrev pub order_refusal : BuildState → Option Fault
-order_refusal b =
-    first_cause b.spoiled
-    (first_cause (cause_if (nat_lt b.scanned b.pages) (NotScanned 0)) (cause_if (nat_lt 0 b.waiting) (NotSealed 0)))
+-- answered with the number of copies that it took
+abbrev pub Seals : ℕ → CoreState → ℕ → CoreState → Type 0
+Seals worker s images new =
+    OnBuild s.live.build (λ b. (images ≡ waiting b s.work worker) × (new ≡ record s { work = after_seal b s.work worker }))
 
 -- why no pairs are put in order
-abbrev pub load_refusal : BuildState → ℕ → Option Fault
-load_refusal b index = first_cause (cause_if (nat_lt 0 index) BadCount) (order_refusal b)
+abbrev pub load_refusal : BuildState → CoreState → ℕ → Option Fault
+load_refusal b s index =
+    first_cause (cause_if (nat_le (length s.work.indexes) index) BadCount)
+    (first_cause s.work.spoiled
+    (first_cause (option_map NotScanned (open_range b)) (option_map NotSealed (loud_worker b s.live.heap.log s.work))))
 
--- the pairs are in order
-abbrev pub after_load : CoreState → BuildState → CoreState
-after_load s b = record s { build = Some (record b { loaded = true }) }
+abbrev pub index_at : WorkState → ℕ → IndexState
+index_at work index = get_or work.indexes index (record { loaded = false; fed = 0; applied = 0 })
 
--- how many pairs a load puts in order; none where they are in order already
-abbrev pub pairs_loaded : CoreState → BuildState → ℕ
-pairs_loaded s b = if b.loaded then 0 else length (pairs_at_rest b.spec s.heap.log)
+-- how many pairs of that specification the copied pages had
+abbrev pub pairs_copied : BuildState → List LogRec → Option KeySpecValue → ℕ
+pairs_copied b log None = 0
+pairs_copied b log (Some spec) = length (scanned_pairs (scanning_of b spec) log)
 
--- why the index does not become ready
-abbrev pub switch_refusal : BuildState → Option Fault
-switch_refusal b =
-    first_cause b.spoiled
-    (first_cause (cause_if (nat_lt b.scanned b.pages) (NotScanned 0)) (cause_if (not b.loaded) (NotLoaded 0)))
+-- the index's pairs are in order
+abbrev pub after_load : WorkState → ℕ → WorkState
+after_load work index = record work { indexes = set work.indexes index (record (index_at work index) { loaded = true }) }
 
--- the verdict that an index is ready under the next number
-abbrev pub verdicts_on : CoreState → List Outcome
-verdicts_on s = Ready (length s.ready) ∷ []
+-- answered with the number of pairs; 0 where they were in order already
+abbrev pub Loads : ℕ → CoreState → ℕ → CoreState → Type 0
+Loads index s pairs new =
+    OnBuild s.live.build (λ b.
+    (pairs ≡ (if (index_at s.work index).loaded then 0 else pairs_copied b s.live.heap.log (slice_get b.specs index)))
+    × (new ≡ record s { work = after_load s.work index }))
 
--- the index of the build, with the pairs of the rows that stand
-abbrev pub ready_index : CoreState → BuildState → ReadyValue
-ready_index s b = record { spec = b.spec; pairs = pairs_at_rest b.spec s.heap.log }
+-- why the indexes do not become ready
+abbrev pub switch_refusal : BuildState → WorkState → Option Fault
+switch_refusal b work =
+    first_cause work.spoiled
+    (first_cause (option_map NotScanned (open_range b)) (option_map NotLoaded (unloaded_index work)))
 
--- the index is ready, and no build runs
-abbrev pub after_switch_in : CoreState → BuildState → CoreState
-after_switch_in s b = record { heap = after_switch s.heap (verdicts_on s); ready = s.ready ++ ready_index s b ∷ []; build = None }
+-- the verdicts that so many indexes are ready, numbered from that number on
+abbrev pub ready_from : ℕ → ℕ → List Outcome
+ready_from number count = map Ready (range_with_len number count)
+
+abbrev pub verdicts_on : LiveState → BuildState → List Outcome
+verdicts_on live b = ready_from (length live.ready) (length b.specs)
+
+-- an index with the pairs of the rows that stand
+abbrev pub index_now : List LogRec → KeySpecValue → ReadyValue
+index_now log spec = record { spec = spec; pairs = pairs_at_rest spec log }
+
+-- the indexes of the build are ready, with the pairs of the rows that stand, and no build runs
+abbrev pub after_switch_in : LiveState → BuildState → LiveState
+after_switch_in live b = record live {
+  heap = after_switch live.heap (verdicts_on live b);
+  ready = live.ready ++ map (index_now live.heap.log) b.specs;
+  build = None;
+}
+
+-- answered with the number of the log record, and what became of each index
+abbrev pub Switches : CoreState → ℕ × List Outcome → CoreState → Type 0
+Switches s told new =
+    OnBuild s.live.build (λ b.
+    (told.0 ≡ length s.live.heap.log + 1) × (told.1 ≡ verdicts_on s.live b)
+    × (new ≡ record { live = after_switch_in s.live b; work = idle }))
+
+-- All events.
 
 -- why an event is refused: the first of its causes
 abbrev pub refusal : CoreState → Event → Option Fault
-refusal s Begin = begin_refusal s.heap
-refusal s (Insert txn row) = unless_indexed s (insert_refusal s.heap txn row)
-refusal s (Update txn rid row) = unless_indexed s (update_refusal s.heap txn rid row)
-refusal s (Delete txn rid) = unless_indexed s (delete_refusal s.heap txn rid)
-refusal s (Undo txn) = unless_indexed s (undo_refusal s.heap txn)
-refusal s (Commit txn) = txn_refusal s.heap txn
-refusal s (Start plan) = if is_some s.build then Some BuildRunning else plan_refusal s plan (only_spec plan.specs.items)
-refusal s (Scan range worker) = refusal_of s.build (λ b. scan_refusal b range worker)
-refusal s (Seal worker) = refusal_of s.build (λ b. seal_refusal b worker)
-refusal s (Load index) = refusal_of s.build (λ b. load_refusal b index)
-refusal s Switch = refusal_of s.build switch_refusal
+refusal s Begin = begin_refusal s.live.heap
+refusal s (Insert txn row) = unless_indexed s.live (insert_refusal s.live.heap txn row)
+refusal s (Update txn rid row) = unless_indexed s.live (update_refusal s.live.heap txn rid row)
+refusal s (Delete txn rid) = unless_indexed s.live (delete_refusal s.live.heap txn rid)
+refusal s (Undo txn) = unless_indexed s.live (undo_refusal s.live.heap txn)
+refusal s (Commit txn) = txn_refusal s.live.heap txn
+refusal s (Start plan) = start_refusal s.live plan
+refusal s (Scan range worker) = refusal_of s.live.build (λ b. scan_refusal b s.work range worker)
+refusal s (Seal worker) = refusal_of s.live.build (λ b. seal_refusal s.work worker)
+refusal s (Load index) = refusal_of s.live.build (λ b. load_refusal b s index)
+refusal s Switch = refusal_of s.live.build (λ b. switch_refusal b s.work)
+
+-- the reply to an event tells what that relation answers
+abbrev pub Tells : {R : Type 0} → (R → Reply) → (CoreState → R → CoreState → Type 0) → CoreState → Reply → CoreState → Type 0
+Tells {R} told Does s reply new = (answer : R) × (reply ≡ told answer) × Does s answer new
 
 -- what an event does that is not refused: its reply, and the state that it leaves
 abbrev pub Does : CoreState → Event → Reply → CoreState → Type 0
-Does s Begin reply new = (reply ≡ Begun (s.heap.begun + 1)) × (new ≡ with_heap s (after_begin s.heap))
-Does s (Insert txn row) reply new =
-    (reply ≡ Written (length s.heap.log + 1) (row_place s row))
-    × (new ≡ with_heap s (after_write s.heap txn (row_place s row) (Some row)))
-Does s (Update txn rid row) reply new =
-    (reply ≡ Written (length s.heap.log + 1) rid) × (new ≡ with_heap s (after_write s.heap txn rid (Some row)))
-Does s (Delete txn rid) reply new =
-    (reply ≡ Written (length s.heap.log + 1) rid) × (new ≡ with_heap s (after_write s.heap txn rid None))
-Does s (Undo txn) reply new = (reply ≡ undone_reply s.heap txn) × (new ≡ with_heap s (after_newest s.heap txn))
-Does s (Commit txn) reply new = (reply ≡ Committed (length s.heap.log + 1)) × (new ≡ with_heap s (after_commit s.heap txn))
-Does s (Start plan) reply new = (reply ≡ Started (pages_written s.heap.log)) × StartsBy s (only_spec plan.specs.items) new
-Does s (Scan range worker) reply new = OnBuild s.build (λ b. (reply ≡ Scanned b.scanned) × (new ≡ after_scan s b))
-Does s (Seal worker) reply new = OnBuild s.build (λ b. (reply ≡ Sealed b.waiting) × (new ≡ after_seal s b))
-Does s (Load index) reply new = OnBuild s.build (λ b. (reply ≡ Loaded (pairs_loaded s b)) × (new ≡ after_load s b))
-Does s Switch reply new =
-    OnBuild s.build (λ b. (reply ≡ Switched (length s.heap.log + 1) (verdicts_on s)) × (new ≡ after_switch_in s b))
+Does s Begin reply new = Tells Begun (OnLive (OnHeap Begins)) s reply new
+Does s (Insert txn row) reply new = Tells (λ w. Written w.0 w.1) (OnLive (OnHeap (Inserts txn row))) s reply new
+Does s (Update txn rid row) reply new = Tells (λ w. Written w.0 w.1) (OnLive (OnHeap (Updates txn rid row))) s reply new
+Does s (Delete txn rid) reply new = Tells (λ w. Written w.0 w.1) (OnLive (OnHeap (Deletes txn rid))) s reply new
+Does s (Undo txn) reply new = Tells (λ undone. Undone undone.number undone.left) (OnLive (OnHeap (Undoes txn))) s reply new
+Does s (Commit txn) reply new = Tells Committed (OnLive (OnHeap (Commits txn))) s reply new
+Does s (Start plan) reply new = Tells Started (Starts plan) s reply new
+Does s (Scan range worker) reply new = Tells Scanned (Scans range worker) s reply new
+Does s (Seal worker) reply new = Tells Sealed (Seals worker) s reply new
+Does s (Load index) reply new = Tells Loaded (Loads index) s reply new
+Does s Switch reply new = Tells (λ told. Switched told.0 told.1) Switches s reply new
 
--- the running build, if any, is spoiled
-abbrev pub spoiled_by : Fault → Option BuildState → Option BuildState
-spoiled_by fault None = None
-spoiled_by fault (Some b) = Some (record b { spoiled = Some fault })
+-- the build can't go on for that fault
+abbrev pub spoiled_by : Fault → CoreState → CoreState
+spoiled_by fault s = record s { work = record s.work { spoiled = Some fault } }
 
 -- what want of memory leaves: it changes nothing, but spoils a build whose worker was at work
-abbrev pub AfterMemory : CoreState → Event → CoreState → Type 0
-AfterMemory s Begin new = new ≡ s
-AfterMemory s (Insert txn row) new = new ≡ s
-AfterMemory s (Update txn rid row) new = new ≡ s
-AfterMemory s (Delete txn rid) new = new ≡ s
-AfterMemory s (Undo txn) new = new ≡ s
-AfterMemory s (Commit txn) new = new ≡ s
-AfterMemory s (Start plan) new = new ≡ s
-AfterMemory s (Scan range worker) new = new ≡ s
-AfterMemory s (Seal worker) new = new ≡ record s { build = spoiled_by Memory s.build }
-AfterMemory s (Load index) new = new ≡ record s { build = spoiled_by Memory s.build }
-AfterMemory s Switch new = new ≡ s
+abbrev pub AfterMemory : Event → CoreState → CoreState → Type 0
+AfterMemory Begin s new = new ≡ s
+AfterMemory (Insert txn row) s new = new ≡ s
+AfterMemory (Update txn rid row) s new = new ≡ s
+AfterMemory (Delete txn rid) s new = new ≡ s
+AfterMemory (Undo txn) s new = new ≡ s
+AfterMemory (Commit txn) s new = new ≡ s
+AfterMemory (Start plan) s new = new ≡ s
+AfterMemory (Scan range worker) s new = new ≡ s
+AfterMemory (Seal worker) s new = new ≡ spoiled_by Memory s
+AfterMemory (Load index) s new = new ≡ spoiled_by Memory s
+AfterMemory Switch s new = new ≡ s
 
--- an event is refused for a fault: its cause, and nothing changes; or want of memory, where it has no cause
+-- an event is refused for a fault
 abbrev pub IsRefused : CoreState → Event → Fault → CoreState → Type 0
-IsRefused s event fault new =
-    ((refusal s event ≡ Some fault) × (new ≡ s)) ⊎ ((refusal s event ≡ None) × (fault ≡ Memory) × AfterMemory s event new)
+IsRefused s event fault new = RefusedBy (refusal s event) (AfterMemory event) s fault new
+
+-- the reply to an event, or the fault of its refusal
+abbrev pub Answers : CoreState → Event → Result Reply Fault → CoreState → Type 0
+Answers s event answer new = AnsweredInWant (refusal s event) (AfterMemory event) (λ old reply left. Does old event reply left) s answer new
 
 -- one event: it is refused, or it has no cause to be and is done
 abbrev pub Step : CoreState → Event → Reply → CoreState → Type 0
 Step s event reply new =
     ((fault : Fault) × (reply ≡ Refused fault) × IsRefused s event fault new) ⊎ ((refusal s event ≡ None) × Does s event reply new)
-
--- the reply to an event, or the fault of its refusal
-abbrev pub Answers : CoreState → Event → Result Reply Fault → CoreState → Type 0
-Answers s event (Ok reply) new = (refusal s event ≡ None) × Does s event reply new
-Answers s event (Err fault) new = IsRefused s event fault new
 
 -- one event after another
 abbrev pub Run : CoreState → List Event → List Reply → CoreState → Type 0

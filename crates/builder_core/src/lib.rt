@@ -10,18 +10,23 @@
 //! answers one event, and [`run_events`] a list of them. [`at_rest`] makes the pairs of a table that nobody writes.
 #![tactic(auto)]
 
-mod build;
+mod building;
 mod core_steps;
 mod dealing;
 mod event;
 mod live;
+mod live_builds;
+mod live_writes;
 mod plan;
 mod ready_index;
 mod reply;
 mod rest;
 mod run;
+mod scan;
+mod table_scan;
 mod worker;
 
+pub use building::Building;
 pub use core_steps::Core;
 pub use dealing::Dealing;
 pub use event::Event;
@@ -32,3 +37,4 @@ pub use ready_index::ReadyIndex;
 pub use reply::Reply;
 pub use rest::at_rest;
 pub use run::run_events;
+pub use scan::Scan;

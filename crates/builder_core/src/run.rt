@@ -1,5 +1,5 @@
 ghost use Rattle.std.specs.Prelude.{◌≡◌, IfOk, IfErr, OnErr};
-ghost use Rattle.builder_core.specs.CoreState.{FollowTable};
+ghost use Rattle.builder_core.specs.CoreState.{abandoned, ReadyFollowTable};
 ghost use Rattle.builder_core.specs.Headline.{RunsAsAtRest};
 
 use crate::{Core, Event, Live, Reply};
@@ -10,7 +10,7 @@ use std::alloc::Global;
 /// still runs behind the last event is abandoned.
 pub fn run_events(alloc: Global, live: Live, events: &[Event]) -> (Live, Result<Vec<Reply>, Fault>)
     ensures headline { IfOk result.1 (λ replies. RunsAsAtRest live events.now replies.items result.0) }
-    ensures ready { FollowTable result.0.heap.log result.0.ready }
+    ensures ready { ReadyFollowTable result.0 }
     ensures unchanged { OnErr result.1 (result.0 ≡ live) }
     ensures memory { IfErr result.1 (λ fault. fault ≡ Fault.Memory) }
 {

@@ -6,6 +6,7 @@ use Rattle.std.specs.declared.cmp.Ordering.TheVariants.{Less, Equal, Greater}
 use Rattle.std.specs.Ordering.{eq_by_cmp, is_eq, is_lt, ordering_reverse}
 use Rattle.std.specs.List.{list_any, range_with_len, cons_option, IsDistinct, AllByRecursion, All}
 use Rattle.std.specs.List.Sorted.{IsSortedBy}
+use Rattle.std.specs.FinMap.{keys}
 use Rattle.std.specs.FinMap.Entries.{is_sorted, below_all}
 use Rattle.std.proofs.lemmas.Bool.{or_cases, or_left, or_right, and_from, false≢true, false_from_ne_true}
 use native.Mathlib.Numerals.{unary_clauses}
@@ -22,7 +23,7 @@ use Rattle.keybytes.specs.Rids.{same_rid}
 use Rattle.heap_log.specs.Standing.{live_at}
 use Rattle.heap_table.specs.Pages.{rid_at, slots_written, pages_written}
 use Rattle.keybytes.specs.declared.pair.Pair.{Pair}
-use Rattle.keybytes.specs.Pairs.{pair_cmp}
+use Rattle.keybytes.specs.Pairs.{pair_cmp, set_of}
 use Rattle.heap_table.specs.TablePairs.{pair_at, rids_on, pairs_on, pairs_from, written_rids, pairs_at_rest}
 use Rattle.keybytes.proofs.PairSets.{pairs_total, marked, tied_pairs, is_in, items_are}
 use Rattle.keybytes.proofs.SameRids.{same_rid-refl}
@@ -40,15 +41,15 @@ pairs_of_rids spec log first (suc count) =
     ∙ sym (filter_map-append (pair_at spec log) (rids_on log first) (rids_from log (first + 1) count))
 
 -- what holds of each element of both holds of each of the whole
-all_append : {X : Type 0} (P : X → Type 0) (xs ys : List X) → AllByRecursion P xs → AllByRecursion P ys → AllByRecursion P (xs ++ ys)
+pub all_append : {X : Type 0} (P : X → Type 0) (xs ys : List X) → AllByRecursion P xs → AllByRecursion P ys → AllByRecursion P (xs ++ ys)
 all_append P [] ys a b = b
 all_append P (x ∷ xs) ys a b = (a.0, all_append P xs ys a.1 b)
 
-all_weaker : {X : Type 0} (P Q : X → Type 0) → ((x : X) → P x → Q x) → (xs : List X) → AllByRecursion P xs → AllByRecursion Q xs
+pub all_weaker : {X : Type 0} (P Q : X → Type 0) → ((x : X) → P x → Q x) → (xs : List X) → AllByRecursion P xs → AllByRecursion Q xs
 all_weaker P Q f [] a = tt
 all_weaker P Q f (x ∷ xs) a = (f x a.0, all_weaker P Q f xs a.1)
 
-distinct_append : {X : Type 0} (e : X → X → Bool) (xs ys : List X) → IsDistinct e xs → IsDistinct e ys → AllByRecursion (λ x. AllByRecursion (λ y. e x y ≡ false) ys) xs → IsDistinct e (xs ++ ys)
+pub distinct_append : {X : Type 0} (e : X → X → Bool) (xs ys : List X) → IsDistinct e xs → IsDistinct e ys → AllByRecursion (λ x. AllByRecursion (λ y. e x y ≡ false) ys) xs → IsDistinct e (xs ++ ys)
 unfolding IsDistinct
 distinct_append e [] ys a b apart = b
 distinct_append e (x ∷ xs) ys a b apart = (all_append (λ y. e x y ≡ false) xs ys a.0 apart.0, distinct_append e xs ys a.1 b apart.1)
@@ -69,7 +70,7 @@ unfolding IsDistinct
 slots_distinct page first zero = tt
 slots_distinct page first (suc count) = (later_slots page first (first + 1) count (omega arith), slots_distinct page (first + 1) count)
 
-on_page : (page first count : ℕ) → AllByRecursion (λ r. r.page ≡ page) (map (rid_at page) (range_with_len first count))
+pub on_page : (page first count : ℕ) → AllByRecursion (λ r. r.page ≡ page) (map (rid_at page) (range_with_len first count))
 on_page page first zero = tt
 on_page page first (suc count) = (refl, on_page page (first + 1) count)
 
@@ -177,6 +178,18 @@ rises (x ∷ ys) h apart =
     and_from (below_all pair_cmp x (marked ys)) (is_sorted pair_cmp (marked ys))
     (rises_above x ys (recursion_from_All (λ y. is_lt (pair_cmp y x) ≡ false) ys (above_first x ys h)) apart.0)
     (rises ys (order_tail x ys h) apart.1)
+
+-- pairs of which no two are the same, put in order, are their set in order
+pub sorted_set :
+    (made ys : List Pair) → IsDistinct (eq_by_cmp pair_cmp) made → IsPermutation made ys → InOrder ys → ys ≡ keys (set_of made)
+sorted_set made ys apart moved sorted =
+    let apart_now : IsDistinct (eq_by_cmp pair_cmp) ys =
+    IsDistinct-IsPermutation (eq_by_cmp pair_cmp) (eq_by_cmp_equiv pairs_total).symm made ys moved apart in
+    items_are ys made (subst T (sym (rises ys sorted apart_now)) tt) (λ q. sym (list_any-IsPermutation (eq_by_cmp pair_cmp q) made ys moved))
+
+-- no pair of a page stands there twice
+pub page_distinct : (spec : KeySpecValue) (log : List LogRec) (page : ℕ) → IsDistinct (eq_by_cmp pair_cmp) (pairs_on spec log page)
+page_distinct spec log page = pairs_distinct spec log (rids_on log page) (slots_distinct page 0 (slots_written log page))
 
 -- the pairs of all pages, put in order, are those at rest
 pub in_order :

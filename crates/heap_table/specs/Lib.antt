@@ -1,3 +1,4 @@
+pub mod Calls
 pub mod HeapState
 pub mod Holders
 pub mod Images

@@ -124,6 +124,13 @@ impl Heap {
         self.pages.len() as u32
     }
 
+    /// The number of records of the log. Gives no row out, so it is no visit.
+    pub fn records(&self) -> usize
+        ensures { result ≡ length self.now.log }
+    {
+        self.log.len()
+    }
+
     /// How often rows were given out: by [`Heap::get`], [`Heap::copy_page`], [`Heap::page_rows`] and [`Heap::log`]. The
     /// count stays at its greatest value.
     pub fn visits(&self) -> u64

@@ -1,26 +1,35 @@
-use Rattle.std.proofs.Common.{◌∙◌, ◌+◌, ◌++◌, ap, sym, append_assoc}
-use Rattle.heap_table.specs.TablePairs.{pairs_on, pairs_from}
-use Rattle.builder_core.proofs.Making.{page_more, image_at, its_page}
+use Rattle.std.proofs.Common.{◌≡◌, ◌∙◌, ◌+◌, ◌++◌, ◌∷◌, [], List, length, take, refl, ap, sym, subst, append_assoc}
+use Rattle.std.proofs.lemmas.List.{take_all, take_more}
+use Rattle.std.proofs.lemmas.Option.{slice_get_read}
+use Rattle.keybytes.specs.declared.pair.Pair.{Pair}
+use Rattle.heap_table.specs.Images.{ImageValue}
+use Rattle.builder_core.specs.ImagePairs.{HavePairs}
+use Rattle.builder_core.proofs.CopyPairs.{pairs_at, pairs_split}
 use Rattle.builder_core.proofs.worker.make_pairs.Goals as goal
 
 pub add_pairs-requires-clause-copy : goal.add_pairs-requires-clause-copy
 add_pairs-requires-clause-copy c =
-    let log = c.requires.copies.0 in
-    let first = c.requires.copies.1 in
-    let i = c.loop-image.image-index in (
-      log,
-      its_page c.args.schema.now log (first + i) c.image-item.result
-          (image_at c.args.schema.now log first i c.args.images.now c.image-item.result c.requires.copies.2 c.loop-image-test.true c.image-item.is),
-    )
+    let i = c.loop-image.image-index in
+    let images = c.args.images.now in
+    pairs_at c.args.spec.now images c.requires.copies.0 i c.image-item.result c.requires.copies.1
+    (slice_get_read images (length images) i c.image-item.result refl c.loop-image-test.true c.image-item.is)
 
 pub loop-image-preserved : goal.loop-image-preserved
-loop-image-preserved c = λ log first are.
+loop-image-preserved c = λ made have.
     let i = c.loop-image.image-index in
     let spec = c.args.spec.now in
+    let images : List ImageValue = c.args.images.now in
     let old = c.args.pairs.now.items in
-    let is = image_at c.args.schema.now log first i c.args.images.now c.image-item.result are c.loop-image-test.true c.image-item.is in
-    c.in_ok-add_pairs.ensures.ok log (its_page c.args.schema.now log (first + i) c.image-item.result is)
-    ∙ ap (λ ps. ps ++ pairs_on spec log c.image-item.result.page) (c.loop-image.invariant log first are)
-    ∙ ap (λ n. (old ++ pairs_from spec log first i) ++ pairs_on spec log n) is.number
-    ∙ append_assoc old (pairs_from spec log first i) (pairs_on spec log (first + i))
-    ∙ ap (λ ps. old ++ ps) (sym (page_more spec log first i))
+    let image = c.image-item.result in
+    let more : take (i + 1) images ≡ take i images ++ image ∷ [] =
+    take_more images i image c.loop-image-test.true ∙ ap (λ x. take i images ++ x ∷ []) (sym c.image-item.is) in
+    let parts = pairs_split spec (take i images) image made (subst (λ (xs : List ImageValue). HavePairs spec xs made) more have) in
+    c.in_ok-add_pairs.ensures.ok parts.1 parts.3
+    ∙ ap (λ ps. ps ++ parts.1) (c.loop-image.invariant parts.0 parts.2)
+    ∙ append_assoc old parts.0 parts.1
+    ∙ ap (λ ps. old ++ ps) (sym parts.4)
+
+pub returns-clause-ok : goal.returns-clause-ok
+returns-clause-ok c = λ made have.
+    let images : List ImageValue = c.args.images.now in
+    c.loop-image.invariant made (subst (λ (xs : List ImageValue). HavePairs c.args.spec.now xs made) (sym (take_all c.loop-image.image-index images c.loop-image-test.false)) have)

@@ -1,8 +1,7 @@
-use Rattle.std.proofs.Common.{◌≡◌, ◌++◌, ℕ, List}
-use Rattle.heap_log.specs.declared.record.LogRec.{LogRec}
-use Rattle.heap_table.specs.TablePairs.{pairs_from}
-use Rattle.builder_core.specs.Builds.{AreImages}
+use Rattle.std.proofs.Common.{◌≡◌, ◌++◌, List, take}
+use Rattle.keybytes.specs.declared.pair.Pair.{Pair}
+use Rattle.builder_core.specs.ImagePairs.{HavePairs}
 use Rattle.builder_core.proofs.worker.make_pairs.Given as goal
 
 abbrev pub invariant-loop-image : goal.invariant-loop-image
-invariant-loop-image l = (log : List LogRec) (first : ℕ) → AreImages l.schema log first l.images → l.pairs.items ≡ l.fn.pairs.items ++ pairs_from l.spec log first l.image-index
+invariant-loop-image l = (made : List Pair) → HavePairs l.spec (take l.image-index l.images) made → l.pairs.items ≡ l.fn.pairs.items ++ made

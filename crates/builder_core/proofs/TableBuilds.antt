@@ -1,0 +1,172 @@
+-- What each event leaves of the build that a table knows, and what its switch makes ready.
+use Rattle.std.proofs.Common.{◌≡◌, ℕ, ◌+◌, ◌<◌, ◌≤◌, true, false, List, [], ◌∷◌, ◌++◌, length, append-nil, length-append, Bool, take, drop, Option, Some, None, refl, sym, ap, ◌∙◌, arith, subst, inl, inr}
+use Rattle.std.specs.Prelude.{is_some, nat_lt, filter, ◌==◌}
+use Rattle.std.specs.FinMap.{keys}
+use Rattle.std.specs.List.{All}
+use Rattle.std.proofs.lemmas.Bool.{cases_Bool, cases_lt, eqb-true, lt-ltb, le-ltb, false≢true}
+use Rattle.std.proofs.lemmas.Bool.Decides.{nat_tests}
+use Rattle.std.proofs.lemmas.List.Elements.{All-drop, All-take, All-weaker, filter-append}
+use Rattle.keybytes.specs.Keys.{KeySpecValue}
+use Rattle.keybytes.specs.Pairs.{set_of}
+use Rattle.keybytes.specs.declared.kind.Kind.{Kind}
+use Rattle.keybytes.specs.declared.pair.Pair.{Pair}
+use Rattle.heap_log.specs.declared.record.LogRec.{LogRec}
+use Rattle.heap_log.specs.declared.record.LogRec.TheVariants.{Commit}
+use Rattle.heap_table.specs.Pages.{pages_written}
+use Rattle.heap_table.specs.TablePairs.{index_pairs, pairs_at_rest}
+use Rattle.builder_core.specs.Builds.{WorkValue, ScansInTurn, IsBuildOf, IsSound, IsWorkOn, IsWorkOf, BuildFollows}
+use Rattle.builder_core.specs.CoreState.{BuildState, scanning_of}
+use Rattle.builder_core.specs.Scanning.{Scanning, IsScanOf, AllScanned, scanned_at, pairs_at_scan, scanned_pairs}
+use Rattle.builder_core.specs.SideEntries.{SideEntry, side_entries, entries_of, apply_entries}
+use Rattle.builder_core.specs.declared.scan.Scan.{Scan}
+use Rattle.builder_core.proofs.Copies.{copies_kept}
+use Rattle.builder_core.proofs.EntrySteps.{opened_entries, more_entries, same_entries, commit_entries}
+use Rattle.builder_core.proofs.ScanSteps.{opened_scanned, more_scanned, pairs_kept, same_pairs, scan_now, scan_scanned, scanned_last, scanned_new}
+use Rattle.builder_core.proofs.SideFollows.{leaves_index}
+
+-- no page was copied
+pub none_in_turn : (pages : ℕ) → pages ≤ 65536 → ScansInTurn pages []
+none_in_turn pages limit = record {
+  limit = limit;
+  within = omega arith;
+  in_turn = λ page. sym (le-ltb page 0 (omega arith));
+  alone = refl;
+}
+
+-- a build of that index starts
+pub started_build :
+    (kinds : List Kind) (log : List LogRec) (number : ℕ) (spec : KeySpecValue) → spec.kinds ≡ kinds → pages_written log ≤ 65536
+    → IsBuildOf kinds log (record { number = number; specs = spec ∷ []; opened = length log; pages = pages_written log; ends = pages_written log ∷ []; scans = [] })
+started_build kinds log number spec columns limit = record {
+  spec = spec;
+  one_index = refl;
+  one_range = refl;
+  columns = columns;
+  in_turn = none_in_turn (pages_written log) limit;
+  scanned = opened_scanned spec log;
+  no_entries = opened_entries spec log;
+}
+
+none_of : (o : Option ℕ) → is_some o ≡ false → o ≡ None
+none_of None e = refl
+none_of (Some n) e = absurd (false≢true (sym e))
+
+some_of : (o : Option ℕ) → is_some o ≡ true → (n : ℕ) × (o ≡ Some n)
+some_of None e = absurd (false≢true e)
+some_of (Some n) e = (n, refl)
+
+-- the page behind those that were copied wasn't
+pub not_scanned : (pages : ℕ) (scans : List Scan) → ScansInTurn pages scans → scanned_at scans (length scans) ≡ None
+not_scanned pages scans turn = none_of (scanned_at scans (length scans)) (turn.in_turn (length scans) ∙ le-ltb (length scans) (length scans) (omega arith))
+
+-- the next page is copied too
+pub turn_more : (pages : ℕ) (scans : List Scan) (log : List LogRec) → ScansInTurn pages scans → length scans < pages → ScansInTurn pages (scans ++ scan_now 0 (length scans) log ∷ [])
+turn_more pages scans log turn more = record {
+  limit = turn.limit;
+  within = omega (arith, longer, more);
+  in_turn = copied;
+  alone = filter-append (λ scan. scan.worker == 0) scans (scan_now 0 (length scans) log ∷ [])
+      ∙ ap (λ (xs : List Scan). xs ++ scan_now 0 (length scans) log ∷ []) turn.alone;
+} where
+  last : Scan
+  last = scan_now 0 (length scans) log
+
+  longer : length (scans ++ last ∷ []) ≡ length scans + 1
+  longer = length-append scans (last ∷ [])
+
+  here : is_some (scanned_at (scans ++ last ∷ []) (length scans)) ≡ true
+  here = ap is_some (scanned_new scans last (not_scanned pages scans turn))
+
+  same_side : (page : ℕ) → (length scans == page) ≡ false → nat_lt page (length scans) ≡ nat_lt page (length (scans ++ last ∷ []))
+  same_side page other = grind (arith, nat_tests, other, longer)
+
+  copied : (page : ℕ) → is_some (scanned_at (scans ++ last ∷ []) page) ≡ nat_lt page (length (scans ++ last ∷ []))
+  copied page = elim (cases_Bool (length scans == page)) [
+    | inl same ↦
+        let at : length scans ≡ page = eqb-true (length scans) page same in
+        ap (λ n. is_some (scanned_at (scans ++ last ∷ []) n)) (sym at) ∙ here
+        ∙ sym (lt-ltb page (length (scans ++ last ∷ [])) (omega (arith, longer, at)))
+    | inr other ↦
+        ap is_some (scanned_last scans last page (λ e. other)) ∙ turn.in_turn page
+        ∙ same_side page other
+  ]
+
+pub scanned_build :
+    (kinds : List Kind) (log : List LogRec) (b : BuildState) → IsBuildOf kinds log b → length b.scans < b.pages
+    → IsBuildOf kinds log (record b { scans = b.scans ++ scan_now 0 (length b.scans) log ∷ [] })
+scanned_build kinds log b is more = record {
+  spec = is.spec;
+  one_index = is.one_index;
+  one_range = is.one_range;
+  columns = is.columns;
+  in_turn = turn_more b.pages b.scans log is.in_turn more;
+  scanned = scan_scanned (scanning_of b is.spec) 0 (length b.scans) log is.scanned more (not_scanned b.pages b.scans is.in_turn);
+  no_entries = same_entries (scanning_of b is.spec) 0 (length b.scans) log (not_scanned b.pages b.scans is.in_turn) ∙ is.no_entries;
+}
+
+-- a commit changes no row
+commit_kept : (kinds : List Kind) (log : List LogRec) (txn : ℕ) (b : BuildState) → IsBuildOf kinds log b → IsBuildOf kinds (log ++ Commit txn ∷ []) b
+commit_kept kinds log txn b is = record {
+  spec = is.spec;
+  one_index = is.one_index;
+  one_range = is.one_range;
+  columns = is.columns;
+  in_turn = is.in_turn;
+  scanned = more_scanned (scanning_of b is.spec) log (Commit txn) is.scanned;
+  no_entries = more_entries (scanning_of b is.spec) log (Commit txn) is.scanned.opened
+      ∙ ap (λ es. es ++ entries_of (scanning_of b is.spec) log (Commit txn)) is.no_entries
+      ∙ commit_entries (scanning_of b is.spec) log txn;
+}
+
+pub build_kept : (kinds : List Kind) (log : List LogRec) (txn : ℕ) (build : Option BuildState) → BuildFollows kinds log build → BuildFollows kinds (log ++ Commit txn ∷ []) build
+build_kept kinds log txn None is = tt
+build_kept kinds log txn (Some b) is = commit_kept kinds log txn b is
+
+commit_work_kept :
+    (kinds : List Kind) (log : List LogRec) (txn : ℕ) (b : BuildState) (work : WorkValue) → IsBuildOf kinds log b → IsWorkOn kinds log b work
+    → IsWorkOn kinds (log ++ Commit txn ∷ []) b work
+commit_work_kept kinds log txn b work build is = record {
+  specs = is.specs;
+  columns = is.columns;
+  put = is.put;
+  few = is.few;
+  all = is.all;
+  sound = λ e. let s = is.sound e in record {
+    copies = copies_kept kinds here log (Commit txn) (drop work.worker.taken b.scans) work.worker.ring (All-drop (IsScanOf here log) work.worker.taken b.scans scans) s.copies;
+    made = λ t. s.made t ∙ sym (pairs_kept here log (Commit txn) (take work.worker.taken b.scans) (All-take (IsScanOf here log) work.worker.taken b.scans scans));
+    loaded = λ pairs t. s.loaded pairs t ∙ sym (ap (λ ps. keys (set_of ps)) (pairs_kept here log (Commit txn) b.scans scans));
+  };
+} where
+  here : Scanning
+  here = scanning_of b work.spec
+
+  scans : All (IsScanOf here log) b.scans
+  scans = All-weaker (IsScanOf (scanning_of b build.spec) log) (IsScanOf here log) (λ scan it. record { page = it.page; opened = it.opened; within = it.within }) b.scans build.scanned.scans
+
+pub work_kept :
+    (kinds : List Kind) (log : List LogRec) (txn : ℕ) (build : Option BuildState) (work : Option WorkValue) → BuildFollows kinds log build → IsWorkOf kinds log build work
+    → IsWorkOf kinds (log ++ Commit txn ∷ []) build work
+work_kept kinds log txn None None build is = tt
+work_kept kinds log txn None (Some w) build is = is
+work_kept kinds log txn (Some b) None build is = is
+work_kept kinds log txn (Some b) (Some w) build is = commit_work_kept kinds log txn b w build is
+
+first_of : (a b : KeySpecValue) → a ∷ [] ≡ b ∷ [] → a ≡ b
+first_of a b e = cc
+
+-- a switch makes the pairs at rest ready
+pub switched_pairs :
+    (kinds : List Kind) (log : List LogRec) (b : BuildState) (work : WorkValue) (pairs : List Pair) → IsBuildOf kinds log b → IsWorkOn kinds log b work
+    → work.spoiled ≡ None → work.tree ≡ Some pairs → pairs ≡ pairs_at_rest work.spec log
+switched_pairs kinds log b work pairs build is fine loaded =
+    let all = is.all (ap is_some loaded) in
+    let put = is.put in
+    let within = build.in_turn.within in
+    let here : Scanning = scanning_of b build.spec in
+    let whole : AllScanned here = λ page less. some_of (scanned_at b.scans page) (build.in_turn.in_turn page ∙ lt-ltb page (length b.scans) (omega (arith, less, all, put, within))) in
+    let same : build.spec ≡ work.spec = first_of build.spec work.spec (sym build.one_index ∙ is.specs) in
+    (is.sound fine).loaded pairs loaded
+    ∙ ap (λ spec. keys (set_of (scanned_pairs (scanning_of b spec) log))) (sym same)
+    ∙ ap (λ (es : List SideEntry). keys (apply_entries es (set_of (scanned_pairs here log)))) (sym build.no_entries)
+    ∙ ap keys (leaves_index here log build.scanned whole)
+    ∙ ap (λ spec. pairs_at_rest spec log) same

@@ -1,0 +1,41 @@
+-- The ranges of pages of a build, and which of their pages are still to be copied.
+use Rattle.std.specs.Prelude.{ℕ, zero, suc, ◌+◌, ◌-◌, ◌*◌, ◌/◌, Bool, not, if◌then◌else◌, is_some, List, [], ◌∷◌, map, length, get_or, Option, Some, None}
+use Rattle.std.specs.List.{range_with_len}
+use Rattle.builder_core.specs.CoreState.{BuildState}
+use Rattle.builder_core.specs.Scanning.{scanned_at}
+use Rattle.builder_core.specs.declared.dealing.Dealing.{Dealing}
+use Rattle.builder_core.specs.declared.dealing.Dealing.TheVariants.{Ends, Even}
+
+-- the first of these numbers that passes
+abbrev pub first_that : (ℕ → Bool) → List ℕ → Option ℕ
+first_that test [] = None
+first_that test (n ∷ ns) = if test n then Some n else first_that test ns
+
+-- where each of so many ranges ends that differ by at most one page
+abbrev pub even_ends : ℕ → ℕ → List ℕ
+even_ends pages ranges = map (λ range. pages * (range + 1) / ranges) (range_with_len 0 ranges)
+
+-- where the ranges of a dealing end
+abbrev pub dealt_ends : ℕ → Dealing → List ℕ
+dealt_ends pages (Ends ends) = ends.items
+dealt_ends pages (Even ranges) = even_ends pages ranges
+
+-- a range begins where the one before it ends
+abbrev pub range_start : List ℕ → ℕ → ℕ
+range_start ends zero = 0
+range_start ends (suc range) = get_or ends range 0
+
+abbrev pub range_pages : List ℕ → ℕ → List ℕ
+range_pages ends range = range_with_len (range_start ends range) (get_or ends range 0 - range_start ends range)
+
+-- whether a page is still to be copied
+abbrev pub is_left : BuildState → ℕ → Bool
+is_left b page = not (is_some (scanned_at b.scans page))
+
+-- the lowest page of a range that is still to be copied
+abbrev pub next_page : BuildState → ℕ → Option ℕ
+next_page b range = first_that (is_left b) (range_pages b.ends range)
+
+-- the lowest range with such a page
+abbrev pub open_range : BuildState → Option ℕ
+open_range b = first_that (λ range. is_some (next_page b range)) (range_with_len 0 (length b.ends))

@@ -1,0 +1,43 @@
+-- What was put to the workers of a build, and what they have done with it.
+use Rattle.std.specs.Prelude.{ℕ, ◌-◌, ◌%◌, Bool, ◌&&◌, not, ◌==◌, List, filter, length, take, drop, flat_map, get_or, Option}
+use Rattle.std.specs.List.{range_with_len, position, list_all}
+use Rattle.keybytes.specs.Keys.{KeySpecValue}
+use Rattle.keybytes.specs.declared.pair.Pair.{Pair}
+use Rattle.heap_log.specs.declared.record.LogRec.{LogRec}
+use Rattle.builder_core.specs.CoreState.{BuildState, WorkState, WorkerState, scanning_of}
+use Rattle.builder_core.specs.Ranges.{first_that}
+use Rattle.builder_core.specs.Scanning.{pairs_at_scan}
+use Rattle.builder_core.specs.declared.scan.Scan.{Scan}
+
+-- the scans whose copies were put to a worker, in that order
+abbrev pub put_to : BuildState → ℕ → List Scan
+put_to b worker = filter (λ scan. scan.worker == worker) b.scans
+
+abbrev pub worker_at : WorkState → ℕ → WorkerState
+worker_at work worker = get_or work.workers worker (record { taken = 0; sealed = 0 })
+
+-- how many copies wait for a worker
+abbrev pub waiting : BuildState → WorkState → ℕ → ℕ
+waiting b work worker = length (put_to b worker) - (worker_at work worker).taken
+
+-- the pairs of an index that a worker took since it last sealed
+abbrev pub unsealed_pairs : BuildState → List LogRec → ℕ → WorkerState → KeySpecValue → List Pair
+unsealed_pairs b log worker state spec =
+    flat_map (pairs_at_scan (scanning_of b spec) log) (drop state.sealed (take state.taken (put_to b worker)))
+
+-- whether these pairs fill whole runs
+abbrev pub fill_runs : List Pair → Bool
+fill_runs pairs = length pairs % 4096 == 0
+
+-- whether a worker took all that was put to it, and has no run open
+abbrev pub is_quiet : BuildState → List LogRec → ℕ → WorkerState → Bool
+is_quiet b log worker state =
+    (state.taken == length (put_to b worker)) && list_all (λ spec. fill_runs (unsealed_pairs b log worker state spec)) b.specs
+
+-- the lowest worker that isn't quiet
+abbrev pub loud_worker : BuildState → List LogRec → WorkState → Option ℕ
+loud_worker b log work = first_that (λ worker. not (is_quiet b log worker (worker_at work worker))) (range_with_len 0 (length work.workers))
+
+-- the lowest index whose pairs are not in order
+abbrev pub unloaded_index : WorkState → Option ℕ
+unloaded_index work = position (λ index. not index.loaded) work.indexes

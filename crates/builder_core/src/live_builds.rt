@@ -1,0 +1,220 @@
+//! The steps of a build that touch the table.
+ghost use Rattle.std.specs.Prelude.{◌≡◌, ◌<◌, ◌+◌, ◌∷◌, [], List, length, Some, None, IfOk, IfErr, OnOk, OnErr, MatchOption, MatchResult, if◌then◌else◌, true, false, vec_len, vec_capacity, ◌==◌, is_some};
+ghost use Rattle.keybytes.specs.Answered.{Answered};
+ghost use Rattle.heap_log.specs.declared.outcome.Outcome.{Outcome};
+ghost use Rattle.heap_table.specs.HeapState.{after_switch};
+ghost use Rattle.heap_table.specs.Pages.{pages_written, KeepsRows};
+ghost use Rattle.builder_core.specs.Builds.{core_state, work_state, WorksOn};
+ghost use Rattle.builder_core.specs.Ranges.{next_page};
+ghost use Rattle.builder_core.specs.Steps.{Starts, Scans, Switches, start_refusal, scan_refusal, switch_refusal, refusal_of, counts_fit, is_one_range};
+
+use crate::building::Work;
+use crate::table_scan::TableScan;
+use crate::worker::RING_MAX;
+use crate::{Building, Dealing, Live, Plan, ReadyIndex};
+use heap_log::{Outcome, Verdicts};
+use heap_table::{Heap, PageImage};
+use keybytes::{Fault, KeySpec};
+use std::alloc::Global;
+
+/// The most indexes that a table may have.
+const READY_MAX: usize = 32;
+
+/// The specification of a plan with one.
+fn only_spec(plan: &Plan) -> Option<&KeySpec>
+    ensures { MatchOption result ((length plan.now.specs.items == 1) ≡ false) (λ spec. plan.now.specs.items ≡ spec.now ∷ []) }
+{
+    match plan.specs.as_slice() {
+        [spec] => Some(spec),
+        _ => None,
+    }
+}
+
+/// Whether so many pages are dealt into one range.
+fn is_one_range(dealing: &Dealing, pages: u32) -> bool
+    ensures { result ≡ is_one_range pages dealing.now }
+{
+    match dealing {
+        Dealing::Ends(ends) => match ends.as_slice() {
+            [end] => *end == pages,
+            _ => false,
+        },
+        Dealing::Even(ranges) => *ranges == 1,
+    }
+}
+
+impl Live {
+    /// A build of the plan's indexes starts, whose work stands beside the table; answered with the number of pages that it
+    /// reads. [`Fault::BuildRunning`], [`Fault::BadCount`], [`Fault::BadColumn`], [`Fault::BadRanges`].
+    pub fn start(&mut self, plan: &Plan, building: &mut Building) -> Result<u32, Fault>
+        requires { WorksOn self.old building.old }
+        ensures started { Answered (start_refusal self.old plan.now) (Starts plan.now) (core_state self.old building.old) result (core_state self.new building.new) }
+        ensures works { WorksOn self.new building.new }
+        ensures unchanged { OnErr result ((self.new ≡ self.old) × (building.new ≡ building.old)) }
+    {
+        let spec = self.check_plan(plan)?;
+        let pages = self.heap.pages();
+        let work = Work::new(self.alloc, spec.clone()?)?;
+        let number = self.builds + 1;
+        let build = TableScan::new(self.alloc, number, spec.clone()?, self.heap.records(), pages)?;
+        self.builds = number;
+        self.build = Some(build);
+        building.work = Some(work);
+        Ok(pages)
+    }
+
+    /// The one specification of a plan that a build can be started by.
+    fn check_plan<'p>(&self, plan: &'p Plan) -> Result<&'p KeySpec, Fault>
+        ensures spec { IfOk result (λ spec. plan.now.specs.items ≡ spec.now ∷ []) }
+        ensures columns { IfOk result (λ spec. spec.now.kinds ≡ self.now.heap.schema) }
+        ensures free { OnOk result (self.now.build ≡ None) }
+        ensures number { OnOk result (self.now.builds < 18446744073709551615) }
+        ensures accepted { OnOk result (start_refusal self.now plan.now ≡ None) }
+        ensures refused { IfErr result (λ fault. start_refusal self.now plan.now ≡ Some fault) }
+    {
+        if self.build.is_some() {
+            return Err(Fault::BuildRunning);
+        }
+        let spec = only_spec(plan).ok_or(Fault::BadCount)?;
+        if !self.counts_fit(plan, spec) {
+            return Err(Fault::BadCount);
+        }
+        if !spec.is_of(self.heap.schema()) {
+            return Err(Fault::BadColumn);
+        }
+        if !is_one_range(&plan.dealing, self.heap.pages()) {
+            return Err(Fault::BadRanges);
+        }
+        Ok(spec)
+    }
+
+    /// Whether a plan has one worker and its index isn't unique, and there is room for one index and one build more.
+    fn counts_fit(&self, plan: &Plan, spec: &KeySpec) -> bool
+        requires { plan.now.specs.items ≡ spec.now ∷ [] }
+        ensures { result ≡ counts_fit self.now plan.now }
+    {
+        plan.workers == 1
+            && !spec.unique()
+            && self.ready.len() < READY_MAX
+            && self.builds < u64::MAX
+    }
+
+    /// Why a page of the range would not be copied for the worker, and else which page it is. Takes no memory.
+    pub fn check_scan(&self, range: usize, worker: usize, building: &Building) -> Result<u32, Fault>
+        requires { WorksOn self.now building.now }
+        ensures page { IfOk result (λ page. refusal_of self.now.build (λ b. scan_refusal b (work_state building.now) range worker) ≡ None) }
+        ensures refused { IfErr result (λ fault. refusal_of self.now.build (λ b. scan_refusal b (work_state building.now) range worker) ≡ Some fault) }
+    {
+        let (Some(build), Some(work)) = (self.build(), building.work()) else {
+            return Err(Fault::NoBuild);
+        };
+        if range != 0 || worker != 0 {
+            return Err(Fault::BadCount);
+        }
+        work.check()?;
+        let page = build.next_page().ok_or(Fault::RangeDone)?;
+        if work.waiting() >= RING_MAX {
+            return Err(Fault::RingFull);
+        }
+        Ok(page)
+    }
+
+    /// Copies the lowest page of the range that is left into the buffer that is handed in, and puts it to the worker, in one
+    /// step that takes no memory; answered with the page's number. Counts as a visit. Where it is refused the buffer is
+    /// handed back: [`Fault::NoBuild`], [`Fault::BadCount`], the fault of a spoiled build, [`Fault::RangeDone`],
+    /// [`Fault::RingFull`].
+    pub fn scan_step(
+        &mut self,
+        range: usize,
+        worker: usize,
+        image: PageImage,
+        building: &mut Building,
+    ) -> Result<u32, (PageImage, Fault)>
+        requires { WorksOn self.old building.old }
+        ensures scanned { IfOk result (λ page. Scans range worker (core_state self.old building.old) page (core_state self.new building.new)) }
+        ensures accepted { OnOk result (refusal_of self.old.build (λ b. scan_refusal b (work_state building.old) range worker) ≡ None) }
+        ensures works { WorksOn self.new building.new }
+        ensures unchanged { OnErr result ((self.new ≡ self.old) × (building.new ≡ building.old)) }
+        ensures refused { IfErr result (λ back. refusal_of self.old.build (λ b. scan_refusal b (work_state building.old) range worker) ≡ Some back.1) }
+    {
+        let page = match self.check_scan(range, worker, building) {
+            Ok(page) => page,
+            Err(fault) => return Err((image, fault)),
+        };
+        let (Some(build), Some(work)) = (&mut self.build, &mut building.work) else {
+            unreachable!()
+        };
+        let mut image = image;
+        self.heap.copy_page(page, &mut image);
+        build.note(page, self.heap.records());
+        work.put(image);
+        Ok(page)
+    }
+
+    /// Why the indexes of the build would not become ready. Takes no memory.
+    fn check_switch(&self, building: &Building) -> Result<(), Fault>
+        requires { WorksOn self.now building.now }
+        ensures { MatchResult result
+            (λ _. refusal_of self.now.build (λ b. switch_refusal b (work_state building.now)) ≡ None)
+            (λ fault. refusal_of self.now.build (λ b. switch_refusal b (work_state building.now)) ≡ Some fault) }
+    {
+        let (Some(build), Some(work)) = (self.build(), building.work()) else {
+            return Err(Fault::NoBuild);
+        };
+        work.check()?;
+        if build.is_open() {
+            return Err(Fault::NotScanned(0));
+        }
+        if !work.is_loaded() {
+            return Err(Fault::NotLoaded(0));
+        }
+        Ok(())
+    }
+
+    /// Makes the indexes of the build ready and ends it; answered with the number of the log record, and what became of each
+    /// index. [`Fault::NoBuild`], the fault of a spoiled build, [`Fault::NotScanned`], [`Fault::NotLoaded`].
+    pub fn switch_in(&mut self, building: &mut Building) -> Result<(usize, Verdicts), Fault>
+        requires { WorksOn self.old building.old }
+        ensures switched { Answered (refusal_of self.old.build (λ b. switch_refusal b (work_state building.old))) Switches (core_state self.old building.old) result (core_state self.new building.new) }
+        ensures works { WorksOn self.new building.new }
+        ensures unchanged { OnErr result ((self.new ≡ self.old) × (building.new ≡ building.old)) }
+    {
+        self.check_switch(building)?;
+        self.heap.laws();
+        let noted = note_ready(self.alloc, &mut self.heap, &mut self.ready)?;
+        let (Some(build), Some(work)) = (self.build.take(), building.work.take()) else {
+            unreachable!()
+        };
+        let Some(pairs) = work.into_pairs() else {
+            unreachable!()
+        };
+        let spec = build.into_spec();
+        // It tells that its columns make a key, whose bytes are then in the columns' order.
+        let _columns = spec.columns();
+        self.ready.push_reserved(ReadyIndex::new(spec, pairs));
+        Ok(noted)
+    }
+}
+
+/// Notes in the log that one more index is ready, and makes room for it.
+fn note_ready(
+    alloc: Global,
+    heap: &mut Heap,
+    ready: &mut Vec<ReadyIndex>,
+) -> Result<(usize, Verdicts), Fault>
+    ensures number { IfOk result (λ done. done.0 ≡ length heap.old.log + 1) }
+    ensures verdicts { IfOk result (λ done. done.1 ≡ Outcome.Ready (length ready.old.items) ∷ []) }
+    ensures noted { OnOk result (heap.new ≡ after_switch heap.old (Outcome.Ready (length ready.old.items) ∷ [])) }
+    ensures rows { KeepsRows heap.old.log heap.new.log }
+    ensures room { OnOk result (vec_len ready.new < vec_capacity ready.new) }
+    ensures ready { ready.new.items ≡ ready.old.items }
+    ensures unchanged { OnErr result (heap.new ≡ heap.old) }
+    ensures memory { IfErr result (λ fault. fault ≡ Fault.Memory) }
+{
+    let index = ready.len();
+    ready.reserve(1)?;
+    let noted = vec![in alloc; Outcome::Ready(index)]?;
+    let told = vec![in alloc; Outcome::Ready(index)]?;
+    let number = heap.note(noted)?;
+    Ok((number, Verdicts::new(told)))
+}

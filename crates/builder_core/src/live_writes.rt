@@ -1,0 +1,95 @@
+//! What transactions do to a table and its indexes.
+ghost use Rattle.std.specs.Prelude.{◌≡◌, [], Some, None, OnOk, IfErr, MatchResult, true};
+ghost use Rattle.keybytes.specs.Answered.{Answered};
+ghost use Rattle.heap_table.specs.Calls.{Begins, Inserts, Updates, Deletes, Undoes, Commits};
+ghost use Rattle.heap_table.specs.HeapState.{begin_refusal, txn_refusal, insert_refusal, update_refusal, delete_refusal, undo_refusal};
+ghost use Rattle.builder_core.specs.Steps.{OnHeap, is_indexed, unless_indexed};
+
+use crate::Live;
+use heap_table::Undone;
+use keybytes::{Fault, Rid, Row};
+
+impl Live {
+    /// The next transaction begins. [`Fault::TooManyTxns`].
+    pub fn begin(&mut self) -> Result<u64, Fault>
+        ensures { Answered (begin_refusal self.old.heap) (OnHeap Begins) self.old result self.new }
+    {
+        self.heap.begin()
+    }
+
+    /// Rows are changed only while no build runs and no index is ready.
+    fn check_unindexed(&self) -> Result<(), Fault>
+        ensures ok { OnOk result ((self.now.build ≡ None) × (self.now.ready ≡ [])) }
+        ensures refused { IfErr result (λ fault. (fault ≡ Fault.BuildRunning) × (is_indexed self.now ≡ true)) }
+    {
+        if self.build.is_some() || !self.ready.is_empty() {
+            return Err(Fault::BuildRunning);
+        }
+        Ok(())
+    }
+
+    /// Why [`Live::insert`] would be refused. Takes no memory.
+    pub fn check_insert(&self, txn: u64, row: &Row) -> Result<(), Fault>
+        ensures { MatchResult result
+            (λ _. unless_indexed self.now (insert_refusal self.now.heap txn row.now) ≡ None)
+            (λ fault. unless_indexed self.now (insert_refusal self.now.heap txn row.now) ≡ Some fault) }
+    {
+        self.check_unindexed()?;
+        let _place = self.heap.check_insert(txn, row)?;
+        Ok(())
+    }
+
+    /// Why [`Live::update`] would be refused. Takes no memory.
+    pub fn check_update(&self, txn: u64, rid: Rid, row: &Row) -> Result<(), Fault>
+        ensures { MatchResult result
+            (λ _. unless_indexed self.now (update_refusal self.now.heap txn rid row.now) ≡ None)
+            (λ fault. unless_indexed self.now (update_refusal self.now.heap txn rid row.now) ≡ Some fault) }
+    {
+        self.check_unindexed()?;
+        self.heap.check_update(txn, rid, row)
+    }
+
+    /// The transaction inserts a row; answered with the record's number and the RID. [`Fault::BuildRunning`] while a build
+    /// runs or an index is ready; then as [`heap_table::Heap::insert`].
+    pub fn insert(&mut self, txn: u64, row: Row) -> Result<(usize, Rid), Fault>
+        ensures { Answered (unless_indexed self.old (insert_refusal self.old.heap txn row)) (OnHeap (Inserts txn row)) self.old result self.new }
+    {
+        self.check_unindexed()?;
+        self.heap.insert(txn, row)
+    }
+
+    /// The transaction gives a RID another row. [`Fault::BuildRunning`] as for an insert; then as
+    /// [`heap_table::Heap::update`].
+    pub fn update(&mut self, txn: u64, rid: Rid, row: Row) -> Result<(usize, Rid), Fault>
+        ensures { Answered (unless_indexed self.old (update_refusal self.old.heap txn rid row)) (OnHeap (Updates txn rid row)) self.old result self.new }
+    {
+        self.check_unindexed()?;
+        self.heap.update(txn, rid, row)
+    }
+
+    /// The transaction takes the row at a RID away. [`Fault::BuildRunning`] as for an insert; then as
+    /// [`heap_table::Heap::delete`].
+    pub fn delete(&mut self, txn: u64, rid: Rid) -> Result<(usize, Rid), Fault>
+        ensures { Answered (unless_indexed self.old (delete_refusal self.old.heap txn rid)) (OnHeap (Deletes txn rid)) self.old result self.new }
+    {
+        self.check_unindexed()?;
+        self.heap.delete(txn, rid)
+    }
+
+    /// The transaction's newest standing write is undone. [`Fault::BuildRunning`] as for an insert; then as
+    /// [`heap_table::Heap::undo_step`].
+    pub fn undo(&mut self, txn: u64) -> Result<Undone, Fault>
+        ensures { Answered (unless_indexed self.old (undo_refusal self.old.heap txn)) (OnHeap (Undoes txn)) self.old result self.new }
+    {
+        self.check_unindexed()?;
+        self.heap.undo_step(txn)
+    }
+
+    /// The transaction ends, and keeps its writes; answered with the record's number. [`Fault::NoSuchTxn`],
+    /// [`Fault::TxnEnding`].
+    pub fn commit(&mut self, txn: u64) -> Result<usize, Fault>
+        ensures { Answered (txn_refusal self.old.heap txn) (OnHeap (Commits txn)) self.old result self.new }
+    {
+        self.heap.commit(txn)
+    }
+}
