@@ -6,12 +6,15 @@ pub mod EntrySteps
 pub mod Following
 pub mod Making
 pub mod OneRange
+pub mod Refusals
 pub mod Runs
 pub mod ScanExamples
 pub mod ScanSteps
+pub mod Sealing
 pub mod Seen
 pub mod SideFollows
 pub mod Starts
+pub mod SwitchIn
 pub mod Switching
 pub mod TableBuilds
 pub mod Working

@@ -66,3 +66,11 @@ next_page_is b page one turn is =
       | inl less ↦ (same_Some page (length b.scans) (sym is ∙ next_is b one turn less), less)
       | inr all ↦ absurd (let none : None ≡ Some page = sym (next_none b one turn all) ∙ is in cc)
     ]
+
+-- a page is left while not all are copied
+pub open_range_is : (b : BuildState) → b.ends ≡ b.pages ∷ [] → ScansInTurn b.pages b.scans → open_range b ≡ (if nat_lt (length b.scans) b.pages then Some 0 else None)
+open_range_is b one turn =
+    elim (cases_lt (length b.scans) b.pages) [
+      | inl less ↦ open_some b one turn less ∙ sym (ap (λ (x : Bool). if x then Some 0 else None) (lt-ltb (length b.scans) b.pages less))
+      | inr all ↦ open_none b one turn all ∙ sym (ap (λ (x : Bool). if x then Some 0 else None) (le-ltb (length b.scans) b.pages all))
+    ]

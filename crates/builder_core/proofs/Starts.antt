@@ -1,16 +1,21 @@
 -- When a build starts.
-use Rattle.std.proofs.Common.{◌≡◌, Bool, true, false, List, [], ◌∷◌, Option, Some, None, refl, sym, ap, ◌∙◌}
-use Rattle.std.specs.Prelude.{◌&&◌, ◌||◌, is_some}
+use Rattle.std.proofs.Common.{◌≡◌, ℕ, ◌*◌, ◌/◌, arith, Bool, true, false, List, [], ◌∷◌, Option, Some, None, refl, sym, ap, ◌∙◌}
+use Rattle.std.specs.Prelude.{◌&&◌, ◌||◌, ◌==◌, not, nat_lt, length, is_some}
 use Rattle.std.specs.List.{list_any, list_all}
-use Rattle.std.proofs.lemmas.Bool.{and_parts, and_from, false≢true, false_from_ne_true}
+use Rattle.std.proofs.lemmas.Bool.{and_parts, and_from, eqb-true, false≢true, false_from_ne_true}
 use Rattle.keybytes.specs.Keys.{KeySpecValue}
 use Rattle.keybytes.specs.declared.kind.Kind.{Kind}
 use Rattle.keybytes.specs.declared.kind.Kind.TheVariants.{Int, Text, Flag}
 use Rattle.keybytes.specs.declared.fault.Fault.TheVariants.{BadColumn, BadRanges}
 use Rattle.heap_table.specs.Pages.{pages_written}
+use Rattle.builder_core.specs.declared.dealing.Dealing.{Dealing}
+use Rattle.builder_core.specs.declared.dealing.Dealing.TheVariants.{Ends, Even}
 use Rattle.builder_core.specs.declared.plan.Plan.{Plan}
+use Rattle.builder_core.specs.Builds.{work_state}
 use Rattle.builder_core.specs.CoreState.{LiveState}
-use Rattle.builder_core.specs.Steps.{same_kind, same_kinds, is_one_range, counts_fit, start_refusal}
+use Rattle.builder_core.specs.Ranges.{dealt_ends, even_ends}
+use Rattle.builder_core.specs.Steps.{same_kind, same_kinds, is_one_end, is_one_range, counts_fit, start_refusal, fresh_work}
+use Rattle.builder_core.proofs.Working.{fresh}
 
 same_kind-true : (a b : Kind) → same_kind a b ≡ true → a ≡ b
 same_kind-true Int Int e = refl
@@ -73,3 +78,32 @@ module _ (live : LiveState) (plan : Plan) (spec : KeySpecValue) (one : plan.spec
 
   pub nothing_bad : same_kinds spec.kinds live.heap.schema ≡ true → is_one_range (pages_written live.heap.log) plan.dealing ≡ true → start_refusal live plan ≡ None
   nothing_bad columns ranges = rw (still, counts, columns_are, columns, ranges) refl
+
+one_end : (pages : ℕ) (ends : List ℕ) → is_one_end pages ends ≡ true → ends ≡ pages ∷ []
+one_end pages [] e = absurd (false≢true e)
+one_end pages (end ∷ []) e = ap (λ n. n ∷ []) (eqb-true end pages e)
+one_end pages (end ∷ other ∷ ends) e = absurd (false≢true e)
+
+-- one range ends behind the last page
+pub one_dealt : (pages : ℕ) (dealing : Dealing) → is_one_range pages dealing ≡ true → dealt_ends pages dealing ≡ pages ∷ []
+one_dealt pages (Ends ends) e = one_end pages ends.items e
+one_dealt pages (Even ranges) e =
+    let one : ranges ≡ 1 = eqb-true ranges 1 e in
+    let all : pages * 1 / 1 ≡ pages = omega arith in
+    ap (even_ends pages) one ∙ ap (λ n. n ∷ []) all
+
+-- a plan whose counts fit has one worker
+pub one_worker : (live : LiveState) (plan : Plan) → counts_fit live plan ≡ true → plan.workers ≡ 1
+one_worker live plan e =
+    let workers : Bool = plan.workers == 1 in
+    let specs : Bool = length plan.specs.items == 1 in
+    let plain : Bool = not (list_any (λ spec. spec.unique) plan.specs.items) in
+    let room : Bool = nat_lt (length live.ready) 32 in
+    let first = and_parts (workers && specs && plain && room) (nat_lt live.builds 18446744073709551615) e in
+    let second = and_parts (workers && specs && plain) room first.0 in
+    let third = and_parts (workers && specs) plain second.0 in
+    eqb-true plan.workers 1 (and_parts workers specs third.0).0
+
+-- its work is that of one worker on one index
+pub fresh_is : (plan : Plan) (spec : KeySpecValue) → plan.workers ≡ 1 → plan.specs.items ≡ spec ∷ [] → work_state (Some (fresh spec)) ≡ fresh_work plan
+fresh_is plan spec workers one = sym (rw (workers, one) refl)

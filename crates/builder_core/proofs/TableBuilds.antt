@@ -12,17 +12,21 @@ use Rattle.keybytes.specs.declared.kind.Kind.{Kind}
 use Rattle.keybytes.specs.declared.pair.Pair.{Pair}
 use Rattle.heap_log.specs.declared.record.LogRec.{LogRec}
 use Rattle.heap_log.specs.declared.record.LogRec.TheVariants.{Commit}
+use Rattle.heap_table.specs.Images.{ImageValue, IsImage}
 use Rattle.heap_table.specs.Pages.{pages_written}
 use Rattle.heap_table.specs.TablePairs.{index_pairs, pairs_at_rest}
-use Rattle.builder_core.specs.Builds.{WorkValue, ScansInTurn, IsBuildOf, IsSound, IsWorkOn, IsWorkOf, BuildFollows}
+use Rattle.builder_core.specs.Builds.{WorkValue, ScansInTurn, IsBuildOf, IsSound, IsWorkOn, IsWorkOf, BuildFollows, after_put}
 use Rattle.builder_core.specs.CoreState.{BuildState, scanning_of}
+use Rattle.builder_core.specs.Ranges.{next_page}
 use Rattle.builder_core.specs.Scanning.{Scanning, IsScanOf, AllScanned, scanned_at, pairs_at_scan, scanned_pairs}
 use Rattle.builder_core.specs.SideEntries.{SideEntry, side_entries, entries_of, apply_entries}
 use Rattle.builder_core.specs.declared.scan.Scan.{Scan}
 use Rattle.builder_core.proofs.Copies.{copies_kept}
 use Rattle.builder_core.proofs.EntrySteps.{opened_entries, more_entries, same_entries, commit_entries}
-use Rattle.builder_core.proofs.ScanSteps.{opened_scanned, more_scanned, pairs_kept, same_pairs, scan_now, scan_scanned, scanned_last, scanned_new}
+use Rattle.builder_core.proofs.ScanSteps.{opened_scanned, more_scanned, pairs_kept, same_pairs, scan_now, scan_scanned, scanned_last, scanned_new, pages_grow}
+use Rattle.builder_core.proofs.OneRange.{next_page_is}
 use Rattle.builder_core.proofs.SideFollows.{leaves_index}
+use Rattle.builder_core.proofs.Working.{put_work}
 
 -- no page was copied
 pub none_in_turn : (pages : ℕ) → pages ≤ 65536 → ScansInTurn pages []
@@ -60,16 +64,17 @@ pub not_scanned : (pages : ℕ) (scans : List Scan) → ScansInTurn pages scans 
 not_scanned pages scans turn = none_of (scanned_at scans (length scans)) (turn.in_turn (length scans) ∙ le-ltb (length scans) (length scans) (omega arith))
 
 -- the next page is copied too
-pub turn_more : (pages : ℕ) (scans : List Scan) (log : List LogRec) → ScansInTurn pages scans → length scans < pages → ScansInTurn pages (scans ++ scan_now 0 (length scans) log ∷ [])
-turn_more pages scans log turn more = record {
+pub turn_more :
+    (pages : ℕ) (scans : List Scan) (records : ℕ) → ScansInTurn pages scans → length scans < pages
+    → ScansInTurn pages (scans ++ record { worker = 0; page = length scans; records = records } ∷ [])
+turn_more pages scans records turn more = record {
   limit = turn.limit;
   within = omega (arith, longer, more);
   in_turn = copied;
-  alone = filter-append (λ scan. scan.worker == 0) scans (scan_now 0 (length scans) log ∷ [])
-      ∙ ap (λ (xs : List Scan). xs ++ scan_now 0 (length scans) log ∷ []) turn.alone;
+  alone = filter-append (λ scan. scan.worker == 0) scans (last ∷ []) ∙ ap (λ (xs : List Scan). xs ++ last ∷ []) turn.alone;
 } where
   last : Scan
-  last = scan_now 0 (length scans) log
+  last = record { worker = 0; page = length scans; records = records }
 
   longer : length (scans ++ last ∷ []) ≡ length scans + 1
   longer = length-append scans (last ∷ [])
@@ -99,7 +104,7 @@ scanned_build kinds log b is more = record {
   one_index = is.one_index;
   one_range = is.one_range;
   columns = is.columns;
-  in_turn = turn_more b.pages b.scans log is.in_turn more;
+  in_turn = turn_more b.pages b.scans (length log) is.in_turn more;
   scanned = scan_scanned (scanning_of b is.spec) 0 (length b.scans) log is.scanned more (not_scanned b.pages b.scans is.in_turn);
   no_entries = same_entries (scanning_of b is.spec) 0 (length b.scans) log (not_scanned b.pages b.scans is.in_turn) ∙ is.no_entries;
 }
@@ -170,3 +175,30 @@ switched_pairs kinds log b work pairs build is fine loaded =
     ∙ ap (λ (es : List SideEntry). keys (apply_entries es (set_of (scanned_pairs here log)))) (sym build.no_entries)
     ∙ ap keys (leaves_index here log build.scanned whole)
     ∙ ap (λ spec. pairs_at_rest spec log) same
+
+-- the page that comes next is one of the table's
+pub next_below : (kinds : List Kind) (log : List LogRec) (b : BuildState) (page : ℕ) → IsBuildOf kinds log b → next_page b 0 ≡ Some page → page < pages_written log
+next_below kinds log b page is next =
+    let at = next_page_is b page is.one_range is.in_turn next in
+    let grow = pages_grow b.opened log in
+    let pages = is.scanned.pages in
+    omega (arith, at.0, at.1, grow, pages)
+
+-- it is copied now
+pub scanned_next :
+    (kinds : List Kind) (log : List LogRec) (b : BuildState) (page records : ℕ) → IsBuildOf kinds log b → next_page b 0 ≡ Some page → records ≡ length log
+    → IsBuildOf kinds log (record b { scans = b.scans ++ record { worker = 0; page = page; records = records } ∷ [] })
+scanned_next kinds log b page records is next now =
+    let at = next_page_is b page is.one_range is.in_turn next in
+    let Follows : ℕ → ℕ → Type 0 = λ p r. IsBuildOf kinds log (record b { scans = b.scans ++ record { worker = 0; page = p; records = r } ∷ [] }) in
+    subst (λ p. Follows p records) (sym at.0) (subst (Follows (length b.scans)) (sym now) (scanned_build kinds log b is at.1))
+
+-- and its copy waits
+pub put_next :
+    (kinds : List Kind) (log : List LogRec) (b : BuildState) (work : WorkValue) (page records : ℕ) (image : ImageValue) → IsBuildOf kinds log b → IsWorkOn kinds log b work
+    → next_page b 0 ≡ Some page → records ≡ length log → length work.worker.ring < 4 → IsImage kinds log page image
+    → IsWorkOn kinds log (record b { scans = b.scans ++ record { worker = 0; page = page; records = records } ∷ [] }) (record work { worker = after_put work.worker image })
+put_next kinds log b work page records image build is next now room copy =
+    let at = next_page_is b page build.one_range build.in_turn next in
+    subst (λ r. IsWorkOn kinds log (record b { scans = b.scans ++ record { worker = 0; page = page; records = r } ∷ [] }) (record work { worker = after_put work.worker image }))
+    (sym now) (put_work kinds log b work 0 page image is at.1 room copy)

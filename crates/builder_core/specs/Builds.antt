@@ -1,5 +1,5 @@
 -- What a table and the workers of its build keep between events, and how the two go together.
-use Rattle.std.specs.Prelude.{◌≡◌, ℕ, ◌+◌, ◌≤◌, List, [], ◌∷◌, ◌++◌, length, take, drop, filter, flat_map, is_some, nat_lt, ◌==◌, true, Option, Some, None}
+use Rattle.std.specs.Prelude.{◌≡◌, ℕ, ◌+◌, ◌≤◌, List, [], ◌∷◌, ◌++◌, length, take, drop, filter, flat_map, is_some, nat_lt, ◌==◌, true, ◌<◌, IfSome, Option, Some, None}
 use Rattle.std.specs.FinMap.{keys}
 use Rattle.keybytes.specs.Keys.{KeySpecValue}
 use Rattle.keybytes.specs.Pairs.{set_of}
@@ -10,6 +10,7 @@ use Rattle.heap_log.specs.declared.record.LogRec.{LogRec}
 use Rattle.heap_table.specs.Images.{ImageValue}
 use Rattle.builder_core.specs.CoreState.{BuildState, LiveState, WorkerState, IndexState, WorkState, CoreState, scanning_of, idle}
 use Rattle.builder_core.specs.ImagePairs.{HavePairs}
+use Rattle.builder_core.specs.Ranges.{next_page}
 use Rattle.builder_core.specs.Scanning.{Scanning, IsScanned, AreCopies, scanned_at, pairs_at_scan, scanned_pairs}
 use Rattle.builder_core.specs.SideEntries.{side_entries}
 use Rattle.builder_core.specs.declared.scan.Scan.{Scan}
@@ -103,3 +104,32 @@ IsWorkOf kinds log (Some b) (Some work) = IsWorkOn kinds log b work
 -- the same of a table
 abbrev pub WorksOn : LiveState → Option WorkValue → Type 0
 WorksOn live work = IsWorkOf live.heap.schema live.heap.log live.build work
+
+-- that page comes next, and its copy can be put to the one worker
+pub record MayScan (live : LiveState) (work : Option WorkValue) (range worker page : ℕ) : Type 0 where
+  pub only : (range ≡ 0) × (worker ≡ 0)
+  pub next : IfSome live.build (λ b. next_page b 0 ≡ Some page)
+  pub room : IfSome work (λ w. length w.worker.ring < 4)
+
+-- a build runs on that table, and this is its work
+pub record IsRunning (live : LiveState) (work : Option WorkValue) : Type 0 where
+  pub build : BuildState
+  pub made : WorkValue
+  pub build_is : live.build ≡ Some build
+  pub work_is : work ≡ Some made
+  pub follows : IsBuildOf live.heap.schema live.heap.log build
+  pub works : IsWorkOn live.heap.schema live.heap.log build made
+
+-- the worker may seal
+pub record MaySeal (live : LiveState) (work : Option WorkValue) (worker : ℕ) : Type 0 where
+  pub only : worker ≡ 0
+  pub runs : IsRunning live work
+  pub fine : runs.made.spoiled ≡ None
+
+-- the pairs of the index may be put in order
+pub record MayLoad (live : LiveState) (work : Option WorkValue) (index : ℕ) : Type 0 where
+  pub only : index ≡ 0
+  pub runs : IsRunning live work
+  pub fine : runs.made.spoiled ≡ None
+  pub all : length runs.build.scans ≡ runs.build.pages
+  pub none : length runs.made.worker.ring ≡ 0

@@ -1,6 +1,5 @@
 //! The half of a build that needs no lock.
 ghost use Rattle.std.specs.Prelude.{◌≡◌, ◌≤◌, ◌<◌, ◌+◌, [], List, length, true, is_some, if◌then◌else◌, Some, None, IfErr, IfOk, OnOk, OnErr, MatchResult, MatchOption, IsPermutation, T};
-ghost use Rattle.keybytes.specs.Faults.{RefusedFor};
 ghost use Rattle.heap_table.proofs.PairsAtRest.{InOrder};
 ghost use Rattle.builder_core.specs.Builds.{WorkValue, after_put, HasSealed};
 ghost use Rattle.builder_core.specs.ImagePairs.{HavePairs};
@@ -79,20 +78,18 @@ impl Work {
     /// Lets the worker take all copies, and answers how many there were. Want of memory spoils the build.
     pub fn seal(&mut self, schema: &Schema) -> Result<usize, Fault>
         requires columns { self.old.spec.kinds ≡ schema.now }
-        requires copies { self.old.spoiled ≡ None → (made : List Pair) × HavePairs self.old.spec self.old.worker.ring made }
+        requires copies { (made : List Pair) × HavePairs self.old.spec self.old.worker.ring made }
         requires room { self.old.worker.taken + length self.old.worker.ring ≤ 65536 }
         ensures count { IfOk result (λ images. images ≡ length self.old.worker.ring) }
         ensures sealed { OnOk result (HasSealed self.old.spec self.old.worker self.new.worker) }
         ensures kept { OnOk result (self.new ≡ record self.old { worker = self.new.worker }) }
-        ensures accepted { OnOk result (self.old.spoiled ≡ None) }
-        ensures spoiled { IfErr result (λ fault. self.new ≡ record self.old { worker = self.new.worker; spoiled = Some fault }) }
+        ensures spoiled { OnErr result (self.new ≡ record self.old { worker = self.new.worker; spoiled = Some Fault.Memory }) }
         ensures waits { OnErr result ((self.new.worker.ring ≡ self.old.worker.ring) × (self.new.worker.taken ≡ self.old.worker.taken)) }
-        ensures refused { IfErr result (RefusedFor self.old.spoiled) }
+        ensures memory { IfErr result (λ fault. fault ≡ Fault.Memory) }
     {
-        self.check()?;
         let sealed = self.worker.seal(schema, &self.spec);
-        if let Err(fault) = sealed {
-            self.spoiled = Some(fault);
+        if sealed.is_err() {
+            self.spoiled = Some(Fault::Memory);
         }
         sealed
     }

@@ -236,33 +236,26 @@ impl Core {
     fn seal(&mut self, worker: usize) -> Result<Reply, Fault>
         ensures { Answers self.old (Event.Seal worker) result self.new }
     {
-        let Some(work) = &mut self.building.work else {
-            return Err(Fault::NoBuild);
+        self.live.check_seal(worker, &self.building)?;
+        let schema = self.live.heap().schema();
+        let building = &mut self.building;
+        let Some(work) = &mut building.work else {
+            unreachable!()
         };
-        if worker != 0 {
-            return Err(Fault::BadCount);
-        }
-        let images = work.seal(self.live.heap().schema())?;
+        let images = work.seal(schema)?;
         Ok(Reply::Sealed { images })
     }
 
     fn load(&mut self, index: usize) -> Result<Reply, Fault>
         ensures { Answers self.old (Event.Load index) result self.new }
     {
-        let (Some(build), Some(work)) = (self.live.build(), &mut self.building.work) else {
-            return Err(Fault::NoBuild);
+        self.live.check_load(index, &self.building)?;
+        let building = &mut self.building;
+        let Some(work) = &mut building.work else {
+            unreachable!()
         };
-        if index != 0 {
-            return Err(Fault::BadCount);
-        }
-        work.check()?;
-        if build.is_open() {
-            return Err(Fault::NotScanned(0));
-        }
-        if work.waiting() > 0 {
-            return Err(Fault::NotSealed(0));
-        }
-        Ok(Reply::Loaded { pairs: work.load() })
+        let pairs = work.load();
+        Ok(Reply::Loaded { pairs })
     }
 
     fn switch(&mut self) -> Result<Reply, Fault>

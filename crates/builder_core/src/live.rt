@@ -5,6 +5,7 @@ ghost use Rattle.heap_table.specs.HeapState.{after_visit, row_missing};
 ghost use Rattle.heap_table.specs.Pages.{pages_written};
 ghost use Rattle.heap_table.specs.TablePairs.{pairs_at_rest};
 ghost use Rattle.keybytes.specs.Pairs.{HaveKeysOf, AreInColumnOrder};
+ghost use Rattle.builder_core.specs.Builds.{BuildFollows};
 ghost use Rattle.builder_core.specs.CoreState.{live_with_heap, abandoned, after_visits, ReadyFollowTable};
 
 use crate::rest::at_rest;
@@ -72,7 +73,8 @@ impl Live {
 
     /// The build that runs.
     pub(crate) fn build(&self) -> Option<&TableScan>
-        ensures { MatchOption result (self.now.build ≡ None) (λ build. self.now.build ≡ Some build.now) }
+        ensures build { MatchOption result (self.now.build ≡ None) (λ build. self.now.build ≡ Some build.now) }
+        ensures follows { BuildFollows self.now.heap.schema self.now.heap.log self.now.build }
     {
         self.build.as_ref()
     }

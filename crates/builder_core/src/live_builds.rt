@@ -4,9 +4,9 @@ ghost use Rattle.keybytes.specs.Answered.{Answered};
 ghost use Rattle.heap_log.specs.declared.outcome.Outcome.{Outcome};
 ghost use Rattle.heap_table.specs.HeapState.{after_switch};
 ghost use Rattle.heap_table.specs.Pages.{pages_written, KeepsRows};
-ghost use Rattle.builder_core.specs.Builds.{core_state, work_state, WorksOn};
+ghost use Rattle.builder_core.specs.Builds.{core_state, work_state, MayScan, MaySeal, MayLoad, WorksOn};
 ghost use Rattle.builder_core.specs.Ranges.{next_page};
-ghost use Rattle.builder_core.specs.Steps.{Starts, Scans, Switches, start_refusal, scan_refusal, switch_refusal, refusal_of, counts_fit, is_one_range};
+ghost use Rattle.builder_core.specs.Steps.{Starts, Scans, Switches, start_refusal, scan_refusal, seal_refusal, load_refusal, switch_refusal, refusal_of, counts_fit, is_one_range};
 
 use crate::building::Work;
 use crate::table_scan::TableScan;
@@ -69,6 +69,8 @@ impl Live {
         ensures columns { IfOk result (λ spec. spec.now.kinds ≡ self.now.heap.schema) }
         ensures free { OnOk result (self.now.build ≡ None) }
         ensures number { OnOk result (self.now.builds < 18446744073709551615) }
+        ensures counts { OnOk result (counts_fit self.now plan.now ≡ true) }
+        ensures range { OnOk result (is_one_range (pages_written self.now.heap.log) plan.now.dealing ≡ true) }
         ensures accepted { OnOk result (start_refusal self.now plan.now ≡ None) }
         ensures refused { IfErr result (λ fault. start_refusal self.now plan.now ≡ Some fault) }
     {
@@ -102,7 +104,8 @@ impl Live {
     /// Why a page of the range would not be copied for the worker, and else which page it is. Takes no memory.
     pub fn check_scan(&self, range: usize, worker: usize, building: &Building) -> Result<u32, Fault>
         requires { WorksOn self.now building.now }
-        ensures page { IfOk result (λ page. refusal_of self.now.build (λ b. scan_refusal b (work_state building.now) range worker) ≡ None) }
+        ensures accepted { OnOk result (refusal_of self.now.build (λ b. scan_refusal b (work_state building.now) range worker) ≡ None) }
+        ensures page { IfOk result (λ page. MayScan self.now building.now range worker page) }
         ensures refused { IfErr result (λ fault. refusal_of self.now.build (λ b. scan_refusal b (work_state building.now) range worker) ≡ Some fault) }
     {
         let (Some(build), Some(work)) = (self.build(), building.work()) else {
@@ -141,14 +144,60 @@ impl Live {
             Ok(page) => page,
             Err(fault) => return Err((image, fault)),
         };
-        let (Some(build), Some(work)) = (&mut self.build, &mut building.work) else {
-            unreachable!()
-        };
         let mut image = image;
         self.heap.copy_page(page, &mut image);
-        build.note(page, self.heap.records());
+        let records = self.heap.records();
+        let Some(build) = &mut self.build else {
+            unreachable!()
+        };
+        build.note(page, records);
+        let Some(work) = &mut building.work else {
+            unreachable!()
+        };
         work.put(image);
         Ok(page)
+    }
+
+    /// Why the worker would not seal. Takes no memory.
+    pub fn check_seal(&self, worker: usize, building: &Building) -> Result<(), Fault>
+        requires { WorksOn self.now building.now }
+        ensures accepted { MatchResult result
+            (λ _. refusal_of self.now.build (λ b. seal_refusal (work_state building.now) worker) ≡ None)
+            (λ fault. refusal_of self.now.build (λ b. seal_refusal (work_state building.now) worker) ≡ Some fault) }
+        ensures runs { OnOk result (MaySeal self.now building.now worker) }
+    {
+        let (Some(_build), Some(work)) = (self.build(), building.work()) else {
+            return Err(Fault::NoBuild);
+        };
+        if worker != 0 {
+            return Err(Fault::BadCount);
+        }
+        work.check()?;
+        Ok(())
+    }
+
+    /// Why the pairs of the index would not be put in order. Takes no memory.
+    pub fn check_load(&self, index: usize, building: &Building) -> Result<(), Fault>
+        requires { WorksOn self.now building.now }
+        ensures accepted { MatchResult result
+            (λ _. refusal_of self.now.build (λ b. load_refusal b (core_state self.now building.now) index) ≡ None)
+            (λ fault. refusal_of self.now.build (λ b. load_refusal b (core_state self.now building.now) index) ≡ Some fault) }
+        ensures runs { OnOk result (MayLoad self.now building.now index) }
+    {
+        let (Some(build), Some(work)) = (self.build(), building.work()) else {
+            return Err(Fault::NoBuild);
+        };
+        if index != 0 {
+            return Err(Fault::BadCount);
+        }
+        work.check()?;
+        if build.is_open() {
+            return Err(Fault::NotScanned(0));
+        }
+        if work.waiting() > 0 {
+            return Err(Fault::NotSealed(0));
+        }
+        Ok(())
     }
 
     /// Why the indexes of the build would not become ready. Takes no memory.

@@ -1,0 +1,36 @@
+use Rattle.std.proofs.Common.{◌≡◌, ◌≤◌, ◌<◌, ℕ, length, Some, None, rules, ap, sym, ◌∙◌, arith, subst}
+use Rattle.std.specs.Prelude.{Option, IfErr}
+use Rattle.keybytes.specs.declared.fault.Fault.{Fault}
+use Rattle.builder_core.specs.Builds.{WorkValue, work_state}
+use Rattle.builder_core.specs.CoreState.{BuildState}
+use Rattle.builder_core.specs.Ranges.{next_page}
+use Rattle.builder_core.specs.Steps.{refusal_of, scan_refusal}
+use Rattle.builder_core.proofs.Refusals.{Running, running, scan_bad_count, scan_spoiled, scan_done, scan_full, scan_free}
+use Rattle.builder_core.proofs.live.Live.check_scan.Goals as goal
+
+pub returns-then-range-ne0-clause-refused : goal.returns-then-range-ne0-clause-refused
+returns-then-range-ne0-clause-refused c =
+    let b : BuildState = c.in-Some-Some.build.now in
+    let w : WorkValue = c.in-Some-Some.work.now in
+    let run = running c.args.self.now c.args.building.now b w c.in-Some-Some.ensures.build c.in-Some-Some.ensures' c.build.ensures.follows c.requires in
+    scan_bad_count c.args.self.now c.args.building.now b w run c.args.range c.args.worker c.then-range-ne0.either
+
+pub returns-then-waiting-ge-RING_MAX-clause-refused : goal.returns-then-waiting-ge-RING_MAX-clause-refused
+returns-then-waiting-ge-RING_MAX-clause-refused c =
+    let b : BuildState = c.in-Some-Some.build.now in
+    let w : WorkValue = c.in-Some-Some.work.now in
+    let run = running c.args.self.now c.args.building.now b w c.in-Some-Some.ensures.build c.in-Some-Some.ensures' c.build.ensures.follows c.requires in
+    let full : 4 ≤ length w.worker.ring = omega (arith, c.waiting.ensures, c.if-waiting-ge-RING_MAX.true) in
+    let fine : w.spoiled ≡ None = c.in_ok-check.ensures in
+    let next : next_page b 0 ≡ Some c.in_ok-page.page = search rules in
+    rw (c.if-range-ne0.false, c.if-worker-ne0.false) (scan_full c.args.self.now c.args.building.now b w run c.in_ok-page.page fine next full)
+
+pub returns-clause-accepted : goal.returns-clause-accepted
+returns-clause-accepted c =
+    let b : BuildState = c.in-Some-Some.build.now in
+    let w : WorkValue = c.in-Some-Some.work.now in
+    let run = running c.args.self.now c.args.building.now b w c.in-Some-Some.ensures.build c.in-Some-Some.ensures' c.build.ensures.follows c.requires in
+    let room : length w.worker.ring < 4 = omega (arith, c.waiting.ensures, c.if-waiting-ge-RING_MAX.false) in
+    let fine : w.spoiled ≡ None = c.in_ok-check.ensures in
+    let next : next_page b 0 ≡ Some c.in_ok-page.page = search rules in
+    rw (c.if-range-ne0.false, c.if-worker-ne0.false) (scan_free c.args.self.now c.args.building.now b w run c.in_ok-page.page fine next room)

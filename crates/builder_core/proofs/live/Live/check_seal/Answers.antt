@@ -1,0 +1,10 @@
+use Rattle.builder_core.proofs.Refusals.{is_running}
+use Rattle.builder_core.proofs.live.Live.check_seal.Goals as goal
+
+pub returns-clause-runs : goal.returns-clause-runs
+returns-clause-runs c = record {
+  only = c.if-worker-ne0.false;
+  runs = is_running c.args.self.now c.args.building.now c.in-Some-Some._build.now c.in-Some-Some.work.now c.in-Some-Some.ensures.build c.in-Some-Some.ensures'
+      c.build.ensures.follows c.requires;
+  fine = c.in_ok-check.ensures;
+}

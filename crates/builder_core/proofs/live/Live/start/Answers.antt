@@ -1,0 +1,55 @@
+use Rattle.std.proofs.Common.{◌≡◌, ◌∙◌, ◌+◌, ◌∷◌, [], ◌≤◌, ℕ, List, length, Some, None, refl, ap, sym, subst, arith}
+use Rattle.keybytes.specs.Keys.{KeySpecValue}
+use Rattle.heap_table.specs.Pages.{pages_written}
+use Rattle.builder_core.specs.Builds.{WorkValue, IsBuildOf, work_state}
+use Rattle.builder_core.specs.CoreState.{BuildState, LiveState, WorkState, CoreState}
+use Rattle.builder_core.specs.Steps.{started, fresh_work}
+use Rattle.builder_core.proofs.Starts.{one_dealt, one_worker, fresh_is}
+use Rattle.builder_core.proofs.TableBuilds.{started_build}
+use Rattle.builder_core.proofs.Working.{fresh}
+use Rattle.builder_core.proofs.live.Live.start.Goals as goal
+
+abbrev opened : ℕ → KeySpecValue → ℕ → ℕ → BuildState
+opened number spec records pages = record { number = number; specs = spec ∷ []; opened = records; pages = pages; ends = pages ∷ []; scans = [] }
+
+pub invariant_of-self : goal.invariant_of-self
+invariant_of-self c =
+    let heap = c.self.inside.heap in
+    let number : ℕ = c.self.inside.builds + 1 in
+    let spec : KeySpecValue = c.in_ok-clone-2.field-0 in
+    let columns : spec.kinds ≡ heap.schema =
+    ap (λ (s : KeySpecValue). s.kinds) c.in_ok-clone-2.ensures.same ∙ c.in_ok-spec.ensures.columns ∙ sym (ap (λ (l : LiveState). l.heap.schema) c.self.view_is) in
+    let limit : pages_written heap.log ≤ 65536 = let pages = c.pages-pages.ensures.pages in let most = c.pages-pages.ensures.limit in omega (arith, pages, most) in
+    let is : c.in_ok-build.build ≡ opened number spec (length heap.log) (pages_written heap.log) =
+    c.in_ok-build.ensures.ok
+    ∙ ap (λ n. opened number spec n c.pages-pages.result) c.records.ensures
+    ∙ ap (opened number spec (length heap.log)) c.pages-pages.ensures.pages in
+    (c.self.invariant.0, subst (IsBuildOf heap.schema heap.log) (sym is) (started_build heap.schema heap.log number spec columns limit))
+
+pub returns-clause-started : goal.returns-clause-started
+returns-clause-started c =
+    let live : LiveState = c.args.self.now in
+    let plan = c.args.plan.now in
+    let heap = c.self.inside.heap in
+    let spec : KeySpecValue = c.in_ok-spec.spec.now in
+    let one : plan.specs.items ≡ spec ∷ [] = c.in_ok-spec.ensures.spec in
+    let pages : c.pages-pages.result ≡ pages_written live.heap.log = c.pages-pages.ensures.pages ∙ ap (λ (l : LiveState). pages_written l.heap.log) c.self.view_is in
+    let log : c.records.result ≡ length live.heap.log = c.records.ensures ∙ ap (λ (l : LiveState). length l.heap.log) c.self.view_is in
+    let build : c.in_ok-build.build ≡ started live plan =
+    c.in_ok-build.ensures.ok
+    ∙ ap (λ s. opened (c.self.inside.builds + 1) s c.records.result c.pages-pages.result) c.in_ok-clone-2.ensures.same
+    ∙ ap (λ n. opened (n + 1) spec c.records.result c.pages-pages.result) (ap (λ (l : LiveState). l.builds) c.self.view_is)
+    ∙ ap (λ n. opened (live.builds + 1) spec n c.pages-pages.result) log
+    ∙ ap (λ n. opened (live.builds + 1) spec (length live.heap.log) n) pages
+    ∙ ap (λ (specs : List KeySpecValue). record (opened (live.builds + 1) spec (length live.heap.log) (pages_written live.heap.log)) { specs = specs }) (sym one)
+    ∙ ap (λ (ends : List ℕ). record (started live plan) { ends = ends }) (sym (one_dealt (pages_written live.heap.log) plan.dealing c.in_ok-spec.ensures.range)) in
+    let work : work_state (Some c.in_ok-work.work) ≡ fresh_work plan =
+    ap (λ (w : WorkValue). work_state (Some w)) (c.in_ok-work.ensures.ok ∙ ap fresh c.in_ok-clone.ensures.same)
+    ∙ fresh_is plan spec (one_worker live plan c.in_ok-spec.ensures.counts) one in
+    let Whole : LiveState → BuildState → WorkState → CoreState = λ l b w. record { live = record l { builds = l.builds + 1; build = Some b }; work = w } in (
+      c.in_ok-spec.ensures.accepted,
+      (pages,
+      ap (λ l. Whole l c.in_ok-build.build (work_state (Some c.in_ok-work.work))) c.self.view_is
+          ∙ ap (λ b. Whole live b (work_state (Some c.in_ok-work.work))) build
+          ∙ ap (Whole live (started live plan)) work),
+    )
