@@ -17,4 +17,5 @@ pub mod Starts
 pub mod SwitchIn
 pub mod Switching
 pub mod TableBuilds
+pub mod Told
 pub mod Working

@@ -107,11 +107,7 @@ impl Core {
         ensures step { Step self.old event result self.new }
         ensures ready { ReadyFollowTable self.new.live }
     {
-        let answer = match event {
-            Event::Insert { txn, row } => self.insert(txn, row),
-            Event::Update { txn, rid, row } => self.update(txn, rid, row),
-            other => self.attempt(&other),
-        };
+        let answer = self.attempt_own(event);
         self.reply(answer)
     }
 
@@ -133,6 +129,17 @@ impl Core {
         match answer {
             Ok(reply) => reply,
             Err(fault) => Reply::Refused { fault },
+        }
+    }
+
+    /// Does one event of its own, or tells why not: the row of a write is handed on.
+    fn attempt_own(&mut self, event: Event) -> Result<Reply, Fault>
+        ensures { Answers self.old event result self.new }
+    {
+        match event {
+            Event::Insert { txn, row } => self.insert(txn, row),
+            Event::Update { txn, rid, row } => self.update(txn, rid, row),
+            other => self.attempt(&other),
         }
     }
 

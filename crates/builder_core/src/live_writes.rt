@@ -1,8 +1,9 @@
 //! What transactions do to a table and its indexes.
-ghost use Rattle.std.specs.Prelude.{◌≡◌, [], Some, None, OnOk, IfErr, MatchResult, true};
+ghost use Rattle.std.specs.Prelude.{◌≡◌, [], Some, None, OnOk, IfErr, MatchResult, true, Option};
 ghost use Rattle.keybytes.specs.Answered.{Answered};
 ghost use Rattle.heap_table.specs.Calls.{Begins, Inserts, Updates, Deletes, Undoes, Commits};
 ghost use Rattle.heap_table.specs.HeapState.{begin_refusal, txn_refusal, insert_refusal, update_refusal, delete_refusal, undo_refusal};
+ghost use Rattle.builder_core.specs.Builds.{WorkValue, WorksOn};
 ghost use Rattle.builder_core.specs.Steps.{OnHeap, is_indexed, unless_indexed};
 
 use crate::Live;
@@ -88,7 +89,8 @@ impl Live {
     /// The transaction ends, and keeps its writes; answered with the record's number. [`Fault::NoSuchTxn`],
     /// [`Fault::TxnEnding`].
     pub fn commit(&mut self, txn: u64) -> Result<usize, Fault>
-        ensures { Answered (txn_refusal self.old.heap txn) (OnHeap (Commits txn)) self.old result self.new }
+        ensures committed { Answered (txn_refusal self.old.heap txn) (OnHeap (Commits txn)) self.old result self.new }
+        ensures works { (work : Option WorkValue) → WorksOn self.old work → WorksOn self.new work }
     {
         self.heap.commit(txn)
     }
