@@ -59,11 +59,10 @@ fit_added kinds log new rec added fit old = λ n cells e.
 -- the same rows and pages
 pub kept_same :
     (s t : HeapState) (p q : PagesValue) → t.log ≡ s.log → t.schema ≡ s.schema → t.slot_limit ≡ s.slot_limit → t.page_limit ≡ s.page_limit
-    → q.pages ≡ p.pages → q.limit ≡ p.limit → t.room ≤ q.spare → IsSound t → IsKept s p → IsKept t q
-kept_same s t p q log schema slots limit pages pages_limit room sound kept = record {
+    → q.pages ≡ p.pages → q.limit ≡ p.limit → IsSound t → IsKept s p → IsKept t q
+kept_same s t p q log schema slots limit pages pages_limit sound kept = record {
   pages_are = pages ∙ (kept.pages_are ∙ sym (rw (log, slots) refl));
   limit = pages_limit ∙ (kept.limit ∙ sym slots);
-  room = room;
   writes_fit = rw (log, schema) kept.writes_fit;
   sound = sound;
   undo_fits = rw log kept.undo_fits;
@@ -80,9 +79,9 @@ pub kept_write :
     (s t : HeapState) (p q : PagesValue) (txn : ℕ) (rid : Rid) (row : Option (List Cell)) → IsKept s p → Wrote s t txn rid row
     → t.schema ≡ s.schema → t.slot_limit ≡ s.slot_limit → t.page_limit ≡ s.page_limit → rid.page ≤ pages_written s.log → rid.slot ≤ slots_written s.log rid.page → rid.page < s.page_limit
     → ((cells : List Cell) → row ≡ Some cells → IsRow cells × (fits s.schema cells ≡ true))
-    → q.pages ≡ with_slot_in p.pages p.limit rid (changed (slot_in p.pages rid) (option_map row_bytes row)) → q.limit ≡ p.limit → t.room ≤ q.spare
+    → q.pages ≡ with_slot_in p.pages p.limit rid (changed (slot_in p.pages rid) (option_map row_bytes row)) → q.limit ≡ p.limit
     → IsKept t q
-kept_write s t p q txn rid row kept w schema slots limit in_pages in_slots below fit pages pages_limit room =
+kept_write s t p q txn rid row kept w schema slots limit in_pages in_slots below fit pages pages_limit =
     let rec : LogRec = Write txn rid row in
     let pages_grown : pages_written t.log ≡ max (pages_written s.log) (rid.page + 1) = ap pages_written w.added.is ∙ pages_written-added s.log rec in
     let grown : slots_written t.log rid.page ≡ max (slots_written s.log rid.page) (rid.slot + 1) =
@@ -101,7 +100,6 @@ kept_write s t p q txn rid row kept w schema slots limit in_pages in_slots below
           s.slot_limit rid (λ other differs. write_other_slot s t txn rid row w other differs) in_pages in_slots pages_grown grown others (slots_past s.log)
           ∙ ap (pages_by (slot_of t.log) (slots_written t.log) (pages_written t.log)) (sym slots)))));
       limit = pages_limit ∙ (kept.limit ∙ sym slots);
-      room = room;
       writes_fit = rw schema (fit_added s.schema s.log t.log rec w.added fit kept.writes_fit);
       sound = w.sound;
       undo_fits = fits_write s t txn rid row w kept.undo_fits;
@@ -126,8 +124,8 @@ kept_after :
     → row_of (Some rec) ≡ None → pages_written (rec ∷ []) ≡ 0 → ((page : ℕ) → slots_written (rec ∷ []) page ≡ 0)
     → t.schema ≡ s.schema → t.slot_limit ≡ s.slot_limit → t.page_limit ≡ s.page_limit
     → q.pages ≡ pages_by slot (slots_written s.log) (pages_written s.log) s.slot_limit → ((rid : Rid) → slot rid ≡ slot_of t.log rid)
-    → q.limit ≡ p.limit → t.room ≤ q.spare → IsKept t q
-kept_after s t p q rec slot kept sound undo_fits added none no_page no_slot schema slots limit pages same pages_limit room =
+    → q.limit ≡ p.limit → IsKept t q
+kept_after s t p q rec slot kept sound undo_fits added none no_page no_slot schema slots limit pages same pages_limit =
     let counts = same_counts s.log t.log rec added.is no_page no_slot in
     record {
       pages_are =
@@ -135,7 +133,6 @@ kept_after s t p q rec slot kept sound undo_fits added none no_page no_slot sche
           ∙ (ap (λ (n : ℕ). pages_by (slot_of t.log) (slots_written t.log) n s.slot_limit) (sym counts.0)
           ∙ ap (pages_by (slot_of t.log) (slots_written t.log) (pages_written t.log)) (sym slots)));
       limit = pages_limit ∙ (kept.limit ∙ sym slots);
-      room = room;
       writes_fit = rw schema (fit_added s.schema s.log t.log rec added (λ cells e. absurd (none_some cells (sym none ∙ e))) kept.writes_fit);
       sound = sound;
       undo_fits = undo_fits;
@@ -148,8 +145,8 @@ kept_after s t p q rec slot kept sound undo_fits added none no_page no_slot sche
 pub kept_switch :
     (s t : HeapState) (p q : PagesValue) (verdicts : List Outcome) → IsKept s p → Grows s.log (Switch verdicts) t.log → t.active ≡ s.active → t.begun ≡ s.begun
     → t.schema ≡ s.schema → t.slot_limit ≡ s.slot_limit → t.page_limit ≡ s.page_limit
-    → q.pages ≡ p.pages → q.limit ≡ p.limit → t.room ≤ q.spare → IsKept t q
-kept_switch s t p q verdicts kept added active begun schema slots limit pages pages_limit room =
+    → q.pages ≡ p.pages → q.limit ≡ p.limit → IsKept t q
+kept_switch s t p q verdicts kept added active begun schema slots limit pages pages_limit =
     let sound = sound_switch s t verdicts kept.sound added active begun in
     kept_after s t p q (Switch verdicts) (slot_of s.log) kept sound
     (fits_quiet s t (Switch verdicts) kept.sound sound added (λ u r. refl) (λ r. refl) (λ n. refl) (λ n. tt) (λ u e. sym (ap (λ a. is_open a u) active) ∙ e) added.live.live kept.undo_fits)
@@ -157,7 +154,7 @@ kept_switch s t p q verdicts kept added active begun schema slots limit pages pa
     (λ rid.
     sym (going_slot s t kept.sound sound (λ u. ap (λ a. is_open a u) active) rid (λ u. wrote_still s.log t.log (Switch verdicts) u rid added.is refl)
     ∙ under_kept s.log t.log (Switch verdicts) rid (holder s.log rid) added.is (λ u e. (holder_wrote s.log rid u e).1) (λ u. refl) (added.live.live rid)))
-    pages_limit room
+    pages_limit
 
 -- the pages have a slot for each RID that was written
 pub have_written : (s : HeapState) (p : PagesValue) (txn : ℕ) (log : List LogRec) → IsKept s p → ((rid : Rid) → wrote log txn rid ≡ true → wrote s.log txn rid ≡ true) → HaveWritten p log txn (slot_of s.log) (slots_written s.log) (pages_written s.log) s.slot_limit
@@ -168,8 +165,8 @@ pub kept_commit :
     (s t : HeapState) (p q : PagesValue) (txn : ℕ) → IsKept s p → is_open s.active txn ≡ true → Grows s.log (Commit txn) t.log
     → t.active ≡ without txn s.active → t.begun ≡ s.begun → t.schema ≡ s.schema → t.slot_limit ≡ s.slot_limit → t.page_limit ≡ s.page_limit
     → ((slot : Rid → Slot) (slots : ℕ → ℕ) (count limit : ℕ) → p.pages ≡ pages_by slot slots count limit → q.pages ≡ pages_by (λ rid. settled_if (wrote t.log txn rid) (slot rid)) slots count limit)
-    → q.limit ≡ p.limit → t.room ≤ q.spare → IsKept t q
-kept_commit s t p q txn kept opened added active begun schema slots limit settles pages_limit room =
+    → q.limit ≡ p.limit → IsKept t q
+kept_commit s t p q txn kept opened added active begun schema slots limit settles pages_limit =
     let sound = sound_commit s t txn kept.sound added active begun opened in
     let closed : is_open t.active txn ≡ false = ap (λ a. is_open a txn) active ∙ open_without_self txn s.active in
     let others : (other : ℕ) → other ≢ txn → is_open t.active other ≡ is_open s.active other =
@@ -181,7 +178,7 @@ kept_commit s t p q txn kept opened added active begun schema slots limit settle
     (λ rid.
     ap (settled_if (wrote t.log txn rid)) (sym (under_kept s.log t.log (Commit txn) rid (holder s.log rid) added.is (λ u e. (holder_wrote s.log rid u e).1) (λ u. refl) (added.live.live rid)))
     ∙ sym (ended_slot s t txn kept.sound sound opened closed others rid (λ u. wrote_still s.log t.log (Commit txn) u rid added.is refl)))
-    pages_limit room
+    pages_limit
 
 -- the pages once the row before is back
 undone_pages :
@@ -204,12 +201,12 @@ pub kept_undo :
     → t.schema ≡ s.schema → t.slot_limit ≡ s.slot_limit → t.page_limit ≡ s.page_limit
     → m.pages ≡ with_slot_in p.pages p.limit rid (changed (slot_in p.pages rid) (option_map row_bytes (row_at s.log (standing_before s.log n)))) → m.limit ≡ p.limit
     → ((slot : Rid → Slot) (slots : ℕ → ℕ) (count limit : ℕ) → m.pages ≡ pages_by slot slots count limit → q.pages ≡ pages_by (λ r. settled_if ((standing_count t.log txn == 0) && wrote t.log txn r) (slot r)) slots count limit)
-    → q.limit ≡ m.limit → t.room ≤ q.spare → IsKept t q
-kept_undo s t p m q txn n rid kept u active schema slots limit pages m_limit settles q_limit room =
+    → q.limit ≡ m.limit → IsKept t q
+kept_undo s t p m q txn n rid kept u active schema slots limit pages m_limit settles q_limit =
     kept_after s t p q (Undo txn n) (λ r. settled_if ((left == 0) && wrote t.log txn r) (mid r)) kept u.sound
     (fits_undo s t txn n rid u) u.added refl refl (λ page. refl) schema slots limit
     (settles mid (slots_written s.log) (pages_written s.log) s.slot_limit (undone_pages s t p m txn n rid kept u pages))
-    (λ r. by_left r) (q_limit ∙ m_limit) room where
+    (λ r. by_left r) (q_limit ∙ m_limit) where
       left : ℕ
       left = standing_count t.log txn
 
@@ -243,12 +240,11 @@ undo_sets s t txn n rid u = record {
 
 -- a table with nothing in it
 pub kept_empty :
-    (s : HeapState) (p : PagesValue) → s.log ≡ [] → s.active ≡ [] → p.pages ≡ [] → p.limit ≡ s.slot_limit → s.room ≤ p.spare
+    (s : HeapState) (p : PagesValue) → s.log ≡ [] → s.active ≡ [] → p.pages ≡ [] → p.limit ≡ s.slot_limit
     → are_limits s.slot_limit s.page_limit ≡ true → s.slot_limit < 256 → IsKept s p
-kept_empty s p empty none pages pages_limit room limits below = record {
+kept_empty s p empty none pages pages_limit limits below = record {
   pages_are = pages ∙ sym (rw empty refl);
   limit = pages_limit;
-  room = room;
   writes_fit = rw empty (λ n cells e. absurd (no_record n cells e));
   sound = record {
     writers = λ txn rid. rw empty (λ e. absurd (false≢true e));

@@ -1,5 +1,5 @@
 -- The table as its callers see it: its log and its open transactions; and what each call does, or why it is refused.
-use Rattle.std.specs.Prelude.{ℕ, ◌+◌, Bool, true, false, ◌&&◌, not, ◌==◌, ◌||◌, nat_lt, nat_le, min, max, ◌-◌, if◌then◌else◌, List, [], ◌∷◌, ◌++◌, length, map, filter, position, is_some, Option, Some, None}
+use Rattle.std.specs.Prelude.{ℕ, ◌+◌, Bool, true, false, ◌&&◌, not, ◌==◌, ◌||◌, nat_lt, nat_le, min, if◌then◌else◌, List, [], ◌∷◌, ◌++◌, length, map, filter, position, is_some, Option, Some, None}
 use Rattle.std.specs.List.{list_any, range_with_len}
 use Rattle.std.specs.Option.{option_map}
 use Rattle.keybytes.specs.Faults.{first_cause}
@@ -31,8 +31,6 @@ pub record HeapState : Type 0 where
   pub begun : ℕ
   -- how often rows were given out
   pub visits : ℕ
-  -- how many records can be added without taking memory
-  pub room : ℕ
 
 -- whether a table may have so many slots a page and so many pages
 abbrev pub are_limits : ℕ → ℕ → Bool
@@ -42,7 +40,7 @@ abbrev pub limits_refusal : ℕ → ℕ → Option Fault
 limits_refusal slots pages = if are_limits slots pages then None else Some BadCount
 
 abbrev pub empty_heap : List Kind → ℕ → ℕ → HeapState
-empty_heap schema slots pages = record { schema = schema; slot_limit = slots; page_limit = pages; log = []; active = []; begun = 0; visits = 0; room = 0 }
+empty_heap schema slots pages = record { schema = schema; slot_limit = slots; page_limit = pages; log = []; active = []; begun = 0; visits = 0 }
 
 abbrev pub is_open : List OpenTxn → ℕ → Bool
 is_open active txn = list_any (λ t. t.txn == txn) active
@@ -129,15 +127,15 @@ mark txn t = if t.txn == txn then record t { ending = true } else t
 abbrev pub after_begin : HeapState → HeapState
 after_begin s = record s { active = s.active ++ record { txn = s.begun + 1; ending = false } ∷ []; begun = s.begun + 1 }
 
--- a record more, which takes up room if there was some
+-- a record more
 abbrev pub logged : HeapState → LogRec → HeapState
-logged s rec = record s { log = s.log ++ rec ∷ []; room = s.room - 1 }
+logged s rec = record s { log = s.log ++ rec ∷ [] }
 
 abbrev pub after_write : HeapState → ℕ → Rid → Option (List Cell) → HeapState
 after_write s txn rid cells = logged s (Write txn rid cells)
 
 abbrev pub after_commit : HeapState → ℕ → HeapState
-after_commit s txn = record s { log = s.log ++ Commit txn ∷ []; room = s.room - 1; active = without txn s.active }
+after_commit s txn = record s { log = s.log ++ Commit txn ∷ []; active = without txn s.active }
 
 abbrev pub after_switch : HeapState → List Outcome → HeapState
 after_switch s verdicts = logged s (Switch verdicts)
@@ -150,7 +148,6 @@ still_open txn left active = if left == 0 then without txn active else map (mark
 abbrev pub after_undo : HeapState → ℕ → ℕ → HeapState
 after_undo s txn n = record s {
   log = s.log ++ Undo txn n ∷ [];
-  room = s.room - 1;
   active = still_open txn (standing_count (s.log ++ Undo txn n ∷ []) txn) s.active;
 }
 
@@ -163,10 +160,6 @@ after_step s txn (Some n) = after_undo s txn n
 abbrev pub undone_number : HeapState → Option ℕ → ℕ
 undone_number s None = 0
 undone_number s (Some n) = length s.log + 1
-
--- the memory for one more record is there
-abbrev pub with_room : HeapState → HeapState
-with_room s = record s { room = max s.room 1 }
 
 -- the counter stays at its greatest value
 abbrev pub after_visit : HeapState → HeapState

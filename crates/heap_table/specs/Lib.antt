@@ -1,6 +1,8 @@
 pub mod HeapState
+pub mod HeapValue
 pub mod Holders
 pub mod Images
+pub mod Inside
 pub mod Kept
 pub mod PageLists
 pub mod Pages
