@@ -16,6 +16,7 @@ use Rattle.heap_log.specs.Standing.{record_at, row_of, rid_of, is_write_at, row_
 use Rattle.heap_log.proofs.Numbers.{write_at, newest_standing-of}
 use Rattle.slotted_page.specs.Slot.{Slot}
 use Rattle.slotted_page.specs.Page.{PageValue}
+use Rattle.heap_table.specs.Limits.{slots_most}
 use Rattle.heap_table.specs.HeapState.{HeapState, is_open, are_limits, without, mark, still_open}
 use Rattle.heap_table.specs.Holders.{wrote, holder}
 use Rattle.heap_table.specs.Kept.{IsKept, WritesFit}
@@ -241,7 +242,7 @@ undo_sets s t txn n rid u = record {
 -- a table with nothing in it
 pub kept_empty :
     (s : HeapState) (p : PagesValue) → s.log ≡ [] → s.active ≡ [] → p.pages ≡ [] → p.limit ≡ s.slot_limit
-    → are_limits s.slot_limit s.page_limit ≡ true → s.slot_limit < 256 → IsKept s p
+    → are_limits s.slot_limit s.page_limit ≡ true → s.slot_limit ≤ slots_most → IsKept s p
 kept_empty s p empty none pages pages_limit limits below = record {
   pages_are = pages ∙ sym (rw empty refl);
   limit = pages_limit;

@@ -19,6 +19,7 @@ use Rattle.heap_log.specs.declared.record.LogRec.{LogRec}
 use Rattle.heap_log.specs.Standing.{live_at, row_at, newest_at}
 use Rattle.slotted_page.specs.Slot.{Slot, free, held as held_slot, row as row_slot, is_free, bytes_of, IsRowSize}
 use Rattle.slotted_page.specs.Page.{PageValue, slot_at, room_for, slot_for}
+use Rattle.heap_table.specs.Limits.{pages_most}
 use Rattle.heap_table.specs.HeapState.{HeapState, page_of, table_pages, takes, place_on, insert_place}
 use Rattle.heap_table.specs.Holders.{holder, room_needed}
 use Rattle.heap_table.specs.Images.{Shows, ImageValue, IsImage}
@@ -31,7 +32,7 @@ use Rattle.heap_table.proofs.PageLists.{length_page_by, length_pages_by, get_or_
 pub kept_count : (s : HeapState) (p : PagesValue) → IsKept s p → length p.pages ≡ pages_written s.log
 kept_count s p kept = ap length kept.pages_are ∙ length_pages_by (slot_of s.log) (slots_written s.log) (pages_written s.log) s.slot_limit
 
-pub kept_limit : (s : HeapState) (p : PagesValue) → IsKept s p → pages_written s.log ≤ 65536
+pub kept_limit : (s : HeapState) (p : PagesValue) → IsKept s p → pages_written s.log ≤ pages_most
 kept_limit s p kept = grind (arith, nat_tests, kept.limits, kept.within)
 
 kept_slots : (s : HeapState) (p : PagesValue) → IsKept s p → 0 < s.slot_limit

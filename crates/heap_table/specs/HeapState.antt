@@ -16,6 +16,7 @@ use Rattle.heap_log.specs.Standing.{live_at, standing_count}
 use Rattle.slotted_page.specs.Page.{PageValue, room_for, fits_at}
 use Rattle.heap_table.specs.Holders.{holder}
 use Rattle.heap_table.specs.Pages.{page_slots, pages_written, rid_at}
+use Rattle.heap_table.specs.Limits.{pages_most, open_most}
 use Rattle.heap_table.specs.declared.open_txn.OpenTxn.{OpenTxn}
 
 pub record HeapState : Type 0 where
@@ -34,7 +35,7 @@ pub record HeapState : Type 0 where
 
 -- whether a table may have so many slots a page and so many pages
 abbrev pub are_limits : ℕ → ℕ → Bool
-are_limits slots pages = nat_lt 0 slots && nat_lt 0 pages && nat_le pages 65536
+are_limits slots pages = nat_lt 0 slots && nat_lt 0 pages && nat_le pages pages_most
 
 abbrev pub limits_refusal : ℕ → ℕ → Option Fault
 limits_refusal slots pages = if are_limits slots pages then None else Some BadCount
@@ -52,9 +53,9 @@ is_ending active txn = list_any (λ t. (t.txn == txn) && t.ending) active
 abbrev pub txn_refusal : HeapState → ℕ → Option Fault
 txn_refusal s txn = if is_open s.active txn then (if is_ending s.active txn then Some TxnEnding else None) else Some NoSuchTxn
 
--- why no transaction is begun: 64 are open, or the numbers are used up
+-- why no transaction is begun: as many are open as may be, or the numbers are used up
 abbrev pub begin_refusal : HeapState → Option Fault
-begin_refusal s = if nat_le 64 (length s.active) || (s.begun == 18446744073709551615) then Some TooManyTxns else None
+begin_refusal s = if nat_le open_most (length s.active) || (s.begun == 18446744073709551615) then Some TooManyTxns else None
 
 abbrev pub page_of : HeapState → ℕ → PageValue
 page_of s page = record { slots = page_slots s.log page; limit = s.slot_limit }

@@ -7,6 +7,7 @@ use Rattle.keybytes.specs.declared.kind.Kind.{Kind}
 use Rattle.keybytes.specs.declared.rid.Rid.{Rid}
 use Rattle.heap_log.specs.declared.record.LogRec.{LogRec}
 use Rattle.heap_log.specs.Standing.{record_at, row_of, live_at}
+use Rattle.heap_table.specs.Limits.{slots_most}
 use Rattle.heap_table.specs.HeapState.{HeapState, table_pages, are_limits}
 use Rattle.heap_table.specs.HeapValue.{HeapValue}
 use Rattle.heap_table.specs.PageLists.{PagesValue}
@@ -34,7 +35,7 @@ pub record IsKept (s : HeapState) (pages : PagesValue) : Type 0 where
   pub sound : IsSound s
   pub undo_fits : UndoFits s.log
   pub limits : are_limits s.slot_limit s.page_limit ≡ true
-  pub slots_below : s.slot_limit < 256
+  pub slots_below : s.slot_limit ≤ slots_most
   pub within : pages_written s.log ≤ s.page_limit
 
 -- and each record that there is memory for can be of a row on a new page

@@ -4,6 +4,7 @@ pub mod Holders
 pub mod Images
 pub mod Inside
 pub mod Kept
+pub mod Limits
 pub mod PageLists
 pub mod Pages
 pub mod Ready

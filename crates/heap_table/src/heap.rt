@@ -2,6 +2,7 @@
 ghost use Rattle.std.specs.Prelude.{◌≡◌, ◌≤◌, length, Some, None, IfOk, IfErr, OnOk};
 ghost use Rattle.heap_log.specs.Growing.{UndoesNameEarlier};
 ghost use Rattle.heap_table.specs.HeapState.{limits_refusal, empty_heap, busy_txns};
+ghost use Rattle.heap_table.specs.Limits.{pages_most};
 ghost use Rattle.heap_table.specs.Pages.{pages_written};
 ghost use Rattle.heap_table.specs.Kept.{RowsFit};
 ghost use Rattle.heap_table.specs.declared.ready.Ready.{Ready};
@@ -15,18 +16,12 @@ mod transactions;
 mod undoing;
 mod writing;
 
-use crate::OpenTxn;
 use crate::pages::Pages;
+use crate::{OpenTxn, PAGES_MAX};
 use heap_log::Log;
 use keybytes::{Fault, Schema};
 use std::alloc::Global;
 use std::marker::Model;
-
-/// The most pages of a table.
-const PAGES_MAX: u32 = 65_536;
-
-/// The most transactions that may be open.
-const OPEN_MAX: usize = 64;
 
 /// A table of rows in pages. Contracts see its state, which is its log and its open transactions, and the room for
 /// changes that it has memory for; the rows are those that the log leaves standing. A refused call changes nothing.
@@ -57,7 +52,7 @@ impl Model for Heap {
 
 impl Heap {
     /// An empty table of these columns, of up to `slot_limit` slots a page and `page_limit` pages. No slots, no pages or
-    /// more than 65,536 pages are [`Fault::BadCount`].
+    /// more than [`PAGES_MAX`] pages are [`Fault::BadCount`].
     pub fn new(
         alloc: Global,
         schema: Schema,
@@ -108,7 +103,7 @@ impl Heap {
     /// The number of pages.
     pub fn pages(&self) -> u32
         ensures pages { result ≡ pages_written self.now.state.log }
-        ensures limit { result ≤ 65536 }
+        ensures limit { result ≤ pages_most }
     {
         self.pages.len() as u32
     }

@@ -5,9 +5,9 @@ ghost use Rattle.heap_table.specs.HeapState.{is_open, is_ending, txn_refusal, he
 ghost use Rattle.heap_table.specs.Holders.{holder};
 ghost use Rattle.heap_table.specs.Pages.{KeepsRows};
 
-use super::{Heap, OPEN_MAX};
-use crate::OpenTxn;
+use super::Heap;
 use crate::changes::{end, settle_writes};
+use crate::{OPEN_MAX, OpenTxn};
 use heap_log::{LogRec, Outcome, Verdicts};
 use keybytes::{Fault, Rid};
 
@@ -26,7 +26,7 @@ fn has_ending(open_txns: &[OpenTxn], txn: u64) -> bool
 }
 
 impl Heap {
-    /// Begins the next transaction; [`Fault::TooManyTxns`] where 64 are open or the numbers are used up.
+    /// Begins the next transaction; [`Fault::TooManyTxns`] where [`OPEN_MAX`] are open or the numbers are used up.
     pub fn begin(&mut self) -> Result<u64, Fault>
         ensures ok { IfOk result (λ txn. txn ≡ self.old.state.begun + 1) }
         ensures begun { OnOk result (self.new.state ≡ after_begin self.old.state) }
