@@ -1,5 +1,5 @@
 -- What a table keeps once a ready change is done.
-use Rattle.std.proofs.Common.{◌≡◌, ℕ, List, Option, Some, None, refl, subst}
+use Rattle.std.proofs.Common.{◌≡◌, ℕ, List, Some, None, refl, subst}
 use Rattle.std.specs.Prelude.{◌&&◌, ◌==◌}
 use Rattle.std.specs.Option.{option_map}
 use Rattle.keybytes.specs.Rows.{row_bytes}
@@ -16,10 +16,10 @@ use Rattle.heap_table.specs.Holders.{wrote, holder}
 use Rattle.heap_table.specs.Kept.{IsKept}
 use Rattle.heap_table.specs.PageLists.{PagesValue, slot_in, with_slot_in, pages_by, changed, settled_if}
 use Rattle.heap_table.specs.Pages.{SetsRow, slot_under, slots_written, pages_written}
-use Rattle.heap_table.specs.Ready.{IsReady, IsLawful, HaveWritten}
+use Rattle.heap_table.specs.Ready.{IsReady, HaveWritten}
 use Rattle.heap_log.proofs.Growing.{Grows}
 use Rattle.heap_table.proofs.KeptChanges.{kept_write, kept_undo, undo_sets, undo_inside}
-use Rattle.heap_table.proofs.Performing.{can_change, undoes, undid_from, undone_row}
+use Rattle.heap_table.proofs.Performing.{can_change, lawful_as, undid_from, undone_row}
 use Rattle.heap_table.proofs.Sounds.{sound_write}
 use Rattle.heap_table.proofs.Undoing.{Undid}
 
@@ -34,8 +34,7 @@ pub kept_performed :
     → t.schema ≡ h.state.schema → t.slot_limit ≡ h.state.slot_limit → t.page_limit ≡ h.state.page_limit
     → HaveNew p.pages p.limit ready q.pages → q.limit ≡ p.limit → IsKept t q
 kept_performed h t p q ready is_ready kept write added active begun schema slots limit pages pages_limit =
-    let lawful = subst (λ (o : Option ℕ). IsLawful h.state ready.txn ready.rid o ready.old ready.new) write is_ready.lawful in
-    let can = can_change h.state p ready.txn ready.rid ready.old ready.new kept is_ready.old is_ready.new lawful in
+    let can = can_change h.state p ready.txn ready.rid ready.old ready.new kept is_ready.old is_ready.new (lawful_as h ready None is_ready write) in
     kept_write h.state t p q ready.txn ready.rid ready.new kept (record {
       was = kept.sound;
       sound = sound_write h.state t ready.txn ready.rid ready.new kept.sound added active begun can.opened can.free_for;
@@ -86,5 +85,5 @@ pub undone_sets :
     (h : HeapValue) (p : PagesValue) (ready : Ready) (n : ℕ) (new : List LogRec) → IsReady h ready → IsKept h.state p → ready.undone ≡ Some n
     → Grows h.state.log (Undo ready.txn n) new → SetsRow h.state.log (rid_of (record_at h.state.log n)) (row_at h.state.log (standing_before h.state.log n)) new
 undone_sets h p ready n new is_ready kept undone added =
-    subst (λ (r : Rid). SetsRow h.state.log r (row_at h.state.log (standing_before h.state.log n)) new) (undoes h ready n is_ready undone).2
+    subst (λ (r : Rid). SetsRow h.state.log r (row_at h.state.log (standing_before h.state.log n)) new) (lawful_as h ready (Some n) is_ready undone).2
     (undo_sets h.state (logged_undo h.state ready new) ready.txn n ready.rid (logged_undid h p ready n new is_ready kept undone added))

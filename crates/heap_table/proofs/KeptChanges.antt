@@ -25,6 +25,7 @@ use Rattle.heap_table.specs.Pages.{page_end, slot_end, slots_written, pages_writ
 use Rattle.heap_table.specs.Ready.{HaveWritten}
 use Rattle.heap_table.specs.Sound.{IsSound, UndoFits}
 use Rattle.heap_log.proofs.Growing.{Grows}
+use Rattle.keybytes.proofs.SameRids.{same_rid-refl}
 use Rattle.heap_table.proofs.Holding.{holder_wrote}
 use Rattle.heap_table.proofs.KeptFacts.{kept_slot}
 use Rattle.heap_table.proofs.LogRows.{slots_written-added, pages_written-added, slots_past, end_here, written_inside}
@@ -34,12 +35,12 @@ use Rattle.heap_table.proofs.Slots.{under_kept, Wrote, write_slot, write_other_s
 use Rattle.heap_table.proofs.Sounds.{wrote_still, sound_commit, sound_switch}
 use Rattle.heap_table.proofs.Undoing.{ended_slot, going_slot, fits_quiet, fits_write, fits_undo, Undid, undo_there, undo_live, undo_other_live, undo_slot, undo_other_slot}
 use Rattle.heap_table.proofs.Writers.{wrote_from}
-use Rattle.heap_table.proofs.Small.{max_zero, none_some, same_rid_self}
+use Rattle.heap_table.proofs.Small.{max_zero, none_some}
 
 -- a record of a row that fits, or of none, leaves rows that fit
 written_at : (rec : Option LogRec) (cells : List Cell) → row_of rec ≡ Some cells → is_write_at (rid_of rec) rec ≡ true
 written_at None cells e = absurd (cc)
-written_at (Some (Write t rid row)) cells e = same_rid_self rid
+written_at (Some (Write t rid row)) cells e = same_rid-refl rid
 written_at (Some (Undo t n)) cells e = absurd (cc)
 written_at (Some (Commit t)) cells e = absurd (cc)
 written_at (Some (Switch o)) cells e = absurd (cc)

@@ -1,5 +1,5 @@
 -- What a record more does to the rows that stand and to the pages that are written.
-use Rattle.std.proofs.Common.{◌≡◌, inl, inr, ℕ, ◌+◌, ◌≤◌, max, true, List, [], ◌∷◌, ◌++◌, ◌<◌, length, Option, Some, None, refl, sym, ap, ◌∙◌, arith}
+use Rattle.std.proofs.Common.{◌≡◌, inl, inr, ℕ, ◌+◌, ◌≤◌, max, true, List, [], ◌∷◌, ◌++◌, ◌<◌, length, Option, Some, None, refl, sym, ap, ◌∙◌, arith, subst}
 use Rattle.std.specs.Prelude.{not, ◌==◌}
 use Rattle.std.proofs.lemmas.Bool.{false≢true, false_from_ne_true, or_cases, and_parts, eq-eqb, cond-true, cond-false}
 use Rattle.std.proofs.lemmas.Bool.Decides.{nat_tests}
@@ -15,13 +15,15 @@ use Rattle.heap_log.proofs.Last.{IsLast, last_below_some}
 use Rattle.slotted_page.specs.Slot.{free}
 use Rattle.heap_table.specs.Holders.{writes, wrote, holder}
 use Rattle.heap_table.specs.Pages.{slot_end, slots_written, page_end, pages_written, slot_with, slot_of, KeepsRows, SetsRow, RowsAreInside}
-use Rattle.heap_log.proofs.Growing.{Grows}
+use Rattle.heap_log.proofs.Growing.{Grows, grows}
+use Rattle.heap_log.specs.Growing.{Added}
 use Rattle.heap_table.proofs.Holding.{holder_wrote}
 use Rattle.heap_table.proofs.Writers.{wrote_from}
-use Rattle.heap_table.proofs.Small.{max_turned, max_zero, same_rid_is, some_or_none}
+use Rattle.heap_table.proofs.Small.{max_turned, max_zero, some_or_none, max_comm}
 
-max_comm : (a b : ℕ) → max a b ≡ max b a
-max_comm a b = omega arith
+-- the log with one record more, where memory for it was taken first
+pub grown : (old kept new : List LogRec) (rec : LogRec) → kept ≡ old → Added kept rec new → Grows old rec new
+grown old kept new rec same added = subst (λ (log : List LogRec). Grows log rec new) same (grows kept rec new added)
 
 pub slots_written-added :
     (log : List LogRec) (rec : LogRec) (page : ℕ)
@@ -77,7 +79,7 @@ written_inside (rec ∷ log) txn rid e = elim (or_cases (writes txn rid rec) (wr
 ] where
   written_here : (rec : LogRec) (txn : ℕ) (rid : Rid) → writes txn rid rec ≡ true → (m n : ℕ) → (rid.page < max (page_end rec) m) × (rid.slot < max (slot_end rid.page rec) n)
   written_here (Write w r row) txn rid e m n =
-      let same : r ≡ rid = same_rid_is r rid (and_parts (w == txn) (same_rid r rid) e).1 in
+      let same : r ≡ rid = same_rid-true r rid (and_parts (w == txn) (same_rid r rid) e).1 in
       let page : r.page ≡ rid.page = ap (λ (x : Rid). x.page) same in
       let slot : r.slot ≡ rid.slot = ap (λ (x : Rid). x.slot) same in
       let test : (r.page == rid.page) ≡ true = eq-eqb r.page rid.page page in

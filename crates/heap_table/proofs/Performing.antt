@@ -197,15 +197,17 @@ new_fits s p txn rid None old new kept is sized lawful = if_some new (IsTableRow
 new_fits s p txn rid (Some n) old new kept is sized lawful =
     subst (λ (row : Option (List Cell)). IfSome row (IsTableRow s.schema)) (sym lawful.3) (written_fits s.schema s.log (standing_before s.log n) kept.writes_fit)
 
+-- a ready change is lawful as what it is: a write, or the undo of the write of that number
+pub lawful_as : (h : HeapValue) (ready : Ready) (undone : Option ℕ) → IsReady h ready → ready.undone ≡ undone → IsLawful h.state ready.txn ready.rid undone ready.old ready.new
+lawful_as h ready undone is_ready as_it = subst (λ (o : Option ℕ). IsLawful h.state ready.txn ready.rid o ready.old ready.new) as_it is_ready.lawful
+
 -- what holds of a change that is made ready
 pub lawful_change : (h : HeapValue) (p : PagesValue) (ready : Ready) → IsReady h ready → IsKept h.state p → IsLawfulChange h.state ready
 lawful_change h p ready is kept = record {
   old_fits = subst (λ (row : Option (List Cell)). IfSome row (IsTableRow h.state.schema)) (sym is.old) (written_fits h.state.schema h.state.log (newest_at h.state.log ready.rid) kept.writes_fit);
   new_fits = new_fits h.state p ready.txn ready.rid ready.undone ready.old ready.new kept is.old is.new is.lawful;
   writer = λ none.
-      let lawful : IsLawful h.state ready.txn ready.rid None ready.old ready.new =
-      subst (λ (o : Option ℕ). IsLawful h.state ready.txn ready.rid o ready.old ready.new) none is.lawful in
-      let can = can_change h.state p ready.txn ready.rid ready.old ready.new kept is.old is.new lawful in
+      let can = can_change h.state p ready.txn ready.rid ready.old ready.new kept is.old is.new (lawful_as h ready None is none) in
       record { opened = can.opened; free = can.free_for };
 }
 
@@ -221,17 +223,13 @@ pub insert_accepted :
     → insert_place s (length (row_bytes cells)) ≡ Some rid → insert_refusal s txn cells ≡ None
 insert_accepted s txn cells rid by shape place = rw (by, shape, place) refl
 
--- what it takes to be the undo of that write
-pub undoes : (h : HeapValue) (ready : Ready) (n : ℕ) → IsReady h ready → ready.undone ≡ Some n → IsLawful h.state ready.txn ready.rid (Some n) ready.old ready.new
-undoes h ready n is_ready undone = subst (λ (o : Option ℕ). IsLawful h.state ready.txn ready.rid o ready.old ready.new) undone is_ready.lawful
-
 -- a ready undo undoes its write
 pub undid_from :
     (h : HeapValue) (t : HeapState) (p : PagesValue) (ready : Ready) (n : ℕ) → IsReady h ready → IsKept h.state p → ready.undone ≡ Some n
     → Grows h.state.log (Undo ready.txn n) t.log → t.active ≡ still_open ready.txn (standing_count t.log ready.txn) h.state.active → t.begun ≡ h.state.begun
     → Undid h.state t ready.txn n ready.rid
 undid_from h t p ready n is_ready kept undone added active begun =
-    let lawful = undoes h ready n is_ready undone in
+    let lawful = lawful_as h ready (Some n) is_ready undone in
     record {
       was = kept.sound;
       sound = sound_undo h.state t ready.txn n kept.sound added active begun lawful.1 lawful.0;
@@ -249,4 +247,4 @@ pub undone_row :
     → mid ≡ with_slot_in pages limit ready.rid (changed (slot_in pages ready.rid) (option_map row_bytes ready.new))
     → mid ≡ with_slot_in pages limit ready.rid (changed (slot_in pages ready.rid) (option_map row_bytes (row_at h.state.log (standing_before h.state.log n))))
 undone_row h ready n pages mid limit is_ready undone is =
-    is ∙ ap (λ (new : Option (List Cell)). with_slot_in pages limit ready.rid (changed (slot_in pages ready.rid) (option_map row_bytes new))) (undoes h ready n is_ready undone).3
+    is ∙ ap (λ (new : Option (List Cell)). with_slot_in pages limit ready.rid (changed (slot_in pages ready.rid) (option_map row_bytes new))) (lawful_as h ready (Some n) is_ready undone).3

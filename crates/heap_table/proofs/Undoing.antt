@@ -3,7 +3,7 @@ use Rattle.std.proofs.Common.{◌≡◌, ◌≢◌, inl, inr, ℕ, ◌+◌, ◌�
 use Rattle.std.proofs.Math.Bool.{or-false}
 use Rattle.std.specs.Prelude.{◌||◌, ◌&&◌, not, ◌==◌}
 use Rattle.std.specs.Option.{option_map}
-use Rattle.std.proofs.lemmas.Bool.{cases_Bool, cases_eq, cases_lt, false≢true, eqb-true, eq-eqb, and_parts, and_from}
+use Rattle.std.proofs.lemmas.Bool.{cases_Bool, cases_eq, cases_lt, false≢true, eqb-true, eq-eqb, and_parts, and_from, not-true, or_parts}
 use Rattle.std.proofs.lemmas.Option.{same_Some}
 use Rattle.keybytes.specs.Rows.{row_bytes}
 use Rattle.keybytes.specs.declared.cell.Cell.{Cell}
@@ -20,11 +20,13 @@ use Rattle.heap_table.specs.PageLists.{settled, settled_if, changed}
 use Rattle.heap_table.specs.Pages.{slot_with, slot_under, slot_of}
 use Rattle.heap_table.specs.Sound.{IsSound, UndoFits}
 use Rattle.heap_log.proofs.Growing.{Grows}
+use Rattle.keybytes.proofs.SameRids.{same_rid-true}
+use Rattle.heap_log.proofs.Records.{rid_of-write}
 use Rattle.heap_table.proofs.Holding.{holder_is, holder_open, holder_wrote, no_holder, same_holder}
-use Rattle.heap_table.proofs.Slots.{at_its_rid, rid_is, reserve_slot, room_kept, under_kept, Wrote, write_holder, write_other_holder, write_live, write_other_live, write_room, write_other_slot}
+use Rattle.heap_table.proofs.Slots.{at_its_rid, reserve_slot, room_kept, under_kept, Wrote, write_holder, write_other_holder, write_live, write_other_live, write_room, write_other_slot}
 use Rattle.heap_table.proofs.Sounds.{wrote_still}
 use Rattle.heap_table.proofs.Writers.{wrote_from}
-use Rattle.heap_table.proofs.Small.{none_some, rid_cases, same_rid_is, some_or_none}
+use Rattle.heap_table.proofs.Small.{none_some, rid_cases, some_or_none}
 
 -- a row before a write, once a record that leaves it is added
 row_before_kept :
@@ -159,7 +161,7 @@ fits_write s t txn rid row w fits = record {
         let high = (write_at t.log other m there).high in
         let m_is : m ≡ length s.log + 1 = omega (arith, high, count, last) in
         let here : record_at t.log m ≡ Some rec = ap (record_at t.log) m_is ∙ w.added.numbers.here in
-        let same : rid ≡ other = same_rid_is rid other (ap (is_write_at other) (sym here) ∙ there) in
+        let same : rid ≡ other = same_rid-true rid other (ap (is_write_at other) (sym here) ∙ there) in
         let row_is : row_at t.log (standing_before t.log m) ≡ live_at s.log rid =
         ap (λ (k : ℕ). row_at t.log (standing_before t.log k)) m_is ∙ newest_row in
         let room = write_room s t txn rid row w in
@@ -267,7 +269,7 @@ undo_other_live s t txn n rid u other differs = u.added.live.live other ∙ (eli
   elsewhere (Some k) e same =
       let last : IsLast (stands_at s.log other) (length s.log + 1) k = last_below_some (stands_at s.log other) (length s.log + 1) k e in
       let at : is_write_at other (record_at s.log n) ≡ true = ap (λ (m : ℕ). is_write_at other (record_at s.log m)) (sym (eqb-true k n same)) ∙ (and_parts (is_write_at other (record_at s.log k)) (not (undone s.log k)) last.passes).0 in
-      differs (sym (rid_is other (record_at s.log n) at) ∙ sym u.place)
+      differs (sym (rid_of-write other (record_at s.log n) at) ∙ sym u.place)
 
 -- the row that comes back fits
 undo_size : (s t : HeapState) (txn n : ℕ) (rid : Rid) → Undid s t txn n rid → row_size (row_at s.log (standing_before s.log n)) ≤ room_needed s.log rid
@@ -310,10 +312,10 @@ fits_undo s t txn n rid u =
     (λ v m other e stands there.
     let within : m ≤ length s.log = old_number s t (Undo txn n) m other u.added (λ r. refl) there in
     let parts = and_parts (is_write_of v (record_at t.log m)) (not (undone t.log m)) stands in
-    let fresh : (undone s.log m || (n == m)) ≡ false = sym (u.added.numbers.undoes m) ∙ not_true (undone t.log m) parts.1 in
+    let fresh : (undone s.log m || (n == m)) ≡ false = sym (u.added.numbers.undoes m) ∙ not-true (undone t.log m) parts.1 in
     let stands_s : stands_of s.log v m ≡ true =
     and_from (is_write_of v (record_at s.log m)) (not (undone s.log m)) (ap (is_write_of v) (sym (u.added.numbers.earlier m within)) ∙ parts.0)
-    (ap not (first_false (undone s.log m) (n == m) fresh)) in
+    (ap not (or_parts (undone s.log m) (n == m) fresh).0) in
     let there_s : is_write_at other (record_at s.log m) ≡ true = ap (is_write_at other) (sym (u.added.numbers.earlier m within)) ∙ there in
     let keeps : KeepsBefore s.log m (Undo txn n) = elim (rid_cases rid other) [
       | inl same ↦
@@ -326,18 +328,11 @@ fits_undo s t txn n rid u =
       | inr differs ↦
           inr (elim (cases_Bool (is_write_at (rid_of (record_at s.log m)) (record_at s.log n))) [
             | inl also ↦
-                let at : is_write_at other (record_at s.log n) ≡ true = ap (λ (r : Rid). is_write_at r (record_at s.log n)) (sym (rid_is other (record_at s.log m) there_s)) ∙ also in
-                absurd (differs (sym (rid_is other (record_at s.log n) at) ∙ sym u.place))
+                let at : is_write_at other (record_at s.log n) ≡ true = ap (λ (r : Rid). is_write_at r (record_at s.log n)) (sym (rid_of-write other (record_at s.log m) there_s)) ∙ also in
+                absurd (differs (sym (rid_of-write other (record_at s.log n) at) ∙ sym u.place))
             | inr none ↦ none
           ])
     ] in
     let size = ap row_size (row_before_kept s.log t.log (Undo txn n) m u.added within keeps) in
     let fit = u.fits.before v m other e stands_s there_s in
-    omega (arith, size, fit)) where
-      not_true : (b : Bool) → not b ≡ true → b ≡ false
-      not_true true e = absurd (false≢true e)
-      not_true false e = refl
-
-      first_false : (a b : Bool) → (a || b) ≡ false → a ≡ false
-      first_false true b e = absurd (false≢true (sym e))
-      first_false false b e = refl
+    omega (arith, size, fit))

@@ -1,5 +1,5 @@
 -- What a table keeps between its calls.
-use Rattle.std.specs.Prelude.{◌≡◌, ◌<◌, ◌≤◌, ℕ, true, List, Some}
+use Rattle.std.specs.Prelude.{◌≡◌, ◌≤◌, ℕ, true, List, Some}
 use Rattle.keybytes.specs.Cells.{fits}
 use Rattle.keybytes.specs.Rows.{IsRow}
 use Rattle.keybytes.specs.declared.cell.Cell.{Cell}
