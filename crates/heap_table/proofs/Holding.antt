@@ -5,7 +5,7 @@ use Rattle.std.specs.Prelude.{◌||◌, ◌==◌, if◌then◌else◌, ◌&&◌,
 use Rattle.std.specs.Bool.{then_some}
 use Rattle.std.specs.List.{filter_map, find, cons_option}
 use Rattle.std.proofs.lemmas.Bool.{cases_Bool, cases_order, false≢true, eqb-true, eq-eqb, or_cases, or_left, or_right, and_left, and_right}
-use Rattle.std.proofs.lemmas.Option.{same_Some}
+use Rattle.std.proofs.lemmas.Option.{same_Some, none-some}
 use Rattle.keybytes.specs.declared.rid.Rid.{Rid}
 use Rattle.heap_log.specs.declared.record.LogRec.{LogRec}
 use Rattle.heap_log.specs.declared.record.LogRec.TheVariants.{Write, Undo, Commit, Switch}
@@ -18,7 +18,7 @@ use Rattle.heap_table.specs.Holders.{writes, wrote, is_busy, writer_at, holder, 
 use Rattle.heap_table.specs.Sound.{IsSound, HoldsFollowLog}
 use Rattle.heap_table.proofs.Writers.{HasWrite, wrote_some, wrote_from}
 use Rattle.heap_log.proofs.Records.{writes_there, one_writer}
-use Rattle.heap_table.proofs.Small.{some_or_none, none_some}
+use Rattle.heap_table.proofs.Small.{some_or_none}
 
 -- a record is a write of its writer
 writes_by : (txn : ℕ) (rid : Rid) (rec : LogRec) → writes txn rid rec ≡ is_number txn (writer_at rid rec)
@@ -62,7 +62,7 @@ finds_none p (rec ∷ log) rid t e has = elim (some_or_none (writer_at rid rec))
       let w = some.0 in
       let at : find p (w ∷ filter_map (writer_at rid) log) ≡ None = sym (ap (λ (o : Option ℕ). find p (cons_option o (filter_map (writer_at rid) log))) some.1) ∙ e in
       elim (cases_Bool (p w)) [
-        | inl hit ↦ absurd (none_some w (sym at ∙ ap (λ (b : Bool). if b then Some w else find p (filter_map (writer_at rid) log)) hit))
+        | inl hit ↦ absurd (none-some w (sym at ∙ ap (λ (b : Bool). if b then Some w else find p (filter_map (writer_at rid) log)) hit))
         | inr miss ↦ elim (or_cases (writes t rid rec) (wrote log t rid) has) [
           | inl here ↦
               let same : w ≡ t = eqb-true w t (sym (writes_by t rid rec ∙ ap (is_number t) some.1) ∙ here) in

@@ -26,6 +26,8 @@ use Rattle.heap_table.specs.Ready.{HaveWritten}
 use Rattle.heap_table.specs.Sound.{IsSound, UndoFits}
 use Rattle.heap_log.proofs.Growing.{Grows}
 use Rattle.keybytes.proofs.SameRids.{same_rid-refl}
+use Rattle.std.proofs.Math.Nat.{max-zero}
+use Rattle.std.proofs.lemmas.Option.{none-some}
 use Rattle.heap_table.proofs.Holding.{holder_wrote}
 use Rattle.heap_table.proofs.KeptFacts.{kept_slot}
 use Rattle.heap_table.proofs.LogRows.{slots_written-added, pages_written-added, slots_past, end_here, written_inside}
@@ -35,7 +37,6 @@ use Rattle.heap_table.proofs.Slots.{under_kept, Wrote, write_slot, write_other_s
 use Rattle.heap_table.proofs.Sounds.{wrote_still, sound_commit, sound_switch}
 use Rattle.heap_table.proofs.Undoing.{ended_slot, going_slot, fits_quiet, fits_write, fits_undo, Undid, undo_there, undo_live, undo_other_live, undo_slot, undo_other_slot}
 use Rattle.heap_table.proofs.Writers.{wrote_from}
-use Rattle.heap_table.proofs.Small.{max_zero, none_some}
 
 -- a record of a row that fits, or of none, leaves rows that fit
 written_at : (rec : Option LogRec) (cells : List Cell) → row_of rec ≡ Some cells → is_write_at (rid_of rec) rec ≡ true
@@ -90,7 +91,7 @@ kept_write s t p q txn rid row kept w schema slots limit in_pages in_slots below
     ap (λ (l : List LogRec). slots_written l rid.page) w.added.is ∙ (slots_written-added s.log rec rid.page ∙ ap (max (slots_written s.log rid.page)) (end_here rid.page rid.slot txn row)) in
     let others : (page : ℕ) → page ≢ rid.page → slots_written t.log page ≡ slots_written s.log page =
     λ page differs. ap (λ (l : List LogRec). slots_written l page) w.added.is
-    ∙ (slots_written-added s.log rec page ∙ (ap (max (slots_written s.log page)) (end_other page rid txn row differs) ∙ max_zero (slots_written s.log page))) in
+    ∙ (slots_written-added s.log rec page ∙ (ap (max (slots_written s.log page)) (end_other page rid txn row differs) ∙ max-zero (slots_written s.log page))) in
     let slot : changed (slot_in p.pages rid) (option_map row_bytes row) ≡ slot_of t.log rid =
     ap (λ (x : Slot). changed x (option_map row_bytes row)) (kept_slot s p rid kept) ∙ sym (write_slot s t txn rid row w) in
     record {
@@ -113,11 +114,11 @@ kept_write s t p q txn rid row kept w schema slots limit in_pages in_slots below
 -- a record that is no write leaves the numbers of pages and slots
 same_counts : (log new : List LogRec) (rec : LogRec) → new ≡ log ++ rec ∷ [] → pages_written (rec ∷ []) ≡ 0 → ((page : ℕ) → slots_written (rec ∷ []) page ≡ 0) → (pages_written new ≡ pages_written log) × ((page : ℕ) → slots_written new page ≡ slots_written log page)
 same_counts log new rec is pages slots =
-    let none : page_end rec ≡ 0 = sym (max_zero (page_end rec)) ∙ pages in (
-      ap pages_written is ∙ (pages_written-added log rec ∙ (ap (max (pages_written log)) none ∙ max_zero (pages_written log))),
+    let none : page_end rec ≡ 0 = sym (max-zero (page_end rec)) ∙ pages in (
+      ap pages_written is ∙ (pages_written-added log rec ∙ (ap (max (pages_written log)) none ∙ max-zero (pages_written log))),
       λ page.
-          let nothing : slot_end page rec ≡ 0 = sym (max_zero (slot_end page rec)) ∙ slots page in
-          ap (λ (l : List LogRec). slots_written l page) is ∙ (slots_written-added log rec page ∙ (ap (max (slots_written log page)) nothing ∙ max_zero (slots_written log page))),
+          let nothing : slot_end page rec ≡ 0 = sym (max-zero (slot_end page rec)) ∙ slots page in
+          ap (λ (l : List LogRec). slots_written l page) is ∙ (slots_written-added log rec page ∙ (ap (max (slots_written log page)) nothing ∙ max-zero (slots_written log page))),
     )
 
 -- a record that is no write, after which each slot is what the pages have
@@ -135,7 +136,7 @@ kept_after s t p q rec slot kept sound undo_fits added none no_page no_slot sche
           ∙ (ap (λ (n : ℕ). pages_by (slot_of t.log) (slots_written t.log) n s.slot_limit) (sym counts.0)
           ∙ ap (pages_by (slot_of t.log) (slots_written t.log) (pages_written t.log)) (sym slots)));
       limit = pages_limit ∙ (kept.limit ∙ sym slots);
-      writes_fit = rw schema (fit_added s.schema s.log t.log rec added (λ cells e. absurd (none_some cells (sym none ∙ e))) kept.writes_fit);
+      writes_fit = rw schema (fit_added s.schema s.log t.log rec added (λ cells e. absurd (none-some cells (sym none ∙ e))) kept.writes_fit);
       sound = sound;
       undo_fits = undo_fits;
       limits = rw (slots, limit) kept.limits;

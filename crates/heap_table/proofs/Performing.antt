@@ -218,11 +218,6 @@ some_row log rid some = by (live_at log rid) some where
   by None e = absurd (cc)
   by (Some cells) e = (cells, refl)
 
-pub insert_accepted :
-    (s : HeapState) (txn : ℕ) (cells : List Cell) (rid : Rid) → txn_refusal s txn ≡ None → shape_refusal s.schema cells ≡ None
-    → insert_place s (length (row_bytes cells)) ≡ Some rid → insert_refusal s txn cells ≡ None
-insert_accepted s txn cells rid by shape place = rw (by, shape, place) refl
-
 -- a ready undo undoes its write
 pub undid_from :
     (h : HeapValue) (t : HeapState) (p : PagesValue) (ready : Ready) (n : ℕ) → IsReady h ready → IsKept h.state p → ready.undone ≡ Some n

@@ -17,6 +17,7 @@ use Rattle.heap_table.specs.Holders.{writes, wrote}
 use Rattle.heap_table.specs.PageLists.{PagesValue, new_page, page_by, slot_in, with_slot_in, pages_by, settled, settled_if}
 use Rattle.heap_table.specs.Ready.{HaveWritten}
 use Rattle.heap_log.proofs.Records.{rid_of-write}
+use Rattle.std.proofs.Math.Seq.{drop-length}
 use Rattle.heap_table.proofs.PageLists.{length_page_by, length_pages_by, get_or_pages_by, pages_by_same, pages_by_inside, slot_in_pages}
 use Rattle.heap_table.proofs.Writers.{wrote_from}
 
@@ -55,22 +56,18 @@ wrote_skip (suc d) m log txn rid within none = elim (slice_get_cases log m).1 [
   | inr past ↦ absurd (omega (arith, past.0, within))
 ]
 
-past_end : (log : List LogRec) → drop (length log) log ≡ []
-past_end [] = refl
-past_end (x ∷ log) = past_end log
-
 -- nothing was written behind the last write
 none_behind : (log : List LogRec) (txn : ℕ) (rid : Rid) (place : Option ℕ) → last_of log txn (length log + 1) ≡ place → wrote_behind log txn place rid ≡ false
 none_behind log txn rid None e =
     wrote_skip (length log) 0 log txn rid (omega arith) (λ i low high. last_below_none (λ k. is_write_of txn (record_at log k)) (length log + 1) e i (omega (arith, high)))
-    ∙ ap (λ (l : List LogRec). wrote l txn rid) (ap (λ (k : ℕ). drop k log) zero_more ∙ past_end log) where
+    ∙ ap (λ (l : List LogRec). wrote l txn rid) (ap (λ (k : ℕ). drop k log) zero_more ∙ drop-length log) where
       zero_more : 0 + length log ≡ length log
       zero_more = omega arith
 none_behind log txn rid (Some n) e =
     let last : IsLast (λ k. is_write_of txn (record_at log k)) (length log + 1) n = last_below_some (λ k. is_write_of txn (record_at log k)) (length log + 1) n e in
     let whole : n + (length log - n) ≡ length log = omega (arith, last.below) in
     wrote_skip (length log - n) n log txn rid (omega (arith, whole)) (λ i low high. last.after i low (omega (arith, high, whole)))
-    ∙ ap (λ (l : List LogRec). wrote l txn rid) (ap (λ (k : ℕ). drop k log) whole ∙ past_end log)
+    ∙ ap (λ (l : List LogRec). wrote l txn rid) (ap (λ (k : ℕ). drop k log) whole ∙ drop-length log)
 
 -- behind the write before there is one write more
 one_behind :

@@ -20,10 +20,12 @@ use Rattle.heap_table.specs.Sound.{IsSound}
 use Rattle.heap_log.proofs.Growing.{Grows}
 use Rattle.keybytes.proofs.SameRids.{same_rid-refl}
 use Rattle.heap_log.proofs.Records.{writes_there, some_place-by}
+use Rattle.std.proofs.Math.Nat.{max-zero, zero-max}
+use Rattle.std.proofs.lemmas.Option.{none-some}
 use Rattle.heap_table.proofs.Holding.{holder_is, holder_open, holder_wrote, same_holder}
 use Rattle.heap_table.proofs.Sounds.{wrote_then, wrote_still, busy_write, free_for}
 use Rattle.heap_table.proofs.Writers.{greatest_written-added, before_first_kept, before_first_next, greatest_none}
-use Rattle.heap_table.proofs.Small.{max_turned, max_zero, none_some, same_rid_other, some_or_none, max_comm}
+use Rattle.heap_table.proofs.Small.{max_turned, same_rid_other, some_or_none}
 
 -- a write is at its RID
 pub at_its_rid : (txn : ℕ) (rec : Option LogRec) → is_write_of txn rec ≡ true → is_write_at (rid_of rec) rec ≡ true
@@ -45,7 +47,7 @@ room_kept log new rec rid txn is has none =
     let first : before_first txn rid new ≡ before_first txn rid log = ap (before_first txn rid) is ∙ before_first_kept txn rid log (rec ∷ []) has in
     let none_here : size_written txn rid rec ≡ 0 = rw none refl in
     let greatest : greatest_written txn rid new ≡ greatest_written txn rid log =
-    ap (greatest_written txn rid) is ∙ (greatest_written-added txn rid log rec ∙ (ap (max (greatest_written txn rid log)) none_here ∙ max_zero (greatest_written txn rid log))) in
+    ap (greatest_written txn rid) is ∙ (greatest_written-added txn rid log rec ∙ (ap (max (greatest_written txn rid log)) none_here ∙ max-zero (greatest_written txn rid log))) in
     rw (first, greatest) refl
 
 -- the slot under a holder that wrote there stays with such a record, where the same row stands
@@ -98,12 +100,12 @@ write_room s t txn rid row w =
     ap (λ (h : Option ℕ). room_held_by h t.log rid) (write_holder s t txn rid row w) ∙ (elim (some_or_none (holder s.log rid)) [
       | inl none ↦
           let fresh : wrote s.log txn rid ≡ false = elim (cases_Bool (wrote s.log txn rid)) [
-            | inl has ↦ absurd (none_some txn (sym none ∙ holder_is s w.was rid txn w.opened has))
+            | inl has ↦ absurd (none-some txn (sym none ∙ holder_is s w.was rid txn w.opened has))
             | inr fresh ↦ fresh
           ] in
           let first : before_first txn rid t.log ≡ s.log = ap (before_first txn rid) w.added.is ∙ before_first_next txn rid s.log rec fresh (writes_here txn rid row) in
           let nothing : greatest_written txn rid s.log ≡ 0 = greatest_none txn rid s.log fresh in
-          rw (first, greatest, nothing, none) (ap (max (row_size (live_at s.log rid))) (max_comm 0 (row_size row) ∙ max_zero (row_size row)))
+          rw (first, greatest, nothing, none) (ap (max (row_size (live_at s.log rid))) (zero-max (row_size row)))
       | inr some ↦
           let by = holder_wrote s.log rid some.0 some.1 in
           let same : some.0 ≡ txn = free_for s w.was txn some.0 rid w.free_for (holder_open s w.was rid some.0 some.1) by.1 in
@@ -120,7 +122,7 @@ write_slot s t txn rid row w =
     ∙ (ap (λ (cells : Option (List Cell)). slot_with cells (Some txn) (room_needed t.log rid)) (write_live s t txn rid row w)
     ∙ (ap (slot_with row (Some txn)) (write_room s t txn rid row w ∙ ap (λ (n : ℕ). max n (row_size row)) (sym (reserve_slot s.log rid))) ∙ by row)) where
       by : (cells : Option (List Cell)) → slot_with cells (Some txn) (max (reserve_of (slot_of s.log rid)) (row_size cells)) ≡ changed (slot_of s.log rid) (option_map row_bytes cells)
-      by None = ap held (max_zero (reserve_of (slot_of s.log rid)))
+      by None = ap held (max-zero (reserve_of (slot_of s.log rid)))
       by (Some cells) = refl
 
 -- the slots of the others

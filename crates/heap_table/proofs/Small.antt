@@ -5,21 +5,12 @@ use Rattle.keybytes.specs.declared.rid.Rid.{Rid}
 use Rattle.keybytes.specs.Rids.{same_rid}
 use Rattle.keybytes.proofs.SameRids.{same_rid-true, same_rid-refl}
 
-pub max_zero : (a : ℕ) → max a 0 ≡ a
-max_zero a = omega arith
-
-pub max_comm : (a b : ℕ) → max a b ≡ max b a
-max_comm a b = omega arith
-
 pub max_turned : (a b c : ℕ) → max a (max b c) ≡ max (max a b) c
 max_turned a b c = omega arith
 
 pub some_or_none : {A : Type 0} (o : Option A) → (o ≡ None) ⊎ ((x : A) × (o ≡ Some x))
 some_or_none None = inl refl
 some_or_none (Some x) = inr (x, refl)
-
-pub none_some : {A : Type 0} (x : A) → None ≡ Some x → ⊥
-none_some x f = cc
 
 pub same_rid_other : (a b : Rid) → b ≢ a → same_rid a b ≡ false
 same_rid_other a b other = elim (cases_Bool (same_rid a b)) [

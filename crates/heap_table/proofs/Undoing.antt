@@ -4,7 +4,7 @@ use Rattle.std.proofs.Math.Bool.{or-false}
 use Rattle.std.specs.Prelude.{◌||◌, ◌&&◌, not, ◌==◌}
 use Rattle.std.specs.Option.{option_map}
 use Rattle.std.proofs.lemmas.Bool.{cases_Bool, cases_eq, cases_lt, false≢true, eqb-true, eq-eqb, and_parts, and_from, not-true, or_parts}
-use Rattle.std.proofs.lemmas.Option.{same_Some}
+use Rattle.std.proofs.lemmas.Option.{same_Some, none-some}
 use Rattle.keybytes.specs.Rows.{row_bytes}
 use Rattle.keybytes.specs.declared.cell.Cell.{Cell}
 use Rattle.keybytes.specs.declared.rid.Rid.{Rid}
@@ -22,11 +22,12 @@ use Rattle.heap_table.specs.Sound.{IsSound, UndoFits}
 use Rattle.heap_log.proofs.Growing.{Grows}
 use Rattle.keybytes.proofs.SameRids.{same_rid-true}
 use Rattle.heap_log.proofs.Records.{rid_of-write}
+use Rattle.heap_table.proofs.LogRows.{newest_there}
 use Rattle.heap_table.proofs.Holding.{holder_is, holder_open, holder_wrote, no_holder, same_holder}
 use Rattle.heap_table.proofs.Slots.{at_its_rid, reserve_slot, room_kept, under_kept, Wrote, write_holder, write_other_holder, write_live, write_other_live, write_room, write_other_slot}
 use Rattle.heap_table.proofs.Sounds.{wrote_still}
 use Rattle.heap_table.proofs.Writers.{wrote_from}
-use Rattle.heap_table.proofs.Small.{none_some, rid_cases, some_or_none}
+use Rattle.heap_table.proofs.Small.{rid_cases, some_or_none}
 
 -- a row before a write, once a record that leaves it is added
 row_before_kept :
@@ -77,7 +78,7 @@ ended_slot s t txn h k opened closed others rid written = elim (cases_Bool (wrot
       let same : holder t.log rid ≡ holder s.log rid = elim (some_or_none (holder s.log rid)) [
         | inl none ↦ no_holder t k rid (λ u is by. elim (cases_eq u txn) [
           | inl same ↦ false≢true (sym (ap (is_open t.active) same ∙ closed) ∙ is)
-          | inr differs ↦ none_some u (sym none ∙ holder_is s h rid u (sym (others u differs) ∙ is) (sym (written u) ∙ by))
+          | inr differs ↦ none-some u (sym none ∙ holder_is s h rid u (sym (others u differs) ∙ is) (sym (written u) ∙ by))
         ]) ∙ sym none
         | inr some ↦
             let by = holder_wrote s.log rid some.0 some.1 in
@@ -267,8 +268,7 @@ undo_other_live s t txn n rid u other differs = u.added.live.live other ∙ (eli
   elsewhere : (o : Option ℕ) → newest_at s.log other ≡ o → is_number n o ≡ true → ⊥
   elsewhere None e same = false≢true same
   elsewhere (Some k) e same =
-      let last : IsLast (stands_at s.log other) (length s.log + 1) k = last_below_some (stands_at s.log other) (length s.log + 1) k e in
-      let at : is_write_at other (record_at s.log n) ≡ true = ap (λ (m : ℕ). is_write_at other (record_at s.log m)) (sym (eqb-true k n same)) ∙ (and_parts (is_write_at other (record_at s.log k)) (not (undone s.log k)) last.passes).0 in
+      let at : is_write_at other (record_at s.log n) ≡ true = ap (λ (m : ℕ). is_write_at other (record_at s.log m)) (sym (eqb-true k n same)) ∙ newest_there s.log other k e in
       differs (sym (rid_of-write other (record_at s.log n) at) ∙ sym u.place)
 
 -- the row that comes back fits

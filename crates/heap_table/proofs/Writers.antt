@@ -10,7 +10,8 @@ use Rattle.keybytes.specs.declared.rid.Rid.{Rid}
 use Rattle.heap_log.specs.declared.record.LogRec.{LogRec}
 use Rattle.heap_log.specs.Standing.{record_at, is_write_of, is_write_at}
 use Rattle.heap_table.specs.Holders.{writes, wrote, is_commit_of, committed, before_first, size_written, greatest_written}
-use Rattle.heap_table.proofs.Small.{max_turned, max_comm}
+use Rattle.std.proofs.Math.Nat.{max_comm}
+use Rattle.heap_table.proofs.Small.{max_turned}
 
 -- a number of a write of the transaction at the RID
 pub record HasWrite (log : List LogRec) (txn : ℕ) (rid : Rid) : Type 0 where
