@@ -1,5 +1,5 @@
 -- A table keeps what it keeps through each change.
-use Rattle.std.proofs.Common.{map, ◌≡◌, ◌≢◌, inl, inr, ℕ, zero, suc, ◌+◌, ◌<◌, ◌≤◌, max, Bool, true, false, List, [], ◌∷◌, ◌++◌, length, Option, Some, None, refl, sym, ap, ◌∙◌, arith, length-append}
+use Rattle.std.proofs.Common.{map, ◌≡◌, ◌≢◌, inl, inr, ℕ, zero, suc, ◌+◌, ◌<◌, ◌≤◌, max, Bool, true, false, List, [], ◌∷◌, ◌++◌, length, Option, Some, None, refl, sym, ap, ◌∙◌, arith}
 use Rattle.std.specs.Prelude.{◌==◌, ◌&&◌}
 use Rattle.std.specs.Option.{option_map}
 use Rattle.std.proofs.lemmas.Bool.{cases_Bool, cases_lt, false≢true}
@@ -30,7 +30,7 @@ use Rattle.std.proofs.Math.Nat.{max-zero}
 use Rattle.std.proofs.lemmas.Option.{none-some}
 use Rattle.heap_table.proofs.Holding.{holder_wrote}
 use Rattle.heap_table.proofs.KeptFacts.{kept_slot}
-use Rattle.heap_table.proofs.LogRows.{slots_written-added, pages_written-added, slots_past, end_here, written_inside}
+use Rattle.heap_table.proofs.LogRows.{slots_written-added, pages_written-added, slots_past, end_here, written_inside, length_grown}
 use Rattle.heap_table.proofs.OpenOnes.{open_without_self, open_without_other, without_fewer, open_marked}
 use Rattle.heap_table.proofs.PageLists.{pages_by_same, pages_by_changed, pages_by_inside}
 use Rattle.heap_table.proofs.Slots.{under_kept, Wrote, write_slot, write_other_slot}
@@ -50,7 +50,7 @@ fit_added :
     (kinds : List Kind) (log new : List LogRec) (rec : LogRec) → Grows log rec new
     → ((cells : List Cell) → row_of (Some rec) ≡ Some cells → IsRow cells × (fits kinds cells ≡ true)) → WritesFit kinds log → WritesFit kinds new
 fit_added kinds log new rec added fit old = λ n cells e.
-    let count : length new ≡ length log + 1 = ap length added.is ∙ length-append log (rec ∷ []) in
+    let count : length new ≡ length log + 1 = length_grown log new rec added in
     let high = (write_at new (rid_of (record_at new n)) n (written_at (record_at new n) cells e)).high in
     elim (cases_lt (length log) n) [
       | inl last ↦

@@ -23,11 +23,16 @@ use Rattle.heap_table.specs.Limits.{pages_most}
 use Rattle.heap_table.specs.HeapState.{HeapState, page_of, table_pages, takes, place_on, insert_place}
 use Rattle.heap_table.specs.Holders.{holder, room_needed}
 use Rattle.heap_table.specs.Images.{Shows, ImageValue, IsImage}
-use Rattle.heap_table.specs.Kept.{IsKept, RowsFit, WritesFit}
+use Rattle.heap_table.specs.Kept.{IsKept, RowsFit, WritesFit, IsKeptWithRoom}
 use Rattle.heap_table.specs.PageLists.{PagesValue, new_page, page_or_new, page_by, slot_in}
 use Rattle.heap_table.specs.Pages.{rid_at, row_in, slots_written, pages_written, slot_with, slot_of, page_slots}
+use Rattle.heap_table.specs.HeapValue.{HeapValue}
 use Rattle.heap_table.proofs.LogRows.{slots_past, slot_past}
 use Rattle.heap_table.proofs.PageLists.{length_page_by, length_pages_by, get_or_page_by, get_or_pages_by, page_or_new_pages_by, slot_in_pages, slot_in_past}
+
+-- what a table keeps, told of its value
+pub kept_now : (h g : HeapValue) (p : PagesValue) → h ≡ g → IsKeptWithRoom h p → IsKept g.state p
+kept_now h g p is kept = subst (λ (x : HeapValue). IsKept x.state p) is kept.kept
 
 pub kept_count : (s : HeapState) (p : PagesValue) → IsKept s p → length p.pages ≡ pages_written s.log
 kept_count s p kept = ap length kept.pages_are ∙ length_pages_by (slot_of s.log) (slots_written s.log) (pages_written s.log) s.slot_limit

@@ -18,6 +18,7 @@ use Rattle.heap_table.specs.Pages.{slot_end, slots_written, page_end, pages_writ
 use Rattle.heap_log.proofs.Growing.{Grows, grows}
 use Rattle.heap_log.specs.Growing.{Added}
 use Rattle.std.proofs.Math.Nat.{max-zero, max_comm}
+use Rattle.heap_log.proofs.Records.{length-added}
 use Rattle.heap_table.proofs.Holding.{holder_wrote}
 use Rattle.heap_table.proofs.Writers.{wrote_from}
 use Rattle.heap_table.proofs.Small.{max_turned, some_or_none}
@@ -25,6 +26,9 @@ use Rattle.heap_table.proofs.Small.{max_turned, some_or_none}
 -- the log with one record more, where memory for it was taken first
 pub grown : (old kept new : List LogRec) (rec : LogRec) → kept ≡ old → Added kept rec new → Grows old rec new
 grown old kept new rec same added = subst (λ (log : List LogRec). Grows log rec new) same (grows kept rec new added)
+
+pub length_grown : (log new : List LogRec) (rec : LogRec) → Grows log rec new → length new ≡ length log + 1
+length_grown log new rec added = ap length added.is ∙ length-added log rec
 
 pub slots_written-added :
     (log : List LogRec) (rec : LogRec) (page : ℕ)

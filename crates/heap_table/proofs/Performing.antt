@@ -21,7 +21,7 @@ use Rattle.heap_log.proofs.Numbers.{newest_standing-of}
 use Rattle.slotted_page.specs.Slot.{Slot, reserve_of, IsRow as HasRow, IsHeld, IsTaken}
 use Rattle.slotted_page.specs.Page.{PageValue, room_for, fits_at}
 use Rattle.heap_table.specs.declared.ready.Ready.{Ready}
-use Rattle.heap_table.specs.HeapState.{HeapState, is_open, still_open, page_of, txn_refusal, held_refusal, growth_refusal, row_missing, insert_refusal, insert_place, new_row_refusal}
+use Rattle.heap_table.specs.HeapState.{HeapState, is_open, still_open, page_of, held_refusal, growth_refusal, row_missing, new_row_refusal}
 use Rattle.heap_table.specs.HeapValue.{HeapValue}
 use Rattle.heap_table.specs.Holders.{holder, row_size, room_needed}
 use Rattle.heap_table.specs.Kept.{IsKept, WritesFit, IsTableRow}
@@ -196,6 +196,10 @@ new_fits :
 new_fits s p txn rid None old new kept is sized lawful = if_some new (IsTableRow s.schema) (can_change s p txn rid old new kept is sized lawful).fit
 new_fits s p txn rid (Some n) old new kept is sized lawful =
     subst (λ (row : Option (List Cell)). IfSome row (IsTableRow s.schema)) (sym lawful.3) (written_fits s.schema s.log (standing_before s.log n) kept.writes_fit)
+
+-- what is ready for a table's value, told of its fields
+pub ready_inside : (h g : HeapValue) (ready : Ready) → h ≡ g → IsReady g ready → IsReady h ready
+ready_inside h g ready is is_ready = subst (λ (x : HeapValue). IsReady x ready) (sym is) is_ready
 
 -- a ready change is lawful as what it is: a write, or the undo of the write of that number
 pub lawful_as : (h : HeapValue) (ready : Ready) (undone : Option ℕ) → IsReady h ready → ready.undone ≡ undone → IsLawful h.state ready.txn ready.rid undone ready.old ready.new

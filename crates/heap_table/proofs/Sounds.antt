@@ -1,5 +1,5 @@
 -- A table stays sound.
-use Rattle.std.proofs.Common.{◌≡◌, ◌≢◌, ◌⊎◌, inl, inr, ℕ, ◌+◌, ◌≤◌, Bool, true, false, List, [], ◌∷◌, ◌++◌, length, Option, Some, None, refl, sym, ap, ◌∙◌, subst, arith, length-append}
+use Rattle.std.proofs.Common.{◌≡◌, ◌≢◌, ◌⊎◌, inl, inr, ℕ, ◌+◌, ◌≤◌, Bool, true, false, List, [], ◌∷◌, ◌++◌, length, Option, Some, None, refl, sym, ap, ◌∙◌, subst, arith}
 use Rattle.std.proofs.Math.Bool.{and-false, and-true, or-false, or-true}
 use Rattle.std.specs.Prelude.{◌||◌, ◌&&◌, not, nat_lt, ◌==◌, if◌then◌else◌}
 use Rattle.std.proofs.lemmas.Bool.{cases_Bool, cases_eq, cases_lt, false≢true, eqb-true, eq-eqb, ne_eqb, or_cases, and_parts, or_from}
@@ -19,6 +19,7 @@ use Rattle.heap_table.specs.Sound.{IsSound}
 use Rattle.heap_log.proofs.Growing.{Grows}
 use Rattle.keybytes.proofs.SameRids.{same_rid-true}
 use Rattle.heap_log.proofs.Records.{one_writer}
+use Rattle.heap_table.proofs.LogRows.{length_grown}
 use Rattle.heap_table.proofs.Holding.{holder_is, none_standing}
 use Rattle.heap_table.proofs.OpenOnes.{open_without_self, open_without_other, without_fewer, open_marked, open_begun, open_still_other, still_fewer}
 use Rattle.heap_table.proofs.Writers.{HasWrite, wrote_from, wrote-added, committed-added}
@@ -43,7 +44,7 @@ sound_added :
 sound_added s t rec h added begun fewer may =
     let is = added.is in
     let numbers = added.numbers in
-    let count : length t.log ≡ length s.log + 1 = ap length is ∙ length-append s.log (rec ∷ []) in
+    let count : length t.log ≡ length s.log + 1 = length_grown s.log t.log rec added in
     record {
       writers = λ txn rid e. elim (or_cases (wrote s.log txn rid) (writes txn rid rec) (sym (wrote_then s.log t.log rec txn rid is) ∙ e)) [
         | inl old ↦ rw begun (h.writers txn rid old)

@@ -1,5 +1,5 @@
 -- The rows that come back, the slots they come back to, and what is left where a transaction ends.
-use Rattle.std.proofs.Common.{◌≡◌, ◌≢◌, inl, inr, ℕ, ◌+◌, ◌≤◌, max, Bool, true, false, List, [], ◌∷◌, ◌++◌, length, Option, Some, None, refl, sym, ap, ◌∙◌, subst, arith, length-append}
+use Rattle.std.proofs.Common.{◌≡◌, ◌≢◌, inl, inr, ℕ, ◌+◌, ◌≤◌, max, Bool, true, false, List, [], ◌∷◌, ◌++◌, length, Option, Some, None, refl, sym, ap, ◌∙◌, subst, arith}
 use Rattle.std.proofs.Math.Bool.{or-false}
 use Rattle.std.specs.Prelude.{◌||◌, ◌&&◌, not, ◌==◌}
 use Rattle.std.specs.Option.{option_map}
@@ -22,7 +22,7 @@ use Rattle.heap_table.specs.Sound.{IsSound, UndoFits}
 use Rattle.heap_log.proofs.Growing.{Grows}
 use Rattle.keybytes.proofs.SameRids.{same_rid-true}
 use Rattle.heap_log.proofs.Records.{rid_of-write}
-use Rattle.heap_table.proofs.LogRows.{newest_there}
+use Rattle.heap_table.proofs.LogRows.{newest_there, length_grown}
 use Rattle.heap_table.proofs.Holding.{holder_is, holder_open, holder_wrote, no_holder, same_holder}
 use Rattle.heap_table.proofs.Slots.{at_its_rid, reserve_slot, room_kept, under_kept, Wrote, write_holder, write_other_holder, write_live, write_other_live, write_room, write_other_slot}
 use Rattle.heap_table.proofs.Sounds.{wrote_still}
@@ -128,7 +128,7 @@ old_number :
     (s t : HeapState) (rec : LogRec) (n : ℕ) (rid : Rid) → Grows s.log rec t.log → ((rid : Rid) → is_write_at rid (Some rec) ≡ false)
     → is_write_at rid (record_at t.log n) ≡ true → n ≤ length s.log
 old_number s t rec n rid added nowhere there =
-    let count : length t.log ≡ length s.log + 1 = ap length added.is ∙ length-append s.log (rec ∷ []) in
+    let count : length t.log ≡ length s.log + 1 = length_grown s.log t.log rec added in
     let high = (write_at t.log rid n there).high in
     elim (cases_eq n (length s.log + 1)) [
       | inl last ↦ absurd (false≢true (sym (ap (is_write_at rid) (ap (record_at t.log) last ∙ added.numbers.here) ∙ nowhere rid) ∙ there))
@@ -158,7 +158,7 @@ fits_write s t txn rid row w fits = record {
   ];
   before = λ u m other e stands there. elim (cases_lt (length s.log) m) [
     | inl last ↦
-        let count : length t.log ≡ length s.log + 1 = ap length w.added.is ∙ length-append s.log (rec ∷ []) in
+        let count : length t.log ≡ length s.log + 1 = length_grown s.log t.log rec w.added in
         let high = (write_at t.log other m there).high in
         let m_is : m ≡ length s.log + 1 = omega (arith, high, count, last) in
         let here : record_at t.log m ≡ Some rec = ap (record_at t.log) m_is ∙ w.added.numbers.here in

@@ -5,23 +5,22 @@ use Rattle.std.specs.Option.{option_map}
 use Rattle.heap_log.specs.Standing.{live_at}
 use Rattle.slotted_page.specs.Page.{PageValue}
 use Rattle.heap_table.specs.HeapValue.{HeapValue}
-use Rattle.heap_table.specs.Kept.{IsKept}
 use Rattle.heap_table.specs.Pages.{rid_at, row_in, slots_written, slot_of}
 use Rattle.heap_table.proofs.Showing.{shows_none, shows_spelled, spelled_memory}
 use Rattle.heap_table.proofs.PageLists.{length_page_by}
-use Rattle.heap_table.proofs.KeptFacts.{kept_count, kept_page, page_shows, rows_more}
+use Rattle.heap_table.proofs.KeptFacts.{kept_count, kept_page, page_shows, rows_more, kept_now}
 use Rattle.heap_table.proofs.heap.Heap.page_rows.Goals as goal
 use Rattle.heap_table.proofs.heap.Heap.page_rows.Goals.{in-Some+in_ok-row+in_ok-push, in_default}
 
 pub page-page_now-requires : goal.page-page_now-requires
 page-page_now-requires c =
-    let kept = subst (λ (h : HeapValue). IsKept h.state c.self.inside.pages) c.self.view_is c.self.invariant.kept in
+    let kept = kept_now _ _ _ c.self.view_is c.self.invariant in
     omega (arith, c.requires, kept_count _ _ kept)
 
 pub returns-in_err-row-clause-memory : goal.returns-in_err-row-clause-memory
 returns-in_err-row-clause-memory c =
     let p = err_from_is_err_and c.from_residual.result c.from_residual.ensures.1 in
-    let kept = subst (λ (h : HeapValue). IsKept h.state c.self.inside.pages) c.self.view_is c.self.invariant.kept in
+    let kept = kept_now _ _ _ c.self.view_is c.self.invariant in
     let below : c.args.page < length c.self.inside.pages.pages = omega (arith, c.requires, kept_count _ _ kept) in
     let shows = page_shows _ _ c.args.page c.loop-slot.slot c.page-page_now.result.now c.self.invariant.kept below (c.page-page_now.ensures c.page-page_now.result.now) in
     let spelled = shows_spelled c.self.inside.schema _ c.in-Some.bytes.now _ c.in-Some.ensures.bytes shows in
@@ -29,7 +28,7 @@ returns-in_err-row-clause-memory c =
 
 pub loop-slot-preserved : goal.loop-slot-preserved
 loop-slot-preserved c =
-    let kept = subst (λ (h : HeapValue). IsKept h.state c.self.inside.pages) c.self.view_is c.self.invariant.kept in
+    let kept = kept_now _ _ _ c.self.view_is c.self.invariant in
     let below : c.args.page < length c.self.inside.pages.pages = omega (arith, c.requires, kept_count _ _ kept) in
     let log = c.args.self.now.state.log in
     let slot = c.loop-slot.slot in
@@ -56,7 +55,7 @@ loop-slot-preserved c =
 
 pub returns-clause-ok : goal.returns-clause-ok
 returns-clause-ok c =
-    let kept = subst (λ (h : HeapValue). IsKept h.state c.self.inside.pages) c.self.view_is c.self.invariant.kept in
+    let kept = kept_now _ _ _ c.self.view_is c.self.invariant in
     let below : c.args.page < length c.self.inside.pages.pages = omega (arith, c.requires, kept_count _ _ kept) in
     let same = (c.page-page_now.ensures c.page-page_now.result.now) ∙ kept_page _ _ c.args.page c.page-page_now.result.now kept below in
     let count : c.loop-slot.slot ≡ slots_written c.args.self.now.state.log c.args.page =

@@ -1,15 +1,13 @@
-use Rattle.std.proofs.Common.{length, sym, ap, subst, arith}
+use Rattle.std.proofs.Common.{length, sym, ap, arith}
 use Rattle.keybytes.specs.Rows.{row_bytes}
 use Rattle.slotted_page.specs.Slot.{IsRowSize}
-use Rattle.heap_table.specs.HeapValue.{HeapValue}
-use Rattle.heap_table.specs.Kept.{IsKept}
-use Rattle.heap_table.proofs.KeptFacts.{goes_to}
+use Rattle.heap_table.proofs.KeptFacts.{goes_to, kept_now}
 use Rattle.heap_table.proofs.LogRows.{slot_free}
 use Rattle.heap_table.proofs.heap.Heap.ready_insert.Goals as goal
 
 pub returns-clause-ready : goal.returns-clause-ready
 returns-clause-ready c =
-    let kept = subst (λ (h : HeapValue). IsKept h.state c.self.inside.pages) c.self.view_is c.self.invariant.kept in
+    let kept = kept_now _ _ _ c.self.view_is c.self.invariant in
     let size = ap length c.in_ok-bytes.ensures.ok in
     let sized : IsRowSize (length (row_bytes c.args.row)) = (omega (arith, size, c.in_ok-bytes.ensures.some), omega (arith, size, c.in_ok-bytes.ensures.size)) in
     let place = c.in_ok-rid.ensures.place in

@@ -1,35 +1,34 @@
-use Rattle.std.proofs.Common.{ℕ, refl, sym, ap, subst, ◌∙◌, arith, Some}
+use Rattle.std.proofs.Common.{ℕ, refl, ap, subst, ◌∙◌, arith, Some}
 use Rattle.heap_log.specs.Standing.{record_at, rid_of, row_at, standing_before}
 use Rattle.heap_log.proofs.Numbers.{newest_standing-write}
 use Rattle.heap_table.specs.HeapState.{still_open}
 use Rattle.heap_table.specs.HeapValue.{HeapValue}
-use Rattle.heap_table.specs.Kept.{IsKept}
 use Rattle.heap_table.specs.Pages.{SetsRow}
-use Rattle.heap_table.specs.Ready.{IsReady}
 use Rattle.heap_log.proofs.Growing.{grows}
+use Rattle.heap_table.proofs.KeptFacts.{kept_now}
 use Rattle.heap_table.proofs.Done.{kept_undone, undone_inside, undone_sets}
-use Rattle.heap_table.proofs.Performing.{can_restore, lawful_as}
+use Rattle.heap_table.proofs.Performing.{can_restore, lawful_as, ready_inside}
 use Rattle.heap_table.proofs.heap.Heap.undo.Goals as goal
 
 pub undo_slot-requires-clause-room : goal.undo_slot-requires-clause-room
 undo_slot-requires-clause-room c =
     let ready = c.args.ready in
     let s = c.args.self.now.state in
-    let kept = subst (λ (h : HeapValue). IsKept h.state c.self.inside.pages) c.self.view_is c.self.invariant.kept in
+    let kept = kept_now _ _ _ c.self.view_is c.self.invariant in
     let lawful = lawful_as c.args.self.now ready (Some c.args.number) c.requires.ready c.requires.undo in
     can_restore s c.self.inside.pages ready.txn c.args.number ready.rid ready.old ready.new kept c.requires.ready.old lawful
 
 pub add-requires-clause-earlier : goal.add-requires-clause-earlier
 add-requires-clause-earlier c =
     let ready = c.args.ready in
-    let is_ready = subst (λ (h : HeapValue). IsReady h ready) (sym c.self.view_is) c.requires.ready in
+    let is_ready = ready_inside _ _ _ c.self.view_is c.requires.ready in
     let lawful = lawful_as _ ready (Some c.args.number) is_ready c.requires.undo in
     let write = newest_standing-write c.self.inside.log.records ready.txn c.args.number lawful.1 in
     (write.low, write.high)
 
 pub go_on_ending-requires : goal.go_on_ending-requires
 go_on_ending-requires c =
-    let is_ready = subst (λ (h : HeapValue). IsReady h c.args.ready) (sym c.self.view_is) c.requires.ready in
+    let is_ready = ready_inside _ _ _ c.self.view_is c.requires.ready in
     let added = grows _ _ _ c.add.ensures.added in
     undone_inside _ c.self.inside.pages c.undo_slot.new.pages c.args.ready c.args.number c.add.new.self.records is_ready c.self.invariant.kept c.requires.undo added
     c.undo_slot.ensures.pages
@@ -37,7 +36,7 @@ go_on_ending-requires c =
 pub invariant_of-self : goal.invariant_of-self
 invariant_of-self c =
     let txn = c.args.ready.txn in
-    let is_ready = subst (λ (h : HeapValue). IsReady h c.args.ready) (sym c.self.view_is) c.requires.ready in
+    let is_ready = ready_inside _ _ _ c.self.view_is c.requires.ready in
     let added = grows _ _ _ c.add.ensures.added in
     record {
       kept = kept_undone _ _ c.self.inside.pages c.undo_slot.new.pages c.go_on_ending.new.pages c.args.ready c.args.number is_ready c.self.invariant.kept c.requires.undo added
@@ -50,7 +49,7 @@ invariant_of-self c =
 pub returns-clause-rows : goal.returns-clause-rows
 returns-clause-rows c =
     let n = c.args.number in
-    let is_ready = subst (λ (h : HeapValue). IsReady h c.args.ready) (sym c.self.view_is) c.requires.ready in
+    let is_ready = ready_inside _ _ _ c.self.view_is c.requires.ready in
     let added = grows _ _ _ c.add.ensures.added in
     subst (λ (h : HeapValue). SetsRow h.state.log (rid_of (record_at h.state.log n)) (row_at h.state.log (standing_before h.state.log n)) c.add.new.self.records) c.self.view_is
     (undone_sets _ c.self.inside.pages c.args.ready n c.add.new.self.records is_ready c.self.invariant.kept c.requires.undo added)

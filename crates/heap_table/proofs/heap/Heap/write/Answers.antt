@@ -1,12 +1,11 @@
-use Rattle.std.proofs.Common.{◌<◌, refl, sym, subst, arith, None}
+use Rattle.std.proofs.Common.{◌<◌, refl, subst, arith, None}
 use Rattle.heap_table.specs.HeapValue.{HeapValue}
 use Rattle.heap_table.specs.Kept.{IsKeptWithRoom}
 use Rattle.heap_table.specs.Pages.{SetsRow}
-use Rattle.heap_table.specs.Ready.{IsReady}
 use Rattle.heap_log.proofs.Growing.{grows}
 use Rattle.heap_table.proofs.Done.{kept_performed}
 use Rattle.heap_table.proofs.LogRows.{write_sets}
-use Rattle.heap_table.proofs.Performing.{can_write, lawful_as}
+use Rattle.heap_table.proofs.Performing.{can_write, lawful_as, ready_inside}
 use Rattle.heap_table.proofs.heap.Heap.write.Goals as goal
 
 pub write_slot-requires-clause-room : goal.write_slot-requires-clause-room
@@ -21,7 +20,7 @@ write_slot-requires-clause-room c =
 pub invariant_of-self : goal.invariant_of-self
 invariant_of-self c =
     let ready = c.args.ready in
-    let is_ready = subst (λ (h : HeapValue). IsReady h ready) (sym c.self.view_is) c.requires.ready in
+    let is_ready = ready_inside _ _ _ c.self.view_is c.requires.ready in
     let added = grows _ _ _ c.add.ensures.added in
     record {
       kept = kept_performed _ _ c.self.inside.pages c.write_slot.new.pages ready is_ready c.self.invariant.kept c.requires.write added refl refl refl refl refl
