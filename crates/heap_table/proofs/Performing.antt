@@ -202,8 +202,8 @@ pub ready_inside : (h g : HeapValue) (ready : Ready) → h ≡ g → IsReady g r
 ready_inside h g ready is is_ready = subst (λ (x : HeapValue). IsReady x ready) (sym is) is_ready
 
 -- a ready change is lawful as what it is: a write, or the undo of the write of that number
-pub lawful_as : (h : HeapValue) (ready : Ready) (undone : Option ℕ) → IsReady h ready → ready.undone ≡ undone → IsLawful h.state ready.txn ready.rid undone ready.old ready.new
-lawful_as h ready undone is_ready as_it = subst (λ (o : Option ℕ). IsLawful h.state ready.txn ready.rid o ready.old ready.new) as_it is_ready.lawful
+pub lawful_as : (h : HeapValue) (ready : Ready) (number : Option ℕ) → IsReady h ready → ready.undone ≡ number → IsLawful h.state ready.txn ready.rid number ready.old ready.new
+lawful_as h ready number is_ready same = subst (λ (o : Option ℕ). IsLawful h.state ready.txn ready.rid o ready.old ready.new) same is_ready.lawful
 
 -- what holds of a change that is made ready
 pub lawful_change : (h : HeapValue) (p : PagesValue) (ready : Ready) → IsReady h ready → IsKept h.state p → IsLawfulChange h.state ready
