@@ -5,7 +5,7 @@ use Rattle.std.specs.Prelude.{◌||◌, ◌==◌, if◌then◌else◌, ◌&&◌,
 use Rattle.std.specs.Bool.{then_some}
 use Rattle.std.specs.List.{filter_map, find, cons_option}
 use Rattle.std.proofs.lemmas.Bool.{cases_Bool, cases_order, false≢true, eqb-true, eq-eqb, or_cases, or_left, or_right, and_left, and_right}
-use Rattle.std.proofs.lemmas.Option.{same_Some}
+use Rattle.std.proofs.lemmas.Option.{same_Some, none-some}
 use Rattle.keybytes.specs.declared.rid.Rid.{Rid}
 use Rattle.heap_log.specs.declared.record.LogRec.{LogRec}
 use Rattle.heap_log.specs.declared.record.LogRec.TheVariants.{Write, Undo, Commit, Switch}
@@ -16,8 +16,8 @@ use Rattle.heap_log.proofs.Numbers.{write_at, newest_standing-of, newest_standin
 use Rattle.heap_table.specs.HeapState.{HeapState, is_open}
 use Rattle.heap_table.specs.Holders.{writes, wrote, is_busy, writer_at, holder, committed}
 use Rattle.heap_table.specs.Sound.{IsSound, HoldsFollowLog}
-use Rattle.heap_table.proofs.Writers.{HasWrite, wrote_some, wrote_from, one_writer}
-use Rattle.heap_log.proofs.Records.{writes_there}
+use Rattle.heap_table.proofs.Writers.{HasWrite, wrote_some, wrote_from}
+use Rattle.heap_log.proofs.Records.{writes_there, one_writer}
 use Rattle.heap_table.proofs.Small.{some_or_none}
 
 -- a record is a write of its writer
@@ -62,7 +62,7 @@ finds_none p (rec ∷ log) rid t e has = elim (some_or_none (writer_at rid rec))
       let w = some.0 in
       let at : find p (w ∷ filter_map (writer_at rid) log) ≡ None = sym (ap (λ (o : Option ℕ). find p (cons_option o (filter_map (writer_at rid) log))) some.1) ∙ e in
       elim (cases_Bool (p w)) [
-        | inl hit ↦ absurd (some_none w (sym (ap (λ (b : Bool). if b then Some w else find p (filter_map (writer_at rid) log)) hit) ∙ at))
+        | inl hit ↦ absurd (none-some w (sym at ∙ ap (λ (b : Bool). if b then Some w else find p (filter_map (writer_at rid) log)) hit))
         | inr miss ↦ elim (or_cases (writes t rid rec) (wrote log t rid) has) [
           | inl here ↦
               let same : w ≡ t = eqb-true w t (sym (writes_by t rid rec ∙ ap (is_number t) some.1) ∙ here) in
@@ -71,9 +71,7 @@ finds_none p (rec ∷ log) rid t e has = elim (some_or_none (writer_at rid rec))
               finds_none p log rid t (sym (ap (λ (b : Bool). if b then Some w else find p (filter_map (writer_at rid) log)) miss) ∙ at) rest
         ]
       ]
-] where
-  some_none : (w : ℕ) → Some w ≡ None → ⊥
-  some_none w f = cc
+]
 
 pub holder_wrote : (log : List LogRec) (rid : Rid) (txn : ℕ) → holder log rid ≡ Some txn → (is_busy log txn ≡ true) × (wrote log txn rid ≡ true)
 holder_wrote log rid txn e = finds_wrote (is_busy log) log rid txn e
@@ -146,10 +144,6 @@ count_none p (suc n) none = rw (none n (omega arith)) (count_none p n (λ k l. n
 pub none_standing : (log : List LogRec) (txn : ℕ) → newest_standing log txn ≡ None → standing_count log txn ≡ 0
 none_standing log txn e = count_none (stands_of log txn) (length log + 1) (last_below_none (stands_of log txn) (length log + 1) e)
 
-and_yes : (b : Bool) → (b && true) ≡ b
-and_yes true = refl
-and_yes false = refl
-
 -- a busy transaction is an open one with a standing write
 busy_opens : (s : HeapState) → IsSound s → (txn : ℕ) → is_busy s.log txn ≡ (is_open s.active txn && nat_lt 0 (standing_count s.log txn))
 busy_opens s h txn =
@@ -161,7 +155,7 @@ busy_opens s h txn =
             let rid : Rid = rid_of (record_at s.log newest.0) in
             let there = writes_there (record_at s.log newest.0) (newest_standing-write s.log txn newest.0 newest.1).write in
             h.busy txn rid (wrote_from s.log txn rid newest.0 (newest_standing-of s.log txn newest.0 newest.1) there)
-            ∙ sym (ap (λ b. opened && b) some ∙ and_yes opened)
+            ∙ sym (ap (λ b. opened && b) some ∙ and-true opened)
       ]
       | inr none ↦
           and_left (nat_lt 0 (standing_count s.log txn)) (not (committed s.log txn)) none

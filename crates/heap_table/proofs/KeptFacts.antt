@@ -6,7 +6,7 @@ use Rattle.std.specs.List.{range_with_len, filter_map, cons_option}
 use Rattle.std.proofs.lemmas.List.Elements.{filter_map-append}
 use Rattle.std.proofs.lemmas.Bool.{cases_lt}
 use Rattle.std.proofs.lemmas.Bool.Decides.{nat_tests}
-use Rattle.std.proofs.lemmas.Option.{same_Some}
+use Rattle.std.proofs.lemmas.Option.{same_Some, cond_some}
 use Rattle.std.proofs.lemmas.List.{get_or_past}
 use Rattle.std.proofs.lemmas.List.Quantifiers.{position-Some}
 use Rattle.keybytes.specs.Cells.{fits}
@@ -19,19 +19,25 @@ use Rattle.heap_log.specs.declared.record.LogRec.{LogRec}
 use Rattle.heap_log.specs.Standing.{live_at, row_at, newest_at}
 use Rattle.slotted_page.specs.Slot.{Slot, free, held as held_slot, row as row_slot, is_free, bytes_of, IsRowSize}
 use Rattle.slotted_page.specs.Page.{PageValue, slot_at, room_for, slot_for}
+use Rattle.heap_table.specs.Limits.{pages_most}
 use Rattle.heap_table.specs.HeapState.{HeapState, page_of, table_pages, takes, place_on, insert_place}
 use Rattle.heap_table.specs.Holders.{holder, room_needed}
 use Rattle.heap_table.specs.Images.{Shows, ImageValue, IsImage}
-use Rattle.heap_table.specs.Kept.{IsKept, RowsFit, WritesFit}
+use Rattle.heap_table.specs.Kept.{IsKept, RowsFit, WritesFit, IsKeptWithRoom}
 use Rattle.heap_table.specs.PageLists.{PagesValue, new_page, page_or_new, page_by, slot_in}
 use Rattle.heap_table.specs.Pages.{rid_at, row_in, slots_written, pages_written, slot_with, slot_of, page_slots}
+use Rattle.heap_table.specs.HeapValue.{HeapValue}
 use Rattle.heap_table.proofs.LogRows.{slots_past, slot_past}
 use Rattle.heap_table.proofs.PageLists.{length_page_by, length_pages_by, get_or_page_by, get_or_pages_by, page_or_new_pages_by, slot_in_pages, slot_in_past}
+
+-- what a table keeps, told of its value
+pub kept_now : (h g : HeapValue) (p : PagesValue) → h ≡ g → IsKeptWithRoom h p → IsKept g.state p
+kept_now h g p is kept = subst (λ (x : HeapValue). IsKept x.state p) is kept.kept
 
 pub kept_count : (s : HeapState) (p : PagesValue) → IsKept s p → length p.pages ≡ pages_written s.log
 kept_count s p kept = ap length kept.pages_are ∙ length_pages_by (slot_of s.log) (slots_written s.log) (pages_written s.log) s.slot_limit
 
-pub kept_limit : (s : HeapState) (p : PagesValue) → IsKept s p → pages_written s.log ≤ 65536
+pub kept_limit : (s : HeapState) (p : PagesValue) → IsKept s p → pages_written s.log ≤ pages_most
 kept_limit s p kept = grind (arith, nat_tests, kept.limits, kept.within)
 
 kept_slots : (s : HeapState) (p : PagesValue) → IsKept s p → 0 < s.slot_limit
@@ -97,10 +103,6 @@ slot_shows s p rid kept = subst (λ (slot : Slot). Shows s.schema slot (live_at 
 new_page_takes : (limit size : ℕ) → 0 < limit → size ≤ 1224 → room_for (new_page limit) size ≡ Some 0
 new_page_takes limit size some small = grind (arith, nat_tests, some, small)
 
-some_if : {X : Type 0} (b : Bool) (x y : X) → (if b then Some x else None) ≡ Some y → (b ≡ true) × (x ≡ y)
-some_if true x y e = (refl, same_Some x y e)
-some_if false x y e = absurd (cc)
-
 -- the slot that a page has room in is a free one of its own or the next one
 room_within : (page : PageValue) (size slot : ℕ) → room_for page size ≡ Some slot → (slot ≤ length page.slots) × (slot_at page slot ≡ free)
 room_within page size slot room = by_first page size slot (position is_free page.slots) refl room where
@@ -111,11 +113,11 @@ room_within page size slot room = by_first page size slot (position is_free page
 
   by_first : (page : PageValue) (size slot : ℕ) (first : Option ℕ) → position is_free page.slots ≡ first → slot_for first page size ≡ Some slot → (slot ≤ length page.slots) × (slot_at page slot ≡ free)
   by_first page size slot None is room =
-      let e = (some_if _ (length page.slots) slot room).1 in
+      let e = (cond_some _ (length page.slots) slot room).1 in
       (omega (arith, e), get_or_past page.slots slot free (omega (arith, e)))
   by_first page size slot (Some s) is room =
       let found = position-Some is_free page.slots s free is in
-      let e = (some_if _ s slot room).1 in
+      let e = (cond_some _ s slot room).1 in
       (omega (arith, e, found.0), is_free_free (slot_at page slot) (ap (λ (k : ℕ). is_free (get_or page.slots k free)) (sym e) ∙ found.1))
 
 -- where an insert goes
@@ -164,7 +166,7 @@ goes_to s p size rid kept sized place = by_page (position (takes size) (table_pa
       goes_on s p size page rid (room_for (page_of s page) size) kept (omega (arith, len, found.0)) refl place
   by_page None is place =
       let count = pages_written s.log in
-      let next = some_if (nat_lt count s.page_limit) (rid_at count 0) rid place in
+      let next = cond_some (nat_lt count s.page_limit) (rid_at count 0) rid place in
       let fresh : page_of s count ≡ new_page s.slot_limit =
       ap (λ (n : ℕ). page_by (slot_of s.log) (λ _. n) s.slot_limit count) (slots_past s.log count (omega arith)) in
       let room : room_for (page_of s count) size ≡ Some 0 = ap (λ (q : PageValue). room_for q size) fresh ∙ new_page_takes s.slot_limit size (kept_slots s p kept) sized.1 in

@@ -1,5 +1,5 @@
 -- What a record more does to the rows that stand and to the pages that are written.
-use Rattle.std.proofs.Common.{◌≡◌, inl, inr, ℕ, ◌+◌, ◌≤◌, max, true, List, [], ◌∷◌, ◌++◌, ◌<◌, length, Option, Some, None, refl, sym, ap, ◌∙◌, arith}
+use Rattle.std.proofs.Common.{◌≡◌, inl, inr, ℕ, ◌+◌, ◌≤◌, max, true, List, [], ◌∷◌, ◌++◌, ◌<◌, length, Option, Some, None, refl, sym, ap, ◌∙◌, arith, subst}
 use Rattle.std.specs.Prelude.{not, ◌==◌}
 use Rattle.std.proofs.lemmas.Bool.{false≢true, false_from_ne_true, or_cases, and_parts, eq-eqb, cond-true, cond-false}
 use Rattle.std.proofs.lemmas.Bool.Decides.{nat_tests}
@@ -11,17 +11,24 @@ use Rattle.heap_log.specs.declared.record.LogRec.TheVariants.{Write, Undo, Commi
 use Rattle.keybytes.specs.Rids.{same_rid}
 use Rattle.keybytes.proofs.SameRids.{same_rid-true, same_rid-refl}
 use Rattle.heap_log.specs.Standing.{live_at, row_at, record_at, newest_at, stands_at, undone, is_write_of, is_write_at}
-use Rattle.heap_log.proofs.Last.{IsLast, last_below_some}
+use Rattle.heap_log.proofs.Last.{last_below_some}
 use Rattle.slotted_page.specs.Slot.{free}
 use Rattle.heap_table.specs.Holders.{writes, wrote, holder}
 use Rattle.heap_table.specs.Pages.{slot_end, slots_written, page_end, pages_written, slot_with, slot_of, KeepsRows, SetsRow, RowsAreInside}
-use Rattle.heap_log.proofs.Growing.{Grows}
+use Rattle.heap_log.proofs.Growing.{Grows, grows}
+use Rattle.heap_log.specs.Growing.{Added}
+use Rattle.std.proofs.Math.Nat.{max-zero, max_comm}
+use Rattle.heap_log.proofs.Records.{length-added}
 use Rattle.heap_table.proofs.Holding.{holder_wrote}
 use Rattle.heap_table.proofs.Writers.{wrote_from}
-use Rattle.heap_table.proofs.Small.{max_turned, max_zero, same_rid_is, some_or_none}
+use Rattle.heap_table.proofs.Small.{max_turned, some_or_none}
 
-max_comm : (a b : ℕ) → max a b ≡ max b a
-max_comm a b = omega arith
+-- the log with one record more, where memory for it was taken first
+pub grown : (old kept new : List LogRec) (rec : LogRec) → kept ≡ old → Added kept rec new → Grows old rec new
+grown old kept new rec same added = subst (λ (log : List LogRec). Grows log rec new) same (grows kept rec new added)
+
+pub length_grown : (log new : List LogRec) (rec : LogRec) → Grows log rec new → length new ≡ length log + 1
+length_grown log new rec added = ap length added.is ∙ length-added log rec
 
 pub slots_written-added :
     (log : List LogRec) (rec : LogRec) (page : ℕ)
@@ -38,21 +45,15 @@ pages_written-added (first ∷ log) rec =
 pub keeps_commit : (log new : List LogRec) (txn : ℕ) → Grows log (Commit txn) new → KeepsRows log new
 keeps_commit log new txn added = record {
   live = added.live.live;
-  pages = rw added.is (pages_written-added log (Commit txn) ∙ max_zero (pages_written log));
-  slots = λ page. rw added.is (slots_written-added log (Commit txn) page ∙ max_zero (slots_written log page));
+  pages = rw added.is (pages_written-added log (Commit txn) ∙ max-zero (pages_written log));
+  slots = λ page. rw added.is (slots_written-added log (Commit txn) page ∙ max-zero (slots_written log page));
 }
 
 pub keeps_switch : (log new : List LogRec) (verdicts : List Outcome) → Grows log (Switch verdicts) new → KeepsRows log new
 keeps_switch log new verdicts added = record {
   live = added.live.live;
-  pages = rw added.is (pages_written-added log (Switch verdicts) ∙ max_zero (pages_written log));
-  slots = λ page. rw added.is (slots_written-added log (Switch verdicts) page ∙ max_zero (slots_written log page));
-}
-
-pub inside_kept : (old new : List LogRec) → KeepsRows old new → RowsAreInside old → RowsAreInside new
-inside_kept old new keeps inside = record {
-  page = λ rid cells stands. rw keeps.pages (inside.page rid cells (sym (keeps.live rid) ∙ stands));
-  slot = λ rid cells stands. rw (keeps.slots rid.page) (inside.slot rid cells (sym (keeps.live rid) ∙ stands));
+  pages = rw added.is (pages_written-added log (Switch verdicts) ∙ max-zero (pages_written log));
+  slots = λ page. rw added.is (slots_written-added log (Switch verdicts) page ∙ max-zero (slots_written log page));
 }
 
 -- no slot is written on a page that isn't
@@ -77,7 +78,7 @@ written_inside (rec ∷ log) txn rid e = elim (or_cases (writes txn rid rec) (wr
 ] where
   written_here : (rec : LogRec) (txn : ℕ) (rid : Rid) → writes txn rid rec ≡ true → (m n : ℕ) → (rid.page < max (page_end rec) m) × (rid.slot < max (slot_end rid.page rec) n)
   written_here (Write w r row) txn rid e m n =
-      let same : r ≡ rid = same_rid_is r rid (and_parts (w == txn) (same_rid r rid) e).1 in
+      let same : r ≡ rid = same_rid-true r rid (and_parts (w == txn) (same_rid r rid) e).1 in
       let page : r.page ≡ rid.page = ap (λ (x : Rid). x.page) same in
       let slot : r.slot ≡ rid.slot = ap (λ (x : Rid). x.slot) same in
       let test : (r.page == rid.page) ≡ true = eq-eqb r.page rid.page page in
@@ -85,6 +86,10 @@ written_inside (rec ∷ log) txn rid e = elim (or_cases (writes txn rid rec) (wr
   written_here (Undo t k) txn rid e m n = absurd (false≢true e)
   written_here (Commit t) txn rid e m n = absurd (false≢true e)
   written_here (Switch o) txn rid e m n = absurd (false≢true e)
+
+-- the newest write that stands at a RID is one there
+pub newest_there : (log : List LogRec) (rid : Rid) (n : ℕ) → newest_at log rid ≡ Some n → is_write_at rid (record_at log n) ≡ true
+newest_there log rid n e = (and_parts (is_write_at rid (record_at log n)) (not (undone log n)) (last_below_some (stands_at log rid) (length log + 1) n e).passes).0
 
 -- somebody wrote where a row stands
 live_written : (log : List LogRec) (rid : Rid) (cells : List Cell) → live_at log rid ≡ Some cells → (txn : ℕ) × (wrote log txn rid ≡ true)
@@ -99,8 +104,7 @@ live_written log rid cells stands = by (newest_at log rid) refl stands where
   by : (o : Option ℕ) → newest_at log rid ≡ o → row_at log o ≡ Some cells → (txn : ℕ) × (wrote log txn rid ≡ true)
   by None e none = absurd (cc)
   by (Some n) e some =
-      let last : IsLast (stands_at log rid) (length log + 1) n = last_below_some (stands_at log rid) (length log + 1) n e in
-      let there = (and_parts (is_write_at rid (record_at log n)) (not (undone log n)) last.passes).0 in
+      let there = newest_there log rid n e in
       let w = writer (record_at log n) there in
       (w.0, wrote_from log w.0 rid n w.1 there)
 

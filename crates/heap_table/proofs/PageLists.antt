@@ -13,6 +13,7 @@ use Rattle.slotted_page.specs.Slot.{Slot, free, held, row, put, is_held, bytes_o
 use Rattle.slotted_page.specs.Page.{PageValue, slot_at, with_slot, room_for}
 use Rattle.heap_table.specs.Pages.{rid_at}
 use Rattle.heap_table.specs.PageLists.{new_page, page_or_new, slot_in, page_with_slot, with_slot_in, page_by, pages_by, settled}
+use Rattle.slotted_page.proofs.PageValues.{put_is_set, get_put}
 
 map_same : {X Y : Type 0} (f g : X → Y) (xs : List X) → ((x : X) → f x ≡ g x) → map f xs ≡ map g xs
 map_same f g [] same = refl
@@ -27,11 +28,6 @@ length_put : (slots : List Slot) (s : ℕ) (x : Slot) → s ≤ length slots →
 length_put [] s x within = let none : s ≡ 0 = omega arith in rw none refl
 length_put (y ∷ slots) zero x within = omega arith
 length_put (y ∷ slots) (suc s) x within = let rest = length_put slots s x (omega arith) in omega arith
-
-get_or_put_same : (slots : List Slot) (s : ℕ) (x d : Slot) → s ≤ length slots → get_or (put slots s x) s d ≡ x
-get_or_put_same [] s x d within = let none : s ≡ 0 = omega arith in rw none refl
-get_or_put_same (y ∷ slots) zero x d within = refl
-get_or_put_same (y ∷ slots) (suc s) x d within = get_or_put_same slots s x d (omega arith)
 
 get_or_put_other : (slots : List Slot) (s k : ℕ) (x d : Slot) → s ≤ length slots → k ≢ s → k < length slots → get_or (put slots s x) k d ≡ get_or slots k d
 get_or_put_other [] s k x d within other below = absurd (omega arith)
@@ -100,7 +96,7 @@ page_by_changed f g m n limit rid others within grown =
     (λ k below.
     let in_new : k < n rid.page = omega (arith, below, count) in
     rw (get_or_page_by g n limit rid.page k free in_new) (elim (cases_eq k rid.slot) [
-      | inl same ↦ rw same (get_or_put_same slots rid.slot (g rid) free there)
+      | inl same ↦ rw same (get_put slots rid.slot (g rid) there)
       | inr differs ↦
           let in_old : k < length slots = omega (arith, below, count, grown, len, within) in
           get_or_put_other slots rid.slot k (g rid) free there differs in_old
@@ -293,9 +289,7 @@ insert_opened pages opened limit rid bytes page changed slot within is here room
 
 -- the slots where the slot put is the one there
 put_same : (slots : List Slot) (s : ℕ) (x : Slot) → s < length slots → get_or slots s free ≡ x → put slots s x ≡ slots
-put_same [] s x below e = absurd (omega arith)
-put_same (y ∷ slots) zero x below e = ap (λ z. z ∷ slots) (sym e)
-put_same (y ∷ slots) (suc s) x below e = ap (λ ys. y ∷ ys) (put_same slots s x (omega arith) e)
+put_same slots s x below e = put_is_set slots s x below ∙ (ap (set slots s) (sym e) ∙ set-get_or slots s free)
 
 settled_free : (slot : Slot) → is_held slot ≡ false → bytes_of slot ≡ None → slot ≡ settled slot
 settled_free free e f = refl

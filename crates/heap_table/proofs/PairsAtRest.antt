@@ -1,5 +1,5 @@
 -- The pairs of all pages, put in order, are the pairs at rest.
-use Rattle.std.proofs.Common.{◌≡◌, ℕ, zero, suc, add-zero, zero-add, ◌+◌, ◌<◌, Bool, true, false, List, [], ◌∷◌, ◌++◌, append_assoc, Option, Some, None, refl, sym, ap, ◌∙◌, arith, inl, inr, subst}
+use Rattle.std.proofs.Common.{◌≡◌, ℕ, zero, suc, add-zero, zero-add, ◌+◌, ◌<◌, Bool, true, false, List, [], ◌∷◌, ◌++◌, append_assoc, Option, Some, None, refl, sym, ap, ◌∙◌, arith, subst}
 use Rattle.std.specs.Prelude.{filter_map, flat_map, map, T, IsPermutation}
 use Rattle.std.specs.declared.cmp.Ordering.{Ordering}
 use Rattle.std.specs.declared.cmp.Ordering.TheVariants.{Less, Equal, Greater}
@@ -8,7 +8,7 @@ use Rattle.std.specs.List.{list_any, range_with_len, cons_option, IsDistinct, Al
 use Rattle.std.specs.List.Sorted.{IsSortedBy}
 use Rattle.std.specs.FinMap.{keys}
 use Rattle.std.specs.FinMap.Entries.{is_sorted, below_all}
-use Rattle.std.proofs.lemmas.Bool.{or_cases, or_left, or_right, and_from, false≢true, false_from_ne_true}
+use Rattle.std.proofs.lemmas.Bool.{or_left, or_right, and_from, false≢true, false_from_ne_true}
 use native.Mathlib.Numerals.{unary_clauses}
 use Rattle.std.proofs.lemmas.Bool.Decides.{nat_tests}
 use Rattle.std.proofs.lemmas.Cmp.{eq_by_cmp_equiv}
@@ -27,6 +27,7 @@ use Rattle.keybytes.specs.Pairs.{pair_cmp, set_of}
 use Rattle.heap_table.specs.TablePairs.{pair_at, rids_on, pairs_on, pairs_from, written_rids, pairs_at_rest}
 use Rattle.keybytes.proofs.PairSets.{pairs_total, marked, tied_pairs, is_in, items_are}
 use Rattle.keybytes.proofs.SameRids.{same_rid-refl}
+use Rattle.std.proofs.lemmas.List.Folds.{list_any-append}
 use Rattle.heap_table.proofs.LogRows.{rows_are_inside}
 use Rattle.heap_table.proofs.TablePairs.{own_pair, all_listed, row_written, listed_on}
 
@@ -124,25 +125,15 @@ unfolding IsDistinct
 pairs_distinct spec log [] apart = tt
 pairs_distinct spec log (r ∷ rs) apart = one_distinct spec log r rs (pair_at spec log r) refl apart.0 (pairs_distinct spec log rs apart.1)
 
-any_append : {X : Type 0} (test : X → Bool) (xs ys : List X) → list_any test xs ≡ true → list_any test (xs ++ ys) ≡ true
-any_append test [] ys e = absurd (false≢true e)
-any_append test (x ∷ xs) ys e =
-    elim (or_cases (test x) (list_any test xs) e) [
-      | inl here ↦ or_left (test x) (list_any test (xs ++ ys)) here
-      | inr rest ↦ or_right (test x) (list_any test (xs ++ ys)) (any_append test xs ys rest)
-    ]
-
-any_after : {X : Type 0} (test : X → Bool) (xs ys : List X) → list_any test ys ≡ true → list_any test (xs ++ ys) ≡ true
-any_after test [] ys e = e
-any_after test (x ∷ xs) ys e = or_right (test x) (list_any test (xs ++ ys)) (any_after test xs ys e)
-
 listed_from : (log : List LogRec) (rid : Rid) (first count k : ℕ) → k < count → first + k ≡ rid.page → rid.slot < slots_written log rid.page → list_any (λ r. same_rid r rid) (rids_from log first count) ≡ true
 listed_from log rid first zero k less page slot = absurd (omega arith)
 listed_from log rid first (suc count) zero less page slot =
-    any_append (λ r. same_rid r rid) (rids_on log first) (rids_from log (first + 1) count)
+    list_any-append (λ r. same_rid r rid) (rids_on log first) (rids_from log (first + 1) count)
+    ∙ or_left (list_any (λ r. same_rid r rid) (rids_on log first)) (list_any (λ r. same_rid r rid) (rids_from log (first + 1) count))
     (ap (λ p. list_any (λ r. same_rid r rid) (rids_on log p)) (sym (add-zero first) ∙ page) ∙ listed_on log rid slot)
 listed_from log rid first (suc count) (suc k) less page slot =
-    any_after (λ r. same_rid r rid) (rids_on log first) (rids_from log (first + 1) count)
+    list_any-append (λ r. same_rid r rid) (rids_on log first) (rids_from log (first + 1) count)
+    ∙ or_right (list_any (λ r. same_rid r rid) (rids_on log first)) (list_any (λ r. same_rid r rid) (rids_from log (first + 1) count))
     (listed_from log rid (first + 1) count k (omega arith) (omega (arith, page)) slot)
 
 listed_all : (log : List LogRec) (rid : Rid) (row : List Cell) → live_at log rid ≡ Some row → list_any (λ r. same_rid r rid) (rids_from log 0 (pages_written log)) ≡ true

@@ -21,7 +21,8 @@ use Rattle.heap_log.proofs.Numbers.{newest_standing-of}
 use Rattle.slotted_page.specs.Slot.{Slot, reserve_of, IsRow as HasRow, IsHeld, IsTaken}
 use Rattle.slotted_page.specs.Page.{PageValue, room_for, fits_at}
 use Rattle.heap_table.specs.declared.ready.Ready.{Ready}
-use Rattle.heap_table.specs.HeapState.{HeapState, is_open, still_open, page_of, txn_refusal, held_refusal, growth_refusal, row_missing, insert_refusal, insert_place, new_row_refusal}
+use Rattle.heap_table.specs.HeapState.{HeapState, is_open, still_open, page_of, held_refusal, growth_refusal, row_missing, new_row_refusal}
+use Rattle.heap_table.specs.HeapValue.{HeapValue}
 use Rattle.heap_table.specs.Holders.{holder, row_size, room_needed}
 use Rattle.heap_table.specs.Kept.{IsKept, WritesFit, IsTableRow}
 use Rattle.heap_table.specs.PageLists.{PagesValue, new_page, page_or_new, slot_in, with_slot_in, changed}
@@ -123,14 +124,14 @@ page_there s p rid cells limit kept stands =
     kept_page s p rid.page (new_page limit) kept (omega (arith, place.0, kept_count s p kept))
 
 pub can_write :
-    (s : HeapState) (p : PagesValue) (txn : ℕ) (rid : Rid) (old new : Option (List Cell)) → IsKept s p → 0 < s.room → old ≡ live_at s.log rid → IfSome new IsSized
+    (s : HeapState) (p : PagesValue) (txn : ℕ) (rid : Rid) (old new : Option (List Cell)) → IsKept s p → 0 < p.spare → old ≡ live_at s.log rid → IfSome new IsSized
     → IsLawful s txn rid None old new → CanWrite p rid old new
 can_write s p txn rid None None kept memory is sized lawful = lawful
 can_write s p txn rid None (Some new) kept memory is sized lawful =
     let goes = goes_to s p (length (row_bytes new)) rid kept sized.1 lawful.1 in (
       omega (arith, goes.page, kept_count s p kept),
       ap (λ (q : PageValue). room_for q (length (row_bytes new))) (kept_page_or_new s p rid.page kept goes.page) ∙ goes.room,
-      omega (arith, memory, kept.room),
+      memory,
       ap reserve_of (kept_slot s p rid kept ∙ goes.empty),
     )
 can_write s p txn rid (Some old) None kept memory is sized lawful =
@@ -196,15 +197,21 @@ new_fits s p txn rid None old new kept is sized lawful = if_some new (IsTableRow
 new_fits s p txn rid (Some n) old new kept is sized lawful =
     subst (λ (row : Option (List Cell)). IfSome row (IsTableRow s.schema)) (sym lawful.3) (written_fits s.schema s.log (standing_before s.log n) kept.writes_fit)
 
+-- what is ready for a table's value, told of its fields
+pub ready_inside : (h g : HeapValue) (ready : Ready) → h ≡ g → IsReady g ready → IsReady h ready
+ready_inside h g ready is is_ready = subst (λ (x : HeapValue). IsReady x ready) (sym is) is_ready
+
+-- a ready change is lawful as what it is: a write, or the undo of the write of that number
+pub lawful_as : (h : HeapValue) (ready : Ready) (number : Option ℕ) → IsReady h ready → ready.undone ≡ number → IsLawful h.state ready.txn ready.rid number ready.old ready.new
+lawful_as h ready number is_ready same = subst (λ (o : Option ℕ). IsLawful h.state ready.txn ready.rid o ready.old ready.new) same is_ready.lawful
+
 -- what holds of a change that is made ready
-pub lawful_change : (s : HeapState) (p : PagesValue) (ready : Ready) → IsKept s p → IsReady s ready → IsLawfulChange s ready
-lawful_change s p ready kept is = record {
-  old_fits = subst (λ (row : Option (List Cell)). IfSome row (IsTableRow s.schema)) (sym is.old) (written_fits s.schema s.log (newest_at s.log ready.rid) kept.writes_fit);
-  new_fits = new_fits s p ready.txn ready.rid ready.undone ready.old ready.new kept is.old is.new is.lawful;
+pub lawful_change : (h : HeapValue) (p : PagesValue) (ready : Ready) → IsReady h ready → IsKept h.state p → IsLawfulChange h.state ready
+lawful_change h p ready is kept = record {
+  old_fits = subst (λ (row : Option (List Cell)). IfSome row (IsTableRow h.state.schema)) (sym is.old) (written_fits h.state.schema h.state.log (newest_at h.state.log ready.rid) kept.writes_fit);
+  new_fits = new_fits h.state p ready.txn ready.rid ready.undone ready.old ready.new kept is.old is.new is.lawful;
   writer = λ none.
-      let lawful : IsLawful s ready.txn ready.rid None ready.old ready.new =
-      subst (λ (o : Option ℕ). IsLawful s ready.txn ready.rid o ready.old ready.new) none is.lawful in
-      let can = can_change s p ready.txn ready.rid ready.old ready.new kept is.old is.new lawful in
+      let can = can_change h.state p ready.txn ready.rid ready.old ready.new kept is.old is.new (lawful_as h ready None is none) in
       record { opened = can.opened; free = can.free_for };
 }
 
@@ -215,28 +222,19 @@ some_row log rid some = by (live_at log rid) some where
   by None e = absurd (cc)
   by (Some cells) e = (cells, refl)
 
-pub insert_accepted :
-    (s : HeapState) (txn : ℕ) (cells : List Cell) (rid : Rid) → txn_refusal s txn ≡ None → shape_refusal s.schema cells ≡ None
-    → insert_place s (length (row_bytes cells)) ≡ Some rid → insert_refusal s txn cells ≡ None
-insert_accepted s txn cells rid by shape place = rw (by, shape, place) refl
-
--- what it takes to be the undo of that write
-pub undoes : (s : HeapState) (ready : Ready) (n : ℕ) → IsReady s ready → ready.undone ≡ Some n → IsLawful s ready.txn ready.rid (Some n) ready.old ready.new
-undoes s ready n is_ready undone = subst (λ (o : Option ℕ). IsLawful s ready.txn ready.rid o ready.old ready.new) undone is_ready.lawful
-
 -- a ready undo undoes its write
 pub undid_from :
-    (s t : HeapState) (p : PagesValue) (ready : Ready) (n : ℕ) → IsKept s p → IsReady s ready → ready.undone ≡ Some n
-    → Grows s.log (Undo ready.txn n) t.log → t.active ≡ still_open ready.txn (standing_count t.log ready.txn) s.active → t.begun ≡ s.begun
-    → Undid s t ready.txn n ready.rid
-undid_from s t p ready n kept is_ready undone added active begun =
-    let lawful = undoes s ready n is_ready undone in
+    (h : HeapValue) (t : HeapState) (p : PagesValue) (ready : Ready) (n : ℕ) → IsReady h ready → IsKept h.state p → ready.undone ≡ Some n
+    → Grows h.state.log (Undo ready.txn n) t.log → t.active ≡ still_open ready.txn (standing_count t.log ready.txn) h.state.active → t.begun ≡ h.state.begun
+    → Undid h.state t ready.txn n ready.rid
+undid_from h t p ready n is_ready kept undone added active begun =
+    let lawful = lawful_as h ready (Some n) is_ready undone in
     record {
       was = kept.sound;
-      sound = sound_undo s t ready.txn n kept.sound added active begun lawful.1 lawful.0;
+      sound = sound_undo h.state t ready.txn n kept.sound added active begun lawful.1 lawful.0;
       fits = kept.undo_fits;
       added = added;
-      fewer = λ other e. still_fewer ready.txn other (standing_count t.log ready.txn) s.active lawful.0 (sym (ap (λ a. is_open a other) active) ∙ e);
+      fewer = λ other e. still_fewer ready.txn other (standing_count t.log ready.txn) h.state.active lawful.0 (sym (ap (λ a. is_open a other) active) ∙ e);
       newest = lawful.1;
       opened = lawful.0;
       place = lawful.2;
@@ -244,8 +242,8 @@ undid_from s t p ready n kept is_ready undone added active begun =
 
 -- the pages once a ready undo has put its row back
 pub undone_row :
-    (s : HeapState) (ready : Ready) (n : ℕ) (pages mid : List PageValue) (limit : ℕ) → IsReady s ready → ready.undone ≡ Some n
+    (h : HeapValue) (ready : Ready) (n : ℕ) (pages mid : List PageValue) (limit : ℕ) → IsReady h ready → ready.undone ≡ Some n
     → mid ≡ with_slot_in pages limit ready.rid (changed (slot_in pages ready.rid) (option_map row_bytes ready.new))
-    → mid ≡ with_slot_in pages limit ready.rid (changed (slot_in pages ready.rid) (option_map row_bytes (row_at s.log (standing_before s.log n))))
-undone_row s ready n pages mid limit is_ready undone is =
-    is ∙ ap (λ (new : Option (List Cell)). with_slot_in pages limit ready.rid (changed (slot_in pages ready.rid) (option_map row_bytes new))) (undoes s ready n is_ready undone).3
+    → mid ≡ with_slot_in pages limit ready.rid (changed (slot_in pages ready.rid) (option_map row_bytes (row_at h.state.log (standing_before h.state.log n))))
+undone_row h ready n pages mid limit is_ready undone is =
+    is ∙ ap (λ (new : Option (List Cell)). with_slot_in pages limit ready.rid (changed (slot_in pages ready.rid) (option_map row_bytes new))) (lawful_as h ready (Some n) is_ready undone).3

@@ -4,12 +4,11 @@ use Rattle.std.proofs.Math.Bool.{and-false}
 use Rattle.std.specs.Prelude.{◌||◌}
 use Rattle.std.specs.Option.{unwrap_or}
 use Rattle.std.specs.List.{slice_get}
-use Rattle.std.proofs.lemmas.Bool.{cases_Bool, false≢true, and_from, eqb-true}
+use Rattle.std.proofs.lemmas.Bool.{cases_Bool, and_from}
 use Rattle.std.proofs.lemmas.Option.{same_Some, slice_get_cases}
 use Rattle.keybytes.specs.declared.rid.Rid.{Rid}
 use Rattle.heap_log.specs.declared.record.LogRec.{LogRec}
-use Rattle.heap_log.specs.declared.record.LogRec.TheVariants.{Write, Undo, Commit, Switch}
-use Rattle.heap_log.specs.Standing.{record_at, is_write_of, is_write_at, txn_of, last_of, IsWrite}
+use Rattle.heap_log.specs.Standing.{record_at, is_write_of, is_write_at, last_of, IsWrite}
 use Rattle.heap_log.proofs.Last.{IsLast, last_below_some, last_below_none}
 use Rattle.heap_log.proofs.Numbers.{last_of-of}
 use Rattle.slotted_page.specs.Slot.{Slot, free, held, row}
@@ -17,8 +16,9 @@ use Rattle.slotted_page.specs.Page.{PageValue}
 use Rattle.heap_table.specs.Holders.{writes, wrote}
 use Rattle.heap_table.specs.PageLists.{PagesValue, new_page, page_by, slot_in, with_slot_in, pages_by, settled, settled_if}
 use Rattle.heap_table.specs.Ready.{HaveWritten}
+use Rattle.heap_log.proofs.Records.{rid_of-write}
+use Rattle.std.proofs.Math.Seq.{drop-length}
 use Rattle.heap_table.proofs.PageLists.{length_page_by, length_pages_by, get_or_pages_by, pages_by_same, pages_by_inside, slot_in_pages}
-use Rattle.heap_table.proofs.Slots.{rid_is}
 use Rattle.heap_table.proofs.Writers.{wrote_from}
 
 -- whether the transaction wrote there behind that place
@@ -56,22 +56,18 @@ wrote_skip (suc d) m log txn rid within none = elim (slice_get_cases log m).1 [
   | inr past ↦ absurd (omega (arith, past.0, within))
 ]
 
-past_end : (log : List LogRec) → drop (length log) log ≡ []
-past_end [] = refl
-past_end (x ∷ log) = past_end log
-
 -- nothing was written behind the last write
 none_behind : (log : List LogRec) (txn : ℕ) (rid : Rid) (place : Option ℕ) → last_of log txn (length log + 1) ≡ place → wrote_behind log txn place rid ≡ false
 none_behind log txn rid None e =
     wrote_skip (length log) 0 log txn rid (omega arith) (λ i low high. last_below_none (λ k. is_write_of txn (record_at log k)) (length log + 1) e i (omega (arith, high)))
-    ∙ ap (λ (l : List LogRec). wrote l txn rid) (ap (λ (k : ℕ). drop k log) zero_more ∙ past_end log) where
+    ∙ ap (λ (l : List LogRec). wrote l txn rid) (ap (λ (k : ℕ). drop k log) zero_more ∙ drop-length log) where
       zero_more : 0 + length log ≡ length log
       zero_more = omega arith
 none_behind log txn rid (Some n) e =
     let last : IsLast (λ k. is_write_of txn (record_at log k)) (length log + 1) n = last_below_some (λ k. is_write_of txn (record_at log k)) (length log + 1) n e in
     let whole : n + (length log - n) ≡ length log = omega (arith, last.below) in
     wrote_skip (length log - n) n log txn rid (omega (arith, whole)) (λ i low high. last.after i low (omega (arith, high, whole)))
-    ∙ ap (λ (l : List LogRec). wrote l txn rid) (ap (λ (k : ℕ). drop k log) whole ∙ past_end log)
+    ∙ ap (λ (l : List LogRec). wrote l txn rid) (ap (λ (k : ℕ). drop k log) whole ∙ drop-length log)
 
 -- behind the write before there is one write more
 one_behind :
@@ -143,7 +139,7 @@ settle_next log txn n rec old mid new place rid slot slots count limit h have wi
 } where
   not_there : (other : Rid) → other ≢ rid → writes txn other rec ≡ false
   not_there other differs = elim (cases_Bool (is_write_at other (Some rec))) [
-    | inl also ↦ absurd (differs (sym (rid_is other (Some rec) also) ∙ rid_is rid (Some rec) there))
+    | inl also ↦ absurd (differs (sym (rid_of-write other (Some rec) also) ∙ rid_of-write rid (Some rec) there))
     | inr none ↦ rw none (and-false (is_write_of txn (Some rec)))
   ]
 
@@ -172,13 +168,6 @@ settling_inside log txn n old mid rid slot slots count limit h have there =
     ap (λ (ps : List PageValue). get_or ps rid.page (new_page 0)) mid_is ∙ get_or_pages_by now slots count limit rid.page (new_page 0) inside.0 in
     let slot_count = ap (λ (p : PageValue). length p.slots) page ∙ length_page_by now slots limit rid.page in
     (omega (arith, inside.0, len), omega (arith, inside.1, slot_count))
-
-pub txn_is : (txn : ℕ) (rec : Option LogRec) → is_write_of txn rec ≡ true → txn_of rec ≡ txn
-txn_is txn None e = absurd (false≢true e)
-txn_is txn (Some (Write t rid cells)) e = eqb-true t txn e
-txn_is txn (Some (Undo t n)) e = absurd (false≢true e)
-txn_is txn (Some (Commit t)) e = absurd (false≢true e)
-txn_is txn (Some (Switch o)) e = absurd (false≢true e)
 
 pub earlier_place : (log : List LogRec) (txn n : ℕ) (place : Option ℕ) → IsWrite log n → last_of log txn n ≡ place → unwrap_or place 0 < n
 earlier_place log txn n None within e = let low = within.low in omega (arith, low)

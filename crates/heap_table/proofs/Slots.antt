@@ -1,14 +1,14 @@
 -- What the slots of a table have once a record is added.
-use Rattle.std.proofs.Common.{◌≡◌, ◌≢◌, inl, inr, ℕ, max, true, false, List, [], ◌∷◌, ◌++◌, Option, Some, None, refl, sym, ap, ◌∙◌, arith}
+use Rattle.std.proofs.Common.{◌≡◌, ◌≢◌, inl, inr, ℕ, max, true, false, List, [], ◌∷◌, ◌++◌, Option, Some, None, refl, sym, ap, ◌∙◌}
 use Rattle.std.proofs.Math.Bool.{and-false, or-true}
 use Rattle.std.specs.Prelude.{◌==◌}
 use Rattle.std.specs.Option.{option_map}
-use Rattle.std.proofs.lemmas.Bool.{cases_Bool, false≢true, eqb-true, eq-eqb, and_from}
+use Rattle.std.proofs.lemmas.Bool.{cases_Bool, eqb-true, eq-eqb, and_from}
 use Rattle.keybytes.specs.Rows.{row_bytes}
 use Rattle.keybytes.specs.declared.cell.Cell.{Cell}
 use Rattle.keybytes.specs.declared.rid.Rid.{Rid}
 use Rattle.heap_log.specs.declared.record.LogRec.{LogRec}
-use Rattle.heap_log.specs.declared.record.LogRec.TheVariants.{Write, Undo, Commit, Switch}
+use Rattle.heap_log.specs.declared.record.LogRec.TheVariants.{Write}
 use Rattle.keybytes.specs.Rids.{same_rid}
 use Rattle.heap_log.specs.Standing.{is_write_of, is_write_at, rid_of, live_at}
 use Rattle.slotted_page.specs.Slot.{held, reserve_of}
@@ -18,25 +18,18 @@ use Rattle.heap_table.specs.PageLists.{changed}
 use Rattle.heap_table.specs.Pages.{slot_with, slot_under, slot_of}
 use Rattle.heap_table.specs.Sound.{IsSound}
 use Rattle.heap_log.proofs.Growing.{Grows}
+use Rattle.keybytes.proofs.SameRids.{same_rid-refl}
+use Rattle.heap_log.proofs.Records.{writes_there, some_place-by}
+use Rattle.std.proofs.Math.Nat.{max-zero, zero-max}
+use Rattle.std.proofs.lemmas.Option.{none-some}
 use Rattle.heap_table.proofs.Holding.{holder_is, holder_open, holder_wrote, same_holder}
 use Rattle.heap_table.proofs.Sounds.{wrote_then, wrote_still, busy_write, free_for}
 use Rattle.heap_table.proofs.Writers.{greatest_written-added, before_first_kept, before_first_next, greatest_none}
-use Rattle.heap_table.proofs.Small.{max_turned, max_zero, none_some, same_rid_is, same_rid_other, same_rid_self, some_or_none}
+use Rattle.heap_table.proofs.Small.{max_turned, same_rid_other, some_or_none}
 
--- a write's RID
+-- a write is at its RID
 pub at_its_rid : (txn : ℕ) (rec : Option LogRec) → is_write_of txn rec ≡ true → is_write_at (rid_of rec) rec ≡ true
-at_its_rid txn None e = absurd (false≢true e)
-at_its_rid txn (Some (Write t rid row)) e = same_rid_self rid
-at_its_rid txn (Some (Undo t n)) e = absurd (false≢true e)
-at_its_rid txn (Some (Commit t)) e = absurd (false≢true e)
-at_its_rid txn (Some (Switch o)) e = absurd (false≢true e)
-
-pub rid_is : (rid : Rid) (rec : Option LogRec) → is_write_at rid rec ≡ true → rid_of rec ≡ rid
-rid_is rid None e = absurd (false≢true e)
-rid_is rid (Some (Write t r row)) e = same_rid_is r rid e
-rid_is rid (Some (Undo t n)) e = absurd (false≢true e)
-rid_is rid (Some (Commit t)) e = absurd (false≢true e)
-rid_is rid (Some (Switch o)) e = absurd (false≢true e)
+at_its_rid txn rec e = writes_there rec (some_place-by txn rec e)
 
 -- the reserve of a RID's slot
 pub reserve_slot : (log : List LogRec) (rid : Rid) → reserve_of (slot_of log rid) ≡ room_needed log rid
@@ -53,9 +46,8 @@ pub room_kept :
 room_kept log new rec rid txn is has none =
     let first : before_first txn rid new ≡ before_first txn rid log = ap (before_first txn rid) is ∙ before_first_kept txn rid log (rec ∷ []) has in
     let none_here : size_written txn rid rec ≡ 0 = rw none refl in
-    let zero_is : max (greatest_written txn rid log) 0 ≡ greatest_written txn rid log = omega arith in
     let greatest : greatest_written txn rid new ≡ greatest_written txn rid log =
-    ap (greatest_written txn rid) is ∙ (greatest_written-added txn rid log rec ∙ (ap (max (greatest_written txn rid log)) none_here ∙ zero_is)) in
+    ap (greatest_written txn rid) is ∙ (greatest_written-added txn rid log rec ∙ (ap (max (greatest_written txn rid log)) none_here ∙ max-zero (greatest_written txn rid log))) in
     rw (first, greatest) refl
 
 -- the slot under a holder that wrote there stays with such a record, where the same row stands
@@ -69,7 +61,7 @@ writes_other : (txn u : ℕ) (rid other : Rid) (row : Option (List Cell)) → ot
 writes_other txn u rid other row differs = rw (same_rid_other rid other differs) (and-false (txn == u))
 
 writes_here : (txn : ℕ) (rid : Rid) (row : Option (List Cell)) → writes txn rid (Write txn rid row) ≡ true
-writes_here txn rid row = and_from (txn == txn) (same_rid rid rid) (eq-eqb txn txn refl) (same_rid_self rid)
+writes_here txn rid row = and_from (txn == txn) (same_rid rid rid) (eq-eqb txn txn refl) (same_rid-refl rid)
 
 -- a transaction writes at a RID
 pub record Wrote (s t : HeapState) (txn : ℕ) (rid : Rid) (row : Option (List Cell)) : Type 0 where
@@ -94,7 +86,7 @@ write_other_holder s t txn rid row w other differs =
     ]))
 
 pub write_live : (s t : HeapState) (txn : ℕ) (rid : Rid) (row : Option (List Cell)) → Wrote s t txn rid row → live_at t.log rid ≡ row
-write_live s t txn rid row w = w.added.live.live rid ∙ rw (same_rid_self rid) refl
+write_live s t txn rid row w = w.added.live.live rid ∙ rw (same_rid-refl rid) refl
 
 pub write_other_live : (s t : HeapState) (txn : ℕ) (rid : Rid) (row : Option (List Cell)) → Wrote s t txn rid row → (other : Rid) → other ≢ rid → live_at t.log other ≡ live_at s.log other
 write_other_live s t txn rid row w other differs = w.added.live.live other ∙ rw (same_rid_other rid other differs) refl
@@ -108,12 +100,12 @@ write_room s t txn rid row w =
     ap (λ (h : Option ℕ). room_held_by h t.log rid) (write_holder s t txn rid row w) ∙ (elim (some_or_none (holder s.log rid)) [
       | inl none ↦
           let fresh : wrote s.log txn rid ≡ false = elim (cases_Bool (wrote s.log txn rid)) [
-            | inl has ↦ absurd (none_some txn (sym none ∙ holder_is s w.was rid txn w.opened has))
+            | inl has ↦ absurd (none-some txn (sym none ∙ holder_is s w.was rid txn w.opened has))
             | inr fresh ↦ fresh
           ] in
           let first : before_first txn rid t.log ≡ s.log = ap (before_first txn rid) w.added.is ∙ before_first_next txn rid s.log rec fresh (writes_here txn rid row) in
           let nothing : greatest_written txn rid s.log ≡ 0 = greatest_none txn rid s.log fresh in
-          rw (first, greatest, nothing, none) (ap (max (row_size (live_at s.log rid))) (zero_max (row_size row)))
+          rw (first, greatest, nothing, none) (ap (max (row_size (live_at s.log rid))) (zero-max (row_size row)))
       | inr some ↦
           let by = holder_wrote s.log rid some.0 some.1 in
           let same : some.0 ≡ txn = free_for s w.was txn some.0 rid w.free_for (holder_open s w.was rid some.0 some.1) by.1 in
@@ -121,9 +113,7 @@ write_room s t txn rid row w =
           let has : wrote s.log txn rid ≡ true = ap (λ (u : ℕ). wrote s.log u rid) (sym same) ∙ by.1 in
           let first : before_first txn rid t.log ≡ before_first txn rid s.log = ap (before_first txn rid) w.added.is ∙ before_first_kept txn rid s.log (rec ∷ []) has in
           rw (first, greatest, held_by) (max_turned (row_size (live_at (before_first txn rid s.log) rid)) (greatest_written txn rid s.log) (row_size row))
-    ]) where
-      zero_max : (a : ℕ) → max 0 a ≡ a
-      zero_max a = omega arith
+    ])
 
 -- the slot of the RID that was written
 pub write_slot : (s t : HeapState) (txn : ℕ) (rid : Rid) (row : Option (List Cell)) → Wrote s t txn rid row → slot_of t.log rid ≡ changed (slot_of s.log rid) (option_map row_bytes row)
@@ -132,7 +122,7 @@ write_slot s t txn rid row w =
     ∙ (ap (λ (cells : Option (List Cell)). slot_with cells (Some txn) (room_needed t.log rid)) (write_live s t txn rid row w)
     ∙ (ap (slot_with row (Some txn)) (write_room s t txn rid row w ∙ ap (λ (n : ℕ). max n (row_size row)) (sym (reserve_slot s.log rid))) ∙ by row)) where
       by : (cells : Option (List Cell)) → slot_with cells (Some txn) (max (reserve_of (slot_of s.log rid)) (row_size cells)) ≡ changed (slot_of s.log rid) (option_map row_bytes cells)
-      by None = ap held (max_zero (reserve_of (slot_of s.log rid)))
+      by None = ap held (max-zero (reserve_of (slot_of s.log rid)))
       by (Some cells) = refl
 
 -- the slots of the others

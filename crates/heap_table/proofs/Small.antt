@@ -1,12 +1,9 @@
 -- Small facts that several files use.
-use Rattle.std.proofs.Common.{◌≡◌, ◌≢◌, ◌⊎◌, inl, inr, ℕ, max, true, false, Option, Some, None, refl, sym, ap, ◌∙◌, arith}
+use Rattle.std.proofs.Common.{◌≡◌, ◌≢◌, ◌⊎◌, inl, inr, ℕ, max, false, Option, Some, None, refl, sym, ap, ◌∙◌, arith}
 use Rattle.std.proofs.lemmas.Bool.{cases_Bool, false≢true}
-use Rattle.std.proofs.lemmas.Bool.Decides.{nat_tests}
 use Rattle.keybytes.specs.declared.rid.Rid.{Rid}
 use Rattle.keybytes.specs.Rids.{same_rid}
-
-pub max_zero : (a : ℕ) → max a 0 ≡ a
-max_zero a = omega arith
+use Rattle.keybytes.proofs.SameRids.{same_rid-true, same_rid-refl}
 
 pub max_turned : (a b c : ℕ) → max a (max b c) ≡ max (max a b) c
 max_turned a b c = omega arith
@@ -15,27 +12,14 @@ pub some_or_none : {A : Type 0} (o : Option A) → (o ≡ None) ⊎ ((x : A) × 
 some_or_none None = inl refl
 some_or_none (Some x) = inr (x, refl)
 
-pub none_some : {A : Type 0} (x : A) → None ≡ Some x → ⊥
-none_some x f = cc
-
-pub same_rid_self : (rid : Rid) → same_rid rid rid ≡ true
-same_rid_self rid = grind (arith, nat_tests)
-
-pub same_rid_is : (a b : Rid) → same_rid a b ≡ true → a ≡ b
-same_rid_is a b e =
-    let page : a.page ≡ b.page = grind (arith, nat_tests, e) in
-    let slot : a.slot ≡ b.slot = grind (arith, nat_tests, e) in
-    ap (λ (p : ℕ). let r : Rid = record { page = p; slot = a.slot } in r) page
-    ∙ ap (λ (q : ℕ). let r : Rid = record { page = b.page; slot = q } in r) slot
-
 pub same_rid_other : (a b : Rid) → b ≢ a → same_rid a b ≡ false
 same_rid_other a b other = elim (cases_Bool (same_rid a b)) [
-  | inl same ↦ absurd (other (sym (same_rid_is a b same)))
+  | inl same ↦ absurd (other (sym (same_rid-true a b same)))
   | inr differs ↦ differs
 ]
 
 pub rid_cases : (a b : Rid) → (b ≡ a) ⊎ (b ≢ a)
 rid_cases a b = elim (cases_Bool (same_rid a b)) [
-  | inl same ↦ inl (sym (same_rid_is a b same))
-  | inr differs ↦ inr (λ e. false≢true (sym differs ∙ (ap (same_rid a) e ∙ same_rid_self a)))
+  | inl same ↦ inl (sym (same_rid-true a b same))
+  | inr differs ↦ inr (λ e. false≢true (sym differs ∙ (ap (same_rid a) e ∙ same_rid-refl a)))
 ]

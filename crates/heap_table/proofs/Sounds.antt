@@ -1,8 +1,8 @@
 -- A table stays sound.
-use Rattle.std.proofs.Common.{◌≡◌, ◌≢◌, ◌⊎◌, inl, inr, ℕ, ◌+◌, ◌≤◌, Bool, true, false, List, [], ◌∷◌, ◌++◌, length, Option, Some, None, refl, sym, ap, ◌∙◌, subst, arith, length-append}
+use Rattle.std.proofs.Common.{◌≡◌, ◌≢◌, ◌⊎◌, inl, inr, ℕ, ◌+◌, ◌≤◌, Bool, true, false, List, [], ◌∷◌, ◌++◌, length, Option, Some, None, refl, sym, ap, ◌∙◌, subst, arith}
 use Rattle.std.proofs.Math.Bool.{and-false, and-true, or-false, or-true}
 use Rattle.std.specs.Prelude.{◌||◌, ◌&&◌, not, nat_lt, ◌==◌, if◌then◌else◌}
-use Rattle.std.proofs.lemmas.Bool.{cases_Bool, cases_eq, cases_lt, false≢true, eqb-true, eq-eqb, ne_eqb, or_cases, and_parts}
+use Rattle.std.proofs.lemmas.Bool.{cases_Bool, cases_eq, cases_lt, false≢true, eqb-true, eq-eqb, ne_eqb, or_cases, and_parts, or_from}
 use Rattle.std.proofs.lemmas.Bool.Decides.{nat_tests}
 use Rattle.keybytes.specs.declared.cell.Cell.{Cell}
 use Rattle.keybytes.specs.declared.fault.Fault.TheVariants.{RowHeld}
@@ -17,10 +17,12 @@ use Rattle.heap_table.specs.HeapState.{HeapState, is_open, held_refusal, without
 use Rattle.heap_table.specs.Holders.{writes, wrote, is_commit_of, committed, is_busy, holder}
 use Rattle.heap_table.specs.Sound.{IsSound}
 use Rattle.heap_log.proofs.Growing.{Grows}
+use Rattle.keybytes.proofs.SameRids.{same_rid-true}
+use Rattle.heap_log.proofs.Records.{one_writer}
+use Rattle.heap_table.proofs.LogRows.{length_grown}
 use Rattle.heap_table.proofs.Holding.{holder_is, none_standing}
 use Rattle.heap_table.proofs.OpenOnes.{open_without_self, open_without_other, without_fewer, open_marked, open_begun, open_still_other, still_fewer}
-use Rattle.heap_table.proofs.Writers.{HasWrite, wrote_from, wrote-added, committed-added, one_writer}
-use Rattle.heap_table.proofs.Small.{same_rid_is}
+use Rattle.heap_table.proofs.Writers.{HasWrite, wrote_from, wrote-added, committed-added}
 
 -- a record may be added: its transaction was begun, no other open one has a write at its RID, and the open
 -- transactions among those that wrote are the busy ones then
@@ -42,7 +44,7 @@ sound_added :
 sound_added s t rec h added begun fewer may =
     let is = added.is in
     let numbers = added.numbers in
-    let count : length t.log ≡ length s.log + 1 = ap length is ∙ length-append s.log (rec ∷ []) in
+    let count : length t.log ≡ length s.log + 1 = length_grown s.log t.log rec added in
     record {
       writers = λ txn rid e. elim (or_cases (wrote s.log txn rid) (writes txn rid rec) (sym (wrote_then s.log t.log rec txn rid is) ∙ e)) [
         | inl old ↦ rw begun (h.writers txn rid old)
@@ -55,7 +57,7 @@ sound_added s t rec h added begun fewer may =
       openers = λ txn e. rw begun (h.openers txn (fewer txn e));
       uncommitted = λ txn e. elim (cases_Bool (is_commit_of txn rec)) [
         | inl new ↦ absurd (false≢true (sym (may.commits txn new).1 ∙ e))
-        | inr none ↦ committed_then s.log t.log rec txn is ∙ both (committed s.log txn) (is_commit_of txn rec) (h.uncommitted txn (fewer txn e)) none
+        | inr none ↦ committed_then s.log t.log rec txn is ∙ or_from (committed s.log txn) (is_commit_of txn rec) (h.uncommitted txn (fewer txn e)) none
       ];
       busy = may.busy;
       held = λ txn n m rid e l by there at.
@@ -72,9 +74,7 @@ sound_added s t rec h added begun fewer may =
                 ap (is_write_of txn) m_is ∙ h.held txn n m rid (fewer txn e) l (ap (is_write_of txn) (sym n_is) ∙ by)
                 (ap (is_write_at rid) (sym n_is) ∙ there) (ap (is_write_at rid) (sym m_is) ∙ at)
           ];
-    } where
-      both : (a b : Bool) → a ≡ false → b ≡ false → (a || b) ≡ false
-      both a b e f = rw (e, f) refl
+    }
 
 -- whether a transaction is busy, from what it is told by
 busy_from : (log : List LogRec) (txn count : ℕ) (ended : Bool) → standing_count log txn ≡ count → committed log txn ≡ ended → is_busy log txn ≡ (nat_lt 0 count && not ended)
@@ -121,7 +121,7 @@ sound_write s t txn rid row h added active begun opened free =
           rw (sym same) (h.openers txn opened);
       commits = λ u e. absurd (false≢true e);
       alone = λ u place open_u at has.
-          let same : rid ≡ place = same_rid_is rid place at in
+          let same : rid ≡ place = same_rid-true rid place at in
           let by : wrote s.log u rid ≡ true = ap (wrote s.log u) same ∙ wrote_from s.log u place has.number has.by has.there in
           eq-eqb txn u (sym (free_for s h txn u rid free open_u by));
       busy = λ u place e.

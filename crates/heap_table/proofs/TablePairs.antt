@@ -1,10 +1,10 @@
 -- The set of the pairs of a table: its members, and what becomes of it where one row changes.
-use Rattle.std.proofs.Common.{◌≡◌, ℕ, zero, suc, ◌+◌, ◌<◌, Bool, true, false, List, [], ◌∷◌, length, map, Option, Some, None, refl, sym, ap, ◌∙◌, inl, inr, arith, add-zero, zero-add}
-use Rattle.std.specs.Prelude.{◌||◌, ◌&&◌, ◌==◌, not, filter_map}
+use Rattle.std.proofs.Common.{◌≡◌, ℕ, zero, suc, ◌+◌, ◌<◌, Bool, true, false, List, [], ◌∷◌, map, Option, Some, None, refl, sym, ap, ◌∙◌, inl, inr, arith, add-zero, zero-add}
+use Rattle.std.specs.Prelude.{◌||◌, ◌&&◌, ◌==◌, filter_map}
 use Rattle.std.specs.FinMap.{contains_key, keys}
 use Rattle.std.specs.List.{list_any, slice_get, cons_option, range_with_len}
 use Rattle.std.proofs.lemmas.Option.{same_Some}
-use Rattle.std.proofs.lemmas.Bool.{cases_Bool, and_parts, and_left, eqb-true, false≢true, or_left, or_right}
+use Rattle.std.proofs.lemmas.Bool.{cases_Bool, and_left, eqb-true, false≢true, or_left, or_right}
 use Rattle.keybytes.specs.Keys.{KeySpecValue, key_of}
 use Rattle.keybytes.specs.Pairs.{pair_with, with_pair, without_pair}
 use Rattle.keybytes.specs.Rids.{same_rid}
@@ -15,11 +15,10 @@ use Rattle.keybytes.proofs.PairSets.{is_in, is_pair, IsOwn, tied_pairs, contains
 use Rattle.keybytes.proofs.SameRids.{same_rid-refl}
 use Rattle.heap_log.specs.declared.record.LogRec.{LogRec}
 use Rattle.heap_log.specs.declared.record.LogRec.TheVariants.{Write, Undo, Commit, Switch}
-use Rattle.heap_log.specs.Standing.{live_at, place_of, record_at, row_at, is_write_at, newest_at, stands_at, undone}
-use Rattle.heap_log.proofs.Last.{IsLast, last_below_some}
+use Rattle.heap_log.specs.Standing.{live_at, place_of, record_at, row_at, is_write_at, newest_at}
 use Rattle.heap_table.specs.Pages.{rid_at, slots_written, SetsRow}
 use Rattle.heap_table.specs.TablePairs.{pair_at, written_rids, index_pairs, pairs_at_rest, rids_on, pairs_on}
-use Rattle.heap_table.proofs.LogRows.{rows_are_inside}
+use Rattle.heap_table.proofs.LogRows.{rows_are_inside, newest_there}
 
 -- the pair of a row at a RID is that RID's own
 pub own_pair : (spec : KeySpecValue) (rid : Rid) (cells : Option (List Cell)) → IsOwn rid (pair_with spec rid cells)
@@ -58,9 +57,7 @@ written_at log rid (suc k) e = written log rid k e
 
 stood : (log : List LogRec) (rid : Rid) (row : List Cell) (o : Option ℕ) → newest_at log rid ≡ o → row_at log o ≡ Some row → list_any (λ r. same_rid r rid) (written_rids log) ≡ true
 stood log rid row None is e = absurd (cc)
-stood log rid row (Some n) is e =
-    let last : IsLast (stands_at log rid) (length log + 1) n = last_below_some (stands_at log rid) (length log + 1) n is in
-    written_at log rid n (and_parts (is_write_at rid (record_at log n)) (not (undone log n)) last.passes).0
+stood log rid row (Some n) is e = written_at log rid n (newest_there log rid n is)
 
 -- where a row stands, the RID is written
 pub row_written : (log : List LogRec) (rid : Rid) (row : List Cell) → live_at log rid ≡ Some row → list_any (λ r. same_rid r rid) (written_rids log) ≡ true

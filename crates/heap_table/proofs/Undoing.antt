@@ -1,10 +1,10 @@
 -- The rows that come back, the slots they come back to, and what is left where a transaction ends.
-use Rattle.std.proofs.Common.{◌≡◌, ◌≢◌, inl, inr, ℕ, ◌+◌, ◌≤◌, max, Bool, true, false, List, [], ◌∷◌, ◌++◌, length, Option, Some, None, refl, sym, ap, ◌∙◌, subst, arith, length-append}
+use Rattle.std.proofs.Common.{◌≡◌, ◌≢◌, inl, inr, ℕ, ◌+◌, ◌≤◌, max, Bool, true, false, List, [], ◌∷◌, ◌++◌, length, Option, Some, None, refl, sym, ap, ◌∙◌, subst, arith}
 use Rattle.std.proofs.Math.Bool.{or-false}
 use Rattle.std.specs.Prelude.{◌||◌, ◌&&◌, not, ◌==◌}
 use Rattle.std.specs.Option.{option_map}
-use Rattle.std.proofs.lemmas.Bool.{cases_Bool, cases_eq, cases_lt, false≢true, eqb-true, eq-eqb, and_parts, and_from}
-use Rattle.std.proofs.lemmas.Option.{same_Some}
+use Rattle.std.proofs.lemmas.Bool.{cases_Bool, cases_eq, cases_lt, false≢true, eqb-true, eq-eqb, and_parts, and_from, not-true, or_parts}
+use Rattle.std.proofs.lemmas.Option.{same_Some, none-some}
 use Rattle.keybytes.specs.Rows.{row_bytes}
 use Rattle.keybytes.specs.declared.cell.Cell.{Cell}
 use Rattle.keybytes.specs.declared.rid.Rid.{Rid}
@@ -20,11 +20,14 @@ use Rattle.heap_table.specs.PageLists.{settled, settled_if, changed}
 use Rattle.heap_table.specs.Pages.{slot_with, slot_under, slot_of}
 use Rattle.heap_table.specs.Sound.{IsSound, UndoFits}
 use Rattle.heap_log.proofs.Growing.{Grows}
+use Rattle.keybytes.proofs.SameRids.{same_rid-true}
+use Rattle.heap_log.proofs.Records.{rid_of-write}
+use Rattle.heap_table.proofs.LogRows.{newest_there, length_grown}
 use Rattle.heap_table.proofs.Holding.{holder_is, holder_open, holder_wrote, no_holder, same_holder}
-use Rattle.heap_table.proofs.Slots.{at_its_rid, rid_is, reserve_slot, room_kept, under_kept, Wrote, write_holder, write_other_holder, write_live, write_other_live, write_room, write_other_slot}
+use Rattle.heap_table.proofs.Slots.{at_its_rid, reserve_slot, room_kept, under_kept, Wrote, write_holder, write_other_holder, write_live, write_other_live, write_room, write_other_slot}
 use Rattle.heap_table.proofs.Sounds.{wrote_still}
 use Rattle.heap_table.proofs.Writers.{wrote_from}
-use Rattle.heap_table.proofs.Small.{none_some, rid_cases, same_rid_is, some_or_none}
+use Rattle.heap_table.proofs.Small.{rid_cases, some_or_none}
 
 -- a row before a write, once a record that leaves it is added
 row_before_kept :
@@ -75,7 +78,7 @@ ended_slot s t txn h k opened closed others rid written = elim (cases_Bool (wrot
       let same : holder t.log rid ≡ holder s.log rid = elim (some_or_none (holder s.log rid)) [
         | inl none ↦ no_holder t k rid (λ u is by. elim (cases_eq u txn) [
           | inl same ↦ false≢true (sym (ap (is_open t.active) same ∙ closed) ∙ is)
-          | inr differs ↦ none_some u (sym none ∙ holder_is s h rid u (sym (others u differs) ∙ is) (sym (written u) ∙ by))
+          | inr differs ↦ none-some u (sym none ∙ holder_is s h rid u (sym (others u differs) ∙ is) (sym (written u) ∙ by))
         ]) ∙ sym none
         | inr some ↦
             let by = holder_wrote s.log rid some.0 some.1 in
@@ -125,7 +128,7 @@ old_number :
     (s t : HeapState) (rec : LogRec) (n : ℕ) (rid : Rid) → Grows s.log rec t.log → ((rid : Rid) → is_write_at rid (Some rec) ≡ false)
     → is_write_at rid (record_at t.log n) ≡ true → n ≤ length s.log
 old_number s t rec n rid added nowhere there =
-    let count : length t.log ≡ length s.log + 1 = ap length added.is ∙ length-append s.log (rec ∷ []) in
+    let count : length t.log ≡ length s.log + 1 = length_grown s.log t.log rec added in
     let high = (write_at t.log rid n there).high in
     elim (cases_eq n (length s.log + 1)) [
       | inl last ↦ absurd (false≢true (sym (ap (is_write_at rid) (ap (record_at t.log) last ∙ added.numbers.here) ∙ nowhere rid) ∙ there))
@@ -155,11 +158,11 @@ fits_write s t txn rid row w fits = record {
   ];
   before = λ u m other e stands there. elim (cases_lt (length s.log) m) [
     | inl last ↦
-        let count : length t.log ≡ length s.log + 1 = ap length w.added.is ∙ length-append s.log (rec ∷ []) in
+        let count : length t.log ≡ length s.log + 1 = length_grown s.log t.log rec w.added in
         let high = (write_at t.log other m there).high in
         let m_is : m ≡ length s.log + 1 = omega (arith, high, count, last) in
         let here : record_at t.log m ≡ Some rec = ap (record_at t.log) m_is ∙ w.added.numbers.here in
-        let same : rid ≡ other = same_rid_is rid other (ap (is_write_at other) (sym here) ∙ there) in
+        let same : rid ≡ other = same_rid-true rid other (ap (is_write_at other) (sym here) ∙ there) in
         let row_is : row_at t.log (standing_before t.log m) ≡ live_at s.log rid =
         ap (λ (k : ℕ). row_at t.log (standing_before t.log k)) m_is ∙ newest_row in
         let room = write_room s t txn rid row w in
@@ -265,9 +268,8 @@ undo_other_live s t txn n rid u other differs = u.added.live.live other ∙ (eli
   elsewhere : (o : Option ℕ) → newest_at s.log other ≡ o → is_number n o ≡ true → ⊥
   elsewhere None e same = false≢true same
   elsewhere (Some k) e same =
-      let last : IsLast (stands_at s.log other) (length s.log + 1) k = last_below_some (stands_at s.log other) (length s.log + 1) k e in
-      let at : is_write_at other (record_at s.log n) ≡ true = ap (λ (m : ℕ). is_write_at other (record_at s.log m)) (sym (eqb-true k n same)) ∙ (and_parts (is_write_at other (record_at s.log k)) (not (undone s.log k)) last.passes).0 in
-      differs (sym (rid_is other (record_at s.log n) at) ∙ sym u.place)
+      let at : is_write_at other (record_at s.log n) ≡ true = ap (λ (m : ℕ). is_write_at other (record_at s.log m)) (sym (eqb-true k n same)) ∙ newest_there s.log other k e in
+      differs (sym (rid_of-write other (record_at s.log n) at) ∙ sym u.place)
 
 -- the row that comes back fits
 undo_size : (s t : HeapState) (txn n : ℕ) (rid : Rid) → Undid s t txn n rid → row_size (row_at s.log (standing_before s.log n)) ≤ room_needed s.log rid
@@ -310,10 +312,10 @@ fits_undo s t txn n rid u =
     (λ v m other e stands there.
     let within : m ≤ length s.log = old_number s t (Undo txn n) m other u.added (λ r. refl) there in
     let parts = and_parts (is_write_of v (record_at t.log m)) (not (undone t.log m)) stands in
-    let fresh : (undone s.log m || (n == m)) ≡ false = sym (u.added.numbers.undoes m) ∙ not_true (undone t.log m) parts.1 in
+    let fresh : (undone s.log m || (n == m)) ≡ false = sym (u.added.numbers.undoes m) ∙ not-true (undone t.log m) parts.1 in
     let stands_s : stands_of s.log v m ≡ true =
     and_from (is_write_of v (record_at s.log m)) (not (undone s.log m)) (ap (is_write_of v) (sym (u.added.numbers.earlier m within)) ∙ parts.0)
-    (ap not (first_false (undone s.log m) (n == m) fresh)) in
+    (ap not (or_parts (undone s.log m) (n == m) fresh).0) in
     let there_s : is_write_at other (record_at s.log m) ≡ true = ap (is_write_at other) (sym (u.added.numbers.earlier m within)) ∙ there in
     let keeps : KeepsBefore s.log m (Undo txn n) = elim (rid_cases rid other) [
       | inl same ↦
@@ -326,18 +328,11 @@ fits_undo s t txn n rid u =
       | inr differs ↦
           inr (elim (cases_Bool (is_write_at (rid_of (record_at s.log m)) (record_at s.log n))) [
             | inl also ↦
-                let at : is_write_at other (record_at s.log n) ≡ true = ap (λ (r : Rid). is_write_at r (record_at s.log n)) (sym (rid_is other (record_at s.log m) there_s)) ∙ also in
-                absurd (differs (sym (rid_is other (record_at s.log n) at) ∙ sym u.place))
+                let at : is_write_at other (record_at s.log n) ≡ true = ap (λ (r : Rid). is_write_at r (record_at s.log n)) (sym (rid_of-write other (record_at s.log m) there_s)) ∙ also in
+                absurd (differs (sym (rid_of-write other (record_at s.log n) at) ∙ sym u.place))
             | inr none ↦ none
           ])
     ] in
     let size = ap row_size (row_before_kept s.log t.log (Undo txn n) m u.added within keeps) in
     let fit = u.fits.before v m other e stands_s there_s in
-    omega (arith, size, fit)) where
-      not_true : (b : Bool) → not b ≡ true → b ≡ false
-      not_true true e = absurd (false≢true e)
-      not_true false e = refl
-
-      first_false : (a b : Bool) → (a || b) ≡ false → a ≡ false
-      first_false true b e = absurd (false≢true (sym e))
-      first_false false b e = refl
+    omega (arith, size, fit))

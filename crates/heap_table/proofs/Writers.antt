@@ -1,16 +1,16 @@
 -- Who wrote what, in a log and in one with a record more.
-use Rattle.std.proofs.Common.{◌≡◌, inl, inr, ℕ, zero, suc, max, Bool, true, false, List, [], ◌∷◌, ◌++◌, get_or, Option, Some, None, refl, sym, ap, ◌∙◌, arith}
+use Rattle.std.proofs.Common.{◌≡◌, inl, inr, ℕ, zero, suc, max, Bool, true, false, List, [], ◌∷◌, ◌++◌, get_or, Option, Some, None, refl, sym, ap, ◌∙◌}
 use Rattle.std.proofs.Math.Bool.{or-false}
 use Rattle.std.specs.Prelude.{◌||◌}
 use Rattle.std.specs.List.{slice_get}
-use Rattle.std.proofs.lemmas.Bool.{cases_Bool, false≢true, and_from, and_parts, eqb-true}
+use Rattle.std.proofs.lemmas.Bool.{cases_Bool, false≢true, and_from, and_parts}
 use Rattle.std.proofs.lemmas.Option.{slice_get-get_or, slice_get_within, get_or_from_slice_get}
 use Rattle.std.proofs.lemmas.List.Folds.{list_any_at, list_any-append, Any-from_list_any}
 use Rattle.keybytes.specs.declared.rid.Rid.{Rid}
 use Rattle.heap_log.specs.declared.record.LogRec.{LogRec}
-use Rattle.heap_log.specs.declared.record.LogRec.TheVariants.{Write, Undo, Commit, Switch}
 use Rattle.heap_log.specs.Standing.{record_at, is_write_of, is_write_at}
 use Rattle.heap_table.specs.Holders.{writes, wrote, is_commit_of, committed, before_first, size_written, greatest_written}
+use Rattle.std.proofs.Math.Nat.{max_comm}
 use Rattle.heap_table.proofs.Small.{max_turned}
 
 -- a number of a write of the transaction at the RID
@@ -46,16 +46,8 @@ pub committed-added : (log : List LogRec) (rec : LogRec) (txn : ℕ) → committ
 committed-added log rec txn =
     list_any-append (is_commit_of txn) log (rec ∷ []) ∙ ap (λ (b : Bool). committed log txn || b) (or-false (is_commit_of txn rec))
 
--- one record is of one transaction
-pub one_writer : (u v : ℕ) (rec : Option LogRec) → is_write_of u rec ≡ true → is_write_of v rec ≡ true → u ≡ v
-one_writer u v None e f = absurd (false≢true e)
-one_writer u v (Some (Write t rid row)) e f = sym (eqb-true t u e) ∙ eqb-true t v f
-one_writer u v (Some (Undo t n)) e f = absurd (false≢true e)
-one_writer u v (Some (Commit t)) e f = absurd (false≢true e)
-one_writer u v (Some (Switch o)) e f = absurd (false≢true e)
-
 pub greatest_written-added : (txn : ℕ) (rid : Rid) (log : List LogRec) (rec : LogRec) → greatest_written txn rid (log ++ rec ∷ []) ≡ max (greatest_written txn rid log) (size_written txn rid rec)
-greatest_written-added txn rid [] rec = let zero_is : max (size_written txn rid rec) 0 ≡ max 0 (size_written txn rid rec) = omega arith in zero_is
+greatest_written-added txn rid [] rec = max_comm (size_written txn rid rec) 0
 greatest_written-added txn rid (first ∷ log) rec =
     ap (max (size_written txn rid first)) (greatest_written-added txn rid log rec)
     ∙ max_turned (size_written txn rid first) (greatest_written txn rid log) (size_written txn rid rec)

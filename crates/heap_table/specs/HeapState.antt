@@ -1,5 +1,5 @@
 -- The table as its callers see it: its log and its open transactions; and what each call does, or why it is refused.
-use Rattle.std.specs.Prelude.{ℕ, ◌+◌, Bool, true, false, ◌&&◌, not, ◌==◌, ◌||◌, nat_lt, nat_le, min, max, ◌-◌, if◌then◌else◌, List, [], ◌∷◌, ◌++◌, length, map, filter, position, is_some, Option, Some, None}
+use Rattle.std.specs.Prelude.{ℕ, ◌+◌, Bool, true, false, ◌&&◌, not, ◌==◌, ◌||◌, nat_lt, nat_le, min, if◌then◌else◌, List, [], ◌∷◌, ◌++◌, length, map, filter, position, is_some, Option, Some, None}
 use Rattle.std.specs.List.{list_any, range_with_len}
 use Rattle.std.specs.Option.{option_map}
 use Rattle.keybytes.specs.Faults.{first_cause}
@@ -16,6 +16,7 @@ use Rattle.heap_log.specs.Standing.{live_at, standing_count}
 use Rattle.slotted_page.specs.Page.{PageValue, room_for, fits_at}
 use Rattle.heap_table.specs.Holders.{holder}
 use Rattle.heap_table.specs.Pages.{page_slots, pages_written, rid_at}
+use Rattle.heap_table.specs.Limits.{pages_most, open_most}
 use Rattle.heap_table.specs.declared.open_txn.OpenTxn.{OpenTxn}
 
 pub record HeapState : Type 0 where
@@ -31,18 +32,16 @@ pub record HeapState : Type 0 where
   pub begun : ℕ
   -- how often rows were given out
   pub visits : ℕ
-  -- how many records can be added without taking memory
-  pub room : ℕ
 
 -- whether a table may have so many slots a page and so many pages
 abbrev pub are_limits : ℕ → ℕ → Bool
-are_limits slots pages = nat_lt 0 slots && nat_lt 0 pages && nat_le pages 65536
+are_limits slots pages = nat_lt 0 slots && nat_lt 0 pages && nat_le pages pages_most
 
 abbrev pub limits_refusal : ℕ → ℕ → Option Fault
 limits_refusal slots pages = if are_limits slots pages then None else Some BadCount
 
 abbrev pub empty_heap : List Kind → ℕ → ℕ → HeapState
-empty_heap schema slots pages = record { schema = schema; slot_limit = slots; page_limit = pages; log = []; active = []; begun = 0; visits = 0; room = 0 }
+empty_heap schema slots pages = record { schema = schema; slot_limit = slots; page_limit = pages; log = []; active = []; begun = 0; visits = 0 }
 
 abbrev pub is_open : List OpenTxn → ℕ → Bool
 is_open active txn = list_any (λ t. t.txn == txn) active
@@ -54,9 +53,9 @@ is_ending active txn = list_any (λ t. (t.txn == txn) && t.ending) active
 abbrev pub txn_refusal : HeapState → ℕ → Option Fault
 txn_refusal s txn = if is_open s.active txn then (if is_ending s.active txn then Some TxnEnding else None) else Some NoSuchTxn
 
--- why no transaction is begun: 64 are open, or the numbers are used up
+-- why no transaction is begun: as many are open as may be, or the numbers are used up
 abbrev pub begin_refusal : HeapState → Option Fault
-begin_refusal s = if nat_le 64 (length s.active) || (s.begun == 18446744073709551615) then Some TooManyTxns else None
+begin_refusal s = if nat_le open_most (length s.active) || (s.begun == 18446744073709551615) then Some TooManyTxns else None
 
 abbrev pub page_of : HeapState → ℕ → PageValue
 page_of s page = record { slots = page_slots s.log page; limit = s.slot_limit }
@@ -129,15 +128,15 @@ mark txn t = if t.txn == txn then record t { ending = true } else t
 abbrev pub after_begin : HeapState → HeapState
 after_begin s = record s { active = s.active ++ record { txn = s.begun + 1; ending = false } ∷ []; begun = s.begun + 1 }
 
--- a record more, which takes up room if there was some
+-- a record more
 abbrev pub logged : HeapState → LogRec → HeapState
-logged s rec = record s { log = s.log ++ rec ∷ []; room = s.room - 1 }
+logged s rec = record s { log = s.log ++ rec ∷ [] }
 
 abbrev pub after_write : HeapState → ℕ → Rid → Option (List Cell) → HeapState
 after_write s txn rid cells = logged s (Write txn rid cells)
 
 abbrev pub after_commit : HeapState → ℕ → HeapState
-after_commit s txn = record s { log = s.log ++ Commit txn ∷ []; room = s.room - 1; active = without txn s.active }
+after_commit s txn = record s { log = s.log ++ Commit txn ∷ []; active = without txn s.active }
 
 abbrev pub after_switch : HeapState → List Outcome → HeapState
 after_switch s verdicts = logged s (Switch verdicts)
@@ -150,7 +149,6 @@ still_open txn left active = if left == 0 then without txn active else map (mark
 abbrev pub after_undo : HeapState → ℕ → ℕ → HeapState
 after_undo s txn n = record s {
   log = s.log ++ Undo txn n ∷ [];
-  room = s.room - 1;
   active = still_open txn (standing_count (s.log ++ Undo txn n ∷ []) txn) s.active;
 }
 
@@ -163,10 +161,6 @@ after_step s txn (Some n) = after_undo s txn n
 abbrev pub undone_number : HeapState → Option ℕ → ℕ
 undone_number s None = 0
 undone_number s (Some n) = length s.log + 1
-
--- the memory for one more record is there
-abbrev pub with_room : HeapState → HeapState
-with_room s = record s { room = max s.room 1 }
 
 -- the counter stays at its greatest value
 abbrev pub after_visit : HeapState → HeapState

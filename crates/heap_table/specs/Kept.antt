@@ -1,5 +1,5 @@
 -- What a table keeps between its calls.
-use Rattle.std.specs.Prelude.{◌≡◌, ◌<◌, ◌≤◌, ℕ, true, List, Some}
+use Rattle.std.specs.Prelude.{◌≡◌, ◌≤◌, ℕ, true, List, Some}
 use Rattle.keybytes.specs.Cells.{fits}
 use Rattle.keybytes.specs.Rows.{IsRow}
 use Rattle.keybytes.specs.declared.cell.Cell.{Cell}
@@ -7,7 +7,9 @@ use Rattle.keybytes.specs.declared.kind.Kind.{Kind}
 use Rattle.keybytes.specs.declared.rid.Rid.{Rid}
 use Rattle.heap_log.specs.declared.record.LogRec.{LogRec}
 use Rattle.heap_log.specs.Standing.{record_at, row_of, live_at}
+use Rattle.heap_table.specs.Limits.{slots_most}
 use Rattle.heap_table.specs.HeapState.{HeapState, table_pages, are_limits}
+use Rattle.heap_table.specs.HeapValue.{HeapValue}
 use Rattle.heap_table.specs.PageLists.{PagesValue}
 use Rattle.heap_table.specs.Pages.{pages_written}
 use Rattle.heap_table.specs.Sound.{IsSound, UndoFits}
@@ -25,14 +27,18 @@ pub record RowsFit (kinds : List Kind) (log : List LogRec) : Type 0 where
 abbrev pub WritesFit : List Kind → List LogRec → Type 0
 WritesFit kinds log = (n : ℕ) (cells : List Cell) → row_of (record_at log n) ≡ Some cells → IsTableRow kinds cells
 
--- the pages are those that the log tells, and there is room for that many records more
+-- the pages are those that the log tells, and the log is one that a table may have
 pub record IsKept (s : HeapState) (pages : PagesValue) : Type 0 where
   pub pages_are : pages.pages ≡ table_pages s
   pub limit : pages.limit ≡ s.slot_limit
-  pub room : s.room ≤ pages.spare
   pub writes_fit : WritesFit s.schema s.log
   pub sound : IsSound s
   pub undo_fits : UndoFits s.log
   pub limits : are_limits s.slot_limit s.page_limit ≡ true
-  pub slots_below : s.slot_limit < 256
+  pub slots_below : s.slot_limit ≤ slots_most
   pub within : pages_written s.log ≤ s.page_limit
+
+-- and each record that there is memory for can be of a row on a new page
+pub record IsKeptWithRoom (h : HeapValue) (pages : PagesValue) : Type 0 where
+  pub kept : IsKept h.state pages
+  pub room : h.room ≤ pages.spare

@@ -1,8 +1,11 @@
 pub mod Calls
 pub mod HeapState
+pub mod HeapValue
 pub mod Holders
 pub mod Images
+pub mod Inside
 pub mod Kept
+pub mod Limits
 pub mod PageLists
 pub mod Pages
 pub mod Ready

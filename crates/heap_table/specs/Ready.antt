@@ -11,6 +11,7 @@ use Rattle.heap_table.specs.declared.performed.Performed.{Performed}
 use Rattle.heap_table.specs.declared.performed.Performed.TheVariants.{Written, Undone as Undid}
 use Rattle.heap_table.specs.declared.ready.Ready.{Ready}
 use Rattle.heap_table.specs.HeapState.{HeapState, is_open, insert_refusal, insert_place, update_refusal, delete_refusal, after_write, after_undo}
+use Rattle.heap_table.specs.HeapValue.{HeapValue}
 use Rattle.heap_table.specs.Holders.{wrote}
 use Rattle.heap_table.specs.Kept.{IsTableRow}
 use Rattle.heap_table.specs.Sound.{IsWriterAt}
@@ -36,12 +37,12 @@ IsLawful s txn rid (Some n) old new =
     × (new ≡ row_at s.log (standing_before s.log n))
 
 -- the table will take the change
-pub record IsReady (s : HeapState) (ready : Ready) : Type 0 where
-  pub memory : 0 < s.room
-  pub old : ready.old ≡ live_at s.log ready.rid
+pub record IsReady (h : HeapValue) (ready : Ready) : Type 0 where
+  pub memory : 0 < h.room
+  pub old : ready.old ≡ live_at h.state.log ready.rid
   pub new : IfSome ready.new IsSized
   pub bytes : ready.bytes.items ≡ bytes_of_row ready.new
-  pub lawful : IsLawful s ready.txn ready.rid ready.undone ready.old ready.new
+  pub lawful : IsLawful h.state ready.txn ready.rid ready.undone ready.old ready.new
 
 -- what holds of a change that is made ready
 pub record IsLawfulChange (s : HeapState) (ready : Ready) : Type 0 where

@@ -14,6 +14,7 @@
 
 mod changes;
 mod heap;
+mod limits;
 mod open_txn;
 mod page_image;
 mod pages;
@@ -23,6 +24,7 @@ mod rooms;
 mod undone;
 
 pub use heap::Heap;
+pub use limits::{OPEN_MAX, PAGES_MAX, SLOTS_MAX};
 pub use open_txn::OpenTxn;
 pub use page_image::PageImage;
 pub use performed::Performed;

@@ -2,7 +2,8 @@ use Rattle.std.proofs.Common.{◌≡◌, ◌∙◌, Bool, true, Some, refl, sym,
 use Rattle.std.specs.Bool.{then_some}
 use Rattle.std.proofs.lemmas.Bool.{eq-eqb}
 use Rattle.heap_log.specs.Standing.{record_at, is_write_of}
-use Rattle.heap_table.specs.HeapState.{HeapState, is_open}
+use Rattle.heap_table.specs.HeapState.{is_open}
+use Rattle.heap_table.specs.HeapValue.{HeapValue}
 use Rattle.heap_table.specs.Holders.{holder}
 use Rattle.heap_table.proofs.Holding.{holder_unwritten, holder_last, then_some_if}
 use Rattle.heap_table.proofs.heap.Heap.holder.Goals as goal
@@ -10,7 +11,7 @@ use Rattle.heap_table.proofs.heap.Heap.holder.Goals as goal
 pub returns-in_err-number : goal.returns-in_err-number
 returns-in_err-number c =
     c.from_residual.ensures
-    ∙ sym (ap (λ (s : HeapState). holder s.log c.args.rid) (sym c.self.view_is) ∙ holder_unwritten _ c.self.invariant.sound c.args.rid (sym c.in_err-number.ensures.value))
+    ∙ sym (ap (λ (h : HeapValue). holder h.state.log c.args.rid) (sym c.self.view_is) ∙ holder_unwritten _ c.self.invariant.kept.sound c.args.rid (sym c.in_err-number.ensures.value))
 
 pub returns : goal.returns
 returns c =
@@ -20,5 +21,5 @@ returns c =
     c.has.ensures ∙ ap (λ a. is_open a c.in-Write.txn) c.deref.ensures.value in
     c.then_some.ensures ∙ (ap (λ (b : Bool). then_some b c.in-Write.txn) open_is
     ∙ (then_some_if (is_open c.self.inside.open_txns.items c.in-Write.txn) c.in-Write.txn
-    ∙ sym (ap (λ (s : HeapState). holder s.log c.args.rid) (sym c.self.view_is)
-    ∙ holder_last _ c.self.invariant.sound c.args.rid c.in_ok-number.number c.in-Write.txn (sym c.in_ok-number.ensures.value) by)))
+    ∙ sym (ap (λ (h : HeapValue). holder h.state.log c.args.rid) (sym c.self.view_is)
+    ∙ holder_last _ c.self.invariant.kept.sound c.args.rid c.in_ok-number.number c.in-Write.txn (sym c.in_ok-number.ensures.value) by)))

@@ -1,8 +1,6 @@
-use Rattle.std.proofs.Common.{◌∙◌, sym, ap, subst, arith}
+use Rattle.std.proofs.Common.{◌∙◌, sym, ap, arith}
 use Rattle.std.specs.Prelude.{is_some}
-use Rattle.heap_table.specs.HeapState.{HeapState}
-use Rattle.heap_table.specs.Kept.{IsKept}
-use Rattle.heap_table.proofs.KeptFacts.{kept_count, kept_limit, found_below, found_takes, place_found}
+use Rattle.heap_table.proofs.KeptFacts.{kept_count, kept_limit, found_below, found_takes, place_found, kept_now}
 use Rattle.heap_table.proofs.heap.Heap.place.Goals as goal
 
 pub unwrap-slot-requires : goal.unwrap-slot-requires
@@ -11,10 +9,10 @@ unwrap-slot-requires c =
 
 pub overflow_cast-result : goal.overflow_cast-result
 overflow_cast-result c =
-    omega (arith, found_below c.self.inside.pages.pages c.args.len c.in-Some.number (sym c.in-Some.ensures), kept_count _ _ c.self.invariant, kept_limit _ _ c.self.invariant)
+    omega (arith, found_below c.self.inside.pages.pages c.args.len c.in-Some.number (sym c.in-Some.ensures), kept_count _ _ c.self.invariant.kept, kept_limit _ _ c.self.invariant.kept)
 
 pub returns-clause-ok : goal.returns-clause-ok
 returns-clause-ok c =
-    let kept = subst (λ (s : HeapState). IsKept s c.self.inside.pages) c.self.view_is c.self.invariant in
-    place_found c.args.self.now c.self.inside.pages c.args.len c.in-Some.number c.unwrap-slot.result c.self.inside.pages.limit kept (sym c.in-Some.ensures)
+    let kept = kept_now _ _ _ c.self.view_is c.self.invariant in
+    place_found c.args.self.now.state c.self.inside.pages c.args.len c.in-Some.number c.unwrap-slot.result c.self.inside.pages.limit kept (sym c.in-Some.ensures)
     (sym c.room.ensures ∙ c.unwrap-slot.ensures)

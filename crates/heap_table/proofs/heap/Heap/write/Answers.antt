@@ -1,33 +1,35 @@
-use Rattle.std.proofs.Common.{ℕ, Option, refl, sym, subst, arith}
-use Rattle.heap_log.specs.declared.record.LogRec.TheVariants.{Write}
-use Rattle.heap_table.specs.HeapState.{HeapState}
-use Rattle.heap_table.specs.Kept.{IsKept}
+use Rattle.std.proofs.Common.{◌<◌, refl, subst, arith, None}
+use Rattle.heap_table.specs.HeapValue.{HeapValue}
+use Rattle.heap_table.specs.Kept.{IsKeptWithRoom}
 use Rattle.heap_table.specs.Pages.{SetsRow}
-use Rattle.heap_table.specs.Ready.{IsReady, IsLawful}
-use Rattle.heap_log.proofs.Growing.{Grows, grows}
+use Rattle.heap_log.proofs.Growing.{grows}
 use Rattle.heap_table.proofs.Done.{kept_performed}
 use Rattle.heap_table.proofs.LogRows.{write_sets}
-use Rattle.heap_table.proofs.Performing.{can_write}
+use Rattle.heap_table.proofs.Performing.{can_write, lawful_as, ready_inside}
 use Rattle.heap_table.proofs.heap.Heap.write.Goals as goal
 
 pub write_slot-requires-clause-room : goal.write_slot-requires-clause-room
 write_slot-requires-clause-room c =
     let ready = c.args.ready in
-    let s = c.args.self.now in
-    let kept = subst (λ (s : HeapState). IsKept s c.self.inside.pages) c.self.view_is c.self.invariant in
-    let lawful = subst (λ (o : Option ℕ). IsLawful s ready.txn ready.rid o ready.old ready.new) c.requires.write c.requires.ready.lawful in
-    can_write s c.self.inside.pages ready.txn ready.rid ready.old ready.new kept c.requires.ready.memory c.requires.ready.old c.requires.ready.new lawful
+    let s = c.args.self.now.state in
+    let kept = subst (λ (h : HeapValue). IsKeptWithRoom h c.self.inside.pages) c.self.view_is c.self.invariant in
+    let lawful = lawful_as c.args.self.now ready None c.requires.ready c.requires.write in
+    let memory : 0 < c.self.inside.pages.spare = omega (arith, c.requires.ready.memory, kept.room) in
+    can_write s c.self.inside.pages ready.txn ready.rid ready.old ready.new kept.kept memory c.requires.ready.old c.requires.ready.new lawful
 
 pub invariant_of-self : goal.invariant_of-self
 invariant_of-self c =
     let ready = c.args.ready in
-    let is_ready = subst (λ (s : HeapState). IsReady s ready) (sym c.self.view_is) c.requires.ready in
-    let added : Grows c.self.inside.log.records (Write ready.txn ready.rid ready.new) c.add.new.self.records = grows _ _ _ c.add.ensures.added in
-    kept_performed _ _ c.self.inside.pages c.write_slot.new.pages ready c.self.invariant is_ready c.requires.write added refl refl refl refl refl
-    c.write_slot.ensures.pages c.write_slot.ensures.limit (omega (arith, c.write_slot.ensures.spare, c.add.ensures.room, c.self.invariant.room))
+    let is_ready = ready_inside _ _ _ c.self.view_is c.requires.ready in
+    let added = grows _ _ _ c.add.ensures.added in
+    record {
+      kept = kept_performed _ _ c.self.inside.pages c.write_slot.new.pages ready is_ready c.self.invariant.kept c.requires.write added refl refl refl refl refl
+          c.write_slot.ensures.pages c.write_slot.ensures.limit;
+      room = omega (arith, c.write_slot.ensures.spare, c.add.ensures.room, c.self.invariant.room);
+    }
 
 pub returns-clause-rows : goal.returns-clause-rows
 returns-clause-rows c =
     let ready = c.args.ready in
-    let added : Grows c.self.inside.log.records (Write ready.txn ready.rid ready.new) c.add.new.self.records = grows _ _ _ c.add.ensures.added in
-    subst (λ (s : HeapState). SetsRow s.log ready.rid ready.new c.add.new.self.records) c.self.view_is (write_sets _ _ ready.txn ready.rid ready.new added)
+    let added = grows _ _ _ c.add.ensures.added in
+    subst (λ (h : HeapValue). SetsRow h.state.log ready.rid ready.new c.add.new.self.records) c.self.view_is (write_sets _ _ ready.txn ready.rid ready.new added)

@@ -1,0 +1,114 @@
+//! How transactions begin and end, and who holds a RID meanwhile.
+ghost use Rattle.std.specs.Prelude.{◌≡◌, ◌+◌, length, Some, None, IfOk, IfErr, OnOk, OnErr, MatchResult};
+ghost use Rattle.keybytes.specs.Faults.{RefusedFor};
+ghost use Rattle.heap_table.specs.HeapState.{is_open, is_ending, txn_refusal, held_refusal, begin_refusal, after_begin, after_commit, after_switch};
+ghost use Rattle.heap_table.specs.Holders.{holder};
+ghost use Rattle.heap_table.specs.Pages.{KeepsRows};
+
+use super::Heap;
+use crate::changes::{end, settle_writes};
+use crate::{OPEN_MAX, OpenTxn};
+use heap_log::{LogRec, Outcome, Verdicts};
+use keybytes::{Fault, Rid};
+
+/// Whether the transaction is open.
+pub(super) fn has(open_txns: &[OpenTxn], txn: u64) -> bool
+    ensures { result ≡ is_open open_txns.now txn }
+{
+    open_txns.iter().any(|t| t.txn == txn)
+}
+
+/// Whether an undo of the open transaction has begun.
+fn has_ending(open_txns: &[OpenTxn], txn: u64) -> bool
+    ensures { result ≡ is_ending open_txns.now txn }
+{
+    open_txns.iter().any(|t| t.txn == txn && t.ending)
+}
+
+impl Heap {
+    /// Begins the next transaction; [`Fault::TooManyTxns`] where [`OPEN_MAX`] are open or the numbers are used up.
+    pub fn begin(&mut self) -> Result<u64, Fault>
+        ensures ok { IfOk result (λ txn. txn ≡ self.old.state.begun + 1) }
+        ensures begun { OnOk result (self.new.state ≡ after_begin self.old.state) }
+        ensures accepted { OnOk result (begin_refusal self.old.state ≡ None) }
+        ensures unchanged { OnErr result (self.new ≡ self.old) }
+        ensures refused { IfErr result (RefusedFor (begin_refusal self.old.state)) }
+    {
+        if self.open_txns.len() >= OPEN_MAX || self.begun == u64::MAX {
+            return Err(Fault::TooManyTxns);
+        }
+        let txn = self.begun + 1;
+        self.open_txns.push(OpenTxn { txn, ending: false })?;
+        self.begun = txn;
+        Ok(txn)
+    }
+
+    /// Ends the transaction, whose writes stand from now on, and answers the record's number. What was promised to an
+    /// undo is given free, in time that grows with its writes alone.
+    pub fn commit(&mut self, txn: u64) -> Result<usize, Fault>
+        ensures ok { IfOk result (λ number. number ≡ length self.new.state.log) }
+        ensures committed { OnOk result (self.new.state ≡ after_commit self.old.state txn) }
+        ensures rows { KeepsRows self.old.state.log self.new.state.log }
+        ensures accepted { OnOk result (txn_refusal self.old.state txn ≡ None) }
+        ensures unchanged { OnErr result (self.new ≡ self.old) }
+        ensures refused { IfErr result (RefusedFor (txn_refusal self.old.state txn)) }
+    {
+        self.check_txn(txn)?;
+        self.log.reserve(1)?;
+        self.log.add(LogRec::Commit { txn });
+        end(&mut self.open_txns, txn);
+        settle_writes(&mut self.pages, &self.log, txn);
+        Ok(self.log.len())
+    }
+
+    /// Notes in the log what a switch decided, and answers the record's number.
+    pub fn note(&mut self, outcomes: Vec<Outcome>) -> Result<usize, Fault>
+        ensures ok { IfOk result (λ number. number ≡ length self.new.state.log) }
+        ensures rows { KeepsRows self.old.state.log self.new.state.log }
+        ensures noted { OnOk result (self.new.state ≡ after_switch self.old.state outcomes.items) }
+        ensures unchanged { OnErr result (self.new ≡ self.old) }
+        ensures memory { IfErr result (λ fault. fault ≡ Fault.Memory) }
+    {
+        self.log.reserve(1)?;
+        self.log.add(LogRec::Switch {
+            verdicts: Verdicts::new(outcomes),
+        });
+        Ok(self.log.len())
+    }
+
+    /// Why a transaction may not write or commit.
+    pub(super) fn check_txn(&self, txn: u64) -> Result<(), Fault>
+        ensures { MatchResult result (λ _. txn_refusal self.now.state txn ≡ None) (λ fault. txn_refusal self.now.state txn ≡ Some fault) }
+    {
+        if !has(&self.open_txns, txn) {
+            return Err(Fault::NoSuchTxn);
+        }
+        if has_ending(&self.open_txns, txn) {
+            return Err(Fault::TxnEnding);
+        }
+        Ok(())
+    }
+
+    /// The transaction that holds a RID.
+    fn holder(&self, rid: Rid) -> Option<u64>
+        ensures { result ≡ holder self.now.state.log rid }
+    {
+        let number = self.log.last(rid)?;
+        let LogRec::Write { txn, .. } = self.log.rec(number) else {
+            return None;
+        };
+        has(&self.open_txns, *txn).then_some(*txn)
+    }
+
+    /// Why a transaction may not change a RID.
+    pub(super) fn check_hold(&self, txn: u64, rid: Rid) -> Result<(), Fault>
+        ensures { MatchResult result
+            (λ _. held_refusal txn (holder self.now.state.log rid) ≡ None)
+            (λ fault. held_refusal txn (holder self.now.state.log rid) ≡ Some fault) }
+    {
+        match self.holder(rid) {
+            Some(other) if other != txn => Err(Fault::RowHeld(other)),
+            _ => Ok(()),
+        }
+    }
+}
