@@ -34,15 +34,15 @@ impl Model for Live {
 
     ghost Value = { LiveState };
 
-    ghost view = { λ live. record { heap = live.heap; ready = live.ready.items; builds = live.builds; build = live.build } };
+    ghost view = { λ live. record { heap = live.heap.state; ready = live.ready.items; builds = live.builds; build = live.build } };
 
-    ghost invariant = { λ live. FollowTable live.heap.log live.ready.items × BuildFollows live.heap.schema live.heap.log live.build };
+    ghost invariant = { λ live. FollowTable live.heap.state.log live.ready.items × BuildFollows live.heap.state.schema live.heap.state.log live.build };
 }
 
 impl Live {
     /// A table with no index and no build.
     pub fn new(alloc: Global, heap: Heap) -> Live
-        ensures { result ≡ record { heap = heap; ready = []; builds = 0; build = None } }
+        ensures { result ≡ record { heap = heap.state; ready = []; builds = 0; build = None } }
     {
         Live {
             alloc,
@@ -66,7 +66,7 @@ impl Live {
     }
 
     pub(crate) fn heap(&self) -> &Heap
-        ensures { result.now ≡ self.now.heap }
+        ensures { result.now.state ≡ self.now.heap }
     {
         &self.heap
     }

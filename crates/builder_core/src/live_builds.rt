@@ -56,7 +56,13 @@ impl Live {
         let pages = self.heap.pages();
         let work = Work::new(self.alloc, spec.clone()?)?;
         let number = self.builds + 1;
-        let build = TableScan::new(self.alloc, number, spec.clone()?, self.heap.records(), pages)?;
+        let build = TableScan::new(
+            self.alloc,
+            number,
+            spec.clone()?,
+            self.heap.records(),
+            pages,
+        )?;
         self.builds = number;
         self.build = Some(build);
         building.work = Some(work);
@@ -251,10 +257,10 @@ fn note_ready(
     heap: &mut Heap,
     ready: &mut Vec<ReadyIndex>,
 ) -> Result<(usize, Verdicts), Fault>
-    ensures number { IfOk result (λ done. done.0 ≡ length heap.old.log + 1) }
+    ensures number { IfOk result (λ done. done.0 ≡ length heap.old.state.log + 1) }
     ensures verdicts { IfOk result (λ done. done.1 ≡ Outcome.Ready (length ready.old.items) ∷ []) }
-    ensures noted { OnOk result (heap.new ≡ after_switch heap.old (Outcome.Ready (length ready.old.items) ∷ [])) }
-    ensures rows { KeepsRows heap.old.log heap.new.log }
+    ensures noted { OnOk result (heap.new.state ≡ after_switch heap.old.state (Outcome.Ready (length ready.old.items) ∷ [])) }
+    ensures rows { KeepsRows heap.old.state.log heap.new.state.log }
     ensures room { OnOk result (vec_len ready.new < vec_capacity ready.new) }
     ensures ready { ready.new.items ≡ ready.old.items }
     ensures unchanged { OnErr result (heap.new ≡ heap.old) }

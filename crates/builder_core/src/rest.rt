@@ -25,12 +25,12 @@ fn add_rows(pairs: &mut Vec<Pair>, rows: &[(Rid, Row)], spec: &KeySpec) -> Resul
 /// The pairs of all rows, by key, then by RID, as one worker makes them of a table that nobody writes. Reads each page once,
 /// which counts as a visit. The specification is one of the table's columns.
 pub fn at_rest(heap: &mut Heap, spec: &KeySpec) -> Result<Vec<Pair>, Fault>
-    requires { spec.now.kinds ≡ heap.old.schema }
-    ensures ok { IfOk result (λ pairs. pairs.items ≡ pairs_at_rest spec.now heap.old.log) }
+    requires { spec.now.kinds ≡ heap.old.state.schema }
+    ensures ok { IfOk result (λ pairs. pairs.items ≡ pairs_at_rest spec.now heap.old.state.log) }
     ensures keys { IfOk result (λ pairs. HaveKeysOf spec.now pairs.items) }
     ensures order { IfOk result (λ pairs. AreInColumnOrder spec.now pairs.items) }
-    ensures visits { OnOk result (heap.new ≡ after_visits heap.old (pages_written heap.old.log)) }
-    ensures rows { heap.new ≡ record heap.old { visits = heap.new.visits } }
+    ensures visits { OnOk result (heap.new.state ≡ after_visits heap.old.state (pages_written heap.old.state.log)) }
+    ensures rows { heap.new.state ≡ record heap.old.state { visits = heap.new.state.visits } }
     ensures memory { IfErr result (λ fault. fault ≡ Fault.Memory) }
 {
     heap.laws();

@@ -5,6 +5,6 @@ use Rattle.builder_core.proofs.rest.at_rest.Given as goal
 
 abbrev pub invariant-loop-page : goal.invariant-loop-page
 invariant-loop-page l = record {
-  made : l.pairs.items ≡ pairs_from l.spec l.fn.heap.log 0 l.page;
-  visits : l.heap ≡ after_visits l.fn.heap l.page;
+  made : l.pairs.items ≡ pairs_from l.spec l.fn.heap.state.log 0 l.page;
+  visits : l.heap.state ≡ after_visits l.fn.heap.state l.page;
 }

@@ -29,7 +29,7 @@ copy_page-requires c =
 
 pub invariant_of-self : goal.invariant_of-self
 invariant_of-self c =
-    let old : HeapState = c.self.inside.heap in
+    let old : HeapState = c.self.inside.heap.state in
     let b : BuildState = c.in-Some.build in
     let may : MayScan c.args.self.now c.args.building.now c.args.range c.args.worker c.in-Ok.page = c.in-Ok.ensures.page in
     let here : c.args.self.now.build ≡ Some b = sym (ap (λ (l : LiveState). l.build) c.self.view_is) ∙ c.in-Some.is in
@@ -43,7 +43,7 @@ invariant_of-self c =
 
 pub returns-clause-works : goal.returns-clause-works
 returns-clause-works c =
-    let old : HeapState = c.self.inside.heap in
+    let old : HeapState = c.self.inside.heap.state in
     let b : BuildState = c.in-Some.build in
     let w : WorkValue = c.in-Some-work.work in
     let may : MayScan c.args.self.now c.args.building.now c.args.range c.args.worker c.in-Ok.page = c.in-Ok.ensures.page in

@@ -14,7 +14,7 @@ opened number spec records pages = record { number = number; specs = spec ∷ []
 
 pub invariant_of-self : goal.invariant_of-self
 invariant_of-self c =
-    let heap = c.self.inside.heap in
+    let heap = c.self.inside.heap.state in
     let number : ℕ = c.self.inside.builds + 1 in
     let spec : KeySpecValue = c.in_ok-clone-2.field-0 in
     let columns : spec.kinds ≡ heap.schema =
@@ -30,7 +30,6 @@ pub returns-clause-started : goal.returns-clause-started
 returns-clause-started c =
     let live : LiveState = c.args.self.now in
     let plan = c.args.plan.now in
-    let heap = c.self.inside.heap in
     let spec : KeySpecValue = c.in_ok-spec.spec.now in
     let one : plan.specs.items ≡ spec ∷ [] = c.in_ok-spec.ensures.spec in
     let pages : c.pages-pages.result ≡ pages_written live.heap.log = c.pages-pages.ensures.pages ∙ ap (λ (l : LiveState). pages_written l.heap.log) c.self.view_is in
@@ -48,8 +47,10 @@ returns-clause-started c =
     ∙ fresh_is plan spec (one_worker live plan c.in_ok-spec.ensures.counts) one in
     let Whole : LiveState → BuildState → WorkState → CoreState = λ l b w. record { live = record l { builds = l.builds + 1; build = Some b }; work = w } in (
       c.in_ok-spec.ensures.accepted,
-      (pages,
-      ap (λ l. Whole l c.in_ok-build.build (work_state (Some c.in_ok-work.work))) c.self.view_is
-          ∙ ap (λ b. Whole live b (work_state (Some c.in_ok-work.work))) build
-          ∙ ap (Whole live (started live plan)) work),
+      (
+        pages,
+        ap (λ l. Whole l c.in_ok-build.build (work_state (Some c.in_ok-work.work))) c.self.view_is
+            ∙ ap (λ b. Whole live b (work_state (Some c.in_ok-work.work))) build
+            ∙ ap (Whole live (started live plan)) work,
+      ),
     )

@@ -37,7 +37,7 @@ new-requires c =
 pub invariant_of-self-2 : goal.invariant_of-self-2
 invariant_of-self-2 c =
     let live : LiveState = c.args.self.now in
-    let heap : HeapState = c.self.inside.heap in
+    let heap : HeapState = c.self.inside.heap.state in
     let b : BuildState = c.in-Some-Some.build in
     let w : WorkValue = c.in-Some-Some.work in
     let spec : KeySpecValue = c.into_spec-spec.result in
@@ -50,7 +50,7 @@ invariant_of-self-2 c =
     let made : c.new.result.pairs ≡ pairs_at_rest c.new.result.spec heap.log =
     c.new.ensures.pairs ∙ pairs ∙ ap (λ (l : LiveState). pairs_at_rest spec l.heap.log) (sym c.self.view_is) ∙ sym (ap (λ s. pairs_at_rest s heap.log) c.new.ensures.spec) in (
       rw (c.push_reserved.ensures.items, c.in_ok-noted.ensures.ready)
-          (follow_more heap.log c.note_ready.new.heap.log c.self.inside.ready.items c.new.result c.in_ok-noted.ensures.rows c.self.invariant.0 made),
+          (follow_more heap.log c.note_ready.new.heap.state.log c.self.inside.ready.items c.new.result c.in_ok-noted.ensures.rows c.self.invariant.0 made),
       rw c.take.ensures.after tt,
     )
 
@@ -73,7 +73,9 @@ returns-clause-switched c =
     let grown = c.push_reserved.ensures.items ∙ ap (λ (is : List ReadyValue). is ++ c.new.result ∷ []) (c.in_ok-noted.ensures.ready ∙ ap (λ (l : LiveState). l.ready) c.self.view_is)
     ∙ ap (λ (i : ReadyValue). live.ready ++ i ∷ []) index in
     let done = switches live c.args.building.now b w run free spec c.into_spec-spec.ensures c.in-Some.pairs.items c.in-Some.ensures
-    c.in_ok-noted.noted c.note_ready.new.heap c.push_reserved.new.self.items c.take.new.self c.take-2.new.self number verdicts noted grown c.take.ensures.after c.take-2.ensures.after in
-    (free, subst (λ (n : ℕ). Switches (core_state live c.args.building.now) c.in_ok-noted.noted
-    (core_state (record { heap = c.note_ready.new.heap; ready = c.push_reserved.new.self.items; builds = n; build = c.take.new.self }) c.take-2.new.self))
-    (sym (ap (λ (l : LiveState). l.builds) c.self.view_is)) done)
+    c.in_ok-noted.noted c.note_ready.new.heap.state c.push_reserved.new.self.items c.take.new.self c.take-2.new.self number verdicts noted grown c.take.ensures.after c.take-2.ensures.after in (
+      free,
+      subst (λ (n : ℕ). Switches (core_state live c.args.building.now) c.in_ok-noted.noted
+          (core_state (record { heap = c.note_ready.new.heap.state; ready = c.push_reserved.new.self.items; builds = n; build = c.take.new.self }) c.take-2.new.self))
+          (sym (ap (λ (l : LiveState). l.builds) c.self.view_is)) done,
+    )
