@@ -55,14 +55,6 @@ abbrev pub slots_with_row : Option ℕ → PageValue → ℕ
 slots_with_row (Some s) page = length page.slots
 slots_with_row None page = length page.slots + 1
 
--- what so many slots leave beside all reserves, 0 where the page can't have so many
-abbrev pub left_with_slots : PageValue → ℕ → ℕ
-left_with_slots page count = cond (nat_le count page.limit) (bytes_left count (total_reserve page.slots)) 0
-
--- the most bytes that an insert can have: what the page has left, with an entry more where no slot is free
-abbrev pub greatest_insert : PageValue → ℕ
-greatest_insert page = left_with_slots page (slots_with_row (position is_free page.slots) page)
-
 -- whether the room rule holds after an update of s to n bytes
 abbrev pub fits_at : PageValue → ℕ → ℕ → Bool
 fits_at page s n = has_room (length page.slots) (total_reserve (put page.slots s (held (grown_reserve page s n))))

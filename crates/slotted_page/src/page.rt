@@ -1,6 +1,6 @@
 ghost use Rattle.std.specs.Prelude.{◌≡◌, ◌↔◌, ℕ, ◌+◌, ◌^◌, ◌<◌, ◌≤◌, [], length, cond, is_some, position, nat_le, true, false, IsTrue, IfOk, OnErr, IfErr, IfSome, MatchResult, MatchOption, Some, None};
 ghost use Rattle.slotted_page.specs.Slot.{free, held, row, is_free, is_held, bytes_of, trimmed, total_reserve, rows_from, IsRow, IsHeld, IsTaken, IsRowSize};
-ghost use Rattle.slotted_page.specs.Page.{slot_at, reserve_at, grown_reserve, with_slot, taken_bytes, has_room, room_for, slots_with_row, bytes_left, greatest_insert, fits_at, CanReserve, IsSoundPage};
+ghost use Rattle.slotted_page.specs.Page.{slot_at, reserve_at, grown_reserve, with_slot, taken_bytes, has_room, room_for, slots_with_row, bytes_left, fits_at, CanReserve, IsSoundPage};
 ghost use Rattle.slotted_page.specs.Rows.{rows_left};
 ghost use Rattle.slotted_page.specs.Image.{slots_in, KeepsFormat};
 
@@ -203,7 +203,6 @@ impl Page {
 
     /// The most bytes that an insert may have now, 0 where the page takes no row at all. A row has a limit besides.
     pub fn greatest_insert(&self) -> usize
-        ensures greatest { result ≡ greatest_insert self.now }
         ensures room { (len : ℕ) → 0 < len → is_some (room_for self.now len) ≡ nat_le len result }
         ensures most { result ≤ PAGE_SIZE }
     {
