@@ -1,5 +1,5 @@
 -- The pairs on copies of pages, slot by slot and copy by copy.
-use Rattle.std.proofs.Common.{◌≡◌, ℕ, zero, suc, add-zero, zero-add, ◌+◌, true, List, [], ◌∷◌, ◌++◌, length, append_assoc, append-nil, Option, Some, None, IfSome, refl, sym, ap, ◌∙◌, arith, subst}
+use Rattle.std.proofs.Common.{◌≡◌, ℕ, zero, suc, zero-add, ◌+◌, true, List, [], ◌∷◌, ◌++◌, length, append_assoc, append-nil, Option, Some, None, IfSome, refl, sym, ap, ◌∙◌, subst}
 use Rattle.std.specs.Prelude.{filter_map, flat_map, map}
 use Rattle.std.specs.List.{range_with_len, cons_option, slice_get}
 use Rattle.std.specs.Option.{option_map, option_to_list}
@@ -19,18 +19,11 @@ use Rattle.heap_log.specs.declared.record.LogRec.{LogRec}
 use Rattle.heap_table.specs.Images.{ImageValue, IsImage, Shows, image_slot}
 use Rattle.heap_table.specs.Pages.{rid_at, slots_written}
 use Rattle.heap_table.specs.TablePairs.{pair_at, pairs_on}
+use Rattle.heap_table.proofs.KeptFacts.{range_more}
 use Rattle.slotted_page.specs.Slot.{Slot}
 use Rattle.builder_core.specs.ImagePairs.{HasPairs, HavePairs}
 use Rattle.builder_core.specs.Scanning.{Scanning, AreCopies, pairs_at_scan}
 use Rattle.builder_core.specs.declared.scan.Scan.{Scan}
-
-pub range_more : (a n : ℕ) → range_with_len a (n + 1) ≡ range_with_len a n ++ (a + n) ∷ []
-range_more a zero = rw (add-zero a) refl
-range_more a (suc n) =
-    let next : suc n + 1 ≡ suc (n + 1) = omega arith in
-    let last : a + 1 + n ≡ a + suc n = omega arith in
-    ap (range_with_len a) next
-    ∙ ap (λ (xs : List ℕ). a ∷ xs) (range_more (a + 1) n ∙ ap (λ (k : ℕ). range_with_len (a + 1) n ++ k ∷ []) last)
 
 -- the pairs of the rows in the first slots of a page
 abbrev pub pairs_before : KeySpecValue → ℕ → (ℕ → Option (List Cell)) → ℕ → List Pair

@@ -42,6 +42,14 @@ running live work b w build_is work_is follows works = record {
       (subst (IsWorkOf live.heap.schema live.heap.log live.build) work_is works);
 }
 
+-- the same, told of a table from within
+pub running_inside :
+    (inside live : LiveState) (work : Option WorkValue) (b : BuildState) (w : WorkValue) → inside ≡ live → inside.build ≡ Some b → work ≡ Some w
+    → BuildFollows inside.heap.schema inside.heap.log inside.build → WorksOn live work → Running live work b w
+running_inside inside live work b w view_is build_is work_is follows works =
+    running live work b w (sym (ap (λ (l : LiveState). l.build) view_is) ∙ build_is) work_is
+    (subst (λ (l : LiveState). BuildFollows l.heap.schema l.heap.log l.build) view_is follows) works
+
 -- a build and its work, as a table and the work beside it show them
 abbrev pub is_running :
     (live : LiveState) (work : Option WorkValue) (b : BuildState) (w : WorkValue) → live.build ≡ Some b → work ≡ Some w

@@ -18,14 +18,11 @@ use Rattle.builder_core.specs.Ranges.{open_range}
 use Rattle.builder_core.specs.Steps.{OnBuild, Switches, refusal_of, switch_refusal, ready_from, index_now, after_switch_in, verdicts_on}
 use Rattle.builder_core.specs.Workers.{unloaded_index}
 use Rattle.builder_core.proofs.Refusals.{Running}
-use Rattle.builder_core.proofs.TableBuilds.{switched_pairs}
+use Rattle.builder_core.proofs.TableBuilds.{only_same, switched_pairs}
 
 first_none : (a b : Option Fault) → first_cause a b ≡ None → a ≡ None
 first_none None b e = refl
 first_none (Some fault) b e = e
-
-same_spec : (a b : KeySpecValue) → a ∷ [] ≡ b ∷ [] → a ≡ b
-same_spec a b e = cc
 
 module _
     (live : LiveState) (work : Option WorkValue) (b : BuildState) (w : WorkValue) (run : Running live work b w)
@@ -40,7 +37,7 @@ module _
       (sym cause_is ∙ free)
 
   spec_is : w.spec ≡ spec
-  spec_is = same_spec w.spec spec (sym run.works.specs ∙ one)
+  spec_is = only_same w.spec spec (sym run.works.specs ∙ one)
 
   -- the index is of the table's columns, and has the pairs of the rows that stand
   pub columns_are : spec.kinds ≡ live.heap.schema

@@ -156,8 +156,9 @@ work_kept kinds log txn None (Some w) build is = is
 work_kept kinds log txn (Some b) None build is = is
 work_kept kinds log txn (Some b) (Some w) build is = commit_work_kept kinds log txn b w build is
 
-first_of : (a b : KeySpecValue) → a ∷ [] ≡ b ∷ [] → a ≡ b
-first_of a b e = cc
+-- lists of one specification
+pub only_same : (a b : KeySpecValue) → a ∷ [] ≡ b ∷ [] → a ≡ b
+only_same a b e = cc
 
 -- a switch makes the pairs at rest ready
 pub switched_pairs :
@@ -169,7 +170,7 @@ switched_pairs kinds log b work pairs build is fine loaded =
     let within = build.in_turn.within in
     let here : Scanning = scanning_of b build.spec in
     let whole : AllScanned here = λ page less. some_of (scanned_at b.scans page) (build.in_turn.in_turn page ∙ lt-ltb page (length b.scans) (omega (arith, less, all, put, within))) in
-    let same : build.spec ≡ work.spec = first_of build.spec work.spec (sym build.one_index ∙ is.specs) in
+    let same : build.spec ≡ work.spec = only_same build.spec work.spec (sym build.one_index ∙ is.specs) in
     (is.sound fine).loaded pairs loaded
     ∙ ap (λ spec. keys (set_of (scanned_pairs (scanning_of b spec) log))) (sym same)
     ∙ ap (λ (es : List SideEntry). keys (apply_entries es (set_of (scanned_pairs here log)))) (sym build.no_entries)

@@ -235,7 +235,7 @@ page_shows s p page slot value kept below is =
     (kept_page s p page (new_page 0) kept below ∙ sym (is ∙ kept_page s p page value kept below))
     (slot_shows s p (rid_at page slot) kept)
 
-range_more : (a n : ℕ) → range_with_len a (n + 1) ≡ range_with_len a n ++ (a + n) ∷ []
+pub range_more : (a n : ℕ) → range_with_len a (n + 1) ≡ range_with_len a n ++ (a + n) ∷ []
 range_more a zero = rw (add-zero a) refl
 range_more a (suc n) =
     let next : suc n + 1 ≡ suc (n + 1) = omega arith in

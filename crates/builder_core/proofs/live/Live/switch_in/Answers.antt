@@ -11,8 +11,9 @@ use Rattle.heap_table.specs.TablePairs.{index_pairs, pairs_at_rest}
 use Rattle.builder_core.specs.Builds.{WorkValue, BuildFollows, WorksOn, core_state, work_state}
 use Rattle.builder_core.specs.CoreState.{BuildState, LiveState, ReadyValue, FollowTable}
 use Rattle.builder_core.specs.Steps.{Switches, refusal_of, switch_refusal}
+use Rattle.builder_core.specs.contracts.live.Live.{the_view}
 use Rattle.builder_core.proofs.Following.{follow_more}
-use Rattle.builder_core.proofs.Refusals.{Running, running}
+use Rattle.builder_core.proofs.Refusals.{Running, running_inside}
 use Rattle.builder_core.proofs.SwitchIn.{columns_are, pairs_are, switches}
 use Rattle.builder_core.proofs.live.Live.switch_in.Goals as goal
 
@@ -22,10 +23,9 @@ new-requires c =
     let b : BuildState = c.in-Some-Some.build in
     let w : WorkValue = c.in-Some-Some.work in
     let spec : KeySpecValue = c.into_spec-spec.result in
-    let build_is : live.build ≡ Some b = sym (ap (λ (l : LiveState). l.build) c.self.view_is) ∙ sym c.take.ensures.value ∙ c.in-Some-Some.is-0 in
-    let work_is : c.args.building.now ≡ Some w = sym c.building.view_is ∙ sym c.take-2.ensures.value ∙ c.in-Some-Some.is-1 in
-    let follows : BuildFollows live.heap.schema live.heap.log live.build = subst (λ (l : LiveState). BuildFollows l.heap.schema l.heap.log l.build) c.self.view_is c.self.invariant.1 in
-    let run : Running live c.args.building.now b w = running live c.args.building.now b w build_is work_is follows c.requires in
+    let run : Running live c.args.building.now b w =
+    running_inside (the_view c.self.inside) live c.args.building.now b w c.self.view_is (sym c.take.ensures.value ∙ c.in-Some-Some.is-0)
+    (sym c.building.view_is ∙ sym c.take-2.ensures.value ∙ c.in-Some-Some.is-1) c.self.invariant.1 c.requires in
     let free : refusal_of live.build (λ b. switch_refusal b (work_state c.args.building.now)) ≡ None = search rules in
     let columns = columns_are live c.args.building.now b w run free spec c.into_spec-spec.ensures c.in-Some.pairs.items c.in-Some.ensures in
     let pairs = pairs_are live c.args.building.now b w run free spec c.into_spec-spec.ensures c.in-Some.pairs.items c.in-Some.ensures in
@@ -41,10 +41,9 @@ invariant_of-self-2 c =
     let b : BuildState = c.in-Some-Some.build in
     let w : WorkValue = c.in-Some-Some.work in
     let spec : KeySpecValue = c.into_spec-spec.result in
-    let build_is : live.build ≡ Some b = sym (ap (λ (l : LiveState). l.build) c.self.view_is) ∙ sym c.take.ensures.value ∙ c.in-Some-Some.is-0 in
-    let work_is : c.args.building.now ≡ Some w = sym c.building.view_is ∙ sym c.take-2.ensures.value ∙ c.in-Some-Some.is-1 in
-    let follows : BuildFollows live.heap.schema live.heap.log live.build = subst (λ (l : LiveState). BuildFollows l.heap.schema l.heap.log l.build) c.self.view_is c.self.invariant.1 in
-    let run : Running live c.args.building.now b w = running live c.args.building.now b w build_is work_is follows c.requires in
+    let run : Running live c.args.building.now b w =
+    running_inside (the_view c.self.inside) live c.args.building.now b w c.self.view_is (sym c.take.ensures.value ∙ c.in-Some-Some.is-0)
+    (sym c.building.view_is ∙ sym c.take-2.ensures.value ∙ c.in-Some-Some.is-1) c.self.invariant.1 c.requires in
     let free : refusal_of live.build (λ b. switch_refusal b (work_state c.args.building.now)) ≡ None = search rules in
     let pairs = pairs_are live c.args.building.now b w run free spec c.into_spec-spec.ensures c.in-Some.pairs.items c.in-Some.ensures in
     let made : c.new.result.pairs ≡ pairs_at_rest c.new.result.spec heap.log =
@@ -60,10 +59,9 @@ returns-clause-switched c =
     let b : BuildState = c.in-Some-Some.build in
     let w : WorkValue = c.in-Some-Some.work in
     let spec : KeySpecValue = c.into_spec-spec.result in
-    let build_is : live.build ≡ Some b = sym (ap (λ (l : LiveState). l.build) c.self.view_is) ∙ sym c.take.ensures.value ∙ c.in-Some-Some.is-0 in
-    let work_is : c.args.building.now ≡ Some w = sym c.building.view_is ∙ sym c.take-2.ensures.value ∙ c.in-Some-Some.is-1 in
-    let follows : BuildFollows live.heap.schema live.heap.log live.build = subst (λ (l : LiveState). BuildFollows l.heap.schema l.heap.log l.build) c.self.view_is c.self.invariant.1 in
-    let run : Running live c.args.building.now b w = running live c.args.building.now b w build_is work_is follows c.requires in
+    let run : Running live c.args.building.now b w =
+    running_inside (the_view c.self.inside) live c.args.building.now b w c.self.view_is (sym c.take.ensures.value ∙ c.in-Some-Some.is-0)
+    (sym c.building.view_is ∙ sym c.take-2.ensures.value ∙ c.in-Some-Some.is-1) c.self.invariant.1 c.requires in
     let free : refusal_of live.build (λ b. switch_refusal b (work_state c.args.building.now)) ≡ None = search rules in
     let number = c.in_ok-noted.ensures.number ∙ ap (λ (l : LiveState). length l.heap.log + 1) c.self.view_is in
     let verdicts = c.in_ok-noted.ensures.verdicts ∙ ap (λ (l : LiveState). Ready (length l.ready) ∷ []) c.self.view_is in
