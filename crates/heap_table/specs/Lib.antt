@@ -1,4 +1,5 @@
 pub mod Calls
+pub mod HeapLends
 pub mod HeapState
 pub mod HeapValue
 pub mod Holders

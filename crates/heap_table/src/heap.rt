@@ -7,7 +7,7 @@ ghost use Rattle.heap_table.specs.Pages.{pages_written};
 ghost use Rattle.heap_table.specs.Kept.{RowsFit};
 ghost use Rattle.heap_table.specs.declared.ready.Ready.{Ready};
 ghost use Rattle.heap_table.specs.Ready.{IsReady, IsLawfulChange};
-ghost use Rattle.heap_table.specs.Sound.{HoldsFollowLog};
+ghost use Rattle.heap_table.specs.Sound.{HoldsFollowLog, UndoFits};
 
 mod places;
 mod reading;
@@ -82,6 +82,7 @@ impl Heap {
     pub fn laws(&self)
         ensures rows { RowsFit self.now.state.schema self.now.state.log }
         ensures holds { HoldsFollowLog self.now.state }
+        ensures fits { UndoFits self.now.state.log }
         ensures undos { UndoesNameEarlier self.now.state.log }
         ensures ready { (ready : Ready) → IsReady self.now ready → IsLawfulChange self.now.state ready }
     {

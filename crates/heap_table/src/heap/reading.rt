@@ -3,6 +3,8 @@ ghost use Rattle.std.specs.Prelude.{◌≡◌, ◌<◌, Some, IsSome, IfOk, IfEr
 ghost use Rattle.keybytes.specs.Faults.{RefusedFor};
 ghost use Rattle.heap_log.specs.Standing.{live_at};
 ghost use Rattle.heap_table.specs.HeapState.{row_missing, after_visit};
+ghost use Rattle.std.specs.Borrow.{sem};
+ghost use Rattle.heap_table.specs.HeapLends.{ends_visited};
 ghost use Rattle.heap_table.specs.Pages.{pages_written, rows_on};
 ghost use Rattle.heap_table.specs.Images.{IsImage};
 
@@ -20,10 +22,10 @@ impl Heap {
         self.visits
     }
 
-    /// The log. Counts as a visit, which no clause can say of a call that lends from the table; so a caller knows nothing
-    /// of the table afterwards.
+    /// The log. Counts as a visit.
     pub fn log(&mut self) -> &Log
-        ensures { result.now.records ≡ self.old.state.log }
+        ensures* visited { sem 𝓛 (ends_visited self.entry) }
+        ensures records { result.now.records ≡ self.old.state.log }
     {
         self.visits = self.visits.saturating_add(1);
         &self.log
