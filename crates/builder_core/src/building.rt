@@ -98,7 +98,8 @@ impl Work {
     pub fn load(&mut self) -> usize
         ensures count { result ≡ (if is_some self.old.tree then 0 else length self.old.worker.pairs) }
         ensures again { is_some self.old.tree ≡ true → self.new ≡ self.old }
-        ensures loaded { self.old.tree ≡ None → (pairs : List Pair) × (self.new ≡ after_sort self.old pairs) × IsPermutation self.old.worker.pairs pairs × InOrder pairs }
+        ensures loaded { self.old.tree ≡ None → (pairs : List Pair) × (self.new ≡ after_sort self.old pairs)
+            × IsPermutation self.old.worker.pairs pairs × InOrder pairs }
     {
         if self.tree.is_some() {
             return 0;
