@@ -20,7 +20,7 @@ loop-spec-preserved c =
     let made_one = c.in_ok-key_spec.field-0 in (
       search rules,
       search rules,
-      rw c.in_ok-push.ensures.items (made_more schema c.args.specs.items rest c.loop-spec.made.items spec made_one made (is_named schema spec made_one one.table one.columns one.unique)),
+      made_more schema c.args.specs.items rest c.loop-spec.made.items _ spec made_one made (search rules) (is_named schema spec made_one one.table one.columns one.unique),
       left ∙ accepted_first schema spec rest one.accepted,
     )
 
