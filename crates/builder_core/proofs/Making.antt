@@ -1,23 +1,18 @@
 -- How the pairs of pages are made, row by row.
-use Rattle.std.proofs.Common.{◌≡◌, ℕ, zero, suc, add-one, add-zero, zero-add, ◌+◌, ◌<◌, true, List, [], ◌∷◌, ◌++◌, length, append-nil, get_or, Option, Some, None, IfSome, refl, sym, ap, ◌∙◌, arith, subst}
+use Rattle.std.proofs.Common.{◌≡◌, ℕ, zero, suc, add-one, ◌+◌, true, List, [], ◌∷◌, ◌++◌, append-nil, Option, Some, None, refl, sym, ap, ◌∙◌}
 use Rattle.std.specs.Prelude.{filter_map, map, All}
 use Rattle.std.specs.List.{range_with_len, cons_option, AllByRecursion}
-use Rattle.std.specs.Option.{option_map, option_to_list}
-use Rattle.std.proofs.lemmas.Option.{slice_get_read}
-use Rattle.std.proofs.lemmas.List.{map-append}
-use Rattle.std.proofs.lemmas.List.Elements.{filter_map-append, All-from_recursion}
+use Rattle.std.specs.Option.{option_map}
+use Rattle.std.proofs.lemmas.List.Elements.{All-from_recursion}
 use Rattle.keybytes.specs.Cells.{fits}
-use Rattle.keybytes.specs.Rows.{row_bytes, Spells}
 use Rattle.keybytes.specs.Keys.{KeySpecValue, key_of}
 use Rattle.keybytes.specs.declared.cell.Cell.{Cell}
 use Rattle.keybytes.specs.declared.kind.Kind.{Kind}
 use Rattle.heap_log.specs.declared.record.LogRec.{LogRec}
 use Rattle.heap_log.specs.Standing.{live_at}
 use Rattle.heap_table.specs.HeapState.{HeapState, after_visit}
-use Rattle.heap_table.specs.Images.{ImageValue, IsImage}
 use Rattle.heap_table.specs.Kept.{RowsFit}
 use Rattle.heap_table.specs.Pages.{rid_at, row_in, rows_on, slots_written}
-use Rattle.keybytes.specs.declared.pair.Pair.{Pair}
 use Rattle.heap_table.specs.TablePairs.{pair_at, pair_of, pairs_on, pairs_from}
 use Rattle.builder_core.specs.CoreState.{after_visits}
 use Rattle.heap_table.proofs.PairsAtRest.{pairs_joined}

@@ -1,13 +1,12 @@
 -- A build that copies the pages of one range in their order.
-use Rattle.std.proofs.Common.{◌≡◌, ℕ, zero, suc, add-zero, zero-add, ◌+◌, ◌-◌, ◌<◌, ◌≤◌, Bool, true, false, List, [], ◌∷◌, ◌++◌, length, Option, Some, None, refl, sym, ap, ◌∙◌, inl, inr, arith}
-use Rattle.std.specs.Prelude.{not, nat_lt, is_some, filter, if◌then◌else◌, ◌==◌}
+use Rattle.std.proofs.Common.{◌≡◌, ℕ, zero, suc, add-zero, zero-add, ◌+◌, ◌-◌, ◌<◌, ◌≤◌, Bool, true, false, List, [], ◌∷◌, length, Some, None, refl, sym, ap, ◌∙◌, inl, inr, arith}
+use Rattle.std.specs.Prelude.{not, nat_lt, is_some, if◌then◌else◌}
 use Rattle.std.specs.List.{range_with_len}
 use Rattle.std.proofs.lemmas.Bool.{cases_lt, cond-true, cond-false, lt-ltb, le-ltb}
 use Rattle.std.proofs.lemmas.Option.{same_Some}
 use Rattle.builder_core.specs.Builds.{ScansInTurn}
 use Rattle.builder_core.specs.CoreState.{BuildState}
 use Rattle.builder_core.specs.Ranges.{first_that, range_pages, is_left, next_page, open_range}
-use Rattle.builder_core.specs.Scanning.{scanned_at}
 
 -- the first number that passes stands behind those that don't
 first_left :

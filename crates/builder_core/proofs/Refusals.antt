@@ -1,18 +1,17 @@
 -- Why a step of a build of one index by one worker over one range is refused, in the order of the causes.
-use Rattle.std.proofs.Common.{◌≡◌, ◌⊎◌, ℕ, zero, suc, ◌+◌, ◌-◌, ◌<◌, ◌≤◌, Bool, true, false, List, [], ◌∷◌, length, take, drop, Option, Some, None, refl, sym, ap, ◌∙◌, arith, subst, inl, inr}
-use Rattle.std.specs.Prelude.{◌||◌, ◌&&◌, ◌==◌, not, nat_le, nat_lt, is_some, flat_map, if◌then◌else◌}
-use Rattle.std.specs.List.{list_all, position}
-use Rattle.std.proofs.lemmas.Bool.{or_left, or_right, le-leb, lt-leb, eq-eqb, ne_eqb, cond-true, cond-false}
+use Rattle.std.proofs.Common.{◌≡◌, ◌⊎◌, ℕ, zero, suc, ◌<◌, ◌≤◌, true, false, List, [], ◌∷◌, length, take, drop, Option, Some, None, refl, sym, ap, ◌∙◌, arith, subst, inl, inr}
+use Rattle.std.specs.Prelude.{◌||◌, nat_le, is_some, flat_map}
+use Rattle.std.specs.List.{list_all}
+use Rattle.std.proofs.lemmas.Bool.{or_left, or_right, le-leb, lt-leb, eq-eqb, ne_eqb}
 use Rattle.keybytes.specs.declared.fault.Fault.{Fault}
 use Rattle.keybytes.specs.declared.fault.Fault.TheVariants.{BadCount, RangeDone, RingFull, NotScanned, NotSealed, NotLoaded}
 use Rattle.keybytes.specs.Keys.{KeySpecValue}
-use Rattle.heap_log.specs.declared.record.LogRec.{LogRec}
-use Rattle.builder_core.specs.Builds.{WorkValue, work_state, core_state, worker_state, index_state, IsBuildOf, IsWorkOn, IsWorkOf, BuildFollows, WorksOn, IsRunning}
-use Rattle.builder_core.specs.CoreState.{BuildState, LiveState, WorkState, scanning_of}
+use Rattle.builder_core.specs.Builds.{WorkValue, work_state, core_state, worker_state, IsBuildOf, IsWorkOn, IsWorkOf, BuildFollows, WorksOn, IsRunning}
+use Rattle.builder_core.specs.CoreState.{BuildState, LiveState, scanning_of}
 use Rattle.builder_core.specs.Ranges.{next_page, open_range}
 use Rattle.builder_core.specs.Scanning.{pairs_at_scan}
-use Rattle.builder_core.specs.Steps.{refusal_of, scan_refusal, seal_refusal, load_refusal, switch_refusal, range_refusal}
-use Rattle.builder_core.specs.Workers.{put_to, waiting, is_quiet, fill_runs, unsealed_pairs, loud_worker, unloaded_index}
+use Rattle.builder_core.specs.Steps.{refusal_of, scan_refusal, seal_refusal, load_refusal, switch_refusal}
+use Rattle.builder_core.specs.Workers.{put_to, waiting, fill_runs, unsealed_pairs, loud_worker}
 use Rattle.builder_core.specs.declared.scan.Scan.{Scan}
 
 above : (n : ℕ) → (n ≡ 0 → ⊥) → 0 < n

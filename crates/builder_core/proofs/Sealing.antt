@@ -1,14 +1,14 @@
 -- What a seal and a load leave of the table's build and its work.
-use Rattle.std.proofs.Common.{◌≡◌, ℕ, ◌+◌, ◌-◌, ◌≤◌, true, false, List, [], ◌∷◌, length, Option, Some, None, refl, sym, ap, ◌∙◌, arith, subst}
-use Rattle.std.specs.Prelude.{set, slice_get, is_some, IsPermutation, if◌then◌else◌}
+use Rattle.std.proofs.Common.{◌≡◌, ℕ, true, false, List, [], length, Option, Some, None, refl, sym, ap, ◌∙◌, arith, subst}
+use Rattle.std.specs.Prelude.{slice_get, is_some, IsPermutation}
 use Rattle.std.proofs.lemmas.Option.{same_Some}
 use Rattle.keybytes.specs.declared.fault.Fault.TheVariants.{Memory}
 use Rattle.keybytes.specs.declared.pair.Pair.{Pair}
 use Rattle.heap_table.proofs.PairsAtRest.{InOrder}
-use Rattle.builder_core.specs.Builds.{WorkValue, WorkerValue, IsRunning, IsWorkOn, IsWorkOf, WorksOn, HasSealed, core_state, work_state}
-use Rattle.builder_core.specs.CoreState.{BuildState, LiveState, WorkState, CoreState, scanning_of}
+use Rattle.builder_core.specs.Builds.{WorkValue, WorkerValue, IsRunning, IsWorkOn, IsWorkOf, WorksOn, HasSealed, core_state}
+use Rattle.builder_core.specs.CoreState.{BuildState, LiveState, CoreState, scanning_of}
 use Rattle.builder_core.specs.Scanning.{scanned_pairs}
-use Rattle.builder_core.specs.Steps.{OnBuild, Seals, Loads, spoiled_by, after_seal, after_load, pairs_copied}
+use Rattle.builder_core.specs.Steps.{OnBuild, Seals, Loads, spoiled_by, after_seal, pairs_copied}
 use Rattle.builder_core.specs.Workers.{put_to, waiting}
 use Rattle.builder_core.proofs.Refusals.{Running, put_is, waiting_is}
 use Rattle.builder_core.proofs.Working.{sealed_work, spoiled_work, loaded_work, loaded_count}

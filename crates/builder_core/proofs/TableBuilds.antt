@@ -1,9 +1,9 @@
 -- What each event leaves of the build that a table knows, and what its switch makes ready.
-use Rattle.std.proofs.Common.{◌≡◌, ℕ, ◌+◌, ◌<◌, ◌≤◌, true, false, List, [], ◌∷◌, ◌++◌, length, append-nil, length-append, Bool, take, drop, Option, Some, None, refl, sym, ap, ◌∙◌, arith, subst, inl, inr}
-use Rattle.std.specs.Prelude.{is_some, nat_lt, filter, ◌==◌}
+use Rattle.std.proofs.Common.{◌≡◌, ℕ, ◌+◌, ◌<◌, ◌≤◌, true, false, List, [], ◌∷◌, ◌++◌, length, length-append, take, drop, Option, Some, None, refl, sym, ap, ◌∙◌, arith, subst, inl, inr}
+use Rattle.std.specs.Prelude.{is_some, nat_lt, ◌==◌}
 use Rattle.std.specs.FinMap.{keys}
 use Rattle.std.specs.List.{All}
-use Rattle.std.proofs.lemmas.Bool.{cases_Bool, cases_lt, eqb-true, lt-ltb, le-ltb, false≢true}
+use Rattle.std.proofs.lemmas.Bool.{cases_Bool, eqb-true, lt-ltb, le-ltb, false≢true}
 use Rattle.std.proofs.lemmas.Bool.Decides.{nat_tests}
 use Rattle.std.proofs.lemmas.List.Elements.{All-drop, All-take, All-weaker, filter-append}
 use Rattle.keybytes.specs.Keys.{KeySpecValue}
@@ -14,16 +14,16 @@ use Rattle.heap_log.specs.declared.record.LogRec.{LogRec}
 use Rattle.heap_log.specs.declared.record.LogRec.TheVariants.{Commit}
 use Rattle.heap_table.specs.Images.{ImageValue, IsImage}
 use Rattle.heap_table.specs.Pages.{pages_written}
-use Rattle.heap_table.specs.TablePairs.{index_pairs, pairs_at_rest}
-use Rattle.builder_core.specs.Builds.{WorkValue, ScansInTurn, IsBuildOf, IsSound, IsWorkOn, IsWorkOf, BuildFollows, after_put}
+use Rattle.heap_table.specs.TablePairs.{pairs_at_rest}
+use Rattle.builder_core.specs.Builds.{WorkValue, ScansInTurn, IsBuildOf, IsWorkOn, IsWorkOf, BuildFollows, after_put}
 use Rattle.builder_core.specs.CoreState.{BuildState, scanning_of}
 use Rattle.builder_core.specs.Ranges.{next_page}
-use Rattle.builder_core.specs.Scanning.{Scanning, IsScanOf, AllScanned, scanned_at, pairs_at_scan, scanned_pairs}
-use Rattle.builder_core.specs.SideEntries.{SideEntry, side_entries, entries_of, apply_entries}
+use Rattle.builder_core.specs.Scanning.{Scanning, IsScanOf, AllScanned, scanned_at, scanned_pairs}
+use Rattle.builder_core.specs.SideEntries.{SideEntry, entries_of, apply_entries}
 use Rattle.builder_core.specs.declared.scan.Scan.{Scan}
 use Rattle.builder_core.proofs.Copies.{copies_kept}
 use Rattle.builder_core.proofs.EntrySteps.{opened_entries, more_entries, same_entries, commit_entries}
-use Rattle.builder_core.proofs.ScanSteps.{opened_scanned, more_scanned, pairs_kept, same_pairs, scan_now, scan_scanned, scanned_last, scanned_new, pages_grow}
+use Rattle.builder_core.proofs.ScanSteps.{opened_scanned, more_scanned, pairs_kept, scan_now, scan_scanned, scanned_last, scanned_new, pages_grow}
 use Rattle.builder_core.proofs.OneRange.{next_page_is}
 use Rattle.builder_core.proofs.SideFollows.{leaves_index}
 use Rattle.builder_core.proofs.Working.{put_work}

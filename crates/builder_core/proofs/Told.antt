@@ -1,6 +1,5 @@
 -- A call of the table within the core, told as an event.
-use Rattle.std.proofs.Common.{◌≡◌, ℕ, List, Option, Result, Ok, Err, refl, sym, subst}
-use Rattle.heap_log.specs.declared.record.LogRec.{LogRec}
+use Rattle.std.proofs.Common.{◌≡◌, ℕ, Option, refl, sym, subst}
 use Rattle.heap_table.specs.HeapState.{HeapState, after_commit}
 use Rattle.builder_core.specs.Builds.{WorkValue, core_state, WorksOn, BuildFollows}
 use Rattle.builder_core.specs.CoreState.{LiveState, CoreState, live_with_heap}

@@ -1,12 +1,11 @@
 -- What each step of a build leaves of its work.
-use Rattle.std.proofs.Common.{◌≡◌, ℕ, zero, suc, zero-add, add-zero, ◌+◌, ◌-◌, ◌<◌, ◌≤◌, true, false, List, [], ◌∷◌, ◌++◌, length, length-append, append-nil, take, drop, take_all, take-append-drop, Option, Some, None, refl, sym, ap, ◌∙◌, arith, subst}
-use Rattle.std.specs.Prelude.{flat_map, is_some, nat_lt, IsPermutation}
-use Rattle.std.specs.List.{All, IsDistinct}
+use Rattle.std.proofs.Common.{◌≡◌, ℕ, zero, suc, ◌<◌, ◌≤◌, true, List, [], ◌∷◌, ◌++◌, length, length-append, take, drop, take_all, take-append-drop, Some, None, refl, sym, ap, ◌∙◌, arith, subst}
+use Rattle.std.specs.Prelude.{flat_map, is_some, IsPermutation}
+use Rattle.std.specs.List.{IsDistinct}
 use Rattle.std.specs.Ordering.{eq_by_cmp}
 use Rattle.std.specs.FinMap.{keys}
-use Rattle.std.proofs.lemmas.Bool.{false≢true, lt-ltb}
+use Rattle.std.proofs.lemmas.Bool.{false≢true}
 use Rattle.std.proofs.lemmas.List.{take-append-le, drop-append-le}
-use Rattle.std.proofs.lemmas.List.Elements.{All-head, All-tail}
 use Rattle.std.proofs.lemmas.Grind.{flat_map-append}
 use Rattle.keybytes.specs.Keys.{KeySpecValue}
 use Rattle.keybytes.specs.Pairs.{pair_cmp, set_of}
@@ -14,21 +13,17 @@ use Rattle.keybytes.specs.declared.fault.Fault.{Fault}
 use Rattle.keybytes.specs.declared.kind.Kind.{Kind}
 use Rattle.keybytes.specs.declared.pair.Pair.{Pair}
 use Rattle.heap_log.specs.declared.record.LogRec.{LogRec}
-use Rattle.heap_log.specs.declared.record.LogRec.TheVariants.{Commit}
 use Rattle.heap_table.proofs.PairsAtRest.{InOrder, sorted_set}
 use Rattle.heap_table.specs.Images.{ImageValue, IsImage}
-use Rattle.heap_table.specs.TablePairs.{index_pairs, pairs_at_rest}
-use Rattle.builder_core.specs.Builds.{WorkerValue, WorkValue, IsBuildOf, IsSound, IsWorkOn, IsWorkOf, BuildFollows, HasSealed, after_put}
+use Rattle.builder_core.specs.Builds.{WorkerValue, WorkValue, IsBuildOf, IsWorkOn, HasSealed, after_put}
 use Rattle.builder_core.specs.CoreState.{BuildState, scanning_of}
 use Rattle.builder_core.specs.ImagePairs.{HavePairs}
-use Rattle.builder_core.specs.Scanning.{Scanning, IsScanOf, AllScanned, AreCopies, scanned_at, pairs_at_scan, scanned_pairs}
-use Rattle.builder_core.specs.SideEntries.{side_entries, apply_entries}
+use Rattle.builder_core.specs.Scanning.{AreCopies, pairs_at_scan, scanned_pairs}
 use Rattle.builder_core.specs.declared.scan.Scan.{Scan}
-use Rattle.builder_core.proofs.Copies.{copies_kept, copies_scan}
+use Rattle.builder_core.proofs.Copies.{copies_scan}
 use Rattle.builder_core.proofs.CopyPairs.{copies_pairs}
 use Rattle.builder_core.proofs.Distinct.{scanned_distinct}
-use Rattle.builder_core.proofs.ScanSteps.{pairs_kept, same_pairs, scan_now}
-use Rattle.builder_core.proofs.SideFollows.{leaves_index}
+use Rattle.builder_core.proofs.ScanSteps.{scan_now}
 
 -- the work of a build that has done nothing
 abbrev pub fresh : KeySpecValue → WorkValue

@@ -11,7 +11,7 @@ use Rattle.heap_table.specs.Images.{ImageValue}
 use Rattle.builder_core.specs.CoreState.{BuildState, LiveState, WorkerState, IndexState, WorkState, CoreState, scanning_of, idle}
 use Rattle.builder_core.specs.ImagePairs.{HavePairs}
 use Rattle.builder_core.specs.Ranges.{next_page}
-use Rattle.builder_core.specs.Scanning.{Scanning, IsScanned, AreCopies, scanned_at, pairs_at_scan, scanned_pairs}
+use Rattle.builder_core.specs.Scanning.{IsScanned, AreCopies, scanned_at, pairs_at_scan, scanned_pairs}
 use Rattle.builder_core.specs.SideEntries.{side_entries}
 use Rattle.builder_core.specs.Steps.{refusal}
 use Rattle.builder_core.specs.declared.event.Event.{Event}

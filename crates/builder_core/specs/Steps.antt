@@ -7,7 +7,6 @@ use Rattle.keybytes.specs.Faults.{first_cause}
 use Rattle.keybytes.specs.Keys.{KeySpecValue}
 use Rattle.keybytes.specs.declared.kind.Kind.{Kind}
 use Rattle.keybytes.specs.declared.kind.Kind.TheVariants.{Int, Text, Flag}
-use Rattle.keybytes.specs.declared.rid.Rid.{Rid}
 use Rattle.keybytes.specs.declared.fault.Fault.{Fault}
 use Rattle.keybytes.specs.declared.fault.Fault.TheVariants.{BuildRunning, NoBuild, BadCount, BadColumn, BadRanges, RangeDone, RingFull, NotScanned, NotSealed, NotLoaded, Memory}
 use Rattle.heap_log.specs.declared.outcome.Outcome.{Outcome}

@@ -1,4 +1,4 @@
-use Rattle.std.proofs.Common.{◌≡◌, ◌∙◌, None, refl, subst}
+use Rattle.std.proofs.Common.{◌≡◌, None, subst}
 use Rattle.heap_table.specs.Calls.{Inserts}
 use Rattle.heap_table.specs.HeapState.{insert_refusal}
 use Rattle.builder_core.specs.CoreState.{CoreState}

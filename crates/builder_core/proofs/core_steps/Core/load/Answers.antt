@@ -1,11 +1,9 @@
-use Rattle.std.proofs.Common.{◌≡◌, ◌∙◌, ◌⊎◌, ℕ, Bool, true, false, List, [], length, Option, Some, None, refl, ap, sym, subst, inl, inr}
-use Rattle.std.specs.Prelude.{is_some, IsPermutation}
+use Rattle.std.proofs.Common.{◌≡◌, ◌∙◌, ◌⊎◌, true, List, length, Option, Some, None, refl, ap, sym, subst, inl, inr}
+use Rattle.std.specs.Prelude.{is_some}
 use Rattle.std.proofs.lemmas.Option.{same_Some}
 use Rattle.keybytes.specs.declared.pair.Pair.{Pair}
-use Rattle.heap_table.proofs.PairsAtRest.{InOrder}
 use Rattle.builder_core.specs.Builds.{WorkValue, WorksOn, MayLoad}
-use Rattle.builder_core.specs.CoreState.{BuildState, LiveState}
-use Rattle.builder_core.proofs.Refusals.{Running}
+use Rattle.builder_core.specs.CoreState.{LiveState}
 use Rattle.builder_core.proofs.Sealing.{running_with, fine_with, loaded_works}
 use Rattle.builder_core.proofs.core_steps.Core.load.Goals as goal
 

@@ -1,12 +1,11 @@
-use Rattle.std.proofs.Common.{rules, ◌≡◌, ◌∙◌, ◌+◌, ◌≤◌, ℕ, List, length, Option, Result, Ok, Err, Some, None, IfOk, OnOk, OnErr, refl, ap, sym, subst, arith}
+use Rattle.std.proofs.Common.{rules, ◌≡◌, ◌∙◌, ℕ, Option, Result, Ok, Err, Some, None, OnOk, OnErr, refl, sym, subst}
 use Rattle.keybytes.specs.declared.fault.Fault.{Fault}
 use Rattle.keybytes.specs.declared.fault.Fault.TheVariants.{Memory}
-use Rattle.heap_table.specs.HeapState.{HeapState}
 use Rattle.builder_core.specs.Builds.{WorkValue, WorksOn, HasSealed, MaySeal, core_state}
 use Rattle.builder_core.specs.CoreState.{BuildState, LiveState, CoreState}
 use Rattle.builder_core.specs.Steps.{Seals}
 use Rattle.builder_core.proofs.Refusals.{Running}
-use Rattle.builder_core.proofs.Sealing.{running_with, fine_with, sealed_works, spoiled_works, seals, spoils}
+use Rattle.builder_core.proofs.Sealing.{running_with, fine_with, sealed_works, spoiled_works, seals}
 use Rattle.builder_core.proofs.Working.{ring_pairs}
 use Rattle.builder_core.proofs.core_steps.Core.seal.Goals as goal
 

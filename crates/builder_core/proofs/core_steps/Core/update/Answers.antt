@@ -1,4 +1,4 @@
-use Rattle.std.proofs.Common.{◌≡◌, ◌∙◌, None, refl, subst}
+use Rattle.std.proofs.Common.{◌≡◌, None, subst}
 use Rattle.heap_table.specs.Calls.{Updates}
 use Rattle.heap_table.specs.HeapState.{update_refusal}
 use Rattle.builder_core.specs.CoreState.{CoreState}

@@ -1,4 +1,4 @@
-use Rattle.std.proofs.Common.{rules, ◌≡◌, length, arith}
+use Rattle.std.proofs.Common.{rules, arith}
 use Rattle.builder_core.proofs.Refusals.{is_running}
 use Rattle.builder_core.proofs.live.Live.check_load.Goals as goal
 

@@ -1,11 +1,8 @@
-use Rattle.std.proofs.Common.{◌≡◌, ◌≤◌, ◌<◌, ℕ, length, Some, None, rules, ap, sym, ◌∙◌, arith, subst}
-use Rattle.std.specs.Prelude.{Option, IfErr}
-use Rattle.keybytes.specs.declared.fault.Fault.{Fault}
-use Rattle.builder_core.specs.Builds.{WorkValue, work_state}
+use Rattle.std.proofs.Common.{◌≡◌, ◌≤◌, ◌<◌, length, Some, None, rules, arith}
+use Rattle.builder_core.specs.Builds.{WorkValue}
 use Rattle.builder_core.specs.CoreState.{BuildState}
 use Rattle.builder_core.specs.Ranges.{next_page}
-use Rattle.builder_core.specs.Steps.{refusal_of, scan_refusal}
-use Rattle.builder_core.proofs.Refusals.{Running, running, scan_bad_count, scan_spoiled, scan_done, scan_full, scan_free}
+use Rattle.builder_core.proofs.Refusals.{running, scan_bad_count, scan_full, scan_free}
 use Rattle.builder_core.proofs.live.Live.check_scan.Goals as goal
 
 pub returns-then-range-ne0-clause-refused : goal.returns-then-range-ne0-clause-refused

@@ -1,10 +1,10 @@
-use Rattle.std.proofs.Common.{◌≡◌, ◌∙◌, ◌<◌, ◌++◌, ◌∷◌, [], ℕ, List, length, Option, Some, None, ap, sym, subst}
+use Rattle.std.proofs.Common.{◌≡◌, ◌∙◌, ◌<◌, ◌++◌, ◌∷◌, [], ℕ, length, Option, Some, None, ap, sym, subst}
 use Rattle.std.specs.Prelude.{IfSome}
 use Rattle.keybytes.specs.declared.fault.Fault.{Fault}
 use Rattle.keybytes.specs.declared.fault.Fault.TheVariants.{NoBuild}
 use Rattle.heap_table.specs.HeapState.{HeapState}
 use Rattle.heap_table.specs.Pages.{pages_written}
-use Rattle.builder_core.specs.Builds.{WorkValue, IsBuildOf, IsWorkOn, IsWorkOf, BuildFollows, WorksOn, MayScan, after_put, work_state}
+use Rattle.builder_core.specs.Builds.{WorkValue, IsBuildOf, IsWorkOn, IsWorkOf, BuildFollows, WorksOn, MayScan, work_state}
 use Rattle.builder_core.specs.CoreState.{BuildState, LiveState, FollowTable}
 use Rattle.builder_core.specs.Ranges.{next_page}
 use Rattle.builder_core.specs.Steps.{refusal_of, scan_refusal}

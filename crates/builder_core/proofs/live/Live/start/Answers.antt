@@ -1,4 +1,4 @@
-use Rattle.std.proofs.Common.{◌≡◌, ◌∙◌, ◌+◌, ◌∷◌, [], ◌≤◌, ℕ, List, length, Some, None, refl, ap, sym, subst, arith}
+use Rattle.std.proofs.Common.{◌≡◌, ◌∙◌, ◌+◌, ◌∷◌, [], ◌≤◌, ℕ, List, length, Some, ap, sym, subst, arith}
 use Rattle.keybytes.specs.Keys.{KeySpecValue}
 use Rattle.heap_table.specs.Pages.{pages_written}
 use Rattle.builder_core.specs.Builds.{WorkValue, IsBuildOf, work_state}

@@ -1,4 +1,4 @@
-use Rattle.std.proofs.Common.{rules, ◌≡◌, ◌∙◌, ◌+◌, ◌++◌, ◌∷◌, [], ℕ, List, length, Option, Some, None, ap, sym, subst}
+use Rattle.std.proofs.Common.{rules, ◌≡◌, ◌∙◌, ◌+◌, ◌++◌, ◌∷◌, [], ℕ, List, length, None, ap, sym, subst}
 use Rattle.keybytes.proofs.ColumnOrder.{column_order}
 use Rattle.keybytes.specs.Keys.{KeySpecValue}
 use Rattle.keybytes.specs.Pairs.{HaveKeysOf, AreInColumnOrder}
@@ -8,8 +8,8 @@ use Rattle.heap_table.proofs.KeysAtRest.{keys_at_rest}
 use Rattle.heap_table.specs.HeapState.{HeapState, after_switch}
 use Rattle.heap_table.specs.Kept.{RowsFit}
 use Rattle.heap_table.specs.TablePairs.{index_pairs, pairs_at_rest}
-use Rattle.builder_core.specs.Builds.{WorkValue, BuildFollows, WorksOn, core_state, work_state}
-use Rattle.builder_core.specs.CoreState.{BuildState, LiveState, ReadyValue, FollowTable}
+use Rattle.builder_core.specs.Builds.{WorkValue, core_state, work_state}
+use Rattle.builder_core.specs.CoreState.{BuildState, LiveState, ReadyValue}
 use Rattle.builder_core.specs.Steps.{Switches, refusal_of, switch_refusal}
 use Rattle.builder_core.specs.contracts.live.Live.{the_view}
 use Rattle.builder_core.proofs.Following.{follow_more}

@@ -1,6 +1,5 @@
-use Rattle.std.proofs.Common.{◌≡◌, ◌∙◌, Bool, ℕ, length, Some, None, refl, ap, sym, arith, subst}
+use Rattle.std.proofs.Common.{◌≡◌, ◌∙◌, ℕ, length, Some, None, refl, ap, sym, arith}
 use Rattle.std.specs.Prelude.{nat_lt, if◌then◌else◌}
-use Rattle.builder_core.specs.CoreState.{BuildState}
 use Rattle.builder_core.specs.Ranges.{open_range}
 use Rattle.builder_core.specs.contracts.table_scan.TableScan.{the_view}
 use Rattle.builder_core.proofs.OneRange.{open_range_is}
