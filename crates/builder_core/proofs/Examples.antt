@@ -1,6 +1,6 @@
 -- The definitions computed at small values that a reader can check by hand.
 use Rattle.std.proofs.Common.{◌≡◌, ◌∙◌, ℕ, pos, negsuc, Bool, true, false, List, [], ◌∷◌, Option, Some, None, refl, sym, ap}
-use Rattle.std.specs.Prelude.{◌||◌}
+use Rattle.std.specs.Prelude.{◌||◌, ◌++◌, replicate}
 use Rattle.std.proofs.lemmas.Option.{same_Some}
 use Rattle.std.specs.Ordering.{eq_by_cmp}
 use Rattle.keybytes.specs.Keys.{KeySpecValue}
@@ -20,10 +20,11 @@ use Rattle.builder_core.specs.declared.reply.Reply.{Reply}
 use Rattle.builder_core.specs.declared.reply.Reply.TheVariants.{Scanned, Sealed, Loaded, Switched}
 use Rattle.keybytes.specs.Pairs.{pair_cmp}
 use Rattle.heap_table.specs.TablePairs.{pairs_at_rest}
-use Rattle.builder_core.specs.CoreState.{BuildState, WorkerState, WorkState, CoreState}
+use Rattle.builder_core.specs.CoreState.{BuildState, WorkerState, WorkState, CoreState, scanning_of}
+use Rattle.builder_core.specs.Scanning.{scanned_pairs}
 use Rattle.builder_core.specs.Ranges.{dealt_ends, range_pages, next_page, open_range}
 use Rattle.builder_core.specs.Steps.{refusal, Does, AfterMemory}
-use Rattle.builder_core.specs.Workers.{waiting, loud_worker}
+use Rattle.builder_core.specs.Workers.{waiting, fill_runs, loud_worker}
 use Rattle.builder_core.specs.declared.scan.Scan.{Scan as Copied}
 use Rattle.keybytes.proofs.PairSets.{is_in, items_are}
 
@@ -100,16 +101,25 @@ open_delete = items_are [] [] tt (λ q. refl)
 abbrev copied : ℕ → ℕ → Copied
 copied worker page = record { worker = worker; page = page; records = 6 }
 
--- a build that started behind these rows, of so many pages in ranges that end there
-abbrev the_build : ℕ → List ℕ → List Copied → BuildState
-the_build pages ends scans = record { number = 1; specs = on_number ∷ []; opened = 6; pages = pages; ends = ends; scans = scans }
+-- a build that started behind these rows, of so many pages in ranges that end there, by so many workers
+abbrev the_build : ℕ → List ℕ → ℕ → List Copied → BuildState
+the_build pages ends workers scans = record {
+  number = 1;
+  specs = on_number ∷ [];
+  opened = 6;
+  pages = pages;
+  ends = ends;
+  workers = workers;
+  scans = scans;
+  fed = 0 ∷ [];
+}
 
 -- a worker that sealed so many of the copies that it took
 abbrev worker_with : ℕ → ℕ → WorkerState
 worker_with taken sealed = record { taken = taken; sealed = sealed }
 
 abbrev work_of : List WorkerState → Bool → Option Fault → WorkState
-work_of workers loaded spoiled = record { workers = workers; indexes = record { loaded = loaded; fed = 0; applied = 0 } ∷ []; spoiled = spoiled }
+work_of workers loaded spoiled = record { workers = workers; indexes = record { loaded = loaded; applied = 0 } ∷ []; spoiled = spoiled }
 
 -- these rows while one worker builds over one range, and took so many copies
 abbrev while_built : ℕ → List Copied → ℕ → Bool → Option Fault → CoreState
@@ -118,7 +128,7 @@ while_built pages scans taken loaded spoiled = record {
     heap = record { schema = Int ∷ []; slot_limit = 2; page_limit = 8; log = three_rows; active = []; begun = 3; visits = 0 };
     ready = [];
     builds = 1;
-    build = Some (the_build pages (pages ∷ []) scans);
+    build = Some (the_build pages (pages ∷ []) 1 scans);
   };
   work = work_of (worker_with taken taken ∷ []) loaded spoiled;
 }
@@ -178,7 +188,7 @@ second_range = refl
 
 -- a range a page, and two workers; worker 1 copied page 0
 abbrev of_two : BuildState
-of_two = the_build 2 (1 ∷ 2 ∷ []) (copied 1 0 ∷ [])
+of_two = the_build 2 (1 ∷ 2 ∷ []) 2 (copied 1 0 ∷ [])
 
 -- worker 1 took so many copies, and sealed so many of these; worker 0 has none
 abbrev by_two : ℕ → ℕ → WorkState
@@ -193,7 +203,7 @@ page_left = refl
 range_left : open_range of_two ≡ Some 1
 range_left = refl
 
-no_range_left : open_range (the_build 2 (1 ∷ 2 ∷ []) (copied 1 0 ∷ copied 0 1 ∷ [])) ≡ None
+no_range_left : open_range (the_build 2 (1 ∷ 2 ∷ []) 2 (copied 1 0 ∷ copied 0 1 ∷ [])) ≡ None
 no_range_left = refl
 
 none_waits : waiting of_two (by_two 0 0) 0 ≡ 0
@@ -212,3 +222,44 @@ unsealed = refl
 
 all_quiet : loud_worker of_two three_rows (by_two 1 1) ≡ None
 all_quiet = refl
+
+-- runs close at 4,096 pairs
+short_run : fill_runs (replicate 4095 (pair five 0 0)) ≡ false
+short_run = refl
+
+whole_run : fill_runs (replicate 4096 (pair five 0 0)) ≡ true
+whole_run = refl
+
+-- a table without pages, three empty ranges, four workers: nothing is left to copy, and everybody is quiet
+abbrev of_nothing : BuildState
+of_nothing = record (the_build 0 (0 ∷ 0 ∷ 0 ∷ []) 4 []) { opened = 0 }
+
+nothing_left : open_range of_nothing ≡ None
+nothing_left = refl
+
+nobody_loud : loud_worker of_nothing [] (work_of (replicate 4 (worker_with 0 0)) false None) ≡ None
+nobody_loud = refl
+
+nothing_copied : scanned_pairs (scanning_of of_nothing on_number) [] ≡ []
+nothing_copied = refl
+
+-- five pages, four of them copied: the ring is full until the worker takes one; with the fifth, four wait again
+abbrev four_copied : List Copied
+four_copied = copied 0 0 ∷ copied 0 1 ∷ copied 0 2 ∷ copied 0 3 ∷ []
+
+room_again : refusal (while_built 5 four_copied 1 false None) (Scan 0 0) ≡ None
+room_again = refl
+
+fifth_waits : loud_worker (the_build 5 (5 ∷ []) 1 (four_copied ++ copied 0 4 ∷ [])) three_rows (work_of (worker_with 1 0 ∷ []) false None) ≡ Some 0
+fifth_waits = refl
+
+-- that no page is left is asked before whether the ring is full
+done_before_full : refusal (while_built 4 four_copied 0 false None) (Scan 0 0) ≡ Some RangeDone
+done_before_full = refl
+
+-- a load asks for its number, then for the fault, then for the pages, then for the copies
+load_counts_first : refusal (while_built 2 (copied 0 0 ∷ []) 0 false (Some Memory)) (Load 1) ≡ Some BadCount
+load_counts_first = refl
+
+load_fault_next : refusal (while_built 2 (copied 0 0 ∷ []) 0 false (Some Memory)) (Load 0) ≡ Some Memory
+load_fault_next = refl

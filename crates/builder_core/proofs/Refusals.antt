@@ -5,12 +5,13 @@ use Rattle.std.specs.List.{list_all}
 use Rattle.std.proofs.lemmas.Bool.{or_left, or_right, le-leb, lt-leb, eq-eqb, ne_eqb}
 use Rattle.keybytes.specs.declared.fault.Fault.{Fault}
 use Rattle.keybytes.specs.declared.fault.Fault.TheVariants.{BadCount, RangeDone, RingFull, NotScanned, NotSealed, NotLoaded}
+use Rattle.keybytes.specs.Faults.{first_cause}
 use Rattle.keybytes.specs.Keys.{KeySpecValue}
 use Rattle.builder_core.specs.Builds.{WorkValue, work_state, core_state, worker_state, IsBuildOf, IsWorkOn, IsWorkOf, BuildFollows, WorksOn, IsRunning}
 use Rattle.builder_core.specs.CoreState.{BuildState, LiveState, scanning_of}
 use Rattle.builder_core.specs.Ranges.{next_page, open_range}
 use Rattle.builder_core.specs.Scanning.{pairs_at_scan}
-use Rattle.builder_core.specs.Steps.{refusal_of, scan_refusal, seal_refusal, load_refusal, switch_refusal}
+use Rattle.builder_core.specs.Steps.{cause_if, refusal_of, scan_refusal, seal_refusal, load_refusal, switch_refusal}
 use Rattle.builder_core.specs.Workers.{put_to, waiting, fill_runs, unsealed_pairs, loud_worker}
 use Rattle.builder_core.specs.declared.scan.Scan.{Scan}
 
@@ -77,21 +78,24 @@ module _ (live : LiveState) (work : Option WorkValue) (b : BuildState) (w : Work
   one_end : length b.ends ≡ 1
   one_end = ap length run.follows.one_range
 
+  worker_gone : (worker : ℕ) → (worker ≡ 0 → ⊥) → nat_le b.workers worker ≡ true
+  worker_gone worker other = ap (λ n. nat_le n worker) run.follows.one_worker ∙ le-leb 1 worker (above worker other)
+
   abbrev scan_cause : ℕ → ℕ → Option Fault
   scan_cause range worker = refusal_of live.build (λ b. scan_refusal b (work_state work) range worker)
 
   scan_is : (range worker : ℕ) → scan_cause range worker ≡ scan_refusal b (work_state (Some w)) range worker
   scan_is range worker = rw (run.build_is, run.work_is) refl
 
-  bad_counts : (range worker : ℕ) → (range ≡ 0 → ⊥) ⊎ ((range ≡ 0) × (worker ≡ 0 → ⊥)) → (nat_le (length b.ends) range || nat_le 1 worker) ≡ true
+  bad_counts : (range worker : ℕ) → (range ≡ 0 → ⊥) ⊎ ((range ≡ 0) × (worker ≡ 0 → ⊥)) → (nat_le (length b.ends) range || nat_le b.workers worker) ≡ true
   bad_counts range worker (inl other) =
       let low : length b.ends ≤ range = let one = one_end in let more : 0 < range = above range other in omega (arith, one, more) in
-      or_left (nat_le (length b.ends) range) (nat_le 1 worker) (le-leb (length b.ends) range low)
+      or_left (nat_le (length b.ends) range) (nat_le b.workers worker) (le-leb (length b.ends) range low)
   bad_counts range worker (inr other) =
-      or_right (nat_le (length b.ends) range) (nat_le 1 worker) (le-leb 1 worker (above worker other.1))
+      or_right (nat_le (length b.ends) range) (nat_le b.workers worker) (worker_gone worker other.1)
 
-  fit_counts : (nat_le (length b.ends) 0 || nat_le 1 0) ≡ false
-  fit_counts = ap (λ n. nat_le n 0 || nat_le 1 0) one_end
+  fit_counts : (nat_le (length b.ends) 0 || nat_le b.workers 0) ≡ false
+  fit_counts = ap (λ n. nat_le n 0 || nat_le b.workers 0) one_end ∙ ap (λ n. nat_le n 0) run.follows.one_worker
 
   pub scan_bad_count : (range worker : ℕ) → (range ≡ 0 → ⊥) ⊎ ((range ≡ 0) × (worker ≡ 0 → ⊥)) → scan_cause range worker ≡ Some BadCount
   scan_bad_count range worker other = scan_is range worker ∙ rw (bad_counts range worker other) refl
@@ -154,29 +158,32 @@ module _ (live : LiveState) (work : Option WorkValue) (b : BuildState) (w : Work
       let all = put_is in
       rw (ne_eqb w.worker.taken (length (put_to b 0)) (λ same. omega (arith, put, all, some, same))) refl
 
+  one_spec : nat_le (length b.specs) 0 ≡ false
+  one_spec = ap (λ (specs : List KeySpecValue). nat_le (length specs) 0) run.works.specs
+
   pub load_bad_count : (index : ℕ) → (index ≡ 0 → ⊥) → load_cause index ≡ Some BadCount
-  load_bad_count index other = load_is index ∙ rw (le-leb 1 index (above index other)) refl
+  load_bad_count index other = load_is index ∙ rw (ap (λ (specs : List KeySpecValue). nat_le (length specs) index) run.works.specs ∙ le-leb 1 index (above index other)) refl
 
   pub load_spoiled : (fault : Fault) → w.spoiled ≡ Some fault → load_cause 0 ≡ Some fault
-  load_spoiled fault spoiled = load_is 0 ∙ rw spoiled refl
+  load_spoiled fault spoiled = load_is 0 ∙ rw (one_spec, spoiled) refl
 
   pub load_open : w.spoiled ≡ None → open_range b ≡ Some 0 → load_cause 0 ≡ Some (NotScanned 0)
-  load_open fine left = load_is 0 ∙ rw (fine, left) refl
+  load_open fine left = load_is 0 ∙ rw (one_spec, fine, left) refl
 
   pub load_loud : w.spoiled ≡ None → open_range b ≡ None → 0 < length w.worker.ring → load_cause 0 ≡ Some (NotSealed 0)
-  load_loud fine all some = load_is 0 ∙ rw (fine, all, loud some) refl
+  load_loud fine all some = load_is 0 ∙ rw (one_spec, fine, all, loud some) refl
 
   pub load_free : w.spoiled ≡ None → open_range b ≡ None → length w.worker.ring ≡ 0 → load_cause 0 ≡ None
-  load_free fine all none = load_is 0 ∙ rw (fine, all, quiet none) refl
+  load_free fine all none = load_is 0 ∙ rw (one_spec, fine, all, quiet none) refl
 
   abbrev seal_cause : ℕ → Option Fault
-  seal_cause worker = refusal_of live.build (λ b. seal_refusal (work_state work) worker)
+  seal_cause worker = refusal_of live.build (λ b. seal_refusal b (work_state work) worker)
 
-  seal_is : (worker : ℕ) → seal_cause worker ≡ seal_refusal (work_state (Some w)) worker
+  seal_is : (worker : ℕ) → seal_cause worker ≡ seal_refusal b (work_state (Some w)) worker
   seal_is worker = rw (run.build_is, run.work_is) refl
 
   pub seal_bad_count : (worker : ℕ) → (worker ≡ 0 → ⊥) → seal_cause worker ≡ Some BadCount
-  seal_bad_count worker other = seal_is worker ∙ rw (le-leb 1 worker (above worker other)) refl
+  seal_bad_count worker other = seal_is worker ∙ rw (worker_gone worker other) refl
 
   pub seal_zero : seal_cause 0 ≡ w.spoiled
-  seal_zero = seal_is 0
+  seal_zero = seal_is 0 ∙ ap (λ n. first_cause (cause_if (nat_le n 0) BadCount) w.spoiled) run.follows.one_worker

@@ -36,3 +36,47 @@ what_was_noted :
     side_entries the_build the_log
     ≡ delete (pair five 0 0) ∷ insert (pair three 0 0) ∷ insert (pair five 2 0) ∷ delete (pair five 2 0) ∷ insert (pair three 1 0) ∷ []
 what_was_noted = refl
+
+-- the key of a small number
+abbrev key : ℕ → List ℕ
+key n = 1 ∷ 0x80 ∷ 0 ∷ 0 ∷ 0 ∷ 0 ∷ 0 ∷ 0 ∷ n ∷ []
+
+-- a row put in ahead of the scan, copied with its page, and rolled back behind the scan: its own inverse, and nothing else
+abbrev rolled_back : List LogRec
+rolled_back =
+    put 1 0 0 10 ∷ Commit 1 ∷ put 2 0 1 20 ∷ Commit 2 ∷ put 3 1 0 30 ∷ Commit 3
+    ∷ put 4 1 1 40 ∷ Undo 4 7 ∷ []
+
+abbrev around_a_scan : Scanning
+around_a_scan = record {
+  spec = on_number;
+  opened = 6;
+  pages = 2;
+  scans = record { worker = 0; page = 0; records = 6 } ∷ record { worker = 0; page = 1; records = 7 } ∷ [];
+}
+
+its_inverse : side_entries around_a_scan rolled_back ≡ delete (pair (key 40) 1 1) ∷ []
+its_inverse = refl
+
+its_pairs : scanned_pairs around_a_scan rolled_back ≡ pair (key 10) 0 0 ∷ pair (key 20) 0 1 ∷ pair (key 30) 1 0 ∷ pair (key 40) 1 1 ∷ []
+its_pairs = refl
+
+-- two updates behind the scan, rolled back one before and one behind the scan of another page
+abbrev two_updates : List LogRec
+two_updates =
+    put 1 0 0 1 ∷ Commit 1 ∷ put 2 1 0 8 ∷ Commit 2
+    ∷ put 3 0 0 2 ∷ put 3 0 0 3 ∷ Undo 3 6 ∷ Undo 3 5 ∷ []
+
+abbrev another_page : Scanning
+another_page = record {
+  spec = on_number;
+  opened = 4;
+  pages = 2;
+  scans = record { worker = 0; page = 0; records = 4 } ∷ record { worker = 0; page = 1; records = 7 } ∷ [];
+}
+
+each_step :
+    side_entries another_page two_updates
+    ≡ delete (pair (key 1) 0 0) ∷ insert (pair (key 2) 0 0) ∷ delete (pair (key 2) 0 0) ∷ insert (pair (key 3) 0 0)
+    ∷ delete (pair (key 3) 0 0) ∷ insert (pair (key 2) 0 0) ∷ delete (pair (key 2) 0 0) ∷ insert (pair (key 1) 0 0) ∷ []
+each_step = refl

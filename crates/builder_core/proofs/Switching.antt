@@ -33,9 +33,9 @@ goes_same old new is = ([], is ∙ sym (append-nil old))
 goes_on : (old mid new : List LogRec) → GoesOn old mid → GoesOn mid new → GoesOn old new
 goes_on old mid new first next = (first.0 ++ next.0, next.1 ∙ ap (λ l. l ++ next.0) first.1 ∙ append_assoc old first.0 next.0)
 
-on_build : (o : Option BuildState) (P : BuildState → Type 0) → OnBuild o P → (b : BuildState) × P b
+on_build : (o : Option BuildState) (P : BuildState → Type 0) → OnBuild o P → (b : BuildState) × P b × (o ≡ Some b)
 on_build None P holds = absurd holds
-on_build (Some b) P holds = (b, holds)
+on_build (Some b) P holds = (b, holds, refl)
 
 undo_goes_on : (heap : HeapState) (txn : ℕ) (newest : Option ℕ) → GoesOn heap.log (after_step heap txn newest).log
 undo_goes_on heap txn None = goes_same heap.log heap.log refl
@@ -94,6 +94,7 @@ run_goes_on s (event ∷ events) (reply ∷ replies) end run =
 -- what a switch did that decided
 pub record Switched_in (s : CoreState) (number : ℕ) (verdicts : List Outcome) (new : CoreState) : Type 0 where
   pub build : BuildState
+  pub running : s.live.build ≡ Some build
   pub number_is : number ≡ length s.live.heap.log + 1
   pub verdicts_are : verdicts ≡ verdicts_on s.live build
   pub new_is : new.live ≡ after_switch_in s.live build
@@ -117,6 +118,7 @@ does_switch s Switch number verdicts new does =
     let verdicts_told : verdicts ≡ told.1 = cc in
     record {
       build = on.0;
+      running = on.2;
       number_is = number_told ∙ on.1.0;
       verdicts_are = verdicts_told ∙ on.1.1;
       new_is = ap (λ (t : CoreState). t.live) on.1.2;
@@ -137,11 +139,18 @@ ready_at first (suc count) (suc i) k at =
     let rest = ready_at (first + 1) count i k at in
     (omega (arith, rest.0), omega (arith, rest.1))
 
+-- as many verdicts as indexes
+count_ready : (first count : ℕ) → length (ready_from first count) ≡ count
+count_ready first zero = refl
+count_ready first (suc count) = ap suc (count_ready (first + 1) count)
+
 -- and the indexes behind those that were ready
-index_at : (log : List LogRec) (specs : List KeySpecValue) (i : ℕ) → i < length specs → (spec : KeySpecValue) × (slice_get (map (index_now log) specs) i ≡ Some (index_now log spec))
-index_at log [] i less = absurd (omega arith)
-index_at log (spec ∷ specs) zero less = (spec, refl)
-index_at log (spec ∷ specs) (suc i) less = index_at log specs i (omega arith)
+index_at :
+    (log : List LogRec) (specs : List KeySpecValue) (i : ℕ) (spec : KeySpecValue) → slice_get specs i ≡ Some spec
+    → slice_get (map (index_now log) specs) i ≡ Some (index_now log spec)
+index_at log [] i spec at = absurd (let bad : None ≡ Some spec = at in cc)
+index_at log (x ∷ specs) zero spec at = ap (λ s. Some (index_now log s)) (same_Some x spec at)
+index_at log (x ∷ specs) (suc i) spec at = index_at log specs i spec at
 
 behind : (ready more : List ReadyValue) (i : ℕ) → slice_get (ready ++ more) (length ready + i) ≡ slice_get more i
 behind [] more i = ap (slice_get more) (zero-add i)
@@ -163,19 +172,24 @@ module _ (s : CoreState) (number : ℕ) (verdicts : List Outcome) (new end : Cor
   beginning_is =
       sym (ap (λ n. take n end.live.heap.log) (sym length_is) ∙ ap (take (length new.live.heap.log)) goes.1 ∙ take-append_seam new.live.heap.log goes.0)
 
-  ready_is : (i k : ℕ) → slice_get verdicts i ≡ Some (Ready k) → HasPairsAtRest (first_records number end.live.heap.log) new.live.ready k
-  ready_is i k at =
+  each_is : length verdicts ≡ length switch.build.specs
+  each_is = ap length switch.verdicts_are ∙ count_ready (length s.live.ready) (length switch.build.specs)
+
+  ready_is :
+      (i k : ℕ) (spec : KeySpecValue) → slice_get verdicts i ≡ Some (Ready k) → slice_get switch.build.specs i ≡ Some spec
+      → HasPairsAtRest (first_records number end.live.heap.log) new.live.ready spec k
+  ready_is i k spec at of =
       let log : List LogRec = s.live.heap.log in
       let which = ready_at (length s.live.ready) (length switch.build.specs) i k (ap (λ vs. slice_get vs i) (sym switch.verdicts_are) ∙ at) in
-      let index = index_at log switch.build.specs i which.0 in
-      let kept : pairs_at_rest index.0 new.live.heap.log ≡ pairs_at_rest index.0 log =
-      ap (pairs_at_rest index.0) log_is ∙ pairs_kept index.0 log (log ++ noted ∷ []) (λ rid. live_kept log noted rid refl) in
+      let kept : pairs_at_rest spec new.live.heap.log ≡ pairs_at_rest spec log =
+      ap (pairs_at_rest spec) log_is ∙ pairs_kept spec log (log ++ noted ∷ []) (λ rid. live_kept log noted rid refl) in
       record {
-        index = index_now log index.0;
+        index = index_now log spec;
         there = ap (λ (live : LiveState). slice_get live.ready k) switch.new_is
             ∙ ap (slice_get (s.live.ready ++ map (index_now log) switch.build.specs)) which.1
-            ∙ behind s.live.ready (map (index_now log) switch.build.specs) i ∙ index.1;
-        at_rest = sym kept ∙ ap (pairs_at_rest index.0) beginning_is;
+            ∙ behind s.live.ready (map (index_now log) switch.build.specs) i ∙ index_at log switch.build.specs i spec of;
+        of_spec = refl;
+        at_rest = sym kept ∙ ap (pairs_at_rest spec) beginning_is;
       }
 
 -- the headline, of every run
@@ -189,18 +203,28 @@ each_switch start end (event ∷ events) (reply ∷ replies) run zero number ver
     let switch = switches start event number verdicts run.0 step in
     let goes = run_goes_on run.0 events replies end run.2 in
     record {
+      found = start;
       left = run.0;
-      before = (run.0, run.1, refl);
+      before = refl;
+      decided = (run.0, run.1, refl);
       after = run.2;
       beginning = beginning_is start number verdicts run.0 end switch goes;
+      build = switch.build;
+      running = switch.running;
+      each = each_is start number verdicts run.0 end switch goes;
       ready = ready_is start number verdicts run.0 end switch goes;
     }
 each_switch start end (event ∷ events) (reply ∷ replies) run (suc place) number verdicts at =
     let rest = each_switch run.0 end events replies run.2 place number verdicts at in
     record {
+      found = rest.found;
       left = rest.left;
       before = (run.0, run.1, rest.before);
+      decided = (run.0, run.1, rest.decided);
       after = rest.after;
       beginning = rest.beginning;
+      build = rest.build;
+      running = rest.running;
+      each = rest.each;
       ready = rest.ready;
     }

@@ -15,7 +15,7 @@ use Rattle.heap_log.specs.declared.record.LogRec.TheVariants.{Commit}
 use Rattle.heap_table.specs.Images.{ImageValue, IsImage}
 use Rattle.heap_table.specs.Pages.{pages_written}
 use Rattle.heap_table.specs.TablePairs.{pairs_at_rest}
-use Rattle.builder_core.specs.Builds.{WorkValue, ScansInTurn, IsBuildOf, IsWorkOn, IsWorkOf, BuildFollows, after_put}
+use Rattle.builder_core.specs.Builds.{WorkValue, ScansInTurn, IsBuildOf, IsWorkOn, IsWorkOf, BuildFollows, after_put, build_of_one}
 use Rattle.builder_core.specs.CoreState.{BuildState, scanning_of}
 use Rattle.builder_core.specs.Ranges.{next_page}
 use Rattle.builder_core.specs.Scanning.{Scanning, IsScanOf, AllScanned, scanned_at, scanned_pairs}
@@ -40,11 +40,12 @@ none_in_turn pages limit = record {
 -- a build of that index starts
 pub started_build :
     (kinds : List Kind) (log : List LogRec) (number : ℕ) (spec : KeySpecValue) → spec.kinds ≡ kinds → pages_written log ≤ 65536
-    → IsBuildOf kinds log (record { number = number; specs = spec ∷ []; opened = length log; pages = pages_written log; ends = pages_written log ∷ []; scans = [] })
+    → IsBuildOf kinds log (build_of_one number spec (length log) (pages_written log) [])
 started_build kinds log number spec columns limit = record {
   spec = spec;
   one_index = refl;
   one_range = refl;
+  one_worker = refl;
   columns = columns;
   in_turn = none_in_turn (pages_written log) limit;
   scanned = opened_scanned spec log;
@@ -103,6 +104,7 @@ scanned_build kinds log b is more = record {
   spec = is.spec;
   one_index = is.one_index;
   one_range = is.one_range;
+  one_worker = is.one_worker;
   columns = is.columns;
   in_turn = turn_more b.pages b.scans (length log) is.in_turn more;
   scanned = scan_scanned (scanning_of b is.spec) 0 (length b.scans) log is.scanned more (not_scanned b.pages b.scans is.in_turn);
@@ -115,6 +117,7 @@ commit_kept kinds log txn b is = record {
   spec = is.spec;
   one_index = is.one_index;
   one_range = is.one_range;
+  one_worker = is.one_worker;
   columns = is.columns;
   in_turn = is.in_turn;
   scanned = more_scanned (scanning_of b is.spec) log (Commit txn) is.scanned;

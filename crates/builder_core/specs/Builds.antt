@@ -36,7 +36,7 @@ abbrev pub worker_state : WorkerValue → WorkerState
 worker_state worker = record { taken = worker.taken; sealed = worker.taken }
 
 abbrev pub index_state : Option (List Pair) → IndexState
-index_state tree = record { loaded = is_some tree; fed = 0; applied = 0 }
+index_state tree = record { loaded = is_some tree; applied = 0 }
 
 -- what callers see of the work
 abbrev pub work_state : Option WorkValue → WorkState
@@ -65,6 +65,19 @@ pub record HasSealed (spec : KeySpecValue) (old new : WorkerValue) : Type 0 wher
   pub taken : new.taken ≡ old.taken + length old.ring
   pub pairs : (made : List Pair) → HavePairs spec old.ring made → new.pairs ≡ old.pairs ++ made
 
+-- a build of one index, by one worker over one range
+abbrev pub build_of_one : ℕ → KeySpecValue → ℕ → ℕ → List Scan → BuildState
+build_of_one number spec opened pages scans = record {
+  number = number;
+  specs = spec ∷ [];
+  opened = opened;
+  pages = pages;
+  ends = pages ∷ [];
+  workers = 1;
+  scans = scans;
+  fed = 0 ∷ [];
+}
+
 -- one worker copies the pages of one range in their order
 pub record ScansInTurn (pages : ℕ) (scans : List Scan) : Type 0 where
   pub limit : pages ≤ 65536
@@ -77,6 +90,7 @@ pub record IsBuildOf (kinds : List Kind) (log : List LogRec) (b : BuildState) : 
   pub spec : KeySpecValue
   pub one_index : b.specs ≡ spec ∷ []
   pub one_range : b.ends ≡ b.pages ∷ []
+  pub one_worker : b.workers ≡ 1
   pub columns : spec.kinds ≡ kinds
   pub in_turn : ScansInTurn b.pages b.scans
   pub scanned : IsScanned (scanning_of b spec) log

@@ -33,8 +33,13 @@ pub record BuildState : Type 0 where
   pub pages : ℕ
   -- the page behind each of its ranges
   pub ends : List ℕ
+  -- how many workers it has
+  pub workers : ℕ
   -- the pages that were copied since, in that order
   pub scans : List Scan
+  -- how many entries of each index's side-file were handed on to its tree. No row changes during a build as yet, so there
+  -- is no entry, and none is
+  pub fed : List ℕ
 
 -- what a build has read of the table, for one of its indexes
 abbrev pub scanning_of : BuildState → KeySpecValue → Scanning
@@ -52,11 +57,9 @@ pub record WorkerState : Type 0 where
   pub taken : ℕ
   pub sealed : ℕ
 
--- an index of the build: whether its pairs are in order, how many entries of its side-file were fed to it since, and how
--- many of them it applied. No row changes during a build as yet, so there is no entry and both are 0
+-- an index of the build: whether its pairs are in order, and how many entries of its side-file it applied since: none as yet
 pub record IndexState : Type 0 where
   pub loaded : Bool
-  pub fed : ℕ
   pub applied : ℕ
 
 -- what the workers of a build have done, and why it can't go on

@@ -1,6 +1,7 @@
 -- The headline: each index as it is switched in has the pairs of the rows then live, as a build at rest gives them.
-use Rattle.std.specs.Prelude.{◌≡◌, ℕ, suc, List, take, drop, Some}
+use Rattle.std.specs.Prelude.{◌≡◌, ℕ, suc, List, length, take, drop, Some}
 use Rattle.std.specs.List.{slice_get}
+use Rattle.keybytes.specs.Keys.{KeySpecValue}
 use Rattle.heap_log.specs.Growing.{first_records}
 use Rattle.heap_log.specs.declared.outcome.Outcome.{Outcome}
 use Rattle.heap_log.specs.declared.outcome.Outcome.TheVariants.{Ready}
@@ -9,26 +10,34 @@ use Rattle.heap_table.specs.TablePairs.{pairs_at_rest}
 use Rattle.builder_core.specs.declared.event.Event.{Event}
 use Rattle.builder_core.specs.declared.reply.Reply.{Reply}
 use Rattle.builder_core.specs.declared.reply.Reply.TheVariants.{Switched}
-use Rattle.builder_core.specs.CoreState.{CoreState, LiveState, ReadyValue, opening, abandoned}
+use Rattle.builder_core.specs.CoreState.{CoreState, LiveState, BuildState, ReadyValue, opening, abandoned}
 use Rattle.builder_core.specs.Steps.{Run}
 
--- an index that a switch made ready under that number has the pairs at rest of the rows of that log
-pub record HasPairsAtRest (log : List LogRec) (ready : List ReadyValue) (number : ℕ) : Type 0 where
+-- the index that a switch made ready under that number is of that specification, and has the pairs at rest of the rows of that log
+pub record HasPairsAtRest (log : List LogRec) (ready : List ReadyValue) (spec : KeySpecValue) (number : ℕ) : Type 0 where
   pub index : ReadyValue
   pub there : slice_get ready number ≡ Some index
-  pub at_rest : index.pairs ≡ pairs_at_rest index.spec log
+  pub of_spec : index.spec ≡ spec
+  pub at_rest : index.pairs ≡ pairs_at_rest spec log
 
 -- the switch that was answered in that place of the list of events, with the number of its log record and its verdicts, on a
 -- run that ends in that state
 pub record SwitchesIn (start end : CoreState) (events : List Event) (replies : List Reply) (place number : ℕ) (verdicts : List Outcome) : Type 0 where
-  -- the state that the switch left, on the way
+  -- the states that the switch found and left, on the way
+  pub found : CoreState
   pub left : CoreState
-  pub before : Run start (take (suc place) events) (take (suc place) replies) left
+  pub before : Run start (take place events) (take place replies) found
+  pub decided : Run start (take (suc place) events) (take (suc place) replies) left
   pub after : Run left (drop (suc place) events) (drop (suc place) replies) end
   -- its log is the beginning of the final one that ends with the switch
   pub beginning : left.live.heap.log ≡ first_records number end.live.heap.log
+  -- the build that ran, with a verdict on each of its indexes
+  pub build : BuildState
+  pub running : found.live.build ≡ Some build
+  pub each : length verdicts ≡ length build.specs
   -- and each index that it made ready has the pairs of the rows that this beginning leaves
-  pub ready : (i k : ℕ) → slice_get verdicts i ≡ Some (Ready k) → HasPairsAtRest (first_records number end.live.heap.log) left.live.ready k
+  pub ready : (i k : ℕ) (spec : KeySpecValue) → slice_get verdicts i ≡ Some (Ready k) → slice_get build.specs i ≡ Some spec
+      → HasPairsAtRest (first_records number end.live.heap.log) left.live.ready spec k
 
 -- so does every switch of the run that decided
 abbrev pub EachSwitchIsAtRest : CoreState → CoreState → List Event → List Reply → Type 0

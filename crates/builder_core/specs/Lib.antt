@@ -2,6 +2,7 @@ pub mod Builds
 pub mod CoreState
 pub mod Headline
 pub mod ImagePairs
+pub mod Invariant
 pub mod Ranges
 pub mod Scanning
 pub mod SideEntries

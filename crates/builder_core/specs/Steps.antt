@@ -104,14 +104,16 @@ started live plan = record {
   opened = length live.heap.log;
   pages = pages_written live.heap.log;
   ends = dealt_ends (pages_written live.heap.log) plan.dealing;
+  workers = plan.workers;
   scans = [];
+  fed = map (λ spec. 0) plan.specs.items;
 }
 
 -- its workers and indexes, before any work
 abbrev pub fresh_work : Plan → WorkState
 fresh_work plan = record {
   workers = replicate plan.workers (record { taken = 0; sealed = 0 });
-  indexes = map (λ spec. record { loaded = false; fed = 0; applied = 0 }) plan.specs.items;
+  indexes = map (λ spec. record { loaded = false; applied = 0 }) plan.specs.items;
   spoiled = None;
 }
 
@@ -140,10 +142,14 @@ OnBuild (Some b) P = P b
 abbrev pub range_refusal : Option ℕ → Option Fault
 range_refusal page = if is_none page then Some RangeDone else None
 
+-- a range or a worker that isn't there
+abbrev pub counts_refusal : BuildState → ℕ → ℕ → Option Fault
+counts_refusal b range worker = cause_if (nat_le (length b.ends) range || nat_le b.workers worker) BadCount
+
 -- why no page of the range is copied for the worker
 abbrev pub scan_refusal : BuildState → WorkState → ℕ → ℕ → Option Fault
 scan_refusal b work range worker =
-    first_cause (cause_if (nat_le (length b.ends) range || nat_le (length work.workers) worker) BadCount)
+    first_cause (counts_refusal b range worker)
     (first_cause work.spoiled
     (first_cause (range_refusal (next_page b range)) (cause_if (nat_le 4 (waiting b work worker)) RingFull)))
 
@@ -160,8 +166,8 @@ Scans range worker s page new =
     OnBuild s.live.build (λ b. (next_page b range ≡ Some page) × (new ≡ with_live s (after_scan s.live b worker page)))
 
 -- why a worker makes no pairs
-abbrev pub seal_refusal : WorkState → ℕ → Option Fault
-seal_refusal work worker = first_cause (cause_if (nat_le (length work.workers) worker) BadCount) work.spoiled
+abbrev pub seal_refusal : BuildState → WorkState → ℕ → Option Fault
+seal_refusal b work worker = first_cause (cause_if (nat_le b.workers worker) BadCount) work.spoiled
 
 -- the worker took all that was put to it, and sealed
 abbrev pub after_seal : BuildState → WorkState → ℕ → WorkState
@@ -176,12 +182,12 @@ Seals worker s images new =
 -- why no pairs are put in order
 abbrev pub load_refusal : BuildState → CoreState → ℕ → Option Fault
 load_refusal b s index =
-    first_cause (cause_if (nat_le (length s.work.indexes) index) BadCount)
+    first_cause (cause_if (nat_le (length b.specs) index) BadCount)
     (first_cause s.work.spoiled
     (first_cause (option_map NotScanned (open_range b)) (option_map NotSealed (loud_worker b s.live.heap.log s.work))))
 
 abbrev pub index_at : WorkState → ℕ → IndexState
-index_at work index = get_or work.indexes index (record { loaded = false; fed = 0; applied = 0 })
+index_at work index = get_or work.indexes index (record { loaded = false; applied = 0 })
 
 -- how many pairs of that specification the copied pages had
 abbrev pub pairs_copied : BuildState → List LogRec → Option KeySpecValue → ℕ
@@ -243,7 +249,7 @@ refusal s (Undo txn) = unless_indexed s.live (undo_refusal s.live.heap txn)
 refusal s (Commit txn) = txn_refusal s.live.heap txn
 refusal s (Start plan) = start_refusal s.live plan
 refusal s (Scan range worker) = refusal_of s.live.build (λ b. scan_refusal b s.work range worker)
-refusal s (Seal worker) = refusal_of s.live.build (λ b. seal_refusal s.work worker)
+refusal s (Seal worker) = refusal_of s.live.build (λ b. seal_refusal b s.work worker)
 refusal s (Load index) = refusal_of s.live.build (λ b. load_refusal b s index)
 refusal s Switch = refusal_of s.live.build (λ b. switch_refusal b s.work)
 

@@ -4,9 +4,9 @@ use keybytes::{Rid, Row};
 /// What is asked of a table and of its index build.
 ///
 /// Behind what each event does stand the faults that refuse it: where several have their cause, the first is answered. A row is
-/// changed only while no build runs and no index is ready, for now. [`Fault::Memory`] stands in the place of none of them,
-/// but in an insert and an update, whose row is copied right behind the look at the build. In a seal or a load it spoils the
-/// build: a scan, a seal, a load and a switch are then refused so, right behind [`Fault::NoBuild`] and [`Fault::BadCount`].
+/// changed only while no build runs and no index is ready, for now. [`Fault::Memory`] is answered only where none of
+/// them has its cause. In a seal or a load it spoils the build: a scan, a seal, a load and a switch are then refused so, right
+/// behind [`Fault::NoBuild`] and [`Fault::BadCount`].
 #[derive(Debug, Drop)]
 pub enum Event {
     /// A transaction begins. [`Fault::TooManyTxns`].

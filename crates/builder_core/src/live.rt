@@ -1,4 +1,4 @@
-ghost use Rattle.std.specs.Prelude.{◌≡◌, [], Some, None, IfOk, IfErr, OnOk, OnErr, MatchOption};
+ghost use Rattle.std.specs.Prelude.{◌≡◌, [], Some, None, IfOk, IfErr, IfSome, OnOk, OnErr, MatchOption};
 ghost use Rattle.keybytes.specs.Faults.{RefusedFor};
 ghost use Rattle.heap_log.specs.Standing.{live_at};
 ghost use Rattle.heap_table.specs.HeapState.{after_visit, row_missing};
@@ -6,6 +6,7 @@ ghost use Rattle.heap_table.specs.Pages.{pages_written};
 ghost use Rattle.heap_table.specs.TablePairs.{pairs_at_rest};
 ghost use Rattle.keybytes.specs.Pairs.{HaveKeysOf, AreInColumnOrder};
 ghost use Rattle.builder_core.specs.Builds.{BuildFollows};
+ghost use Rattle.builder_core.specs.Invariant.{BuildIsSound};
 ghost use Rattle.builder_core.specs.CoreState.{live_with_heap, abandoned, after_visits, ReadyFollowTable};
 
 use crate::rest::at_rest;
@@ -31,6 +32,7 @@ pub struct Live {
 impl Model for Live {
     ghost use Rattle.builder_core.specs.CoreState.{LiveState, FollowTable};
     ghost use Rattle.builder_core.specs.Builds.{BuildFollows};
+    ghost use Rattle.builder_core.specs.Invariant.{BuildIsSound};
 
     ghost Value = { LiveState };
 
@@ -59,6 +61,14 @@ impl Live {
         ensures follow { ReadyFollowTable self.now }
     {
         self.ready.as_slice()
+    }
+
+    /// Does nothing: its clauses tell what holds of every table between two steps.
+    pub fn laws(&self)
+        ensures ready { ReadyFollowTable self.now }
+        ensures build { IfSome self.now.build (λ b. BuildIsSound b self.now.heap.log) }
+    {
+        let _build = &self.build;
     }
 
     pub(crate) fn allocator(&self) -> Global {

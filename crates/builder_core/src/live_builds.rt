@@ -146,6 +146,7 @@ impl Live {
         ensures works { WorksOn self.new building.new }
         ensures unchanged { OnErr result ((self.new ≡ self.old) × (building.new ≡ building.old)) }
         ensures refused { IfErr result (λ back. cause_of self.old building.old (Event.Scan range worker) ≡ Some back.1) }
+        ensures handed_back { IfErr result (λ back. back.0 ≡ image) }
     {
         let page = match self.check_scan(range, worker, building) {
             Ok(page) => page,

@@ -1,7 +1,7 @@
 //! What the table knows of the build that runs.
 ghost use Rattle.std.specs.Prelude.{◌≡◌, false, ◌++◌, ◌∷◌, ◌≤◌, [], length, Some, None, IfOk, IfErr, MatchOption, if◌then◌else◌};
 ghost use Rattle.builder_core.specs.CoreState.{BuildState};
-ghost use Rattle.builder_core.specs.Builds.{ScansInTurn};
+ghost use Rattle.builder_core.specs.Builds.{ScansInTurn, build_of_one};
 ghost use Rattle.builder_core.specs.Ranges.{next_page, open_range};
 
 use crate::Scan;
@@ -20,14 +20,16 @@ pub struct TableScan {
 }
 
 impl Model for TableScan {
-    ghost use Rattle.std.specs.Prelude.{◌≤◌, ◌∷◌, []};
+    ghost use Rattle.std.specs.Prelude.{◌≤◌};
     ghost use Rattle.std.specs.Vec.{vec_capacity};
     ghost use Rattle.builder_core.specs.CoreState.{BuildState};
     ghost use Rattle.builder_core.specs.Builds.{ScansInTurn};
 
     ghost Value = { BuildState };
 
-    ghost view = { λ b. record { number = b.number; specs = b.spec ∷ []; opened = b.opened; pages = b.pages; ends = b.pages ∷ []; scans = b.scans.items } };
+    ghost use Rattle.builder_core.specs.Builds.{build_of_one};
+
+    ghost view = { λ b. build_of_one b.number b.spec b.opened b.pages b.scans.items };
 
     ghost invariant = { λ b. ScansInTurn b.pages b.scans.items × (b.pages ≤ vec_capacity b.scans) };
 }
@@ -43,7 +45,7 @@ impl TableScan {
         pages: u32,
     ) -> Result<TableScan, Fault>
         requires { pages ≤ 65536 }
-        ensures ok { IfOk result (λ b. b ≡ record { number = number; specs = spec ∷ []; opened = opened; pages = pages; ends = pages ∷ []; scans = [] }) }
+        ensures ok { IfOk result (λ b. b ≡ build_of_one number spec opened pages []) }
         ensures memory { IfErr result (λ fault. fault ≡ Fault.Memory) }
     {
         Ok(TableScan {

@@ -1,7 +1,8 @@
 use Rattle.std.proofs.Common.{◌≡◌, ◌∙◌, ◌+◌, ◌∷◌, [], ◌≤◌, ℕ, List, length, Some, ap, sym, subst, arith}
+use Rattle.std.specs.Prelude.{map}
 use Rattle.keybytes.specs.Keys.{KeySpecValue}
 use Rattle.heap_table.specs.Pages.{pages_written}
-use Rattle.builder_core.specs.Builds.{WorkValue, IsBuildOf, work_state}
+use Rattle.builder_core.specs.Builds.{WorkValue, IsBuildOf, work_state, build_of_one}
 use Rattle.builder_core.specs.CoreState.{BuildState, LiveState, WorkState, CoreState}
 use Rattle.builder_core.specs.Steps.{started, fresh_work}
 use Rattle.builder_core.proofs.Starts.{one_dealt, one_worker, fresh_is}
@@ -10,7 +11,7 @@ use Rattle.builder_core.proofs.Working.{fresh}
 use Rattle.builder_core.proofs.live.Live.start.Goals as goal
 
 abbrev opened : ℕ → KeySpecValue → ℕ → ℕ → BuildState
-opened number spec records pages = record { number = number; specs = spec ∷ []; opened = records; pages = pages; ends = pages ∷ []; scans = [] }
+opened number spec records pages = build_of_one number spec records pages []
 
 pub invariant_of-self : goal.invariant_of-self
 invariant_of-self c =
@@ -41,6 +42,10 @@ returns-clause-started c =
     ∙ ap (λ n. opened (live.builds + 1) spec n c.pages-pages.result) log
     ∙ ap (λ n. opened (live.builds + 1) spec (length live.heap.log) n) pages
     ∙ ap (λ (specs : List KeySpecValue). record (opened (live.builds + 1) spec (length live.heap.log) (pages_written live.heap.log)) { specs = specs }) (sym one)
+    ∙ ap (λ (fed : List ℕ). record (opened (live.builds + 1) spec (length live.heap.log) (pages_written live.heap.log)) { specs = plan.specs.items; fed = fed })
+    (sym (ap (map (λ s. 0)) one))
+    ∙ ap (λ n. record (opened (live.builds + 1) spec (length live.heap.log) (pages_written live.heap.log)) { specs = plan.specs.items; fed = map (λ s. 0) plan.specs.items; workers = n })
+    (sym (one_worker live plan c.in_ok-spec.ensures.counts))
     ∙ ap (λ (ends : List ℕ). record (started live plan) { ends = ends }) (sym (one_dealt (pages_written live.heap.log) plan.dealing c.in_ok-spec.ensures.range)) in
     let work : work_state (Some c.in_ok-work.work) ≡ fresh_work plan =
     ap (λ (w : WorkValue). work_state (Some w)) (c.in_ok-work.ensures.ok ∙ ap fresh c.in_ok-clone.ensures.same)
