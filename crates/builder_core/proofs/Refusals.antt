@@ -11,7 +11,7 @@ use Rattle.builder_core.specs.Builds.{WorkValue, work_state, core_state, worker_
 use Rattle.builder_core.specs.CoreState.{BuildState, LiveState, scanning_of}
 use Rattle.builder_core.specs.Ranges.{next_page, open_range}
 use Rattle.builder_core.specs.Scanning.{pairs_at_scan}
-use Rattle.builder_core.specs.Steps.{cause_if, refusal_of, scan_refusal, seal_refusal, load_refusal, switch_refusal}
+use Rattle.builder_core.specs.Steps.{cause_if, build_cause, scan_refusal, seal_refusal, load_refusal, switch_refusal}
 use Rattle.builder_core.specs.Workers.{put_to, waiting, fill_runs, unsealed_pairs, loud_worker}
 use Rattle.builder_core.specs.declared.scan.Scan.{Scan}
 
@@ -82,7 +82,7 @@ module _ (live : LiveState) (work : Option WorkValue) (b : BuildState) (w : Work
   worker_gone worker other = ap (λ n. nat_le n worker) run.follows.one_worker ∙ le-leb 1 worker (above worker other)
 
   abbrev scan_cause : ℕ → ℕ → Option Fault
-  scan_cause range worker = refusal_of live.build (λ b. scan_refusal b (work_state work) range worker)
+  scan_cause range worker = build_cause live.build (λ b. scan_refusal b (work_state work) range worker)
 
   scan_is : (range worker : ℕ) → scan_cause range worker ≡ scan_refusal b (work_state (Some w)) range worker
   scan_is range worker = rw (run.build_is, run.work_is) refl
@@ -113,7 +113,7 @@ module _ (live : LiveState) (work : Option WorkValue) (b : BuildState) (w : Work
   scan_free page fine next room = scan_is 0 0 ∙ rw (fit_counts, fine, next, waiting_is, lt-leb 4 (length w.worker.ring) room) refl
 
   abbrev switch_cause : Option Fault
-  switch_cause = refusal_of live.build (λ b. switch_refusal b (work_state work))
+  switch_cause = build_cause live.build (λ b. switch_refusal b (work_state work))
 
   switch_is : switch_cause ≡ switch_refusal b (work_state (Some w))
   switch_is = rw (run.build_is, run.work_is) refl
@@ -131,7 +131,7 @@ module _ (live : LiveState) (work : Option WorkValue) (b : BuildState) (w : Work
   switch_free fine all loaded = switch_is ∙ rw (fine, all, loaded) refl
 
   abbrev load_cause : ℕ → Option Fault
-  load_cause index = refusal_of live.build (λ b. load_refusal b (core_state live work) index)
+  load_cause index = build_cause live.build (λ b. load_refusal b (core_state live work) index)
 
   load_is : (index : ℕ) → load_cause index ≡ load_refusal b (core_state live (Some w)) index
   load_is index = rw (run.build_is, run.work_is) refl
@@ -177,7 +177,7 @@ module _ (live : LiveState) (work : Option WorkValue) (b : BuildState) (w : Work
   load_free fine all none = load_is 0 ∙ rw (one_spec, fine, all, quiet none) refl
 
   abbrev seal_cause : ℕ → Option Fault
-  seal_cause worker = refusal_of live.build (λ b. seal_refusal b (work_state work) worker)
+  seal_cause worker = build_cause live.build (λ b. seal_refusal b (work_state work) worker)
 
   seal_is : (worker : ℕ) → seal_cause worker ≡ seal_refusal b (work_state (Some w)) worker
   seal_is worker = rw (run.build_is, run.work_is) refl

@@ -14,7 +14,7 @@ use Rattle.heap_table.specs.TablePairs.{pairs_at_rest}
 use Rattle.builder_core.specs.Builds.{WorkValue, core_state, work_state}
 use Rattle.builder_core.specs.CoreState.{BuildState, LiveState, ReadyValue, CoreState, idle}
 use Rattle.builder_core.specs.Ranges.{open_range}
-use Rattle.builder_core.specs.Steps.{OnBuild, Switches, refusal_of, switch_refusal, ready_from, index_now, after_switch_in, verdicts_on}
+use Rattle.builder_core.specs.Steps.{OnBuild, Switches, build_cause, switch_refusal, ready_from, index_now, after_switch_in, verdicts_on}
 use Rattle.builder_core.specs.Workers.{unloaded_index}
 use Rattle.builder_core.proofs.Refusals.{Running}
 use Rattle.builder_core.proofs.TableBuilds.{only_same, switched_pairs}
@@ -25,9 +25,9 @@ first_none (Some fault) b e = e
 
 module _
     (live : LiveState) (work : Option WorkValue) (b : BuildState) (w : WorkValue) (run : Running live work b w)
-    (free : refusal_of live.build (λ b. switch_refusal b (work_state work)) ≡ None)
+    (free : build_cause live.build (λ b. switch_refusal b (work_state work)) ≡ None)
     (spec : KeySpecValue) (one : b.specs ≡ spec ∷ []) (pairs : List Pair) (tree : w.tree ≡ Some pairs) where
-  cause_is : refusal_of live.build (λ b. switch_refusal b (work_state work)) ≡ switch_refusal b (work_state (Some w))
+  cause_is : build_cause live.build (λ b. switch_refusal b (work_state work)) ≡ switch_refusal b (work_state (Some w))
   cause_is = rw (run.build_is, run.work_is) refl
 
   fine : w.spoiled ≡ None

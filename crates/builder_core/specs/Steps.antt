@@ -129,9 +129,9 @@ Starts plan s pages new =
 -- Scan, Seal, Load and Switch.
 
 -- why the running build refuses an event; that none runs is a reason too
-abbrev pub refusal_of : Option BuildState → (BuildState → Option Fault) → Option Fault
-refusal_of None cause = Some NoBuild
-refusal_of (Some b) cause = cause b
+abbrev pub build_cause : Option BuildState → (BuildState → Option Fault) → Option Fault
+build_cause None cause = Some NoBuild
+build_cause (Some b) cause = cause b
 
 -- what holds of the running build; nothing does where none runs
 abbrev pub OnBuild : Option BuildState → (BuildState → Type 0) → Type 0
@@ -248,10 +248,10 @@ refusal s (Delete txn rid) = unless_indexed s.live (delete_refusal s.live.heap t
 refusal s (Undo txn) = unless_indexed s.live (undo_refusal s.live.heap txn)
 refusal s (Commit txn) = txn_refusal s.live.heap txn
 refusal s (Start plan) = start_refusal s.live plan
-refusal s (Scan range worker) = refusal_of s.live.build (λ b. scan_refusal b s.work range worker)
-refusal s (Seal worker) = refusal_of s.live.build (λ b. seal_refusal b s.work worker)
-refusal s (Load index) = refusal_of s.live.build (λ b. load_refusal b s index)
-refusal s Switch = refusal_of s.live.build (λ b. switch_refusal b s.work)
+refusal s (Scan range worker) = build_cause s.live.build (λ b. scan_refusal b s.work range worker)
+refusal s (Seal worker) = build_cause s.live.build (λ b. seal_refusal b s.work worker)
+refusal s (Load index) = build_cause s.live.build (λ b. load_refusal b s index)
+refusal s Switch = build_cause s.live.build (λ b. switch_refusal b s.work)
 
 -- the reply to an event tells what that relation answers
 abbrev pub Tells : {R : Type 0} → (R → Reply) → (CoreState → R → CoreState → Type 0) → CoreState → Reply → CoreState → Type 0

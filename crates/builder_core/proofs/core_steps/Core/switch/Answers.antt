@@ -1,12 +1,12 @@
 use Rattle.std.proofs.Common.{◌≡◌, None, refl, subst}
 use Rattle.builder_core.specs.Builds.{core_state}
 use Rattle.builder_core.specs.CoreState.{CoreState}
-use Rattle.builder_core.specs.Steps.{Switches, refusal_of, switch_refusal}
+use Rattle.builder_core.specs.Steps.{Switches, build_cause, switch_refusal}
 use Rattle.builder_core.proofs.core_steps.Core.switch.Goals as goal
 
 pub returns : goal.returns
 returns c = (
-  subst (λ (s : CoreState). refusal_of s.live.build (λ b. switch_refusal b s.work) ≡ None) c.self.view_is c.in_ok-number.ensures.switched.0,
+  subst (λ (s : CoreState). build_cause s.live.build (λ b. switch_refusal b s.work) ≡ None) c.self.view_is c.in_ok-number.ensures.switched.0,
   (
     (c.in_ok-number.number, c.in_ok-number.verdicts),
     refl,

@@ -7,13 +7,13 @@ use Rattle.heap_table.specs.Pages.{pages_written}
 use Rattle.builder_core.specs.Builds.{WorkValue, IsBuildOf, IsWorkOn, IsWorkOf, BuildFollows, WorksOn, MayScan, work_state}
 use Rattle.builder_core.specs.CoreState.{BuildState, LiveState, FollowTable}
 use Rattle.builder_core.specs.Ranges.{next_page}
-use Rattle.builder_core.specs.Steps.{refusal_of, scan_refusal}
+use Rattle.builder_core.specs.Steps.{build_cause, scan_refusal}
 use Rattle.builder_core.proofs.TableBuilds.{next_below, scanned_next, put_next}
 use Rattle.builder_core.proofs.live.Live.scan_step.Goals as goal
 
 -- nothing is scanned unless a build runs
 below :
-    (live : LiveState) (build : Option BuildState) (cause : BuildState → Option Fault) (page : ℕ) → refusal_of build cause ≡ None → IfSome build (λ b. next_page b 0 ≡ Some page)
+    (live : LiveState) (build : Option BuildState) (cause : BuildState → Option Fault) (page : ℕ) → build_cause build cause ≡ None → IfSome build (λ b. next_page b 0 ≡ Some page)
     → BuildFollows live.heap.schema live.heap.log build → page < pages_written live.heap.log
 below live None cause page free next follows = absurd (let bad : Some NoBuild ≡ None = free in cc)
 below live (Some b) cause page free next follows = next_below live.heap.schema live.heap.log b page follows next
