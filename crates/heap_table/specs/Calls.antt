@@ -3,9 +3,15 @@ use Rattle.std.specs.Prelude.{◌≡◌, ℕ, ◌+◌, List, length, Some, None}
 use Rattle.keybytes.specs.Rows.{row_bytes}
 use Rattle.keybytes.specs.declared.cell.Cell.{Cell}
 use Rattle.keybytes.specs.declared.rid.Rid.{Rid}
+use Rattle.heap_log.specs.declared.outcome.Outcome.{Outcome}
 use Rattle.heap_log.specs.Standing.{newest_standing, standing_count}
-use Rattle.heap_table.specs.HeapState.{HeapState, insert_place, after_begin, after_write, after_step, after_commit, undone_number}
+use Rattle.heap_table.specs.HeapState.{HeapState, insert_place, after_begin, after_write, after_step, after_commit, after_switch, undone_number}
+use Rattle.heap_table.specs.HeapValue.{HeapValue}
 use Rattle.heap_table.specs.declared.undone.Undone.{Undone}
+
+-- a call that is told by the table's state alone
+abbrev pub OnState : {R : Type 0} → (HeapState → R → HeapState → Type 0) → HeapValue → R → HeapValue → Type 0
+OnState Does old answer new = Does old.state answer new.state
 
 -- the next transaction begins; answered with its number
 abbrev pub Begins : HeapState → ℕ → HeapState → Type 0
@@ -36,3 +42,7 @@ Undoes txn s undone new =
 -- it commits; answered with the record's number
 abbrev pub Commits : ℕ → HeapState → ℕ → HeapState → Type 0
 Commits txn s number new = (number ≡ length s.log + 1) × (new ≡ after_commit s txn)
+
+-- what a switch decided is noted; answered with the record's number
+abbrev pub Notes : List Outcome → HeapState → ℕ → HeapState → Type 0
+Notes outcomes s number new = (number ≡ length s.log + 1) × (new ≡ after_switch s outcomes)

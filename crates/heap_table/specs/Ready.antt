@@ -59,7 +59,7 @@ pub record Writes (ready : Ready) (txn : ℕ) (row : Option (List Cell)) : Type 
   pub new : ready.new ≡ row
 
 -- it is the undo of the transaction's write of that number
-pub record Undoes (ready : Ready) (txn n : ℕ) : Type 0 where
+pub record IsUndo (ready : Ready) (txn n : ℕ) : Type 0 where
   pub by : ready.txn ≡ txn
   pub undone : ready.undone ≡ Some n
 

@@ -1,7 +1,8 @@
 //! How transactions begin and end, and who holds a RID meanwhile.
-ghost use Rattle.std.specs.Prelude.{◌≡◌, ◌+◌, length, Some, None, IfOk, IfErr, OnOk, OnErr, MatchResult};
-ghost use Rattle.keybytes.specs.Faults.{RefusedFor};
-ghost use Rattle.heap_table.specs.HeapState.{is_open, is_ending, txn_refusal, held_refusal, begin_refusal, after_begin, after_commit, after_switch};
+ghost use Rattle.std.specs.Prelude.{◌≡◌, Some, None, MatchResult};
+ghost use Rattle.keybytes.specs.Answered.{Answered};
+ghost use Rattle.heap_table.specs.Calls.{OnState, Begins, Commits, Notes};
+ghost use Rattle.heap_table.specs.HeapState.{is_open, is_ending, txn_refusal, held_refusal, begin_refusal};
 ghost use Rattle.heap_table.specs.Holders.{holder};
 ghost use Rattle.heap_table.specs.Pages.{KeepsRows};
 
@@ -28,11 +29,7 @@ fn has_ending(open_txns: &[OpenTxn], txn: u64) -> bool
 impl Heap {
     /// Begins the next transaction; [`Fault::TooManyTxns`] where [`OPEN_MAX`] are open or the numbers are used up.
     pub fn begin(&mut self) -> Result<u64, Fault>
-        ensures ok { IfOk result (λ txn. txn ≡ self.old.state.begun + 1) }
-        ensures begun { OnOk result (self.new.state ≡ after_begin self.old.state) }
-        ensures accepted { OnOk result (begin_refusal self.old.state ≡ None) }
-        ensures unchanged { OnErr result (self.new ≡ self.old) }
-        ensures refused { IfErr result (RefusedFor (begin_refusal self.old.state)) }
+        ensures { Answered (begin_refusal self.old.state) (OnState Begins) self.old result self.new }
     {
         if self.open_txns.len() >= OPEN_MAX || self.begun == u64::MAX {
             return Err(Fault::TooManyTxns);
@@ -46,12 +43,8 @@ impl Heap {
     /// Ends the transaction, whose writes stand from now on, and answers the record's number. What was promised to an
     /// undo is given free, in time that grows with its writes alone.
     pub fn commit(&mut self, txn: u64) -> Result<usize, Fault>
-        ensures ok { IfOk result (λ number. number ≡ length self.new.state.log) }
-        ensures committed { OnOk result (self.new.state ≡ after_commit self.old.state txn) }
+        ensures committed { Answered (txn_refusal self.old.state txn) (OnState (Commits txn)) self.old result self.new }
         ensures rows { KeepsRows self.old.state.log self.new.state.log }
-        ensures accepted { OnOk result (txn_refusal self.old.state txn ≡ None) }
-        ensures unchanged { OnErr result (self.new ≡ self.old) }
-        ensures refused { IfErr result (RefusedFor (txn_refusal self.old.state txn)) }
     {
         self.check_txn(txn)?;
         self.log.reserve(1)?;
@@ -63,11 +56,8 @@ impl Heap {
 
     /// Notes in the log what a switch decided, and answers the record's number.
     pub fn note(&mut self, outcomes: Vec<Outcome>) -> Result<usize, Fault>
-        ensures ok { IfOk result (λ number. number ≡ length self.new.state.log) }
+        ensures noted { Answered None (OnState (Notes outcomes.items)) self.old result self.new }
         ensures rows { KeepsRows self.old.state.log self.new.state.log }
-        ensures noted { OnOk result (self.new.state ≡ after_switch self.old.state outcomes.items) }
-        ensures unchanged { OnErr result (self.new ≡ self.old) }
-        ensures memory { IfErr result (λ fault. fault ≡ Fault.Memory) }
     {
         self.log.reserve(1)?;
         self.log.add(LogRec::Switch {

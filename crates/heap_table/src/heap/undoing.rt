@@ -1,11 +1,13 @@
 //! The undo of a transaction, write by write, the newest first.
 ghost use Rattle.std.specs.Prelude.{◌≡◌, ℕ, length, Some, None, IsSome, IfSome, IfOk, IfErr, OnOk, OnErr};
+ghost use Rattle.keybytes.specs.Answered.{Answered};
 ghost use Rattle.keybytes.specs.Faults.{RefusedFor};
 ghost use Rattle.keybytes.specs.Rows.{shape_refusal};
 ghost use Rattle.heap_log.specs.Standing.{record_at, rid_of, place_of, row_at, newest_standing, standing_before, standing_count};
-ghost use Rattle.heap_table.specs.HeapState.{undo_refusal, after_step, undone_number};
+ghost use Rattle.heap_table.specs.Calls.{OnState, Undoes};
+ghost use Rattle.heap_table.specs.HeapState.{undo_refusal, after_step};
 ghost use Rattle.heap_table.specs.Pages.{SetsRow};
-ghost use Rattle.heap_table.specs.Ready.{IsReady, IsSized, Undoes, bytes_of_row};
+ghost use Rattle.heap_table.specs.Ready.{IsReady, IsSized, IsUndo, bytes_of_row};
 
 use super::Heap;
 use super::transactions::has;
@@ -19,7 +21,7 @@ impl Heap {
     /// write of it stands.
     pub fn ready_undo(&mut self, txn: u64) -> Result<Option<Ready>, Fault>
         ensures ready { IfOk result (λ ready. IfSome ready (IsReady self.new)) }
-        ensures undoes { IfOk result (λ ready. IfSome ready (λ r. (n : ℕ) → newest_standing self.old.state.log txn ≡ Some n → Undoes r txn n)) }
+        ensures undoes { IfOk result (λ ready. IfSome ready (λ r. (n : ℕ) → newest_standing self.old.state.log txn ≡ Some n → IsUndo r txn n)) }
         ensures found { IfOk result (λ ready. IfSome ready (λ r. IsSome (newest_standing self.old.state.log txn))) }
         ensures none { result ≡ Ok None → newest_standing self.old.state.log txn ≡ None }
         ensures same { OnOk result (self.new.state ≡ self.old.state) }
@@ -51,14 +53,9 @@ impl Heap {
     /// ends. A transaction without a write ends, and leaves no record. [`Fault::NoSuchTxn`] where it isn't open. A step
     /// refused for want of memory is taken up again by the next call; there is always room for the row that comes back.
     pub fn undo_step(&mut self, txn: u64) -> Result<Undone, Fault>
-        ensures number { IfOk result (λ undone. undone.number ≡ undone_number self.old.state (newest_standing self.old.state.log txn)) }
-        ensures left { IfOk result (λ undone. undone.left ≡ standing_count self.new.state.log txn) }
-        ensures undone { OnOk result (self.new.state ≡ after_step self.old.state txn (newest_standing self.old.state.log txn)) }
+        ensures undone { Answered (undo_refusal self.old.state txn) (OnState (Undoes txn)) self.old result self.new }
         ensures rows { let log = self.old.state.log in OnOk result ((n : ℕ) → newest_standing log txn ≡ Some n
             → SetsRow log (rid_of (record_at log n)) (row_at log (standing_before log n)) self.new.state.log) }
-        ensures accepted { OnOk result (undo_refusal self.old.state txn ≡ None) }
-        ensures unchanged { OnErr result (self.new ≡ self.old) }
-        ensures refused { IfErr result (RefusedFor (undo_refusal self.old.state txn)) }
     {
         let Some(ready) = self.ready_undo(txn)? else {
             end(&mut self.open_txns, txn);

@@ -1,8 +1,8 @@
 //! Inserts, updates and deletes.
-ghost use Rattle.std.specs.Prelude.{◌≡◌, length, Some, None, IfOk, IfErr, OnOk, OnErr};
-ghost use Rattle.keybytes.specs.Faults.{RefusedFor};
-ghost use Rattle.keybytes.specs.Rows.{row_bytes};
-ghost use Rattle.heap_table.specs.HeapState.{insert_place, insert_refusal, update_refusal, delete_refusal, after_write};
+ghost use Rattle.std.specs.Prelude.{◌≡◌, length, Some, None, IfOk, OnOk};
+ghost use Rattle.keybytes.specs.Answered.{Answered};
+ghost use Rattle.heap_table.specs.Calls.{OnState, Inserts, Updates, Deletes};
+ghost use Rattle.heap_table.specs.HeapState.{insert_refusal, update_refusal, delete_refusal, after_write};
 ghost use Rattle.heap_table.specs.Pages.{SetsRow};
 ghost use Rattle.heap_table.specs.Ready.{IsReady};
 
@@ -17,13 +17,8 @@ impl Heap {
     /// where the transaction isn't open, [`Fault::TxnEnding`] where it is being undone, [`Fault::RowShape`] where the row
     /// doesn't fit the columns, [`Fault::TableFull`] where no page has room and the page limit is reached, in that order.
     pub fn insert(&mut self, txn: u64, row: Row) -> Result<(usize, Rid), Fault>
-        ensures ok { IfOk result (λ written. written.0 ≡ length self.new.state.log) }
+        ensures inserted { Answered (insert_refusal self.old.state txn row) (OnState (Inserts txn row)) self.old result self.new }
         ensures rows { IfOk result (λ written. SetsRow self.old.state.log written.1 (Some row) self.new.state.log) }
-        ensures place { IfOk result (λ written. insert_place self.old.state (length (row_bytes row)) ≡ Some written.1) }
-        ensures written { IfOk result (λ written. self.new.state ≡ after_write self.old.state txn written.1 (Some row)) }
-        ensures accepted { OnOk result (insert_refusal self.old.state txn row ≡ None) }
-        ensures unchanged { OnErr result (self.new ≡ self.old) }
-        ensures refused { IfErr result (RefusedFor (insert_refusal self.old.state txn row)) }
     {
         let ready = self.ready_insert(txn, row)?;
         Ok(self.write(ready))
@@ -33,12 +28,8 @@ impl Heap {
     /// [`Fault::RowHeld`] where another open transaction holds the RID, also where it emptied it, [`Fault::NoSuchRow`]
     /// where no row stands there, [`Fault::PageFull`] where the page has no room for the row.
     pub fn update(&mut self, txn: u64, rid: Rid, row: Row) -> Result<(usize, Rid), Fault>
-        ensures ok { IfOk result (λ written. (written.0 ≡ length self.new.state.log) × (written.1 ≡ rid)) }
+        ensures updated { Answered (update_refusal self.old.state txn rid row) (OnState (Updates txn rid row)) self.old result self.new }
         ensures rows { OnOk result (SetsRow self.old.state.log rid (Some row) self.new.state.log) }
-        ensures written { OnOk result (self.new.state ≡ after_write self.old.state txn rid (Some row)) }
-        ensures accepted { OnOk result (update_refusal self.old.state txn rid row ≡ None) }
-        ensures unchanged { OnErr result (self.new ≡ self.old) }
-        ensures refused { IfErr result (RefusedFor (update_refusal self.old.state txn rid row)) }
     {
         let ready = self.ready_update(txn, rid, row)?;
         Ok(self.write(ready))
@@ -47,12 +38,8 @@ impl Heap {
     /// Takes the row at a RID away, and answers the record's number and the RID. Refused as an update is. The slot and its
     /// room stay promised to an undo until the transaction ends.
     pub fn delete(&mut self, txn: u64, rid: Rid) -> Result<(usize, Rid), Fault>
-        ensures ok { IfOk result (λ written. (written.0 ≡ length self.new.state.log) × (written.1 ≡ rid)) }
+        ensures deleted { Answered (delete_refusal self.old.state txn rid) (OnState (Deletes txn rid)) self.old result self.new }
         ensures rows { OnOk result (SetsRow self.old.state.log rid None self.new.state.log) }
-        ensures written { OnOk result (self.new.state ≡ after_write self.old.state txn rid None) }
-        ensures accepted { OnOk result (delete_refusal self.old.state txn rid ≡ None) }
-        ensures unchanged { OnErr result (self.new ≡ self.old) }
-        ensures refused { IfErr result (RefusedFor (delete_refusal self.old.state txn rid)) }
     {
         let ready = self.ready_delete(txn, rid)?;
         Ok(self.write(ready))
