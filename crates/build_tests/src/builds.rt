@@ -1,112 +1,11 @@
 //! What a table and its index build answer, one event after another.
 
-use builder_core::{Core, Dealing, Event, Live, Pair, Plan, Reply, at_rest, run_events};
+use crate::asks::{Ask, FIRST, answer, event, number_row, numbers_in, schema, spec};
+use builder_core::{Core, Event, Live, Pair, at_rest, run_events};
 use heap_table::Heap;
-use keybytes::{Cell, Fault, KeySpec, Kind, Rid, Row, Schema};
+use keybytes::{Cell, Fault, KeySpec, Rid};
 use std::alloc::Global;
 use std::test::Fail;
-
-const FIRST: Rid = Rid { page: 0, slot: 0 };
-
-fn schema(alloc: Global) -> Result<Schema, Fault> {
-    Schema::new(vec![in alloc; Kind::Int]?)
-}
-
-fn spec(alloc: Global) -> Result<KeySpec, Fault> {
-    KeySpec::new(alloc, &schema(alloc)?, vec![in alloc; 0]?, false)
-}
-
-fn number_row(alloc: Global, number: i64) -> Result<Row, Fault> {
-    Row::new(vec![in alloc; Cell::Int(number)]?)
-}
-
-/// An event of a table of one column of numbers.
-#[derive(Clone, Copy)]
-enum Ask {
-    Begin,
-    Insert(u64, i64),
-    /// The row at 0.0 becomes another.
-    Update(u64, i64),
-    /// The row at 0.0 goes.
-    Delete(u64),
-    Undo(u64),
-    Commit(u64),
-    /// A build of one index starts, over ranges that end there.
-    Start(&'static [u32]),
-    /// Over so many even ranges.
-    StartEven(usize),
-    Scan,
-    Seal,
-    Load,
-    Switch,
-}
-
-fn start(alloc: Global, dealing: Dealing) -> Result<Event, Fault> {
-    let plan = Plan {
-        specs: vec![in alloc; spec(alloc)?]?,
-        workers: 1,
-        dealing,
-        tries: 3,
-        keep_pairs: false,
-    };
-    Ok(Event::Start { plan })
-}
-
-/// A change of a row.
-fn change(alloc: Global, ask: Ask) -> Result<Event, Fault> {
-    let rid = FIRST;
-    match ask {
-        Ask::Insert(txn, number) => Ok(Event::Insert {
-            txn,
-            row: number_row(alloc, number)?,
-        }),
-        Ask::Update(txn, number) => Ok(Event::Update {
-            txn,
-            rid,
-            row: number_row(alloc, number)?,
-        }),
-        Ask::Delete(txn) => Ok(Event::Delete { txn, rid }),
-        _ => Err(Fault::BadCount),
-    }
-}
-
-fn event(alloc: Global, ask: Ask) -> Result<Event, Fault> {
-    match ask {
-        Ask::Begin => Ok(Event::Begin),
-        Ask::Undo(txn) => Ok(Event::Undo { txn }),
-        Ask::Commit(txn) => Ok(Event::Commit { txn }),
-        Ask::Start(ends) => start(alloc, Dealing::Ends(ends.to_vec(alloc)?)),
-        Ask::StartEven(ranges) => start(alloc, Dealing::Even(ranges)),
-        Ask::Scan => Ok(Event::Scan {
-            range: 0,
-            worker: 0,
-        }),
-        Ask::Seal => Ok(Event::Seal { worker: 0 }),
-        Ask::Load => Ok(Event::Load { index: 0 }),
-        Ask::Switch => Ok(Event::Switch),
-        _ => change(alloc, ask),
-    }
-}
-
-/// The numbers that a reply tells, of a row's place its page; 0 where there is no second. Or why the event was refused.
-fn numbers_in(reply: &Reply) -> Result<(usize, usize), Fault> {
-    match reply {
-        Reply::Begun { txn } => Ok((*txn as usize, 0)),
-        Reply::Written { number, rid } => Ok((*number, rid.page as usize)),
-        Reply::Undone { number, left } => Ok((*number, *left)),
-        Reply::Committed { number } => Ok((*number, 0)),
-        Reply::Started { pages } => Ok((*pages as usize, 0)),
-        Reply::Scanned { page } => Ok((*page as usize, 0)),
-        Reply::Sealed { images } => Ok((*images, 0)),
-        Reply::Loaded { pairs } => Ok((*pairs, 0)),
-        Reply::Switched { number, .. } => Ok((*number, 0)),
-        Reply::Refused { fault } => Err(*fault),
-    }
-}
-
-fn answer(core: &mut Core, alloc: Global, ask: Ask) -> Result<(usize, usize), Fault> {
-    numbers_in(&core.step(event(alloc, ask)?))
-}
 
 /// An event that is asked for once more where memory ran out.
 fn answer_again(core: &mut Core, alloc: Global, ask: Ask) -> Result<(usize, usize), Fault> {
@@ -335,6 +234,24 @@ fn an_undo_where_memory_may_run_out(rt: HostRuntime) {
     assert!(rt; other == Ok(None) || other == Err(Fault::Memory));
 }
 
+/// Two transactions write to one row: the second waits till the first has ended.
+const WRITES: [Call; 9] = [
+    Call::Event(Ask::Begin, Ok((1, 0))),
+    Call::Event(Ask::Insert(1, 5), Ok((1, 0))),
+    Call::Event(Ask::Begin, Ok((2, 0))),
+    Call::Event(Ask::Update(2, 6), Err(Fault::RowHeld(1))),
+    Call::Event(Ask::Delete(2), Err(Fault::RowHeld(1))),
+    Call::Event(Ask::Commit(1), Ok((2, 0))),
+    Call::Event(Ask::Update(2, 6), Ok((3, 0))),
+    Call::Event(Ask::Delete(2), Ok((4, 0))),
+    Call::Event(Ask::Update(2, 7), Err(Fault::NoSuchRow)),
+];
+
+#[test]
+fn two_transactions_on_one_row(rt: HostRuntime) {
+    assert_eq!(rt; differing(rt.alloc(), &[], &WRITES), Ok(None));
+}
+
 fn events(alloc: Global, calls: &[Call]) -> Result<Vec<Event>, Fault> {
     let mut events = Vec::new(alloc);
     for call in calls {
@@ -362,6 +279,32 @@ fn a_list_of_events(rt: HostRuntime) -> Result<(), Fail> {
             .ready()
             .is_empty()
     );
+    Ok(())
+}
+
+/// Whether a list of events, whose rows are lent, is answered as the same events one by one, whose rows are handed over.
+fn are_same(alloc: Global, calls: &[Call]) -> Result<bool, Fault> {
+    let (_live, replies) = run_events(alloc, two_slots(alloc)?, &events(alloc, calls)?);
+    let replies = replies?;
+    let mut core = Core::new(two_slots(alloc)?);
+    let mut lent = replies.iter();
+    for call in calls {
+        if let Call::Event(ask, _) = call {
+            let own = answer(&mut core, alloc, *ask);
+            if lent.next().map(numbers_in) != Some(own) {
+                return Ok(false);
+            }
+        }
+    }
+    Ok(lent.next().is_none())
+}
+
+#[test]
+fn rows_that_are_lent_and_rows_that_are_handed_over(rt: HostRuntime) -> Result<(), Fail> {
+    let cases: [&[Call]; 4] = [&ROWS, &WRITES, &UNDONE, &TRANSACTIONS];
+    for calls in cases {
+        assert!(rt; are_same(rt.alloc(), calls) == Ok(true));
+    }
     Ok(())
 }
 

@@ -2,4 +2,6 @@
 #![tactic(auto)]
 
 #[cfg(test)]
+mod asks;
+#[cfg(test)]
 mod builds;

@@ -3,6 +3,7 @@ pub mod Copies
 pub mod CopyPairs
 pub mod Distinct
 pub mod EntrySteps
+pub mod Examples
 pub mod Following
 pub mod Making
 pub mod OneRange

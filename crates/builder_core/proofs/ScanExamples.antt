@@ -1,26 +1,12 @@
 -- The side-file computed at a small build that a reader can check by hand.
-use Rattle.std.proofs.Common.{◌≡◌, ℕ, pos, false, List, [], ◌∷◌, Some, None, refl}
-use Rattle.keybytes.specs.Keys.{KeySpecValue}
+use Rattle.std.proofs.Common.{◌≡◌, ℕ, pos, List, [], ◌∷◌, Some, None, refl}
 use Rattle.keybytes.specs.declared.cell.Cell.TheVariants.{Int as Number}
-use Rattle.keybytes.specs.declared.kind.Kind.TheVariants.{Int}
-use Rattle.keybytes.specs.declared.pair.Pair.{Pair}
 use Rattle.heap_log.specs.declared.record.LogRec.{LogRec}
 use Rattle.heap_log.specs.declared.record.LogRec.TheVariants.{Write, Undo, Commit}
 use Rattle.heap_table.specs.Pages.{rid_at}
 use Rattle.builder_core.specs.Scanning.{Scanning, scanned_pairs}
 use Rattle.builder_core.specs.SideEntries.{delete, insert, side_entries}
-
-abbrev on_number : KeySpecValue
-on_number = record { kinds = Int ∷ []; columns = 0 ∷ []; unique = false }
-
-abbrev three : List ℕ
-three = 1 ∷ 0x80 ∷ 0 ∷ 0 ∷ 0 ∷ 0 ∷ 0 ∷ 0 ∷ 3 ∷ []
-
-abbrev five : List ℕ
-five = 1 ∷ 0x80 ∷ 0 ∷ 0 ∷ 0 ∷ 0 ∷ 0 ∷ 0 ∷ 5 ∷ []
-
-abbrev pair : List ℕ → ℕ → ℕ → Pair
-pair key page slot = record { key = key; rid = rid_at page slot }
+use Rattle.builder_core.proofs.Examples.{on_number, three, five, pair}
 
 abbrev put : ℕ → ℕ → ℕ → ℕ → LogRec
 put txn page slot number = Write txn (rid_at page slot) (Some (Number (pos number) ∷ []))

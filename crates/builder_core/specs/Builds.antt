@@ -13,6 +13,8 @@ use Rattle.builder_core.specs.ImagePairs.{HavePairs}
 use Rattle.builder_core.specs.Ranges.{next_page}
 use Rattle.builder_core.specs.Scanning.{Scanning, IsScanned, AreCopies, scanned_at, pairs_at_scan, scanned_pairs}
 use Rattle.builder_core.specs.SideEntries.{side_entries}
+use Rattle.builder_core.specs.Steps.{refusal}
+use Rattle.builder_core.specs.declared.event.Event.{Event}
 use Rattle.builder_core.specs.declared.scan.Scan.{Scan}
 
 -- a worker: the copies that wait for it, the pairs of those that it took, and how many these were
@@ -45,9 +47,17 @@ work_state (Some work) = record { workers = worker_state work.worker ∷ []; ind
 abbrev pub core_state : LiveState → Option WorkValue → CoreState
 core_state live work = record { live = live; work = work_state work }
 
+-- why an event is refused of a table and the work of its build
+abbrev pub cause_of : LiveState → Option WorkValue → Event → Option Fault
+cause_of live work event = refusal (core_state live work) event
+
 -- a worker with one copy more
 abbrev pub after_put : WorkerValue → ImageValue → WorkerValue
 after_put worker image = record worker { ring = worker.ring ++ image ∷ [] }
+
+-- its pairs are the index's, in order
+abbrev pub after_sort : WorkValue → List Pair → WorkValue
+after_sort work pairs = record work { worker = record work.worker { pairs = [] }; tree = Some pairs }
 
 -- a worker took all copies, and has their pairs
 pub record HasSealed (spec : KeySpecValue) (old new : WorkerValue) : Type 0 where

@@ -1,7 +1,7 @@
 //! The half of a build that needs no lock.
 ghost use Rattle.std.specs.Prelude.{◌≡◌, ◌≤◌, ◌<◌, ◌+◌, [], List, length, true, is_some, if◌then◌else◌, Some, None, IfErr, IfOk, OnOk, OnErr, MatchResult, MatchOption, IsPermutation, T};
 ghost use Rattle.heap_table.proofs.PairsAtRest.{InOrder};
-ghost use Rattle.builder_core.specs.Builds.{WorkValue, after_put, HasSealed};
+ghost use Rattle.builder_core.specs.Builds.{WorkValue, after_put, after_sort, HasSealed};
 ghost use Rattle.builder_core.specs.ImagePairs.{HavePairs};
 
 use crate::Pair;
@@ -98,7 +98,7 @@ impl Work {
     pub fn load(&mut self) -> usize
         ensures count { result ≡ (if is_some self.old.tree then 0 else length self.old.worker.pairs) }
         ensures again { is_some self.old.tree ≡ true → self.new ≡ self.old }
-        ensures loaded { self.old.tree ≡ None → (pairs : List Pair) × (self.new ≡ record self.old { worker = record self.old.worker { pairs = [] }; tree = Some pairs })
+        ensures loaded { self.old.tree ≡ None → (pairs : List Pair) × (self.new ≡ after_sort self.old pairs)
             × IsPermutation self.old.worker.pairs pairs × InOrder pairs }
     {
         if self.tree.is_some() {

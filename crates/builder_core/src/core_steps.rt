@@ -67,7 +67,9 @@ impl Core {
 
     /// The ready index of that number, from 0; [`Fault::BadCount`] where there is none.
     pub fn ready(&self, number: usize) -> Result<&ReadyIndex, Fault>
-        ensures index { MatchResult result (λ index. slice_get self.now.live.ready number ≡ Some index.now) (λ fault. slice_get self.now.live.ready number ≡ None) }
+        ensures index { MatchResult result
+            (λ index. slice_get self.now.live.ready number ≡ Some index.now)
+            (λ fault. slice_get self.now.live.ready number ≡ None) }
         ensures keys { IfOk result (λ index. HaveKeysOf index.now.spec index.now.pairs) }
         ensures order { IfOk result (λ index. AreInColumnOrder index.now.spec index.now.pairs) }
         ensures refused { IfErr result (λ fault. fault ≡ Fault.BadCount) }

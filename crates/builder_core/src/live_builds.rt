@@ -2,11 +2,11 @@
 ghost use Rattle.std.specs.Prelude.{◌≡◌, ◌<◌, ◌+◌, ◌∷◌, [], List, length, Some, None, IfOk, IfErr, OnOk, OnErr, MatchOption, MatchResult, if◌then◌else◌, true, false, vec_len, vec_capacity, ◌==◌, is_some};
 ghost use Rattle.keybytes.specs.Answered.{Answered};
 ghost use Rattle.heap_log.specs.declared.outcome.Outcome.{Outcome};
+ghost use Rattle.builder_core.specs.declared.event.Event.{Event};
 ghost use Rattle.heap_table.specs.HeapState.{after_switch};
 ghost use Rattle.heap_table.specs.Pages.{pages_written, KeepsRows};
-ghost use Rattle.builder_core.specs.Builds.{core_state, work_state, MayScan, MaySeal, MayLoad, WorksOn};
-ghost use Rattle.builder_core.specs.Ranges.{next_page};
-ghost use Rattle.builder_core.specs.Steps.{Starts, Scans, Switches, start_refusal, scan_refusal, seal_refusal, load_refusal, switch_refusal, refusal_of, counts_fit, is_one_range};
+ghost use Rattle.builder_core.specs.Builds.{core_state, cause_of, MayScan, MaySeal, MayLoad, WorksOn};
+ghost use Rattle.builder_core.specs.Steps.{Starts, Scans, Switches, start_refusal, counts_fit, is_one_range};
 
 use crate::building::Work;
 use crate::table_scan::TableScan;
@@ -48,7 +48,8 @@ impl Live {
     /// reads. [`Fault::BuildRunning`], [`Fault::BadCount`], [`Fault::BadColumn`], [`Fault::BadRanges`].
     pub fn start(&mut self, plan: &Plan, building: &mut Building) -> Result<u32, Fault>
         requires { WorksOn self.old building.old }
-        ensures started { Answered (start_refusal self.old plan.now) (Starts plan.now) (core_state self.old building.old) result (core_state self.new building.new) }
+        ensures started { Answered (start_refusal self.old plan.now) (Starts plan.now)
+            (core_state self.old building.old) result (core_state self.new building.new) }
         ensures works { WorksOn self.new building.new }
         ensures unchanged { OnErr result ((self.new ≡ self.old) × (building.new ≡ building.old)) }
     {
@@ -110,9 +111,9 @@ impl Live {
     /// Why a page of the range would not be copied for the worker, and else which page it is. Takes no memory.
     pub fn check_scan(&self, range: usize, worker: usize, building: &Building) -> Result<u32, Fault>
         requires { WorksOn self.now building.now }
-        ensures accepted { OnOk result (refusal_of self.now.build (λ b. scan_refusal b (work_state building.now) range worker) ≡ None) }
+        ensures accepted { OnOk result (cause_of self.now building.now (Event.Scan range worker) ≡ None) }
         ensures page { IfOk result (λ page. MayScan self.now building.now range worker page) }
-        ensures refused { IfErr result (λ fault. refusal_of self.now.build (λ b. scan_refusal b (work_state building.now) range worker) ≡ Some fault) }
+        ensures refused { IfErr result (λ fault. cause_of self.now building.now (Event.Scan range worker) ≡ Some fault) }
     {
         let (Some(build), Some(work)) = (self.build(), building.work()) else {
             return Err(Fault::NoBuild);
@@ -141,10 +142,10 @@ impl Live {
     ) -> Result<u32, (PageImage, Fault)>
         requires { WorksOn self.old building.old }
         ensures scanned { IfOk result (λ page. Scans range worker (core_state self.old building.old) page (core_state self.new building.new)) }
-        ensures accepted { OnOk result (refusal_of self.old.build (λ b. scan_refusal b (work_state building.old) range worker) ≡ None) }
+        ensures accepted { OnOk result (cause_of self.old building.old (Event.Scan range worker) ≡ None) }
         ensures works { WorksOn self.new building.new }
         ensures unchanged { OnErr result ((self.new ≡ self.old) × (building.new ≡ building.old)) }
-        ensures refused { IfErr result (λ back. refusal_of self.old.build (λ b. scan_refusal b (work_state building.old) range worker) ≡ Some back.1) }
+        ensures refused { IfErr result (λ back. cause_of self.old building.old (Event.Scan range worker) ≡ Some back.1) }
     {
         let page = match self.check_scan(range, worker, building) {
             Ok(page) => page,
@@ -168,8 +169,8 @@ impl Live {
     pub fn check_seal(&self, worker: usize, building: &Building) -> Result<(), Fault>
         requires { WorksOn self.now building.now }
         ensures accepted { MatchResult result
-            (λ _. refusal_of self.now.build (λ b. seal_refusal (work_state building.now) worker) ≡ None)
-            (λ fault. refusal_of self.now.build (λ b. seal_refusal (work_state building.now) worker) ≡ Some fault) }
+            (λ _. cause_of self.now building.now (Event.Seal worker) ≡ None)
+            (λ fault. cause_of self.now building.now (Event.Seal worker) ≡ Some fault) }
         ensures runs { OnOk result (MaySeal self.now building.now worker) }
     {
         let (Some(_build), Some(work)) = (self.build(), building.work()) else {
@@ -186,8 +187,8 @@ impl Live {
     pub fn check_load(&self, index: usize, building: &Building) -> Result<(), Fault>
         requires { WorksOn self.now building.now }
         ensures accepted { MatchResult result
-            (λ _. refusal_of self.now.build (λ b. load_refusal b (core_state self.now building.now) index) ≡ None)
-            (λ fault. refusal_of self.now.build (λ b. load_refusal b (core_state self.now building.now) index) ≡ Some fault) }
+            (λ _. cause_of self.now building.now (Event.Load index) ≡ None)
+            (λ fault. cause_of self.now building.now (Event.Load index) ≡ Some fault) }
         ensures runs { OnOk result (MayLoad self.now building.now index) }
     {
         let (Some(build), Some(work)) = (self.build(), building.work()) else {
@@ -210,8 +211,8 @@ impl Live {
     fn check_switch(&self, building: &Building) -> Result<(), Fault>
         requires { WorksOn self.now building.now }
         ensures { MatchResult result
-            (λ _. refusal_of self.now.build (λ b. switch_refusal b (work_state building.now)) ≡ None)
-            (λ fault. refusal_of self.now.build (λ b. switch_refusal b (work_state building.now)) ≡ Some fault) }
+            (λ _. cause_of self.now building.now Event.Switch ≡ None)
+            (λ fault. cause_of self.now building.now Event.Switch ≡ Some fault) }
     {
         let (Some(build), Some(work)) = (self.build(), building.work()) else {
             return Err(Fault::NoBuild);
@@ -230,7 +231,8 @@ impl Live {
     /// index. [`Fault::NoBuild`], the fault of a spoiled build, [`Fault::NotScanned`], [`Fault::NotLoaded`].
     pub fn switch_in(&mut self, building: &mut Building) -> Result<(usize, Verdicts), Fault>
         requires { WorksOn self.old building.old }
-        ensures switched { Answered (refusal_of self.old.build (λ b. switch_refusal b (work_state building.old))) Switches (core_state self.old building.old) result (core_state self.new building.new) }
+        ensures switched { Answered (cause_of self.old building.old Event.Switch) Switches
+            (core_state self.old building.old) result (core_state self.new building.new) }
         ensures works { WorksOn self.new building.new }
         ensures unchanged { OnErr result ((self.new ≡ self.old) × (building.new ≡ building.old)) }
     {

@@ -16,11 +16,12 @@ pub is_named : (schema : List Kind) (spec : Spec) (one : KeySpecValue) → one.k
 is_named schema spec one kinds columns unique = rw (← kinds, ← columns, ← unique) refl
 
 -- one specification more is made
-pub made_more : (schema : List Kind) (all rest : List Spec) (made : List KeySpecValue) (spec : Spec) (one : KeySpecValue)
-    → map (key_spec_of schema) all ≡ made ++ map (key_spec_of schema) (spec ∷ rest) → one ≡ key_spec_of schema spec
-    → map (key_spec_of schema) all ≡ (made ++ one ∷ []) ++ map (key_spec_of schema) rest
-made_more schema all rest made spec one same is =
-    same ∙ ap (λ (last : KeySpecValue). made ++ last ∷ map (key_spec_of schema) rest) (sym is) ∙ sym (append_assoc made (one ∷ []) (map (key_spec_of schema) rest))
+pub made_more : (schema : List Kind) (all rest : List Spec) (made now : List KeySpecValue) (spec : Spec) (one : KeySpecValue)
+    → map (key_spec_of schema) all ≡ made ++ map (key_spec_of schema) (spec ∷ rest) → now ≡ made ++ one ∷ [] → one ≡ key_spec_of schema spec
+    → map (key_spec_of schema) all ≡ now ++ map (key_spec_of schema) rest
+made_more schema all rest made now spec one same added is =
+    let left : List KeySpecValue = map (key_spec_of schema) rest in
+    rw added (same ∙ ap (λ (last : KeySpecValue). made ++ last ∷ left) (sym is) ∙ sym (append_assoc made (one ∷ []) left))
 
 -- the first of the rest is accepted
 pub accepted_first : (schema : List Kind) (spec : Spec) (rest : List Spec) → key_columns_refusal schema spec.columns.items ≡ None

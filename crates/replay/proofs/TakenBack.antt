@@ -11,7 +11,7 @@ use Rattle.heap_log.proofs.Records.{record_at-kept, record_at-added, length-adde
 use Rattle.heap_table.specs.HeapState.{HeapState, is_open, still_open, after_step}
 use Rattle.heap_table.proofs.OpenOnes.{open_without_self}
 use Rattle.builder_core.specs.CoreState.{CoreState}
-use Rattle.builder_core.specs.Steps.{Step, with_heap, after_newest}
+use Rattle.builder_core.specs.Steps.{Step}
 use Rattle.builder_core.specs.declared.event.Event.TheVariants.{Undo}
 use Rattle.builder_core.specs.declared.reply.Reply.TheVariants.{Undone, Refused}
 
@@ -23,9 +23,10 @@ same_left number left other more e = cc
 
 -- what an undo leaves, and how many writes are left
 undid : (old new : CoreState) (txn number left : ℕ) → Step old (Undo txn) (Undone number left) new
-    → (new ≡ with_heap old (after_newest old.heap txn)) × (left ≡ standing_count (after_newest old.heap txn).log txn)
+    → (new.live.heap ≡ after_step old.live.heap txn (newest_standing old.live.heap.log txn)) × (left ≡ standing_count new.live.heap.log txn)
 undid old new txn number left (inl refused) = absurd (no_refusal number left refused.0 refused.1)
-undid old new txn number left (inr done) = (done.1.1, same_left number left _ _ done.1.0)
+undid old new txn number left (inr (none, (told, is, (((first, count, after), kept), same)))) =
+    (after, same_left number left told.number told.left is ∙ count)
 
 -- with none of its writes left the transaction has ended
 ended_step : (heap : HeapState) (txn : ℕ) (newest : Option ℕ) → standing_count (after_step heap txn newest).log txn ≡ 0
@@ -34,10 +35,11 @@ ended_step heap txn None none = open_without_self txn heap.active
 ended_step heap txn (Some n) none =
     subst (λ (left : ℕ). is_open (still_open txn left heap.active) txn ≡ false) (sym none) (open_without_self txn heap.active)
 
-pub has_ended : (old new : CoreState) (txn number : ℕ) → Step old (Undo txn) (Undone number 0) new → is_open new.heap.active txn ≡ false
+pub has_ended : (old new : CoreState) (txn number : ℕ) → Step old (Undo txn) (Undone number 0) new → is_open new.live.heap.active txn ≡ false
 has_ended old new txn number step =
-    let did = undid old new txn number 0 step in
-    ap (λ (s : CoreState). is_open s.heap.active txn) did.0 ∙ ended_step old.heap txn (newest_standing old.heap.log txn) (sym did.1)
+    let (after, none) = undid old new txn number 0 step in
+    let left = ap (λ (heap : HeapState). standing_count heap.log txn) (sym after) ∙ sym none in
+    ap (λ (heap : HeapState). is_open heap.active txn) after ∙ ended_step old.live.heap txn (newest_standing old.live.heap.log txn) left
 
 -- where none is the last, none is counted
 none_left : (p : ℕ → Bool) (n : ℕ) → last_below p n ≡ None → count_below p n ≡ 0
@@ -91,8 +93,10 @@ fewer_step heap txn (Some n) is some = fewer heap.log txn n is
 
 -- where writes are left, there are fewer than before
 pub fewer_left : (old new : CoreState) (txn number left : ℕ) → Step old (Undo txn) (Undone number left) new → (left ≡ 0 → ⊥)
-    → standing_count new.heap.log txn < standing_count old.heap.log txn
+    → standing_count new.live.heap.log txn < standing_count old.live.heap.log txn
 fewer_left old new txn number left step some =
-    let did = undid old new txn number left step in
-    subst (λ (s : CoreState). standing_count s.heap.log txn < standing_count old.heap.log txn) (sym did.0)
-    (fewer_step old.heap txn (newest_standing old.heap.log txn) refl (λ none. some (did.1 ∙ none)))
+    let (after, count) = undid old new txn number left step in
+    let none : standing_count (after_step old.live.heap txn (newest_standing old.live.heap.log txn)).log txn ≡ 0 → ⊥ =
+    λ ended. some (count ∙ ap (λ (heap : HeapState). standing_count heap.log txn) after ∙ ended) in
+    subst (λ (heap : HeapState). standing_count heap.log txn < standing_count old.live.heap.log txn) (sym after)
+    (fewer_step old.live.heap txn (newest_standing old.live.heap.log txn) refl none)

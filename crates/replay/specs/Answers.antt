@@ -9,8 +9,8 @@ use Rattle.keybytes.specs.declared.fault.Fault.TheVariants.{Memory, NoSuchTxn}
 use Rattle.keybytes.specs.declared.rid.Rid.{Rid}
 use Rattle.heap_log.specs.Standing.{live_at}
 use Rattle.heap_table.specs.HeapState.{after_visit, is_open, row_missing}
-use Rattle.builder_core.specs.CoreState.{CoreState}
-use Rattle.builder_core.specs.Steps.{Step, with_heap}
+use Rattle.builder_core.specs.CoreState.{CoreState, with_heap}
+use Rattle.builder_core.specs.Steps.{Step}
 use Rattle.builder_core.specs.declared.event.Event.{Event}
 use Rattle.builder_core.specs.declared.event.Event.TheVariants as event
 use Rattle.builder_core.specs.declared.plan.Plan.{Plan}
@@ -82,7 +82,7 @@ FailsToPut cells txn old fault new =
 -- a transaction's writes are undone, so many and one more, until it has ended or an undo is refused
 abbrev pub TakesBack : ℕ → CoreState → ℕ → CoreState → Type 0
 TakesBack zero old txn new =
-    ((number : ℕ) × Step old (event.Undo txn) (reply.Undone number 0) new × (is_open new.heap.active txn ≡ false))
+    ((number : ℕ) × Step old (event.Undo txn) (reply.Undone number 0) new × (is_open new.live.heap.active txn ≡ false))
     ⊎ ((fault : Fault) × Step old (event.Undo txn) (reply.Refused fault) new)
 TakesBack (suc more) old txn new =
     (number : ℕ) × (left : ℕ) × (mid : CoreState)
@@ -101,14 +101,14 @@ AddsRow cells old given new =
 -- the row that stands at the RID is given, or there is none
 abbrev pub GivesRow : Rid → CoreState → Answer → CoreState → Type 0
 GivesRow rid old given new =
-    ((row : List Cell) × (given ≡ answer.Cells row) × (live_at old.heap.log rid ≡ Some row) × (new ≡ with_heap old (after_visit old.heap)))
-    ⊎ ((fault : Fault) × RefusedFor (row_missing (live_at old.heap.log rid)) fault × Refuses fault old given new)
+    ((row : List Cell) × (given ≡ answer.Cells row) × (live_at old.live.heap.log rid ≡ Some row) × (new ≡ with_heap old (after_visit old.live.heap)))
+    ⊎ ((fault : Fault) × RefusedFor (row_missing (live_at old.live.heap.log rid)) fault × Refuses fault old given new)
 
 -- a build starts by the plan that is asked for, or a key specification is refused; want of memory aside
 abbrev pub StartsBuild : Start → CoreState → Answer → CoreState → Type 0
 StartsBuild start old given new =
-    ((plan : Plan) × IsPlanOf old.heap.schema start plan × Happens (event.Start plan) old given new)
-    ⊎ ((fault : Fault) × (fault ≢ Memory → specs_refusal old.heap.schema start.specs.items ≡ Some fault) × Refuses fault old given new)
+    ((plan : Plan) × IsPlanOf old.live.heap.schema start plan × Happens (event.Start plan) old given new)
+    ⊎ ((fault : Fault) × (fault ≢ Memory → specs_refusal old.live.heap.schema start.specs.items ≡ Some fault) × Refuses fault old given new)
 
 -- the command is carried out, with labels that name these transactions
 abbrev pub CarriesOut : Labels → Command → CoreState → Answer → CoreState → Type 0

@@ -3,7 +3,8 @@ use Rattle.std.specs.Prelude.{◌≡◌, ℕ, List, [], ◌∷◌, None, Some, R
 use Rattle.std.specs.List.{list_any}
 use Rattle.keybytes.specs.declared.fault.Fault.{Fault}
 use Rattle.heap_table.specs.HeapState.{empty_heap}
-use Rattle.builder_core.specs.CoreState.{CoreState}
+use Rattle.heap_table.specs.Limits.{pages_most}
+use Rattle.builder_core.specs.CoreState.{CoreState, opening}
 use Rattle.script.specs.declared.command.Command.{Command}
 use Rattle.script.specs.declared.command.Command.TheVariants.{Row, Begin, Insert, Update, Delete, Undo, Commit, Get, Start as StartCommand, Scan, Seal, Load, Switch, Pairs, Rest}
 use Rattle.script.specs.declared.numbered_command.NumberedCommand.{NumberedCommand}
@@ -20,9 +21,9 @@ use Rattle.replay.specs.declared.labels.Labels.{Labels}
 use Rattle.replay.specs.declared.status.Status.{Status}
 use Rattle.replay.specs.declared.status.Status.TheVariants.{Done, IndexRefused, Failed}
 
--- an empty table of up to 65,536 pages: no transaction was begun on it, no row given out, and it has no index and no build
+-- an empty table of as many pages as may be: no transaction was begun on it, no row given out, and it has no index and no build
 abbrev pub empty_table : Table → CoreState
-empty_table table = record { heap = empty_heap table.kinds.items table.slot_limit 65536; ready = []; build = None }
+empty_table table = opening (record { heap = empty_heap table.kinds.items table.slot_limit pages_most; ready = []; builds = 0; build = None })
 
 -- nothing has happened on the table yet
 pub record IsNew (table : Table) (engine : Engine) : Type 0 where

@@ -5,6 +5,7 @@ use Rattle.keybytes.specs.declared.fault.Fault.{Fault}
 use Rattle.keybytes.specs.declared.fault.Fault.TheVariants.{BadCount}
 use Rattle.heap_log.specs.declared.outcome.Outcome.{Outcome}
 use Rattle.heap_log.specs.declared.outcome.Outcome.TheVariants.{Ready, Shared}
+use Rattle.heap_table.specs.Limits.{slots_most}
 use Rattle.script.specs.declared.table.Table.{Table}
 
 -- 1 to 16 workers, 1 to 8 indexes, and a quota of at most 1,024 pages
@@ -20,4 +21,4 @@ is_refusal (Shared key first second) = true
 -- why a script's table is refused: its slot limit is looked at before its columns
 abbrev pub table_refusal : Table → Option Fault
 table_refusal table =
-    if nat_le 1 table.slot_limit && nat_le table.slot_limit 255 then columns_refusal table.kinds.items else Some BadCount
+    if nat_le 1 table.slot_limit && nat_le table.slot_limit slots_most then columns_refusal table.kinds.items else Some BadCount

@@ -7,9 +7,8 @@ use Rattle.keybytes.specs.Keys.{KeySpecValue, HasKey, key_columns_refusal}
 use Rattle.keybytes.specs.declared.fault.Fault.{Fault}
 use Rattle.keybytes.specs.declared.fault.Fault.TheVariants.{BadCount}
 use Rattle.keybytes.specs.declared.kind.Kind.{Kind}
-use Rattle.builder_core.specs.CoreState.{CoreState, ReadyValue}
+use Rattle.builder_core.specs.CoreState.{CoreState, ReadyValue, with_heap}
 use Rattle.heap_table.specs.TablePairs.{pairs_at_rest}
-use Rattle.builder_core.specs.Steps.{with_heap}
 use Rattle.keybytes.specs.declared.pair.Pair.{Pair}
 use Rattle.replay.specs.declared.answer.Answer.{Answer}
 use Rattle.replay.specs.declared.answer.Answer.TheVariants as answer
@@ -42,16 +41,16 @@ index_missing (Some index) = None
 abbrev pub ListsIndex : ℕ → CoreState → Answer → CoreState → Type 0
 ListsIndex number old given new =
     (new ≡ old)
-    × (ListsReady (slice_get old.ready number) given
-    ⊎ ((fault : Fault) × (given ≡ answer.Refused fault) × RefusedFor (index_missing (slice_get old.ready number)) fault))
+    × (ListsReady (slice_get old.live.ready number) given
+    ⊎ ((fault : Fault) × (given ≡ answer.Refused fault) × RefusedFor (index_missing (slice_get old.live.ready number)) fault))
 
 -- nothing has changed but how often rows were given out
 abbrev pub OnlyVisits : CoreState → CoreState → Type 0
-OnlyVisits old new = new ≡ with_heap old (record old.heap { visits = new.heap.visits })
+OnlyVisits old new = new ≡ with_heap old (record old.live.heap { visits = new.live.heap.visits })
 
 -- the pairs of the rows that stand are listed, or the specification is refused
 abbrev pub ListsRest : Spec → CoreState → Answer → CoreState → Type 0
 ListsRest spec old given new =
     OnlyVisits old new
-    × (ListsPairs (key_spec_of old.heap.schema spec) (pairs_at_rest (key_spec_of old.heap.schema spec) old.heap.log) given
-    ⊎ ((fault : Fault) × (given ≡ answer.Refused fault) × RefusedFor (key_columns_refusal old.heap.schema spec.columns.items) fault))
+    × (ListsPairs (key_spec_of old.live.heap.schema spec) (pairs_at_rest (key_spec_of old.live.heap.schema spec) old.live.heap.log) given
+    ⊎ ((fault : Fault) × (given ≡ answer.Refused fault) × RefusedFor (key_columns_refusal old.live.heap.schema spec.columns.items) fault))

@@ -20,7 +20,7 @@ use Rattle.replay.specs.Listings.{key_spec_of}
 -- why no plan is made: a build runs, or a count is out of its limits
 abbrev pub planning_refusal : CoreState → Start → Option Fault
 planning_refusal s start =
-    first_cause (cause_if (is_some s.build) BuildRunning)
+    first_cause (cause_if (is_some s.live.build) BuildRunning)
     (cause_if (not (is_in_limits start.workers (vec_len start.specs) start.quota)) BadCount)
 
 -- why the first of the key specifications that is refused is so, on a table with these columns

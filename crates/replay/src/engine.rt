@@ -17,16 +17,10 @@ use crate::status::Status;
 use crate::txn::{begin, put, take_back};
 use builder_core::{Core, Event, Live, Plan, Reply};
 use heap_log::{Outcome, Verdicts};
-use heap_table::Heap;
+use heap_table::{Heap, PAGES_MAX, SLOTS_MAX};
 use keybytes::{Cell, Fault, KeySpec, Rid, Row, Schema};
 use script::{Command, Label, Spec, Start, Table};
 use std::alloc::Global;
-
-/// How many pages a script's table may have.
-const PAGE_LIMIT: u32 = 65_536;
-
-/// The most slots that a page may have.
-const SLOT_LIMIT_MAX: u32 = 255;
 
 /// A table, the transactions on it that a script has named, and its build if one runs.
 #[derive(Drop)]
@@ -44,11 +38,11 @@ impl Engine {
         ensures refused { IfErr result (λ fault. table_refusal table ≡ Some fault) }
         ensures empty { IfOk result (IsNew table) }
     {
-        if table.slot_limit == 0 || table.slot_limit > SLOT_LIMIT_MAX {
+        if table.slot_limit == 0 || table.slot_limit > u32::from(SLOTS_MAX) {
             return Err(Fault::BadCount);
         }
         let schema = Schema::new(table.kinds)?;
-        let heap = Heap::new(alloc, schema, table.slot_limit as u8, PAGE_LIMIT)?;
+        let heap = Heap::new(alloc, schema, table.slot_limit as u8, PAGES_MAX)?;
         Ok(Engine {
             alloc,
             core: Core::new(Live::new(alloc, heap)),
@@ -210,8 +204,8 @@ impl Engine {
     }
 
     fn key_specs(&self, specs: Vec<Spec>) -> Result<Vec<KeySpec>, Fault>
-        ensures ok { IfOk result (λ made. made.items ≡ map (key_spec_of self.now.core.heap.schema) specs.items) }
-        ensures refused { IfErr result (λ fault. fault ≢ Fault.Memory → specs_refusal self.now.core.heap.schema specs.items ≡ Some fault) }
+        ensures ok { IfOk result (λ made. made.items ≡ map (key_spec_of self.now.core.live.heap.schema) specs.items) }
+        ensures refused { IfErr result (λ fault. fault ≢ Fault.Memory → specs_refusal self.now.core.live.heap.schema specs.items ≡ Some fault) }
     {
         let mut made = Vec::with_capacity(self.alloc, specs.len())?;
         for spec in specs {
@@ -252,11 +246,11 @@ impl Engine {
 
     /// The key specification, of the table's columns.
     fn key_spec(&self, spec: Spec) -> Result<KeySpec, Fault>
-        ensures table { IfOk result (λ made. made.kinds ≡ self.now.core.heap.schema) }
+        ensures table { IfOk result (λ made. made.kinds ≡ self.now.core.live.heap.schema) }
         ensures columns { IfOk result (λ made. made.columns ≡ spec.columns.items) }
         ensures unique { IfOk result (λ made. made.unique ≡ spec.unique) }
-        ensures accepted { OnOk result (key_columns_refusal self.now.core.heap.schema spec.columns.items ≡ None) }
-        ensures refused { IfErr result (RefusedFor (key_columns_refusal self.now.core.heap.schema spec.columns.items)) }
+        ensures accepted { OnOk result (key_columns_refusal self.now.core.live.heap.schema spec.columns.items ≡ None) }
+        ensures refused { IfErr result (RefusedFor (key_columns_refusal self.now.core.live.heap.schema spec.columns.items)) }
     {
         KeySpec::new(self.alloc, self.core.schema(), spec.columns, spec.unique)
     }

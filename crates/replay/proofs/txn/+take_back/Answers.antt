@@ -13,7 +13,7 @@ unreachable-requires t c =
 
 pub take_back-requires : goal.take_back-requires
 take_back-requires t c =
-    let fewer : standing_count c.step.new.self.heap.log c.args.txn < standing_count c.args.core.now.heap.log c.args.txn =
+    let fewer : standing_count c.step.new.self.live.heap.log c.args.txn < standing_count c.args.core.now.live.heap.log c.args.txn =
     fewer_left c.args.core.now c.step.new.self c.args.txn c.in-Undone.number c.in-Undone.left c.in-Undone.ensures.step (λ none. omega (arith, none)) in
     search rules
 

@@ -4,6 +4,6 @@ use Rattle.replay.proofs.engine.Engine.begin_named.Goals as goal
 pub returns-in_err-txn : goal.returns-in_err-txn
 returns-in_err-txn c = record {
   core = search rules;
-  labels = inr (c.in_err-txn.field-0.0, search rules, c.forget.ensures.none);
+  labels = inr (c.in_err-txn.field-0.0, search rules, search rules);
   status = search rules;
 }

@@ -9,7 +9,7 @@ loop-spec-init c = search rules
 
 pub loop-spec-preserved : goal.loop-spec-preserved
 loop-spec-preserved c =
-    let schema = c.args.self.now.core.heap.schema in
+    let schema = c.args.self.now.core.live.heap.schema in
     let (kept, finite, same, refusal) = c.loop-spec.invariant in
     let first = c.in-Some.ensures.steps.0 in
     let made = rw first at same in
@@ -20,13 +20,13 @@ loop-spec-preserved c =
     let made_one = c.in_ok-key_spec.field-0 in (
       search rules,
       search rules,
-      rw c.in_ok-push.ensures.items (made_more schema c.args.specs.items rest c.loop-spec.made.items spec made_one made (is_named schema spec made_one one.table one.columns one.unique)),
+      made_more schema c.args.specs.items rest c.loop-spec.made.items _ spec made_one made (search rules) (is_named schema spec made_one one.table one.columns one.unique),
       left ∙ accepted_first schema spec rest one.accepted,
     )
 
 pub returns-in_err-key_spec-clause-refused : goal.returns-in_err-key_spec-clause-refused
 returns-in_err-key_spec-clause-refused c =
-    let schema = c.args.self.now.core.heap.schema in
+    let schema = c.args.self.now.core.live.heap.schema in
     let left = rw c.in-Some.ensures.steps.0 at c.loop-spec.invariant.3 in
     let refused : c.in_err-key_spec.field-0.0 ≢ Memory → specs_refusal schema c.args.specs.items ≡ Some c.in_err-key_spec.field-0.0 =
     λ other. left ∙ refused_first schema c.in-Some.spec c.next.new.self.rest.items _ c.in_err-key_spec.ensures.refused other in

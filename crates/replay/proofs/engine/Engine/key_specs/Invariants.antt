@@ -5,7 +5,7 @@ use Rattle.replay.proofs.engine.Engine.key_specs.Given as goal
 
 abbrev pub invariant-loop-spec : goal.invariant-loop-spec
 invariant-loop-spec l =
-    let schema = l.self.core.heap.schema in
+    let schema = l.self.core.live.heap.schema in
     let rest = l.spec-iterator.rest.items in
     (goal.iterator-loop-spec).can_next l.spec-iterator × (goal.iterator-loop-spec).is_finite l.spec-iterator
     × (map (key_spec_of schema) l.fn.specs.items ≡ l.made.items ++ map (key_spec_of schema) rest)

@@ -1,8 +1,20 @@
 use Rattle.std.proofs.Common.{Option, inl, inr, refl, subst, sym}
 use Rattle.keybytes.specs.declared.fault.Fault.{Fault}
 use Rattle.replay.specs.Answers.{AddsRow, Unless}
-use Rattle.replay.specs.declared.answer.Answer.TheVariants.{Refused}
+use Rattle.replay.specs.declared.answer.Answer.TheVariants.{Refused, Row}
 use Rattle.replay.proofs.engine.Engine.put_row.Goals as goal
+
+pub returns-in-Ok : goal.returns-in-Ok
+returns-in-Ok c =
+    let core = c.args.self.now.core in
+    let left = c.put.new.core in
+    let puts = rw c.in_ok-row.ensures.ok at c.in-Ok.ensures.ok in
+    record {
+      core = subst (λ (cause : Option Fault). Unless cause (AddsRow c.args.cells.items) core (Row c.in-Ok.rid) left) (sym c.in_ok-row.ensures.accepted)
+          (inl (c.in_ok-txn.txn, c.begin.new.core, c.in-Ok.rid, refl, c.in_ok-txn.ensures.ok, puts));
+      labels = refl;
+      status = refl;
+    }
 
 pub returns-in-Err : goal.returns-in-Err
 returns-in-Err c =

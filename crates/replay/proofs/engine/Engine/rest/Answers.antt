@@ -9,13 +9,13 @@ use Rattle.replay.proofs.engine.Engine.rest.Goals as goal
 pub returns : goal.returns
 returns c =
     let core = c.args.self.now.core in
-    let asked = key_spec_of core.heap.schema c.args.spec in
+    let asked = key_spec_of core.live.heap.schema c.args.spec in
     let made = c.in_ok-spec.spec in
-    let named = is_named core.heap.schema c.args.spec made c.in_ok-spec.ensures.table c.in_ok-spec.ensures.columns c.in_ok-spec.ensures.unique in
-    let pairs = c.as_slice.ensures.value ∙ c.in_ok-pairs.ensures.ok ∙ ap (λ (spec : KeySpecValue). pairs_at_rest spec core.heap.log) named in
+    let named = is_named core.live.heap.schema c.args.spec made c.in_ok-spec.ensures.table c.in_ok-spec.ensures.columns c.in_ok-spec.ensures.unique in
+    let pairs = c.as_slice.ensures.value ∙ c.in_ok-pairs.ensures.ok ∙ ap (λ (spec : KeySpecValue). pairs_at_rest spec core.live.heap.log) named in
     let lines = c.in_ok-lines.lines in
     record {
-      core = (c.rest.ensures.rows, inl (lines, refl, listed_by asked made (pairs_at_rest asked core.heap.log) _ lines.items named pairs c.in_ok-lines.ensures.lists));
+      core = (c.rest.ensures.rows, inl (lines, refl, listed_by asked made (pairs_at_rest asked core.live.heap.log) _ lines.items named pairs c.in_ok-lines.ensures.lists));
       labels = refl;
       status = refl;
     }

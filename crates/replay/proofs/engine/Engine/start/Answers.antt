@@ -18,7 +18,7 @@ returns c =
     let core = c.args.self.now.core in
     let start = c.args.start in
     let given = answer_of c.step.result in
-    let no_build : is_some core.build ≡ false = sym c.is_building.ensures ∙ c.if-is_building.false in
+    let no_build : is_some core.live.build ≡ false = sym c.is_building.ensures ∙ c.if-is_building.false in
     let in_limits : is_in_limits start.workers (vec_len start.specs) start.quota ≡ true = sym c.is_in_limits.ensures ∙ c.if-not-is_in_limits.false in
     record {
       core = subst (λ (cause : Option Fault). Unless cause (StartsBuild start) core given c.step.new.self.core) (sym (no_refusal _ _ no_build in_limits)) (inl (

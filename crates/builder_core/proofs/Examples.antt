@@ -1,0 +1,214 @@
+-- The definitions computed at small values that a reader can check by hand.
+use Rattle.std.proofs.Common.{◌≡◌, ◌∙◌, ℕ, pos, negsuc, Bool, true, false, List, [], ◌∷◌, Option, Some, None, refl, sym, ap}
+use Rattle.std.specs.Prelude.{◌||◌}
+use Rattle.std.proofs.lemmas.Option.{same_Some}
+use Rattle.std.specs.Ordering.{eq_by_cmp}
+use Rattle.keybytes.specs.Keys.{KeySpecValue}
+use Rattle.keybytes.specs.declared.cell.Cell.{Cell}
+use Rattle.keybytes.specs.declared.cell.Cell.TheVariants.{Null, Int as Number}
+use Rattle.keybytes.specs.declared.kind.Kind.TheVariants.{Int}
+use Rattle.keybytes.specs.declared.fault.Fault.{Fault}
+use Rattle.keybytes.specs.declared.fault.Fault.TheVariants.{BadCount, RangeDone, RingFull, NotScanned, NotSealed, NotLoaded, Memory}
+use Rattle.heap_log.specs.declared.outcome.Outcome.TheVariants.{Ready}
+use Rattle.heap_log.specs.declared.record.LogRec.{LogRec}
+use Rattle.heap_log.specs.declared.record.LogRec.TheVariants as logged
+use Rattle.heap_table.specs.Pages.{rid_at}
+use Rattle.keybytes.specs.declared.pair.Pair.{Pair}
+use Rattle.builder_core.specs.declared.dealing.Dealing.TheVariants.{Even}
+use Rattle.builder_core.specs.declared.event.Event.TheVariants.{Scan, Seal, Load, Switch}
+use Rattle.builder_core.specs.declared.reply.Reply.{Reply}
+use Rattle.builder_core.specs.declared.reply.Reply.TheVariants.{Scanned, Sealed, Loaded, Switched}
+use Rattle.keybytes.specs.Pairs.{pair_cmp}
+use Rattle.heap_table.specs.TablePairs.{pairs_at_rest}
+use Rattle.builder_core.specs.CoreState.{BuildState, WorkerState, WorkState, CoreState}
+use Rattle.builder_core.specs.Ranges.{dealt_ends, range_pages, next_page, open_range}
+use Rattle.builder_core.specs.Steps.{refusal, Does, AfterMemory}
+use Rattle.builder_core.specs.Workers.{waiting, loud_worker}
+use Rattle.builder_core.specs.declared.scan.Scan.{Scan as Copied}
+use Rattle.keybytes.proofs.PairSets.{is_in, items_are}
+
+-- an index on a column of numbers
+abbrev pub on_number : KeySpecValue
+on_number = record { kinds = Int ∷ []; columns = 0 ∷ []; unique = false }
+
+abbrev null : List ℕ
+null = 0 ∷ []
+
+abbrev minus_one : List ℕ
+minus_one = 1 ∷ 0x7F ∷ 0xFF ∷ 0xFF ∷ 0xFF ∷ 0xFF ∷ 0xFF ∷ 0xFF ∷ 0xFF ∷ []
+
+abbrev pub three : List ℕ
+three = 1 ∷ 0x80 ∷ 0 ∷ 0 ∷ 0 ∷ 0 ∷ 0 ∷ 0 ∷ 3 ∷ []
+
+abbrev pub five : List ℕ
+five = 1 ∷ 0x80 ∷ 0 ∷ 0 ∷ 0 ∷ 0 ∷ 0 ∷ 0 ∷ 5 ∷ []
+
+abbrev pub pair : List ℕ → ℕ → ℕ → Pair
+pair key page slot = record { key = key; rid = rid_at page slot }
+
+abbrev put : ℕ → ℕ → ℕ → Cell → LogRec
+put txn page slot cell = logged.Write txn (rid_at page slot) (Some (cell ∷ []))
+
+-- the rows 5, 3 and 5, two of them on page 0
+abbrev three_rows : List LogRec
+three_rows =
+    put 1 0 0 (Number (pos 5)) ∷ logged.Commit 1 ∷ put 2 0 1 (Number (pos 3)) ∷ logged.Commit 2
+    ∷ put 3 1 0 (Number (pos 5)) ∷ logged.Commit 3 ∷ []
+
+second_first : (a b c : Bool) → (a || (b || c)) ≡ (b || (a || c))
+second_first true true c = refl
+second_first true false c = refl
+second_first false b c = refl
+
+or_true : (a b : Bool) → (a || (b || true)) ≡ true
+or_true true b = refl
+or_true false true = refl
+or_true false false = refl
+
+last_first : (a b c : Bool) → (a || (b || (c || false))) ≡ (c || (a || (b || false)))
+last_first a b true = or_true a b
+last_first a b false = refl
+
+twice : (a : Bool) → (a || false) ≡ (a || (a || false))
+twice true = refl
+twice false = refl
+
+-- equal keys stand by RID
+equal_keys : pair three 0 1 ∷ pair five 0 0 ∷ pair five 1 0 ∷ [] ≡ pairs_at_rest on_number three_rows
+equal_keys =
+    items_are (pair three 0 1 ∷ pair five 0 0 ∷ pair five 1 0 ∷ []) (pair five 0 0 ∷ pair three 0 1 ∷ pair five 1 0 ∷ []) tt (λ q.
+    second_first (eq_by_cmp pair_cmp q (pair three 0 1)) (eq_by_cmp pair_cmp q (pair five 0 0)) (is_in q (pair five 1 0 ∷ [])))
+
+-- Null is first, and -1 is before 3
+null_first :
+    pair null 0 1 ∷ pair minus_one 0 2 ∷ pair three 0 0 ∷ []
+    ≡ pairs_at_rest on_number (put 1 0 0 (Number (pos 3)) ∷ put 1 0 1 Null ∷ put 1 0 2 (Number (negsuc 0)) ∷ [])
+null_first =
+    items_are (pair null 0 1 ∷ pair minus_one 0 2 ∷ pair three 0 0 ∷ []) (pair three 0 0 ∷ pair null 0 1 ∷ pair minus_one 0 2 ∷ []) tt (λ q.
+    last_first (eq_by_cmp pair_cmp q (pair null 0 1)) (eq_by_cmp pair_cmp q (pair minus_one 0 2)) (eq_by_cmp pair_cmp q (pair three 0 0)))
+
+-- an update that was undone never was
+undone_update : pair five 0 0 ∷ [] ≡ pairs_at_rest on_number (put 1 0 0 (Number (pos 5)) ∷ put 2 0 0 (Number (pos 3)) ∷ logged.Undo 2 2 ∷ [])
+undone_update =
+    items_are (pair five 0 0 ∷ []) (pair five 0 0 ∷ pair five 0 0 ∷ []) tt (λ q. twice (eq_by_cmp pair_cmp q (pair five 0 0)))
+
+-- the writes of a transaction that is still open count
+open_delete : [] ≡ pairs_at_rest on_number (put 1 0 0 (Number (pos 5)) ∷ logged.Commit 1 ∷ logged.Write 2 (rid_at 0 0) None ∷ [])
+open_delete = items_are [] [] tt (λ q. refl)
+
+-- a page that a worker copied behind the last of these rows
+abbrev copied : ℕ → ℕ → Copied
+copied worker page = record { worker = worker; page = page; records = 6 }
+
+-- a build that started behind these rows, of so many pages in ranges that end there
+abbrev the_build : ℕ → List ℕ → List Copied → BuildState
+the_build pages ends scans = record { number = 1; specs = on_number ∷ []; opened = 6; pages = pages; ends = ends; scans = scans }
+
+-- a worker that sealed so many of the copies that it took
+abbrev worker_with : ℕ → ℕ → WorkerState
+worker_with taken sealed = record { taken = taken; sealed = sealed }
+
+abbrev work_of : List WorkerState → Bool → Option Fault → WorkState
+work_of workers loaded spoiled = record { workers = workers; indexes = record { loaded = loaded; fed = 0; applied = 0 } ∷ []; spoiled = spoiled }
+
+-- these rows while one worker builds over one range, and took so many copies
+abbrev while_built : ℕ → List Copied → ℕ → Bool → Option Fault → CoreState
+while_built pages scans taken loaded spoiled = record {
+  live = record {
+    heap = record { schema = Int ∷ []; slot_limit = 2; page_limit = 8; log = three_rows; active = []; begun = 3; visits = 0 };
+    ready = [];
+    builds = 1;
+    build = Some (the_build pages (pages ∷ []) scans);
+  };
+  work = work_of (worker_with taken taken ∷ []) loaded spoiled;
+}
+
+abbrev both_pages : List Copied
+both_pages = copied 0 0 ∷ copied 0 1 ∷ []
+
+abbrev before_a_scan : CoreState
+before_a_scan = while_built 2 (copied 0 0 ∷ []) 0 false None
+
+next_scan : (new : CoreState) (reply : Reply) → Does before_a_scan (Scan 0 0) reply new → reply ≡ Scanned 1
+next_scan new reply does = does.1 ∙ ap Scanned (sym (same_Some 1 does.0 does.2.0))
+
+load_before_a_scan : refusal before_a_scan (Load 0) ≡ Some (NotScanned 0)
+load_before_a_scan = refl
+
+no_page_left : refusal (while_built 2 both_pages 0 false None) (Scan 0 0) ≡ Some RangeDone
+no_page_left = refl
+
+four_wait : refusal (while_built 5 (copied 0 0 ∷ copied 0 1 ∷ copied 0 2 ∷ copied 0 3 ∷ []) 0 false None) (Scan 0 0) ≡ Some RingFull
+four_wait = refl
+
+seal_takes_all : Does (while_built 2 both_pages 0 false None) (Seal 0) (Sealed 2) (while_built 2 both_pages 2 false None)
+seal_takes_all = (2, refl, (refl, refl))
+
+load_before_a_seal : refusal (while_built 2 both_pages 0 false None) (Load 0) ≡ Some (NotSealed 0)
+load_before_a_seal = refl
+
+first_load : Does (while_built 2 both_pages 2 false None) (Load 0) (Loaded 3) (while_built 2 both_pages 2 true None)
+first_load = (3, refl, (refl, refl))
+
+second_load : Does (while_built 2 both_pages 2 true None) (Load 0) (Loaded 0) (while_built 2 both_pages 2 true None)
+second_load = (0, refl, (refl, refl))
+
+switch_before_a_load : refusal (while_built 2 both_pages 2 false None) Switch ≡ Some (NotLoaded 0)
+switch_before_a_load = refl
+
+switched : (new : CoreState) (reply : Reply) → Does (while_built 2 both_pages 2 true None) Switch reply new → reply ≡ Switched 7 (Ready 0 ∷ [])
+switched new reply does = does.1 ∙ ap (λ number. Switched number does.0.1) does.2.0 ∙ ap (Switched 7) does.2.1
+
+-- a seal that wants memory spoils the build, which from then on answers so after the counts
+spoils : AfterMemory (Seal 0) before_a_scan (while_built 2 (copied 0 0 ∷ []) 0 false (Some Memory))
+spoils = refl
+
+spoiled_scan : refusal (while_built 2 (copied 0 0 ∷ []) 0 false (Some Memory)) (Scan 0 0) ≡ Some Memory
+spoiled_scan = refl
+
+spoiled_count : refusal (while_built 2 (copied 0 0 ∷ []) 0 false (Some Memory)) (Scan 0 1) ≡ Some BadCount
+spoiled_count = refl
+
+-- five pages in two ranges
+even_ends : dealt_ends 5 (Even 2) ≡ 2 ∷ 5 ∷ []
+even_ends = refl
+
+second_range : range_pages (2 ∷ 5 ∷ []) 1 ≡ 2 ∷ 3 ∷ 4 ∷ []
+second_range = refl
+
+-- a range a page, and two workers; worker 1 copied page 0
+abbrev of_two : BuildState
+of_two = the_build 2 (1 ∷ 2 ∷ []) (copied 1 0 ∷ [])
+
+-- worker 1 took so many copies, and sealed so many of these; worker 0 has none
+abbrev by_two : ℕ → ℕ → WorkState
+by_two taken sealed = work_of (worker_with 0 0 ∷ worker_with taken sealed ∷ []) false None
+
+first_range_done : next_page of_two 0 ≡ None
+first_range_done = refl
+
+page_left : next_page of_two 1 ≡ Some 1
+page_left = refl
+
+range_left : open_range of_two ≡ Some 1
+range_left = refl
+
+no_range_left : open_range (the_build 2 (1 ∷ 2 ∷ []) (copied 1 0 ∷ copied 0 1 ∷ [])) ≡ None
+no_range_left = refl
+
+none_waits : waiting of_two (by_two 0 0) 0 ≡ 0
+none_waits = refl
+
+one_waits : waiting of_two (by_two 0 0) 1 ≡ 1
+one_waits = refl
+
+-- a worker isn't quiet while a copy waits for it
+waits : loud_worker of_two three_rows (by_two 0 0) ≡ Some 1
+waits = refl
+
+-- nor before it sealed what it took
+unsealed : loud_worker of_two three_rows (by_two 1 0) ≡ Some 1
+unsealed = refl
+
+all_quiet : loud_worker of_two three_rows (by_two 1 1) ≡ None
+all_quiet = refl
