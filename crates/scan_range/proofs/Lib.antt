@@ -1,1 +1,3 @@
+pub mod Covered
+pub mod Ends
 pub mod EvenEnds

@@ -1,6 +1,6 @@
 -- How the pages of a table are cut into ranges.
 use Rattle.std.specs.Prelude.{◌≡◌, ℕ, zero, suc, ◌+◌, ◌-◌, ◌*◌, ◌/◌, ◌≤◌, ◌<◌, Bool, true, ◌&&◌, nat_lt, nat_le, ◌==◌, if◌then◌else◌, List, [], ◌∷◌, map, length, get_or, Option, Some, None}
-use Rattle.std.specs.List.{range_with_len}
+use Rattle.std.specs.List.{range_with_len, position}
 use Rattle.keybytes.specs.declared.fault.Fault.{Fault}
 use Rattle.keybytes.specs.declared.fault.Fault.TheVariants.{BadRanges}
 
@@ -43,6 +43,10 @@ even_ends pages ranges = map (λ range. pages * (range + 1) / ranges) (range_wit
 -- why pages aren't dealt into so many ranges
 abbrev pub even_refusal : ℕ → Option Fault
 even_refusal ranges = if nat_lt 0 ranges && nat_le ranges ranges_most then None else Some BadRanges
+
+-- the range that a page lies in: the first that ends behind it
+abbrev pub range_of : List ℕ → ℕ → Option ℕ
+range_of ends page = position (nat_lt page) ends
 
 -- the page lies in that range
 pub record LiesIn (ends : List ℕ) (page range : ℕ) : Type 0 where
