@@ -1,8 +1,10 @@
 -- Each page of a table that is cut into ranges lies in one of them, and in no other.
-use Rattle.std.proofs.Common.{◌≡◌, ◌≢◌, ◌⊎◌, inl, inr, ℕ, zero, suc, ◌+◌, ◌-◌, ◌<◌, ◌≤◌, Bool, true, false, List, [], ◌∷◌, length, get_or, refl, sym, ◌∙◌, ap, arith, Option, Some, None}
-use Rattle.std.proofs.lemmas.Bool.{and_parts, leb-true, ltb-true, ltb-false, lt-ltb, le-ltb}
+use Rattle.std.proofs.Common.{◌≡◌, ◌≢◌, ◌⊎◌, inl, inr, ℕ, zero, suc, ◌+◌, ◌-◌, ◌<◌, ◌≤◌, Bool, true, false, leb, List, [], ◌∷◌, length, get_or, refl, sym, ◌∙◌, ap, arith, Option, Some, None}
+use Rattle.std.proofs.lemmas.Bool.{and_parts, leb-true, leb-false, ltb-true, ltb-false, lt-ltb, le-ltb}
 use Rattle.std.proofs.lemmas.List.Quantifiers.{position-Some}
 use Rattle.std.proofs.lemmas.List.Sums.{position_or_len_is, fails_before_first, passes_at_first}
+use Rattle.std.proofs.lemmas.List.Sorted.{IsNonDecreasingBy-from_default}
+use Rattle.std.specs.List.Sorted.{IsNonDecreasingBy, IsPartitionPoint}
 use Rattle.std.specs.Prelude.{nat_lt, nat_le, ◌&&◌}
 use Rattle.std.specs.List.{position, position_or_len}
 use Rattle.scan_range.specs.Cuts.{range_start, range_end, range_of, end_at, are_cuts, ranges_most, LiesIn, AreCovered}
@@ -68,7 +70,25 @@ pub cuts_cover : (pages : ℕ) (ends : List ℕ) → are_cuts pages ends ≡ tru
 cuts_cover pages ends h = record {
   by_one = λ page l. (_, range_of-lies ends page _ (range_of-found pages ends page h l));
   by_no_other = λ page a b at_a at_b.
-    let ordered = cuts_end_at pages ends h in
-    sym (LiesIn-position ends page a pages ordered at_a) ∙ LiesIn-position ends page b pages ordered at_b;
+      let ordered = cuts_end_at pages ends h in
+      sym (LiesIn-position ends page a pages ordered at_a) ∙ LiesIn-position ends page b pages ordered at_b;
   inside = λ page range at. omega (arith, at.high, ends_below 0 pages ends range (cuts_end_at pages ends h) at.there);
 }
+
+-- ends never go down
+pub cuts_rise : (pages : ℕ) (ends read : List ℕ) → are_cuts pages ends ≡ true → read ≡ ends → IsNonDecreasingBy (λ (end : ℕ). end) read
+cuts_rise pages ends read h same =
+    rw same
+    (IsNonDecreasingBy-from_default (λ (end : ℕ). end) ends 0 (λ i j le l. ends_rise 0 pages ends i j (cuts_end_at pages ends h) le l))
+
+-- what a binary search for the first end behind a page gives
+pub range_of-search : (pages : ℕ) (ends read : List ℕ) (page point : ℕ) → are_cuts pages ends ≡ true → read ≡ ends → page < pages
+    → point ≤ length read → IsPartitionPoint (λ end. leb end page ≡ true) (λ end. leb end page ≡ false) read point
+    → range_of ends page ≡ Some point
+range_of-search pages ends read page point h same l within parts =
+    let all = ap (λ (list : List ℕ). length list) same in
+    let parted = rw same at parts in
+    range_of-found pages ends page h l
+    ∙ ap Some (position_or_len_is (nat_lt page) ends point 0 (omega arith)
+    (λ k b. le-ltb page _ (leb-true _ _ (parted.0 k 0 (omega arith) b)))
+    (λ b. lt-ltb page _ (leb-false _ _ (parted.1 point 0 (omega arith) b))))

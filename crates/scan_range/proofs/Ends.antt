@@ -31,8 +31,11 @@ ends_below low pages [] i h l = absurd (omega arith)
 ends_below low pages (end ∷ []) zero h l = omega (arith, eqb-true end pages (more_ends low pages end [] h))
 ends_below low pages (end ∷ []) (suc i) h l = absurd (omega arith)
 ends_below low pages (end ∷ next ∷ ends) zero h l =
-    omega (arith, first_end end pages next ends (more_ends low pages end (next ∷ ends) h),
-        ends_below end pages (next ∷ ends) zero (more_ends low pages end (next ∷ ends) h) (omega arith))
+    omega (
+      arith,
+      first_end end pages next ends (more_ends low pages end (next ∷ ends) h),
+      ends_below end pages (next ∷ ends) zero (more_ends low pages end (next ∷ ends) h) (omega arith),
+    )
 ends_below low pages (end ∷ next ∷ ends) (suc i) h l =
     ends_below end pages (next ∷ ends) i (more_ends low pages end (next ∷ ends) h) (omega arith)
 

@@ -1,3 +1,4 @@
 pub mod Covered
 pub mod Ends
 pub mod EvenEnds
+pub mod Going

@@ -9,8 +9,8 @@ loop-range-preserved c =
     let pushed = c.push_reserved.ensures.items in
     record {
       made = pushed
-        ∙ ap (λ (ends : List ℕ). ends ++ c.args.pages * (c.loop-range.range + 1) / c.args.ranges ∷ []) c.loop-range.invariant.made
-        ∙ sym (map-range_with_len_more (λ range. c.args.pages * (range + 1) / c.args.ranges) 0 c.loop-range.range c.loop-range.range (omega arith));
+          ∙ ap (λ (ends : List ℕ). ends ++ c.args.pages * (c.loop-range.range + 1) / c.args.ranges ∷ []) c.loop-range.invariant.made
+          ∙ sym (map-range_with_len_more (λ range. c.args.pages * (range + 1) / c.args.ranges) 0 c.loop-range.range c.loop-range.range (omega arith));
       count = omega (arith, ap length pushed, length-append {A = ℕ});
       room = omega (arith, c.push_reserved.ensures.capacity);
     }
