@@ -16,7 +16,7 @@ pub start_below_end : (pages : ℕ) (ends : List ℕ) (range : ℕ) → are_cuts
 start_below_end pages ends zero h l = omega arith
 start_below_end pages ends (suc range) h l = ends_rise 0 pages ends range (suc range) (cuts_end_at pages ends h) (omega arith) l
 
-next_at_start : (cuts : CutsValue) (range : ℕ) → range < length cuts.ends → next_of (at_start cuts) range ≡ range_start cuts.ends range
+pub next_at_start : (cuts : CutsValue) (range : ℕ) → range < length cuts.ends → next_of (at_start cuts) range ≡ range_start cuts.ends range
 next_at_start cuts range l = get_or-map-range_with_len (range_start cuts.ends) 0 (length cuts.ends) range range 0 l (omega arith)
 
 pub at_start-AreRanges : (cuts : CutsValue) → are_cuts cuts.pages cuts.ends ≡ true → AreRanges (at_start cuts)

@@ -9,6 +9,8 @@
 
 mod cuts;
 mod ranges;
+#[cfg(test)]
+mod tests;
 
 pub use cuts::{Cuts, RANGES_MAX};
 pub use ranges::Ranges;

@@ -93,14 +93,14 @@ impl Ranges {
         requires { range < length self.now.ends }
         ensures { result ≡ is_done self.now range }
     {
-        self.next[range] >= self.cuts.ends()[range]
+        self.cur(range) >= self.cuts.ends()[range]
     }
 
     /// Whether no page is left in any range.
     pub fn all_done(&self) -> bool
         ensures { result ≡ are_done self.now }
     {
-        for range in 0..self.next.len() {
+        for range in 0..self.len() {
             if !self.done(range) {
                 return false;
             }
