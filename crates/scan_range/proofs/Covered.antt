@@ -1,13 +1,13 @@
 -- Each page of a table that is cut into ranges lies in one of them, and in no other.
-use Rattle.std.proofs.Common.{◌≡◌, ◌≢◌, ◌⊎◌, inl, inr, ℕ, zero, suc, ◌+◌, ◌-◌, ◌<◌, ◌≤◌, Bool, true, false, leb, List, [], ◌∷◌, length, get_or, refl, sym, ◌∙◌, ap, arith, Option, Some, None}
+use Rattle.std.proofs.Common.{◌≡◌, ℕ, zero, suc, ◌-◌, ◌<◌, ◌≤◌, Bool, true, false, leb, List, length, get_or, refl, sym, ◌∙◌, ap, arith, Some}
 use Rattle.std.proofs.lemmas.Bool.{and_parts, leb-true, leb-false, ltb-true, ltb-false, lt-ltb, le-ltb}
 use Rattle.std.proofs.lemmas.List.Quantifiers.{position-Some}
-use Rattle.std.proofs.lemmas.List.Sums.{position_or_len_is, fails_before_first, passes_at_first}
+use Rattle.std.proofs.lemmas.List.Sums.{position_or_len_is, fails_before_first}
 use Rattle.std.proofs.lemmas.List.Sorted.{IsNonDecreasingBy-from_default}
 use Rattle.std.specs.List.Sorted.{IsNonDecreasingBy, IsPartitionPoint}
 use Rattle.std.specs.Prelude.{nat_lt, nat_le, ◌&&◌}
-use Rattle.std.specs.List.{position, position_or_len}
-use Rattle.scan_range.specs.Cuts.{range_start, range_end, range_of, end_at, are_cuts, ranges_most, LiesIn, AreCovered}
+use Rattle.std.specs.List.{position_or_len}
+use Rattle.scan_range.specs.Cuts.{range_start, range_of, end_at, are_cuts, ranges_most, LiesIn, AreCovered}
 use Rattle.scan_range.proofs.Ends.{ends_rise, ends_below, last_end}
 
 pub cuts_end_at : (pages : ℕ) (ends : List ℕ) → are_cuts pages ends ≡ true → end_at 0 pages ends ≡ true

@@ -1,8 +1,7 @@
 -- What ends keep that are those of ranges: they never go down, and the last is behind all pages.
-use Rattle.std.proofs.Common.{◌≡◌, ℕ, zero, suc, ◌+◌, ◌-◌, ◌<◌, ◌≤◌, Bool, true, List, [], ◌∷◌, length, get_or, refl, arith}
+use Rattle.std.proofs.Common.{◌≡◌, ℕ, zero, suc, ◌+◌, ◌<◌, ◌≤◌, true, List, [], ◌∷◌, length, get_or, arith}
 use Rattle.std.proofs.lemmas.Bool.{and_parts, leb-true, eqb-true}
-use Rattle.std.specs.Prelude.{nat_le, ◌==◌}
-use Rattle.scan_range.specs.Cuts.{end_at, are_cuts}
+use Rattle.scan_range.specs.Cuts.{end_at}
 
 -- the first end isn't below `low`
 first_end : (low pages end : ℕ) (ends : List ℕ) → end_at low pages (end ∷ ends) ≡ true → low ≤ end

@@ -1,11 +1,11 @@
 -- How ranges go: at the start no range is past its first page, and all are done once each is.
-use Rattle.std.proofs.Common.{◌≡◌, ℕ, zero, suc, ◌+◌, ◌-◌, ◌<◌, ◌≤◌, Bool, true, false, List, [], ◌∷◌, length, get_or, refl, sym, ◌∙◌, ap, arith, add-one}
+use Rattle.std.proofs.Common.{◌≡◌, ℕ, zero, suc, ◌+◌, ◌<◌, ◌≤◌, Bool, true, false, List, length, refl, arith, add-one}
 use Rattle.std.proofs.lemmas.List.FromFn.{length-range_with_len, get_or-range_with_len, length-map-range_with_len, get_or-map-range_with_len}
 use Rattle.std.proofs.lemmas.List.Sums.{list_all-from_AllPass}
 use Rattle.std.proofs.lemmas.List.Folds.{list_all_at}
 use Rattle.std.specs.Prelude.{map}
 use Rattle.std.specs.List.{range_with_len}
-use Rattle.scan_range.specs.Cuts.{CutsValue, range_start, range_end, end_at, are_cuts}
+use Rattle.scan_range.specs.Cuts.{CutsValue, range_start, range_end, are_cuts}
 use Rattle.scan_range.specs.Ranges.{RangesValue, AreRanges, at_start, next_of, is_done, are_done}
 use Rattle.scan_range.proofs.Ends.{ends_rise}
 use Rattle.scan_range.proofs.Covered.{cuts_end_at}

@@ -1,13 +1,13 @@
 -- Which pages are passed: none at the start, by each `advance` the page that came next, and all once all ranges are done.
-use Rattle.std.proofs.Common.{◌≡◌, ◌≢◌, ℕ, ◌+◌, ◌<◌, ◌≤◌, Bool, true, false, List, length, get_or, set, refl, sym, ◌∙◌, ap, arith, Option, Some, None}
-use Rattle.std.proofs.lemmas.Bool.{leb-true, leb-false, ltb-true, lt-ltb, le-ltb, ne_eqb, eq-eqb, eqb-true, eqb-false}
+use Rattle.std.proofs.Common.{◌≡◌, ◌≢◌, ℕ, ◌+◌, ◌<◌, Bool, true, false, List, length, get_or, set, refl, sym, ap, arith, Option, Some, None}
+use Rattle.std.proofs.lemmas.Bool.{leb-true, leb-false, lt-ltb, le-ltb, ne_eqb, eqb-true, eqb-false}
 use Rattle.std.proofs.lemmas.Bool.Decides.{nat_tests}
 use Rattle.std.proofs.lemmas.List.{get_or-set_same, get_or-set_other}
 use Rattle.std.proofs.lemmas.List.FromFn.{length-range_with_len, get_or-range_with_len}
 use Rattle.std.proofs.lemmas.List.Sums.{AllPass-from_list_all}
-use Rattle.std.specs.Prelude.{nat_lt, nat_le, nat_eq, ◌||◌, ◌==◌}
+use Rattle.std.specs.Prelude.{nat_lt, nat_eq, ◌||◌, ◌==◌}
 use Rattle.std.specs.List.{range_with_len}
-use Rattle.scan_range.specs.Cuts.{CutsValue, range_of, range_start, range_end, are_cuts, LiesIn, AreCovered}
+use Rattle.scan_range.specs.Cuts.{CutsValue, range_of, range_end, LiesIn}
 use Rattle.scan_range.specs.Ranges.{RangesValue, AreRanges, at_start, after_advance, next_of, is_done, are_done, is_past, is_passed}
 use Rattle.scan_range.proofs.Covered.{cuts_cover, range_of-lies, lies-range_of, range_of-found}
 use Rattle.scan_range.proofs.Going.{next_at_start}

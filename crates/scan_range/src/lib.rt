@@ -9,8 +9,6 @@
 
 mod cuts;
 mod ranges;
-#[cfg(test)]
-mod tests;
 
 pub use cuts::{Cuts, RANGES_MAX};
 pub use ranges::Ranges;

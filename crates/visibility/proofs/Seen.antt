@@ -1,6 +1,6 @@
 -- Which RIDs are visible as the ranges go on, and the pairs of a row's keys.
-use Rattle.std.proofs.Common.{◌≡◌, ◌⊎◌, inl, inr, ℕ, ◌+◌, ◌<◌, ◌≤◌, Bool, true, false, List, length, refl, sym, ◌∙◌, ap, arith, Option, Some, None}
-use Rattle.std.proofs.lemmas.Bool.{le-leb, leb-false, or_left, or_right}
+use Rattle.std.proofs.Common.{◌≡◌, ℕ, ◌<◌, Bool, true, false, List, length, refl, Option, Some, None}
+use Rattle.std.proofs.lemmas.Bool.{leb-false, or_left, or_right}
 use Rattle.std.specs.Prelude.{nat_le, ◌||◌, ◌==◌}
 use Rattle.std.specs.Option.{option_map}
 use Rattle.keybytes.specs.Keys.{KeySpecValue, key_of}
@@ -31,7 +31,7 @@ pub visible-after_advance : (ranges : RangesValue) (range : ℕ) (rid : Rid) →
     → is_visible_in (after_advance ranges range) rid ≡ (is_visible_in ranges rid || rid.page == next_of ranges range)
 visible-after_advance ranges range rid r l open_yet =
     or_assoc (nat_le ranges.pages rid.page) (is_passed ranges rid.page) (rid.page == next_of ranges range)
-        (is_passed (after_advance ranges range) rid.page) (passed-after_advance ranges range rid.page r l open_yet)
+    (is_passed (after_advance ranges range) rid.page) (passed-after_advance ranges range rid.page r l open_yet)
 
 -- once all ranges are done, every RID is visible
 all_as : (ranges : RangesValue) (rid : Rid) (newer : Bool) → AreRanges ranges → are_done ranges ≡ true → nat_le ranges.pages rid.page ≡ newer

@@ -10,8 +10,6 @@
 
 mod change;
 mod rules;
-#[cfg(test)]
-mod tests;
 
 pub use change::Change;
 pub use rules::{entries, visible};

@@ -19,10 +19,8 @@ pub fn visible(ranges: &Ranges, rid: Rid) -> bool
 
 /// What a change of the key at a RID means for an index. A key is there where a row stands that the index takes.
 pub fn entries(old: Option<Key>, new: Option<Key>, visible: bool) -> Change
-    ensures {
-        (rid : RidValue)
-        → entries_of_change rid result ≡ (if visible then changes (pair_under rid old) (pair_under rid new) else [])
-    }
+    ensures { (rid : RidValue)
+        → entries_of_change rid result ≡ (if visible then changes (pair_under rid old) (pair_under rid new) else []) }
 {
     if !visible || old == new {
         return Change {

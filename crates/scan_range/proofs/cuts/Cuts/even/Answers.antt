@@ -1,7 +1,6 @@
-use Rattle.std.proofs.Common.{◌≡◌, ℕ, List, ◌+◌, ◌*◌, ◌/◌, ◌∙◌, ap, arith, sym, ◌++◌, ◌∷◌, [], length, length-append, rules}
+use Rattle.std.proofs.Common.{◌≡◌, ℕ, List, ◌+◌, ◌*◌, ◌/◌, ◌∙◌, ap, arith, sym, ◌++◌, ◌∷◌, [], length, length-append}
 use Rattle.std.proofs.lemmas.List.FromFn.{map-range_with_len_more}
 use Rattle.scan_range.proofs.EvenEnds.{even_are_cuts}
-use Rattle.scan_range.specs.Cuts.{are_cuts}
 use Rattle.scan_range.proofs.cuts.Cuts.even.Goals as goal
 
 pub loop-range-preserved : goal.loop-range-preserved

@@ -2,7 +2,6 @@ use Rattle.std.proofs.Common.{◌≡◌, ◌≤◌, ◌+◌, ◌*◌, ◌/◌, l
 use Rattle.std.specs.Prelude.{map}
 use Rattle.std.specs.List.{range_with_len}
 use Rattle.std.specs.Vec.{vec_capacity}
-use Rattle.scan_range.specs.Cuts.{even_ends}
 use Rattle.scan_range.proofs.cuts.Cuts.even.Given as goal
 
 abbrev pub invariant-loop-range : goal.invariant-loop-range

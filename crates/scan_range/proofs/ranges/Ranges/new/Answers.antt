@@ -1,7 +1,6 @@
-use Rattle.std.proofs.Common.{◌≡◌, ℕ, List, ◌+◌, ◌∙◌, ap, arith, sym, ◌++◌, ◌∷◌, [], length, length-append}
+use Rattle.std.proofs.Common.{ℕ, ap, arith, sym, length, length-append}
 use Rattle.std.proofs.lemmas.List.FromFn.{map-range_with_len_more}
 use Rattle.scan_range.specs.Cuts.{range_start}
-use Rattle.scan_range.specs.declared.cuts.Cuts.{Cuts}
 use Rattle.scan_range.proofs.Going.{made-AreRanges, start_after}
 use Rattle.scan_range.proofs.ranges.Ranges.new.Goals as goal
 

@@ -1,6 +1,6 @@
 //! Where even ranges end, and each call once.
 
-use crate::{Cuts, Ranges};
+use scan_range::{Cuts, Ranges};
 use keybytes::Fault;
 use std::test::Fail;
 

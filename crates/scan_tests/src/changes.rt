@@ -2,7 +2,7 @@
 
 ghost use Rattle.std.specs.Prelude.{◌≤◌, length};
 
-use crate::{Change, entries, visible};
+use visibility::{Change, entries, visible};
 use keybytes::{Fault, Key, Rid};
 use scan_range::{Cuts, Ranges};
 use std::alloc::Global;
