@@ -1,0 +1,5 @@
+pub mod Covered
+pub mod Ends
+pub mod EvenEnds
+pub mod Going
+pub mod Passed

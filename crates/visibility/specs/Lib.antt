@@ -1,0 +1,2 @@
+pub mod SideEntries
+pub mod Visible
