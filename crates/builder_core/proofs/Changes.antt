@@ -14,7 +14,8 @@ use Rattle.keybytes.specs.declared.pair.Pair.{Pair}
 use Rattle.keybytes.specs.declared.rid.Rid.{Rid}
 use Rattle.keybytes.proofs.PairSets.{is_pair, IsOwn, contains-insert, contains-remove, itself, apart}
 use Rattle.heap_log.proofs.Records.{or_no}
-use Rattle.builder_core.specs.SideEntries.{SideEntry, delete, insert, changes, apply_entry, apply_entries, HasEffect, HaveEffect}
+use Rattle.visibility.specs.SideEntries.{SideEntry, delete, insert, changes}
+use Rattle.builder_core.specs.SideEntries.{apply_entry, apply_entries, HasEffect, HaveEffect}
 
 -- entries in two parts
 pub apply-append : (es fs : List SideEntry) (s : FinSet pair_cmp) → apply_entries (es ++ fs) s ≡ apply_entries fs (apply_entries es s)

@@ -18,7 +18,8 @@ use Rattle.heap_log.proofs.Last.{IsLast, last_below_some}
 use Rattle.heap_log.proofs.Records.{length-added}
 use Rattle.heap_table.specs.TablePairs.{pair_at}
 use Rattle.builder_core.specs.Scanning.{Scanning, scanned_at, is_visible, opened_scanning, with_scan}
-use Rattle.builder_core.specs.SideEntries.{SideEntry, changes, entries_for, entries_of, entries_from, side_entries}
+use Rattle.visibility.specs.SideEntries.{SideEntry, changes}
+use Rattle.builder_core.specs.SideEntries.{entries_for, entries_of, entries_from, side_entries}
 use Rattle.builder_core.proofs.ScanSteps.{visible_same}
 
 -- the start

@@ -22,7 +22,8 @@ use Rattle.keybytes.specs.Pairs.{pair_cmp}
 use Rattle.heap_table.specs.TablePairs.{pairs_at_rest}
 use Rattle.builder_core.specs.CoreState.{BuildState, WorkerState, WorkState, CoreState, scanning_of}
 use Rattle.builder_core.specs.Scanning.{scanned_pairs}
-use Rattle.builder_core.specs.Ranges.{dealt_ends, range_pages, next_page, open_range}
+use Rattle.scan_range.specs.Cuts.{range_pages}
+use Rattle.builder_core.specs.Ranges.{dealt_ends, next_page, open_range}
 use Rattle.builder_core.specs.Steps.{refusal, Does, AfterMemory}
 use Rattle.builder_core.specs.Workers.{waiting, fill_runs, loud_worker}
 use Rattle.builder_core.specs.declared.scan.Scan.{Scan as Copied}

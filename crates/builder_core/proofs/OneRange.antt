@@ -6,7 +6,8 @@ use Rattle.std.proofs.lemmas.Bool.{cases_lt, cond-true, cond-false, lt-ltb, le-l
 use Rattle.std.proofs.lemmas.Option.{same_Some}
 use Rattle.builder_core.specs.Builds.{ScansInTurn}
 use Rattle.builder_core.specs.CoreState.{BuildState}
-use Rattle.builder_core.specs.Ranges.{first_that, range_pages, is_left, next_page, open_range}
+use Rattle.scan_range.specs.Cuts.{range_pages}
+use Rattle.builder_core.specs.Ranges.{first_that, is_left, next_page, open_range}
 
 -- the first number that passes stands behind those that don't
 first_left :

@@ -20,7 +20,8 @@ use Rattle.builder_core.specs.Builds.{IsBuildOf, BuildFollows}
 use Rattle.builder_core.specs.CoreState.{BuildState, scanning_of}
 use Rattle.builder_core.specs.Invariant.{BuildIsSound, EntriesHaveEffect, VisiblePairsAreCaughtUp, entry_rid}
 use Rattle.builder_core.specs.Scanning.{Scanning, IsScanned, is_by, is_visible, scanned_at}
-use Rattle.builder_core.specs.SideEntries.{SideEntry, delete, insert, changes, entries_for, entries_of, entries_from, side_entries}
+use Rattle.visibility.specs.SideEntries.{SideEntry, delete, insert, changes}
+use Rattle.builder_core.specs.SideEntries.{entries_for, entries_of, entries_from, side_entries}
 use Rattle.builder_core.proofs.SideFollows.{leaves_visible, entries_have_effect}
 
 by_later : (count n : ℕ) (o : Option ℕ) → count ≤ n → is_by count o ≡ true → is_by n o ≡ true

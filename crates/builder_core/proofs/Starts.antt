@@ -13,7 +13,8 @@ use Rattle.builder_core.specs.declared.dealing.Dealing.TheVariants.{Ends, Even}
 use Rattle.builder_core.specs.declared.plan.Plan.{Plan}
 use Rattle.builder_core.specs.Builds.{work_state}
 use Rattle.builder_core.specs.CoreState.{LiveState}
-use Rattle.builder_core.specs.Ranges.{dealt_ends, even_ends}
+use Rattle.scan_range.specs.Cuts.{even_ends}
+use Rattle.builder_core.specs.Ranges.{dealt_ends}
 use Rattle.builder_core.specs.Steps.{same_kind, same_kinds, is_one_end, is_one_range, counts_fit, start_refusal, fresh_work}
 use Rattle.builder_core.proofs.Working.{fresh}
 

@@ -7,7 +7,8 @@ use Rattle.keybytes.specs.declared.rid.Rid.{Rid}
 use Rattle.heap_log.specs.declared.record.LogRec.{LogRec}
 use Rattle.builder_core.specs.CoreState.{BuildState, scanning_of}
 use Rattle.builder_core.specs.Scanning.{Scanning, ReadOnce, is_visible, scanned_pairs}
-use Rattle.builder_core.specs.SideEntries.{SideEntry, delete, insert, side_entries, apply_entries, HaveEffect, visible_pairs}
+use Rattle.visibility.specs.SideEntries.{SideEntry, delete, insert}
+use Rattle.builder_core.specs.SideEntries.{side_entries, apply_entries, HaveEffect, visible_pairs}
 
 -- the RID whose pair an entry takes out or puts in
 abbrev pub entry_rid : SideEntry → Rid

@@ -1,6 +1,7 @@
 -- The ranges of pages of a build, and which of their pages are still to be copied.
 use Rattle.std.specs.Prelude.{ℕ, zero, suc, ◌+◌, ◌-◌, ◌*◌, ◌/◌, Bool, not, if◌then◌else◌, is_some, List, [], ◌∷◌, map, length, get_or, Option, Some, None}
 use Rattle.std.specs.List.{range_with_len}
+use Rattle.scan_range.specs.Cuts.{range_pages, even_ends}
 use Rattle.builder_core.specs.CoreState.{BuildState}
 use Rattle.builder_core.specs.Scanning.{scanned_at}
 use Rattle.builder_core.specs.declared.dealing.Dealing.{Dealing}
@@ -11,22 +12,10 @@ abbrev pub first_that : (ℕ → Bool) → List ℕ → Option ℕ
 first_that test [] = None
 first_that test (n ∷ ns) = if test n then Some n else first_that test ns
 
--- where each of so many ranges ends that differ by at most one page
-abbrev pub even_ends : ℕ → ℕ → List ℕ
-even_ends pages ranges = map (λ range. pages * (range + 1) / ranges) (range_with_len 0 ranges)
-
 -- where the ranges of a dealing end
 abbrev pub dealt_ends : ℕ → Dealing → List ℕ
 dealt_ends pages (Ends ends) = ends.items
 dealt_ends pages (Even ranges) = even_ends pages ranges
-
--- a range begins where the one before it ends
-abbrev pub range_start : List ℕ → ℕ → ℕ
-range_start ends zero = 0
-range_start ends (suc range) = get_or ends range 0
-
-abbrev pub range_pages : List ℕ → ℕ → List ℕ
-range_pages ends range = range_with_len (range_start ends range) (get_or ends range 0 - range_start ends range)
 
 -- whether a page is still to be copied
 abbrev pub is_left : BuildState → ℕ → Bool

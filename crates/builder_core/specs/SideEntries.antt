@@ -10,19 +10,8 @@ use Rattle.keybytes.specs.declared.rid.Rid.{Rid}
 use Rattle.heap_log.specs.Growing.{changed_rid, first_records}
 use Rattle.heap_log.specs.declared.record.LogRec.{LogRec}
 use Rattle.heap_table.specs.TablePairs.{pair_at, written_rids}
+use Rattle.visibility.specs.SideEntries.{SideEntry, delete, insert, changes}
 use Rattle.builder_core.specs.Scanning.{Scanning, is_visible}
-
--- what a record does to an index that is being built: it takes a pair out, or puts one in
-pub data SideEntry : Type 0 where
-  delete : Pair → SideEntry
-  insert : Pair → SideEntry
-
--- what puts a RID's new pair in the place of its old one
-abbrev pub changes : Option Pair → Option Pair → List SideEntry
-changes None None = []
-changes None (Some new) = insert new ∷ []
-changes (Some old) None = delete old ∷ []
-changes (Some old) (Some new) = if pointwise nat_eq old.key new.key then [] else delete old ∷ insert new ∷ []
 
 -- what a record changes at its RID, where the build sees it
 abbrev pub entries_for : Scanning → List LogRec → LogRec → Option Rid → List SideEntry
