@@ -10,7 +10,8 @@ use Rattle.keybytes.specs.declared.cell.Cell.{Cell}
 use Rattle.keybytes.specs.declared.rid.Rid.{Rid}
 use Rattle.keybytes.proofs.SameRids.{same_rid-true, same_rid-refl}
 use Rattle.heap_log.specs.Growing.{changed_rid}
-use Rattle.heap_log.specs.Standing.{live_at, newest_at, standing_before, row_at, record_at, place_of, stands_at, undone, is_write_at, is_number, AddsToLive}
+use Rattle.heap_log.specs.Standing.{live_at, newest_at, standing_before, row_at, record_at, place_of, stands_at, undone, is_write_at, is_number}
+use Rattle.heap_log.proofs.Adds.{AddsToLive}
 use Rattle.heap_log.specs.declared.outcome.Outcome.{Outcome}
 use Rattle.heap_log.specs.declared.record.LogRec.{LogRec}
 use Rattle.heap_log.specs.declared.record.LogRec.TheVariants.{Write, Undo, Commit, Switch}

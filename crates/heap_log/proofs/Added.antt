@@ -7,7 +7,8 @@ use Rattle.keybytes.specs.declared.rid.Rid.{Rid}
 use Rattle.heap_log.specs.declared.record.LogRec.{LogRec}
 use Rattle.heap_log.specs.declared.record.LogRec.TheVariants.{Write, Undo, Commit, Switch}
 use Rattle.heap_log.specs.Links.{newest_by, stands_by}
-use Rattle.heap_log.specs.Standing.{record_at, undone, is_undo_of, is_number, is_write_of, is_write_at, rid_of, last_below, count_below, newest_standing, standing_before, standing_count, stands_at, newest_at, place_of, last_of, newest_after, count_after, before_after, AddsToBefore, AddsToLast, AddsToNumbers, AddsToStanding, KeepsBefore, NamesEarlier}
+use Rattle.heap_log.specs.Standing.{record_at, undone, is_undo_of, is_number, is_write_of, is_write_at, rid_of, last_below, count_below, newest_standing, standing_before, standing_count, stands_at, newest_at, place_of, last_of, NamesEarlier}
+use Rattle.heap_log.proofs.Adds.{newest_after, count_after, before_after, AddsToBefore, AddsToLast, AddsToNumbers, AddsToStanding, KeepsBefore}
 use Rattle.heap_log.proofs.Last.{IsLast, last_below-more, last_below_agree, last_below_some, last_below_taken, last_below_without, count_below-more, count_below_agree, count_below_taken}
 use Rattle.heap_log.proofs.Records.{record_at-kept, record_at-added, length-added, undone-added, or_no, or_false, undo_within, rid_of-write, written_cases, writes_there, some_place-there}
 

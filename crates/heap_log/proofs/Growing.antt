@@ -9,7 +9,8 @@ use Rattle.keybytes.specs.declared.rid.Rid.{Rid}
 use Rattle.heap_log.specs.declared.record.LogRec.{LogRec}
 use Rattle.heap_log.specs.declared.record.LogRec.TheVariants.{Write, Undo, Commit, Switch}
 use Rattle.heap_log.specs.Growing.{UndoesNameEarlier, Added, changed_rid, first_records}
-use Rattle.heap_log.specs.Standing.{record_at, undone, is_undo_of, is_write_at, place_of, stands_at, newest_at, last_below, live_at, row_at, row_of, NamesEarlier, AddsToLive, AddsToStanding, AddsToBefore, AddsToLast, AddsToNumbers}
+use Rattle.heap_log.specs.Standing.{record_at, undone, is_undo_of, is_write_at, place_of, stands_at, newest_at, last_below, live_at, row_at, row_of, NamesEarlier}
+use Rattle.heap_log.proofs.Adds.{AddsToLive, AddsToStanding, AddsToBefore, AddsToLast, AddsToNumbers}
 use Rattle.heap_log.proofs.Last.{IsLast, last_below_some, last_below-more, last_below_agree}
 use Rattle.heap_log.proofs.Records.{slice_get-append_left, slice_get-append_seam, record_at-kept, record_at-added, length-added, undone-added, or_no, undo_within}
 use Rattle.heap_log.proofs.Added.{adds_to_before, adds_to_last, adds_to_numbers, adds_to_standing}

@@ -1,4 +1,5 @@
 pub mod Added
+pub mod Adds
 pub mod Examples
 pub mod Growing
 pub mod Headed

@@ -8,7 +8,8 @@ use Rattle.heap_log.specs.declared.outcome.Outcome.{Outcome}
 use Rattle.heap_log.specs.declared.record.LogRec.{LogRec}
 use Rattle.heap_log.specs.declared.record.LogRec.TheVariants.{Write, Undo, Commit, Switch}
 use Rattle.keybytes.specs.Rids.{same_rid}
-use Rattle.heap_log.specs.Standing.{record_at, undone, is_undo_of, is_write_at, is_number, last_below, stands_at, newest_at, live_at, live_after, row_at, row_of, standing_before, AddsToLive, NamesEarlier}
+use Rattle.heap_log.specs.Standing.{record_at, undone, is_undo_of, is_write_at, is_number, last_below, stands_at, newest_at, live_at, row_at, row_of, standing_before, NamesEarlier}
+use Rattle.heap_log.proofs.Adds.{live_after, AddsToLive}
 use Rattle.heap_log.proofs.Last.{IsLast, last_below_some}
 use Rattle.heap_log.proofs.Records.{record_at-kept, record_at-added, rid_of-write}
 use Rattle.heap_log.proofs.Added.{undone-fresh, newest-plain, newest-undo, is_number-true}

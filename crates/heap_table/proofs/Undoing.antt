@@ -10,7 +10,8 @@ use Rattle.keybytes.specs.declared.cell.Cell.{Cell}
 use Rattle.keybytes.specs.declared.rid.Rid.{Rid}
 use Rattle.heap_log.specs.declared.record.LogRec.{LogRec}
 use Rattle.heap_log.specs.declared.record.LogRec.TheVariants.{Write, Undo}
-use Rattle.heap_log.specs.Standing.{record_at, is_write_of, is_write_at, is_undo_of, is_number, rid_of, row_of, stands_of, stands_at, undone, newest_standing, newest_at, standing_before, live_at, row_at, last_below, KeepsBefore}
+use Rattle.heap_log.specs.Standing.{record_at, is_write_of, is_write_at, is_undo_of, is_number, rid_of, row_of, stands_of, stands_at, undone, newest_standing, newest_at, standing_before, live_at, row_at, last_below}
+use Rattle.heap_log.proofs.Adds.{KeepsBefore}
 use Rattle.heap_log.proofs.Last.{IsLast, last_below_some, last_below_is, last_below_agree}
 use Rattle.heap_log.proofs.Numbers.{write_at, newest_standing-of}
 use Rattle.slotted_page.specs.Slot.{Slot, row as row_slot, reserve_of}
