@@ -2,11 +2,11 @@
 
 ghost use Rattle.std.specs.Prelude.{◌≤◌, length};
 
-use visibility::{Change, entries, visible};
 use keybytes::{Fault, Key, Rid};
 use scan_range::{Cuts, Ranges};
 use std::alloc::Global;
 use std::test::Fail;
+use visibility::{Change, entries, visible};
 
 fn first_on(page: u32) -> Rid {
     Rid { page, slot: 0 }
@@ -35,11 +35,7 @@ fn update(alloc: Global, old: &[u8], new: &[u8], visible: bool) -> Result<Change
     requires old { length old.now ≤ 812 }
     requires new { length new.now ≤ 812 }
 {
-    Ok(entries(
-        Some(key(alloc, old)?),
-        Some(key(alloc, new)?),
-        visible,
-    ))
+    Ok(entries(Some(key(alloc, old)?), Some(key(alloc, new)?), visible))
 }
 
 #[test]

@@ -1,7 +1,7 @@
 //! Where even ranges end, and each call once.
 
-use scan_range::{Cuts, Ranges};
 use keybytes::Fault;
+use scan_range::{Cuts, Ranges};
 use std::test::Fail;
 
 #[test]
