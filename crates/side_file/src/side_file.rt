@@ -92,8 +92,8 @@ impl SideFile {
         consumer.slots_beside(&mut self.producer)
     }
 
-    /// Makes room for that many more entries; takes no memory where the room is there. Also Memory where the entries since the
-    /// last reset could no more be counted.
+    /// Makes room for that many more entries; takes no memory where the room is there. Memory is also the answer where the
+    /// entries since the last reset would be more than `usize` counts.
     pub fn reserve(&mut self, n: usize) -> Result<(), Fault>
         ensures reserved { Answered None (Reserves n) self.old result self.new }
         ensures succeeds { n ≤ self.old.room → IsOk result }
@@ -101,7 +101,7 @@ impl SideFile {
         if n <= self.room {
             return Ok(());
         }
-        if usize::MAX - self.fed - self.left.len() < n {
+        if usize::MAX - self.fed - self.left() < n {
             return Err(Fault::Memory);
         }
         self.left.reserve(n)?;
@@ -128,7 +128,7 @@ impl SideFile {
         ensures first { feed_most k self.old + length self.old.end.sent ≤ self.old.end.capacity → result ≡ feed_most k self.old }
         ensures stops { result < feed_most k self.old → self.new.end.free ≡ 0 }
     {
-        let most = k.min(RING_ENTRIES).min(self.left.len());
+        let most = k.min(RING_ENTRIES).min(self.left());
         let count = most.min(self.producer.slots());
         move_first(&mut self.left, &mut self.producer, count);
         self.fed += count;
