@@ -14,7 +14,7 @@ use std::collections::VecDeque;
 use std::collections::vec_deque::Iter;
 use std::marker::Model;
 
-/// How many entries a ring has room for, and the most that one call feeds.
+/// How many entries a ring has room for, and so the most that one call feeds.
 pub const RING_ENTRIES: usize = 256;
 
 /// The entries of an index that is being built. Contracts see those fed since the last reset, those left, the room for more,
@@ -128,7 +128,7 @@ impl SideFile {
         ensures first { feed_most k self.old + length self.old.end.sent ≤ self.old.end.capacity → result ≡ feed_most k self.old }
         ensures stops { result < feed_most k self.old → self.new.end.free ≡ 0 }
     {
-        let most = k.min(RING_ENTRIES).min(self.left());
+        let most = k.min(self.left());
         let count = most.min(self.producer.slots());
         move_first(&mut self.left, &mut self.producer, count);
         self.fed += count;
