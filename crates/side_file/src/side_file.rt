@@ -41,7 +41,8 @@ impl Model for SideFile {
 
     ghost view = { λ side. record { fed = last_ones side.fed (sent side.producer); left = side.left.items; room = side.room; end = put_end side.producer } };
 
-    ghost invariant = { λ side. IsKept (producer_capacity side.producer) (length (sent side.producer)) side.fed (length side.left.items) side.room (deque_capacity side.left) };
+    ghost invariant = { λ side. IsKept (producer_capacity side.producer) (length (sent side.producer)) side.fed
+        (length side.left.items) side.room (deque_capacity side.left) };
 }
 
 impl SideFile {
