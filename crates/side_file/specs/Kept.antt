@@ -1,0 +1,13 @@
+-- What a side-file keeps of its counts.
+use Rattle.std.specs.Prelude.{◌≡◌, ℕ, ◌+◌, ◌-◌, ◌^◌, ◌<◌, ◌≤◌, List, length, drop}
+
+-- the last n of them
+abbrev pub last_ones : {X : Type 0} → ℕ → List X → List X
+last_ones n xs = drop (length xs - n) xs
+
+-- the ring has 256 places, what was fed was sent, each entry that finds room has its place, and all can be counted
+pub record IsKept (capacity sent fed left room places : ℕ) : Type 0 where
+  pub ring : capacity ≡ 256
+  pub fed_was_sent : fed ≤ sent
+  pub has_places : left + room ≤ places
+  pub countable : fed + left + room < 2 ^ 64

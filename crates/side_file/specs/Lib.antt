@@ -1,0 +1,4 @@
+pub mod Changes
+pub mod Ends
+pub mod Kept
+pub mod SideFileValue

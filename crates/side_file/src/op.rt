@@ -1,0 +1,6 @@
+/// What a change does to the pair of an entry.
+#[derive(Clone, Copy, Debug, PartialEq, Eq)]
+pub enum Op {
+    Delete,
+    Insert,
+}
