@@ -21,7 +21,7 @@ struct Entry {
     rid: Rid,
 }
 
-/// Pairs of the rows 5 and 3 on page 0, and 5 on page 1.
+/// Keys 3 and 5 at page 0, and 5 again at page 1.
 const ENTRIES: &[Entry] = &[
     Entry {
         key: b"\x01\x80\0\0\0\0\0\0\x03",
