@@ -1,4 +1,3 @@
-pub mod Changes
 pub mod Copies
 pub mod CopyPairs
 pub mod Distinct

@@ -20,8 +20,9 @@ use Rattle.heap_table.specs.TablePairs.{pair_at, written_rids, index_pairs}
 use Rattle.heap_table.proofs.TablePairs.{own_pair, row_there, row_written, contains-index_pairs}
 use Rattle.builder_core.specs.Scanning.{Scanning, scanned_at, is_by, is_visible, scanned_pairs, IsScanned, AllScanned}
 use Rattle.visibility.specs.SideEntries.{SideEntry, changes}
-use Rattle.builder_core.specs.SideEntries.{entries_for, entries_of, entries_from, side_entries, apply_entries, HaveEffect, visible_pair, visible_pairs}
-use Rattle.builder_core.proofs.Changes.{Turns, changes_turn, apply-append, effect-append}
+use Rattle.builder_core.specs.SideEntries.{entries_for, entries_of, entries_from, side_entries, visible_pair, visible_pairs}
+use Rattle.visibility.specs.Applied.{apply_entries, HaveEffect}
+use Rattle.visibility.proofs.Changes.{Turns, changes_turn, apply-append, effect-append}
 use Rattle.builder_core.proofs.Seen.{HasSeen, IsScanAt, scan_at, seen, scan_pair, hidden_stays, shown_next, seen_kept, opened_seen, seen_all}
 
 -- the entries have effect, and leave what is seen once these records are looked at

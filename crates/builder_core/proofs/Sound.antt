@@ -18,7 +18,8 @@ use Rattle.heap_table.proofs.PairsAtRest.{all_append}
 use Rattle.heap_table.proofs.TablePairs.{own_pair}
 use Rattle.builder_core.specs.Builds.{IsBuildOf, BuildFollows}
 use Rattle.builder_core.specs.CoreState.{BuildState, scanning_of}
-use Rattle.builder_core.specs.Invariant.{BuildIsSound, EntriesHaveEffect, VisiblePairsAreCaughtUp, entry_rid}
+use Rattle.builder_core.specs.Invariant.{BuildIsSound, EntriesHaveEffect, VisiblePairsAreCaughtUp}
+use Rattle.visibility.specs.Applied.{entry_rid}
 use Rattle.builder_core.specs.Scanning.{Scanning, IsScanned, is_by, is_visible, scanned_at}
 use Rattle.visibility.specs.SideEntries.{SideEntry, delete, insert, changes}
 use Rattle.builder_core.specs.SideEntries.{entries_for, entries_of, entries_from, side_entries}

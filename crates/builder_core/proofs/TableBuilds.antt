@@ -20,7 +20,8 @@ use Rattle.builder_core.specs.CoreState.{BuildState, scanning_of}
 use Rattle.builder_core.specs.Ranges.{next_page}
 use Rattle.builder_core.specs.Scanning.{Scanning, IsScanOf, AllScanned, scanned_at, scanned_pairs}
 use Rattle.visibility.specs.SideEntries.{SideEntry}
-use Rattle.builder_core.specs.SideEntries.{entries_of, apply_entries}
+use Rattle.visibility.specs.Applied.{apply_entries}
+use Rattle.builder_core.specs.SideEntries.{entries_of}
 use Rattle.builder_core.specs.declared.scan.Scan.{Scan}
 use Rattle.builder_core.proofs.Copies.{copies_kept}
 use Rattle.builder_core.proofs.EntrySteps.{opened_entries, more_entries, same_entries, commit_entries}

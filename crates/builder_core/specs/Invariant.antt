@@ -3,17 +3,11 @@ use Rattle.std.specs.Prelude.{◌≡◌, ℕ, true, List, length}
 use Rattle.std.specs.List.{All}
 use Rattle.keybytes.specs.Keys.{KeySpecValue}
 use Rattle.keybytes.specs.Pairs.{set_of}
-use Rattle.keybytes.specs.declared.rid.Rid.{Rid}
 use Rattle.heap_log.specs.declared.record.LogRec.{LogRec}
 use Rattle.builder_core.specs.CoreState.{BuildState, scanning_of}
 use Rattle.builder_core.specs.Scanning.{Scanning, ReadOnce, is_visible, scanned_pairs}
-use Rattle.visibility.specs.SideEntries.{SideEntry, delete, insert}
-use Rattle.builder_core.specs.SideEntries.{side_entries, apply_entries, HaveEffect, visible_pairs}
-
--- the RID whose pair an entry takes out or puts in
-abbrev pub entry_rid : SideEntry → Rid
-entry_rid (delete pair) = pair.rid
-entry_rid (insert pair) = pair.rid
+use Rattle.builder_core.specs.SideEntries.{side_entries, visible_pairs}
+use Rattle.visibility.specs.Applied.{entry_rid, apply_entries, HaveEffect}
 
 -- what the side-file's entries make of the scanned pairs is the set of pairs of the visible rows
 abbrev pub VisiblePairsAreCaughtUp : Scanning → List LogRec → Type 0

@@ -1,4 +1,5 @@
 pub mod Changes
 pub mod Ends
+pub mod Entries
 pub mod Kept
 pub mod SideFileValue

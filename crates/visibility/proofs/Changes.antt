@@ -13,9 +13,8 @@ use Rattle.keybytes.specs.Pairs.{pair_cmp, without_pair}
 use Rattle.keybytes.specs.declared.pair.Pair.{Pair}
 use Rattle.keybytes.specs.declared.rid.Rid.{Rid}
 use Rattle.keybytes.proofs.PairSets.{is_pair, IsOwn, contains-insert, contains-remove, itself, apart}
-use Rattle.heap_log.proofs.Records.{or_no}
 use Rattle.visibility.specs.SideEntries.{SideEntry, delete, insert, changes}
-use Rattle.builder_core.specs.SideEntries.{apply_entry, apply_entries, HasEffect, HaveEffect}
+use Rattle.visibility.specs.Applied.{apply_entry, apply_entries, HasEffect, HaveEffect}
 
 -- entries in two parts
 pub apply-append : (es fs : List SideEntry) (s : FinSet pair_cmp) → apply_entries (es ++ fs) s ≡ apply_entries fs (apply_entries es s)
@@ -59,6 +58,10 @@ same_pair : (a b : Pair) → a.key ≡ b.key → a.rid ≡ b.rid → a ≡ b
 same_pair a b key rid =
     let make : List ℕ → Rid → Pair = λ k r. record { key = k; rid = r } in
     ap (λ k. make k a.rid) key ∙ ap (make b.key) rid
+
+or_no : (x : Bool) → (x || false) ≡ x
+or_no true = refl
+or_no false = refl
 
 no_longer : (x : Bool) → (not x && x) ≡ false
 no_longer true = refl
