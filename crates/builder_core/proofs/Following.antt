@@ -12,6 +12,7 @@ use Rattle.heap_table.specs.TablePairs.{pairs_at_rest}
 use Rattle.heap_table.proofs.TablePairs.{pairs_kept}
 use Rattle.builder_core.specs.Builds.{BuildFollows}
 use Rattle.builder_core.specs.CoreState.{BuildState, ReadyValue, FollowTable}
+use Rattle.heap_log.specs.declared.record.LogRec.TheVariants.{Commit}
 use Rattle.builder_core.proofs.TableBuilds.{build_kept}
 
 -- a change that keeps the rows keeps the ready indexes
@@ -41,5 +42,5 @@ pub commit_follows :
     (old new : HeapState) (txn : ℕ) (build : Option BuildState) → (new ≡ after_commit old txn) ⊎ (new ≡ old)
     → BuildFollows old.schema old.log build → BuildFollows new.schema new.log build
 commit_follows old new txn build (inl done) is =
-    subst (λ (h : HeapState). BuildFollows h.schema h.log build) (sym done) (build_kept old.schema old.log txn build is)
+    subst (λ (h : HeapState). BuildFollows h.schema h.log build) (sym done) (build_kept old.schema old.log (Commit txn) build is)
 commit_follows old new txn build (inr refused) is = subst (λ (h : HeapState). BuildFollows h.schema h.log build) (sym refused) is

@@ -6,6 +6,7 @@ pub mod Examples
 pub mod Following
 pub mod Making
 pub mod OneRange
+pub mod Performed
 pub mod Refusals
 pub mod Runs
 pub mod ScanExamples

@@ -1,27 +1,28 @@
 -- What each event leaves of the build that a table knows, and what its switch makes ready.
 use Rattle.std.proofs.Common.{◌≡◌, ℕ, ◌+◌, ◌<◌, ◌≤◌, true, false, List, [], ◌∷◌, ◌++◌, length, length-append, take, drop, Option, Some, None, refl, sym, ap, ◌∙◌, arith, subst, inl, inr}
 use Rattle.std.specs.Prelude.{is_some, nat_lt, ◌==◌}
-use Rattle.std.specs.FinMap.{keys}
+use Rattle.std.specs.FinMap.{keys, contains_key-keys}
+use Rattle.std.specs.FinSet.{FinSet}
 use Rattle.std.specs.List.{All}
 use Rattle.std.proofs.lemmas.Bool.{cases_Bool, eqb-true, lt-ltb, le-ltb, false≢true}
 use Rattle.std.proofs.lemmas.Bool.Decides.{nat_tests}
 use Rattle.std.proofs.lemmas.List.Elements.{All-drop, All-take, All-weaker, filter-append}
 use Rattle.keybytes.specs.Keys.{KeySpecValue}
-use Rattle.keybytes.specs.Pairs.{set_of}
+use Rattle.keybytes.specs.Pairs.{pair_cmp, set_of}
+use Rattle.keybytes.proofs.PairSets.{contains-set_of, same_members}
 use Rattle.keybytes.specs.declared.kind.Kind.{Kind}
 use Rattle.keybytes.specs.declared.pair.Pair.{Pair}
 use Rattle.heap_log.specs.declared.record.LogRec.{LogRec}
-use Rattle.heap_log.specs.declared.record.LogRec.TheVariants.{Commit}
 use Rattle.heap_table.specs.Images.{ImageValue, IsImage}
 use Rattle.heap_table.specs.Pages.{pages_written}
 use Rattle.heap_table.specs.TablePairs.{pairs_at_rest}
 use Rattle.builder_core.specs.Builds.{WorkValue, ScansInTurn, IsBuildOf, IsWorkOn, IsWorkOf, BuildFollows, after_put, build_of_one}
 use Rattle.builder_core.specs.CoreState.{BuildState, scanning_of}
 use Rattle.builder_core.specs.Ranges.{next_page}
-use Rattle.builder_core.specs.Scanning.{Scanning, IsScanOf, AllScanned, scanned_at, scanned_pairs}
+use Rattle.builder_core.specs.Scanning.{Scanning, IsScanned, IsScanOf, AllScanned, scanned_at, scanned_pairs}
 use Rattle.visibility.specs.SideEntries.{SideEntry}
 use Rattle.visibility.specs.Applied.{apply_entries}
-use Rattle.builder_core.specs.SideEntries.{entries_of}
+use Rattle.builder_core.specs.SideEntries.{side_entries}
 use Rattle.builder_core.specs.declared.scan.Scan.{Scan}
 use Rattle.builder_core.proofs.Copies.{copies_kept}
 use Rattle.builder_core.proofs.EntrySteps.{opened_entries, more_entries, same_entries, commit_entries}
@@ -51,7 +52,6 @@ started_build kinds log number spec columns limit = record {
   columns = columns;
   in_turn = none_in_turn (pages_written log) limit;
   scanned = opened_scanned spec log;
-  no_entries = opened_entries spec log;
 }
 
 none_of : (o : Option ℕ) → is_some o ≡ false → o ≡ None
@@ -110,41 +110,37 @@ scanned_build kinds log b is more = record {
   columns = is.columns;
   in_turn = turn_more b.pages b.scans (length log) is.in_turn more;
   scanned = scan_scanned (scanning_of b is.spec) 0 (length b.scans) log is.scanned more (not_scanned b.pages b.scans is.in_turn);
-  no_entries = same_entries (scanning_of b is.spec) 0 (length b.scans) log (not_scanned b.pages b.scans is.in_turn) ∙ is.no_entries;
 }
 
--- a commit changes no row
-commit_kept : (kinds : List Kind) (log : List LogRec) (txn : ℕ) (b : BuildState) → IsBuildOf kinds log b → IsBuildOf kinds (log ++ Commit txn ∷ []) b
-commit_kept kinds log txn b is = record {
+-- what was read stays so as the log grows
+build_grown : (kinds : List Kind) (log : List LogRec) (rec : LogRec) (b : BuildState) → IsBuildOf kinds log b → IsBuildOf kinds (log ++ rec ∷ []) b
+build_grown kinds log rec b is = record {
   spec = is.spec;
   one_index = is.one_index;
   one_range = is.one_range;
   one_worker = is.one_worker;
   columns = is.columns;
   in_turn = is.in_turn;
-  scanned = more_scanned (scanning_of b is.spec) log (Commit txn) is.scanned;
-  no_entries = more_entries (scanning_of b is.spec) log (Commit txn) is.scanned.opened
-      ∙ ap (λ es. es ++ entries_of (scanning_of b is.spec) log (Commit txn)) is.no_entries
-      ∙ commit_entries (scanning_of b is.spec) log txn;
+  scanned = more_scanned (scanning_of b is.spec) log rec is.scanned;
 }
 
-pub build_kept : (kinds : List Kind) (log : List LogRec) (txn : ℕ) (build : Option BuildState) → BuildFollows kinds log build → BuildFollows kinds (log ++ Commit txn ∷ []) build
-build_kept kinds log txn None is = tt
-build_kept kinds log txn (Some b) is = commit_kept kinds log txn b is
+pub build_kept : (kinds : List Kind) (log : List LogRec) (rec : LogRec) (build : Option BuildState) → BuildFollows kinds log build → BuildFollows kinds (log ++ rec ∷ []) build
+build_kept kinds log rec None is = tt
+build_kept kinds log rec (Some b) is = build_grown kinds log rec b is
 
-commit_work_kept :
-    (kinds : List Kind) (log : List LogRec) (txn : ℕ) (b : BuildState) (work : WorkValue) → IsBuildOf kinds log b → IsWorkOn kinds log b work
-    → IsWorkOn kinds (log ++ Commit txn ∷ []) b work
-commit_work_kept kinds log txn b work build is = record {
+work_grown :
+    (kinds : List Kind) (log : List LogRec) (rec : LogRec) (b : BuildState) (work : WorkValue) → IsBuildOf kinds log b → IsWorkOn kinds log b work
+    → IsWorkOn kinds (log ++ rec ∷ []) b work
+work_grown kinds log rec b work build is = record {
   specs = is.specs;
   columns = is.columns;
   put = is.put;
   few = is.few;
   all = is.all;
   sound = λ e. let s = is.sound e in record {
-    copies = copies_kept kinds here log (Commit txn) (drop work.worker.taken b.scans) work.worker.ring (All-drop (IsScanOf here log) work.worker.taken b.scans scans) s.copies;
-    made = λ t. s.made t ∙ sym (pairs_kept here log (Commit txn) (take work.worker.taken b.scans) (All-take (IsScanOf here log) work.worker.taken b.scans scans));
-    loaded = λ pairs t. s.loaded pairs t ∙ sym (ap (λ ps. keys (set_of ps)) (pairs_kept here log (Commit txn) b.scans scans));
+    copies = copies_kept kinds here log rec (drop work.worker.taken b.scans) work.worker.ring (All-drop (IsScanOf here log) work.worker.taken b.scans scans) s.copies;
+    made = λ t. s.made t ∙ sym (pairs_kept here log rec (take work.worker.taken b.scans) (All-take (IsScanOf here log) work.worker.taken b.scans scans));
+    loaded = λ pairs t. s.loaded pairs t ∙ sym (ap (λ ps. keys (set_of ps)) (pairs_kept here log rec b.scans scans));
   };
 } where
   here : Scanning
@@ -154,33 +150,42 @@ commit_work_kept kinds log txn b work build is = record {
   scans = All-weaker (IsScanOf (scanning_of b build.spec) log) (IsScanOf here log) (λ scan it. record { page = it.page; opened = it.opened; within = it.within }) b.scans build.scanned.scans
 
 pub work_kept :
-    (kinds : List Kind) (log : List LogRec) (txn : ℕ) (build : Option BuildState) (work : Option WorkValue) → BuildFollows kinds log build → IsWorkOf kinds log build work
-    → IsWorkOf kinds (log ++ Commit txn ∷ []) build work
-work_kept kinds log txn None None build is = tt
-work_kept kinds log txn None (Some w) build is = is
-work_kept kinds log txn (Some b) None build is = is
-work_kept kinds log txn (Some b) (Some w) build is = commit_work_kept kinds log txn b w build is
+    (kinds : List Kind) (log : List LogRec) (rec : LogRec) (build : Option BuildState) (work : Option WorkValue) → BuildFollows kinds log build → IsWorkOf kinds log build work
+    → IsWorkOf kinds (log ++ rec ∷ []) build work
+work_kept kinds log rec None None build is = tt
+work_kept kinds log rec None (Some w) build is = is
+work_kept kinds log rec (Some b) None build is = is
+work_kept kinds log rec (Some b) (Some w) build is = work_grown kinds log rec b w build is
 
 -- lists of one specification
 pub only_same : (a b : KeySpecValue) → a ∷ [] ≡ b ∷ [] → a ≡ b
 only_same a b e = cc
 
--- a switch makes the pairs at rest ready
+-- what it has read, for that specification
+pub scanned_for : (kinds : List Kind) (log : List LogRec) (b : BuildState) → IsBuildOf kinds log b → (spec : KeySpecValue) → b.specs ≡ spec ∷ [] → IsScanned (scanning_of b spec) log
+scanned_for kinds log b is spec one =
+    subst (λ s. IsScanned (scanning_of b s) log) (only_same is.spec spec (sym is.one_index ∙ one)) is.scanned
+
+-- a set has the members of its list
+set_of-keys : (s : FinSet pair_cmp) → set_of (keys s) ≡ s
+set_of-keys s = same_members (set_of (keys s)) s (λ q. contains-set_of (keys s) q ∙ sym (contains_key-keys s q))
+
+-- once the side-file is applied to the scanned pairs, they are the pairs at rest
 pub switched_pairs :
-    (kinds : List Kind) (log : List LogRec) (b : BuildState) (work : WorkValue) (pairs : List Pair) → IsBuildOf kinds log b → IsWorkOn kinds log b work
-    → work.spoiled ≡ None → work.tree ≡ Some pairs → pairs ≡ pairs_at_rest work.spec log
-switched_pairs kinds log b work pairs build is fine loaded =
+    (kinds : List Kind) (log : List LogRec) (b : BuildState) (work : WorkValue) (before after : List Pair) → IsBuildOf kinds log b → IsWorkOn kinds log b work
+    → work.spoiled ≡ None → work.tree ≡ Some before → after ≡ keys (set_of after)
+    → set_of after ≡ apply_entries (side_entries (scanning_of b work.spec) log) (set_of before) → after ≡ pairs_at_rest work.spec log
+switched_pairs kinds log b work before after build is fine loaded ordered applied =
     let all = is.all (ap is_some loaded) in
     let put = is.put in
     let within = build.in_turn.within in
-    let here : Scanning = scanning_of b build.spec in
+    let here : Scanning = scanning_of b work.spec in
     let whole : AllScanned here = λ page less. some_of (scanned_at b.scans page) (build.in_turn.in_turn page ∙ lt-ltb page (length b.scans) (omega (arith, less, all, put, within))) in
-    let same : build.spec ≡ work.spec = only_same build.spec work.spec (sym build.one_index ∙ is.specs) in
-    (is.sound fine).loaded pairs loaded
-    ∙ ap (λ spec. keys (set_of (scanned_pairs (scanning_of b spec) log))) (sym same)
-    ∙ ap (λ (es : List SideEntry). keys (apply_entries es (set_of (scanned_pairs here log)))) (sym build.no_entries)
-    ∙ ap keys (leaves_index here log build.scanned whole)
-    ∙ ap (λ spec. pairs_at_rest spec log) same
+    ordered
+    ∙ ap keys (applied
+    ∙ ap (λ ps. apply_entries (side_entries here log) (set_of ps)) ((is.sound fine).loaded before loaded)
+    ∙ ap (apply_entries (side_entries here log)) (set_of-keys (set_of (scanned_pairs here log)))
+    ∙ leaves_index here log (scanned_for kinds log b build work.spec is.specs) whole)
 
 -- the page that comes next is one of the table's
 pub next_below : (kinds : List Kind) (log : List LogRec) (b : BuildState) (page : ℕ) → IsBuildOf kinds log b → next_page b 0 ≡ Some page → page < pages_written log

@@ -1,5 +1,6 @@
 -- A call of the table within the core, told as an event.
 use Rattle.std.proofs.Common.{◌≡◌, ℕ, Option, refl, sym, subst}
+use Rattle.heap_log.specs.declared.record.LogRec.TheVariants.{Commit}
 use Rattle.heap_table.specs.HeapState.{HeapState, after_commit}
 use Rattle.builder_core.specs.Builds.{WorkValue, core_state, WorksOn, BuildFollows}
 use Rattle.builder_core.specs.CoreState.{LiveState, CoreState, live_with_heap}
@@ -16,4 +17,4 @@ tells_on_live tell Does s live new work answer is does =
 -- the work stays that of its build where a transaction commits
 pub commit_works : (live new : LiveState) (txn : ℕ) (work : Option WorkValue) → BuildFollows live.heap.schema live.heap.log live.build → new ≡ live_with_heap live (after_commit live.heap txn) → WorksOn live work → WorksOn new work
 commit_works live new txn work follows is works =
-    subst (λ (l : LiveState). WorksOn l work) (sym is) (work_kept live.heap.schema live.heap.log txn live.build work follows works)
+    subst (λ (l : LiveState). WorksOn l work) (sym is) (work_kept live.heap.schema live.heap.log (Commit txn) live.build work follows works)

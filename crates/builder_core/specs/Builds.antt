@@ -12,7 +12,6 @@ use Rattle.builder_core.specs.CoreState.{BuildState, LiveState, WorkerState, Ind
 use Rattle.builder_core.specs.ImagePairs.{HavePairs}
 use Rattle.builder_core.specs.Ranges.{next_page}
 use Rattle.builder_core.specs.Scanning.{IsScanned, AreCopies, scanned_at, pairs_at_scan, scanned_pairs}
-use Rattle.builder_core.specs.SideEntries.{side_entries}
 use Rattle.builder_core.specs.Steps.{refusal}
 use Rattle.builder_core.specs.declared.event.Event.{Event}
 use Rattle.builder_core.specs.declared.scan.Scan.{Scan}
@@ -85,7 +84,7 @@ pub record ScansInTurn (pages : ℕ) (scans : List Scan) : Type 0 where
   pub in_turn : (page : ℕ) → is_some (scanned_at scans page) ≡ nat_lt page (length scans)
   pub alone : filter (λ scan. scan.worker == 0) scans ≡ scans
 
--- a build of one index over one range, on the table with that log; nothing that it can see was changed since it started
+-- a build of one index over one range, on the table with that log
 pub record IsBuildOf (kinds : List Kind) (log : List LogRec) (b : BuildState) : Type 0 where
   pub spec : KeySpecValue
   pub one_index : b.specs ≡ spec ∷ []
@@ -94,7 +93,6 @@ pub record IsBuildOf (kinds : List Kind) (log : List LogRec) (b : BuildState) : 
   pub columns : spec.kinds ≡ kinds
   pub in_turn : ScansInTurn b.pages b.scans
   pub scanned : IsScanned (scanning_of b spec) log
-  pub no_entries : side_entries (scanning_of b spec) log ≡ []
 
 -- the running build, if any, is one of that table
 abbrev pub BuildFollows : List Kind → List LogRec → Option BuildState → Type 0

@@ -6,5 +6,6 @@ pub mod Invariant
 pub mod Ranges
 pub mod Scanning
 pub mod SideEntries
+pub mod SideFiles
 pub mod Steps
 pub mod Workers

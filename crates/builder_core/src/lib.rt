@@ -11,6 +11,7 @@
 #![tactic(auto)]
 
 mod building;
+mod changes;
 mod core_steps;
 mod dealing;
 mod event;

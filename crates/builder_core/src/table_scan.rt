@@ -1,11 +1,12 @@
 //! What the table knows of the build that runs.
 ghost use Rattle.std.specs.Prelude.{◌≡◌, false, ◌++◌, ◌∷◌, ◌≤◌, [], length, Some, None, IfOk, IfErr, MatchOption, if◌then◌else◌};
+ghost use Rattle.builder_core.specs.SideFiles.{sees};
 ghost use Rattle.builder_core.specs.CoreState.{BuildState};
 ghost use Rattle.builder_core.specs.Builds.{ScansInTurn, build_of_one};
 ghost use Rattle.builder_core.specs.Ranges.{next_page, open_range};
 
 use crate::Scan;
-use keybytes::{Fault, KeySpec};
+use keybytes::{Fault, KeySpec, Rid};
 use std::alloc::Global;
 use std::marker::Model;
 
@@ -55,6 +56,27 @@ impl TableScan {
             pages,
             scans: Vec::with_capacity(alloc, pages as usize)?,
         })
+    }
+
+    /// Its number.
+    pub fn number(&self) -> u64
+        ensures { result ≡ self.now.number }
+    {
+        self.number
+    }
+
+    /// What makes the keys of its index.
+    pub fn spec(&self) -> &KeySpec
+        ensures { self.now.specs ≡ result.now ∷ [] }
+    {
+        &self.spec
+    }
+
+    /// Whether the build has to hear of a change at the RID: its page is newer than the build, or was copied.
+    pub fn sees(&self, rid: Rid) -> bool
+        ensures { result ≡ sees self.now rid }
+    {
+        rid.page >= self.pages || (rid.page as usize) < self.scans.len()
     }
 
     /// The lowest page that is still to be copied.

@@ -1,0 +1,124 @@
+-- A change that was made ready and is performed adds its entries.
+use Rattle.std.proofs.Common.{◌≡◌, ℕ, cond, List, [], ◌∷◌, ◌++◌, length, map, Option, Some, None, refl, sym, ap, ◌∙◌, subst}
+use Rattle.std.specs.Prelude.{IsSome, IfSome, if◌then◌else◌}
+use Rattle.std.specs.List.{All}
+use Rattle.std.proofs.lemmas.Bool.{false≢true}
+use Rattle.std.proofs.lemmas.List.{map-append}
+use Rattle.keybytes.specs.Keys.{KeySpecValue}
+use Rattle.keybytes.specs.Pairs.{pair_with}
+use Rattle.keybytes.specs.declared.cell.Cell.{Cell}
+use Rattle.keybytes.specs.declared.rid.Rid.{Rid}
+use Rattle.heap_log.specs.declared.record.LogRec.{LogRec}
+use Rattle.heap_log.specs.declared.record.LogRec.TheVariants.{Write, Undo, Commit, Switch}
+use Rattle.heap_log.specs.Standing.{live_at, record_at, place_of, rid_of, IsWrite}
+use Rattle.heap_log.specs.Growing.{changed_rid}
+use Rattle.heap_log.proofs.Numbers.{newest_standing-write}
+use Rattle.heap_table.specs.declared.ready.Ready.{Ready}
+use Rattle.heap_table.specs.HeapState.{HeapState}
+use Rattle.heap_table.specs.HeapValue.{HeapValue}
+use Rattle.heap_table.specs.Pages.{SetsRow}
+use Rattle.heap_table.specs.Ready.{IsReady, IsLawful, after_change, after_ready}
+use Rattle.side_file.specs.Entries.{entry_of}
+use Rattle.side_file.specs.SideFileValue.{SideFileValue}
+use Rattle.visibility.specs.SideEntries.{SideEntry, changes}
+use Rattle.builder_core.specs.Builds.{WorkValue, IsBuildOf, IsWorkOf, BuildFollows}
+use Rattle.builder_core.specs.CoreState.{BuildState, scanning_of}
+use Rattle.builder_core.specs.Scanning.{Scanning, is_visible}
+use Rattle.builder_core.specs.SideEntries.{entries_of, side_entries}
+use Rattle.builder_core.specs.SideFiles.{sees, noted, HasEntries, SideFollows}
+use Rattle.builder_core.proofs.EntrySteps.{entries_where, more_entries}
+use Rattle.builder_core.proofs.ScanSteps.{visible_now, more_scanned}
+use Rattle.builder_core.proofs.TableBuilds.{build_kept, work_kept, only_same, scanned_for}
+
+-- the record of a change
+abbrev rec_of : ℕ → Rid → Option ℕ → Option (List Cell) → LogRec
+rec_of txn rid None new = Write txn rid new
+rec_of txn rid (Some n) new = Undo txn n
+
+abbrev rec_ready : Ready → LogRec
+rec_ready ready = rec_of ready.txn ready.rid ready.undone ready.new
+
+log_grows : (s : HeapState) (txn : ℕ) (rid : Rid) (undone : Option ℕ) (new : Option (List Cell)) → (after_change s txn rid undone new).log ≡ s.log ++ rec_of txn rid undone new ∷ []
+log_grows s txn rid None new = refl
+log_grows s txn rid (Some n) new = refl
+
+schema_stays : (s : HeapState) (txn : ℕ) (rid : Rid) (undone : Option ℕ) (new : Option (List Cell)) → (after_change s txn rid undone new).schema ≡ s.schema
+schema_stays s txn rid None new = refl
+schema_stays s txn rid (Some n) new = refl
+
+rid_there : (rec : Option LogRec) → IsSome (place_of rec) → place_of rec ≡ Some (rid_of rec)
+rid_there None h = absurd (false≢true h)
+rid_there (Some (Write t rid row)) h = refl
+rid_there (Some (Undo t n)) h = absurd (false≢true h)
+rid_there (Some (Commit t)) h = absurd (false≢true h)
+rid_there (Some (Switch v)) h = absurd (false≢true h)
+
+-- it changes its RID
+changed_there :
+    (s : HeapState) (txn : ℕ) (rid : Rid) (undone : Option ℕ) (old new : Option (List Cell)) → IsLawful s txn rid undone old new
+    → changed_rid s.log (rec_of txn rid undone new) ≡ Some rid
+changed_there s txn rid None old new lawful = refl
+changed_there s txn rid (Some n) old new lawful =
+    let write : IsWrite s.log n = newest_standing-write s.log txn n lawful.1 in
+    rid_there (record_at s.log n) write.write ∙ ap (λ x. Some x) (sym lawful.2)
+
+module _ (h : HeapValue) (ready : Ready) (is : IsReady h ready) (sets : SetsRow h.state.log ready.rid ready.new (after_ready h.state ready).log) where
+  abbrev log : List LogRec
+  log = h.state.log
+
+  grows : (after_ready h.state ready).log ≡ log ++ rec_ready ready ∷ []
+  grows = log_grows h.state ready.txn ready.rid ready.undone ready.new
+
+  schema_is : (after_ready h.state ready).schema ≡ h.state.schema
+  schema_is = schema_stays h.state ready.txn ready.rid ready.undone ready.new
+
+  -- what it appends, by the state of the scan at that moment
+  noted_entries : (b : BuildState) (spec : KeySpecValue) → IsBuildOf h.state.schema log b → b.specs ≡ spec ∷ []
+      → entries_of (scanning_of b spec) log (rec_ready ready) ≡ noted b spec ready.rid ready.old ready.new
+  noted_entries b spec build one =
+      let here : Scanning = scanning_of b spec in
+      let rid : Rid = ready.rid in
+      entries_where here log (rec_ready ready) rid ready.new
+      (changed_there h.state ready.txn rid ready.undone ready.old ready.new is.lawful)
+      (ap (λ l. live_at l rid) (sym grows) ∙ sets.here)
+      ∙ ap (λ o. cond (is_visible here (length log) rid) (changes (pair_with spec rid o) (pair_with spec rid ready.new)) []) (sym is.old)
+      ∙ ap (λ x. cond x (changes (pair_with spec rid ready.old) (pair_with spec rid ready.new)) []) (visible_now here log rid (scanned_for h.state.schema log b build spec one))
+
+  pub follows_on : (build : Option BuildState) → BuildFollows h.state.schema log build
+      → BuildFollows (after_ready h.state ready).schema (after_ready h.state ready).log build
+  follows_on build is_of =
+      subst (λ k. BuildFollows k (after_ready h.state ready).log build) (sym schema_is)
+      (subst (λ l. BuildFollows h.state.schema l build) (sym grows) (build_kept h.state.schema log (rec_ready ready) build is_of))
+
+  pub works_on :
+      (build : Option BuildState) (work : Option WorkValue) → BuildFollows h.state.schema log build → IsWorkOf h.state.schema log build work
+      → IsWorkOf (after_ready h.state ready).schema (after_ready h.state ready).log build work
+  works_on build work is_of works =
+      subst (λ k. IsWorkOf k (after_ready h.state ready).log build work) (sym schema_is)
+      (subst (λ l. IsWorkOf h.state.schema l build work) (sym grows) (work_kept h.state.schema log (rec_ready ready) build work is_of works))
+
+  side_on :
+      (b : BuildState) (old new : SideFileValue) → IsBuildOf h.state.schema log b → HasEntries log b old → new.fed ≡ old.fed
+      → ((spec : KeySpecValue) → b.specs ≡ spec ∷ [] → new.left ≡ old.left ++ map (entry_of b.number) (noted b spec ready.rid ready.old ready.new))
+      → HasEntries (after_ready h.state ready).log b new
+  side_on b old new build has fed left = record {
+    entries = λ spec one.
+        let here : Scanning = scanning_of b spec in
+        let put : SideEntry → _ = entry_of b.number in
+        left spec one
+        ∙ ap (λ es. es ++ map put (noted b spec ready.rid ready.old ready.new)) (has.entries spec one)
+        ∙ ap (λ es. map put (side_entries here log) ++ map put es) (sym (noted_entries b spec build one))
+        ∙ sym (map-append put (side_entries here log) (entries_of here log (rec_ready ready)))
+        ∙ ap (map put) (sym (more_entries here log (rec_ready ready) (scanned_for h.state.schema log b build spec one).opened))
+        ∙ ap (λ l. map put (side_entries here l)) (sym grows);
+    none_fed = fed ∙ has.none_fed;
+  }
+
+  -- the side-file of the running build, if one runs, follows the change
+  pub side_follows_on :
+      (build : Option BuildState) (old new : SideFileValue) → BuildFollows h.state.schema log build → SideFollows log build old → new.fed ≡ old.fed
+      → IfSome build (λ b. (spec : KeySpecValue) → b.specs ≡ spec ∷ []
+      → new.left ≡ old.left ++ map (entry_of b.number) (noted b spec ready.rid ready.old ready.new))
+      → SideFollows (after_ready h.state ready).log build new
+  side_follows_on None old new is_of has fed left = tt
+  side_follows_on (Some b) old new is_of has fed left = side_on b old new is_of has fed left

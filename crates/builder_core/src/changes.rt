@@ -1,0 +1,144 @@
+//! A change of a row, done together with what it means for the index of the running build.
+ghost use Rattle.std.specs.Prelude.{◌≡◌, ◌+◌, ◌++◌, ◌∷◌, ◌≤◌, [], length, map, Some, None, ℕ, true, IsSome, IfSome, IfOk, IfErr, OnOk, OnErr, Option};
+ghost use Rattle.std.specs.Option.{option_map};
+ghost use Rattle.keybytes.specs.Cells.{fits};
+ghost use Rattle.keybytes.specs.Keys.{KeySpecValue, key_of};
+ghost use Rattle.heap_log.specs.Standing.{standing_count};
+ghost use Rattle.heap_table.specs.HeapState.{after_write, after_undo};
+ghost use Rattle.heap_table.specs.Ready.{IsReady, after_ready, answer_of};
+ghost use Rattle.visibility.specs.SideEntries.{entries_of_change};
+ghost use Rattle.side_file.specs.Entries.{entry_of};
+ghost use Rattle.builder_core.specs.Builds.{WorkValue, BuildFollows, IsWorkOf};
+ghost use Rattle.builder_core.specs.SideFiles.{noted, SideFollows};
+
+use crate::table_scan::TableScan;
+use heap_table::{Heap, Performed, Ready, Undone};
+use keybytes::{Fault, Key, KeySpec, Rid, Row};
+use side_file::{Entry, Op, SideFile};
+use visibility::{Change, entries};
+
+/// The key of a row, if there is one.
+fn key_of(spec: &KeySpec, row: &Option<Row>) -> Result<Option<Key>, Fault>
+    requires { IfSome row.now (λ cells. fits spec.now.kinds cells ≡ true) }
+    ensures ok { IfOk result (λ key. key ≡ option_map (key_of spec.now) row.now) }
+    ensures memory { IfErr result (λ fault. fault ≡ Fault.Memory) }
+{
+    match row {
+        Some(row) => Ok(Some(spec.key(row)?)),
+        None => Ok(None),
+    }
+}
+
+/// What a change means for the build's index, as far as the build has scanned by now.
+fn change_of(build: &TableScan, rid: Rid, old: &Option<Row>, new: &Option<Row>) -> Result<Change, Fault>
+    requires old_fits { (spec : KeySpecValue) → build.now.specs ≡ spec ∷ [] → IfSome old.now (λ cells. fits spec.kinds cells ≡ true) }
+    requires new_fits { (spec : KeySpecValue) → build.now.specs ≡ spec ∷ [] → IfSome new.now (λ cells. fits spec.kinds cells ≡ true) }
+    ensures ok { IfOk result (λ change. (spec : KeySpecValue) → build.now.specs ≡ spec ∷ []
+        → entries_of_change rid change ≡ noted build.now spec rid old.now new.now) }
+    ensures memory { IfErr result (λ fault. fault ≡ Fault.Memory) }
+{
+    let spec = build.spec();
+    Ok(entries(key_of(spec, old)?, key_of(spec, new)?, build.sees(rid)))
+}
+
+/// Appends the entries of a change: its delete, then its insert.
+fn append(side: &mut SideFile, build: u64, rid: Rid, change: Change)
+    requires { 2 ≤ side.old.room }
+    ensures left { side.new.left ≡ side.old.left ++ map (entry_of build) (entries_of_change rid change) }
+    ensures fed { side.new.fed ≡ side.old.fed }
+    ensures end { side.new.end ≡ side.old.end }
+{
+    let Change { delete, insert } = change;
+    if let Some(key) = delete {
+        side.append(Entry { build, op: Op::Delete, key, rid });
+    }
+    if let Some(key) = insert {
+        side.append(Entry { build, op: Op::Insert, key, rid });
+    }
+}
+
+/// Makes the entries of a change, and appends them; for want of memory nothing changes.
+fn note(side: &mut SideFile, build: &Option<TableScan>, ready: &Ready) -> Result<(), Fault>
+    requires old_fits { IfSome build.now (λ b. (spec : KeySpecValue) → b.specs ≡ spec ∷ [] → IfSome ready.now.old (λ cells. fits spec.kinds cells ≡ true)) }
+    requires new_fits { IfSome build.now (λ b. (spec : KeySpecValue) → b.specs ≡ spec ∷ [] → IfSome ready.now.new (λ cells. fits spec.kinds cells ≡ true)) }
+    ensures left { OnOk result (IfSome build.now (λ b. (spec : KeySpecValue) → b.specs ≡ spec ∷ []
+        → side.new.left ≡ side.old.left ++ map (entry_of b.number) (noted b spec ready.now.rid ready.now.old ready.now.new))) }
+    ensures unchanged { OnErr result (side.new.left ≡ side.old.left) }
+    ensures fed { side.new.fed ≡ side.old.fed }
+    ensures end { side.new.end ≡ side.old.end }
+    ensures memory { IfErr result (λ fault. fault ≡ Fault.Memory) }
+{
+    let Some(build) = build else {
+        return Ok(());
+    };
+    let change = change_of(build, ready.rid, &ready.old, &ready.new)?;
+    side.reserve(2)?;
+    append(side, build.number(), ready.rid, change);
+    Ok(())
+}
+
+/// Does a change that was made ready, its entries with it; for want of memory nothing changes.
+fn perform(heap: &mut Heap, side: &mut SideFile, build: &Option<TableScan>, ready: Ready) -> Result<Performed, Fault>
+    requires ready { IsReady heap.old ready }
+    requires build { BuildFollows heap.old.state.schema heap.old.state.log build.now }
+    requires side { SideFollows heap.old.state.log build.now side.old }
+    ensures performed { OnOk result (heap.new.state ≡ after_ready heap.old.state ready) }
+    ensures answer { IfOk result (λ done. done ≡ answer_of heap.new.state ready.txn ready.rid ready.undone) }
+    ensures follows { BuildFollows heap.new.state.schema heap.new.state.log build.now }
+    ensures works { (work : Option WorkValue) → IsWorkOf heap.old.state.schema heap.old.state.log build.now work
+        → IsWorkOf heap.new.state.schema heap.new.state.log build.now work }
+    ensures noted { SideFollows heap.new.state.log build.now side.new }
+    ensures end { side.new.end ≡ side.old.end }
+    ensures unchanged { OnErr result (heap.new ≡ heap.old) }
+    ensures memory { IfErr result (λ fault. fault ≡ Fault.Memory) }
+{
+    heap.laws();
+    note(side, build, &ready)?;
+    Ok(heap.perform(ready))
+}
+
+/// Does a write that was made ready; answered with its record's number and the RID.
+pub fn write(heap: &mut Heap, side: &mut SideFile, build: &Option<TableScan>, ready: Ready) -> Result<(usize, Rid), Fault>
+    requires ready { IsReady heap.old ready }
+    requires write { ready.undone ≡ None }
+    requires build { BuildFollows heap.old.state.schema heap.old.state.log build.now }
+    requires side { SideFollows heap.old.state.log build.now side.old }
+    ensures written { OnOk result (heap.new.state ≡ after_write heap.old.state ready.txn ready.rid ready.new) }
+    ensures number { IfOk result (λ written. written.0 ≡ length heap.new.state.log) }
+    ensures rid { IfOk result (λ written. written.1 ≡ ready.rid) }
+    ensures follows { BuildFollows heap.new.state.schema heap.new.state.log build.now }
+    ensures works { (work : Option WorkValue) → IsWorkOf heap.old.state.schema heap.old.state.log build.now work
+        → IsWorkOf heap.new.state.schema heap.new.state.log build.now work }
+    ensures noted { SideFollows heap.new.state.log build.now side.new }
+    ensures end { side.new.end ≡ side.old.end }
+    ensures unchanged { OnErr result (heap.new ≡ heap.old) }
+    ensures memory { IfErr result (λ fault. fault ≡ Fault.Memory) }
+{
+    let Performed::Written { number, rid } = perform(heap, side, build, ready)? else {
+        unreachable!()
+    };
+    Ok((number, rid))
+}
+
+/// Does an undo that was made ready.
+pub fn undo(heap: &mut Heap, side: &mut SideFile, build: &Option<TableScan>, ready: Ready) -> Result<Undone, Fault>
+    requires ready { IsReady heap.old ready }
+    requires undo { IsSome ready.undone }
+    requires build { BuildFollows heap.old.state.schema heap.old.state.log build.now }
+    requires side { SideFollows heap.old.state.log build.now side.old }
+    ensures undone { OnOk result ((n : ℕ) → ready.undone ≡ Some n → heap.new.state ≡ after_undo heap.old.state ready.txn n) }
+    ensures number { IfOk result (λ undone. undone.number ≡ length heap.new.state.log) }
+    ensures left { IfOk result (λ undone. undone.left ≡ standing_count heap.new.state.log ready.txn) }
+    ensures follows { BuildFollows heap.new.state.schema heap.new.state.log build.now }
+    ensures works { (work : Option WorkValue) → IsWorkOf heap.old.state.schema heap.old.state.log build.now work
+        → IsWorkOf heap.new.state.schema heap.new.state.log build.now work }
+    ensures noted { SideFollows heap.new.state.log build.now side.new }
+    ensures end { side.new.end ≡ side.old.end }
+    ensures unchanged { OnErr result (heap.new ≡ heap.old) }
+    ensures memory { IfErr result (λ fault. fault ≡ Fault.Memory) }
+{
+    let Performed::Undone(undone) = perform(heap, side, build, ready)? else {
+        unreachable!()
+    };
+    Ok(undone)
+}
