@@ -13,6 +13,10 @@ use Rattle.heap_table.proofs.TablePairs.{pairs_kept}
 use Rattle.builder_core.specs.Builds.{BuildFollows}
 use Rattle.builder_core.specs.CoreState.{BuildState, ReadyValue, FollowTable}
 use Rattle.heap_log.specs.declared.record.LogRec.TheVariants.{Commit}
+use Rattle.side_file.specs.SideFileValue.{SideFileValue}
+use Rattle.builder_core.specs.SideFiles.{SideFollows}
+use Rattle.builder_core.proofs.EntrySteps.{commit_entries}
+use Rattle.builder_core.proofs.SideKept.{side_plain}
 use Rattle.builder_core.proofs.TableBuilds.{build_kept}
 
 -- a change that keeps the rows keeps the ready indexes
@@ -44,3 +48,12 @@ pub commit_follows :
 commit_follows old new txn build (inl done) is =
     subst (λ (h : HeapState). BuildFollows h.schema h.log build) (sym done) (build_kept old.schema old.log (Commit txn) build is)
 commit_follows old new txn build (inr refused) is = subst (λ (h : HeapState). BuildFollows h.schema h.log build) (sym refused) is
+
+-- and the side-file is its own
+pub commit_side :
+    (old new : HeapState) (txn : ℕ) (build : Option BuildState) (side : SideFileValue) → (new ≡ after_commit old txn) ⊎ (new ≡ old)
+    → BuildFollows old.schema old.log build → SideFollows old.log build side → SideFollows new.log build side
+commit_side old new txn build side (inl done) is has =
+    subst (λ (h : HeapState). SideFollows h.log build side) (sym done)
+    (side_plain old.schema old.log (Commit txn) build side (λ s. commit_entries s old.log txn) is has)
+commit_side old new txn build side (inr refused) is has = subst (λ (h : HeapState). SideFollows h.log build side) (sym refused) has

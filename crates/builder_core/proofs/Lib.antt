@@ -14,6 +14,7 @@ pub mod ScanSteps
 pub mod Sealing
 pub mod Seen
 pub mod SideFollows
+pub mod SideKept
 pub mod Sound
 pub mod Starts
 pub mod SwitchIn

@@ -112,6 +112,7 @@ module _ (h : HeapValue) (ready : Ready) (is : IsReady h ready) (sets : SetsRow 
         ∙ ap (map put) (sym (more_entries here log (rec_ready ready) (scanned_for h.state.schema log b build spec one).opened))
         ∙ ap (λ l. map put (side_entries here l)) (sym grows);
     none_fed = fed ∙ has.none_fed;
+    count = has.count ∙ ap (λ es. length es ∷ []) (sym fed);
   }
 
   -- the side-file of the running build, if one runs, follows the change

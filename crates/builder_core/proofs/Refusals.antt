@@ -112,24 +112,6 @@ module _ (live : LiveState) (work : Option WorkValue) (b : BuildState) (w : Work
   pub scan_free : (page : ℕ) → w.spoiled ≡ None → next_page b 0 ≡ Some page → length w.worker.ring < 4 → scan_cause 0 0 ≡ None
   scan_free page fine next room = scan_is 0 0 ∙ rw (fit_counts, fine, next, waiting_is, lt-leb 4 (length w.worker.ring) room) refl
 
-  abbrev switch_cause : Option Fault
-  switch_cause = build_cause live.build (λ b. switch_refusal b (work_state work))
-
-  switch_is : switch_cause ≡ switch_refusal b (work_state (Some w))
-  switch_is = rw (run.build_is, run.work_is) refl
-
-  pub switch_spoiled : (fault : Fault) → w.spoiled ≡ Some fault → switch_cause ≡ Some fault
-  switch_spoiled fault spoiled = switch_is ∙ rw spoiled refl
-
-  pub switch_open : w.spoiled ≡ None → open_range b ≡ Some 0 → switch_cause ≡ Some (NotScanned 0)
-  switch_open fine left = switch_is ∙ rw (fine, left) refl
-
-  pub switch_unloaded : w.spoiled ≡ None → open_range b ≡ None → is_some w.tree ≡ false → switch_cause ≡ Some (NotLoaded 0)
-  switch_unloaded fine all unloaded = switch_is ∙ rw (fine, all, unloaded) refl
-
-  pub switch_free : w.spoiled ≡ None → open_range b ≡ None → is_some w.tree ≡ true → switch_cause ≡ None
-  switch_free fine all loaded = switch_is ∙ rw (fine, all, loaded) refl
-
   abbrev load_cause : ℕ → Option Fault
   load_cause index = build_cause live.build (λ b. load_refusal b (core_state live work) index)
 

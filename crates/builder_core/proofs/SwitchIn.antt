@@ -25,9 +25,9 @@ first_none (Some fault) b e = e
 
 module _
     (live : LiveState) (work : Option WorkValue) (b : BuildState) (w : WorkValue) (run : Running live work b w)
-    (free : build_cause live.build (λ b. switch_refusal b (work_state work)) ≡ None)
+    (free : build_cause live.build (λ b. switch_refusal b live.heap.log (work_state work)) ≡ None)
     (spec : KeySpecValue) (one : b.specs ≡ spec ∷ []) (pairs : List Pair) (tree : w.tree ≡ Some pairs) where
-  cause_is : build_cause live.build (λ b. switch_refusal b (work_state work)) ≡ switch_refusal b (work_state (Some w))
+  cause_is : build_cause live.build (λ b. switch_refusal b live.heap.log (work_state work)) ≡ switch_refusal b live.heap.log (work_state (Some w))
   cause_is = rw (run.build_is, run.work_is) refl
 
   fine : w.spoiled ≡ None

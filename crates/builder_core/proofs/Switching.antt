@@ -16,7 +16,7 @@ use Rattle.heap_table.specs.HeapState.{HeapState, after_step}
 use Rattle.heap_table.specs.TablePairs.{pairs_at_rest}
 use Rattle.heap_table.proofs.TablePairs.{pairs_kept}
 use Rattle.builder_core.specs.declared.event.Event.{Event}
-use Rattle.builder_core.specs.declared.event.Event.TheVariants.{Begin, Insert, Update, Delete, Undo, Commit, Start, Scan, Seal, Load, Switch}
+use Rattle.builder_core.specs.declared.event.Event.TheVariants.{Begin, Insert, Update, Delete, Undo, Commit, Start, Scan, Seal, Load, Switch, Abandon}
 use Rattle.builder_core.specs.declared.reply.Reply.{Reply}
 use Rattle.builder_core.specs.declared.reply.Reply.TheVariants.{Switched, Refused}
 use Rattle.builder_core.specs.CoreState.{CoreState, LiveState, BuildState, ReadyValue}
@@ -61,6 +61,7 @@ done_goes_on s (Seal worker) reply new does = let on = on_build s.live.build _ d
 done_goes_on s (Load index) reply new does = let on = on_build s.live.build _ does.2 in keeps_log s new _ on.1.1 refl
 done_goes_on s Switch reply new does =
     let on = on_build s.live.build _ does.2 in same_log s new _ (ap (λ (t : CoreState). t.live.heap) on.1.2) (_, refl)
+done_goes_on s Abandon reply new does = keeps_log s new _ does.1 refl
 
 memory_keeps : (s : CoreState) (event : Event) (new : CoreState) → AfterMemory event s new → new.live.heap.log ≡ s.live.heap.log
 memory_keeps s Begin new is = ap (λ (t : CoreState). t.live.heap.log) is
@@ -74,6 +75,7 @@ memory_keeps s (Scan range worker) new is = ap (λ (t : CoreState). t.live.heap.
 memory_keeps s (Seal worker) new is = ap (λ (t : CoreState). t.live.heap.log) is
 memory_keeps s (Load index) new is = ap (λ (t : CoreState). t.live.heap.log) is
 memory_keeps s Switch new is = ap (λ (t : CoreState). t.live.heap.log) is
+memory_keeps s Abandon new never = absurd never
 
 -- a step adds to the log alone
 step_goes_on : (s : CoreState) (event : Event) (reply : Reply) (new : CoreState) → Step s event reply new → GoesOn s.live.heap.log new.live.heap.log
@@ -123,6 +125,7 @@ does_switch s Switch number verdicts new does =
       verdicts_are = verdicts_told ∙ on.1.1;
       new_is = ap (λ (t : CoreState). t.live) on.1.2;
     }
+does_switch s Abandon number verdicts new does = absurd (let bad = does.0 in cc)
 
 switches : (s : CoreState) (event : Event) (number : ℕ) (verdicts : List Outcome) (new : CoreState) → Step s event (Switched number verdicts) new → Switched_in s number verdicts new
 switches s event number verdicts new (inl refused) = absurd (let bad : Switched number verdicts ≡ Refused refused.0 = refused.1 in cc)

@@ -37,8 +37,7 @@ pub record BuildState : Type 0 where
   pub workers : ℕ
   -- the pages that were copied since, in that order
   pub scans : List Scan
-  -- how many entries of each index's side-file were handed on to its tree. No row changes during a build as yet, so there
-  -- is no entry, and none is
+  -- how many entries of each index's side-file were handed on to its list of pairs: none before the switch, as yet
   pub fed : List ℕ
 
 -- what a build has read of the table, for one of its indexes
@@ -57,7 +56,8 @@ pub record WorkerState : Type 0 where
   pub taken : ℕ
   pub sealed : ℕ
 
--- an index of the build: whether its pairs are in order, and how many entries of its side-file it applied since: none as yet
+-- an index of the build: whether its pairs are in order, and how many entries of its side-file it applied since: none
+-- before the switch, as yet
 pub record IndexState : Type 0 where
   pub loaded : Bool
   pub applied : ℕ

@@ -1,12 +1,17 @@
 -- The side-file of a running build, and what a change of a row appends to it.
-use Rattle.std.specs.Prelude.{◌≡◌, Bool, ◌||◌, nat_le, is_some, if◌then◌else◌, List, [], ◌∷◌, map, Option, Some, None}
+use Rattle.std.specs.Prelude.{◌≡◌, ℕ, Bool, ◌||◌, nat_le, is_some, if◌then◌else◌, List, [], ◌∷◌, length, map, drop, get_or, Option, Some, None}
+use Rattle.std.specs.List.{slice_get}
 use Rattle.keybytes.specs.Keys.{KeySpecValue}
 use Rattle.keybytes.specs.Pairs.{pair_with}
 use Rattle.keybytes.specs.declared.cell.Cell.{Cell}
+use Rattle.keybytes.specs.declared.fault.Fault.{Fault}
+use Rattle.keybytes.specs.declared.fault.Fault.TheVariants.{NoBuild, BadCount}
 use Rattle.keybytes.specs.declared.rid.Rid.{Rid}
 use Rattle.heap_log.specs.declared.record.LogRec.{LogRec}
+use Rattle.side_file.specs.Ends.{RingId, PutEnd}
 use Rattle.side_file.specs.Entries.{entry_of}
 use Rattle.side_file.specs.SideFileValue.{SideFileValue}
+use Rattle.side_file.specs.declared.entry.Entry.{Entry}
 use Rattle.visibility.specs.SideEntries.{SideEntry, changes}
 use Rattle.builder_core.specs.CoreState.{BuildState, scanning_of}
 use Rattle.builder_core.specs.Scanning.{scanned_at}
@@ -24,8 +29,25 @@ noted b spec rid old new = if sees b rid then changes (pair_with spec rid old) (
 pub record HasEntries (log : List LogRec) (b : BuildState) (side : SideFileValue) : Type 0 where
   pub entries : (spec : KeySpecValue) → b.specs ≡ spec ∷ [] → side.left ≡ map (entry_of b.number) (side_entries (scanning_of b spec) log)
   pub none_fed : side.fed ≡ []
+  pub count : b.fed ≡ length side.fed ∷ []
 
 -- the side-file has the entries of the running build, if one runs
 abbrev pub SideFollows : List LogRec → Option BuildState → SideFileValue → Type 0
 SideFollows log None side = Unit {0}
 SideFollows log (Some b) side = HasEntries log b side
+
+-- both ends are of one ring, and what was put into it was taken out
+pub record IsDrained (put : PutEnd Entry) (ring : RingId) (received : List Entry) : Type 0 where
+  pub same_ring : put.ring ≡ ring
+  pub nothing_left : received ≡ put.sent
+
+-- why there is no side-file of that index
+abbrev pub side_refusal : Option BuildState → ℕ → Option Fault
+side_refusal None index = Some NoBuild
+side_refusal (Some b) index = if nat_le (length b.specs) index then Some BadCount else None
+
+-- these are the entries of the running build's index that were not handed on, in order, under the build's number
+abbrev pub AreEntriesLeft : List LogRec → Option BuildState → ℕ → List Entry → Type 0
+AreEntriesLeft log None index entries = ⊥
+AreEntriesLeft log (Some b) index entries = (spec : KeySpecValue) → slice_get b.specs index ≡ Some spec
+    → entries ≡ map (entry_of b.number) (drop (get_or b.fed index 0) (side_entries (scanning_of b spec) log))

@@ -8,7 +8,7 @@ use Rattle.keybytes.specs.Keys.{KeySpecValue}
 use Rattle.keybytes.specs.declared.kind.Kind.{Kind}
 use Rattle.keybytes.specs.declared.kind.Kind.TheVariants.{Int, Text, Flag}
 use Rattle.keybytes.specs.declared.fault.Fault.{Fault}
-use Rattle.keybytes.specs.declared.fault.Fault.TheVariants.{BuildRunning, NoBuild, BadCount, BadColumn, BadRanges, RangeDone, RingFull, NotScanned, NotSealed, NotLoaded, Memory}
+use Rattle.keybytes.specs.declared.fault.Fault.TheVariants.{BuildRunning, NoBuild, BadCount, BadColumn, BadRanges, RangeDone, RingFull, NotScanned, NotSealed, NotLoaded, Behind, Memory}
 use Rattle.heap_log.specs.declared.outcome.Outcome.{Outcome}
 use Rattle.heap_log.specs.declared.outcome.Outcome.TheVariants.{Ready}
 use Rattle.heap_log.specs.declared.record.LogRec.{LogRec}
@@ -20,13 +20,13 @@ use Rattle.builder_core.specs.declared.dealing.Dealing.{Dealing}
 use Rattle.builder_core.specs.declared.dealing.Dealing.TheVariants.{Ends, Even}
 use Rattle.builder_core.specs.declared.plan.Plan.{Plan}
 use Rattle.builder_core.specs.declared.event.Event.{Event}
-use Rattle.builder_core.specs.declared.event.Event.TheVariants.{Begin, Insert, Update, Delete, Undo, Commit, Start, Scan, Seal, Load, Switch}
+use Rattle.builder_core.specs.declared.event.Event.TheVariants.{Begin, Insert, Update, Delete, Undo, Commit, Start, Scan, Seal, Load, Switch, Abandon}
 use Rattle.builder_core.specs.declared.reply.Reply.{Reply}
-use Rattle.builder_core.specs.declared.reply.Reply.TheVariants.{Begun, Written, Undone, Committed, Started, Scanned, Sealed, Loaded, Switched, Refused}
-use Rattle.builder_core.specs.CoreState.{ReadyValue, BuildState, LiveState, IndexState, WorkState, CoreState, scanning_of, live_with_heap, with_live, idle}
+use Rattle.builder_core.specs.declared.reply.Reply.TheVariants.{Begun, Written, Undone, Committed, Started, Scanned, Sealed, Loaded, Switched, Abandoned, Refused}
+use Rattle.builder_core.specs.CoreState.{ReadyValue, BuildState, LiveState, IndexState, WorkState, CoreState, scanning_of, live_with_heap, with_live, opening, idle}
 use Rattle.builder_core.specs.Ranges.{dealt_ends, next_page, open_range}
 use Rattle.builder_core.specs.Scanning.{scanned_pairs}
-use Rattle.builder_core.specs.Workers.{put_to, waiting, loud_worker, unloaded_index}
+use Rattle.builder_core.specs.Workers.{put_to, waiting, loud_worker, unloaded_index, all_unapplied}
 
 -- the cause where the test holds
 abbrev pub cause_if : Bool → Fault → Option Fault
@@ -42,11 +42,11 @@ OnHeap Does live answer new = Does live.heap answer new.heap × (new ≡ live_wi
 abbrev pub OnLive : {R : Type 0} → (LiveState → R → LiveState → Type 0) → CoreState → R → CoreState → Type 0
 OnLive Does s answer new = Does s.live answer new.live × (new ≡ with_live s new.live)
 
--- whether a build runs or an index is ready
+-- whether an index is ready
 abbrev pub is_indexed : LiveState → Bool
-is_indexed live = is_some live.build || nat_lt 0 (length live.ready)
+is_indexed live = nat_lt 0 (length live.ready)
 
--- a row is changed only while no build runs and no index is ready, as yet
+-- a row is changed only while no index is ready, as yet
 abbrev pub unless_indexed : LiveState → Option Fault → Option Fault
 unless_indexed live cause = first_cause (cause_if (is_indexed live) BuildRunning) cause
 
@@ -205,11 +205,20 @@ Loads index s pairs new =
     (pairs ≡ (if (index_at s.work index).loaded then 0 else pairs_copied b s.live.heap.log (slice_get b.specs index)))
     × (new ≡ record s { work = after_load s.work index }))
 
+-- the most entries that a switch applies, over all indexes
+abbrev pub switch_most : ℕ
+switch_most = 1024
+
+-- so many entries are more than a switch applies
+abbrev pub behind_refusal : ℕ → Option Fault
+behind_refusal left = cause_if (nat_lt switch_most left) (Behind left)
+
 -- why the indexes do not become ready
-abbrev pub switch_refusal : BuildState → WorkState → Option Fault
-switch_refusal b work =
+abbrev pub switch_refusal : BuildState → List LogRec → WorkState → Option Fault
+switch_refusal b log work =
     first_cause work.spoiled
-    (first_cause (option_map NotScanned (open_range b)) (option_map NotLoaded (unloaded_index work)))
+    (first_cause (option_map NotScanned (open_range b))
+    (first_cause (option_map NotLoaded (unloaded_index work)) (behind_refusal (all_unapplied b log b.specs work.indexes))))
 
 -- the verdicts that so many indexes are ready, numbered from that number on
 abbrev pub ready_from : ℕ → ℕ → List Outcome
@@ -237,6 +246,10 @@ Switches s told new =
     (told.0 ≡ length s.live.heap.log + 1) × (told.1 ≡ verdicts_on s.live b)
     × (new ≡ record { live = after_switch_in s.live b; work = idle }))
 
+-- the build is given up, and with it all its work
+abbrev pub Abandons : CoreState → CoreState → Type 0
+Abandons s new = new ≡ opening s.live
+
 -- All events.
 
 -- why an event is refused: the first of its causes
@@ -251,7 +264,8 @@ refusal s (Start plan) = start_refusal s.live plan
 refusal s (Scan range worker) = build_cause s.live.build (λ b. scan_refusal b s.work range worker)
 refusal s (Seal worker) = build_cause s.live.build (λ b. seal_refusal b s.work worker)
 refusal s (Load index) = build_cause s.live.build (λ b. load_refusal b s index)
-refusal s Switch = build_cause s.live.build (λ b. switch_refusal b s.work)
+refusal s Switch = build_cause s.live.build (λ b. switch_refusal b s.live.heap.log s.work)
+refusal s Abandon = build_cause s.live.build (λ b. None)
 
 -- the reply to an event tells what that relation answers
 abbrev pub Tells : {R : Type 0} → (R → Reply) → (CoreState → R → CoreState → Type 0) → CoreState → Reply → CoreState → Type 0
@@ -270,6 +284,7 @@ Does s (Scan range worker) reply new = Tells Scanned (Scans range worker) s repl
 Does s (Seal worker) reply new = Tells Sealed (Seals worker) s reply new
 Does s (Load index) reply new = Tells Loaded (Loads index) s reply new
 Does s Switch reply new = Tells (λ told. Switched told.0 told.1) Switches s reply new
+Does s Abandon reply new = (reply ≡ Abandoned) × Abandons s new
 
 -- the build can't go on for that fault
 abbrev pub spoiled_by : Fault → CoreState → CoreState
@@ -288,6 +303,8 @@ AfterMemory (Scan range worker) s new = new ≡ s
 AfterMemory (Seal worker) s new = new ≡ spoiled_by Memory s
 AfterMemory (Load index) s new = new ≡ spoiled_by Memory s
 AfterMemory Switch s new = new ≡ s
+-- to give a build up takes no memory
+AfterMemory Abandon s new = ⊥
 
 -- an event is refused for a fault
 abbrev pub IsRefused : CoreState → Event → Fault → CoreState → Type 0

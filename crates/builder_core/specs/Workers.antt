@@ -1,12 +1,13 @@
 -- What was put to the workers of a build, and what they have done with it.
-use Rattle.std.specs.Prelude.{ℕ, ◌-◌, ◌%◌, Bool, ◌&&◌, not, ◌==◌, List, filter, length, take, drop, flat_map, get_or, Option}
+use Rattle.std.specs.Prelude.{ℕ, ◌+◌, ◌-◌, ◌%◌, Bool, ◌&&◌, not, ◌==◌, List, [], ◌∷◌, filter, length, take, drop, flat_map, get_or, Option}
 use Rattle.std.specs.List.{range_with_len, position, list_all}
 use Rattle.keybytes.specs.Keys.{KeySpecValue}
 use Rattle.keybytes.specs.declared.pair.Pair.{Pair}
 use Rattle.heap_log.specs.declared.record.LogRec.{LogRec}
-use Rattle.builder_core.specs.CoreState.{BuildState, WorkState, WorkerState, scanning_of}
+use Rattle.builder_core.specs.CoreState.{BuildState, IndexState, WorkState, WorkerState, scanning_of}
 use Rattle.builder_core.specs.Ranges.{first_that}
 use Rattle.builder_core.specs.Scanning.{pairs_at_scan}
+use Rattle.builder_core.specs.SideEntries.{side_entries}
 use Rattle.builder_core.specs.declared.scan.Scan.{Scan}
 
 -- the scans whose copies were put to a worker, in that order
@@ -41,3 +42,13 @@ loud_worker b log work = first_that (λ worker. not (is_quiet b log worker (work
 -- the lowest index whose pairs are not in order
 abbrev pub unloaded_index : WorkState → Option ℕ
 unloaded_index work = position (λ index. not index.loaded) work.indexes
+
+-- how many entries of an index's side-file its list of pairs has not applied
+abbrev pub unapplied : BuildState → List LogRec → KeySpecValue → IndexState → ℕ
+unapplied b log spec index = length (side_entries (scanning_of b spec) log) - index.applied
+
+-- the same over all indexes
+abbrev pub all_unapplied : BuildState → List LogRec → List KeySpecValue → List IndexState → ℕ
+all_unapplied b log [] indexes = 0
+all_unapplied b log (spec ∷ specs) [] = 0
+all_unapplied b log (spec ∷ specs) (index ∷ indexes) = unapplied b log spec index + all_unapplied b log specs indexes

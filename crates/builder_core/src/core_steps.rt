@@ -37,8 +37,10 @@ impl Core {
     pub fn new(live: Live) -> Core
         ensures { result ≡ opening live }
     {
+        let mut live = live;
+        live.give_up();
         Core {
-            live: live.abandon(),
+            live,
             building: Building::new(),
         }
     }
@@ -47,8 +49,9 @@ impl Core {
     pub fn into_live(self) -> Live
         ensures { result ≡ abandoned self.live }
     {
-        let Core { live, .. } = self;
-        live.abandon()
+        let Core { mut live, .. } = self;
+        live.give_up();
+        live
     }
 
     /// The columns of the table.
@@ -161,6 +164,7 @@ impl Core {
             Event::Seal { worker } => self.seal(*worker),
             Event::Load { index } => self.load(*index),
             Event::Switch => self.switch(),
+            Event::Abandon => self.abandon(),
         }
     }
 
@@ -272,5 +276,12 @@ impl Core {
     {
         let (number, verdicts) = self.live.switch_in(&mut self.building)?;
         Ok(Reply::Switched { number, verdicts })
+    }
+
+    fn abandon(&mut self) -> Result<Reply, Fault>
+        ensures { Answers self.old Event.Abandon result self.new }
+    {
+        self.live.abandon(&mut self.building)?;
+        Ok(Reply::Abandoned)
     }
 }

@@ -4,7 +4,7 @@ use keybytes::{Rid, Row};
 /// What is asked of a table and of its index build.
 ///
 /// Behind what each event does stand the faults that refuse it: where several have their cause, the first is answered. A row is
-/// changed only while no build runs and no index is ready, for now. [`Fault::Memory`] is answered only where none of
+/// changed only while no index is ready, for now. [`Fault::Memory`] is answered only where none of
 /// them has its cause. In a seal or a load it spoils the build: a scan, a seal, a load and a switch are then refused so, right
 /// behind [`Fault::NoBuild`] and [`Fault::BadCount`].
 #[derive(Debug, Drop)]
@@ -38,6 +38,8 @@ pub enum Event {
     /// is left; [`Fault::NotSealed`] while a copy waits.
     Load { index: usize },
     /// The indexes of the build become ready, and the build ends. [`Fault::NoBuild`], [`Fault::NotScanned`],
-    /// [`Fault::NotLoaded`].
+    /// [`Fault::NotLoaded`]; [`Fault::Behind`] while more than 1,024 entries of the side-file are left to apply.
     Switch,
+    /// The build is given up. [`Fault::NoBuild`].
+    Abandon,
 }

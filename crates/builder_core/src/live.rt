@@ -7,6 +7,8 @@ ghost use Rattle.heap_table.specs.TablePairs.{pairs_at_rest};
 ghost use Rattle.keybytes.specs.Pairs.{HaveKeysOf, AreInColumnOrder};
 ghost use Rattle.builder_core.specs.Builds.{BuildFollows};
 ghost use Rattle.builder_core.specs.Invariant.{BuildIsSound};
+ghost use Rattle.std.specs.VecDeque.Iter.{deque_iter_rest};
+ghost use Rattle.builder_core.specs.SideFiles.{AreEntriesLeft, side_refusal};
 ghost use Rattle.builder_core.specs.CoreState.{live_with_heap, abandoned, after_visits, ReadyFollowTable};
 
 use crate::rest::at_rest;
@@ -14,7 +16,10 @@ use crate::table_scan::TableScan;
 use crate::{Pair, ReadyIndex};
 use heap_table::Heap;
 use keybytes::{Fault, KeySpec, Rid, Row};
+use rtrb::Consumer;
+use side_file::{Entry, SideFile};
 use std::alloc::Global;
+use std::collections::vec_deque::Iter;
 use std::marker::Model;
 
 /// A table, its ready indexes, each of which has the pairs of the rows that stand, and which pages the running build copied:
@@ -27,32 +32,46 @@ pub struct Live {
     pub(crate) ready: Vec<ReadyIndex>,
     pub(crate) builds: u64,
     pub(crate) build: Option<TableScan>,
+    pub(crate) side: SideFile,
+    /// The other end of the side-file's ring.
+    pub(crate) side_end: Consumer<Entry>,
 }
 
 impl Model for Live {
     ghost use Rattle.builder_core.specs.CoreState.{LiveState, FollowTable};
     ghost use Rattle.builder_core.specs.Builds.{BuildFollows};
-    ghost use Rattle.builder_core.specs.Invariant.{BuildIsSound};
+    ghost use Rattle.builder_core.specs.SideFiles.{SideFollows, IsDrained};
+    ghost use Rattle.side_file.specs.Ends.{ring_take};
+    ghost use Rattle.rtrb.specs.Ring.{received};
 
     ghost Value = { LiveState };
 
     ghost view = { λ live. record { heap = live.heap.state; ready = live.ready.items; builds = live.builds; build = live.build } };
 
-    ghost invariant = { λ live. FollowTable live.heap.state.log live.ready.items × BuildFollows live.heap.state.schema live.heap.state.log live.build };
+    ghost invariant = { λ live. FollowTable live.heap.state.log live.ready.items × BuildFollows live.heap.state.schema live.heap.state.log live.build
+        × SideFollows live.heap.state.log live.build live.side × IsDrained live.side.end (ring_take live.side_end) (received live.side_end) };
 }
 
 impl Live {
-    /// A table with no index and no build.
-    pub fn new(alloc: Global, heap: Heap) -> Live
-        ensures { result ≡ record { heap = heap.state; ready = []; builds = 0; build = None } }
+    /// A table with no index and no build; where memory runs out the heap is handed back.
+    pub fn new(alloc: Global, heap: Heap) -> Result<Live, (Heap, Fault)>
+        ensures ok { IfOk result (λ live. live ≡ record { heap = heap.state; ready = []; builds = 0; build = None }) }
+        ensures handed_back { IfErr result (λ back. back.0 ≡ heap) }
+        ensures memory { IfErr result (λ back. back.1 ≡ Fault.Memory) }
     {
-        Live {
+        let (side, side_end) = match SideFile::new(alloc) {
+            Ok(ends) => ends,
+            Err(fault) => return Err((heap, fault)),
+        };
+        Ok(Live {
             alloc,
             heap,
             ready: Vec::new(alloc),
             builds: 0,
             build: None,
-        }
+            side,
+            side_end,
+        })
     }
 
     /// The indexes that are ready, in their order.
@@ -89,24 +108,28 @@ impl Live {
         self.build.as_ref()
     }
 
-    /// Gives a running build up.
-    pub(crate) fn abandon(self) -> Live
-        ensures { result ≡ abandoned self }
+    /// The entries of an index's side-file that were not applied yet, in order. [`Fault::NoBuild`] where no build runs,
+    /// [`Fault::BadCount`] where the build has no such index.
+    pub fn side(&self, index: usize) -> Result<Iter<'_, Entry>, Fault>
+        ensures ok { IfOk result (λ entries. AreEntriesLeft self.now.heap.log self.now.build index (deque_iter_rest entries)) }
+        ensures refused { IfErr result (λ fault. side_refusal self.now.build index ≡ Some fault) }
+        ensures accepted { OnOk result (side_refusal self.now.build index ≡ None) }
     {
-        let Live {
-            alloc,
-            heap,
-            ready,
-            builds,
-            ..
-        } = self;
-        Live {
-            alloc,
-            heap,
-            ready,
-            builds,
-            build: None,
+        if self.build.is_none() {
+            return Err(Fault::NoBuild);
         }
+        if index != 0 {
+            return Err(Fault::BadCount);
+        }
+        Ok(self.side.entries())
+    }
+
+    /// Gives a running build up.
+    pub(crate) fn give_up(&mut self)
+        ensures { self.new ≡ abandoned self.old }
+    {
+        self.build = None;
+        self.side.reset();
     }
 
     /// The row that stands at a RID now; [`Fault::NoSuchRow`] where none does. Counts as a visit.

@@ -1,5 +1,6 @@
 //! The steps of a build that touch the table.
-ghost use Rattle.std.specs.Prelude.{◌≡◌, ◌<◌, ◌+◌, ◌∷◌, [], List, length, Some, None, IfOk, IfErr, OnOk, OnErr, MatchOption, MatchResult, if◌then◌else◌, true, false, vec_len, vec_capacity, ◌==◌, is_some};
+ghost use Rattle.std.specs.Prelude.{◌≡◌, ◌<◌, ◌+◌, ◌∷◌, [], List, length, Some, None, IfOk, IfErr, OnOk, OnErr, MatchOption, MatchResult, if◌then◌else◌, true, false, vec_len, vec_capacity, ◌==◌, is_some, IsSome};
+ghost use Rattle.builder_core.specs.CoreState.{opening};
 ghost use Rattle.keybytes.specs.Answered.{Answered};
 ghost use Rattle.heap_log.specs.declared.outcome.Outcome.{Outcome};
 ghost use Rattle.builder_core.specs.declared.event.Event.{Event};
@@ -19,6 +20,9 @@ use std::alloc::Global;
 
 /// The most indexes that a table may have.
 const READY_MAX: usize = 32;
+
+/// The most entries of the side-file that a switch applies.
+const SWITCH_MAX: usize = 1024;
 
 /// The specification of a plan with one.
 fn only_spec(plan: &Plan) -> Option<&KeySpec>
@@ -66,6 +70,7 @@ impl Live {
         )?;
         self.builds = number;
         self.build = Some(build);
+        self.side.reset();
         building.work = Some(work);
         Ok(pages)
     }
@@ -225,11 +230,33 @@ impl Live {
         if !work.is_loaded() {
             return Err(Fault::NotLoaded(0));
         }
+        let left = self.side.left();
+        if left > SWITCH_MAX {
+            return Err(Fault::Behind(left));
+        }
+        Ok(())
+    }
+
+    /// Gives the build up, and with it all its work. [`Fault::NoBuild`]. Takes no memory.
+    pub fn abandon(&mut self, building: &mut Building) -> Result<(), Fault>
+        requires { WorksOn self.old building.old }
+        ensures abandoned { OnOk result (core_state self.new building.new ≡ opening self.old) }
+        ensures works { WorksOn self.new building.new }
+        ensures accepted { OnOk result (IsSome self.old.build) }
+        ensures refused { IfErr result (λ fault. (fault ≡ Fault.NoBuild) × (self.old.build ≡ None)) }
+        ensures unchanged { OnErr result ((self.new ≡ self.old) × (building.new ≡ building.old)) }
+    {
+        if self.build.is_none() {
+            return Err(Fault::NoBuild);
+        }
+        self.give_up();
+        building.work = None;
         Ok(())
     }
 
     /// Makes the indexes of the build ready and ends it; answered with the number of the log record, and what became of each
-    /// index. [`Fault::NoBuild`], the fault of a spoiled build, [`Fault::NotScanned`], [`Fault::NotLoaded`].
+    /// index. [`Fault::NoBuild`], the fault of a spoiled build, [`Fault::NotScanned`], [`Fault::NotLoaded`],
+    /// [`Fault::Behind`].
     pub fn switch_in(&mut self, building: &mut Building) -> Result<(usize, Verdicts), Fault>
         requires { WorksOn self.old building.old }
         ensures switched { Answered (cause_of self.old building.old Event.Switch) Switches

@@ -7,23 +7,25 @@ ghost use Rattle.builder_core.specs.Builds.{WorkValue, WorksOn};
 ghost use Rattle.builder_core.specs.Steps.{OnHeap, is_indexed, unless_indexed};
 
 use crate::Live;
+use crate::changes;
 use heap_table::Undone;
 use keybytes::{Fault, Rid, Row};
 
 impl Live {
     /// The next transaction begins. [`Fault::TooManyTxns`].
     pub fn begin(&mut self) -> Result<u64, Fault>
-        ensures { Answered (begin_refusal self.old.heap) (OnHeap Begins) self.old result self.new }
+        ensures begun { Answered (begin_refusal self.old.heap) (OnHeap Begins) self.old result self.new }
+        ensures works { (work : Option WorkValue) → WorksOn self.old work → WorksOn self.new work }
     {
         self.heap.begin()
     }
 
-    /// Rows are changed only while no build runs and no index is ready.
+    /// Rows are changed only while no index is ready.
     fn check_unindexed(&self) -> Result<(), Fault>
-        ensures ok { OnOk result ((self.now.build ≡ None) × (self.now.ready ≡ [])) }
+        ensures ok { OnOk result (self.now.ready ≡ []) }
         ensures refused { IfErr result (λ fault. (fault ≡ Fault.BuildRunning) × (is_indexed self.now ≡ true)) }
     {
-        if self.build.is_some() || !self.ready.is_empty() {
+        if !self.ready.is_empty() {
             return Err(Fault::BuildRunning);
         }
         Ok(())
@@ -50,40 +52,50 @@ impl Live {
         self.heap.check_update(txn, rid, row)
     }
 
-    /// The transaction inserts a row; answered with the record's number and the RID. [`Fault::BuildRunning`] while a build
-    /// runs or an index is ready; then as [`heap_table::Heap::insert`].
+    /// The transaction inserts a row; answered with the record's number and the RID. A running build that sees the RID hears
+    /// of it by its side-file. [`Fault::BuildRunning`] while an index is ready; then as [`heap_table::Heap::insert`].
     pub fn insert(&mut self, txn: u64, row: Row) -> Result<(usize, Rid), Fault>
-        ensures { Answered (unless_indexed self.old (insert_refusal self.old.heap txn row)) (OnHeap (Inserts txn row)) self.old result self.new }
+        ensures inserted { Answered (unless_indexed self.old (insert_refusal self.old.heap txn row)) (OnHeap (Inserts txn row)) self.old result self.new }
+        ensures works { (work : Option WorkValue) → WorksOn self.old work → WorksOn self.new work }
     {
         self.check_unindexed()?;
-        self.heap.insert(txn, row)
+        let ready = self.heap.ready_insert(txn, row)?;
+        changes::write(&mut self.heap, &mut self.side, &self.build, ready)
     }
 
     /// The transaction gives a RID another row. [`Fault::BuildRunning`] as for an insert; then as
     /// [`heap_table::Heap::update`].
     pub fn update(&mut self, txn: u64, rid: Rid, row: Row) -> Result<(usize, Rid), Fault>
-        ensures { Answered (unless_indexed self.old (update_refusal self.old.heap txn rid row)) (OnHeap (Updates txn rid row)) self.old result self.new }
+        ensures updated { Answered (unless_indexed self.old (update_refusal self.old.heap txn rid row)) (OnHeap (Updates txn rid row)) self.old result self.new }
+        ensures works { (work : Option WorkValue) → WorksOn self.old work → WorksOn self.new work }
     {
         self.check_unindexed()?;
-        self.heap.update(txn, rid, row)
+        let ready = self.heap.ready_update(txn, rid, row)?;
+        changes::write(&mut self.heap, &mut self.side, &self.build, ready)
     }
 
     /// The transaction takes the row at a RID away. [`Fault::BuildRunning`] as for an insert; then as
     /// [`heap_table::Heap::delete`].
     pub fn delete(&mut self, txn: u64, rid: Rid) -> Result<(usize, Rid), Fault>
-        ensures { Answered (unless_indexed self.old (delete_refusal self.old.heap txn rid)) (OnHeap (Deletes txn rid)) self.old result self.new }
+        ensures deleted { Answered (unless_indexed self.old (delete_refusal self.old.heap txn rid)) (OnHeap (Deletes txn rid)) self.old result self.new }
+        ensures works { (work : Option WorkValue) → WorksOn self.old work → WorksOn self.new work }
     {
         self.check_unindexed()?;
-        self.heap.delete(txn, rid)
+        let ready = self.heap.ready_delete(txn, rid)?;
+        changes::write(&mut self.heap, &mut self.side, &self.build, ready)
     }
 
-    /// The transaction's newest standing write is undone. [`Fault::BuildRunning`] as for an insert; then as
-    /// [`heap_table::Heap::undo_step`].
+    /// The transaction's newest standing write is undone: a change like any other, of which the running build hears if it sees
+    /// the RID by now. [`Fault::BuildRunning`] as for an insert; then as [`heap_table::Heap::undo_step`].
     pub fn undo(&mut self, txn: u64) -> Result<Undone, Fault>
-        ensures { Answered (unless_indexed self.old (undo_refusal self.old.heap txn)) (OnHeap (Undoes txn)) self.old result self.new }
+        ensures undone { Answered (unless_indexed self.old (undo_refusal self.old.heap txn)) (OnHeap (Undoes txn)) self.old result self.new }
+        ensures works { (work : Option WorkValue) → WorksOn self.old work → WorksOn self.new work }
     {
         self.check_unindexed()?;
-        self.heap.undo_step(txn)
+        match self.heap.ready_undo(txn)? {
+            Some(ready) => changes::undo(&mut self.heap, &mut self.side, &self.build, ready),
+            None => self.heap.undo_step(txn),
+        }
     }
 
     /// The transaction ends, and keeps its writes; answered with the record's number. [`Fault::NoSuchTxn`],

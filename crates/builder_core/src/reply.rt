@@ -23,6 +23,8 @@ pub enum Reply {
     Loaded { pairs: usize },
     /// With the number of the log record, and what became of each index of the build.
     Switched { number: usize, verdicts: Verdicts },
+    /// The build was given up.
+    Abandoned,
     /// With the cause.
     Refused { fault: Fault },
 }

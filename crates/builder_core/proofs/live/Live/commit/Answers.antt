@@ -3,7 +3,7 @@ use Rattle.heap_table.specs.HeapState.{HeapState, after_commit}
 use Rattle.builder_core.specs.Builds.{WorkValue, WorksOn, BuildFollows}
 use Rattle.builder_core.specs.CoreState.{LiveState, live_with_heap}
 use Rattle.builder_core.specs.contracts.live.Live.{the_view}
-use Rattle.builder_core.proofs.Following.{follow_kept, committed, commit_follows}
+use Rattle.builder_core.proofs.Following.{follow_kept, committed, commit_follows, commit_side}
 use Rattle.builder_core.proofs.Told.{commit_works}
 use Rattle.builder_core.proofs.live.Live.commit.Goals as goal
 
@@ -13,6 +13,8 @@ invariant_of-self c =
     let done = committed old.heap c.commit.new.self c.args.txn c.commit.result c.commit.ensures.committed in (
       follow_kept old.heap.state.log c.commit.new.self.state.log old.ready.items c.commit.ensures.rows c.self.invariant.0,
       commit_follows old.heap.state c.commit.new.self.state c.args.txn old.build done c.self.invariant.1,
+      commit_side old.heap.state c.commit.new.self.state c.args.txn old.build old.side done c.self.invariant.1 c.self.invariant.2,
+      c.self.invariant.3,
     )
 
 -- the work stays, whether the commit was done or refused

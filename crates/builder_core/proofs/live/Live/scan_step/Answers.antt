@@ -7,7 +7,9 @@ use Rattle.heap_table.specs.Pages.{pages_written}
 use Rattle.builder_core.specs.Builds.{WorkValue, IsBuildOf, IsWorkOn, IsWorkOf, BuildFollows, WorksOn, MayScan, work_state}
 use Rattle.builder_core.specs.CoreState.{BuildState, LiveState, FollowTable}
 use Rattle.builder_core.specs.Ranges.{next_page}
+use Rattle.builder_core.specs.SideFiles.{HasEntries, SideFollows}
 use Rattle.builder_core.specs.Steps.{build_cause, scan_refusal}
+use Rattle.builder_core.proofs.SideKept.{side_next}
 use Rattle.builder_core.proofs.TableBuilds.{next_below, scanned_next, put_next}
 use Rattle.builder_core.proofs.live.Live.scan_step.Goals as goal
 
@@ -36,9 +38,14 @@ invariant_of-self c =
     let next : next_page b 0 ≡ Some c.in-Ok.page = subst (λ (o : Option BuildState). IfSome o (λ x. next_page x 0 ≡ Some c.in-Ok.page)) here may.next in
     let follows : IsBuildOf old.schema old.log b = subst (BuildFollows old.schema old.log) c.in-Some.is c.self.invariant.1 in
     let now : c.records-records.result ≡ length old.log = c.records-records.ensures ∙ ap (λ (h : HeapState). length h.log) c.copy_page.ensures.visited in
+    let has : HasEntries old.log b c.self.inside.side = subst (λ o. SideFollows old.log o c.self.inside.side) c.in-Some.is c.self.invariant.2 in
     let more = scanned_next old.schema old.log b c.in-Ok.page c.records-records.result follows next now in (
       subst (λ (h : HeapState). FollowTable h.log c.self.inside.ready.items) (sym c.copy_page.ensures.visited) c.self.invariant.0,
       subst (λ (h : HeapState). IsBuildOf h.schema h.log c.note.new.self) (sym c.copy_page.ensures.visited) (subst (IsBuildOf old.schema old.log) (sym c.note.ensures) more),
+      subst (λ (h : HeapState). HasEntries h.log c.note.new.self c.self.inside.side) (sym c.copy_page.ensures.visited)
+          (subst (λ b. HasEntries old.log b c.self.inside.side) (sym c.note.ensures)
+          (side_next old.schema old.log b c.self.inside.side c.in-Ok.page c.records-records.result follows next now has)),
+      c.self.invariant.3,
     )
 
 pub returns-clause-works : goal.returns-clause-works

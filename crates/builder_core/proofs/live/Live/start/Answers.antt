@@ -6,6 +6,11 @@ use Rattle.builder_core.specs.Builds.{WorkValue, IsBuildOf, work_state, build_of
 use Rattle.builder_core.specs.CoreState.{BuildState, LiveState, WorkState, CoreState}
 use Rattle.builder_core.specs.Steps.{started, fresh_work}
 use Rattle.builder_core.proofs.Starts.{one_dealt, one_worker, fresh_is}
+use Rattle.rtrb.specs.Ring.{received}
+use Rattle.side_file.specs.Ends.{ring_take}
+use Rattle.side_file.specs.SideFileValue.{SideFileValue}
+use Rattle.builder_core.specs.SideFiles.{IsDrained}
+use Rattle.builder_core.proofs.SideKept.{side_opened}
 use Rattle.builder_core.proofs.TableBuilds.{started_build}
 use Rattle.builder_core.proofs.Working.{fresh}
 use Rattle.builder_core.proofs.live.Live.start.Goals as goal
@@ -25,7 +30,13 @@ invariant_of-self c =
     c.in_ok-build.ensures.ok
     ∙ ap (λ n. opened number spec n c.pages-pages.result) c.records.ensures
     ∙ ap (opened number spec (length heap.log)) c.pages-pages.ensures.pages in
-    (c.self.invariant.0, subst (IsBuildOf heap.schema heap.log) (sym is) (started_build heap.schema heap.log number spec columns limit))
+    let Drained : SideFileValue → Type 0 = λ side. IsDrained side.end (ring_take c.self.inside.side_end) (received c.self.inside.side_end) in (
+      c.self.invariant.0,
+      subst (IsBuildOf heap.schema heap.log) (sym is) (started_build heap.schema heap.log number spec columns limit),
+      side_opened heap.log c.in_ok-build.build c.reset.new.self (ap (λ (b : BuildState). b.opened) is) (ap (λ (b : BuildState). b.pages) is) (ap (λ (b : BuildState). b.scans) is) (ap (λ (b : BuildState). b.fed) is)
+          (ap (λ (side : SideFileValue). side.left) c.reset.ensures.reset) (ap (λ (side : SideFileValue). side.fed) c.reset.ensures.reset),
+      subst Drained (sym c.reset.ensures.reset) c.self.invariant.3,
+    )
 
 pub returns-clause-started : goal.returns-clause-started
 returns-clause-started c =

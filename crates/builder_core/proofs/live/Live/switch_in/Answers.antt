@@ -26,7 +26,7 @@ new-requires c =
     let run : Running live c.args.building.now b w =
     running_inside (the_view c.self.inside) live c.args.building.now b w c.self.view_is (sym c.take.ensures.value ∙ c.in-Some-Some.is-0)
     (sym c.building.view_is ∙ sym c.take-2.ensures.value ∙ c.in-Some-Some.is-1) c.self.invariant.1 c.requires in
-    let free : build_cause live.build (λ b. switch_refusal b (work_state c.args.building.now)) ≡ None = search rules in
+    let free : build_cause live.build (λ b. switch_refusal b live.heap.log (work_state c.args.building.now)) ≡ None = search rules in
     let columns = columns_are live c.args.building.now b w run free spec c.into_spec-spec.ensures c.in-Some.pairs.items c.in-Some.ensures in
     let pairs = pairs_are live c.args.building.now b w run free spec c.into_spec-spec.ensures c.in-Some.pairs.items c.in-Some.ensures in
     record {
@@ -44,7 +44,7 @@ invariant_of-self-2 c =
     let run : Running live c.args.building.now b w =
     running_inside (the_view c.self.inside) live c.args.building.now b w c.self.view_is (sym c.take.ensures.value ∙ c.in-Some-Some.is-0)
     (sym c.building.view_is ∙ sym c.take-2.ensures.value ∙ c.in-Some-Some.is-1) c.self.invariant.1 c.requires in
-    let free : build_cause live.build (λ b. switch_refusal b (work_state c.args.building.now)) ≡ None = search rules in
+    let free : build_cause live.build (λ b. switch_refusal b live.heap.log (work_state c.args.building.now)) ≡ None = search rules in
     let pairs = pairs_are live c.args.building.now b w run free spec c.into_spec-spec.ensures c.in-Some.pairs.items c.in-Some.ensures in
     let made : c.new.result.pairs ≡ pairs_at_rest c.new.result.spec heap.log =
     c.new.ensures.pairs ∙ pairs ∙ ap (λ (l : LiveState). pairs_at_rest spec l.heap.log) (sym c.self.view_is) ∙ sym (ap (λ s. pairs_at_rest s heap.log) c.new.ensures.spec) in (
@@ -62,7 +62,7 @@ returns-clause-switched c =
     let run : Running live c.args.building.now b w =
     running_inside (the_view c.self.inside) live c.args.building.now b w c.self.view_is (sym c.take.ensures.value ∙ c.in-Some-Some.is-0)
     (sym c.building.view_is ∙ sym c.take-2.ensures.value ∙ c.in-Some-Some.is-1) c.self.invariant.1 c.requires in
-    let free : build_cause live.build (λ b. switch_refusal b (work_state c.args.building.now)) ≡ None = search rules in
+    let free : build_cause live.build (λ b. switch_refusal b live.heap.log (work_state c.args.building.now)) ≡ None = search rules in
     let number = c.in_ok-noted.ensures.number ∙ ap (λ (l : LiveState). length l.heap.log + 1) c.self.view_is in
     let verdicts = c.in_ok-noted.ensures.verdicts ∙ ap (λ (l : LiveState). Ready (length l.ready) ∷ []) c.self.view_is in
     let noted = c.in_ok-noted.ensures.noted ∙ ap (λ (l : LiveState). after_switch l.heap (Ready (length l.ready) ∷ [])) c.self.view_is in

@@ -1,0 +1,92 @@
+-- The side-file of a build as it starts, as it copies a page more, and as the log grows by a record that changes no row.
+use Rattle.std.proofs.Common.{◌≡◌, ℕ, List, [], ◌∷◌, ◌++◌, length, map, drop, true, Option, Some, None, refl, sym, ap, ◌∙◌, subst}
+use Rattle.std.proofs.lemmas.List.{append-nil}
+use Rattle.keybytes.specs.Keys.{KeySpecValue}
+use Rattle.keybytes.specs.declared.kind.Kind.{Kind}
+use Rattle.heap_log.specs.declared.record.LogRec.{LogRec}
+use Rattle.heap_table.specs.Pages.{pages_written}
+use Rattle.side_file.specs.Entries.{entry_of}
+use Rattle.side_file.specs.SideFileValue.{SideFileValue}
+use Rattle.visibility.specs.SideEntries.{SideEntry}
+use Rattle.builder_core.specs.Builds.{IsBuildOf, BuildFollows}
+use Rattle.builder_core.specs.CoreState.{BuildState, scanning_of}
+use Rattle.builder_core.specs.Scanning.{Scanning, opened_scanning, scanned_at}
+use Rattle.builder_core.specs.SideEntries.{entries_of, side_entries}
+use Rattle.builder_core.specs.SideFiles.{HasEntries, SideFollows, AreEntriesLeft}
+use Rattle.std.specs.Prelude.{get_or, is_some}
+use Rattle.std.specs.List.{slice_get}
+use Rattle.std.proofs.lemmas.Option.{same_Some}
+use Rattle.std.proofs.lemmas.Bool.{false≢true}
+use Rattle.builder_core.proofs.EntrySteps.{opened_entries, more_entries, same_entries}
+use Rattle.builder_core.proofs.TableBuilds.{scanned_for, not_scanned}
+use Rattle.builder_core.proofs.OneRange.{next_page_is}
+use Rattle.builder_core.specs.Ranges.{next_page}
+
+pub side_opened :
+    (log : List LogRec) (b : BuildState) (side : SideFileValue) → b.opened ≡ length log → b.pages ≡ pages_written log → b.scans ≡ [] → b.fed ≡ 0 ∷ [] → side.left ≡ [] → side.fed ≡ []
+    → HasEntries log b side
+side_opened log b side opened pages scans none left fed = record {
+  entries = λ spec one.
+      left
+      ∙ sym (ap (map (entry_of b.number)) (ap (λ s. side_entries s log) (same spec) ∙ opened_entries spec log));
+  none_fed = fed;
+  count = none ∙ sym (ap (λ es. length es ∷ []) fed);
+} where
+  same : (spec : KeySpecValue) → scanning_of b spec ≡ opened_scanning spec log
+  same spec = rw (opened, pages, scans) refl
+
+pub side_scanned :
+    (log : List LogRec) (b : BuildState) (side : SideFileValue) (worker page : ℕ) → scanned_at b.scans page ≡ None → HasEntries log b side
+    → HasEntries log (record b { scans = b.scans ++ record { worker = worker; page = page; records = length log } ∷ [] }) side
+side_scanned log b side worker page none has = record {
+  entries = λ spec one. has.entries spec one ∙ ap (map (entry_of b.number)) (sym (same_entries (scanning_of b spec) worker page log none));
+  none_fed = has.none_fed;
+  count = has.count;
+}
+
+side_same :
+    (kinds : List Kind) (log : List LogRec) (rec : LogRec) (b : BuildState) (side : SideFileValue) → ((s : Scanning) → entries_of s log rec ≡ []) → IsBuildOf kinds log b
+    → HasEntries log b side → HasEntries (log ++ rec ∷ []) b side
+side_same kinds log rec b side nothing build has = record {
+  entries = λ spec one.
+      let here : Scanning = scanning_of b spec in
+      let es : List SideEntry = side_entries here log in
+      has.entries spec one
+      ∙ ap (map (entry_of b.number)) (sym (more_entries here log rec (scanned_for kinds log b build spec one).opened ∙ ap (λ fs. es ++ fs) (nothing here) ∙ append-nil es));
+  none_fed = has.none_fed;
+  count = has.count;
+}
+
+-- a record that changes no row appends nothing
+pub side_plain :
+    (kinds : List Kind) (log : List LogRec) (rec : LogRec) (build : Option BuildState) (side : SideFileValue) → ((s : Scanning) → entries_of s log rec ≡ [])
+    → BuildFollows kinds log build → SideFollows log build side → SideFollows (log ++ rec ∷ []) build side
+side_plain kinds log rec None side nothing follows has = tt
+side_plain kinds log rec (Some b) side nothing follows has = side_same kinds log rec b side nothing follows has
+
+-- the page that comes next is copied now
+pub side_next :
+    (kinds : List Kind) (log : List LogRec) (b : BuildState) (side : SideFileValue) (page records : ℕ) → IsBuildOf kinds log b → next_page b 0 ≡ Some page → records ≡ length log
+    → HasEntries log b side → HasEntries log (record b { scans = b.scans ++ record { worker = 0; page = page; records = records } ∷ [] }) side
+side_next kinds log b side page records is next now has =
+    let at = next_page_is b page is.one_range is.in_turn next in
+    let none : scanned_at b.scans page ≡ None = ap (scanned_at b.scans) at.0 ∙ not_scanned b.pages b.scans is.in_turn in
+    subst (λ r. HasEntries log (record b { scans = b.scans ++ record { worker = 0; page = page; records = r } ∷ [] }) side) (sym now) (side_scanned log b side 0 page none has)
+
+only_spec : (specs : List KeySpecValue) (one spec : KeySpecValue) → specs ≡ one ∷ [] → slice_get specs 0 ≡ Some spec → specs ≡ spec ∷ []
+only_spec specs one spec is at = is ∙ ap (λ s. s ∷ []) (same_Some one spec (sym (ap (λ (xs : List KeySpecValue). slice_get xs 0) is) ∙ at))
+
+left_of :
+    (kinds : List Kind) (log : List LogRec) (b : BuildState) (side : SideFileValue) → IsBuildOf kinds log b → HasEntries log b side
+    → AreEntriesLeft log (Some b) 0 side.left
+left_of kinds log b side build has = λ spec at.
+    let one : b.specs ≡ spec ∷ [] = only_spec b.specs build.spec spec build.one_index at in
+    let none : get_or b.fed 0 0 ≡ 0 = ap (λ (fed : List ℕ). get_or fed 0 0) (has.count ∙ ap (λ es. length es ∷ []) has.none_fed) in
+    has.entries spec one ∙ ap (λ n. map (entry_of b.number) (drop n (side_entries (scanning_of b spec) log))) (sym none)
+
+-- what is left in the side-file are the entries of the build's index
+pub entries_left :
+    (kinds : List Kind) (log : List LogRec) (build : Option BuildState) (side : SideFileValue) (index : ℕ) → BuildFollows kinds log build → SideFollows log build side
+    → is_some build ≡ true → index ≡ 0 → AreEntriesLeft log build index side.left
+entries_left kinds log None side index follows has some zero = absurd (false≢true some)
+entries_left kinds log (Some b) side index follows has some zero = subst (λ i. AreEntriesLeft log (Some b) i side.left) (sym zero) (left_of kinds log b side follows has)
