@@ -6,7 +6,7 @@ use Rattle.script.specs.Fields.{SpellEach, SpellsCell, SpellsKind, SpellsNumber,
 use Rattle.script.specs.Lines.{SpellLine, SpellParts, SpellTable, SpellsLabel, name_of}
 use Rattle.script.specs.Shapes.{Fit, HasShape, IsRemark, IsSpelled, parts_of, repeated_of, written}
 use Rattle.script.specs.declared.command.Command.{Command}
-use Rattle.script.specs.declared.command.Command.TheVariants.{Row, Begin, Insert, Update, Delete, Undo, Commit, Get, Start as StartCommand, Scan, Seal, Load, Switch, Pairs, Rest}
+use Rattle.script.specs.declared.command.Command.TheVariants.{Row, Begin, Insert, Update, Delete, Undo, Commit, Get, Start as StartCommand, Scan, Digest, Seal, Load, Switch, Abandon, Side, Pairs, Rest}
 use Rattle.script.specs.declared.command_name.CommandName.{CommandName}
 use Rattle.script.specs.declared.command_name.CommandName.TheVariants as name
 use Rattle.script.specs.declared.line.Line.{Line}
@@ -88,10 +88,14 @@ command_fits (f ∷ g ∷ h ∷ fs) (StartCommand start) spelled =
     let specs = each_fits SpellsSpec part.Spec spec_part fs start.specs.items spelled.1.1.1 in
     ((start.workers, spelled.0), ((start.quota, spelled.1.0), ((start.dealing, spelled.1.1.0), specs)))
 command_fits fields (Scan range worker) spelled = two_fit SpellsNumber part.Number number_part fields range worker spelled
+command_fits fields (Digest worker) spelled = one_fits SpellsNumber part.Number number_part fields worker spelled
 command_fits fields (Seal worker) spelled = one_fits SpellsNumber part.Number number_part fields worker spelled
 command_fits fields (Load index) spelled = one_fits SpellsNumber part.Number number_part fields index spelled
 command_fits [] Switch spelled = tt
 command_fits (f ∷ fs) Switch spelled = cc
+command_fits [] Abandon spelled = tt
+command_fits (f ∷ fs) Abandon spelled = cc
+command_fits fields (Side index) spelled = one_fits SpellsNumber part.Number number_part fields index spelled
 command_fits fields (Pairs number) spelled = one_fits SpellsNumber part.Number number_part fields number spelled
 command_fits fields (Rest spec) spelled = one_fits SpellsSpec part.Spec spec_part fields spec spelled
 
@@ -118,9 +122,12 @@ named text =
     else if bytes_eq text (codes "get") then name.Get
     else if bytes_eq text (codes "start") then name.Start
     else if bytes_eq text (codes "scan") then name.Scan
+    else if bytes_eq text (codes "digest") then name.Digest
     else if bytes_eq text (codes "seal") then name.Seal
     else if bytes_eq text (codes "load") then name.Load
     else if bytes_eq text (codes "switch") then name.Switch
+    else if bytes_eq text (codes "abandon") then name.Abandon
+    else if bytes_eq text (codes "side") then name.Side
     else if bytes_eq text (codes "pairs") then name.Pairs
     else name.Rest
 
@@ -137,9 +144,12 @@ named_written name.Commit = refl
 named_written name.Get = refl
 named_written name.Start = refl
 named_written name.Scan = refl
+named_written name.Digest = refl
 named_written name.Seal = refl
 named_written name.Load = refl
 named_written name.Switch = refl
+named_written name.Abandon = refl
+named_written name.Side = refl
 named_written name.Pairs = refl
 named_written name.Rest = refl
 
@@ -160,9 +170,12 @@ begins_plain name.Commit = refl
 begins_plain name.Get = refl
 begins_plain name.Start = refl
 begins_plain name.Scan = refl
+begins_plain name.Digest = refl
 begins_plain name.Seal = refl
 begins_plain name.Load = refl
 begins_plain name.Switch = refl
+begins_plain name.Abandon = refl
+begins_plain name.Side = refl
 begins_plain name.Pairs = refl
 begins_plain name.Rest = refl
 
@@ -182,9 +195,12 @@ not_table (Commit label) is = cc
 not_table (Get rid) is = cc
 not_table (StartCommand start) is = cc
 not_table (Scan range worker) is = cc
+not_table (Digest worker) is = cc
 not_table (Seal worker) is = cc
 not_table (Load index) is = cc
 not_table Switch is = cc
+not_table Abandon is = cc
+not_table (Side index) is = cc
 not_table (Pairs number) is = cc
 not_table (Rest spec) is = cc
 

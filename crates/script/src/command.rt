@@ -42,6 +42,10 @@ pub enum Command {
         range: usize,
         worker: usize,
     },
+    /// Lets the worker take one of the copies that wait for it.
+    Digest {
+        worker: usize,
+    },
     Seal {
         worker: usize,
     },
@@ -49,6 +53,12 @@ pub enum Command {
         index: usize,
     },
     Switch,
+    /// Gives the build up.
+    Abandon,
+    /// Asks for the entries of the side-file of an index that is being built.
+    Side {
+        index: usize,
+    },
     /// Asks for the pairs of a ready index.
     Pairs {
         number: usize,

@@ -18,9 +18,12 @@ pub enum CommandName {
     Get,
     Start,
     Scan,
+    Digest,
     Seal,
     Load,
     Switch,
+    Abandon,
+    Side,
     Pairs,
     Rest,
 }
@@ -42,9 +45,12 @@ impl CommandName {
             "get" => CommandName::Get,
             "start" => CommandName::Start,
             "scan" => CommandName::Scan,
+            "digest" => CommandName::Digest,
             "seal" => CommandName::Seal,
             "load" => CommandName::Load,
             "switch" => CommandName::Switch,
+            "abandon" => CommandName::Abandon,
+            "side" => CommandName::Side,
             "pairs" => CommandName::Pairs,
             "rest" => CommandName::Rest,
             _ => return None,
@@ -65,8 +71,12 @@ impl CommandName {
             CommandName::Get => &[Part::Rid],
             CommandName::Start => &[Part::Number, Part::Number, Part::Dealing, Part::Spec],
             CommandName::Scan => &[Part::Number, Part::Number],
-            CommandName::Seal | CommandName::Load | CommandName::Pairs => &[Part::Number],
-            CommandName::Switch => &[],
+            CommandName::Digest
+            | CommandName::Seal
+            | CommandName::Load
+            | CommandName::Side
+            | CommandName::Pairs => &[Part::Number],
+            CommandName::Switch | CommandName::Abandon => &[],
             CommandName::Rest => &[Part::Spec],
         }
     }
@@ -107,9 +117,12 @@ impl CommandName {
             CommandName::Get => "get,RID",
             CommandName::Start => "start,W,Q,DEALING,SPEC,..",
             CommandName::Scan => "scan,R,W",
+            CommandName::Digest => "digest,W",
             CommandName::Seal => "seal,W",
             CommandName::Load => "load,I",
             CommandName::Switch => "switch",
+            CommandName::Abandon => "abandon",
+            CommandName::Side => "side,I",
             CommandName::Pairs => "pairs,K",
             CommandName::Rest => "rest,SPEC",
         }
