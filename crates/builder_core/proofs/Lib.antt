@@ -15,6 +15,7 @@ pub mod Sealing
 pub mod Seen
 pub mod SideFollows
 pub mod SideKept
+pub mod SideKeys
 pub mod Sound
 pub mod Starts
 pub mod SwitchIn

@@ -4,7 +4,9 @@ use Rattle.std.specs.Prelude.{IsSome, IfSome, if◌then◌else◌}
 use Rattle.std.specs.List.{All}
 use Rattle.std.proofs.lemmas.Bool.{false≢true}
 use Rattle.std.proofs.lemmas.List.{map-append}
-use Rattle.keybytes.specs.Keys.{KeySpecValue}
+use Rattle.keybytes.specs.Keys.{KeySpecValue, IsKeyOf}
+use Rattle.heap_table.specs.Kept.{IsTableRow}
+use Rattle.std.proofs.lemmas.List.Elements.{All-append, All-from_recursion}
 use Rattle.keybytes.specs.Pairs.{pair_with}
 use Rattle.keybytes.specs.declared.cell.Cell.{Cell}
 use Rattle.keybytes.specs.declared.rid.Rid.{Rid}
@@ -17,7 +19,7 @@ use Rattle.heap_table.specs.declared.ready.Ready.{Ready}
 use Rattle.heap_table.specs.HeapState.{HeapState}
 use Rattle.heap_table.specs.HeapValue.{HeapValue}
 use Rattle.heap_table.specs.Pages.{SetsRow}
-use Rattle.heap_table.specs.Ready.{IsReady, IsLawful, after_change, after_ready}
+use Rattle.heap_table.specs.Ready.{IsReady, IsLawful, IsLawfulChange, after_change, after_ready}
 use Rattle.side_file.specs.Entries.{entry_of}
 use Rattle.side_file.specs.SideFileValue.{SideFileValue}
 use Rattle.visibility.specs.SideEntries.{SideEntry, changes}
@@ -28,7 +30,8 @@ use Rattle.builder_core.specs.SideEntries.{entries_of, side_entries}
 use Rattle.builder_core.specs.SideFiles.{sees, noted, HasEntries, SideFollows}
 use Rattle.builder_core.proofs.EntrySteps.{entries_where, more_entries}
 use Rattle.builder_core.proofs.ScanSteps.{visible_now, more_scanned}
-use Rattle.builder_core.proofs.TableBuilds.{build_kept, work_kept, only_same, scanned_for}
+use Rattle.builder_core.proofs.TableBuilds.{build_kept, work_kept, scanned_for, columns_for}
+use Rattle.builder_core.proofs.SideKeys.{noted_keys}
 
 -- the record of a change
 abbrev rec_of : ℕ → Rid → Option ℕ → Option (List Cell) → LogRec
@@ -62,7 +65,7 @@ changed_there s txn rid (Some n) old new lawful =
     let write : IsWrite s.log n = newest_standing-write s.log txn n lawful.1 in
     rid_there (record_at s.log n) write.write ∙ ap (λ x. Some x) (sym lawful.2)
 
-module _ (h : HeapValue) (ready : Ready) (is : IsReady h ready) (sets : SetsRow h.state.log ready.rid ready.new (after_ready h.state ready).log) where
+module _ (h : HeapValue) (ready : Ready) (is : IsReady h ready) (change : IsLawfulChange h.state ready) (sets : SetsRow h.state.log ready.rid ready.new (after_ready h.state ready).log) where
   abbrev log : List LogRec
   log = h.state.log
 
@@ -111,6 +114,13 @@ module _ (h : HeapValue) (ready : Ready) (is : IsReady h ready) (sets : SetsRow 
         ∙ sym (map-append put (side_entries here log) (entries_of here log (rec_ready ready)))
         ∙ ap (map put) (sym (more_entries here log (rec_ready ready) (scanned_for h.state.schema log b build spec one).opened))
         ∙ ap (λ l. map put (side_entries here l)) (sym grows);
+    keys = λ spec one.
+        let columns : spec.kinds ≡ h.state.schema = columns_for h.state.schema log b build spec one in
+        let old_row : IfSome ready.old (IsTableRow spec.kinds) = subst (λ k. IfSome ready.old (IsTableRow k)) (sym columns) change.old_fits in
+        let new_row : IfSome ready.new (IsTableRow spec.kinds) = subst (λ k. IfSome ready.new (IsTableRow k)) (sym columns) change.new_fits in
+        subst (All (λ entry. IsKeyOf spec entry.key)) (sym (left spec one))
+        (All-append (λ entry. IsKeyOf spec entry.key) old.left _ (has.keys spec one)
+        (All-from_recursion (λ entry. IsKeyOf spec entry.key) _ (noted_keys b spec ready.rid ready.old ready.new old_row new_row)));
     none_fed = fed ∙ has.none_fed;
     count = has.count ∙ ap (λ es. length es ∷ []) (sym fed);
   }

@@ -1,7 +1,9 @@
 -- The side-file of a build as it starts, as it copies a page more, and as the log grows by a record that changes no row.
 use Rattle.std.proofs.Common.{◌≡◌, ℕ, List, [], ◌∷◌, ◌++◌, length, map, drop, true, Option, Some, None, refl, sym, ap, ◌∙◌, subst}
 use Rattle.std.proofs.lemmas.List.{append-nil}
-use Rattle.keybytes.specs.Keys.{KeySpecValue}
+use Rattle.std.specs.List.{All}
+use Rattle.std.proofs.lemmas.List.Elements.{All-nil}
+use Rattle.keybytes.specs.Keys.{KeySpecValue, IsKeyOf}
 use Rattle.keybytes.specs.declared.kind.Kind.{Kind}
 use Rattle.heap_log.specs.declared.record.LogRec.{LogRec}
 use Rattle.heap_table.specs.Pages.{pages_written}
@@ -12,7 +14,7 @@ use Rattle.builder_core.specs.Builds.{IsBuildOf, BuildFollows}
 use Rattle.builder_core.specs.CoreState.{BuildState, scanning_of}
 use Rattle.builder_core.specs.Scanning.{Scanning, opened_scanning, scanned_at}
 use Rattle.builder_core.specs.SideEntries.{entries_of, side_entries}
-use Rattle.builder_core.specs.SideFiles.{HasEntries, SideFollows, AreEntriesLeft}
+use Rattle.builder_core.specs.SideFiles.{HasEntries, SideFollows, AreEntriesLeft, HaveEntryKeys}
 use Rattle.std.specs.Prelude.{get_or, is_some}
 use Rattle.std.specs.List.{slice_get}
 use Rattle.std.proofs.lemmas.Option.{same_Some}
@@ -29,6 +31,7 @@ side_opened log b side opened pages scans none left fed = record {
   entries = λ spec one.
       left
       ∙ sym (ap (map (entry_of b.number)) (ap (λ s. side_entries s log) (same spec) ∙ opened_entries spec log));
+  keys = λ spec one. subst (All (λ entry. IsKeyOf spec entry.key)) (sym left) (All-nil (λ entry. IsKeyOf spec entry.key));
   none_fed = fed;
   count = none ∙ sym (ap (λ es. length es ∷ []) fed);
 } where
@@ -40,6 +43,7 @@ pub side_scanned :
     → HasEntries log (record b { scans = b.scans ++ record { worker = worker; page = page; records = length log } ∷ [] }) side
 side_scanned log b side worker page none has = record {
   entries = λ spec one. has.entries spec one ∙ ap (map (entry_of b.number)) (sym (same_entries (scanning_of b spec) worker page log none));
+  keys = has.keys;
   none_fed = has.none_fed;
   count = has.count;
 }
@@ -53,8 +57,20 @@ side_same kinds log rec b side nothing build has = record {
       let es : List SideEntry = side_entries here log in
       has.entries spec one
       ∙ ap (map (entry_of b.number)) (sym (more_entries here log rec (scanned_for kinds log b build spec one).opened ∙ ap (λ fs. es ++ fs) (nothing here) ∙ append-nil es));
+  keys = has.keys;
   none_fed = has.none_fed;
   count = has.count;
+}
+
+-- room for more entries changes none
+pub side_stays :
+    (log : List LogRec) (build : Option BuildState) (old new : SideFileValue) → SideFollows log build old → new.left ≡ old.left → new.fed ≡ old.fed → SideFollows log build new
+side_stays log None old new has left fed = tt
+side_stays log (Some b) old new has left fed = record {
+  entries = λ spec one. left ∙ has.entries spec one;
+  keys = λ spec one. subst (All (λ entry. IsKeyOf spec entry.key)) (sym left) (has.keys spec one);
+  none_fed = fed ∙ has.none_fed;
+  count = has.count ∙ ap (λ es. length es ∷ []) (sym fed);
 }
 
 -- a record that changes no row appends nothing
@@ -83,6 +99,14 @@ left_of kinds log b side build has = λ spec at.
     let one : b.specs ≡ spec ∷ [] = only_spec b.specs build.spec spec build.one_index at in
     let none : get_or b.fed 0 0 ≡ 0 = ap (λ (fed : List ℕ). get_or fed 0 0) (has.count ∙ ap (λ es. length es ∷ []) has.none_fed) in
     has.entries spec one ∙ ap (λ n. map (entry_of b.number) (drop n (side_entries (scanning_of b spec) log))) (sym none)
+
+-- and each has the key of a row
+pub keys_left :
+    (kinds : List Kind) (log : List LogRec) (build : Option BuildState) (side : SideFileValue) (index : ℕ) → BuildFollows kinds log build → SideFollows log build side
+    → is_some build ≡ true → index ≡ 0 → HaveEntryKeys build index side.left
+keys_left kinds log None side index follows has some zero = absurd (false≢true some)
+keys_left kinds log (Some b) side index follows has some zero =
+    subst (λ i. HaveEntryKeys (Some b) i side.left) (sym zero) (λ spec at. has.keys spec (only_spec b.specs follows.spec spec follows.one_index at))
 
 -- what is left in the side-file are the entries of the build's index
 pub entries_left :

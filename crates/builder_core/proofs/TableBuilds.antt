@@ -166,6 +166,10 @@ pub scanned_for : (kinds : List Kind) (log : List LogRec) (b : BuildState) → I
 scanned_for kinds log b is spec one =
     subst (λ s. IsScanned (scanning_of b s) log) (only_same is.spec spec (sym is.one_index ∙ one)) is.scanned
 
+-- that specification is of the table's columns
+pub columns_for : (kinds : List Kind) (log : List LogRec) (b : BuildState) → IsBuildOf kinds log b → (spec : KeySpecValue) → b.specs ≡ spec ∷ [] → spec.kinds ≡ kinds
+columns_for kinds log b is spec one = ap (λ (s : KeySpecValue). s.kinds) (only_same spec is.spec (sym one ∙ is.one_index)) ∙ is.columns
+
 -- a set has the members of its list
 set_of-keys : (s : FinSet pair_cmp) → set_of (keys s) ≡ s
 set_of-keys s = same_members (set_of (keys s)) s (λ q. contains-set_of (keys s) q ∙ sym (contains_key-keys s q))

@@ -1,7 +1,7 @@
 -- The side-file of a running build, and what a change of a row appends to it.
 use Rattle.std.specs.Prelude.{◌≡◌, ℕ, Bool, ◌||◌, nat_le, is_some, if◌then◌else◌, List, [], ◌∷◌, length, map, drop, get_or, Option, Some, None}
-use Rattle.std.specs.List.{slice_get}
-use Rattle.keybytes.specs.Keys.{KeySpecValue}
+use Rattle.std.specs.List.{All, slice_get}
+use Rattle.keybytes.specs.Keys.{KeySpecValue, IsKeyOf}
 use Rattle.keybytes.specs.Pairs.{pair_with}
 use Rattle.keybytes.specs.declared.cell.Cell.{Cell}
 use Rattle.keybytes.specs.declared.fault.Fault.{Fault}
@@ -28,6 +28,8 @@ noted b spec rid old new = if sees b rid then changes (pair_with spec rid old) (
 -- the side-file has that build's entries, under its number, and none of them was fed
 pub record HasEntries (log : List LogRec) (b : BuildState) (side : SideFileValue) : Type 0 where
   pub entries : (spec : KeySpecValue) → b.specs ≡ spec ∷ [] → side.left ≡ map (entry_of b.number) (side_entries (scanning_of b spec) log)
+  -- each has the key of a row
+  pub keys : (spec : KeySpecValue) → b.specs ≡ spec ∷ [] → All (λ entry. IsKeyOf spec entry.key) side.left
   pub none_fed : side.fed ≡ []
   pub count : b.fed ≡ length side.fed ∷ []
 
@@ -45,6 +47,11 @@ pub record IsDrained (put : PutEnd Entry) (ring : RingId) (received : List Entry
 abbrev pub side_refusal : Option BuildState → ℕ → Option Fault
 side_refusal None index = Some NoBuild
 side_refusal (Some b) index = if nat_le (length b.specs) index then Some BadCount else None
+
+-- each of the entries of an index has the key of a row
+abbrev pub HaveEntryKeys : Option BuildState → ℕ → List Entry → Type 0
+HaveEntryKeys None index entries = ⊥
+HaveEntryKeys (Some b) index entries = (spec : KeySpecValue) → slice_get b.specs index ≡ Some spec → All (λ entry. IsKeyOf spec entry.key) entries
 
 -- these are the entries of the running build's index that were not handed on, in order, under the build's number
 abbrev pub AreEntriesLeft : List LogRec → Option BuildState → ℕ → List Entry → Type 0

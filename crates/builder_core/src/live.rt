@@ -1,4 +1,5 @@
-ghost use Rattle.std.specs.Prelude.{◌≡◌, [], Some, None, IfOk, IfErr, IfSome, OnOk, OnErr, MatchOption};
+ghost use Rattle.std.specs.Prelude.{◌≡◌, [], Some, None, IfOk, IfErr, IfSome, OnOk, OnErr, MatchOption, slice_get};
+ghost use Rattle.builder_core.specs.Steps.{OnBuild};
 ghost use Rattle.keybytes.specs.Faults.{RefusedFor};
 ghost use Rattle.heap_log.specs.Standing.{live_at};
 ghost use Rattle.heap_table.specs.HeapState.{after_visit, row_missing};
@@ -8,7 +9,7 @@ ghost use Rattle.keybytes.specs.Pairs.{HaveKeysOf, AreInColumnOrder};
 ghost use Rattle.builder_core.specs.Builds.{BuildFollows};
 ghost use Rattle.builder_core.specs.Invariant.{BuildIsSound};
 ghost use Rattle.std.specs.VecDeque.Iter.{deque_iter_rest};
-ghost use Rattle.builder_core.specs.SideFiles.{AreEntriesLeft, side_refusal};
+ghost use Rattle.builder_core.specs.SideFiles.{AreEntriesLeft, HaveEntryKeys, side_refusal};
 ghost use Rattle.builder_core.specs.CoreState.{live_with_heap, abandoned, after_visits, ReadyFollowTable};
 
 use crate::rest::at_rest;
@@ -112,6 +113,7 @@ impl Live {
     /// [`Fault::BadCount`] where the build has no such index.
     pub fn side(&self, index: usize) -> Result<Iter<'_, Entry>, Fault>
         ensures ok { IfOk result (λ entries. AreEntriesLeft self.now.heap.log self.now.build index (deque_iter_rest entries)) }
+        ensures keys { IfOk result (λ entries. HaveEntryKeys self.now.build index (deque_iter_rest entries)) }
         ensures refused { IfErr result (λ fault. side_refusal self.now.build index ≡ Some fault) }
         ensures accepted { OnOk result (side_refusal self.now.build index ≡ None) }
     {
@@ -122,6 +124,18 @@ impl Live {
             return Err(Fault::BadCount);
         }
         Ok(self.side.entries())
+    }
+
+    /// What makes the keys of an index that is being built. [`Fault::NoBuild`], [`Fault::BadCount`].
+    pub fn spec(&self, index: usize) -> Result<&KeySpec, Fault>
+        ensures spec { IfOk result (λ spec. OnBuild self.now.build (λ b. slice_get b.specs index ≡ Some spec.now)) }
+        ensures refused { IfErr result (λ fault. side_refusal self.now.build index ≡ Some fault) }
+    {
+        let build = self.build.as_ref().ok_or(Fault::NoBuild)?;
+        if index != 0 {
+            return Err(Fault::BadCount);
+        }
+        Ok(build.spec())
     }
 
     /// Gives a running build up.
