@@ -6,11 +6,15 @@ ghost use Rattle.heap_table.specs.Pages.{pages_written};
 ghost use Rattle.keybytes.specs.Pairs.{HaveKeysOf, AreInColumnOrder};
 ghost use Rattle.heap_table.specs.TablePairs.{pairs_at_rest};
 ghost use Rattle.builder_core.specs.CoreState.{opening, abandoned, after_visits, with_heap, ReadyFollowTable};
-ghost use Rattle.builder_core.specs.Steps.{Step, Answers};
+ghost use Rattle.std.specs.VecDeque.Iter.{deque_iter_rest};
+ghost use Rattle.builder_core.specs.SideFiles.{AreEntriesLeft, HaveEntryKeys, side_refusal};
+ghost use Rattle.builder_core.specs.Steps.{Step, Answers, OnBuild};
 
 use crate::{Building, Event, Live, Pair, Plan, ReadyIndex, Reply};
 use heap_table::{PageImage, Undone};
 use keybytes::{Fault, KeySpec, Rid, Row, Schema};
+use side_file::Entry;
+use std::collections::vec_deque::Iter;
 use std::marker::Model;
 
 /// A table with its ready indexes, and the work of the index build that may be running. Each ready index has the pairs of the
@@ -105,6 +109,25 @@ impl Core {
         ensures refused { IfErr result (RefusedFor (row_missing (live_at self.old.live.heap.log rid))) }
     {
         self.live.get(rid)
+    }
+
+    /// What makes the keys of an index that is being built. [`Fault::NoBuild`], [`Fault::BadCount`].
+    pub fn spec(&self, index: usize) -> Result<&KeySpec, Fault>
+        ensures spec { IfOk result (λ spec. OnBuild self.now.live.build (λ b. slice_get b.specs index ≡ Some spec.now)) }
+        ensures refused { IfErr result (λ fault. side_refusal self.now.live.build index ≡ Some fault) }
+    {
+        self.live.spec(index)
+    }
+
+    /// The entries of an index's side-file that were not applied yet, in order. [`Fault::NoBuild`] where no build runs,
+    /// [`Fault::BadCount`] where the build has no such index.
+    pub fn side(&self, index: usize) -> Result<Iter<'_, Entry>, Fault>
+        ensures ok { IfOk result (λ entries. AreEntriesLeft self.now.live.heap.log self.now.live.build index (deque_iter_rest entries)) }
+        ensures keys { IfOk result (λ entries. HaveEntryKeys self.now.live.build index (deque_iter_rest entries)) }
+        ensures refused { IfErr result (λ fault. side_refusal self.now.live.build index ≡ Some fault) }
+        ensures accepted { OnOk result (side_refusal self.now.live.build index ≡ None) }
+    {
+        self.live.side(index)
     }
 
     /// Does one event. A refused one changes nothing, but for want of memory in a seal or a load, which spoils the build.

@@ -39,3 +39,4 @@ pub use reply::Reply;
 pub use rest::at_rest;
 pub use run::run_events;
 pub use scan::Scan;
+pub use side_file::{Entry, Op};

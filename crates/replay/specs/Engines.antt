@@ -6,7 +6,7 @@ use Rattle.heap_table.specs.HeapState.{empty_heap}
 use Rattle.heap_table.specs.Limits.{pages_most}
 use Rattle.builder_core.specs.CoreState.{CoreState, opening}
 use Rattle.script.specs.declared.command.Command.{Command}
-use Rattle.script.specs.declared.command.Command.TheVariants.{Row, Begin, Insert, Update, Delete, Undo, Commit, Get, Start as StartCommand, Scan, Seal, Load, Switch, Pairs, Rest}
+use Rattle.script.specs.declared.command.Command.TheVariants.{Row, Begin, Insert, Update, Delete, Undo, Commit, Get, Start as StartCommand, Scan, Digest, Seal, Load, Switch, Abandon, Side, Pairs, Rest}
 use Rattle.script.specs.declared.numbered_command.NumberedCommand.{NumberedCommand}
 use Rattle.script.specs.Scripts.{SpellsScript}
 use Rattle.script.specs.declared.script.Script.{Script}
@@ -49,9 +49,12 @@ NotesCommand old (Commit label) given new = new ≡ old
 NotesCommand old (Get rid) given new = new ≡ old
 NotesCommand old (StartCommand start) given new = new ≡ old
 NotesCommand old (Scan range worker) given new = new ≡ old
+NotesCommand old (Digest worker) given new = new ≡ old
 NotesCommand old (Seal worker) given new = new ≡ old
 NotesCommand old (Load index) given new = new ≡ old
 NotesCommand old Switch given new = new ≡ old
+NotesCommand old Abandon given new = new ≡ old
+NotesCommand old (Side index) given new = new ≡ old
 NotesCommand old (Pairs number) given new = new ≡ old
 NotesCommand old (Rest spec) given new = new ≡ old
 
@@ -65,6 +68,8 @@ status_after status (answer.Undone number left) = status
 status_after status (answer.Cells row) = status
 status_after status (answer.Switched number verdicts) = if list_any is_refusal verdicts then IndexRefused else status
 status_after status (answer.Pairs lines) = status
+status_after status (answer.Entries lines) = status
+status_after status answer.Abandoned = status
 status_after status (answer.Refused fault) = status
 
 -- the command is run and answered

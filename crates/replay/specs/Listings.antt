@@ -13,6 +13,10 @@ use Rattle.keybytes.specs.declared.pair.Pair.{Pair}
 use Rattle.replay.specs.declared.answer.Answer.{Answer}
 use Rattle.replay.specs.declared.answer.Answer.TheVariants as answer
 use Rattle.replay.specs.declared.pair_line.PairLine.{PairLine}
+use Rattle.replay.specs.declared.entry_line.EntryLine.{EntryLine}
+use Rattle.builder_core.specs.SideFiles.{AreEntriesLeft, side_refusal}
+use Rattle.builder_core.specs.Steps.{OnBuild}
+use Rattle.side_file.specs.declared.entry.Entry.{Entry}
 use Rattle.script.specs.declared.spec.Spec.{Spec}
 
 -- the key specification that a script names, of a table with these columns
@@ -54,3 +58,26 @@ ListsRest spec old given new =
     OnlyVisits old new
     × (ListsPairs (key_spec_of old.live.heap.schema spec) (pairs_at_rest (key_spec_of old.live.heap.schema spec) old.live.heap.log) given
     ⊎ ((fault : Fault) × (given ≡ answer.Refused fault) × RefusedFor (key_columns_refusal old.live.heap.schema spec.columns.items) fault))
+
+-- the line lists the entry: what it does, the columns of its key, and where the row stands
+pub record ListsEntry (spec : KeySpecValue) (entry : Entry) (line : EntryLine) : Type 0 where
+  pub op : line.op ≡ entry.op
+  pub key : HasKey spec entry.key line.cells.items
+  pub rid : line.rid ≡ entry.rid
+
+-- the answer lists the entries, a line each, in their order
+abbrev pub ListsEntries : KeySpecValue → List Entry → Answer → Type 0
+ListsEntries spec entries given = (lines : Vec EntryLine Global) × (given ≡ answer.Entries lines) × AllZip (ListsEntry spec) entries lines.items
+
+-- the entries of the side-file of the running build's index
+abbrev pub ListsLeft : CoreState → ℕ → Answer → Type 0
+ListsLeft s index given =
+    (spec : KeySpecValue) × (entries : List Entry) × OnBuild s.live.build (λ b. slice_get b.specs index ≡ Some spec)
+    × AreEntriesLeft s.live.heap.log s.live.build index entries × ListsEntries spec entries given
+
+-- the entries that are left in the side-file of an index are listed, or no build runs, or it has no such index
+abbrev pub ListsSide : ℕ → CoreState → Answer → CoreState → Type 0
+ListsSide index old given new =
+    (new ≡ old)
+    × (ListsLeft old index given
+    ⊎ ((fault : Fault) × (given ≡ answer.Refused fault) × RefusedFor (side_refusal old.live.build index) fault))

@@ -1,3 +1,4 @@
+use crate::entry_line::EntryLine;
 use crate::pair_line::PairLine;
 use heap_log::Verdicts;
 use keybytes::{Fault, Rid, Row};
@@ -20,5 +21,9 @@ pub enum Answer {
     Switched { number: usize, verdicts: Verdicts },
     /// The pairs of an index, in order.
     Pairs { lines: Vec<PairLine> },
+    /// The entries of a side-file, in order.
+    Entries { lines: Vec<EntryLine> },
+    /// The build was given up.
+    Abandoned,
     Refused { fault: Fault },
 }

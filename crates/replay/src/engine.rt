@@ -11,7 +11,7 @@ ghost use Rattle.replay.specs.Plans.{specs_refusal};
 
 use crate::answer::Answer;
 use crate::labels::Labels;
-use crate::listing::pair_lines;
+use crate::listing::{entry_lines, pair_lines};
 use crate::plan::{dealing_of, is_in_limits};
 use crate::status::Status;
 use crate::txn::{begin, put, take_back};
@@ -43,9 +43,13 @@ impl Engine {
         }
         let schema = Schema::new(table.kinds)?;
         let heap = Heap::new(alloc, schema, table.slot_limit as u8, PAGES_MAX)?;
+        let live = match Live::new(alloc, heap) {
+            Ok(live) => live,
+            Err((_, fault)) => return Err(fault),
+        };
         Ok(Engine {
             alloc,
-            core: Core::new(Live::new(alloc, heap)),
+            core: Core::new(live),
             labels: Labels::new(alloc),
             status: Status::Done,
         })
@@ -85,6 +89,8 @@ impl Engine {
             Command::Seal { worker } => self.step(Event::Seal { worker }),
             Command::Load { index } => self.step(Event::Load { index }),
             Command::Switch => self.switch(),
+            Command::Abandon => self.step(Event::Abandon),
+            Command::Side { index } => self.side(index),
             Command::Pairs { number } => self.pairs(number),
             Command::Rest { spec } => self.rest(spec),
         }
@@ -109,6 +115,7 @@ impl Engine {
                 number: count as u64,
             },
             Reply::Switched { number, verdicts } => Answer::Switched { number, verdicts },
+            Reply::Abandoned => Answer::Abandoned,
             Reply::Refused { fault } => return Err(fault),
         })
     }
@@ -225,6 +232,14 @@ impl Engine {
             self.status = Status::IndexRefused;
         }
         Ok(answer)
+    }
+
+    fn side(&self, index: usize) -> Result<Answer, Fault>
+        ensures { Answers self.now (Command.Side index) result self.now }
+    {
+        let spec = self.core.spec(index)?;
+        let lines = entry_lines(self.alloc, spec, self.core.side(index)?)?;
+        Ok(Answer::Entries { lines })
     }
 
     fn pairs(&self, number: usize) -> Result<Answer, Fault>

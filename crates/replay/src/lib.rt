@@ -6,6 +6,7 @@
 
 mod answer;
 mod engine;
+mod entry_line;
 mod labels;
 mod listing;
 mod output;

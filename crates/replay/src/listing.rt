@@ -1,12 +1,17 @@
 ghost use Rattle.std.specs.Prelude.{◌≡◌, IfOk, IfErr};
 ghost use Rattle.std.specs.List.{AllZip};
 ghost use Rattle.keybytes.specs.Pairs.{HaveKeysOf};
-ghost use Rattle.replay.specs.Listings.{ListsPair};
+ghost use Rattle.std.specs.List.{All};
+ghost use Rattle.std.specs.VecDeque.Iter.{deque_iter_rest};
+ghost use Rattle.keybytes.specs.Keys.{IsKeyOf};
+ghost use Rattle.replay.specs.Listings.{ListsPair, ListsEntry};
 
+use crate::entry_line::EntryLine;
 use crate::pair_line::PairLine;
-use builder_core::Pair;
+use builder_core::{Entry, Pair};
 use keybytes::{Fault, KeySpec};
 use std::alloc::Global;
+use std::collections::vec_deque::Iter;
 
 /// The pairs of an index as they are printed.
 pub fn pair_lines(alloc: Global, spec: &KeySpec, pairs: &[Pair]) -> Result<Vec<PairLine>, Fault>
@@ -20,6 +25,24 @@ pub fn pair_lines(alloc: Global, spec: &KeySpec, pairs: &[Pair]) -> Result<Vec<P
         lines.push(PairLine {
             cells,
             rid: pair.rid,
+        })?;
+    }
+    Ok(lines)
+}
+
+/// The entries of a side-file as they are printed.
+pub fn entry_lines(alloc: Global, spec: &KeySpec, entries: Iter<'_, Entry>) -> Result<Vec<EntryLine>, Fault>
+    requires { All (λ entry. IsKeyOf spec.now entry.key) (deque_iter_rest entries) }
+    ensures lists { IfOk result (λ lines. AllZip (ListsEntry spec.now) (deque_iter_rest entries) lines.items) }
+    ensures memory { IfErr result (λ fault. fault ≡ Fault.Memory) }
+{
+    let mut lines = Vec::new(alloc);
+    for entry in entries {
+        let cells = spec.cells(&entry.key)?;
+        lines.push(EntryLine {
+            op: entry.op,
+            cells,
+            rid: entry.rid,
         })?;
     }
     Ok(lines)

@@ -4,9 +4,11 @@ ghost use Rattle.std.specs.Io.KnownBytes.{Keeps};
 ghost use Rattle.csv.specs.Writing.{fields_written, text_written, writer_pending, writer_setup, writer_under};
 
 use crate::answer::Answer;
+use crate::entry_line::EntryLine;
 use crate::output_failed::OutputFailed;
 use crate::pair_line::PairLine;
 use arrayvec::ArrayString;
+use builder_core::Op;
 use csv::{Writer, WriterBuilder};
 use heap_log::{Outcome, Verdicts};
 use keybytes::{Cell, Fault, Rid};
@@ -65,7 +67,7 @@ impl<W: io::Write + Drop> Output<W> {
     /// The values of an answer that is no refusal.
     fn values(&mut self, answer: &Answer) -> Result<(), OutputFailed> {
         match answer {
-            Answer::Done | Answer::Refused { .. } => Ok(()),
+            Answer::Done | Answer::Abandoned | Answer::Refused { .. } => Ok(()),
             Answer::Number { number } => self.field(*number),
             Answer::Row { rid } => self.field(*rid),
             Answer::Written { number, rid } => self.fields(*number, *rid),
@@ -76,6 +78,7 @@ impl<W: io::Write + Drop> Output<W> {
                 self.verdicts(verdicts)
             }
             Answer::Pairs { lines } => self.field(lines.len()),
+            Answer::Entries { lines } => self.field(lines.len()),
         }
     }
 
@@ -106,6 +109,13 @@ impl<W: io::Write + Drop> Output<W> {
                 }
                 Ok(())
             }
+            Answer::Entries { lines } => {
+                for line in lines {
+                    self.entry(number, line)?;
+                }
+                Ok(())
+            }
+            Answer::Abandoned => self.pages(number),
             _ => Ok(()),
         }
     }
@@ -123,6 +133,19 @@ impl<W: io::Write + Drop> Output<W> {
         ensures { OnOk result (fields_written self.new.writer ≡ 0) }
     {
         self.fields(number, "pair")?;
+        self.cells(line.cells.as_slice())?;
+        self.field(line.rid)?;
+        self.end()
+    }
+
+    fn entry(&mut self, number: usize, line: &EntryLine) -> Result<(), OutputFailed>
+        ensures { OnOk result (fields_written self.new.writer ≡ 0) }
+    {
+        self.fields(number, "entry")?;
+        self.text(match line.op {
+            Op::Delete => "delete",
+            Op::Insert => "insert",
+        })?;
         self.cells(line.cells.as_slice())?;
         self.field(line.rid)?;
         self.end()

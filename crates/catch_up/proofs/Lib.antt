@@ -1,0 +1,4 @@
+pub mod Placed
+pub mod Receiving
+pub mod Sorted
+pub mod Telling
