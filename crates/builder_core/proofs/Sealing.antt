@@ -73,16 +73,16 @@ module _ (live : LiveState) (work : Option WorkValue) (b : BuildState) (w : Work
       (on_build live b _ run.build_is (rw loaded none, rw loaded refl))
 
   -- they are put in order
-  pub loaded_works : (pairs : List Pair) → w.tree ≡ None → length w.worker.ring ≡ 0 → length b.scans ≡ b.pages → IsPermutation w.worker.pairs pairs → InOrder pairs → WorksOn live (Some (record w { worker = record w.worker { pairs = [] }; tree = Some pairs }))
-  loaded_works pairs fresh none all moved sorted =
-      works_on live b (record w { worker = record w.worker { pairs = [] }; tree = Some pairs }) run.build_is
-      (loaded_work live.heap.schema live.heap.log b w pairs run.follows run.works fine fresh none all moved sorted)
+  pub loaded_works : (pairs : List Pair) (room : ℕ) → w.tree ≡ None → length w.worker.ring ≡ 0 → length b.scans ≡ b.pages → IsPermutation w.worker.pairs pairs → InOrder pairs → WorksOn live (Some (record w { worker = record w.worker { pairs = [] }; tree = Some pairs; room = room }))
+  loaded_works pairs room fresh none all moved sorted =
+      works_on live b (record w { worker = record w.worker { pairs = [] }; tree = Some pairs; room = room }) run.build_is
+      (loaded_work live.heap.schema live.heap.log b w pairs room run.follows run.works fine fresh none all moved sorted)
 
-  pub loads : (pairs : List Pair) (count : ℕ) → w.tree ≡ None → length w.worker.ring ≡ 0 → count ≡ length w.worker.pairs → Loads 0 (core_state live work) count (core_state live (Some (record w { worker = record w.worker { pairs = [] }; tree = Some pairs })))
-  loads pairs count fresh none is =
+  pub loads : (pairs : List Pair) (room count : ℕ) → w.tree ≡ None → length w.worker.ring ≡ 0 → count ≡ length w.worker.pairs → Loads 0 (core_state live work) count (core_state live (Some (record w { worker = record w.worker { pairs = [] }; tree = Some pairs; room = room })))
+  loads pairs room count fresh none is =
       let unloaded : is_some w.tree ≡ false = ap is_some fresh in
       let copied : length (scanned_pairs (scanning_of b w.spec) live.heap.log) ≡ pairs_copied b live.heap.log (slice_get b.specs 0) =
       sym (ap (λ specs. pairs_copied b live.heap.log (slice_get specs 0)) run.works.specs) in
       let counted = is ∙ loaded_count live.heap.schema live.heap.log b w run.works fine fresh none ∙ copied in
-      subst (λ (o : Option WorkValue). Loads 0 (core_state live o) count (core_state live (Some (record w { worker = record w.worker { pairs = [] }; tree = Some pairs })))) (sym run.work_is)
+      subst (λ (o : Option WorkValue). Loads 0 (core_state live o) count (core_state live (Some (record w { worker = record w.worker { pairs = [] }; tree = Some pairs; room = room })))) (sym run.work_is)
       (on_build live b _ run.build_is (rw unloaded counted, refl))

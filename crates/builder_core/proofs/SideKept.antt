@@ -11,7 +11,7 @@ use Rattle.side_file.specs.Entries.{entry_of}
 use Rattle.side_file.specs.SideFileValue.{SideFileValue}
 use Rattle.visibility.specs.SideEntries.{SideEntry}
 use Rattle.builder_core.specs.Builds.{IsBuildOf, BuildFollows}
-use Rattle.builder_core.specs.CoreState.{BuildState, scanning_of}
+use Rattle.builder_core.specs.CoreState.{BuildState, LiveState, scanning_of}
 use Rattle.builder_core.specs.Scanning.{Scanning, opened_scanning, scanned_at}
 use Rattle.builder_core.specs.SideEntries.{entries_of, side_entries}
 use Rattle.builder_core.specs.SideFiles.{HasEntries, SideFollows, AreEntriesLeft, HaveEntryKeys}
@@ -114,3 +114,10 @@ pub entries_left :
     → is_some build ≡ true → index ≡ 0 → AreEntriesLeft log build index side.left
 entries_left kinds log None side index follows has some zero = absurd (false≢true some)
 entries_left kinds log (Some b) side index follows has some zero = subst (λ i. AreEntriesLeft log (Some b) i side.left) (sym zero) (left_of kinds log b side follows has)
+
+-- the side-file of the build that runs, told of a table from within
+pub side_with :
+    (inside live : LiveState) (b : BuildState) (side : SideFileValue) → inside ≡ live → inside.build ≡ Some b → SideFollows inside.heap.log inside.build side
+    → HasEntries live.heap.log b side
+side_with inside live b side view_is build_is has =
+    subst (λ (l : LiveState). HasEntries l.heap.log b side) view_is (subst (λ (o : Option BuildState). SideFollows inside.heap.log o side) build_is has)

@@ -171,7 +171,7 @@ pub columns_for : (kinds : List Kind) (log : List LogRec) (b : BuildState) → I
 columns_for kinds log b is spec one = ap (λ (s : KeySpecValue). s.kinds) (only_same spec is.spec (sym one ∙ is.one_index)) ∙ is.columns
 
 -- a set has the members of its list
-set_of-keys : (s : FinSet pair_cmp) → set_of (keys s) ≡ s
+pub set_of-keys : (s : FinSet pair_cmp) → set_of (keys s) ≡ s
 set_of-keys s = same_members (set_of (keys s)) s (λ q. contains-set_of (keys s) q ∙ sym (contains_key-keys s q))
 
 -- once the side-file is applied to the scanned pairs, they are the pairs at rest

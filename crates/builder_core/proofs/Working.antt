@@ -1,5 +1,5 @@
 -- What each step of a build leaves of its work.
-use Rattle.std.proofs.Common.{◌≡◌, ℕ, zero, suc, ◌<◌, ◌≤◌, true, List, [], ◌∷◌, ◌++◌, length, length-append, take, drop, take_all, take-append-drop, Some, None, refl, sym, ap, ◌∙◌, arith, subst}
+use Rattle.std.proofs.Common.{◌≡◌, ℕ, zero, suc, ◌<◌, ◌≤◌, true, List, [], ◌∷◌, ◌++◌, length, length-append, take, drop, take_all, take-append-drop, Some, None, refl, sym, ap, ◌∙◌, arith, subst, Option, Some, None}
 use Rattle.std.specs.Prelude.{flat_map, is_some, IsPermutation}
 use Rattle.std.specs.List.{IsDistinct}
 use Rattle.std.specs.Ordering.{eq_by_cmp}
@@ -15,7 +15,7 @@ use Rattle.keybytes.specs.declared.pair.Pair.{Pair}
 use Rattle.heap_log.specs.declared.record.LogRec.{LogRec}
 use Rattle.heap_table.proofs.PairsAtRest.{InOrder, sorted_set}
 use Rattle.heap_table.specs.Images.{ImageValue, IsImage}
-use Rattle.builder_core.specs.Builds.{WorkerValue, WorkValue, IsBuildOf, IsWorkOn, HasSealed, after_put}
+use Rattle.builder_core.specs.Builds.{IsWorkOf, WorkerValue, WorkValue, IsBuildOf, IsWorkOn, HasSealed, after_put}
 use Rattle.builder_core.specs.CoreState.{BuildState, scanning_of}
 use Rattle.builder_core.specs.ImagePairs.{HavePairs}
 use Rattle.builder_core.specs.Scanning.{AreCopies, pairs_at_scan, scanned_pairs}
@@ -27,7 +27,7 @@ use Rattle.builder_core.proofs.ScanSteps.{scan_now}
 
 -- the work of a build that has done nothing
 abbrev pub fresh : KeySpecValue → WorkValue
-fresh spec = record { spec = spec; worker = record { ring = []; pairs = []; taken = 0 }; tree = None; spoiled = None }
+fresh spec = record { spec = spec; worker = record { ring = []; pairs = []; taken = 0 }; tree = None; room = 0; spoiled = None }
 
 pub fresh_work_on : (kinds : List Kind) (log : List LogRec) (b : BuildState) (spec : KeySpecValue) → b.specs ≡ spec ∷ [] → spec.kinds ≡ kinds → b.scans ≡ [] → IsWorkOn kinds log b (fresh spec)
 fresh_work_on kinds log b spec specs columns none = record {
@@ -137,10 +137,10 @@ loaded_count kinds log b work is fine fresh none = ap length (all_made kinds log
 
 -- the pairs are in order
 pub loaded_work :
-    (kinds : List Kind) (log : List LogRec) (b : BuildState) (work : WorkValue) (pairs : List Pair) → IsBuildOf kinds log b → IsWorkOn kinds log b work
+    (kinds : List Kind) (log : List LogRec) (b : BuildState) (work : WorkValue) (pairs : List Pair) (room : ℕ) → IsBuildOf kinds log b → IsWorkOn kinds log b work
     → work.spoiled ≡ None → work.tree ≡ None → length work.worker.ring ≡ 0 → length b.scans ≡ b.pages → IsPermutation work.worker.pairs pairs → InOrder pairs
-    → IsWorkOn kinds log b (record work { worker = record work.worker { pairs = [] }; tree = Some pairs })
-loaded_work kinds log b work pairs build is fine fresh none all moved sorted = record {
+    → IsWorkOn kinds log b (record work { worker = record work.worker { pairs = [] }; tree = Some pairs; room = room })
+loaded_work kinds log b work pairs room build is fine fresh none all moved sorted = record {
   specs = is.specs;
   columns = is.columns;
   put = is.put;
@@ -158,4 +158,18 @@ loaded_work kinds log b work pairs build is fine fresh none all moved sorted = r
         moved sorted
         ∙ ap (λ ps. keys (set_of ps)) made;
   };
+}
+
+-- room for more pairs changes nothing
+pub roomy_work :
+    (kinds : List Kind) (log : List LogRec) (build : Option BuildState) (work : WorkValue) (room : ℕ) → IsWorkOf kinds log build (Some work)
+    → IsWorkOf kinds log build (Some (record work { room = room }))
+roomy_work kinds log None work room is = is
+roomy_work kinds log (Some b) work room is = record {
+  specs = is.specs;
+  columns = is.columns;
+  put = is.put;
+  few = is.few;
+  all = is.all;
+  sound = λ e. let s = is.sound e in record { copies = s.copies; made = s.made; loaded = s.loaded };
 }

@@ -1,5 +1,6 @@
 -- What a table and the workers of its build keep between events, and how the two go together.
-use Rattle.std.specs.Prelude.{◌≡◌, ℕ, ◌+◌, ◌≤◌, List, [], ◌∷◌, ◌++◌, length, take, drop, filter, flat_map, is_some, nat_lt, ◌==◌, true, ◌<◌, IfSome, Option, Some, None}
+use Rattle.std.specs.Prelude.{◌≡◌, ℕ, ◌+◌, ◌≤◌, List, [], ◌∷◌, ◌++◌, length, take, drop, filter, flat_map, is_some, vec_len, vec_capacity, ◌-◌, Vec, nat_lt, ◌==◌, true, ◌<◌, IfSome, Option, Some, None}
+use Rattle.std.specs.declared.alloc.Global.{Global}
 use Rattle.std.specs.FinMap.{keys}
 use Rattle.keybytes.specs.Keys.{KeySpecValue}
 use Rattle.keybytes.specs.Pairs.{set_of}
@@ -28,7 +29,14 @@ pub record WorkValue : Type 0 where
   pub worker : WorkerValue
   -- the index's pairs, once they are in order
   pub tree : Option (List Pair)
+  -- how many more pairs find room beside them
+  pub room : ℕ
   pub spoiled : Option Fault
+
+-- how many more pairs find room in a list, if there is one
+abbrev pub room_in : Option (Vec Pair Global) → ℕ
+room_in None = 0
+room_in (Some pairs) = vec_capacity pairs - vec_len pairs
 
 -- a worker seals whatever it took
 abbrev pub worker_state : WorkerValue → WorkerState
@@ -55,8 +63,8 @@ abbrev pub after_put : WorkerValue → ImageValue → WorkerValue
 after_put worker image = record worker { ring = worker.ring ++ image ∷ [] }
 
 -- its pairs are the index's, in order
-abbrev pub after_sort : WorkValue → List Pair → WorkValue
-after_sort work pairs = record work { worker = record work.worker { pairs = [] }; tree = Some pairs }
+abbrev pub after_sort : WorkValue → List Pair → ℕ → WorkValue
+after_sort work pairs room = record work { worker = record work.worker { pairs = [] }; tree = Some pairs; room = room }
 
 -- a worker took all copies, and has their pairs
 pub record HasSealed (spec : KeySpecValue) (old new : WorkerValue) : Type 0 where

@@ -1,5 +1,5 @@
 //! The half of a build that needs no lock.
-ghost use Rattle.std.specs.Prelude.{◌≡◌, ◌≤◌, ◌<◌, ◌+◌, [], List, length, true, is_some, if◌then◌else◌, Some, None, IfErr, IfOk, OnOk, OnErr, MatchResult, MatchOption, IsPermutation, T};
+ghost use Rattle.std.specs.Prelude.{ℕ, ◌-◌, vec_len, vec_capacity, IfSome, ◌≡◌, ◌≤◌, ◌<◌, ◌+◌, [], List, length, true, is_some, if◌then◌else◌, Some, None, IfErr, IfOk, OnOk, OnErr, MatchResult, MatchOption, IsPermutation, T};
 ghost use Rattle.heap_table.proofs.PairsAtRest.{InOrder};
 ghost use Rattle.builder_core.specs.Builds.{WorkValue, after_put, after_sort, HasSealed};
 ghost use Rattle.builder_core.specs.ImagePairs.{HavePairs};
@@ -22,17 +22,17 @@ pub struct Work {
 
 impl Model for Work {
     ghost use Rattle.std.specs.Option.{option_map};
-    ghost use Rattle.builder_core.specs.Builds.{WorkValue};
+    ghost use Rattle.builder_core.specs.Builds.{WorkValue, room_in};
 
     ghost Value = { WorkValue };
 
-    ghost view = { λ work. record { spec = work.spec; worker = work.worker; tree = option_map (λ pairs. pairs.items) work.tree; spoiled = work.spoiled } };
+    ghost view = { λ work. record { spec = work.spec; worker = work.worker; tree = option_map (λ pairs. pairs.items) work.tree; room = room_in work.tree; spoiled = work.spoiled } };
 }
 
 impl Work {
     /// A build that has done nothing. Takes the memory for the copies that may wait.
     pub fn new(alloc: Global, spec: KeySpec) -> Result<Work, Fault>
-        ensures ok { IfOk result (λ work. work ≡ record { spec = spec; worker = record { ring = []; pairs = []; taken = 0 }; tree = None; spoiled = None }) }
+        ensures ok { IfOk result (λ work. work ≡ record { spec = spec; worker = record { ring = []; pairs = []; taken = 0 }; tree = None; room = 0; spoiled = None }) }
         ensures memory { IfErr result (λ fault. fault ≡ Fault.Memory) }
     {
         Ok(Work {
@@ -98,7 +98,7 @@ impl Work {
     pub fn load(&mut self) -> usize
         ensures count { result ≡ (if is_some self.old.tree then 0 else length self.old.worker.pairs) }
         ensures again { is_some self.old.tree ≡ true → self.new ≡ self.old }
-        ensures loaded { self.old.tree ≡ None → (pairs : List Pair) × (self.new ≡ after_sort self.old pairs)
+        ensures loaded { self.old.tree ≡ None → (pairs : List Pair) × (room : ℕ) × (self.new ≡ after_sort self.old pairs room)
             × IsPermutation self.old.worker.pairs pairs × InOrder pairs }
     {
         if self.tree.is_some() {
@@ -110,9 +110,23 @@ impl Work {
         count
     }
 
+    /// Makes room for that many more pairs beside those in order.
+    pub fn make_room(&mut self, n: usize) -> Result<(), Fault>
+        requires { is_some self.old.tree ≡ true }
+        ensures room { OnOk result (n ≤ self.new.room) }
+        ensures same { self.new ≡ record self.old { room = self.new.room } }
+        ensures memory { IfErr result (λ fault. fault ≡ Fault.Memory) }
+    {
+        if let Some(pairs) = &mut self.tree {
+            pairs.reserve(n)?;
+        }
+        Ok(())
+    }
+
     /// The pairs of the index, if they are in order.
     pub fn into_pairs(self) -> Option<Vec<Pair>>
-        ensures { MatchOption result (self.tree ≡ None) (λ pairs. self.tree ≡ Some pairs.items) }
+        ensures pairs { MatchOption result (self.tree ≡ None) (λ pairs. self.tree ≡ Some pairs.items) }
+        ensures room { IfSome result (λ pairs. vec_capacity pairs - vec_len pairs ≡ self.room) }
     {
         self.tree
     }

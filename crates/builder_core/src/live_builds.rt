@@ -1,21 +1,30 @@
 //! The steps of a build that touch the table.
-ghost use Rattle.std.specs.Prelude.{◌≡◌, ◌<◌, ◌+◌, ◌∷◌, [], List, length, Some, None, IfOk, IfErr, OnOk, OnErr, MatchOption, MatchResult, if◌then◌else◌, true, false, vec_len, vec_capacity, ◌==◌, is_some, IsSome};
+ghost use Rattle.std.specs.Prelude.{◌≡◌, ◌<◌, ◌+◌, ◌∷◌, [], List, length, Some, None, IfOk, IfErr, OnOk, OnErr, MatchOption, MatchResult, if◌then◌else◌, true, false, vec_len, vec_capacity, ◌==◌, is_some, IsSome, IfSome, ◌≤◌, ◌-◌, ℕ};
+ghost use Rattle.rtrb.specs.Ring.{received};
+ghost use Rattle.keybytes.specs.Pairs.{set_of};
+ghost use Rattle.visibility.specs.Applied.{apply_entries};
+ghost use Rattle.side_file.specs.Ends.{ring_take};
+ghost use Rattle.catch_up.specs.Built.{AreOrdered, told_to};
+ghost use Rattle.builder_core.specs.SideFiles.{IsDrained};
 ghost use Rattle.builder_core.specs.CoreState.{opening};
 ghost use Rattle.keybytes.specs.Answered.{Answered};
 ghost use Rattle.heap_log.specs.declared.outcome.Outcome.{Outcome};
 ghost use Rattle.builder_core.specs.declared.event.Event.{Event};
 ghost use Rattle.heap_table.specs.HeapState.{after_switch};
 ghost use Rattle.heap_table.specs.Pages.{pages_written, KeepsRows};
-ghost use Rattle.builder_core.specs.Builds.{core_state, cause_of, MayScan, MaySeal, MayLoad, WorksOn};
+ghost use Rattle.builder_core.specs.Builds.{WorkValue, core_state, cause_of, MayScan, MaySeal, MayLoad, WorksOn};
 ghost use Rattle.builder_core.specs.Steps.{Starts, Scans, Switches, start_refusal, counts_fit, is_one_range};
 
 use crate::building::Work;
 use crate::table_scan::TableScan;
 use crate::worker::RING_MAX;
-use crate::{Building, Dealing, Live, Plan, ReadyIndex};
+use crate::{Building, Dealing, Live, Pair, Plan, ReadyIndex};
+use catch_up::{Built, catch_up};
 use heap_log::{Outcome, Verdicts};
 use heap_table::{Heap, PageImage};
 use keybytes::{Fault, KeySpec};
+use rtrb::Consumer;
+use side_file::{Entry, SideFile};
 use std::alloc::Global;
 
 /// The most indexes that a table may have.
@@ -262,10 +271,11 @@ impl Live {
         ensures switched { Answered (cause_of self.old building.old Event.Switch) Switches
             (core_state self.old building.old) result (core_state self.new building.new) }
         ensures works { WorksOn self.new building.new }
-        ensures unchanged { OnErr result ((self.new ≡ self.old) × (building.new ≡ building.old)) }
+        ensures unchanged { OnErr result (self.new ≡ self.old) }
     {
         self.check_switch(building)?;
         self.heap.laws();
+        make_room(&mut building.work, self.side.left())?;
         let noted = note_ready(self.alloc, &mut self.heap, &mut self.ready)?;
         let (Some(build), Some(work)) = (self.build.take(), building.work.take()) else {
             unreachable!()
@@ -273,6 +283,7 @@ impl Live {
         let Some(pairs) = work.into_pairs() else {
             unreachable!()
         };
+        let pairs = caught_up(build.number(), pairs, &mut self.side, &mut self.side_end);
         let spec = build.into_spec();
         // It tells that its columns make a key, whose bytes are then in the columns' order.
         let _columns = spec.columns();
@@ -302,4 +313,37 @@ fn note_ready(
     let told = vec![in alloc; Outcome::Ready(index)]?;
     let number = heap.note(noted)?;
     Ok((number, Verdicts::new(told)))
+}
+
+/// Makes room for so many more pairs of the index.
+fn make_room(work: &mut Option<Work>, n: usize) -> Result<(), Fault>
+    requires { IfSome work.old (λ w. is_some w.tree ≡ true) }
+    ensures room { OnOk result (IfSome work.new (λ w. n ≤ w.room)) }
+    ensures same { (w : WorkValue) → work.old ≡ Some w → (room : ℕ) × (work.new ≡ Some (record w { room = room })) }
+    ensures none { work.old ≡ None → work.new ≡ None }
+    ensures memory { IfErr result (λ fault. fault ≡ Fault.Memory) }
+{
+    match work {
+        Some(work) => work.make_room(n),
+        None => Ok(()),
+    }
+}
+
+/// The pairs of a build's index once all entries of its side-file are applied to them.
+fn caught_up(
+    number: u64,
+    pairs: Vec<Pair>,
+    side: &mut SideFile,
+    side_end: &mut Consumer<Entry>,
+) -> Vec<Pair>
+    requires ordered { AreOrdered pairs.items }
+    requires drained { IsDrained side.old.end (ring_take side_end.old) (received side_end.old) }
+    requires room { length side.old.left ≤ vec_capacity pairs - vec_len pairs }
+    ensures ordered { AreOrdered result.items }
+    ensures applied { set_of result.items ≡ apply_entries (told_to number side.old.left) (set_of pairs.items) }
+    ensures drained { IsDrained side.new.end (ring_take side_end.new) (received side_end.new) }
+{
+    let mut built = Built::new(number, pairs);
+    catch_up(&mut built, side, side_end);
+    built.into_pairs()
 }

@@ -1,4 +1,4 @@
-ghost use Rattle.std.specs.Prelude.{◌≡◌, ◌∷◌, [], ◌≤◌, ◌<◌, ◌+◌, ◌-◌, Some, None, OnOk, IfErr};
+ghost use Rattle.std.specs.Prelude.{◌≡◌, ◌∷◌, [], ◌≤◌, ◌<◌, ◌+◌, ◌-◌, Some, None, OnOk, IfErr, vec_len, vec_capacity};
 ghost use Rattle.keybytes.specs.Pairs.{set_of};
 ghost use Rattle.visibility.specs.Applied.{apply_entry, apply_entries};
 ghost use Rattle.catch_up.specs.Built.{AreOrdered, told, told_to};
@@ -32,6 +32,7 @@ impl Built {
         requires { AreOrdered pairs.items }
         ensures build { result.build ≡ build }
         ensures pairs { result.pairs ≡ pairs.items }
+        ensures room { result.room ≡ vec_capacity pairs - vec_len pairs }
     {
         Built { build, pairs }
     }

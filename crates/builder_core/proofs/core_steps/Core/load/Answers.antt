@@ -25,6 +25,6 @@ invariant_of-self-2 c =
       | inl loaded ↦ subst (λ (x : WorkValue). WorksOn live (Some x)) (sym (c.load-pairs.ensures.again loaded)) (subst (WorksOn live) is c.self.invariant)
       | inr fresh ↦
           let done = c.load-pairs.ensures.loaded fresh in
-          subst (λ (x : WorkValue). WorksOn live (Some x)) (sym done.1)
-          (loaded_works live c.self.inside.building may.runs.build w run fine done.0 fresh none may.all done.2 done.3)
+          subst (λ (x : WorkValue). WorksOn live (Some x)) (sym done.2)
+          (loaded_works live c.self.inside.building may.runs.build w run fine done.0 done.1 fresh none may.all done.3 done.4)
     ]
