@@ -1,12 +1,13 @@
 -- The table of a script with its labels and its status: before the script, after a command, and after all of them.
 use Rattle.std.specs.Prelude.{◌≡◌, ℕ, List, [], ◌∷◌, None, Some, Result, ◌⊎◌, if◌then◌else◌}
 use Rattle.std.specs.List.{list_any}
+use Rattle.keybytes.specs.Faults.{RefusedFor}
 use Rattle.keybytes.specs.declared.fault.Fault.{Fault}
 use Rattle.heap_table.specs.HeapState.{empty_heap}
 use Rattle.heap_table.specs.Limits.{pages_most}
 use Rattle.builder_core.specs.CoreState.{CoreState, opening}
 use Rattle.script.specs.declared.command.Command.{Command}
-use Rattle.script.specs.declared.command.Command.TheVariants.{Row, Begin, Insert, Update, Delete, Undo, Commit, Get, Start as StartCommand, Scan, Digest, Seal, Load, Switch, Abandon, Side, Pairs, Rest}
+use Rattle.script.specs.declared.command.Command.TheVariants.{Row, Begin, Insert, Update, Delete, Undo, Commit, Get, Start as StartCommand, Scan, Seal, Load, Switch, Abandon, Side, Pairs, Rest}
 use Rattle.script.specs.declared.numbered_command.NumberedCommand.{NumberedCommand}
 use Rattle.script.specs.Scripts.{SpellsScript}
 use Rattle.script.specs.declared.script.Script.{Script}
@@ -49,7 +50,6 @@ NotesCommand old (Commit label) given new = new ≡ old
 NotesCommand old (Get rid) given new = new ≡ old
 NotesCommand old (StartCommand start) given new = new ≡ old
 NotesCommand old (Scan range worker) given new = new ≡ old
-NotesCommand old (Digest worker) given new = new ≡ old
 NotesCommand old (Seal worker) given new = new ≡ old
 NotesCommand old (Load index) given new = new ≡ old
 NotesCommand old Switch given new = new ≡ old
@@ -94,7 +94,7 @@ RunsAll old (first ∷ rest) new = (mid : Engine) × RunsNext old first mid × R
 -- commands run on a table of their own end with that status; a refused table fails, and no command is run
 abbrev pub EndsWith : Table → List NumberedCommand → Status → Type 0
 EndsWith table commands status =
-    ((fault : Fault) × (table_refusal table ≡ Some fault) × (status ≡ Failed))
+    ((fault : Fault) × RefusedFor (table_refusal table) fault × (status ≡ Failed))
     ⊎ ((begun : Engine) × (end : Engine) × IsNew table begun × RunsAll begun commands end × (status ≡ end.status))
 
 -- a status as a number

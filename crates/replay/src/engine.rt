@@ -1,5 +1,5 @@
 //! The table that a script runs on.
-ghost use Rattle.std.specs.Prelude.{◌≡◌, ◌≢◌, map, Some, None, OnOk, IfOk, IfErr};
+ghost use Rattle.std.specs.Prelude.{◌≡◌, ◌≢◌, [], map, Some, None, OnOk, IfOk, IfErr};
 ghost use Rattle.std.specs.List.{list_any};
 ghost use Rattle.keybytes.specs.Faults.{RefusedFor};
 ghost use Rattle.keybytes.specs.Keys.{key_columns_refusal};
@@ -35,7 +35,7 @@ impl Engine {
     /// An empty table. Its slot limit is looked at before its columns.
     pub fn new(alloc: Global, table: Table) -> Result<Engine, Fault>
         ensures accepted { OnOk result (table_refusal table ≡ None) }
-        ensures refused { IfErr result (λ fault. table_refusal table ≡ Some fault) }
+        ensures refused { IfErr result (RefusedFor (table_refusal table)) }
         ensures empty { IfOk result (IsNew table) }
     {
         if table.slot_limit == 0 || table.slot_limit > u32::from(SLOTS_MAX) {
@@ -43,13 +43,9 @@ impl Engine {
         }
         let schema = Schema::new(table.kinds)?;
         let heap = Heap::new(alloc, schema, table.slot_limit as u8, PAGES_MAX)?;
-        let live = match Live::new(alloc, heap) {
-            Ok(live) => live,
-            Err((_, fault)) => return Err(fault),
-        };
         Ok(Engine {
             alloc,
-            core: Core::new(live),
+            core: Core::new(live_on(alloc, heap)?),
             labels: Labels::new(alloc),
             status: Status::Done,
         })
@@ -268,6 +264,17 @@ impl Engine {
         ensures refused { IfErr result (RefusedFor (key_columns_refusal self.now.core.live.heap.schema spec.columns.items)) }
     {
         KeySpec::new(self.alloc, self.core.schema(), spec.columns, spec.unique)
+    }
+}
+
+/// The table with no index and no build.
+fn live_on(alloc: Global, heap: Heap) -> Result<Live, Fault>
+    ensures ok { IfOk result (λ live. live ≡ record { heap = heap.state; ready = []; builds = 0; build = None }) }
+    ensures memory { IfErr result (λ fault. fault ≡ Fault.Memory) }
+{
+    match Live::new(alloc, heap) {
+        Ok(live) => Ok(live),
+        Err((_, fault)) => Err(fault),
     }
 }
 

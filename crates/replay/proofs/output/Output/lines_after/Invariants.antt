@@ -4,3 +4,6 @@ use Rattle.replay.proofs.output.Output.lines_after.Given as goal
 
 abbrev pub invariant-loop-line : goal.invariant-loop-line
 invariant-loop-line g l = fields_written l.self.writer ≡ 0
+
+abbrev pub invariant-loop-line-2 : goal.invariant-loop-line-2
+invariant-loop-line-2 g l = fields_written l.self.writer ≡ 0
