@@ -6,10 +6,13 @@ ghost use Rattle.keybytes.specs.Keys.{key_columns_refusal};
 ghost use Rattle.replay.specs.Answers.{Happens, answer_of};
 ghost use Rattle.replay.specs.Engines.{Answers, IsNew, Runs};
 ghost use Rattle.replay.specs.Limits.{is_refusal, table_refusal};
-ghost use Rattle.replay.specs.Listings.{key_spec_of};
+ghost use Rattle.builder_core.specs.SideFiles.{side_refusal};
+ghost use Rattle.replay.specs.declared.answer.Answer.{Answer};
+ghost use Rattle.replay.specs.Listings.{key_spec_of, ListsLeft};
 ghost use Rattle.replay.specs.Plans.{specs_refusal};
 
 use crate::answer::Answer;
+use crate::entry_line::EntryLine;
 use crate::labels::Labels;
 use crate::listing::{entry_lines, pair_lines};
 use crate::plan::{dealing_of, is_in_limits};
@@ -233,9 +236,19 @@ impl Engine {
     fn side(&self, index: usize) -> Result<Answer, Fault>
         ensures { Answers self.now (Command.Side index) result self.now }
     {
-        let spec = self.core.spec(index)?;
-        let lines = entry_lines(self.alloc, spec, self.core.side(index)?)?;
+        let lines = self.side_lines(index)?;
         Ok(Answer::Entries { lines })
+    }
+
+    /// The entries that are left in the side-file of an index that is being built.
+    fn side_lines(&self, index: usize) -> Result<Vec<EntryLine>, Fault>
+        ensures lists { IfOk result (λ lines. ListsLeft self.now.core index (Answer.Entries lines)) }
+        ensures refused { IfErr result (RefusedFor (side_refusal self.now.core.live.build index)) }
+    {
+        let spec = self.core.spec(index)?;
+        let entries = self.core.side(index)?;
+        let lines = entry_lines(self.alloc, spec, entries)?;
+        Ok(lines)
     }
 
     fn pairs(&self, number: usize) -> Result<Answer, Fault>
