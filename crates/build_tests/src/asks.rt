@@ -37,6 +37,7 @@ pub enum Ask {
     Seal,
     Load,
     Switch,
+    Abandon,
 }
 
 fn start(alloc: Global, dealing: Dealing) -> Result<Event, Fault> {
@@ -82,6 +83,7 @@ pub fn event(alloc: Global, ask: Ask) -> Result<Event, Fault> {
         Ask::Seal => Ok(Event::Seal { worker: 0 }),
         Ask::Load => Ok(Event::Load { index: 0 }),
         Ask::Switch => Ok(Event::Switch),
+        Ask::Abandon => Ok(Event::Abandon),
         _ => change(alloc, ask),
     }
 }
@@ -98,6 +100,7 @@ pub fn numbers_in(reply: &Reply) -> Result<(usize, usize), Fault> {
         Reply::Sealed { images } => Ok((*images, 0)),
         Reply::Loaded { pairs } => Ok((*pairs, 0)),
         Reply::Switched { number, .. } => Ok((*number, 0)),
+        Reply::Abandoned => Ok((0, 0)),
         Reply::Refused { fault } => Err(*fault),
     }
 }

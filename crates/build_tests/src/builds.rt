@@ -116,7 +116,10 @@ fn first_other(core: &mut Core, alloc: Global, calls: &[Call]) -> Result<Option<
 
 /// An empty table, of two slots a page.
 fn two_slots(alloc: Global) -> Result<Live, Fault> {
-    Ok(Live::new(alloc, Heap::new(alloc, schema(alloc)?, 2, 8)?))
+    match Live::new(alloc, Heap::new(alloc, schema(alloc)?, 2, 8)?) {
+        Ok(live) => Ok(live),
+        Err((_, fault)) => Err(fault),
+    }
 }
 
 /// The first other answer among those calls behind others of an empty table.
@@ -170,18 +173,52 @@ fn a_build_where_memory_may_run_out(rt: HostRuntime) {
     assert!(rt; other == Ok(None) || other == Err(Fault::Memory));
 }
 
-const REFUSED: [Call; 10] = [
+const REFUSED: [Call; 13] = [
     Call::Event(Ask::Start(&[1, 2]), Err(Fault::BadRanges)),
     Call::Building(false),
     Call::Event(Ask::Start(&[2]), Ok((2, 0))),
     Call::Building(true),
     Call::Ready(Err(Fault::BadCount)),
     Call::Event(Ask::StartEven(1), Err(Fault::BuildRunning)),
-    Call::Event(Ask::Insert(9, 1), Err(Fault::BuildRunning)),
-    Call::Event(Ask::Update(9, 1), Err(Fault::BuildRunning)),
-    Call::Event(Ask::Delete(9), Err(Fault::BuildRunning)),
-    Call::Event(Ask::Undo(9), Err(Fault::BuildRunning)),
+    Call::Event(Ask::Insert(9, 1), Err(Fault::NoSuchTxn)),
+    Call::Event(Ask::Update(9, 1), Err(Fault::NoSuchTxn)),
+    Call::Event(Ask::Delete(9), Err(Fault::NoSuchTxn)),
+    Call::Event(Ask::Undo(9), Err(Fault::NoSuchTxn)),
+    Call::Event(Ask::Abandon, Ok((0, 0))),
+    Call::Event(Ask::Abandon, Err(Fault::NoBuild)),
+    Call::Building(false),
 ];
+
+/// A row comes ahead of the scan, which then copies it, and is taken back behind it; another one changes.
+const IN_USE: [Call; 15] = [
+    Call::Event(Ask::Start(&[2]), Ok((2, 0))),
+    Call::Event(Ask::Scan, Ok((0, 0))),
+    Call::Event(Ask::Begin, Ok((4, 0))),
+    Call::Event(Ask::Insert(4, 9), Ok((7, 1))),
+    Call::Event(Ask::Scan, Ok((1, 0))),
+    Call::Event(Ask::Update(4, 8), Ok((8, 0))),
+    Call::Event(Ask::Undo(4), Ok((9, 1))),
+    Call::Event(Ask::Undo(4), Ok((10, 0))),
+    Call::Event(Ask::Seal, Ok((2, 0))),
+    Call::Event(Ask::Load, Ok((4, 0))),
+    Call::Event(Ask::Switch, Ok((11, 0))),
+    Call::Ready(Ok(true)),
+    Call::Event(Ask::Begin, Ok((5, 0))),
+    Call::Event(Ask::Insert(5, 9), Err(Fault::BuildRunning)),
+    Call::Rest(Ok(true)),
+];
+
+#[test]
+fn a_build_while_a_transaction_writes(rt: HostRuntime) {
+    assert_eq!(rt; differing(rt.alloc(), &ROWS, &IN_USE), Ok(None));
+}
+
+/// A step that was refused for want of memory is taken once more, and the pairs are the same.
+#[test]
+fn writes_while_memory_may_run_out(rt: HostRuntime) {
+    let other = differing(rt.alloc(), &ROWS, &IN_USE);
+    assert!(rt; other == Ok(None) || other == Err(Fault::Memory));
+}
 
 #[test]
 fn what_a_build_refuses(rt: HostRuntime) {

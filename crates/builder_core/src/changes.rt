@@ -30,7 +30,12 @@ fn key_of(spec: &KeySpec, row: &Option<Row>) -> Result<Option<Key>, Fault>
 }
 
 /// What a change means for the build's index, as far as the build has scanned by now.
-fn change_of(build: &TableScan, rid: Rid, old: &Option<Row>, new: &Option<Row>) -> Result<Change, Fault>
+fn change_of(
+    build: &TableScan,
+    rid: Rid,
+    old: &Option<Row>,
+    new: &Option<Row>,
+) -> Result<Change, Fault>
     requires old_fits { (spec : KeySpecValue) → build.now.specs ≡ spec ∷ [] → IfSome old.now (λ cells. fits spec.kinds cells ≡ true) }
     requires new_fits { (spec : KeySpecValue) → build.now.specs ≡ spec ∷ [] → IfSome new.now (λ cells. fits spec.kinds cells ≡ true) }
     ensures ok { IfOk result (λ change. (spec : KeySpecValue) → build.now.specs ≡ spec ∷ []
@@ -50,10 +55,20 @@ fn append(side: &mut SideFile, build: u64, rid: Rid, change: Change)
 {
     let Change { delete, insert } = change;
     if let Some(key) = delete {
-        side.append(Entry { build, op: Op::Delete, key, rid });
+        side.append(Entry {
+            build,
+            op: Op::Delete,
+            key,
+            rid,
+        });
     }
     if let Some(key) = insert {
-        side.append(Entry { build, op: Op::Insert, key, rid });
+        side.append(Entry {
+            build,
+            op: Op::Insert,
+            key,
+            rid,
+        });
     }
 }
 
@@ -78,7 +93,12 @@ fn note(side: &mut SideFile, build: &Option<TableScan>, ready: &Ready) -> Result
 }
 
 /// Does a change that was made ready, its entries with it; for want of memory nothing changes.
-fn perform(heap: &mut Heap, side: &mut SideFile, build: &Option<TableScan>, ready: Ready) -> Result<Performed, Fault>
+fn perform(
+    heap: &mut Heap,
+    side: &mut SideFile,
+    build: &Option<TableScan>,
+    ready: Ready,
+) -> Result<Performed, Fault>
     requires ready { IsReady heap.old ready }
     requires build { BuildFollows heap.old.state.schema heap.old.state.log build.now }
     requires side { SideFollows heap.old.state.log build.now side.old }
@@ -98,7 +118,12 @@ fn perform(heap: &mut Heap, side: &mut SideFile, build: &Option<TableScan>, read
 }
 
 /// Does a write that was made ready; answered with its record's number and the RID.
-pub fn write(heap: &mut Heap, side: &mut SideFile, build: &Option<TableScan>, ready: Ready) -> Result<(usize, Rid), Fault>
+pub fn write(
+    heap: &mut Heap,
+    side: &mut SideFile,
+    build: &Option<TableScan>,
+    ready: Ready,
+) -> Result<(usize, Rid), Fault>
     requires ready { IsReady heap.old ready }
     requires write { ready.undone ≡ None }
     requires build { BuildFollows heap.old.state.schema heap.old.state.log build.now }
@@ -121,7 +146,12 @@ pub fn write(heap: &mut Heap, side: &mut SideFile, build: &Option<TableScan>, re
 }
 
 /// Does an undo that was made ready.
-pub fn undo(heap: &mut Heap, side: &mut SideFile, build: &Option<TableScan>, ready: Ready) -> Result<Undone, Fault>
+pub fn undo(
+    heap: &mut Heap,
+    side: &mut SideFile,
+    build: &Option<TableScan>,
+    ready: Ready,
+) -> Result<Undone, Fault>
     requires ready { IsReady heap.old ready }
     requires undo { IsSome ready.undone }
     requires build { BuildFollows heap.old.state.schema heap.old.state.log build.now }

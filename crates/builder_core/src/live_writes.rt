@@ -6,8 +6,7 @@ ghost use Rattle.heap_table.specs.HeapState.{begin_refusal, txn_refusal, insert_
 ghost use Rattle.builder_core.specs.Builds.{WorkValue, WorksOn};
 ghost use Rattle.builder_core.specs.Steps.{OnHeap, is_indexed, unless_indexed};
 
-use crate::Live;
-use crate::changes;
+use crate::{Live, changes};
 use heap_table::Undone;
 use keybytes::{Fault, Rid, Row};
 

@@ -56,11 +56,10 @@ to_sorted (p ∷ ps) rises =
 
 from_sorted : (ps : List Pair) → T (is_sorted pair_cmp (marked ps)) → Rises ps
 from_sorted [] sorted = tt
-from_sorted (p ∷ ps) sorted =
-    (
-      subst T (below_is p ps) (first (below_all pair_cmp p (marked ps)) (is_sorted pair_cmp (marked ps)) sorted),
-      from_sorted ps (second (below_all pair_cmp p (marked ps)) (is_sorted pair_cmp (marked ps)) sorted),
-    )
+from_sorted (p ∷ ps) sorted = (
+  subst T (below_is p ps) (first (below_all pair_cmp p (marked ps)) (is_sorted pair_cmp (marked ps)) sorted),
+  from_sorted ps (second (below_all pair_cmp p (marked ps)) (is_sorted pair_cmp (marked ps)) sorted),
+)
 
 marks : (es : List (Pair × Unit {0})) → marked (map (λ e. e.0) es) ≡ es
 marks [] = refl
@@ -81,7 +80,7 @@ before_more p q [] low rest = tt
 before_more p q (x ∷ xs) low rest =
     let next : pair_cmp q x ≡ Less = less (pair_cmp q x) (first (is_lt (pair_cmp q x)) (before_all q xs) rest) in
     both (is_lt (pair_cmp p x)) (before_all p xs) (subst (λ o. T (is_lt o)) (sym (pairs_total.trans p q x low next)) tt)
-        (before_more p q xs low (second (is_lt (pair_cmp q x)) (before_all q xs) rest))
+    (before_more p q xs low (second (is_lt (pair_cmp q x)) (before_all q xs) rest))
 
 -- and before each of it
 before_at : (p : Pair) (ps : List Pair) (k : ℕ) (d : Pair) → T (before_all p ps) → k < length ps → pair_cmp p (slice_index_or ps k d) ≡ Less
@@ -140,21 +139,20 @@ pub insert_rises :
     → AllWithin (λ q. pair_cmp q p ≡ Greater) qs i (length qs) → Rises (list.insert qs i p)
 insert_rises p qs zero rises within low high = (head_before p qs rises high, rises)
 insert_rises p [] (suc i) rises within low high = absurd (omega (arith, within))
-insert_rises p (q ∷ qs) (suc i) rises within low high =
-    (
-      before_insert q p qs i (low 0 p (omega arith) (omega arith)) rises.0,
-      insert_rises p qs i rises.1 (omega (arith, within)) (λ k d a b. low (suc k) d (omega arith) (omega (arith, b))) (λ k d a b. high (suc k) d (omega (arith, a)) (omega (arith, b))),
-    )
+insert_rises p (q ∷ qs) (suc i) rises within low high = (
+  before_insert q p qs i (low 0 p (omega arith) (omega arith)) rises.0,
+  insert_rises p qs i rises.1 (omega (arith, within)) (λ k d a b. low (suc k) d (omega arith) (omega (arith, b))) (λ k d a b. high (suc k) d (omega (arith, a)) (omega (arith, b))),
+)
 
 pub insert_members : (p : Pair) (qs : List Pair) (i : ℕ) (q : Pair) → is_in q (list.insert qs i p) ≡ (eq_by_cmp pair_cmp q p || is_in q qs)
 insert_members p qs zero q = refl
 insert_members p [] (suc i) q = refl
 insert_members p (x ∷ qs) (suc i) q =
     ap (λ b. eq_by_cmp pair_cmp q x || b) (insert_members p qs i q) ∙ or_swap (eq_by_cmp pair_cmp q x) (eq_by_cmp pair_cmp q p) (is_in q qs) where
-  or_swap : (a b c : Bool) → (a || (b || c)) ≡ (b || (a || c))
-  or_swap true true c = refl
-  or_swap true false c = refl
-  or_swap false b c = refl
+      or_swap : (a b c : Bool) → (a || (b || c)) ≡ (b || (a || c))
+      or_swap true true c = refl
+      or_swap true false c = refl
+      or_swap false b c = refl
 
 -- a pair is taken out
 

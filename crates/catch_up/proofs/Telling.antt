@@ -41,10 +41,10 @@ pub next_dropped : {X : Type 0} (n : ℕ) (xs ys : List X) (x : X) → drop n xs
 next_dropped n xs ys x is =
     let next : n + 1 ≡ suc n = omega arith in
     ap (λ m. drop m xs) next ∙ later n xs ys x is where
-  later : {X : Type 0} (n : ℕ) (xs ys : List X) (x : X) → drop n xs ≡ x ∷ ys → drop (suc n) xs ≡ ys
-  later n [] ys x is = absurd (nothing n x ys is)
-  later zero (a ∷ xs) ys x is = let same : xs ≡ ys = cc in same
-  later (suc n) (a ∷ xs) ys x is = later n xs ys x is
+      later : {X : Type 0} (n : ℕ) (xs ys : List X) (x : X) → drop n xs ≡ x ∷ ys → drop (suc n) xs ≡ ys
+      later n [] ys x is = absurd (nothing n x ys is)
+      later zero (a ∷ xs) ys x is = let same : xs ≡ ys = cc in same
+      later (suc n) (a ∷ xs) ys x is = later n xs ys x is
 
 -- what was received, with the next
 pub received_next :

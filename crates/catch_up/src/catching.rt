@@ -12,7 +12,11 @@ use rtrb::Consumer;
 use side_file::{Entry, RING_ENTRIES, SideFile};
 
 /// Makes room for the pairs of all entries that wait, in the ring and in the side-file, with both ends of the ring at hand.
-pub fn make_room(built: &mut Built, side: &mut SideFile, ring: &mut Consumer<Entry>) -> Result<(), Fault>
+pub fn make_room(
+    built: &mut Built,
+    side: &mut SideFile,
+    ring: &mut Consumer<Entry>,
+) -> Result<(), Fault>
     requires { side.old.end.ring ≡ ring_take ring.old }
     ensures room { OnOk result (length (all_waiting side.new (received ring.new)) ≤ built.new.room) }
     ensures pairs { (built.new.build ≡ built.old.build) × (built.new.pairs ≡ built.old.pairs) }

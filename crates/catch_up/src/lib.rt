@@ -7,7 +7,6 @@
 
 mod built;
 mod catching;
-
 mod pairs;
 
 pub use built::Built;

@@ -31,7 +31,11 @@ pub fn pair_lines(alloc: Global, spec: &KeySpec, pairs: &[Pair]) -> Result<Vec<P
 }
 
 /// The entries of a side-file as they are printed.
-pub fn entry_lines(alloc: Global, spec: &KeySpec, entries: Iter<'_, Entry>) -> Result<Vec<EntryLine>, Fault>
+pub fn entry_lines(
+    alloc: Global,
+    spec: &KeySpec,
+    entries: Iter<'_, Entry>,
+) -> Result<Vec<EntryLine>, Fault>
     requires { All (λ entry. IsKeyOf spec.now entry.key) (deque_iter_rest entries) }
     ensures lists { IfOk result (λ lines. AllZip (ListsEntry spec.now) (deque_iter_rest entries.entry) lines.items) }
     ensures memory { IfErr result (λ fault. fault ≡ Fault.Memory) }

@@ -4,17 +4,19 @@ mod bad_scripts;
 mod builds;
 mod tables;
 mod transactions;
+mod while_in_use;
 
 use crate::case::Case;
 use crate::printed::Printed;
 use std::alloc::{AllocError, Global};
 use std::test::Fail;
 
-fn cases() -> [&'static [Case]; 4] {
+fn cases() -> [&'static [Case]; 5] {
     [
         &tables::CASES,
         &transactions::CASES,
         &builds::CASES,
+        &while_in_use::CASES,
         &bad_scripts::CASES,
     ]
 }

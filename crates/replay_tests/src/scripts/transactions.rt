@@ -139,10 +139,10 @@ row,7
 14,refused,24,NoSuchTxn
 15,ok,1
 16,ok,3
-17,refused,40,BuildRunning
-18,refused,40,BuildRunning
-19,refused,40,BuildRunning
-20,refused,40,BuildRunning
+17,ok,5,0.0
+18,ok,6,0.0
+19,ok,7,1
+20,ok,1.0
 ",
         err: "",
         status: 0,

@@ -20,7 +20,7 @@ loop-built-preserved-then-in_ring-gt0 c =
     let side : SideFileValue = c.beside-in_ring.new.self in
     let same : received c.beside-in_ring.new.consumer ≡ now = search rules in
     let all = received_all (received c.beside-in_ring.new.consumer) known side.end.sent (received c.apply_known.new.ring) c.beside-in_ring.result c.beside-in_ring.ensures.value
-        c.beside-in_ring.ensures.in_order c.apply_known.ensures.received in
+    c.beside-in_ring.ensures.in_order c.apply_known.ensures.received in
     let done : received c.apply_known.new.ring ≡ now ++ known = all.0 ∙ ap (λ xs. xs ++ known) same in
     let taken : take c.beside-in_ring.result known ≡ known = take_all c.beside-in_ring.result known (let value = c.beside-in_ring.ensures.value in omega (arith, value)) in
     let build = c.args.built.now.build in
@@ -37,16 +37,16 @@ loop-built-preserved-then-in_ring-gt0 c =
       build = search rules;
       begins = begins_on first now known (received c.apply_known.new.ring) inv.begins done;
       room = omega (
-          arith,
-          count_waiting side (received c.apply_known.new.ring),
-          count_waiting c.loop-built.side now,
-          inv.room,
-          c.apply_known.ensures.room,
-          ap length done,
-          length-append now known,
-          c.beside-in_ring.ensures.value,
-          ap length c.beside-in_ring.ensures.looks.sent,
-          ap length c.beside-in_ring.ensures.looks.left,
+        arith,
+        count_waiting side (received c.apply_known.new.ring),
+        count_waiting c.loop-built.side now,
+        inv.room,
+        c.apply_known.ensures.room,
+        ap length done,
+        length-append now known,
+        c.beside-in_ring.ensures.value,
+        ap length c.beside-in_ring.ensures.looks.sent,
+        ap length c.beside-in_ring.ensures.looks.left,
       );
       applied = applied_more build (drop (length first) now) known (drop (length first) (received c.apply_known.new.ring)) (set_of c.args.built.now.pairs)
           (set_of c.loop-built.built.pairs) (set_of c.apply_known.new.built.pairs) grows inv.applied step;

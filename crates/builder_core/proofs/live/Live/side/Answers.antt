@@ -12,7 +12,7 @@ returns-clause-keys c =
     let inside = c.self.inside in
     let heap = inside.heap.state in
     let keys = keys_left heap.schema heap.log inside.build inside.side c.args.index c.self.invariant.1 c.self.invariant.2
-        (c.is_none.ensures ∙ ap not c.if-is_none.false) c.if-index-ne0.false in
+    (c.is_none.ensures ∙ ap not c.if-is_none.false) c.if-index-ne0.false in
     subst (λ (l : LiveState). HaveEntryKeys l.build c.args.index (deque_iter_rest c.entries.result)) c.self.view_is
     (subst (λ (es : List Entry). HaveEntryKeys inside.build c.args.index es) (sym c.entries.ensures) keys)
 
@@ -21,6 +21,6 @@ returns-clause-ok c =
     let inside = c.self.inside in
     let heap = inside.heap.state in
     let left = entries_left heap.schema heap.log inside.build inside.side c.args.index c.self.invariant.1 c.self.invariant.2
-        (c.is_none.ensures ∙ ap not c.if-is_none.false) c.if-index-ne0.false in
+    (c.is_none.ensures ∙ ap not c.if-is_none.false) c.if-index-ne0.false in
     subst (λ (l : LiveState). AreEntriesLeft l.heap.log l.build c.args.index (deque_iter_rest c.entries.result)) c.self.view_is
     (subst (λ (es : List Entry). AreEntriesLeft heap.log inside.build c.args.index es) (sym c.entries.ensures) left)
