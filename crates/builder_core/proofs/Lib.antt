@@ -5,7 +5,8 @@ pub mod EntrySteps
 pub mod Examples
 pub mod Following
 pub mod Making
-pub mod OneRange
+pub mod NextPages
+pub mod RangeScans
 pub mod Refusals
 pub mod Runs
 pub mod ScanExamples
