@@ -33,7 +33,10 @@ pub enum Ask {
     Start(&'static [u32]),
     /// Over so many even ranges.
     StartEven(usize),
+    /// The next page of the first range.
     Scan,
+    /// The next page of that range.
+    ScanIn(usize),
     Seal,
     Load,
     Switch,
@@ -49,6 +52,10 @@ fn start(alloc: Global, dealing: Dealing) -> Result<Event, Fault> {
         keep_pairs: false,
     };
     Ok(Event::Start { plan })
+}
+
+fn scan(range: usize) -> Event {
+    Event::Scan { range, worker: 0 }
 }
 
 /// A change of a row.
@@ -76,10 +83,8 @@ pub fn event(alloc: Global, ask: Ask) -> Result<Event, Fault> {
         Ask::Commit(txn) => Ok(Event::Commit { txn }),
         Ask::Start(ends) => start(alloc, Dealing::Ends(ends.to_vec(alloc)?)),
         Ask::StartEven(ranges) => start(alloc, Dealing::Even(ranges)),
-        Ask::Scan => Ok(Event::Scan {
-            range: 0,
-            worker: 0,
-        }),
+        Ask::Scan => Ok(scan(0)),
+        Ask::ScanIn(range) => Ok(scan(range)),
         Ask::Seal => Ok(Event::Seal { worker: 0 }),
         Ask::Load => Ok(Event::Load { index: 0 }),
         Ask::Switch => Ok(Event::Switch),

@@ -5,3 +5,5 @@
 mod asks;
 #[cfg(test)]
 mod builds;
+#[cfg(test)]
+mod ranges;

@@ -8,7 +8,7 @@ use Rattle.keybytes.specs.declared.cell.Cell.{Cell}
 use Rattle.keybytes.specs.declared.cell.Cell.TheVariants.{Null, Int as Number}
 use Rattle.keybytes.specs.declared.kind.Kind.TheVariants.{Int}
 use Rattle.keybytes.specs.declared.fault.Fault.{Fault}
-use Rattle.keybytes.specs.declared.fault.Fault.TheVariants.{BadCount, RangeDone, RingFull, NotScanned, NotSealed, NotLoaded, Memory}
+use Rattle.keybytes.specs.declared.fault.Fault.TheVariants.{BadCount, BadRanges, RangeDone, RingFull, NotScanned, NotSealed, NotLoaded, Memory}
 use Rattle.heap_log.specs.declared.outcome.Outcome.TheVariants.{Ready}
 use Rattle.heap_log.specs.declared.record.LogRec.{LogRec}
 use Rattle.heap_log.specs.declared.record.LogRec.TheVariants as logged
@@ -22,8 +22,8 @@ use Rattle.keybytes.specs.Pairs.{pair_cmp}
 use Rattle.heap_table.specs.TablePairs.{pairs_at_rest}
 use Rattle.builder_core.specs.CoreState.{BuildState, WorkerState, WorkState, CoreState, scanning_of}
 use Rattle.builder_core.specs.Scanning.{scanned_pairs}
-use Rattle.scan_range.specs.Cuts.{range_pages}
-use Rattle.builder_core.specs.Ranges.{dealt_ends, next_page, open_range}
+use Rattle.scan_range.specs.Cuts.{range_pages, cuts_refusal}
+use Rattle.builder_core.specs.Ranges.{dealt_ends, dealing_refusal, next_page, open_range}
 use Rattle.builder_core.specs.Steps.{refusal, Does, AfterMemory}
 use Rattle.builder_core.specs.Workers.{waiting, fill_runs, loud_worker}
 use Rattle.builder_core.specs.declared.scan.Scan.{Scan as Copied}
@@ -186,6 +186,58 @@ even_ends = refl
 
 second_range : range_pages (2 ∷ 5 ∷ []) 1 ≡ 2 ∷ 3 ∷ 4 ∷ []
 second_range = refl
+
+three_even : dealt_ends 4 (Even 3) ≡ 1 ∷ 2 ∷ 4 ∷ []
+three_even = refl
+
+no_range : dealing_refusal 4 (Even 0) ≡ Some BadRanges
+no_range = refl
+
+too_many_ranges : dealing_refusal 4 (Even 257) ≡ Some BadRanges
+too_many_ranges = refl
+
+ends_go_down : cuts_refusal 4 (3 ∷ 2 ∷ 4 ∷ []) ≡ Some BadRanges
+ends_go_down = refl
+
+short_of_the_end : cuts_refusal 4 (2 ∷ 3 ∷ []) ≡ Some BadRanges
+short_of_the_end = refl
+
+-- four pages in ranges that end there, by one worker who took no copy
+abbrev over_ranges : List ℕ → List Copied → CoreState
+over_ranges ends scans = with_build (while_built 4 scans 0 false None) (the_build 4 ends 1 scans) where
+  with_build : CoreState → BuildState → CoreState
+  with_build s b = record s { live = record s.live { build = Some b } }
+
+-- a range is done while the other is open
+done_beside_open : refusal (over_ranges (2 ∷ 4 ∷ []) both_pages) (Scan 0 0) ≡ Some RangeDone
+done_beside_open = refl
+
+open_beside_done : refusal (over_ranges (2 ∷ 4 ∷ []) both_pages) (Scan 1 0) ≡ None
+open_beside_done = refl
+
+-- ranges are copied in either order
+last_range_first : next_page (the_build 4 (2 ∷ 4 ∷ []) 1 (copied 0 2 ∷ [])) 0 ≡ Some 0
+last_range_first = refl
+
+last_range_goes_on : next_page (the_build 4 (2 ∷ 4 ∷ []) 1 (copied 0 2 ∷ copied 0 0 ∷ [])) 1 ≡ Some 3
+last_range_goes_on = refl
+
+-- a load and a switch name the lowest range with a page left
+first_left : refusal (over_ranges (2 ∷ 4 ∷ []) (copied 0 2 ∷ copied 0 3 ∷ [])) Switch ≡ Some (NotScanned 0)
+first_left = refl
+
+second_left : refusal (over_ranges (2 ∷ 4 ∷ []) both_pages) (Load 0) ≡ Some (NotScanned 1)
+second_left = refl
+
+-- an empty range is done at once, and never open
+empty_range : refusal (over_ranges (2 ∷ 2 ∷ 4 ∷ []) []) (Scan 1 0) ≡ Some RangeDone
+empty_range = refl
+
+empty_not_left : refusal (over_ranges (2 ∷ 2 ∷ 4 ∷ []) both_pages) (Load 0) ≡ Some (NotScanned 2)
+empty_not_left = refl
+
+no_third_range : refusal (over_ranges (2 ∷ 4 ∷ []) []) (Scan 2 0) ≡ Some BadCount
+no_third_range = refl
 
 -- a range a page, and two workers; worker 1 copied page 0
 abbrev of_two : BuildState

@@ -5,8 +5,9 @@ pub mod EntrySteps
 pub mod Examples
 pub mod Following
 pub mod Making
-pub mod OneRange
+pub mod NextPages
 pub mod Performed
+pub mod RangeScans
 pub mod Refusals
 pub mod Runs
 pub mod ScanExamples

@@ -125,7 +125,7 @@ more_pairs b worker page log =
 turned : (m n : ℕ) → (m == n) ≡ false → (n == m) ≡ false
 turned m n e = ne_eqb n m (λ is. eqb-false m n e (sym is))
 
-once_last : (scans : List Scan) (last : Scan) → ReadOnce scans → scanned_at scans last.page ≡ None → ReadOnce (scans ++ last ∷ [])
+pub once_last : (scans : List Scan) (last : Scan) → ReadOnce scans → scanned_at scans last.page ≡ None → ReadOnce (scans ++ last ∷ [])
 once_last [] last once none = (refl, tt)
 once_last (scan ∷ scans) last once none =
     let at : Option ℕ = Some scan.records in

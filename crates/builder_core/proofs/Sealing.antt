@@ -7,6 +7,7 @@ use Rattle.keybytes.specs.declared.pair.Pair.{Pair}
 use Rattle.heap_table.proofs.PairsAtRest.{InOrder}
 use Rattle.builder_core.specs.Builds.{WorkValue, WorkerValue, IsRunning, IsWorkOn, IsWorkOf, WorksOn, HasSealed, core_state}
 use Rattle.builder_core.specs.CoreState.{BuildState, LiveState, CoreState, scanning_of}
+use Rattle.builder_core.specs.Ranges.{open_range}
 use Rattle.builder_core.specs.Scanning.{scanned_pairs}
 use Rattle.builder_core.specs.Steps.{OnBuild, Seals, Loads, spoiled_by, after_seal, pairs_copied}
 use Rattle.builder_core.specs.Workers.{put_to, waiting}
@@ -39,7 +40,7 @@ module _ (live : LiveState) (work : Option WorkValue) (b : BuildState) (w : Work
   pub sealed_works : (worker : WorkerValue) → HasSealed w.spec w.worker worker → WorksOn live (Some (record w { worker = worker }))
   sealed_works worker sealed =
       works_on live b (record w { worker = worker }) run.build_is
-      (sealed_work live.heap.schema live.heap.log b w worker run.works fine run.follows.in_turn.within sealed)
+      (sealed_work live.heap.schema live.heap.log b w worker run.works fine sealed)
 
   pub seals : (worker : WorkerValue) (images : ℕ) → HasSealed w.spec w.worker worker → images ≡ length w.worker.ring → Seals 0 (core_state live work) images (core_state live (Some (record w { worker = worker })))
   seals worker images sealed count =
@@ -73,7 +74,7 @@ module _ (live : LiveState) (work : Option WorkValue) (b : BuildState) (w : Work
       (on_build live b _ run.build_is (rw loaded none, rw loaded refl))
 
   -- they are put in order
-  pub loaded_works : (pairs : List Pair) (room : ℕ) → w.tree ≡ None → length w.worker.ring ≡ 0 → length b.scans ≡ b.pages → IsPermutation w.worker.pairs pairs → InOrder pairs → WorksOn live (Some (record w { worker = record w.worker { pairs = [] }; tree = Some pairs; room = room }))
+  pub loaded_works : (pairs : List Pair) (room : ℕ) → w.tree ≡ None → length w.worker.ring ≡ 0 → open_range b ≡ None → IsPermutation w.worker.pairs pairs → InOrder pairs → WorksOn live (Some (record w { worker = record w.worker { pairs = [] }; tree = Some pairs; room = room }))
   loaded_works pairs room fresh none all moved sorted =
       works_on live b (record w { worker = record w.worker { pairs = [] }; tree = Some pairs; room = room }) run.build_is
       (loaded_work live.heap.schema live.heap.log b w pairs room run.follows run.works fine fresh none all moved sorted)

@@ -20,8 +20,8 @@ use Rattle.std.specs.List.{slice_get}
 use Rattle.std.proofs.lemmas.Option.{same_Some}
 use Rattle.std.proofs.lemmas.Bool.{false≢true}
 use Rattle.builder_core.proofs.EntrySteps.{opened_entries, more_entries, same_entries}
-use Rattle.builder_core.proofs.TableBuilds.{scanned_for, not_scanned}
-use Rattle.builder_core.proofs.OneRange.{next_page_is}
+use Rattle.builder_core.proofs.TableBuilds.{scanned_for}
+use Rattle.builder_core.proofs.NextPages.{next_unscanned}
 use Rattle.builder_core.specs.Ranges.{next_page}
 
 pub side_opened :
@@ -82,12 +82,11 @@ side_plain kinds log rec (Some b) side nothing follows has = side_same kinds log
 
 -- the page that comes next is copied now
 pub side_next :
-    (kinds : List Kind) (log : List LogRec) (b : BuildState) (side : SideFileValue) (page records : ℕ) → IsBuildOf kinds log b → next_page b 0 ≡ Some page → records ≡ length log
-    → HasEntries log b side → HasEntries log (record b { scans = b.scans ++ record { worker = 0; page = page; records = records } ∷ [] }) side
-side_next kinds log b side page records is next now has =
-    let at = next_page_is b page is.one_range is.in_turn next in
-    let none : scanned_at b.scans page ≡ None = ap (scanned_at b.scans) at.0 ∙ not_scanned b.pages b.scans is.in_turn in
-    subst (λ r. HasEntries log (record b { scans = b.scans ++ record { worker = 0; page = page; records = r } ∷ [] }) side) (sym now) (side_scanned log b side 0 page none has)
+    (log : List LogRec) (b : BuildState) (side : SideFileValue) (range worker page records : ℕ) → next_page b range ≡ Some page → records ≡ length log → HasEntries log b side
+    → HasEntries log (record b { scans = b.scans ++ record { worker = worker; page = page; records = records } ∷ [] }) side
+side_next log b side range worker page records next now has =
+    subst (λ r. HasEntries log (record b { scans = b.scans ++ record { worker = worker; page = page; records = r } ∷ [] }) side) (sym now)
+    (side_scanned log b side worker page (next_unscanned b range page next) has)
 
 only_spec : (specs : List KeySpecValue) (one spec : KeySpecValue) → specs ≡ one ∷ [] → slice_get specs 0 ≡ Some spec → specs ≡ spec ∷ []
 only_spec specs one spec is at = is ∙ ap (λ s. s ∷ []) (same_Some one spec (sym (ap (λ (xs : List KeySpecValue). slice_get xs 0) is) ∙ at))

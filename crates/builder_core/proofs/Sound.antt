@@ -1,6 +1,6 @@
 -- A build of one index is sound.
-use Rattle.std.proofs.Common.{◌≡◌, ℕ, zero, suc, ◌+◌, ◌≤◌, true, false, List, [], ◌∷◌, ◌++◌, length, length-append, take, drop, take-append-drop, Option, Some, None, refl, sym, ap, ◌∙◌, subst, inl, inr, arith}
-use Rattle.std.specs.Prelude.{nat_le, nat_eq, if◌then◌else◌, IfSome}
+use Rattle.std.proofs.Common.{◌≡◌, ℕ, ◌+◌, ◌≤◌, true, List, [], ◌∷◌, ◌++◌, length, length-append, drop, take-append-drop, Option, Some, None, refl, sym, ap, subst, inl, inr, arith}
+use Rattle.std.specs.Prelude.{nat_le, nat_eq, IfSome}
 use Rattle.std.specs.Cmp.Lexicographic.{pointwise}
 use Rattle.std.specs.List.{All, AllByRecursion}
 use Rattle.std.proofs.lemmas.Bool.{cases_Bool, cond-true, cond-false, or_cases, or_left, or_right, le-leb, leb-true, false≢true}
@@ -20,7 +20,7 @@ use Rattle.builder_core.specs.Builds.{IsBuildOf, BuildFollows}
 use Rattle.builder_core.specs.CoreState.{BuildState, scanning_of}
 use Rattle.builder_core.specs.Invariant.{BuildIsSound, EntriesHaveEffect, VisiblePairsAreCaughtUp}
 use Rattle.visibility.specs.Applied.{entry_rid}
-use Rattle.builder_core.specs.Scanning.{Scanning, IsScanned, is_by, is_visible, scanned_at}
+use Rattle.builder_core.specs.Scanning.{Scanning, is_by, is_visible, scanned_at}
 use Rattle.visibility.specs.SideEntries.{SideEntry, delete, insert, changes}
 use Rattle.builder_core.specs.SideEntries.{entries_for, entries_of, entries_from, side_entries}
 use Rattle.builder_core.proofs.SideFollows.{leaves_visible, entries_have_effect}

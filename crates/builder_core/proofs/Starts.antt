@@ -1,11 +1,12 @@
 -- When a build starts.
-use Rattle.std.proofs.Common.{◌≡◌, ℕ, ◌*◌, ◌/◌, arith, Bool, true, false, List, [], ◌∷◌, Some, None, refl, sym, ap, ◌∙◌}
-use Rattle.std.specs.Prelude.{◌&&◌, ◌||◌, ◌==◌, not, nat_lt, length, is_some}
+use Rattle.std.proofs.Common.{◌≡◌, ℕ, Bool, true, false, List, [], ◌∷◌, Some, None, refl, sym, ap, ◌∙◌}
+use Rattle.std.specs.Prelude.{◌&&◌, ◌||◌, ◌==◌, not, nat_lt, length, is_some, if◌then◌else◌}
 use Rattle.std.specs.List.{list_any, list_all}
 use Rattle.std.proofs.lemmas.Bool.{and_parts, and_from, eqb-true, false≢true, false_from_ne_true}
 use Rattle.keybytes.specs.Keys.{KeySpecValue}
 use Rattle.keybytes.specs.declared.kind.Kind.{Kind}
 use Rattle.keybytes.specs.declared.kind.Kind.TheVariants.{Int, Text, Flag}
+use Rattle.keybytes.specs.declared.fault.Fault.{Fault}
 use Rattle.keybytes.specs.declared.fault.Fault.TheVariants.{BadColumn, BadRanges}
 use Rattle.heap_table.specs.Pages.{pages_written}
 use Rattle.builder_core.specs.declared.dealing.Dealing.{Dealing}
@@ -13,9 +14,10 @@ use Rattle.builder_core.specs.declared.dealing.Dealing.TheVariants.{Ends, Even}
 use Rattle.builder_core.specs.declared.plan.Plan.{Plan}
 use Rattle.builder_core.specs.Builds.{work_state}
 use Rattle.builder_core.specs.CoreState.{LiveState}
-use Rattle.scan_range.specs.Cuts.{even_ends}
-use Rattle.builder_core.specs.Ranges.{dealt_ends}
-use Rattle.builder_core.specs.Steps.{same_kind, same_kinds, is_one_end, is_one_range, counts_fit, start_refusal, fresh_work}
+use Rattle.scan_range.specs.Cuts.{are_cuts}
+use Rattle.scan_range.proofs.EvenEnds.{even_are_cuts, even_fit}
+use Rattle.builder_core.specs.Ranges.{dealt_ends, dealing_refusal}
+use Rattle.builder_core.specs.Steps.{same_kind, same_kinds, counts_fit, start_refusal, fresh_work}
 use Rattle.builder_core.proofs.Working.{fresh}
 
 same_kind-true : (a b : Kind) → same_kind a b ≡ true → a ≡ b
@@ -74,24 +76,25 @@ module _ (live : LiveState) (plan : Plan) (spec : KeySpecValue) (one : plan.spec
   pub bad_column : same_kinds spec.kinds live.heap.schema ≡ false → start_refusal live plan ≡ Some BadColumn
   bad_column columns = rw (still, counts, columns_are, columns) refl
 
-  pub bad_ranges : same_kinds spec.kinds live.heap.schema ≡ true → is_one_range (pages_written live.heap.log) plan.dealing ≡ false → start_refusal live plan ≡ Some BadRanges
-  bad_ranges columns ranges = rw (still, counts, columns_are, columns, ranges) refl
+  ranges_cause : same_kinds spec.kinds live.heap.schema ≡ true → start_refusal live plan ≡ dealing_refusal (pages_written live.heap.log) plan.dealing
+  ranges_cause columns = rw (still, counts, columns_are, columns) refl
 
-  pub nothing_bad : same_kinds spec.kinds live.heap.schema ≡ true → is_one_range (pages_written live.heap.log) plan.dealing ≡ true → start_refusal live plan ≡ None
-  nothing_bad columns ranges = rw (still, counts, columns_are, columns, ranges) refl
+  pub bad_ranges :
+      (fault : Fault) → same_kinds spec.kinds live.heap.schema ≡ true → dealing_refusal (pages_written live.heap.log) plan.dealing ≡ Some fault
+      → start_refusal live plan ≡ Some fault
+  bad_ranges fault columns ranges = ranges_cause columns ∙ ranges
 
-one_end : (pages : ℕ) (ends : List ℕ) → is_one_end pages ends ≡ true → ends ≡ pages ∷ []
-one_end pages [] e = absurd (false≢true e)
-one_end pages (end ∷ []) e = ap (λ n. n ∷ []) (eqb-true end pages e)
-one_end pages (end ∷ other ∷ ends) e = absurd (false≢true e)
+  pub nothing_bad : same_kinds spec.kinds live.heap.schema ≡ true → dealing_refusal (pages_written live.heap.log) plan.dealing ≡ None → start_refusal live plan ≡ None
+  nothing_bad columns ranges = ranges_cause columns ∙ ranges
 
--- one range ends behind the last page
-pub one_dealt : (pages : ℕ) (dealing : Dealing) → is_one_range pages dealing ≡ true → dealt_ends pages dealing ≡ pages ∷ []
-one_dealt pages (Ends ends) e = one_end pages ends.items e
-one_dealt pages (Even ranges) e =
-    let one : ranges ≡ 1 = eqb-true ranges 1 e in
-    let all : pages * 1 / 1 ≡ pages = omega arith in
-    ap (even_ends pages) one ∙ ap (λ n. n ∷ []) all
+fit_cuts : (fit : Bool) → (if fit then None else Some BadRanges) ≡ None → fit ≡ true
+fit_cuts true e = refl
+fit_cuts false e = absurd (cc)
+
+-- what is dealt is cuts
+pub dealt_are_cuts : (pages : ℕ) (dealing : Dealing) → dealing_refusal pages dealing ≡ None → are_cuts pages (dealt_ends pages dealing) ≡ true
+dealt_are_cuts pages (Ends ends) e = fit_cuts (are_cuts pages ends.items) e
+dealt_are_cuts pages (Even ranges) e = let fit = even_fit ranges e in even_are_cuts pages ranges fit.0 fit.1
 
 -- a plan whose counts fit has one worker
 pub one_worker : (live : LiveState) (plan : Plan) → counts_fit live plan ≡ true → plan.workers ≡ 1

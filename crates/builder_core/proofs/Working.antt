@@ -18,6 +18,7 @@ use Rattle.heap_table.specs.Images.{ImageValue, IsImage}
 use Rattle.builder_core.specs.Builds.{IsWorkOf, WorkerValue, WorkValue, IsBuildOf, IsWorkOn, HasSealed, after_put}
 use Rattle.builder_core.specs.CoreState.{BuildState, scanning_of}
 use Rattle.builder_core.specs.ImagePairs.{HavePairs}
+use Rattle.builder_core.specs.Ranges.{open_range}
 use Rattle.builder_core.specs.Scanning.{AreCopies, pairs_at_scan, scanned_pairs}
 use Rattle.builder_core.specs.declared.scan.Scan.{Scan}
 use Rattle.builder_core.proofs.Copies.{copies_scan}
@@ -46,7 +47,7 @@ fresh_work_on kinds log b spec specs columns none = record {
 -- one page more was copied
 pub put_work :
     (kinds : List Kind) (log : List LogRec) (b : BuildState) (work : WorkValue) (worker page : ℕ) (image : ImageValue) → IsWorkOn kinds log b work
-    → length b.scans < b.pages → length work.worker.ring < 4 → IsImage kinds log page image
+    → (open_range b ≡ None → ⊥) → length work.worker.ring < 4 → IsImage kinds log page image
     → IsWorkOn kinds log (record b { scans = b.scans ++ scan_now worker page log ∷ [] }) (record work { worker = after_put work.worker image })
 put_work kinds log b work worker page image is more few copy = record {
   specs = is.specs;
@@ -56,14 +57,14 @@ put_work kinds log b work worker page image is more few copy = record {
       let scans = length-append b.scans (scan_now worker page log ∷ []) in
       omega (arith, put, ring, scans);
   few = let ring = length-append work.worker.ring (image ∷ []) in omega (arith, ring, few);
-  all = λ e. let all = is.all e in let put = is.put in absurd (omega (arith, all, put, more));
+  all = λ e. absurd (more (is.all e));
   sound = λ e. let s = is.sound e in record {
     copies = subst (λ (scans : List Scan). AreCopies kinds log scans (work.worker.ring ++ image ∷ []))
         (sym (drop-append-le work.worker.taken b.scans (scan_now worker page log ∷ []) within))
         (copies_scan kinds log (drop work.worker.taken b.scans) work.worker.ring worker page image s.copies copy);
     made = λ t. s.made t
         ∙ ap (flat_map (pairs_at_scan (scanning_of b work.spec) log)) (sym (take-append-le work.worker.taken b.scans (scan_now worker page log ∷ []) within));
-    loaded = λ pairs t. absurd (let some : is_some work.tree ≡ true = ap is_some t in let all = is.all some in let put = is.put in omega (arith, all, put, more));
+    loaded = λ pairs t. absurd (let some : is_some work.tree ≡ true = ap is_some t in more (is.all some));
   };
 } where
   within : work.worker.taken ≤ length b.scans
@@ -72,13 +73,13 @@ put_work kinds log b work worker page image is more few copy = record {
 -- the worker took all copies
 pub sealed_work :
     (kinds : List Kind) (log : List LogRec) (b : BuildState) (work : WorkValue) (worker : WorkerValue) → IsWorkOn kinds log b work → work.spoiled ≡ None
-    → length b.scans ≤ b.pages → HasSealed work.spec work.worker worker → IsWorkOn kinds log b (record work { worker = worker })
-sealed_work kinds log b work worker is fine within sealed = record {
+    → HasSealed work.spec work.worker worker → IsWorkOn kinds log b (record work { worker = worker })
+sealed_work kinds log b work worker is fine sealed = record {
   specs = is.specs;
   columns = is.columns;
   put = let put = is.put in let taken = sealed.taken in let none = ap length sealed.ring in omega (arith, put, taken, none);
   few = let none = ap length sealed.ring in omega (arith, none);
-  all = λ e. let all = is.all e in let put = is.put in let taken = sealed.taken in omega (arith, all, put, taken, within);
+  all = is.all;
   sound = λ e. let s = is.sound fine in record {
     copies = subst (λ (images : List ImageValue). AreCopies kinds log (drop worker.taken b.scans) images) (sym sealed.ring)
         (subst (λ (scans : List Scan). AreCopies kinds log scans []) (sym (drop_all worker.taken b.scans whole)) tt);
@@ -117,7 +118,7 @@ spoiled_work kinds log b work worker fault is ring taken = record {
   columns = is.columns;
   put = let put = is.put in let lens = ap length ring in omega (arith, put, lens, taken);
   few = let few = is.few in let lens = ap length ring in omega (arith, few, lens);
-  all = λ e. taken ∙ is.all e;
+  all = is.all;
   sound = λ e. absurd (cc);
 }
 
@@ -138,14 +139,14 @@ loaded_count kinds log b work is fine fresh none = ap length (all_made kinds log
 -- the pairs are in order
 pub loaded_work :
     (kinds : List Kind) (log : List LogRec) (b : BuildState) (work : WorkValue) (pairs : List Pair) (room : ℕ) → IsBuildOf kinds log b → IsWorkOn kinds log b work
-    → work.spoiled ≡ None → work.tree ≡ None → length work.worker.ring ≡ 0 → length b.scans ≡ b.pages → IsPermutation work.worker.pairs pairs → InOrder pairs
+    → work.spoiled ≡ None → work.tree ≡ None → length work.worker.ring ≡ 0 → open_range b ≡ None → IsPermutation work.worker.pairs pairs → InOrder pairs
     → IsWorkOn kinds log b (record work { worker = record work.worker { pairs = [] }; tree = Some pairs; room = room })
 loaded_work kinds log b work pairs room build is fine fresh none all moved sorted = record {
   specs = is.specs;
   columns = is.columns;
   put = is.put;
   few = is.few;
-  all = λ e. let put = is.put in omega (arith, put, none, all);
+  all = λ e. all;
   sound = λ e. let s = is.sound fine in record {
     copies = s.copies;
     made = λ t. absurd (cc);

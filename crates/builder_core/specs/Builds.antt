@@ -1,7 +1,8 @@
 -- What a table and the workers of its build keep between events, and how the two go together.
-use Rattle.std.specs.Prelude.{◌≡◌, ℕ, ◌+◌, ◌≤◌, List, [], ◌∷◌, ◌++◌, length, take, drop, filter, flat_map, is_some, vec_len, vec_capacity, ◌-◌, Vec, nat_lt, ◌==◌, true, ◌<◌, IfSome, Option, Some, None}
+use Rattle.std.specs.Prelude.{◌≡◌, ℕ, ◌+◌, ◌≤◌, List, [], ◌∷◌, ◌++◌, length, take, drop, flat_map, is_some, vec_len, vec_capacity, ◌-◌, Vec, true, ◌<◌, IfSome, Option, Some, None}
 use Rattle.std.specs.declared.alloc.Global.{Global}
 use Rattle.std.specs.FinMap.{keys}
+use Rattle.std.specs.List.{All}
 use Rattle.keybytes.specs.Keys.{KeySpecValue}
 use Rattle.keybytes.specs.Pairs.{set_of}
 use Rattle.keybytes.specs.declared.fault.Fault.{Fault}
@@ -9,10 +10,12 @@ use Rattle.keybytes.specs.declared.kind.Kind.{Kind}
 use Rattle.keybytes.specs.declared.pair.Pair.{Pair}
 use Rattle.heap_log.specs.declared.record.LogRec.{LogRec}
 use Rattle.heap_table.specs.Images.{ImageValue}
+use Rattle.scan_range.specs.Cuts.{CutsValue, are_cuts}
+use Rattle.scan_range.specs.Ranges.{RangesValue, is_passed}
 use Rattle.builder_core.specs.CoreState.{BuildState, LiveState, WorkerState, IndexState, WorkState, CoreState, scanning_of, idle}
 use Rattle.builder_core.specs.ImagePairs.{HavePairs}
-use Rattle.builder_core.specs.Ranges.{next_page}
-use Rattle.builder_core.specs.Scanning.{IsScanned, AreCopies, scanned_at, pairs_at_scan, scanned_pairs}
+use Rattle.builder_core.specs.Ranges.{next_page, open_range}
+use Rattle.builder_core.specs.Scanning.{IsScanned, AreCopies, ReadOnce, scanned_at, pairs_at_scan, scanned_pairs}
 use Rattle.builder_core.specs.Steps.{refusal}
 use Rattle.builder_core.specs.declared.event.Event.{Event}
 use Rattle.builder_core.specs.declared.scan.Scan.{Scan}
@@ -72,34 +75,43 @@ pub record HasSealed (spec : KeySpecValue) (old new : WorkerValue) : Type 0 wher
   pub taken : new.taken ≡ old.taken + length old.ring
   pub pairs : (made : List Pair) → HavePairs spec old.ring made → new.pairs ≡ old.pairs ++ made
 
--- a build of one index, by one worker over one range
-abbrev pub build_of_one : ℕ → KeySpecValue → ℕ → ℕ → List Scan → BuildState
-build_of_one number spec opened pages scans = record {
+-- a build of one index by so many workers, over the ranges that are cut so
+abbrev pub build_over : ℕ → KeySpecValue → ℕ → ℕ → CutsValue → List Scan → BuildState
+build_over number spec workers opened cuts scans = record {
   number = number;
   specs = spec ∷ [];
   opened = opened;
-  pages = pages;
-  ends = pages ∷ [];
-  workers = 1;
+  pages = cuts.pages;
+  ends = cuts.ends;
+  workers = workers;
   scans = scans;
   fed = 0 ∷ [];
 }
 
--- one worker copies the pages of one range in their order
-pub record ScansInTurn (pages : ℕ) (scans : List Scan) : Type 0 where
-  pub limit : pages ≤ 65536
-  pub within : length scans ≤ pages
-  pub in_turn : (page : ℕ) → is_some (scanned_at scans page) ≡ nat_lt page (length scans)
-  pub alone : filter (λ scan. scan.worker == 0) scans ≡ scans
+-- each page was copied for one of so many workers
+abbrev pub AreForWorkers : ℕ → List Scan → Type 0
+AreForWorkers workers scans = All (λ scan. scan.worker < workers) scans
 
--- a build of one index over one range, on the table with that log
+-- the scans of a build by so many workers whose ranges are so far
+pub record AreScansOf (ranges : RangesValue) (workers : ℕ) (scans : List Scan) : Type 0 where
+  pub limit : ranges.pages ≤ 65536
+  -- room for a scan a page suffices
+  pub within : length scans ≤ ranges.pages
+  pub once : ReadOnce scans
+  -- a page was passed by its range exactly where it was copied
+  pub passed : (page : ℕ) → is_passed ranges page ≡ is_some (scanned_at scans page)
+  pub for_workers : AreForWorkers workers scans
+
+-- a build of one index by one worker, on the table with that log
 pub record IsBuildOf (kinds : List Kind) (log : List LogRec) (b : BuildState) : Type 0 where
   pub spec : KeySpecValue
   pub one_index : b.specs ≡ spec ∷ []
-  pub one_range : b.ends ≡ b.pages ∷ []
   pub one_worker : b.workers ≡ 1
   pub columns : spec.kinds ≡ kinds
-  pub in_turn : ScansInTurn b.pages b.scans
+  pub limit : b.pages ≤ 65536
+  -- its ranges are cuts of its pages
+  pub cuts : are_cuts b.pages b.ends ≡ true
+  pub for_workers : AreForWorkers b.workers b.scans
   pub scanned : IsScanned (scanning_of b spec) log
 
 -- the running build, if any, is one of that table
@@ -121,7 +133,8 @@ pub record IsWorkOn (kinds : List Kind) (log : List LogRec) (b : BuildState) (wo
   -- each scan's copy was taken or waits
   pub put : work.worker.taken + length work.worker.ring ≡ length b.scans
   pub few : length work.worker.ring ≤ 4
-  pub all : is_some work.tree ≡ true → work.worker.taken ≡ b.pages
+  -- its pairs are in order only once no page is left to copy
+  pub all : is_some work.tree ≡ true → open_range b ≡ None
   pub sound : work.spoiled ≡ None → IsSound kinds log b work
 
 -- there is work exactly where a build runs, and it is that build's
@@ -135,10 +148,10 @@ IsWorkOf kinds log (Some b) (Some work) = IsWorkOn kinds log b work
 abbrev pub WorksOn : LiveState → Option WorkValue → Type 0
 WorksOn live work = IsWorkOf live.heap.schema live.heap.log live.build work
 
--- that page comes next, and its copy can be put to the one worker
+-- that page comes next in the range, and its copy can be put to the one worker
 pub record MayScan (live : LiveState) (work : Option WorkValue) (range worker page : ℕ) : Type 0 where
-  pub only : (range ≡ 0) × (worker ≡ 0)
-  pub next : IfSome live.build (λ b. next_page b 0 ≡ Some page)
+  pub there : IfSome live.build (λ b. worker < b.workers)
+  pub next : IfSome live.build (λ b. next_page b range ≡ Some page)
   pub room : IfSome work (λ w. length w.worker.ring < 4)
 
 -- a build runs on that table, and this is its work
@@ -161,5 +174,5 @@ pub record MayLoad (live : LiveState) (work : Option WorkValue) (index : ℕ) : 
   pub only : index ≡ 0
   pub runs : IsRunning live work
   pub fine : runs.made.spoiled ≡ None
-  pub all : length runs.build.scans ≡ runs.build.pages
+  pub all : open_range runs.build ≡ None
   pub none : length runs.made.worker.ring ≡ 0

@@ -1,7 +1,6 @@
 -- What holds of a running build between any two steps.
-use Rattle.std.specs.Prelude.{◌≡◌, ℕ, true, List, length}
+use Rattle.std.specs.Prelude.{◌≡◌, true, List, length}
 use Rattle.std.specs.List.{All}
-use Rattle.keybytes.specs.Keys.{KeySpecValue}
 use Rattle.keybytes.specs.Pairs.{set_of}
 use Rattle.heap_log.specs.declared.record.LogRec.{LogRec}
 use Rattle.builder_core.specs.CoreState.{BuildState, scanning_of}

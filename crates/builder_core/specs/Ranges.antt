@@ -1,7 +1,8 @@
 -- The ranges of pages of a build, and which of their pages are still to be copied.
-use Rattle.std.specs.Prelude.{ℕ, zero, suc, ◌+◌, ◌-◌, ◌*◌, ◌/◌, Bool, not, if◌then◌else◌, is_some, List, [], ◌∷◌, map, length, get_or, Option, Some, None}
+use Rattle.std.specs.Prelude.{ℕ, Bool, not, if◌then◌else◌, is_some, List, [], ◌∷◌, length, Option, Some, None}
 use Rattle.std.specs.List.{range_with_len}
-use Rattle.scan_range.specs.Cuts.{range_pages, even_ends}
+use Rattle.keybytes.specs.declared.fault.Fault.{Fault}
+use Rattle.scan_range.specs.Cuts.{range_pages, even_ends, cuts_refusal, even_refusal}
 use Rattle.builder_core.specs.CoreState.{BuildState}
 use Rattle.builder_core.specs.Scanning.{scanned_at}
 use Rattle.builder_core.specs.declared.dealing.Dealing.{Dealing}
@@ -16,6 +17,11 @@ first_that test (n ∷ ns) = if test n then Some n else first_that test ns
 abbrev pub dealt_ends : ℕ → Dealing → List ℕ
 dealt_ends pages (Ends ends) = ends.items
 dealt_ends pages (Even ranges) = even_ends pages ranges
+
+-- why pages aren't dealt so
+abbrev pub dealing_refusal : ℕ → Dealing → Option Fault
+dealing_refusal pages (Ends ends) = cuts_refusal pages ends.items
+dealing_refusal pages (Even ranges) = even_refusal ranges
 
 -- whether a page is still to be copied
 abbrev pub is_left : BuildState → ℕ → Bool

@@ -8,7 +8,7 @@ use Rattle.keybytes.specs.Keys.{KeySpecValue}
 use Rattle.keybytes.specs.declared.kind.Kind.{Kind}
 use Rattle.keybytes.specs.declared.kind.Kind.TheVariants.{Int, Text, Flag}
 use Rattle.keybytes.specs.declared.fault.Fault.{Fault}
-use Rattle.keybytes.specs.declared.fault.Fault.TheVariants.{BuildRunning, NoBuild, BadCount, BadColumn, BadRanges, RangeDone, RingFull, NotScanned, NotSealed, NotLoaded, Behind, Memory}
+use Rattle.keybytes.specs.declared.fault.Fault.TheVariants.{BuildRunning, NoBuild, BadCount, BadColumn, RangeDone, RingFull, NotScanned, NotSealed, NotLoaded, Behind, Memory}
 use Rattle.heap_log.specs.declared.outcome.Outcome.{Outcome}
 use Rattle.heap_log.specs.declared.outcome.Outcome.TheVariants.{Ready}
 use Rattle.heap_log.specs.declared.record.LogRec.{LogRec}
@@ -16,15 +16,13 @@ use Rattle.heap_table.specs.Calls.{Begins, Inserts, Updates, Deletes, Undoes, Co
 use Rattle.heap_table.specs.HeapState.{HeapState, begin_refusal, txn_refusal, insert_refusal, update_refusal, delete_refusal, undo_refusal, after_switch, after_visit}
 use Rattle.heap_table.specs.Pages.{pages_written}
 use Rattle.heap_table.specs.TablePairs.{pairs_at_rest}
-use Rattle.builder_core.specs.declared.dealing.Dealing.{Dealing}
-use Rattle.builder_core.specs.declared.dealing.Dealing.TheVariants.{Ends, Even}
 use Rattle.builder_core.specs.declared.plan.Plan.{Plan}
 use Rattle.builder_core.specs.declared.event.Event.{Event}
 use Rattle.builder_core.specs.declared.event.Event.TheVariants.{Begin, Insert, Update, Delete, Undo, Commit, Start, Scan, Seal, Load, Switch, Abandon}
 use Rattle.builder_core.specs.declared.reply.Reply.{Reply}
 use Rattle.builder_core.specs.declared.reply.Reply.TheVariants.{Begun, Written, Undone, Committed, Started, Scanned, Sealed, Loaded, Switched, Abandoned, Refused}
 use Rattle.builder_core.specs.CoreState.{ReadyValue, BuildState, LiveState, IndexState, WorkState, CoreState, scanning_of, live_with_heap, with_live, opening, idle}
-use Rattle.builder_core.specs.Ranges.{dealt_ends, next_page, open_range}
+use Rattle.builder_core.specs.Ranges.{dealt_ends, dealing_refusal, next_page, open_range}
 use Rattle.builder_core.specs.Scanning.{scanned_pairs}
 use Rattle.builder_core.specs.Workers.{put_to, waiting, loud_worker, unloaded_index, all_unapplied}
 
@@ -71,17 +69,6 @@ same_kinds [] (b ∷ bs) = false
 same_kinds (a ∷ rest) [] = false
 same_kinds (a ∷ rest) (b ∷ bs) = same_kind a b && same_kinds rest bs
 
--- whether these are the ends of one range over all pages
-abbrev pub is_one_end : ℕ → List ℕ → Bool
-is_one_end pages [] = false
-is_one_end pages (end ∷ []) = end == pages
-is_one_end pages (end ∷ other ∷ ends) = false
-
--- whether the pages are dealt into one range
-abbrev pub is_one_range : ℕ → Dealing → Bool
-is_one_range pages (Ends ends) = is_one_end pages ends.items
-is_one_range pages (Even ranges) = ranges == 1
-
 -- one worker, one index that isn't unique, room for it among the ready ones, and a number for the build
 abbrev pub counts_fit : LiveState → Plan → Bool
 counts_fit live plan =
@@ -94,7 +81,7 @@ start_refusal live plan =
     first_cause (cause_if (is_some live.build) BuildRunning)
     (first_cause (cause_if (not (counts_fit live plan)) BadCount)
     (first_cause (cause_if (not (list_all (λ spec. same_kinds spec.kinds live.heap.schema) plan.specs.items)) BadColumn)
-    (cause_if (not (is_one_range (pages_written live.heap.log) plan.dealing)) BadRanges)))
+    (dealing_refusal (pages_written live.heap.log) plan.dealing)))
 
 -- the build that a plan starts
 abbrev pub started : LiveState → Plan → BuildState

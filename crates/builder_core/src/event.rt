@@ -25,17 +25,18 @@ pub enum Event {
     Undo { txn: u64 },
     /// The transaction ends, and keeps its writes. [`Fault::NoSuchTxn`], [`Fault::TxnEnding`].
     Commit { txn: u64 },
-    /// An index build starts, of one index that isn't unique, by one worker over one range. [`Fault::BuildRunning`];
+    /// An index build starts, of one index that isn't unique, by one worker over 1 to 256 ranges. [`Fault::BuildRunning`];
     /// [`Fault::BadCount`] for other counts and where 32 indexes are ready; [`Fault::BadColumn`] for an index of other
-    /// columns than the table's; [`Fault::BadRanges`].
+    /// columns than the table's; [`Fault::BadRanges`] for other numbers of ranges, ends that go down, or a last one that isn't
+    /// the number of pages.
     Start { plan: Plan },
     /// The next page of the range is copied for the worker. [`Fault::NoBuild`]; [`Fault::BadCount`] for a range or a worker
     /// that isn't there; [`Fault::RangeDone`]; [`Fault::RingFull`] while four copies wait.
     Scan { range: usize, worker: usize },
     /// The worker makes the pairs of the copies that wait for it. [`Fault::NoBuild`], [`Fault::BadCount`].
     Seal { worker: usize },
-    /// The pairs of the index are put in order. [`Fault::NoBuild`], [`Fault::BadCount`]; [`Fault::NotScanned`] while a page
-    /// is left; [`Fault::NotSealed`] while a copy waits.
+    /// The pairs of the index are put in order. [`Fault::NoBuild`], [`Fault::BadCount`]; [`Fault::NotScanned`] with the
+    /// lowest range that has a page left; [`Fault::NotSealed`] while a copy waits.
     Load { index: usize },
     /// The indexes of the build become ready, and the build ends. [`Fault::NoBuild`], [`Fault::NotScanned`],
     /// [`Fault::NotLoaded`]; [`Fault::Behind`] while more than 1,024 entries of the side-file are left to apply.

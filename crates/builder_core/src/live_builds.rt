@@ -13,7 +13,8 @@ ghost use Rattle.builder_core.specs.declared.event.Event.{Event};
 ghost use Rattle.heap_table.specs.HeapState.{after_switch};
 ghost use Rattle.heap_table.specs.Pages.{pages_written, KeepsRows};
 ghost use Rattle.builder_core.specs.Builds.{WorkValue, core_state, cause_of, MayScan, MaySeal, MayLoad, WorksOn};
-ghost use Rattle.builder_core.specs.Steps.{Starts, Scans, Switches, start_refusal, counts_fit, is_one_range};
+ghost use Rattle.builder_core.specs.Ranges.{dealing_refusal, dealt_ends};
+ghost use Rattle.builder_core.specs.Steps.{Starts, Scans, Switches, start_refusal, counts_fit};
 
 use crate::building::Work;
 use crate::table_scan::TableScan;
@@ -24,6 +25,7 @@ use heap_log::{Outcome, Verdicts};
 use heap_table::{Heap, PageImage};
 use keybytes::{Fault, KeySpec};
 use rtrb::Consumer;
+use scan_range::Cuts;
 use side_file::{Entry, SideFile};
 use std::alloc::Global;
 
@@ -43,16 +45,27 @@ fn only_spec(plan: &Plan) -> Option<&KeySpec>
     }
 }
 
-/// Whether so many pages are dealt into one range.
-fn is_one_range(dealing: &Dealing, pages: u32) -> bool
-    ensures { result ≡ is_one_range pages dealing.now }
+/// Why so many pages aren't dealt so. Takes no memory.
+fn check_dealing(dealing: &Dealing, pages: u32) -> Result<(), Fault>
+    ensures { MatchResult result
+        (λ _. dealing_refusal pages dealing.now ≡ None)
+        (λ fault. dealing_refusal pages dealing.now ≡ Some fault) }
 {
     match dealing {
-        Dealing::Ends(ends) => match ends.as_slice() {
-            [end] => *end == pages,
-            _ => false,
-        },
-        Dealing::Even(ranges) => *ranges == 1,
+        Dealing::Ends(ends) => Cuts::check(pages, ends),
+        Dealing::Even(ranges) => Cuts::check_even(*ranges),
+    }
+}
+
+/// So many pages, dealt into ranges.
+fn dealt_cuts(alloc: Global, dealing: &Dealing, pages: u32) -> Result<Cuts, Fault>
+    requires { dealing_refusal pages dealing.now ≡ None }
+    ensures ok { IfOk result (λ cuts. cuts ≡ record { pages = pages; ends = dealt_ends pages dealing.now }) }
+    ensures memory { IfErr result (λ fault. fault ≡ Fault.Memory) }
+{
+    match dealing {
+        Dealing::Ends(ends) => Cuts::new(pages, ends.iter().copied().collect(alloc)?),
+        Dealing::Even(ranges) => Cuts::even(alloc, pages, *ranges),
     }
 }
 
@@ -68,14 +81,16 @@ impl Live {
     {
         let spec = self.check_plan(plan)?;
         let pages = self.heap.pages();
+        let cuts = dealt_cuts(self.alloc, &plan.dealing, pages)?;
         let work = Work::new(self.alloc, spec.clone()?)?;
         let number = self.builds + 1;
         let build = TableScan::new(
             self.alloc,
             number,
             spec.clone()?,
+            plan.workers,
             self.heap.records(),
-            pages,
+            cuts,
         )?;
         self.builds = number;
         self.build = Some(build);
@@ -91,7 +106,7 @@ impl Live {
         ensures free { OnOk result (self.now.build ≡ None) }
         ensures number { OnOk result (self.now.builds < 18446744073709551615) }
         ensures counts { OnOk result (counts_fit self.now plan.now ≡ true) }
-        ensures range { OnOk result (is_one_range (pages_written self.now.heap.log) plan.now.dealing ≡ true) }
+        ensures ranges { OnOk result (dealing_refusal (pages_written self.now.heap.log) plan.now.dealing ≡ None) }
         ensures accepted { OnOk result (start_refusal self.now plan.now ≡ None) }
         ensures refused { IfErr result (λ fault. start_refusal self.now plan.now ≡ Some fault) }
     {
@@ -105,9 +120,7 @@ impl Live {
         if !spec.is_of(self.heap.schema()) {
             return Err(Fault::BadColumn);
         }
-        if !is_one_range(&plan.dealing, self.heap.pages()) {
-            return Err(Fault::BadRanges);
-        }
+        check_dealing(&plan.dealing, self.heap.pages())?;
         Ok(spec)
     }
 
@@ -132,11 +145,11 @@ impl Live {
         let (Some(build), Some(work)) = (self.build(), building.work()) else {
             return Err(Fault::NoBuild);
         };
-        if range != 0 || worker != 0 {
+        if range >= build.ranges() || worker >= build.workers() {
             return Err(Fault::BadCount);
         }
         work.check()?;
-        let page = build.next_page().ok_or(Fault::RangeDone)?;
+        let page = build.next_page(range).ok_or(Fault::RangeDone)?;
         if work.waiting() >= RING_MAX {
             return Err(Fault::RingFull);
         }
@@ -172,7 +185,7 @@ impl Live {
         let Some(build) = &mut self.build else {
             unreachable!()
         };
-        build.note(page, records);
+        build.note(range, worker, page, records);
         let Some(work) = &mut building.work else {
             unreachable!()
         };
@@ -213,8 +226,8 @@ impl Live {
             return Err(Fault::BadCount);
         }
         work.check()?;
-        if build.is_open() {
-            return Err(Fault::NotScanned(0));
+        if let Some(range) = build.first_open() {
+            return Err(Fault::NotScanned(range));
         }
         if work.waiting() > 0 {
             return Err(Fault::NotSealed(0));
@@ -233,8 +246,8 @@ impl Live {
             return Err(Fault::NoBuild);
         };
         work.check()?;
-        if build.is_open() {
-            return Err(Fault::NotScanned(0));
+        if let Some(range) = build.first_open() {
+            return Err(Fault::NotScanned(range));
         }
         if !work.is_loaded() {
             return Err(Fault::NotLoaded(0));

@@ -1,22 +1,27 @@
 //! What the table knows of the build that runs.
-ghost use Rattle.std.specs.Prelude.{◌≡◌, false, ◌++◌, ◌∷◌, ◌≤◌, [], length, Some, None, IfOk, IfErr, MatchOption, if◌then◌else◌};
+ghost use Rattle.std.specs.Prelude.{◌≡◌, ◌≢◌, ℕ, ◌||◌, ◌++◌, ◌∷◌, ◌<◌, ◌≤◌, [], length, Some, is_some, nat_le, IfOk, IfErr};
+ghost use Rattle.scan_range.specs.Ranges.{at_start};
 ghost use Rattle.builder_core.specs.SideFiles.{sees};
 ghost use Rattle.builder_core.specs.CoreState.{BuildState};
-ghost use Rattle.builder_core.specs.Builds.{ScansInTurn, build_of_one};
+ghost use Rattle.builder_core.specs.Builds.{AreScansOf, build_over};
 ghost use Rattle.builder_core.specs.Ranges.{next_page, open_range};
+ghost use Rattle.builder_core.specs.Scanning.{scanned_at};
 
 use crate::Scan;
 use keybytes::{Fault, KeySpec, Rid};
+use scan_range::{Cuts, Ranges};
 use std::alloc::Global;
 use std::marker::Model;
+use visibility::visible;
 
-/// A running build of one index over one range, and which pages were copied for its one worker, in their order.
+/// A running build of one index: how far each of its ranges is, and which pages were copied, in their order.
 #[derive(Drop)]
 pub struct TableScan {
     number: u64,
     spec: KeySpec,
+    workers: usize,
     opened: usize,
-    pages: u32,
+    ranges: Ranges,
     scans: Vec<Scan>,
 }
 
@@ -24,37 +29,40 @@ impl Model for TableScan {
     ghost use Rattle.std.specs.Prelude.{◌≤◌};
     ghost use Rattle.std.specs.Vec.{vec_capacity};
     ghost use Rattle.builder_core.specs.CoreState.{BuildState};
-    ghost use Rattle.builder_core.specs.Builds.{ScansInTurn};
+    ghost use Rattle.builder_core.specs.Builds.{AreScansOf};
 
     ghost Value = { BuildState };
 
-    ghost use Rattle.builder_core.specs.Builds.{build_of_one};
+    ghost use Rattle.builder_core.specs.Builds.{build_over};
 
-    ghost view = { λ b. build_of_one b.number b.spec b.opened b.pages b.scans.items };
+    ghost view = { λ b. build_over b.number b.spec b.workers b.opened (record { pages = b.ranges.pages; ends = b.ranges.ends }) b.scans.items };
 
-    ghost invariant = { λ b. ScansInTurn b.pages b.scans.items × (b.pages ≤ vec_capacity b.scans) };
+    ghost invariant = { λ b. AreScansOf b.ranges b.workers b.scans.items × (b.ranges.pages ≤ vec_capacity b.scans) };
 }
 
 impl TableScan {
-    /// A build with that number of a table that has so many records and pages. Takes the memory for all its scans: 24 bytes
-    /// a page.
+    /// A build with that number, by so many workers, of a table that has so many records, over the ranges of its pages. Takes
+    /// the memory for all its scans: 24 bytes a page.
     pub fn new(
         alloc: Global,
         number: u64,
         spec: KeySpec,
+        workers: usize,
         opened: usize,
-        pages: u32,
+        cuts: Cuts,
     ) -> Result<TableScan, Fault>
-        requires { pages ≤ 65536 }
-        ensures ok { IfOk result (λ b. b ≡ build_of_one number spec opened pages []) }
+        requires { cuts.pages ≤ 65536 }
+        ensures ok { IfOk result (λ b. b ≡ build_over number spec workers opened cuts []) }
         ensures memory { IfErr result (λ fault. fault ≡ Fault.Memory) }
     {
+        let pages = cuts.pages() as usize;
         Ok(TableScan {
             number,
             spec,
+            workers,
             opened,
-            pages,
-            scans: Vec::with_capacity(alloc, pages as usize)?,
+            ranges: Ranges::new(alloc, cuts)?,
+            scans: Vec::with_capacity(alloc, pages)?,
         })
     }
 
@@ -72,40 +80,64 @@ impl TableScan {
         &self.spec
     }
 
-    /// Whether the build has to hear of a change at the RID: its page is newer than the build, or was copied.
+    /// How many ranges its pages are cut into.
+    pub fn ranges(&self) -> usize
+        ensures { result ≡ length self.now.ends }
+    {
+        self.ranges.len()
+    }
+
+    /// How many workers it has.
+    pub fn workers(&self) -> usize
+        ensures { result ≡ self.now.workers }
+    {
+        self.workers
+    }
+
+    /// The lowest page of the range that is still to be copied.
+    pub fn next_page(&self, range: usize) -> Option<u32>
+        requires { range < length self.now.ends }
+        ensures { result ≡ next_page self.now range }
+    {
+        self.ranges.laws();
+        if self.ranges.done(range) {
+            return None;
+        }
+        Some(self.ranges.cur(range))
+    }
+
+    /// The lowest range with such a page.
+    pub fn first_open(&self) -> Option<usize>
+        ensures { result ≡ open_range self.now }
+    {
+        for range in 0..self.ranges() {
+            if self.next_page(range).is_some() {
+                return Some(range);
+            }
+        }
+        None
+    }
+
+    /// Whether the build has to hear of changes at the RID: its page came after the build started, or was copied.
     pub fn sees(&self, rid: Rid) -> bool
         ensures { result ≡ sees self.now rid }
     {
-        rid.page >= self.pages || (rid.page as usize) < self.scans.len()
+        visible(&self.ranges, rid)
     }
 
-    /// The lowest page that is still to be copied.
-    pub fn next_page(&self) -> Option<u32>
-        ensures next { MatchOption result (next_page self.now 0 ≡ None) (λ page. next_page self.now 0 ≡ Some page) }
-        ensures page { MatchOption result (self.now.pages ≡ length self.now.scans) (λ page. page ≡ length self.now.scans) }
+    /// Notes that the next page of the range was copied for the worker, when the log had so many records.
+    pub fn note(&mut self, range: usize, worker: usize, page: u32, records: usize)
+        requires next { next_page self.old range ≡ Some page }
+        requires there { worker < self.old.workers }
+        ensures noted { self.new ≡ record self.old { scans = self.old.scans ++ record { worker = worker; page = page; records = records } ∷ [] } }
+        ensures others { (other : ℕ) → other ≢ range → next_page self.new other ≡ next_page self.old other }
     {
-        let page = self.scans.len() as u32;
-        if page >= self.pages {
-            return None;
-        }
-        Some(page)
-    }
-
-    /// Whether a page is still to be copied.
-    pub fn is_open(&self) -> bool
-        ensures open { open_range self.now ≡ (if result then Some 0 else None) }
-        ensures all { result ≡ false → length self.now.scans ≡ self.now.pages }
-    {
-        (self.scans.len() as u32) < self.pages
-    }
-
-    /// Notes that the next page was copied, when the log had so many records.
-    pub fn note(&mut self, page: u32, records: usize)
-        requires { next_page self.old 0 ≡ Some page }
-        ensures { self.new ≡ record self.old { scans = self.old.scans ++ record { worker = 0; page = page; records = records } ∷ [] } }
-    {
+        self.ranges.laws();
+        let Ok(()) = self.ranges.advance(range) else {
+            unreachable!()
+        };
         self.scans.push_reserved(Scan {
-            worker: 0,
+            worker,
             page,
             records,
         });

@@ -1,12 +1,23 @@
 -- Ranges of nearly the same length are ranges of all pages.
-use Rattle.std.proofs.Common.{◌≡◌, ℕ, zero, suc, ◌+◌, ◌*◌, ◌/◌, ◌<◌, ◌≤◌, true, length, refl, ap, ◌∙◌, arith}
+use Rattle.std.proofs.Common.{◌≡◌, ℕ, zero, suc, ◌+◌, ◌*◌, ◌/◌, ◌<◌, ◌≤◌, Bool, true, false, length, Some, None, refl, ap, ◌∙◌, arith}
 use Rattle.std.proofs.Math.Nat.{zero-div, div-mul-le_self, mul-div_left}
 use Rattle.std.proofs.lemmas.Nat.{le-div}
-use Rattle.std.specs.Prelude.{map}
+use Rattle.std.specs.Prelude.{map, nat_lt, nat_le, ◌&&◌, if◌then◌else◌}
 use Rattle.std.specs.List.{range_with_len}
-use Rattle.std.proofs.lemmas.Bool.{and_from, le-leb, lt-ltb, eq-eqb}
+use Rattle.std.proofs.lemmas.Bool.{and_from, and_parts, le-leb, leb-true, lt-ltb, ltb-true, eq-eqb}
 use Rattle.std.proofs.lemmas.List.FromFn.{length-map-range_with_len}
-use Rattle.scan_range.specs.Cuts.{end_at, even_ends, ranges_most, are_cuts}
+use Rattle.keybytes.specs.declared.fault.Fault.TheVariants.{BadRanges}
+use Rattle.scan_range.specs.Cuts.{end_at, even_ends, even_refusal, ranges_most, are_cuts}
+
+no_cause : (fit : Bool) → (if fit then None else Some BadRanges) ≡ None → fit ≡ true
+no_cause true e = refl
+no_cause false e = absurd (cc)
+
+-- as many ranges as there may be
+pub even_fit : (ranges : ℕ) → even_refusal ranges ≡ None → (0 < ranges) × (ranges ≤ ranges_most)
+even_fit ranges e =
+    let fit = and_parts (nat_lt 0 ranges) (nat_le ranges ranges_most) (no_cause (nat_lt 0 ranges && nat_le ranges ranges_most) e) in
+    (ltb-true 0 ranges fit.0, leb-true ranges ranges_most fit.1)
 
 -- the end of a range doesn't lie below that of the one before it
 even_rise : (pages ranges range : ℕ) → 0 < ranges → pages * range / ranges ≤ pages * (range + 1) / ranges

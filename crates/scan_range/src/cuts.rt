@@ -1,4 +1,4 @@
-ghost use Rattle.std.specs.Prelude.{◌≡◌, ◌<◌, ◌≤◌, ◌+◌, ◌*◌, ◌/◌, true, None, length, IfOk, IfErr, OnOk, List};
+ghost use Rattle.std.specs.Prelude.{◌≡◌, ◌<◌, ◌≤◌, ◌+◌, ◌*◌, ◌/◌, true, None, length, IfOk, IfErr, OnOk, MatchResult, List};
 ghost use Rattle.keybytes.specs.Faults.{RefusedFor};
 ghost use Rattle.scan_range.specs.Cuts.{cuts_refusal, are_cuts, end_at, even_ends, even_refusal, AreCovered};
 
@@ -42,6 +42,27 @@ fn end_at(pages: u32, ends: &[u32]) -> bool
 }
 
 impl Cuts {
+    /// Why [`Cuts::new`] would be refused. Takes no memory.
+    pub fn check(pages: u32, ends: &[u32]) -> Result<(), Fault>
+        ensures { MatchResult result (λ _. cuts_refusal pages ends.now ≡ None) (λ fault. cuts_refusal pages ends.now ≡ Some fault) }
+    {
+        let count = ends.len();
+        if count == 0 || count > RANGES_MAX || !end_at(pages, ends) {
+            return Err(Fault::BadRanges);
+        }
+        Ok(())
+    }
+
+    /// Why [`Cuts::even`] would be refused. Takes no memory.
+    pub fn check_even(ranges: usize) -> Result<(), Fault>
+        ensures { MatchResult result (λ _. even_refusal ranges ≡ None) (λ fault. even_refusal ranges ≡ Some fault) }
+    {
+        if ranges == 0 || ranges > RANGES_MAX {
+            return Err(Fault::BadRanges);
+        }
+        Ok(())
+    }
+
     /// Ranges of so many pages that end where `ends` says. [`Fault::BadRanges`] for none or more than [`RANGES_MAX`], ends
     /// that go down, or a last one that isn't the number of pages.
     pub fn new(pages: u32, ends: Vec<u32>) -> Result<Cuts, Fault>
@@ -49,10 +70,7 @@ impl Cuts {
         ensures accepted { OnOk result (cuts_refusal pages ends.items ≡ None) }
         ensures refused { IfErr result (λ fault. cuts_refusal pages ends.items ≡ Some fault) }
     {
-        let count = ends.len();
-        if count == 0 || count > RANGES_MAX || !end_at(pages, &ends) {
-            return Err(Fault::BadRanges);
-        }
+        Cuts::check(pages, &ends)?;
         Ok(Cuts { pages, ends })
     }
 
@@ -62,9 +80,7 @@ impl Cuts {
         ensures accepted { OnOk result (even_refusal ranges ≡ None) }
         ensures refused { IfErr result (RefusedFor (even_refusal ranges)) }
     {
-        if ranges == 0 || ranges > RANGES_MAX {
-            return Err(Fault::BadRanges);
-        }
+        Cuts::check_even(ranges)?;
         let mut ends = Vec::with_capacity(alloc, ranges)?;
         for range in 0..ranges as u64 {
             let end = pages as u64 * (range + 1) / ranges as u64;

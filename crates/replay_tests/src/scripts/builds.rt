@@ -2,7 +2,7 @@
 
 use crate::case::Case;
 
-pub const CASES: [Case; 3] = [
+pub const CASES: [Case; 4] = [
     Case {
         name: "equal keys stand by RID",
         script: b"table,2,int
@@ -40,6 +40,63 @@ pairs,0
         err: "",
         status: 0,
         check: "script: 13 records, all good\n",
+    },
+    Case {
+        name: "ranges in either order",
+        script: b"table,1,int
+row,4
+row,3
+row,2
+row,1
+start,1,4,3;2;4,n:0
+start,1,4,even:0,n:0
+start,1,4,even:3,n:0
+scan,2,0
+scan,3,0
+scan,0,0
+scan,0,0
+load,0
+scan,1,0
+switch
+scan,2,0
+seal,0
+load,0
+switch
+start,1,4,2;2;4,n:0
+scan,1,0
+pairs,0
+",
+        out: "1,ok
+2,ok,0.0
+3,ok,1.0
+4,ok,2.0
+5,ok,3.0
+6,refused,42,BadRanges
+7,refused,42,BadRanges
+8,ok,4
+9,ok,2
+10,refused,43,BadCount
+11,ok,0
+12,refused,45,RangeDone
+13,refused,47,NotScanned,1
+14,ok,1
+15,refused,47,NotScanned,2
+16,ok,3
+17,ok,4
+18,ok,4
+19,ok,9,ready:0
+19,pages,0
+20,ok,4
+21,refused,45,RangeDone
+22,ok,4
+22,pair,1,3.0
+22,pair,2,2.0
+22,pair,3,1.0
+22,pair,4,0.0
+",
+        err: "",
+        status: 0,
+        check: "script: 22 records, all good\n",
     },
     Case {
         name: "the pairs of one row",

@@ -1,4 +1,4 @@
-use Rattle.std.proofs.Common.{rules, ◌≡◌, ◌∙◌, ℕ, Option, Result, Ok, Err, Some, None, OnOk, OnErr, refl, sym, subst}
+use Rattle.std.proofs.Common.{rules, arith, ◌≡◌, ◌∙◌, ℕ, Option, Result, Ok, Err, Some, None, OnOk, OnErr, refl, sym, subst}
 use Rattle.keybytes.specs.declared.fault.Fault.{Fault}
 use Rattle.keybytes.specs.declared.fault.Fault.TheVariants.{Memory}
 use Rattle.builder_core.specs.Builds.{WorkValue, WorksOn, HasSealed, MaySeal, core_state}
@@ -6,6 +6,7 @@ use Rattle.builder_core.specs.CoreState.{BuildState, LiveState, CoreState}
 use Rattle.builder_core.specs.Steps.{Seals}
 use Rattle.builder_core.proofs.Refusals.{Running}
 use Rattle.builder_core.proofs.Sealing.{running_with, fine_with, sealed_works, spoiled_works, seals}
+use Rattle.builder_core.proofs.TableBuilds.{scans_within}
 use Rattle.builder_core.proofs.Working.{ring_pairs}
 use Rattle.builder_core.proofs.core_steps.Core.seal.Goals as goal
 
@@ -28,6 +29,15 @@ seal-requires-clause-copies c =
     let is : c.self.inside.building ≡ Some w = sym c.building.view_is ∙ c.in-Some.is in
     let run = running_with live c.self.inside.building may.runs w is in
     ring_pairs live.heap.schema live.heap.log may.runs.build w run.works (fine_with live c.self.inside.building may.runs w is may.fine)
+
+pub seal-requires-clause-room : goal.seal-requires-clause-room
+seal-requires-clause-room c =
+    let live : LiveState = c.self.inside.live in
+    let may : MaySeal live c.self.inside.building c.args.worker = c.in_ok-check_seal.ensures.runs in
+    let w : WorkValue = c.in-Some.work in
+    let is : c.self.inside.building ≡ Some w = sym c.building.view_is ∙ c.in-Some.is in
+    let run = running_with live c.self.inside.building may.runs w is in
+    omega (arith, run.works.put, scans_within live.heap.schema live.heap.log may.runs.build run.follows, run.follows.limit)
 
 pub invariant_of-self-2 : goal.invariant_of-self-2
 invariant_of-self-2 c =

@@ -1,6 +1,6 @@
 use Rattle.std.proofs.Common.{◌≡◌, ℕ, List, ◌+◌, ◌*◌, ◌/◌, ◌∙◌, ap, arith, sym, ◌++◌, ◌∷◌, [], length, length-append}
 use Rattle.std.proofs.lemmas.List.FromFn.{map-range_with_len_more}
-use Rattle.scan_range.proofs.EvenEnds.{even_are_cuts}
+use Rattle.scan_range.proofs.EvenEnds.{even_are_cuts, even_fit}
 use Rattle.scan_range.proofs.cuts.Cuts.even.Goals as goal
 
 pub loop-range-preserved : goal.loop-range-preserved
@@ -17,4 +17,5 @@ loop-range-preserved c =
 pub invariant_of-result : goal.invariant_of-result
 invariant_of-result c =
     let last : c.loop-range.range ≡ c.args.ranges = omega arith in
-    rw c.loop-range.invariant.made (rw last (even_are_cuts c.args.pages c.args.ranges (omega arith) (omega arith)))
+    let fit = even_fit c.args.ranges c.in_ok-check_even.ensures in
+    rw c.loop-range.invariant.made (rw last (even_are_cuts c.args.pages c.args.ranges fit.0 fit.1))

@@ -1,0 +1,117 @@
+//! Builds over several ranges of four pages.
+
+use crate::asks::Ask;
+use crate::builds::{Call, differing};
+use keybytes::Fault;
+
+/// A transaction inserts seven rows, two a page.
+const FOUR_PAGES: [Call; 9] = [
+    Call::Event(Ask::Begin, Ok((1, 0))),
+    Call::Event(Ask::Insert(1, 7), Ok((1, 0))),
+    Call::Event(Ask::Insert(1, 1), Ok((2, 0))),
+    Call::Event(Ask::Insert(1, 6), Ok((3, 1))),
+    Call::Event(Ask::Insert(1, 2), Ok((4, 1))),
+    Call::Event(Ask::Insert(1, 5), Ok((5, 2))),
+    Call::Event(Ask::Insert(1, 3), Ok((6, 2))),
+    Call::Event(Ask::Insert(1, 4), Ok((7, 3))),
+    Call::Event(Ask::Commit(1), Ok((8, 0))),
+];
+
+const FIRST_RANGE_FIRST: [Call; 14] = [
+    Call::Event(Ask::Start(&[2, 4]), Ok((4, 0))),
+    Call::Event(Ask::ScanIn(2), Err(Fault::BadCount)),
+    Call::Event(Ask::ScanIn(0), Ok((0, 0))),
+    Call::Event(Ask::ScanIn(0), Ok((1, 0))),
+    Call::Event(Ask::ScanIn(0), Err(Fault::RangeDone)),
+    Call::Event(Ask::Load, Err(Fault::NotScanned(1))),
+    Call::Event(Ask::ScanIn(1), Ok((2, 0))),
+    Call::Event(Ask::Switch, Err(Fault::NotScanned(1))),
+    Call::Event(Ask::ScanIn(1), Ok((3, 0))),
+    Call::Event(Ask::Load, Err(Fault::NotSealed(0))),
+    Call::Event(Ask::Seal, Ok((4, 0))),
+    Call::Event(Ask::Load, Ok((7, 0))),
+    Call::Event(Ask::Switch, Ok((9, 0))),
+    Call::Building(false),
+];
+
+const LAST_RANGE_FIRST: [Call; 12] = [
+    Call::Event(Ask::Start(&[2, 4]), Ok((4, 0))),
+    Call::Event(Ask::ScanIn(1), Ok((2, 0))),
+    Call::Event(Ask::ScanIn(1), Ok((3, 0))),
+    Call::Event(Ask::ScanIn(1), Err(Fault::RangeDone)),
+    Call::Event(Ask::Load, Err(Fault::NotScanned(0))),
+    Call::Event(Ask::Switch, Err(Fault::NotScanned(0))),
+    Call::Event(Ask::ScanIn(0), Ok((0, 0))),
+    Call::Event(Ask::ScanIn(0), Ok((1, 0))),
+    Call::Event(Ask::ScanIn(0), Err(Fault::RangeDone)),
+    Call::Event(Ask::Seal, Ok((4, 0))),
+    Call::Event(Ask::Load, Ok((7, 0))),
+    Call::Event(Ask::Switch, Ok((9, 0))),
+];
+
+/// Three even ranges: pages 0, 1, and 2 with 3.
+const EVEN_RANGES: [Call; 12] = [
+    Call::Event(Ask::StartEven(3), Ok((4, 0))),
+    Call::Event(Ask::ScanIn(2), Ok((2, 0))),
+    Call::Event(Ask::ScanIn(0), Ok((0, 0))),
+    Call::Event(Ask::ScanIn(0), Err(Fault::RangeDone)),
+    Call::Event(Ask::Load, Err(Fault::NotScanned(1))),
+    Call::Event(Ask::ScanIn(1), Ok((1, 0))),
+    Call::Event(Ask::Load, Err(Fault::NotScanned(2))),
+    Call::Event(Ask::ScanIn(2), Ok((3, 0))),
+    Call::Event(Ask::ScanIn(3), Err(Fault::BadCount)),
+    Call::Event(Ask::Seal, Ok((4, 0))),
+    Call::Event(Ask::Load, Ok((7, 0))),
+    Call::Event(Ask::Switch, Ok((9, 0))),
+];
+
+/// The first range is empty, and so is the third.
+const EMPTY_RANGES: [Call; 12] = [
+    Call::Event(Ask::Start(&[0, 2, 2, 4]), Ok((4, 0))),
+    Call::Event(Ask::ScanIn(0), Err(Fault::RangeDone)),
+    Call::Event(Ask::ScanIn(2), Err(Fault::RangeDone)),
+    Call::Event(Ask::Load, Err(Fault::NotScanned(1))),
+    Call::Event(Ask::ScanIn(1), Ok((0, 0))),
+    Call::Event(Ask::ScanIn(1), Ok((1, 0))),
+    Call::Event(Ask::Load, Err(Fault::NotScanned(3))),
+    Call::Event(Ask::ScanIn(3), Ok((2, 0))),
+    Call::Event(Ask::ScanIn(3), Ok((3, 0))),
+    Call::Event(Ask::Seal, Ok((4, 0))),
+    Call::Event(Ask::Load, Ok((7, 0))),
+    Call::Event(Ask::Switch, Ok((9, 0))),
+];
+
+const BAD_RANGES: [Call; 8] = [
+    Call::Event(Ask::Start(&[]), Err(Fault::BadRanges)),
+    Call::Event(Ask::Start(&[3, 2, 4]), Err(Fault::BadRanges)),
+    Call::Event(Ask::Start(&[2, 3]), Err(Fault::BadRanges)),
+    Call::Event(Ask::Start(&[2, 5]), Err(Fault::BadRanges)),
+    Call::Event(Ask::StartEven(0), Err(Fault::BadRanges)),
+    Call::Event(Ask::StartEven(257), Err(Fault::BadRanges)),
+    Call::Event(Ask::StartEven(256), Ok((4, 0))),
+    Call::Event(Ask::ScanIn(0), Err(Fault::RangeDone)),
+];
+
+#[test]
+fn in_either_order(rt: HostRuntime) {
+    let cases: [&[Call]; 5] = [
+        &FIRST_RANGE_FIRST,
+        &LAST_RANGE_FIRST,
+        &EVEN_RANGES,
+        &EMPTY_RANGES,
+        &BAD_RANGES,
+    ];
+    for calls in cases {
+        assert_eq!(rt; differing(rt.alloc(), &FOUR_PAGES, calls), Ok(None));
+    }
+}
+
+/// `rt try --test --fail-alloc N` for each N shows that no allocation that fails gives a wrong answer.
+#[test]
+fn where_memory_may_run_out(rt: HostRuntime) {
+    let cases: [&[Call]; 2] = [&LAST_RANGE_FIRST, &EVEN_RANGES];
+    for calls in cases {
+        let other = differing(rt.alloc(), &FOUR_PAGES, calls);
+        assert!(rt; other == Ok(None) || other == Err(Fault::Memory));
+    }
+}
