@@ -1,0 +1,5 @@
+pub mod CopyPairs
+pub mod Digests
+pub mod ManyPairs
+pub mod SamePairs
+pub mod Rings
