@@ -1,7 +1,7 @@
 -- Digests of a worker, one after another.
-use Rattle.std.proofs.Common.{◌≡◌, ℕ, zero, suc, ◌+◌, ◌≤◌, ◌==◌, true, List, [], ◌∷◌, ◌++◌, length, take, drop, append_assoc, zero-add, refl, sym, ap, ap₂, ◌∙◌, subst, arith, length-append}
-use Rattle.std.proofs.lemmas.List.{length-take}
-use Rattle.std.proofs.Math.Seq.{take-add, drop-nil}
+use Rattle.std.proofs.Common.{◌≡◌, ℕ, ◌+◌, ◌≤◌, ◌==◌, true, List, [], ◌∷◌, ◌++◌, length, take, drop, append_assoc, refl, sym, ap, ap₂, ◌∙◌, subst, arith, length-append}
+use Rattle.std.proofs.lemmas.List.{length-take, drop-drop}
+use Rattle.std.proofs.Math.Seq.{take-add}
 use Rattle.std.proofs.lemmas.Bool.Decides.{nat_tests}
 use Rattle.keybytes.specs.Keys.{KeySpecValue}
 use Rattle.keybytes.specs.declared.pair.Pair.{Pair}
@@ -17,23 +17,14 @@ use Rattle.building.proofs.ManyPairs.{have_split, images-append, images_few}
 abbrev ImageList : Type 0
 ImageList = List ImageValue
 
-drop_drop : {X : Type 0} (n m : ℕ) (xs : List X) → drop m (drop n xs) ≡ drop (n + m) xs
-drop_drop zero m xs = rw (zero-add m) refl
-drop_drop {X} (suc n) m [] =
-    let more : suc n + m ≡ suc (n + m) = omega arith in
-    let none : List X = [] in
-    rw more (drop-nil {A = X} m)
-drop_drop (suc n) m (x ∷ xs) =
-    let more : suc n + m ≡ suc (n + m) = omega arith in
-    rw more (drop_drop n m xs)
-
 -- the next n copies, and the m after them
 pub taking_more : {X : Type 0} (n m : ℕ) (end : TakeEnd X) → after_taking m (after_taking n end) ≡ after_taking (n + m) end
 taking_more n m end =
     let received : (end.received ++ take n end.known) ++ take m (drop n end.known) ≡ end.received ++ take (n + m) end.known =
     append_assoc end.received (take n end.known) (take m (drop n end.known)) ∙ ap (λ xs. end.received ++ xs) (sym (take-add n m end.known)) in
-    let known = drop_drop n m end.known in cc
+    let known = drop-drop m n end.known in cc
 
+-- the images of a build among the next n copies, and among the m after them
 pub images_more :
     (n m : ℕ) (worker next : WorkerValue) → next.build ≡ worker.build → next.end ≡ after_taking n worker.end
     → next_images (n + m) worker ≡ next_images n worker ++ next_images m next

@@ -1,5 +1,6 @@
 pub mod CopyPairs
 pub mod Digests
+pub mod Gathers
 pub mod ManyPairs
 pub mod SamePairs
 pub mod Rings

@@ -12,10 +12,12 @@
 #![tactic(auto)]
 
 mod copied;
+mod gathering;
 mod making;
 mod page_putter;
 mod worker;
 
 pub use copied::Copied;
+pub use gathering::gather;
 pub use page_putter::{PagePutter, RING_IMAGES, page_ring};
 pub use worker::Worker;

@@ -1,9 +1,9 @@
-ghost use Rattle.std.specs.Prelude.{◌≡◌, ◌≤◌, ◌<◌, ◌+◌, ◌%◌, ◌==◌, ◌++◌, [], ℕ, List, not, length, IfErr, IfOk, OnOk, OnErr};
+ghost use Rattle.std.specs.Prelude.{◌≡◌, ◌≤◌, ◌<◌, ◌+◌, ◌%◌, ◌==◌, ◌++◌, [], ℕ, List, not, length, IfErr, IfOk, OnOk, OnErr, IsOk, vec_len, vec_capacity};
 ghost use Rattle.keybytes.specs.declared.pair.Pair.{Pair};
 ghost use Rattle.side_file.specs.Ends.{ring_take};
 ghost use Rattle.building.specs.ImagePairs.{HavePairs};
 ghost use Rattle.building.specs.TakeEnd.{take_end, after_taking, PutEndLooked};
-ghost use Rattle.building.specs.Work.{at_start, IsWorker, knowing, next_images, after_digest, after_seal, CanDigest};
+ghost use Rattle.building.specs.Work.{at_start, IsWorker, knowing, next_images, after_digest, after_seal, CanDigest, emptied};
 
 use crate::making::add_pairs;
 use crate::{Copied, PagePutter};
@@ -11,6 +11,7 @@ use keybytes::{Fault, KeySpec, Pair, Schema};
 use rtrb::Consumer;
 use std::alloc::Global;
 use std::marker::Model;
+use std::mem::replace;
 
 /// How many pairs make a run that is closed by itself.
 const RUN_PAIRS: usize = 4096;
@@ -173,6 +174,33 @@ impl Worker {
         self.sealed = self.taken;
         self.sealed_pairs = self.pairs.len();
         Ok(images)
+    }
+
+    // Hands its pairs on, with room for that many more.
+    pub(crate) fn take_pairs(&mut self, alloc: Global, more: usize) -> Result<Vec<Pair>, Fault>
+        ensures pairs { IfOk result (λ pairs. pairs.items ≡ self.old.pairs) }
+        ensures room { IfOk result (λ pairs. vec_len pairs + more ≤ vec_capacity pairs) }
+        ensures left { OnOk result (self.new ≡ emptied self.old) }
+        ensures alone { more ≡ 0 → IsOk result }
+        ensures memory { IfErr result (λ fault. fault ≡ Fault.Memory) }
+        ensures unchanged { OnErr result (self.new ≡ self.old) }
+    {
+        self.pairs.reserve(more)?;
+        self.sealed_pairs = 0;
+        Ok(replace(&mut self.pairs, Vec::new(alloc)))
+    }
+
+    // Moves its pairs behind those that are there.
+    pub(crate) fn move_pairs(&mut self, pairs: &mut Vec<Pair>)
+        requires { vec_len pairs.old + length self.old.pairs ≤ vec_capacity pairs.old }
+        ensures moved { pairs.new.items ≡ pairs.old.items ++ self.old.pairs }
+        ensures room { vec_capacity pairs.old ≤ vec_capacity pairs.new }
+        ensures left { self.new ≡ emptied self.old }
+    {
+        self.sealed_pairs = 0;
+        if pairs.append(&mut self.pairs).is_err() {
+            unreachable!()
+        }
     }
 
     // How many copies it has seen.
