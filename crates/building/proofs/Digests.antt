@@ -1,6 +1,6 @@
 -- Digests of a worker, one after another.
 use Rattle.std.proofs.Common.{◌≡◌, ℕ, ◌+◌, ◌≤◌, ◌==◌, true, List, [], ◌∷◌, ◌++◌, length, take, drop, append_assoc, refl, sym, ap, ap₂, ◌∙◌, subst, arith, length-append}
-use Rattle.std.proofs.lemmas.List.{length-take, drop-drop}
+use Rattle.std.proofs.lemmas.List.{length-take, drop-drop, take-append-drop}
 use Rattle.std.proofs.Math.Seq.{take-add}
 use Rattle.std.proofs.lemmas.Bool.Decides.{nat_tests}
 use Rattle.keybytes.specs.Keys.{KeySpecValue}
@@ -12,7 +12,7 @@ use Rattle.building.specs.ImagePairs.{HavePairs}
 use Rattle.building.specs.TakeEnd.{TakeEnd, after_taking}
 use Rattle.building.specs.WorkerValue.{WorkerValue}
 use Rattle.building.specs.Work.{next_images, after_digest, CanDigest}
-use Rattle.building.proofs.ManyPairs.{have_split, images-append, images_few}
+use Rattle.building.proofs.ManyPairs.{have_append, have_split, images-append, images_few}
 
 abbrev ImageList : Type 0
 ImageList = List ImageValue
@@ -23,6 +23,11 @@ taking_more n m end =
     let received : (end.received ++ take n end.known) ++ take m (drop n end.known) ≡ end.received ++ take (n + m) end.known =
     append_assoc end.received (take n end.known) (take m (drop n end.known)) ∙ ap (λ xs. end.received ++ xs) (sym (take-add n m end.known)) in
     let known = drop-drop m n end.known in cc
+
+-- what was taken and what is seen stay together what they were
+pub taking_in_order : {X : Type 0} (n : ℕ) (end : TakeEnd X) → (after_taking n end).received ++ (after_taking n end).known ≡ end.received ++ end.known
+taking_in_order n end =
+    append_assoc end.received (take n end.known) (drop n end.known) ∙ ap (λ xs. end.received ++ xs) (take-append-drop n end.known)
 
 -- the images of a build among the next n copies, and among the m after them
 pub images_more :
@@ -101,6 +106,34 @@ digested_more spec n m made worker next last build end first then have =
     ap₂ (λ (b : ℕ) (e : TakeEnd Copied). images_of b (take m e.known)) (sym build) (sym end) in
     then parts.1 (subst (λ (xs : ImageList). HavePairs spec xs parts.1) images parts.3)
     ∙ (ap (after_digest m parts.1) (first parts.0 parts.2) ∙ parts.4)
+
+-- the pairs of copies that an end has seen can be made, where those of all that were sent can
+pub can_digest :
+    (spec : KeySpecValue) (n : ℕ) (worker : WorkerValue) (sent : List Copied) (made : List Pair) → worker.end.received ++ worker.end.known ≡ sent
+    → HavePairs spec (images_of worker.build sent) made → CanDigest spec n worker
+can_digest spec n worker sent made in_order have =
+    let received = worker.end.received in
+    let known = worker.end.known in
+    let behind : ImageList = images_of worker.build (drop n known) in
+    let seen : images_of worker.build known ≡ next_images n worker ++ behind =
+    ap (images_of worker.build) (sym (take-append-drop n known)) ∙ images-append worker.build (take n known) (drop n known) in
+    let all : images_of worker.build sent ≡ images_of worker.build received ++ (next_images n worker ++ behind) =
+    ap (images_of worker.build) (sym in_order)
+    ∙ (images-append worker.build received known ∙ ap (λ xs. images_of worker.build received ++ xs) seen) in
+    let parts = have_split spec (images_of worker.build received) (next_images n worker ++ behind) made (subst (λ (xs : ImageList). HavePairs spec xs made) all have) in
+    let own = have_split spec (next_images n worker) behind parts.1 parts.3 in
+    (own.0, own.2)
+
+-- a worker whose pairs are those of its build's images that it received still has those, and no others, after a digest
+pub digested_all :
+    (spec : KeySpecValue) (n : ℕ) (made : List Pair) (worker : WorkerValue) → HavePairs spec (images_of worker.build worker.end.received) worker.pairs
+    → HavePairs spec (next_images n worker) made
+    → HavePairs spec (images_of worker.build (after_digest n made worker).end.received) (after_digest n made worker).pairs
+digested_all spec n made worker have more =
+    let images : images_of worker.build (worker.end.received ++ take n worker.end.known) ≡ images_of worker.build worker.end.received ++ next_images n worker =
+    images-append worker.build worker.end.received (take n worker.end.known) in
+    subst (λ (xs : ImageList). HavePairs spec xs (worker.pairs ++ made)) (sym images)
+    (have_append spec (images_of worker.build worker.end.received) (next_images n worker) worker.pairs made have more)
 
 -- n copies have at most n images of a build
 pub next_few : (n : ℕ) (worker : WorkerValue) → length (next_images n worker) ≤ n

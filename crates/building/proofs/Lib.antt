@@ -3,4 +3,5 @@ pub mod Digests
 pub mod Gathers
 pub mod ManyPairs
 pub mod SamePairs
+pub mod PageCopies
 pub mod Rings

@@ -1,15 +1,17 @@
 -- The pairs of several copies, and the images of a build among several copies.
-use Rattle.std.proofs.Common.{◌≡◌, ℕ, ◌==◌, ◌≤◌, Bool, List, [], ◌∷◌, ◌++◌, length, take, drop, map, append_assoc, append-nil, refl, sym, ap, ◌∙◌, subst, arith}
+use Rattle.std.proofs.Common.{◌≡◌, ℕ, ◌==◌, ◌<◌, ◌≤◌, Bool, true, false, if◌then◌else◌, List, [], ◌∷◌, ◌++◌, length, take, drop, map, append_assoc, append-nil, refl, sym, ap, ◌∙◌, subst, arith}
 use Rattle.std.specs.Prelude.{filter}
 use Rattle.std.proofs.lemmas.List.{map-append, length-map, take-append-drop}
-use Rattle.std.proofs.lemmas.List.Elements.{filter-append}
+use Rattle.std.specs.List.{All}
+use Rattle.std.proofs.lemmas.Bool.Decides.{nat_tests}
+use Rattle.std.proofs.lemmas.List.Elements.{filter-append, All-head, All-tail}
 use Rattle.std.proofs.lemmas.List.Sums.{length-filter, count_by-le-length}
 use Rattle.keybytes.specs.Keys.{KeySpecValue}
 use Rattle.keybytes.specs.declared.pair.Pair.{Pair}
 use Rattle.heap_table.specs.Images.{ImageValue}
 use Rattle.building.specs.declared.copied.Copied.{Copied}
 use Rattle.building.specs.Copies.{images_of}
-use Rattle.building.specs.ImagePairs.{HasPairs, HavePairs}
+use Rattle.building.specs.ImagePairs.{HasPairs, HavePairs, EachHasPairs}
 
 -- the pairs of one copy
 pub one_has : (spec : KeySpecValue) (image : ImageValue) (made : List Pair) → HavePairs spec (image ∷ []) made → HasPairs spec image made
@@ -76,3 +78,24 @@ pub images_few : (build : ℕ) (xs : List Copied) → length (images_of build xs
 images_few build xs =
     let is : Copied → Bool = λ copied. copied.build == build in
     omega (arith, length-map (filter is xs) (λ (copied : Copied). copied.image), length-filter is xs, count_by-le-length is xs)
+
+-- of a later build there is none
+pub images_none : (build : ℕ) (xs : List Copied) → All (λ copied. copied.build < build) xs → images_of build xs ≡ []
+images_none build [] all = refl
+images_none build (x ∷ xs) all =
+    let before : x.build < build = All-head (λ (copied : Copied). copied.build < build) x xs all in
+    let other : (x.build == build) ≡ false = grind (arith, nat_tests) in
+    rw other (images_none build xs (All-tail (λ (copied : Copied). copied.build < build) x xs all))
+
+-- where the pairs of each copy can be made, those of a build's can
+pub each_have : (spec : KeySpecValue) (build : ℕ) (xs : List Copied) → EachHasPairs spec xs → (made : List Pair) × HavePairs spec (images_of build xs) made
+each_have spec build [] each = ([], refl)
+each_have spec build (x ∷ xs) each =
+    let P : Copied → Type 0 = λ copied. (made : List Pair) × HasPairs spec copied.image made in
+    let one : P x = All-head P x xs each in
+    let others = each_have spec build xs (All-tail P x xs each) in
+    let Have : Bool → Type 0 = λ own. (made : List Pair) × HavePairs spec (map (λ (copied : Copied). copied.image) (if own then x ∷ filter (λ copied. copied.build == build) xs else filter (λ copied. copied.build == build) xs)) made in
+    elim (x.build == build) as Have [
+      | true ↦ (one.0 ++ others.0, (one.0, others.0, one.1, others.1, refl))
+      | false ↦ others
+    ]

@@ -15,6 +15,8 @@ mod copied;
 mod gathering;
 mod making;
 mod page_putter;
+#[cfg(test)]
+mod tests;
 mod worker;
 
 pub use copied::Copied;
