@@ -1,5 +1,5 @@
 -- A copy of a page of a table has the pairs that the page had then.
-use Rattle.std.proofs.Common.{◌≡◌, ℕ, List, [], ◌∷◌, length, Option, refl, sym, ap, ◌∙◌, subst}
+use Rattle.std.proofs.Common.{◌≡◌, ℕ, List, [], ◌∷◌, Option, refl, sym, ap, ◌∙◌, subst}
 use Rattle.std.specs.Prelude.{filter_map, map}
 use Rattle.std.specs.List.{range_with_len, cons_option}
 use Rattle.keybytes.specs.Keys.{KeySpecValue}

@@ -98,30 +98,40 @@ fn are_gathered(alloc: Global, workers: &mut [Worker]) -> Result<bool, Fault> {
     Ok(pairs.len() == 3)
 }
 
-/// Copies of both pages, and between them one for another build, go through a ring.
+/// Puts copies of both pages, and between them one for another build.
+fn put_pages(bench: &mut Bench, heap: &mut Heap) -> Result<(), Fault>
+    requires { bench.old.putter.sent ≡ [] }
+    ensures schema { heap.new.state.schema ≡ heap.old.state.schema }
+    ensures each { (spec : KeySpecValue) → spec.kinds ≡ heap.new.state.schema → EachHasPairs spec bench.new.putter.sent }
+{
+    bench.put(heap, 7, 0)?;
+    bench.put(heap, 6, 0)?;
+    bench.put(heap, 7, 1)
+}
+
+/// Takes one copy, and seals the others. Whether each call answers what it has to.
+fn takes_all(bench: &mut Bench, schema: &Schema, spec: &KeySpec) -> Result<bool, Fault>
+    requires columns { spec.now.kinds ≡ schema.now }
+    requires each { EachHasPairs spec.now bench.old.putter.sent }
+{
+    let one = bench.digest(schema, spec)?;
+    let open = bench.worker.has_open_run();
+    let others = bench.seal(schema, spec)?;
+    Ok(one == 1 && open && others == 1 && !bench.worker.has_open_run())
+}
+
+fn has_taken_both(worker: &Worker) -> bool {
+    worker.build() == 7 && worker.taken() == 2 && worker.sealed() == 2 && worker.pairs() == 3
+}
+
 fn goes_through(alloc: Global) -> Result<bool, Fault> {
     let mut heap = three_rows(alloc)?;
-    let schema = heap.schema().clone()?;
-    let spec = KeySpec::new(alloc, &schema, vec![in alloc; 0]?, false)?;
     let mut bench = Bench::new(alloc, 7)?;
-    bench.put(&mut heap, 7, 0)?;
-    bench.put(&mut heap, 6, 0)?;
-    bench.put(&mut heap, 7, 1)?;
-    let first = bench.digest(&schema, &spec)?;
-    let open = bench.worker.has_open_run();
-    let rest = bench.seal(&schema, &spec)?;
-    Ok(
-        first == 1
-            && open
-            && rest == 1
-            && !bench.worker.has_open_run()
-            && bench.worker.taken() == 2
-            && bench.worker.sealed() == 2
-            && bench.worker.pairs() == 3
-            && bench.worker.build() == 7
-            && are_gathered(alloc, from_mut(&mut bench.worker))?
-            && bench.worker.pairs() == 0,
-    )
+    put_pages(&mut bench, &mut heap)?;
+    let schema = heap.schema();
+    let spec = KeySpec::new(alloc, schema, vec![in alloc; 0]?, false)?;
+    let taken = takes_all(&mut bench, schema, &spec)? && has_taken_both(&bench.worker);
+    Ok(taken && are_gathered(alloc, from_mut(&mut bench.worker))?)
 }
 
 #[test]

@@ -23,9 +23,10 @@ pub struct Worker {
     ring: Consumer<Copied>,
     pairs: Vec<Pair>,
     taken: usize,
-    /// What was taken, and how many pairs there were, when it last sealed.
+    /// How many were taken when it last sealed.
     sealed: usize,
-    sealed_pairs: usize,
+    /// How many pairs there were then.
+    run_start: usize,
 }
 
 impl Model for Worker {
@@ -42,10 +43,10 @@ impl Model for Worker {
       pairs = worker.pairs.items;
       taken = worker.taken;
       sealed = worker.sealed;
-      open_pairs = length worker.pairs.items - worker.sealed_pairs;
+      open_pairs = length worker.pairs.items - worker.run_start;
     } };
 
-    ghost invariant = { λ worker. (worker.sealed ≤ worker.taken) × (worker.sealed_pairs ≤ length worker.pairs.items) };
+    ghost invariant = { λ worker. (worker.sealed ≤ worker.taken) × (worker.run_start ≤ length worker.pairs.items) };
 }
 
 impl Worker {
@@ -59,7 +60,7 @@ impl Worker {
             pairs: Vec::new(alloc),
             taken: 0,
             sealed: 0,
-            sealed_pairs: 0,
+            run_start: 0,
         }
     }
 
@@ -102,7 +103,7 @@ impl Worker {
     pub fn has_open_run(&self) -> bool
         ensures { result ≡ not (self.now.open_pairs % 4096 == 0) }
     {
-        (self.pairs.len() - self.sealed_pairs) % RUN_PAIRS != 0
+        (self.pairs.len() - self.run_start) % RUN_PAIRS != 0
     }
 
     /// Empties its ring and begins a build. Takes no memory.
@@ -116,7 +117,7 @@ impl Worker {
         self.pairs.clear();
         self.taken = 0;
         self.sealed = 0;
-        self.sealed_pairs = 0;
+        self.run_start = 0;
     }
 
     /// How many copies are in its ring, with the other end at hand. Both ends then know all that there is to know of the ring.
@@ -131,8 +132,9 @@ impl Worker {
         putter.beside(&mut self.ring)
     }
 
-    /// Takes the next copy that it has seen, makes its pairs, and answers how many copies of its build these were: one of
-    /// another build is dropped. Want of memory spoils the build: the copy is gone, and a part of its pairs may be made.
+    /// Takes the next copy that it has seen, makes its pairs and answers 1; a copy of another build is dropped, and the answer
+    /// is 0. Want of memory spoils the build: the copy is gone, and a part of its pairs may be made. [`Fault::Memory`] is also
+    /// the answer where its copies would be more than `usize` counts.
     pub fn digest(&mut self, schema: &Schema, spec: &KeySpec) -> Result<usize, Fault>
         requires columns { spec.now.kinds ≡ schema.now }
         requires seen { 0 < length self.old.end.known }
@@ -164,6 +166,7 @@ impl Worker {
         ensures made { OnOk result ((made : List Pair) → HavePairs spec.now (next_images (length self.old.end.known) self.old) made
             → self.new ≡ after_seal (after_digest (length self.old.end.known) made self.old)) }
         ensures build { self.new.build ≡ self.old.build }
+        ensures ring { self.new.end.ring ≡ self.old.end.ring }
         ensures failed { OnErr result ((n : ℕ) × (n ≤ length self.old.end.known) × (self.new.end ≡ after_taking n self.old.end)) }
         ensures memory { IfErr result (λ fault. fault ≡ Fault.Memory) }
     {
@@ -172,7 +175,7 @@ impl Worker {
             images += self.digest(schema, spec)?;
         }
         self.sealed = self.taken;
-        self.sealed_pairs = self.pairs.len();
+        self.run_start = self.pairs.len();
         Ok(images)
     }
 
@@ -186,7 +189,7 @@ impl Worker {
         ensures unchanged { OnErr result (self.new ≡ self.old) }
     {
         self.pairs.reserve(more)?;
-        self.sealed_pairs = 0;
+        self.run_start = 0;
         Ok(replace(&mut self.pairs, Vec::new(alloc)))
     }
 
@@ -197,7 +200,7 @@ impl Worker {
         ensures room { vec_capacity pairs.old ≤ vec_capacity pairs.new }
         ensures left { self.new ≡ emptied self.old }
     {
-        self.sealed_pairs = 0;
+        self.run_start = 0;
         if pairs.append(&mut self.pairs).is_err() {
             unreachable!()
         }
