@@ -29,7 +29,8 @@ pub slot_more :
     → pairs_before spec page rows (slot + 1) ≡ pairs_before spec page rows slot ++ option_to_list o
 slot_more spec page rows slot o is =
     let pair : ℕ → Option Pair = λ slot. pair_with spec (rid_at page slot) (rows slot) in
-    let more : range_with_len 0 (slot + 1) ≡ range_with_len 0 slot ++ slot ∷ [] = range_more 0 slot ∙ ap (λ k. range_with_len 0 slot ++ k ∷ []) (zero-add slot) in
+    let more : range_with_len 0 (slot + 1) ≡ range_with_len 0 slot ++ slot ∷ [] =
+    range_more 0 slot ∙ ap (λ k. range_with_len 0 slot ++ k ∷ []) (zero-add slot) in
     ap (filter_map pair) more
     ∙ filter_map-append pair (range_with_len 0 slot) (slot ∷ [])
     ∙ ap (λ x. pairs_before spec page rows slot ++ cons_option x []) is

@@ -66,7 +66,9 @@ same_worker a b build end pairs taken sealed open_pairs =
     same
 
 -- the next copy is of the worker's build, so it has the next images
-pub own_image : (worker : WorkerValue) (copied : Copied) (rest : List Copied) → worker.end.known ≡ copied ∷ rest → copied.build ≡ worker.build → next_images 1 worker ≡ copied.image ∷ []
+pub own_image :
+    (worker : WorkerValue) (copied : Copied) (rest : List Copied) → worker.end.known ≡ copied ∷ rest → copied.build ≡ worker.build
+    → next_images 1 worker ≡ copied.image ∷ []
 own_image worker copied rest known build =
     let own : (copied.build == worker.build) ≡ true = grind (arith, nat_tests) in
     rw (known, own) refl
@@ -120,7 +122,8 @@ can_digest spec n worker sent made in_order have =
     let all : images_of worker.build sent ≡ images_of worker.build received ++ (next_images n worker ++ behind) =
     ap (images_of worker.build) (sym in_order)
     ∙ (images-append worker.build received known ∙ ap (λ xs. images_of worker.build received ++ xs) seen) in
-    let parts = have_split spec (images_of worker.build received) (next_images n worker ++ behind) made (subst (λ (xs : ImageList). HavePairs spec xs made) all have) in
+    let both = subst (λ (xs : ImageList). HavePairs spec xs made) all have in
+    let parts = have_split spec (images_of worker.build received) (next_images n worker ++ behind) made both in
     let own = have_split spec (next_images n worker) behind parts.1 parts.3 in
     (own.0, own.2)
 

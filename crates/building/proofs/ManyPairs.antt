@@ -56,14 +56,16 @@ pub have_take :
     (spec : KeySpecValue) (n : ℕ) (images : List ImageValue) (made : List Pair) → HavePairs spec images made
     → (a : List Pair) × HavePairs spec (take n images) a
 have_take spec n images made have =
-    let parts = have_split spec (take n images) (drop n images) made (subst (λ (xs : List ImageValue). HavePairs spec xs made) (sym (take-append-drop n images)) have) in
+    let both = subst (λ (xs : List ImageValue). HavePairs spec xs made) (sym (take-append-drop n images)) have in
+    let parts = have_split spec (take n images) (drop n images) made both in
     (parts.0, parts.2)
 
 pub have_drop :
     (spec : KeySpecValue) (n : ℕ) (images : List ImageValue) (made : List Pair) → HavePairs spec images made
     → (b : List Pair) × HavePairs spec (drop n images) b
 have_drop spec n images made have =
-    let parts = have_split spec (take n images) (drop n images) made (subst (λ (xs : List ImageValue). HavePairs spec xs made) (sym (take-append-drop n images)) have) in
+    let both = subst (λ (xs : List ImageValue). HavePairs spec xs made) (sym (take-append-drop n images)) have in
+    let parts = have_split spec (take n images) (drop n images) made both in
     (parts.1, parts.3)
 
 -- the images of a build among more copies
@@ -94,7 +96,9 @@ each_have spec build (x ∷ xs) each =
     let P : Copied → Type 0 = λ copied. (made : List Pair) × HasPairs spec copied.image made in
     let one : P x = All-head P x xs each in
     let others = each_have spec build xs (All-tail P x xs each) in
-    let Have : Bool → Type 0 = λ own. (made : List Pair) × HavePairs spec (map (λ (copied : Copied). copied.image) (if own then x ∷ filter (λ copied. copied.build == build) xs else filter (λ copied. copied.build == build) xs)) made in
+    let own : Copied → Bool = λ copied. copied.build == build in
+    let images : List Copied → List ImageValue = λ copies. map (λ copied. copied.image) copies in
+    let Have : Bool → Type 0 = λ b. (made : List Pair) × HavePairs spec (images (if b then x ∷ filter own xs else filter own xs)) made in
     elim (x.build == build) as Have [
       | true ↦ (one.0 ++ others.0, (one.0, others.0, one.1, others.1, refl))
       | false ↦ others

@@ -18,7 +18,9 @@ mapped f g [] = refl
 mapped f g (x ∷ xs) = ap (cons_option (g (f x))) (mapped f g xs)
 
 -- a copy has the pairs of its page as it was
-pub copy_pairs : (spec : KeySpecValue) (kinds : List Kind) (log : List LogRec) (page : ℕ) (image : ImageValue) → spec.kinds ≡ kinds → IsImage kinds log page image → HasPairs spec image (pairs_on spec log page)
+pub copy_pairs :
+    (spec : KeySpecValue) (kinds : List Kind) (log : List LogRec) (page : ℕ) (image : ImageValue) → spec.kinds ≡ kinds
+    → IsImage kinds log page image → HasPairs spec image (pairs_on spec log page)
 copy_pairs spec kinds log page image columns is =
     let on : ℕ → Slot = λ slot. image_slot image slot in
     subst (λ n. HasPairs spec image (pairs_on spec log n)) is.number

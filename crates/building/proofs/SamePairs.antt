@@ -19,14 +19,19 @@ use Rattle.slotted_page.specs.Slot.{Slot}
 use Rattle.building.specs.ImagePairs.{HasPairs, HavePairs}
 
 -- the first cell of a row, with the bytes of the others behind it
-begins : (kind : Kind) (kinds : List Kind) (bytes : List ℕ) (cell : Cell) (cells : List Cell) → Spells (kind ∷ kinds) bytes (cell ∷ cells) → BeginsWith kind bytes cell (row_bytes cells)
+begins :
+    (kind : Kind) (kinds : List Kind) (bytes : List ℕ) (cell : Cell) (cells : List Cell) → Spells (kind ∷ kinds) bytes (cell ∷ cells)
+    → BeginsWith kind bytes cell (row_bytes cells)
 begins kind kinds bytes cell cells spells = record {
   held = All-head IsCell cell cells spells.held;
   fitting = (and_parts (fits_kind kind cell) (fits kinds cells) spells.fitting).0;
   bytes_are = spells.bytes_are;
 }
 
-others : (kind : Kind) (kinds : List Kind) (bytes : List ℕ) (cell : Cell) (cells : List Cell) → Spells (kind ∷ kinds) bytes (cell ∷ cells) → Spells kinds (row_bytes cells) cells
+-- and the others
+others :
+    (kind : Kind) (kinds : List Kind) (bytes : List ℕ) (cell : Cell) (cells : List Cell) → Spells (kind ∷ kinds) bytes (cell ∷ cells)
+    → Spells kinds (row_bytes cells) cells
 others kind kinds bytes cell cells spells = record {
   held = All-tail IsCell cell cells spells.held;
   fitting = (and_parts (fits_kind kind cell) (fits kinds cells) spells.fitting).1;

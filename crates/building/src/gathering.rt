@@ -1,4 +1,5 @@
-ghost use Rattle.std.specs.Prelude.{◌≡◌, ◌+◌, ◌≤◌, ◌++◌, [], map, length, IfOk, OnOk, IfErr, OnErr, IsOk, IsPermutation, vec_len, vec_capacity};
+ghost use Rattle.std.specs.Prelude.{◌≡◌, ◌+◌, ◌≤◌, ◌++◌, map, length, vec_len, vec_capacity};
+ghost use Rattle.std.specs.Prelude.{IfOk, OnOk, IfErr, OnErr, IsOk, IsPermutation};
 ghost use Rattle.std.specs.List.{flat_map, sum_by};
 ghost use Rattle.heap_table.proofs.PairsAtRest.{InOrder};
 ghost use Rattle.building.specs.Work.{emptied};

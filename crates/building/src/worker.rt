@@ -1,4 +1,5 @@
-ghost use Rattle.std.specs.Prelude.{◌≡◌, ◌≤◌, ◌<◌, ◌+◌, ◌%◌, ◌==◌, ◌++◌, [], ℕ, List, not, length, IfErr, IfOk, OnOk, OnErr, IsOk, vec_len, vec_capacity};
+ghost use Rattle.std.specs.Prelude.{◌≡◌, ◌≤◌, ◌<◌, ◌+◌, ◌%◌, ◌==◌, ◌++◌, [], ℕ, List, not, length, vec_len, vec_capacity};
+ghost use Rattle.std.specs.Prelude.{IfErr, IfOk, OnOk, OnErr, IsOk};
 ghost use Rattle.keybytes.specs.declared.pair.Pair.{Pair};
 ghost use Rattle.side_file.specs.Ends.{ring_take};
 ghost use Rattle.building.specs.ImagePairs.{HavePairs};

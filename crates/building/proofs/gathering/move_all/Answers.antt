@@ -15,7 +15,8 @@ loop-worker-preserved c =
     let workers : List WorkerValue = c.args.workers.now in
     let worker : WorkerValue = c.worker-item.result in
     let within : i < length workers = omega arith in
-    let here : worker ≡ get_or workers i worker = reached emptied workers c.loop-worker.workers i worker within c.loop-worker.invariant.emptied_ones c.worker-item.is in
+    let here : worker ≡ get_or workers i worker =
+    reached emptied workers c.loop-worker.workers i worker within c.loop-worker.invariant.emptied_ones c.worker-item.is in
     let more : take (i + 1) workers ≡ take i workers ++ worker ∷ [] = take_more workers i worker within ∙ ap (λ w. take i workers ++ w ∷ []) (sym here) in
     let pairs_of : WorkerValue → List Pair = λ w. w.pairs in
     let count : WorkerValue → ℕ = λ w. length w.pairs in
@@ -35,5 +36,6 @@ loop-worker-preserved c =
       room =
           let rest : sum_by count (drop i workers) ≡ length worker.pairs + sum_by count (drop (i + 1) workers) =
           sum_by-drop_more count workers i worker within ∙ ap (λ w. count w + sum_by count (drop (i + 1) workers)) (sym here) in
-          omega (arith, c.loop-worker.invariant.room, c.move_pairs.ensures.room, rest, ap length moved, length-append old.items worker.pairs, old.ok.0, new.ok.0);
+          let both = length-append old.items worker.pairs in
+          omega (arith, c.loop-worker.invariant.room, c.move_pairs.ensures.room, rest, ap length moved, both, old.ok.0, new.ok.0);
     }

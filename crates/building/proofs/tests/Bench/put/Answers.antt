@@ -1,4 +1,4 @@
-use Rattle.std.proofs.Common.{◌≡◌, ◌++◌, ◌∷◌, [], List, sym, subst, ap, ◌∙◌}
+use Rattle.std.proofs.Common.{◌≡◌, List, sym, subst, ap, ◌∙◌}
 use Rattle.std.proofs.lemmas.List.Elements.{All-push}
 use Rattle.keybytes.specs.declared.pair.Pair.{Pair}
 use Rattle.building.specs.declared.copied.Copied.{Copied}

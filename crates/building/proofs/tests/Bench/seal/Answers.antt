@@ -1,4 +1,4 @@
-use Rattle.std.proofs.Common.{◌≡◌, ◌++◌, ◌∷◌, [], List, length, sym, subst, ap, ◌∙◌}
+use Rattle.std.proofs.Common.{length, sym, subst}
 use Rattle.building.specs.ImagePairs.{EachHasPairs}
 use Rattle.building.proofs.ManyPairs.{each_have}
 use Rattle.building.proofs.Digests.{can_digest}

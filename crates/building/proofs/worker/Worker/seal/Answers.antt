@@ -36,5 +36,7 @@ loop-preserved c =
       made = λ made have.
           digested_more c.args.spec.now n 1 made worker c.loop.self c.digest.new.self c.loop.invariant.build c.loop.invariant.end
           c.loop.invariant.made c.in_ok-images.ensures.made have;
-      images = omega (arith, c.loop.invariant.images, c.in_ok-images.ensures.count, ap length images, length-append (next_images n worker) (next_images 1 c.loop.self));
+      images =
+          let both = length-append (next_images n worker) (next_images 1 c.loop.self) in
+          omega (arith, c.loop.invariant.images, c.in_ok-images.ensures.count, ap length images, both);
     }
