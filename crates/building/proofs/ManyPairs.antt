@@ -1,0 +1,105 @@
+-- The pairs of several copies, and the images of a build among several copies.
+use Rattle.std.proofs.Common.{◌≡◌, ℕ, ◌==◌, ◌<◌, ◌≤◌, Bool, true, false, if◌then◌else◌, List, [], ◌∷◌, ◌++◌, length, take, drop, map, append_assoc, append-nil, refl, sym, ap, ◌∙◌, subst, arith}
+use Rattle.std.specs.Prelude.{filter}
+use Rattle.std.proofs.lemmas.List.{map-append, length-map, take-append-drop}
+use Rattle.std.specs.List.{All}
+use Rattle.std.proofs.lemmas.Bool.Decides.{nat_tests}
+use Rattle.std.proofs.lemmas.List.Elements.{filter-append, All-head, All-tail}
+use Rattle.std.proofs.lemmas.List.Sums.{length-filter, count_by-le-length}
+use Rattle.keybytes.specs.Keys.{KeySpecValue}
+use Rattle.keybytes.specs.declared.pair.Pair.{Pair}
+use Rattle.heap_table.specs.Images.{ImageValue}
+use Rattle.building.specs.declared.copied.Copied.{Copied}
+use Rattle.building.specs.Copies.{images_of}
+use Rattle.building.specs.ImagePairs.{HasPairs, HavePairs, EachHasPairs}
+
+-- the pairs of one copy
+pub one_has : (spec : KeySpecValue) (image : ImageValue) (made : List Pair) → HavePairs spec (image ∷ []) made → HasPairs spec image made
+one_has spec image made have = subst (HasPairs spec image) (sym (have.4 ∙ (ap (λ ps. have.0 ++ ps) have.3 ∙ append-nil have.0))) have.2
+
+pub one_have : (spec : KeySpecValue) (image : ImageValue) (made : List Pair) → HasPairs spec image made → HavePairs spec (image ∷ []) made
+one_have spec image made has = (made, [], has, refl, sym (append-nil made))
+
+-- the pairs of copies and of more copies
+pub have_append :
+    (spec : KeySpecValue) (xs ys : List ImageValue) (a b : List Pair) → HavePairs spec xs a → HavePairs spec ys b → HavePairs spec (xs ++ ys) (a ++ b)
+have_append spec [] ys a b none have = subst (λ ps. HavePairs spec ys (ps ++ b)) (sym none) have
+have_append spec (x ∷ xs) ys a b some have = (
+  some.0,
+  some.1 ++ b,
+  some.2,
+  have_append spec xs ys some.1 b some.3 have,
+  ap (λ ps. ps ++ b) some.4 ∙ append_assoc some.0 some.1 b,
+)
+
+-- the pairs of the first copies, and those of the others
+pub have_split :
+    (spec : KeySpecValue) (xs ys : List ImageValue) (made : List Pair) → HavePairs spec (xs ++ ys) made
+    → (a : List Pair) × (b : List Pair) × HavePairs spec xs a × HavePairs spec ys b × (made ≡ a ++ b)
+have_split spec [] ys made have = ([], made, refl, have, refl)
+have_split spec (x ∷ xs) ys made have =
+    let inner = have_split spec xs ys have.1 have.3 in (
+      have.0 ++ inner.0,
+      inner.1,
+      (have.0, inner.0, have.2, inner.2, refl),
+      inner.3,
+      have.4 ∙ (ap (λ ps. have.0 ++ ps) inner.4 ∙ sym (append_assoc have.0 inner.0 inner.1)),
+    )
+
+-- a copy more
+pub have_more :
+    (spec : KeySpecValue) (images : List ImageValue) (image : ImageValue) (a b : List Pair) → HavePairs spec images a → HasPairs spec image b
+    → HavePairs spec (images ++ image ∷ []) (a ++ b)
+have_more spec images image a b have has = have_append spec images (image ∷ []) a b have (one_have spec image b has)
+
+pub have_take :
+    (spec : KeySpecValue) (n : ℕ) (images : List ImageValue) (made : List Pair) → HavePairs spec images made
+    → (a : List Pair) × HavePairs spec (take n images) a
+have_take spec n images made have =
+    let both = subst (λ (xs : List ImageValue). HavePairs spec xs made) (sym (take-append-drop n images)) have in
+    let parts = have_split spec (take n images) (drop n images) made both in
+    (parts.0, parts.2)
+
+pub have_drop :
+    (spec : KeySpecValue) (n : ℕ) (images : List ImageValue) (made : List Pair) → HavePairs spec images made
+    → (b : List Pair) × HavePairs spec (drop n images) b
+have_drop spec n images made have =
+    let both = subst (λ (xs : List ImageValue). HavePairs spec xs made) (sym (take-append-drop n images)) have in
+    let parts = have_split spec (take n images) (drop n images) made both in
+    (parts.1, parts.3)
+
+-- the images of a build among more copies
+pub images-append : (build : ℕ) (xs ys : List Copied) → images_of build (xs ++ ys) ≡ images_of build xs ++ images_of build ys
+images-append build xs ys =
+    let is : Copied → Bool = λ copied. copied.build == build in
+    ap (map (λ (copied : Copied). copied.image)) (filter-append is xs ys)
+    ∙ map-append (λ (copied : Copied). copied.image) (filter is xs) (filter is ys)
+
+-- no build has more images than there are copies
+pub images_few : (build : ℕ) (xs : List Copied) → length (images_of build xs) ≤ length xs
+images_few build xs =
+    let is : Copied → Bool = λ copied. copied.build == build in
+    omega (arith, length-map (filter is xs) (λ (copied : Copied). copied.image), length-filter is xs, count_by-le-length is xs)
+
+-- of a later build there is none
+pub images_none : (build : ℕ) (xs : List Copied) → All (λ copied. copied.build < build) xs → images_of build xs ≡ []
+images_none build [] all = refl
+images_none build (x ∷ xs) all =
+    let before : x.build < build = All-head (λ (copied : Copied). copied.build < build) x xs all in
+    let other : (x.build == build) ≡ false = grind (arith, nat_tests) in
+    rw other (images_none build xs (All-tail (λ (copied : Copied). copied.build < build) x xs all))
+
+-- where the pairs of each copy can be made, those of a build's can
+pub each_have : (spec : KeySpecValue) (build : ℕ) (xs : List Copied) → EachHasPairs spec xs → (made : List Pair) × HavePairs spec (images_of build xs) made
+each_have spec build [] each = ([], refl)
+each_have spec build (x ∷ xs) each =
+    let P : Copied → Type 0 = λ copied. (made : List Pair) × HasPairs spec copied.image made in
+    let one : P x = All-head P x xs each in
+    let others = each_have spec build xs (All-tail P x xs each) in
+    let own : Copied → Bool = λ copied. copied.build == build in
+    let images : List Copied → List ImageValue = λ copies. map (λ copied. copied.image) copies in
+    let Have : Bool → Type 0 = λ b. (made : List Pair) × HavePairs spec (images (if b then x ∷ filter own xs else filter own xs)) made in
+    elim (x.build == build) as Have [
+      | true ↦ (one.0 ++ others.0, (one.0, others.0, one.1, others.1, refl))
+      | false ↦ others
+    ]

@@ -1,0 +1,5 @@
+pub mod Copies
+pub mod ImagePairs
+pub mod TakeEnd
+pub mod Work
+pub mod WorkerValue
