@@ -1,0 +1,28 @@
+-- What an account stands for.
+use Rattle.std.specs.Prelude.{◌≡◌, ℕ, ◌-◌, ◌≤◌}
+
+-- pages of the pool with a number: `free` of `quota` aren't leased
+pub record AccountValue : Type 0 where
+  pub pool : ℕ
+  pub quota : ℕ
+  pub free : ℕ
+
+-- how many pages are leased
+abbrev pub leased : AccountValue → ℕ
+leased account = account.quota - account.free
+
+-- each page of the account is free
+abbrev pub IsWhole : AccountValue → Type 0
+IsWhole account = account.free ≡ account.quota
+
+abbrev pub new_account : ℕ → ℕ → AccountValue
+new_account pool quota = record { pool = pool; quota = quota; free = quota }
+
+-- the account with another number of free pages
+abbrev pub with_free : AccountValue → ℕ → AccountValue
+with_free account free = record { pool = account.pool; quota = account.quota; free = free }
+
+-- what an account keeps: never more pages than its quota, and room for each of them
+pub record IsAccount (quota free room : ℕ) : Type 0 where
+  pub within : free ≤ quota
+  pub fits : quota ≤ room
