@@ -7,6 +7,14 @@ pub record AccountValue : Type 0 where
   pub quota : ℕ
   pub free : ℕ
 
+-- whose pages they are, and how many: what no lease changes
+pub record Stake : Type 0 where
+  pub pool : ℕ
+  pub quota : ℕ
+
+abbrev pub stake_of : AccountValue → Stake
+stake_of account = record { pool = account.pool; quota = account.quota }
+
 -- how many pages are leased
 abbrev pub leased : AccountValue → ℕ
 leased account = account.quota - account.free

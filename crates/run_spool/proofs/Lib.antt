@@ -1,0 +1,7 @@
+pub mod Writes
+pub mod Stores
+pub mod Marked
+pub mod Chains
+pub mod RunSteps
+pub mod SpoolSteps
+pub mod PairRuns

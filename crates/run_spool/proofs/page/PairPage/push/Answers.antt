@@ -1,0 +1,34 @@
+use Rattle.std.proofs.Common.{ap, ◌∙◌, ℕ, ◌≡◌, ◌+◌, ◌-◌, ◌≤◌, ◌∷◌, ◌++◌, [], List, length, arith}
+use Rattle.keybytes.specs.declared.pair.Pair.{Pair}
+use Rattle.run_spool.specs.Bytes.{pair_bytes, pair_size, overwritten}
+use Rattle.run_spool.specs.Pages.{PageValue, pairs_at, with_pair}
+use Rattle.run_spool.proofs.Marked.{pushed, count_small}
+use Rattle.run_spool.proofs.page.PairPage.push.Goals as goal
+
+pub overflow_add-self-2 : goal.overflow_add-self-2
+overflow_add-self-2 c = let small = count_small c.self.invariant in omega arith
+
+pub invariant_of-self : goal.invariant_of-self
+invariant_of-self c =
+    let m = c.self.inside.marks in
+    let within = c.self.invariant.stored.within in
+    let room = ap (λ (p : PageValue). p.room) c.self.view_is in
+    let fits : m.end + pair_size c.args.pair.now ≤ 4096 = omega (arith, c.requires) in
+    let p = pushed c.args.pair.now c.write_pair.new.bytes (8 + length c.bytes.result.now) c.write_pair.ensures.good fits
+    (c.write_pair.ensures.bytes ∙ ap (overwritten m.end (pair_bytes c.args.pair.now)) c.deref_mut.ensures.value) (ap (λ (k : List ℕ). 8 + length k) c.bytes.ensures.bytes) c.self.invariant in
+    p.page
+
+pub returns : goal.returns
+returns c =
+    let m = c.self.inside.marks in
+    let within = c.self.invariant.stored.within in
+    let room = ap (λ (p : PageValue). p.room) c.self.view_is in
+    let fits : m.end + pair_size c.args.pair.now ≤ 4096 = omega (arith, c.requires) in
+    let key = ap (λ (k : List ℕ). 8 + length k) c.bytes.ensures.bytes in
+    let p = pushed c.args.pair.now c.write_pair.new.bytes (8 + length c.bytes.result.now) c.write_pair.ensures.good fits
+    (c.write_pair.ensures.bytes ∙ ap (overwritten m.end (pair_bytes c.args.pair.now)) c.deref_mut.ensures.value) key c.self.invariant in
+    let left : 4096 - (m.end + (8 + length c.bytes.result.now)) ≡ (4096 - m.end) - pair_size c.args.pair.now = omega (arith, key) in
+    let make : List Pair → ℕ → PageValue = λ ps n. record { pairs = ps; room = n } in
+    ap (λ (ps : List Pair). make ps (4096 - (m.end + (8 + length c.bytes.result.now)))) p.pairs
+    ∙ ap (make (pairs_at c.self.inside.page.bytes.value m ++ c.args.pair.now ∷ [])) left
+    ∙ ap (λ (v : PageValue). with_pair v c.args.pair.now) c.self.view_is

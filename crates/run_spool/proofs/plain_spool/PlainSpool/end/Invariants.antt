@@ -1,0 +1,11 @@
+use Rattle.std.proofs.Common.{◌≡◌, length, vec_len, vec_capacity}
+use Rattle.spool_ledger.specs.Accounts.{with_free}
+use Rattle.run_spool.specs.PlainSpools.{IsSpool}
+use Rattle.run_spool.proofs.plain_spool.PlainSpool.end.Given as goal
+
+abbrev pub invariant-loop-run : goal.invariant-loop-run
+invariant-loop-run l = IsSpool l.self-inside.account (length l.self-inside.spare) l.self-inside.runs.items (vec_capacity l.self-inside.runs) l.self-inside.open_run l.self-inside.open_len
+    × (l.self-inside.account ≡ with_free l.fn.self.account l.self-inside.account.free)
+
+abbrev pub decreases-loop-run : goal.decreases-loop-run
+decreases-loop-run l = vec_len l.self-inside.runs

@@ -1,0 +1,6 @@
+pub mod Bytes
+pub mod Frames
+pub mod Pages
+pub mod PlainSpools
+pub mod Runs
+pub mod Spools

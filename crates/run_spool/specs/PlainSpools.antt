@@ -1,0 +1,73 @@
+-- A plain spool as its callers see it.
+use Rattle.std.specs.Prelude.{ℕ, ◌+◌, ◌-◌, ◌^◌, ◌≤◌, ◌<◌, ◌≡◌, cond, nat_lt, List, [], ◌∷◌, ◌++◌, length, map, Option, take, get_or}
+use Rattle.std.specs.List.{All, sum_by}
+use Rattle.spool_ledger.specs.Accounts.{AccountValue, with_free}
+use Rattle.keybytes.specs.declared.pair.Pair.{Pair}
+use Rattle.run_spool.specs.Bytes.{pair_size}
+use Rattle.run_spool.specs.Pages.{PageValue, no_page, with_pair}
+use Rattle.run_spool.specs.Runs.{pairs_of, pages_in, HasPairs}
+use Rattle.run_spool.specs.Spools.{with_closed_run}
+
+-- the closed runs and the open one, each as its pages, and the account behind them
+pub record SpoolValue : Type 0 where
+  pub runs : List (List PageValue)
+  pub open_run : List PageValue
+  pub account : AccountValue
+
+abbrev pub new_spool : AccountValue → SpoolValue
+new_spool account = record { runs = []; open_run = []; account = account }
+
+-- the pairs of each closed run
+abbrev pub runs_of : SpoolValue → List (List Pair)
+runs_of spool = map pairs_of spool.runs
+
+-- the pages of all closed runs
+abbrev pub run_pages : List (List PageValue) → ℕ
+run_pages runs = sum_by length runs
+
+-- the last of some pages
+abbrev pub last_of : List PageValue → PageValue
+last_of run = get_or run (length run - 1) no_page
+
+-- a run with one pair more on its last page
+abbrev pub on_last : List PageValue → Pair → List PageValue
+on_last run pair = take (length run - 1) run ++ with_pair (last_of run) pair ∷ []
+
+-- a pair needs a new page: it does not fit on the last one, or there is none
+abbrev pub NeedsPage : SpoolValue → Pair → Type 0
+NeedsPage spool pair = (last_of spool.open_run).room < pair_size pair
+
+-- the spool is full for a pair
+abbrev pub IsFull : SpoolValue → Pair → Type 0
+IsFull spool pair = NeedsPage spool pair × (spool.account.free ≡ 0)
+
+-- a page with just one pair
+abbrev pub page_with : Pair → PageValue
+page_with pair = record { pairs = pair ∷ []; room = 4096 - pair_size pair }
+
+-- the spool with one pair more, on the last page or on a new one
+abbrev pub with_pushed : SpoolValue → Pair → SpoolValue
+with_pushed spool pair =
+    cond (nat_lt (last_of spool.open_run).room (pair_size pair))
+    (record { runs = spool.runs; open_run = spool.open_run ++ page_with pair ∷ []; account = with_free spool.account (spool.account.free - 1) })
+    (record { runs = spool.runs; open_run = on_last spool.open_run pair; account = spool.account })
+
+-- the spool with its open run closed
+abbrev pub with_run : SpoolValue → SpoolValue
+with_run spool = record { runs = with_closed_run spool.runs spool.open_run; open_run = []; account = spool.account }
+
+-- the pairs of a page and what is free behind them are the whole page
+abbrev pub IsPacked : PageValue → Type 0
+IsPacked page = sum_by pair_size page.pairs + page.room ≡ 4096
+
+-- the fields of a spool
+pub record IsSpool (account : AccountValue) (spare : ℕ) (runs : List (List PageValue)) (capacity : ℕ) (open_run : List (Option PageValue)) (open_len : ℕ) : Type 0 where
+  pub law : account.free + run_pages runs + length open_run ≡ account.quota
+  pub spare_is : spare ≡ account.free
+  pub small : account.quota < 2 ^ 32
+  pub open_len_is : open_len ≡ length (pairs_of (pages_in open_run))
+  pub each : All HasPairs (pages_in open_run)
+  pub packed : All IsPacked (pages_in open_run)
+  pub room : account.quota ≤ capacity
+  pub fits : length runs ≤ account.quota
+  pub open_fits : 0 < length open_run → length runs + 1 ≤ account.quota

@@ -1,0 +1,16 @@
+-- Spools of every kind.
+use Rattle.std.specs.Prelude.{[], ◌∷◌, ◌++◌, ◌<◌, List, All, length, Option, option_map}
+use Rattle.spool_ledger.specs.Accounts.{Stake}
+
+-- the closed runs with the open one behind them, if it has anything
+abbrev pub with_closed_run : {X : Type 0} → List (List X) → List X → List (List X)
+with_closed_run runs [] = runs
+with_closed_run runs (first ∷ run) = runs ++ (first ∷ run) ∷ []
+
+-- no closed run is empty
+abbrev pub NoneEmpty : {X : Type 0} → List (List X) → Type 0
+NoneEmpty runs = All (λ run. 0 < length run) runs
+
+-- the same pool, with no page
+abbrev pub without_pages : Option Stake → Option Stake
+without_pages stake = option_map (λ s. record { pool = s.pool; quota = 0 }) stake

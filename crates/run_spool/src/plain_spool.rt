@@ -1,0 +1,228 @@
+ghost use Rattle.std.specs.Prelude.{◌≡◌, ◌+◌, ◌-◌, ◌^◌, ◌<◌, ◌≤◌, ◌++◌, ◌∷◌, [], length, drop, get_or, set, Some, IfOk, IfErr, OnErr, IsTrue, ◌↔◌};
+ghost use Rattle.std.specs.List.{All};
+ghost use Rattle.spool_ledger.specs.Accounts.{new_account, with_free, IsWhole};
+ghost use Rattle.run_spool.specs.Pages.{IsPairAt};
+ghost use Rattle.run_spool.specs.Runs.{pairs_of, without_pairs, HasPairs};
+ghost use Rattle.run_spool.specs.PlainSpools.{new_spool, with_pushed, with_run, IsFull, IsPacked};
+ghost use Rattle.run_spool.specs.Spools.{NoneEmpty};
+
+use crate::PairPage;
+use crate::area::FIXED_SIZE;
+use crate::frames::{push_pair, put_page, room_left};
+use crate::run::{Run, free_first};
+use keybytes::{Fault, Key, Pair, Rid};
+use spool_ledger::{Account, Page};
+use std::alloc::Global;
+use std::collections::LinkedList;
+use std::marker::Model;
+use std::mem;
+
+/// Runs of pairs on the pages of an account. Contracts see the closed runs and the open one, each as its pages, and the
+/// account.
+///
+/// It takes its memory when it is made: a frame for each page of the quota, and for each run. A run with a pair has a
+/// page, so there are never more runs than that while pairs are pushed.
+#[derive(Drop)]
+pub struct PlainSpool {
+    account: Account,
+    spare: LinkedList<Option<PairPage>>,
+    runs: Vec<Run>,
+    open_run: LinkedList<Option<PairPage>>,
+    open_len: usize,
+}
+
+impl Model for PlainSpool {
+    ghost use Rattle.std.specs.Prelude.{length, vec_capacity};
+    ghost use Rattle.run_spool.specs.Runs.{pages_in};
+    ghost use Rattle.run_spool.specs.PlainSpools.{SpoolValue, IsSpool};
+
+    ghost Value = { SpoolValue };
+
+    ghost view = { λ s. record { runs = s.runs.items; open_run = pages_in s.open_run; account = s.account } };
+
+    ghost invariant = { λ s. IsSpool s.account (length s.spare) s.runs.items (vec_capacity s.runs) s.open_run s.open_len };
+}
+
+/// Puts a page into a frame that has none, as the last page of a chain.
+fn add_page(
+    spare: &mut LinkedList<Option<PairPage>>,
+    chain: &mut LinkedList<Option<PairPage>>,
+    page: Page,
+)
+    requires there { 0 < length spare.old }
+    requires small { length spare.old + length chain.old < 2 ^ 62 }
+    ensures spare { spare.new ≡ drop 1 spare.old }
+    ensures chain { chain.new ≡ chain.old ++ Some (record { pairs = []; room = 4096 }) ∷ [] }
+{
+    let Ok(rest) = spare.split_off(1) else {
+        unreachable!()
+    };
+    let mut frame = mem::replace(spare, rest);
+    put_page(&mut frame, PairPage::new(page));
+    let Ok(()) = chain.append(&mut frame) else {
+        unreachable!()
+    };
+}
+
+/// So many frames with no page.
+fn frames(alloc: Global, count: usize) -> Result<LinkedList<Option<PairPage>>, Fault>
+    ensures count { IfOk result (λ chain. length chain ≡ count) }
+    ensures memory { IfErr result (λ fault. fault ≡ Fault.Memory) }
+{
+    let mut chain = LinkedList::new(alloc);
+    for _ in 0..count {
+        chain.push_back(None)?;
+    }
+    Ok(chain)
+}
+
+impl PlainSpool {
+    /// A spool with no run. An `Err` gives the account back.
+    pub fn new(alloc: Global, account: Account) -> Result<PlainSpool, (Account, Fault)>
+        requires { IsWhole account }
+        ensures made { IfOk result (λ spool. spool ≡ new_spool account) }
+        ensures back { IfErr result (λ refused. (refused.0 ≡ account) × (refused.1 ≡ Fault.Memory)) }
+    {
+        let quota = account.quota() as usize;
+        let spare = match frames(alloc, quota) {
+            Ok(spare) => spare,
+            Err(fault) => return Err((account, fault)),
+        };
+        let Ok(runs) = Vec::with_capacity(alloc, quota) else {
+            return Err((account, Fault::Memory));
+        };
+        Ok(PlainSpool {
+            account,
+            spare,
+            runs,
+            open_run: LinkedList::new(alloc),
+            open_len: 0,
+        })
+    }
+
+    /// Whether there is no closed run, and no pair in the open run.
+    pub fn is_empty(&self) -> bool
+        ensures { IsTrue result ↔ ((self.now.runs ≡ []) × (pairs_of self.now.open_run ≡ [])) }
+    {
+        self.runs.is_empty() && self.open_len == 0
+    }
+
+    /// Writes a pair behind those of the open run. It takes no memory; an `Err` gives the pair back, and says that it
+    /// needs a page and none is free.
+    pub fn push(&mut self, pair: Pair) -> Result<(), (Pair, Fault)>
+        requires { NoneEmpty self.old.runs }
+        ensures pushed { IfOk result (λ _. self.new ≡ with_pushed self.old pair) }
+        ensures room { IfOk result (λ _. IsFull self.old pair → ⊥) }
+        ensures full { IfErr result (λ refused. IsFull self.old pair) }
+        ensures back { IfErr result (λ refused. (refused.0 ≡ pair) × (refused.1 ≡ Fault.NoPage)) }
+        ensures same { OnErr result (self.new ≡ self.old) }
+        ensures runs { self.new.runs ≡ self.old.runs }
+        ensures packed { All IsPacked self.old.open_run }
+    {
+        if FIXED_SIZE + pair.key.bytes().len() <= room_left(&self.open_run) {
+            push_pair(&mut self.open_run, &pair);
+            drop(pair);
+            self.open_len += 1;
+            return Ok(());
+        }
+        match self.account.lease() {
+            Ok(page) => {
+                add_page(&mut self.spare, &mut self.open_run, page);
+                push_pair(&mut self.open_run, &pair);
+                drop(pair);
+                self.open_len += 1;
+                Ok(())
+            }
+            Err(fault) => Err((pair, fault)),
+        }
+    }
+
+    /// Closes the open run, if it has a pair.
+    pub fn end_run(&mut self)
+        ensures closed { self.new ≡ with_run self.old }
+        ensures sound { All HasPairs self.old.open_run }
+        ensures none_empty { NoneEmpty self.old.runs → NoneEmpty self.new.runs }
+    {
+        if self.open_run.is_empty() {
+            return;
+        }
+        let none = LinkedList::new(*self.open_run.allocator());
+        let pages = mem::replace(&mut self.open_run, none);
+        self.runs.push_reserved(Run::new(pages, self.open_len));
+        self.open_len = 0;
+    }
+
+    /// The number of closed runs.
+    pub fn run_count(&self) -> usize
+        ensures { result ≡ length self.now.runs }
+    {
+        self.runs.len()
+    }
+
+    /// The number of pairs of a closed run.
+    pub fn run_len(&self, i: usize) -> usize
+        requires { i < length self.now.runs }
+        ensures { result ≡ length (pairs_of (get_or self.now.runs i [])) }
+    {
+        self.runs[i].len()
+    }
+
+    /// Reads a pair of a closed run. An `Err` says that there is no memory for the key.
+    pub fn read(&mut self, i: usize, j: usize, key: &mut Key) -> Result<Rid, Fault>
+        requires run { i < length self.old.runs }
+        requires pair { j < length (pairs_of (get_or self.old.runs i [])) }
+        ensures pair { IfOk result (λ rid. IsPairAt (pairs_of (get_or self.old.runs i [])) j key.new rid) }
+        ensures memory { IfErr result (λ fault. fault ≡ Fault.Memory) }
+        ensures same { self.new ≡ self.old }
+    {
+        let run = &mut self.runs[i];
+        run.read(j, key)
+    }
+
+    /// Lets the first pairs of a closed run go. A page on which none is left goes back to the account.
+    pub fn free_front(&mut self, i: usize, n: usize)
+        requires run { i < length self.old.runs }
+        requires pairs { n ≤ length (pairs_of (get_or self.old.runs i [])) }
+        ensures runs { self.new.runs ≡ set self.old.runs i (without_pairs n (get_or self.old.runs i [])) }
+        ensures open_run { self.new.open_run ≡ self.old.open_run }
+        ensures account { self.new.account ≡ with_free self.old.account self.new.account.free }
+        ensures law { self.new.account.free + length (get_or self.new.runs i [])
+            ≡ self.old.account.free + length (get_or self.old.runs i []) }
+    {
+        let run = &mut self.runs[i];
+        run.free_front(n, &mut self.account, &mut self.spare);
+    }
+
+    /// Gives every page back to the account, with all runs and pairs.
+    pub fn end(&mut self)
+        ensures runs { self.new.runs ≡ [] }
+        ensures open_run { self.new.open_run ≡ [] }
+        ensures account { self.new.account ≡ with_free self.old.account self.old.account.quota }
+    {
+        while let Some(mut run) = self.runs.pop() {
+            let len = run.len();
+            run.free_front(len, &mut self.account, &mut self.spare);
+        }
+        free_first(
+            &mut self.open_run,
+            self.open_len,
+            &mut self.account,
+            &mut self.spare,
+        );
+        self.open_len = 0;
+    }
+
+    /// Hands the account over, and keeps one with no page. The spool has no page leased, and so no run.
+    pub fn take_account(&mut self) -> Account
+        requires runs { self.old.runs ≡ [] }
+        requires open_run { self.old.open_run ≡ [] }
+        ensures account { result ≡ self.old.account }
+        ensures whole { IsWhole result }
+        ensures left { self.new ≡ new_spool (new_account self.old.account.pool 0) }
+    {
+        let alloc = *self.open_run.allocator();
+        let pool = self.account.pool();
+        self.spare = LinkedList::new(alloc);
+        mem::replace(&mut self.account, Account::empty(alloc, pool))
+    }
+}
