@@ -1,5 +1,5 @@
 -- A plain spool as its callers see it.
-use Rattle.std.specs.Prelude.{ℕ, ◌+◌, ◌-◌, ◌^◌, ◌≤◌, ◌<◌, ◌≡◌, cond, nat_lt, List, [], ◌∷◌, ◌++◌, length, map, Option, take, get_or}
+use Rattle.std.specs.Prelude.{ℕ, ◌+◌, ◌-◌, ◌^◌, ◌≤◌, ◌<◌, ◌≡◌, nat_lt, if◌then◌else◌, List, [], ◌∷◌, ◌++◌, length, map, Option, take, get_or}
 use Rattle.std.specs.List.{All, sum_by}
 use Rattle.spool_ledger.specs.Accounts.{AccountValue, with_free}
 use Rattle.keybytes.specs.declared.pair.Pair.{Pair}
@@ -48,9 +48,13 @@ page_with pair = record { pairs = pair ∷ []; room = 4096 - pair_size pair }
 -- the spool with one pair more, on the last page or on a new one
 abbrev pub with_pushed : SpoolValue → Pair → SpoolValue
 with_pushed spool pair =
-    cond (nat_lt (last_of spool.open_run).room (pair_size pair))
-    (record { runs = spool.runs; open_run = spool.open_run ++ page_with pair ∷ []; account = with_free spool.account (spool.account.free - 1) })
-    (record { runs = spool.runs; open_run = on_last spool.open_run pair; account = spool.account })
+    if nat_lt (last_of spool.open_run).room (pair_size pair)
+    then record {
+      runs = spool.runs;
+      open_run = spool.open_run ++ page_with pair ∷ [];
+      account = with_free spool.account (spool.account.free - 1);
+    }
+    else record { runs = spool.runs; open_run = on_last spool.open_run pair; account = spool.account }
 
 -- the spool with its open run closed
 abbrev pub with_run : SpoolValue → SpoolValue

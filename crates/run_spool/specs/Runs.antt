@@ -1,5 +1,5 @@
 -- Runs of pairs on pages.
-use Rattle.std.specs.Prelude.{ℕ, ◌+◌, ◌-◌, ◌^◌, ◌<◌, ◌≡◌, cond, nat_lt, List, [], ◌∷◌, ◌++◌, length, map, Option}
+use Rattle.std.specs.Prelude.{ℕ, ◌+◌, ◌-◌, ◌^◌, ◌<◌, ◌≡◌, nat_lt, if◌then◌else◌, List, [], ◌∷◌, ◌++◌, length, map, Option}
 use Rattle.std.specs.List.{All, flat_map}
 use Rattle.keybytes.specs.declared.pair.Pair.{Pair}
 use Rattle.run_spool.specs.Pages.{PageValue, without_first}
@@ -24,7 +24,7 @@ HasPairs page = 0 < length page.pairs
 -- the pages of a run without its first n pairs: a page on which none is left is gone
 abbrev pub without_pairs : ℕ → List PageValue → List PageValue
 without_pairs n [] = []
-without_pairs n (page ∷ run) = cond (nat_lt n (length page.pairs)) (without_first page n ∷ run) (without_pairs (n - length page.pairs) run)
+without_pairs n (page ∷ run) = if nat_lt n (length page.pairs) then without_first page n ∷ run else without_pairs (n - length page.pairs) run
 
 -- the fields of a run: `before` pairs stand on the pages passed, `len` on all, and each page has a pair
 pub record IsRun (passed ahead : List (Option PageValue)) (before len : ℕ) : Type 0 where

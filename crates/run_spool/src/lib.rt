@@ -8,7 +8,7 @@
 //! No drop of a box tells its owner anything. So a spool owns its account, [`Spool::end`] gives every page back to it, and
 //! [`Spool::take_account`] hands it over with all its pages.
 //!
-//! A plain spool takes all its memory when it is made: a [`PairPage`] moves from frame to frame, and no frame or run needs memory
+//! A plain spool takes all its memory when it is made: pages move from frame to frame, and no frame or run needs memory
 //! later on.
 #![tactic(auto)]
 
@@ -17,11 +17,9 @@ mod boxed;
 mod frames;
 mod marks;
 mod page;
-mod plain;
 mod plain_spool;
 mod run;
 mod spool;
 
-pub use page::PairPage;
 pub use plain_spool::PlainSpool;
 pub use spool::Spool;

@@ -12,7 +12,7 @@ use std::marker::Model;
 ///
 /// A cursor keeps where a pair begins: reading a page in order takes no walk.
 #[derive(Drop)]
-pub struct PairPage {
+pub(crate) struct PairPage {
     page: Page,
     marks: Marks,
 }
@@ -29,7 +29,7 @@ impl Model for PairPage {
 
 impl PairPage {
     /// A page with no pair.
-    pub fn new(page: Page) -> PairPage
+    pub(crate) fn new(page: Page) -> PairPage
         ensures { result ≡ record { pairs = []; room = 4096 } }
     {
         let marks = Marks {
@@ -43,21 +43,21 @@ impl PairPage {
     }
 
     /// The number of pairs.
-    pub fn len(&self) -> usize
+    pub(crate) fn len(&self) -> usize
         ensures { result ≡ length self.now.pairs }
     {
         self.marks.count
     }
 
     /// How many bytes behind the pairs are free.
-    pub fn room(&self) -> usize
+    pub(crate) fn room(&self) -> usize
         ensures { result ≡ self.now.room }
     {
         PAGE_SIZE - self.marks.end
     }
 
     /// Writes a pair behind the others.
-    pub fn push(&mut self, pair: &Pair)
+    pub(crate) fn push(&mut self, pair: &Pair)
         requires { pair_size pair.now ≤ self.old.room }
         ensures { self.new ≡ with_pair self.old pair.now }
     {
@@ -68,7 +68,7 @@ impl PairPage {
     }
 
     /// Reads a pair. An `Err` says that there is no memory for the key, and leaves the pairs as they are.
-    pub fn read(&mut self, n: usize, key: &mut Key) -> Result<Rid, Fault>
+    pub(crate) fn read(&mut self, n: usize, key: &mut Key) -> Result<Rid, Fault>
         requires { n < length self.old.pairs }
         ensures pair { IfOk result (λ rid. IsPairAt self.old.pairs n key.new rid) }
         ensures memory { IfErr result (λ fault. fault ≡ Fault.Memory) }
@@ -83,7 +83,7 @@ impl PairPage {
     }
 
     /// Lets the first pairs go.
-    pub fn free_front(&mut self, n: usize)
+    pub(crate) fn free_front(&mut self, n: usize)
         requires { n ≤ length self.old.pairs }
         ensures { self.new ≡ without_first self.old n }
     {
@@ -95,7 +95,7 @@ impl PairPage {
     }
 
     /// The page, whose bytes mean nothing any more.
-    pub fn into_page(self) -> Page {
+    pub(crate) fn into_page(self) -> Page {
         self.page
     }
 }

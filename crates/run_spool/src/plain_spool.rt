@@ -1,4 +1,5 @@
-ghost use Rattle.std.specs.Prelude.{◌≡◌, ◌+◌, ◌-◌, ◌^◌, ◌<◌, ◌≤◌, ◌++◌, ◌∷◌, [], length, drop, get_or, set, Some, IfOk, IfErr, OnErr, IsTrue, ◌↔◌};
+ghost use Rattle.std.specs.Prelude.{◌≡◌, ◌+◌, ◌-◌, ◌^◌, ◌<◌, ◌≤◌, ◌++◌, ◌∷◌, ◌↔◌, []};
+ghost use Rattle.std.specs.Prelude.{length, drop, get_or, set, Some, IfOk, IfErr, OnErr, IsTrue};
 ghost use Rattle.std.specs.List.{All};
 ghost use Rattle.spool_ledger.specs.Accounts.{new_account, with_free, IsWhole};
 ghost use Rattle.run_spool.specs.Pages.{IsPairAt};
@@ -6,12 +7,12 @@ ghost use Rattle.run_spool.specs.Runs.{pairs_of, without_pairs, HasPairs};
 ghost use Rattle.run_spool.specs.PlainSpools.{new_spool, with_pushed, with_run, IsFull, IsPacked};
 ghost use Rattle.run_spool.specs.Spools.{NoneEmpty};
 
-use crate::PairPage;
+use crate::Spool;
 use crate::area::FIXED_SIZE;
-use crate::frames::{push_pair, put_page, room_left};
+use crate::frames::{Chain, add_page, empty_frames, push_pair, room_left};
 use crate::run::{Run, free_first};
 use keybytes::{Fault, Key, Pair, Rid};
-use spool_ledger::{Account, Page};
+use spool_ledger::Account;
 use std::alloc::Global;
 use std::collections::LinkedList;
 use std::marker::Model;
@@ -25,9 +26,9 @@ use std::mem;
 #[derive(Drop)]
 pub struct PlainSpool {
     account: Account,
-    spare: LinkedList<Option<PairPage>>,
+    spare: Chain,
     runs: Vec<Run>,
-    open_run: LinkedList<Option<PairPage>>,
+    open_run: Chain,
     open_len: usize,
 }
 
@@ -43,39 +44,6 @@ impl Model for PlainSpool {
     ghost invariant = { λ s. IsSpool s.account (length s.spare) s.runs.items (vec_capacity s.runs) s.open_run s.open_len };
 }
 
-/// Puts a page into a frame that has none, as the last page of a chain.
-fn add_page(
-    spare: &mut LinkedList<Option<PairPage>>,
-    chain: &mut LinkedList<Option<PairPage>>,
-    page: Page,
-)
-    requires there { 0 < length spare.old }
-    requires small { length spare.old + length chain.old < 2 ^ 62 }
-    ensures spare { spare.new ≡ drop 1 spare.old }
-    ensures chain { chain.new ≡ chain.old ++ Some (record { pairs = []; room = 4096 }) ∷ [] }
-{
-    let Ok(rest) = spare.split_off(1) else {
-        unreachable!()
-    };
-    let mut frame = mem::replace(spare, rest);
-    put_page(&mut frame, PairPage::new(page));
-    let Ok(()) = chain.append(&mut frame) else {
-        unreachable!()
-    };
-}
-
-/// So many frames with no page.
-fn frames(alloc: Global, count: usize) -> Result<LinkedList<Option<PairPage>>, Fault>
-    ensures count { IfOk result (λ chain. length chain ≡ count) }
-    ensures memory { IfErr result (λ fault. fault ≡ Fault.Memory) }
-{
-    let mut chain = LinkedList::new(alloc);
-    for _ in 0..count {
-        chain.push_back(None)?;
-    }
-    Ok(chain)
-}
-
 impl PlainSpool {
     /// A spool with no run. An `Err` gives the account back.
     pub fn new(alloc: Global, account: Account) -> Result<PlainSpool, (Account, Fault)>
@@ -84,7 +52,7 @@ impl PlainSpool {
         ensures back { IfErr result (λ refused. (refused.0 ≡ account) × (refused.1 ≡ Fault.Memory)) }
     {
         let quota = account.quota() as usize;
-        let spare = match frames(alloc, quota) {
+        let spare = match empty_frames(alloc, quota) {
             Ok(spare) => spare,
             Err(fault) => return Err((account, fault)),
         };
@@ -224,5 +192,58 @@ impl PlainSpool {
         let pool = self.account.pool();
         self.spare = LinkedList::new(alloc);
         mem::replace(&mut self.account, Account::empty(alloc, pool))
+    }
+}
+
+impl Spool for PlainSpool {
+    ghost use Rattle.std.specs.Prelude.{Some, ◌≡◌, []};
+    ghost use Rattle.spool_ledger.specs.Accounts.{IsWhole, stake_of};
+    ghost use Rattle.run_spool.specs.Runs.{pairs_of};
+    ghost use Rattle.run_spool.specs.PlainSpools.{IsFull, runs_of};
+
+    ghost runs = { runs_of };
+
+    ghost open_run = { λ spool. pairs_of spool.open_run };
+
+    ghost is_full = { IsFull };
+
+    ghost ended = { λ spool. (spool.runs ≡ []) × (spool.open_run ≡ []) × IsWhole spool.account };
+
+    ghost stake = { λ spool. Some (stake_of spool.account) };
+
+    fn is_empty(&self) -> bool {
+        PlainSpool::is_empty(self)
+    }
+
+    fn push(&mut self, pair: Pair) -> Result<(), (Pair, Fault)> {
+        PlainSpool::push(self, pair)
+    }
+
+    fn end_run(&mut self) {
+        PlainSpool::end_run(self)
+    }
+
+    fn run_count(&self) -> usize {
+        PlainSpool::run_count(self)
+    }
+
+    fn run_len(&self, i: usize) -> usize {
+        PlainSpool::run_len(self, i)
+    }
+
+    fn read(&mut self, i: usize, j: usize, key: &mut Key) -> Result<Rid, Fault> {
+        PlainSpool::read(self, i, j, key)
+    }
+
+    fn free_front(&mut self, i: usize, n: usize) {
+        PlainSpool::free_front(self, i, n)
+    }
+
+    fn end(&mut self) {
+        PlainSpool::end(self)
+    }
+
+    fn take_account(&mut self) -> Option<Account> {
+        Some(PlainSpool::take_account(self))
     }
 }

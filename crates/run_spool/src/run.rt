@@ -5,8 +5,9 @@ ghost use Rattle.run_spool.specs.Pages.{IsPairAt};
 ghost use Rattle.run_spool.specs.Frames.{first_page};
 ghost use Rattle.run_spool.specs.Runs.{pairs_of, pages_in, HasPairs, without_pairs, IsRun};
 
-use crate::PairPage;
-use crate::frames::{first_len, free_pairs, last_len, move_first, move_last, read_pair, take_page};
+use crate::frames::{
+    Chain, first_len, free_pairs, last_len, move_first, move_last, read_pair, take_page,
+};
 use keybytes::{Fault, Key, Rid};
 use spool_ledger::Account;
 use std::collections::LinkedList;
@@ -15,13 +16,7 @@ use std::mem;
 
 /// Moves pages so that the pair with number `n` stands on the first page ahead, and returns how many pairs have been
 /// passed. It passes the pages between, and none where the pair is on the first page ahead already.
-fn seek(
-    passed: &mut LinkedList<Option<PairPage>>,
-    ahead: &mut LinkedList<Option<PairPage>>,
-    mut before: usize,
-    len: usize,
-    n: usize,
-) -> usize
+fn seek(passed: &mut Chain, ahead: &mut Chain, mut before: usize, len: usize, n: usize) -> usize
     requires run { IsRun passed.old ahead.old before len }
     requires there { n < len }
     ensures run { IsRun passed.new ahead.new result len }
@@ -46,8 +41,8 @@ fn seek(
 /// step a page.
 #[derive(Drop)]
 pub(crate) struct Run {
-    passed: LinkedList<Option<PairPage>>,
-    ahead: LinkedList<Option<PairPage>>,
+    passed: Chain,
+    ahead: Chain,
     before: usize,
     len: usize,
 }
@@ -66,7 +61,7 @@ impl Model for Run {
 
 impl Run {
     /// A run of the pages in a chain, which have `len` pairs.
-    pub(crate) fn new(chain: LinkedList<Option<PairPage>>, len: usize) -> Run
+    pub(crate) fn new(chain: Chain, len: usize) -> Run
         requires len { len ≡ length (pairs_of (pages_in chain)) }
         requires each { All HasPairs (pages_in chain) }
         requires small { length chain < 2 ^ 62 }
@@ -101,12 +96,7 @@ impl Run {
 
     /// Lets the first pairs go. A page on which none is left goes back to the account, and its frame to the others that
     /// have no page.
-    pub(crate) fn free_front(
-        &mut self,
-        n: usize,
-        account: &mut Account,
-        spare: &mut LinkedList<Option<PairPage>>,
-    )
+    pub(crate) fn free_front(&mut self, n: usize, account: &mut Account, spare: &mut Chain)
         requires there { n ≤ length (pairs_of self.old) }
         requires leased { account.old.free + length self.old ≤ account.old.quota }
         requires small { length spare.old + length self.old < 2 ^ 62 }
@@ -126,12 +116,7 @@ impl Run {
 }
 
 /// Lets the first pairs of the pages in a chain go.
-pub(crate) fn free_first(
-    chain: &mut LinkedList<Option<PairPage>>,
-    n: usize,
-    account: &mut Account,
-    spare: &mut LinkedList<Option<PairPage>>,
-)
+pub(crate) fn free_first(chain: &mut Chain, n: usize, account: &mut Account, spare: &mut Chain)
     requires there { n ≤ length (pairs_of (pages_in chain.old)) }
     requires each { All HasPairs (pages_in chain.old) }
     requires leased { account.old.free + length chain.old ≤ account.old.quota }

@@ -1,4 +1,5 @@
-ghost use Rattle.std.specs.Prelude.{◌≡◌, ℕ, ◌+◌, ◌<◌, ◌≤◌, ◌++◌, ◌∷◌, [], List, Option, Some, None, MatchOption, length, drop, get_or, set, IfOk, IfErr, OnOk, OnErr, IsOk, IsTrue, ◌↔◌};
+ghost use Rattle.std.specs.Prelude.{◌≡◌, ℕ, ◌+◌, ◌<◌, ◌≤◌, ◌++◌, ◌∷◌, ◌↔◌, [], List, length, drop, get_or, set};
+ghost use Rattle.std.specs.Prelude.{Option, Some, None, MatchOption, IfOk, IfErr, OnOk, OnErr, IsOk, IsTrue};
 ghost use Rattle.keybytes.specs.declared.pair.Pair.{Pair};
 ghost use Rattle.spool_ledger.specs.Accounts.{IsWhole, Stake, stake_of};
 ghost use Rattle.run_spool.specs.Pages.{IsPairAt};

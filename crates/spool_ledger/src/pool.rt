@@ -1,4 +1,4 @@
-ghost use Rattle.std.specs.Prelude.{◌≡◌, ◌↔◌, ◌+◌, ◌-◌, ◌≤◌, ◌<◌, List, All, IsOk, IfOk, IfErr, map, sum, length, vec_len, vec_capacity};
+ghost use Rattle.std.specs.Prelude.{◌≡◌, ◌↔◌, ◌+◌, ◌-◌, ◌≤◌, ◌<◌, All, IsOk, IfOk, IfErr, map, sum, vec_len, vec_capacity};
 ghost use Rattle.std.specs.List.{sum_by};
 ghost use Rattle.keybytes.specs.Answered.{Answered};
 ghost use Rattle.spool_ledger.specs.Accounts.{IsWhole, leased, new_account, with_free};

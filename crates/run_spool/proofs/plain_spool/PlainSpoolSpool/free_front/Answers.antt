@@ -3,7 +3,7 @@ use Rattle.std.specs.Prelude.{map}
 use Rattle.run_spool.specs.Pages.{PageValue}
 use Rattle.run_spool.specs.Runs.{pairs_of}
 use Rattle.run_spool.proofs.PairRuns.{freed_runs}
-use Rattle.run_spool.proofs.plain.PlainSpoolSpool.free_front.Goals as goal
+use Rattle.run_spool.proofs.plain_spool.PlainSpoolSpool.free_front.Goals as goal
 
 pub returns-clause-runs : goal.returns-clause-runs
 returns-clause-runs c =

@@ -3,7 +3,7 @@ use Rattle.std.specs.Prelude.{map}
 use Rattle.run_spool.specs.Runs.{pairs_of}
 use Rattle.run_spool.specs.PlainSpools.{SpoolValue}
 use Rattle.run_spool.proofs.PairRuns.{closed_pairs}
-use Rattle.run_spool.proofs.plain.PlainSpoolSpool.end_run.Goals as goal
+use Rattle.run_spool.proofs.plain_spool.PlainSpoolSpool.end_run.Goals as goal
 
 pub returns-clause-runs : goal.returns-clause-runs
 returns-clause-runs c =

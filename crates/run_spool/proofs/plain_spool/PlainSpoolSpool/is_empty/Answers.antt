@@ -3,7 +3,7 @@ use Rattle.std.specs.Prelude.{map}
 use Rattle.run_spool.specs.Pages.{PageValue}
 use Rattle.run_spool.specs.Runs.{pairs_of}
 use Rattle.run_spool.proofs.PairRuns.{no_runs}
-use Rattle.run_spool.proofs.plain.PlainSpoolSpool.is_empty.Goals as goal
+use Rattle.run_spool.proofs.plain_spool.PlainSpoolSpool.is_empty.Goals as goal
 
 pub returns : goal.returns
 returns c =
