@@ -1,5 +1,5 @@
 -- Pairs pushed into a spool.
-use Rattle.std.proofs.Common.{◌≡◌, ℕ, ◌+◌, ◌-◌, ◌*◌, ◌≤◌, ◌<◌, List, [], ◌∷◌, ◌++◌, length, get_or, take, refl, sym, ap, ◌∙◌, subst, arith, Option, Some, None}
+use Rattle.std.proofs.Common.{◌≡◌, ℕ, ◌+◌, ◌-◌, ◌*◌, ◌≤◌, ◌<◌, List, [], ◌∷◌, ◌++◌, length, get_or, set, take, refl, sym, ap, ◌∙◌, subst, arith, Option, Some, None}
 use Rattle.std.specs.List.{All, sum_by, take-map}
 use Rattle.std.proofs.Math.ListN.{get_or-map}
 use Rattle.std.proofs.Math.Seq.{get_or-append_seam}
@@ -12,10 +12,10 @@ use Rattle.run_spool.specs.Bytes.{pair_size}
 use Rattle.run_spool.specs.Pages.{PageValue, no_page, with_pair}
 use Rattle.run_spool.specs.Frames.{page_in, last_page, with_last}
 use Rattle.run_spool.specs.Runs.{pairs_of, pages_in, HasPairs, without_pairs}
-use Rattle.run_spool.specs.PlainSpools.{IsPacked, IsSpool, run_pages}
+use Rattle.run_spool.specs.PlainSpools.{SpoolValue, with_freed, without_runs, IsPacked, IsSpool, run_pages}
 use Rattle.run_spool.specs.Spools.{NoneEmpty}
 use Rattle.run_spool.proofs.Chains.{pages_append, count_append, count_one, count_last}
-use Rattle.run_spool.proofs.RunSteps.{without_all, given_more}
+use Rattle.run_spool.proofs.RunSteps.{fewer_pages, without_all, given_more}
 
 count_le_size : (ps : List Pair) → length ps ≤ sum_by pair_size ps
 count_le_size [] = omega arith
@@ -152,10 +152,6 @@ pushed_new {account = account} {runs = runs} {chain = chain} {len = len} pair le
       open_fits = λ (_ : 0 < length new). omega arith;
     }
 
--- a run among others
-pub none_empty_more : (runs : List (List PageValue)) (run : List PageValue) → NoneEmpty runs → 0 < length run → NoneEmpty (runs ++ run ∷ [])
-none_empty_more runs run some lt = All-push (λ r. 0 < length r) runs run some lt
-
 -- the fields of a spool whose last run has given its pages back
 pub run_ended : {account : AccountValue} {spare : ℕ} {runs : List (List PageValue)} {capacity : ℕ} {chain : List (Option PageValue)} {len : ℕ}
     (given : AccountValue) (left : ℕ) (rest : List (List PageValue)) (run after : List PageValue) (room n : ℕ) → IsSpool account spare runs capacity chain len →
@@ -187,6 +183,7 @@ run_ended {runs = runs} {chain = chain} given left rest run after room n s is sa
 -- a spool that has ended
 pub record Ended (start given : AccountValue) (left : ℕ) (runs : List (List PageValue)) (room : ℕ) (chain : List (Option PageValue)) : Type 0 where
   pub spool : IsSpool given left runs room chain 0
+  pub none : runs ≡ []
   pub chain_is : pages_in chain ≡ []
   pub whole : given ≡ with_free start start.quota
 
@@ -210,7 +207,8 @@ open_ended {account = account} {runs = runs} {chain = chain} {len = len} start g
     let empty : runs ≡ [] = none_left runs no_runs in
     let pages = ap run_pages empty in
     let few = ap (λ (xs : List (List PageValue)). length xs) same_runs ∙ length-append rest [] in
-    let none_rest = ap run_pages (none_left rest (omega arith)) in
+    let no_rest : rest ≡ [] = none_left rest (omega arith) in
+    let none_rest = ap run_pages no_rest in
     let quota = ap (λ (a : AccountValue). a.quota) kept in
     let quota2 = ap (λ (a : AccountValue). a.quota) from in
     let law = s.law in
@@ -230,6 +228,29 @@ open_ended {account = account} {runs = runs} {chain = chain} {len = len} start g
         fits = omega arith;
         open_fits = λ (lt : 0 < length new). absurd (omega arith);
       };
+      none = no_rest;
       chain_is = none;
       whole = given_more start account given given.free kept from ∙ ap (with_free start) all;
     }
+
+-- a spool of which pairs of a run were let go
+pub freed_spool :
+    (spool : SpoolValue) (i n : ℕ) (run after : List PageValue) (account : AccountValue)
+    → run ≡ get_or spool.runs i [] → after ≡ without_pairs n run → account ≡ with_free spool.account account.free
+    → account.free + length after ≡ spool.account.free + length run
+    → record { runs = set spool.runs i after; open_run = spool.open_run; account = account } ≡ with_freed spool i n
+freed_spool spool i n run after account is gone kept counted =
+    let here : after ≡ without_pairs n (get_or spool.runs i []) = gone ∙ ap (without_pairs n) is in
+    let few = fewer_pages run n in
+    let free : account.free ≡ spool.account.free + (length (get_or spool.runs i []) - length (without_pairs n (get_or spool.runs i []))) =
+    rw (← is, ← gone) (omega (arith, counted, ap length gone, few)) in
+    let made : List PageValue → AccountValue → SpoolValue = λ pages a. record { runs = set spool.runs i pages; open_run = spool.open_run; account = a } in
+    ap (λ pages. made pages account) here ∙ ap (made (without_pairs n (get_or spool.runs i []))) (kept ∙ ap (with_free spool.account) free)
+
+pub ended_spool :
+    (spool : SpoolValue) (runs : List (List PageValue)) (chain : List (Option PageValue)) (account : AccountValue)
+    → runs ≡ [] → pages_in chain ≡ [] → account ≡ with_free spool.account spool.account.quota
+    → record { runs = runs; open_run = pages_in chain; account = account } ≡ without_runs spool
+ended_spool spool runs chain account none empty whole =
+    let made : List (List PageValue) → List PageValue → AccountValue → SpoolValue = λ r o a. record { runs = r; open_run = o; account = a } in
+    ap (λ r. made r (pages_in chain) account) none ∙ ap (λ o. made [] o account) empty ∙ ap (made [] []) whole

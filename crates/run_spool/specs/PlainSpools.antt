@@ -1,11 +1,11 @@
 -- A plain spool as its callers see it.
-use Rattle.std.specs.Prelude.{ℕ, ◌+◌, ◌-◌, ◌^◌, ◌≤◌, ◌<◌, ◌≡◌, nat_lt, if◌then◌else◌, List, [], ◌∷◌, ◌++◌, length, map, Option, take, get_or}
+use Rattle.std.specs.Prelude.{ℕ, ◌+◌, ◌-◌, ◌^◌, ◌≤◌, ◌<◌, ◌≡◌, nat_lt, if◌then◌else◌, List, [], ◌∷◌, ◌++◌, length, map, Option, take, get_or, set}
 use Rattle.std.specs.List.{All, sum_by}
 use Rattle.spool_ledger.specs.Accounts.{AccountValue, with_free}
 use Rattle.keybytes.specs.declared.pair.Pair.{Pair}
 use Rattle.run_spool.specs.Bytes.{pair_size}
 use Rattle.run_spool.specs.Pages.{PageValue, no_page, with_pair}
-use Rattle.run_spool.specs.Runs.{pairs_of, pages_in, HasPairs}
+use Rattle.run_spool.specs.Runs.{pairs_of, pages_in, without_pairs, HasPairs}
 use Rattle.run_spool.specs.Spools.{with_closed_run}
 
 -- the closed runs and the open one, each as its pages, and the account behind them
@@ -57,12 +57,33 @@ with_pushed spool pair =
     else record { runs = spool.runs; open_run = on_last spool.open_run pair; account = spool.account }
 
 -- the spool with its open run closed
-abbrev pub with_run : SpoolValue → SpoolValue
-with_run spool = record { runs = with_closed_run spool.runs spool.open_run; open_run = []; account = spool.account }
+abbrev pub with_run_closed : SpoolValue → SpoolValue
+with_run_closed spool = record { runs = with_closed_run spool.runs spool.open_run; open_run = []; account = spool.account }
+
+-- the spool without the first n pairs of a closed run: the pages on which none is left are free again
+abbrev pub with_freed : SpoolValue → ℕ → ℕ → SpoolValue
+with_freed spool i n =
+    let run = get_or spool.runs i [] in
+    let after = without_pairs n run in
+    record {
+      runs = set spool.runs i after;
+      open_run = spool.open_run;
+      account = with_free spool.account (spool.account.free + (length run - length after));
+    }
+
+-- the spool with all its pages given back
+abbrev pub without_runs : SpoolValue → SpoolValue
+without_runs spool = new_spool (with_free spool.account spool.account.quota)
 
 -- the pairs of a page and what is free behind them are the whole page
 abbrev pub IsPacked : PageValue → Type 0
 IsPacked page = sum_by pair_size page.pairs + page.room ≡ 4096
+
+-- what every plain spool keeps: its account's quota is the free pages and those of its runs, and each page of the open run is packed
+pub record IsPlainSpool (spool : SpoolValue) : Type 0 where
+  pub law : spool.account.free + run_pages spool.runs + length spool.open_run ≡ spool.account.quota
+  pub each : All HasPairs spool.open_run
+  pub packed : All IsPacked spool.open_run
 
 -- the fields of a spool
 pub record IsSpool (account : AccountValue) (spare : ℕ) (runs : List (List PageValue)) (capacity : ℕ) (open_run : List (Option PageValue)) (open_len : ℕ) : Type 0 where

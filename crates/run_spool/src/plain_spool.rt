@@ -1,10 +1,9 @@
 ghost use Rattle.std.specs.Prelude.{◌≡◌, ◌+◌, ◌-◌, ◌^◌, ◌<◌, ◌≤◌, ◌++◌, ◌∷◌, ◌↔◌, []};
 ghost use Rattle.std.specs.Prelude.{length, drop, get_or, set, Some, IfOk, IfErr, OnErr, IsTrue};
-ghost use Rattle.std.specs.List.{All};
 ghost use Rattle.spool_ledger.specs.Accounts.{new_account, with_free, IsWhole};
 ghost use Rattle.run_spool.specs.Pages.{IsPairAt};
-ghost use Rattle.run_spool.specs.Runs.{pairs_of, without_pairs, HasPairs};
-ghost use Rattle.run_spool.specs.PlainSpools.{new_spool, with_pushed, with_run, IsFull, IsPacked};
+ghost use Rattle.run_spool.specs.Runs.{pairs_of};
+ghost use Rattle.run_spool.specs.PlainSpools.{new_spool, with_pushed, with_run_closed, with_freed, without_runs, IsFull, IsPlainSpool};
 ghost use Rattle.run_spool.specs.Spools.{NoneEmpty};
 
 use crate::Spool;
@@ -68,6 +67,13 @@ impl PlainSpool {
         })
     }
 
+    /// Does nothing: its clause tells what every plain spool keeps.
+    pub fn laws(&self)
+        ensures { IsPlainSpool self.now }
+    {
+        let _kept = self.open_len;
+    }
+
     /// Whether there is no closed run, and no pair in the open run.
     pub fn is_empty(&self) -> bool
         ensures { IsTrue result ↔ ((self.now.runs ≡ []) × (pairs_of self.now.open_run ≡ [])) }
@@ -85,7 +91,6 @@ impl PlainSpool {
         ensures back { IfErr result (λ refused. (refused.0 ≡ pair) × (refused.1 ≡ Fault.NoPage)) }
         ensures same { OnErr result (self.new ≡ self.old) }
         ensures runs { self.new.runs ≡ self.old.runs }
-        ensures packed { All IsPacked self.old.open_run }
     {
         if FIXED_SIZE + pair.key.bytes().len() <= room_left(&self.open_run) {
             push_pair(&mut self.open_run, &pair);
@@ -107,9 +112,7 @@ impl PlainSpool {
 
     /// Closes the open run, if it has a pair.
     pub fn end_run(&mut self)
-        ensures closed { self.new ≡ with_run self.old }
-        ensures sound { All HasPairs self.old.open_run }
-        ensures none_empty { NoneEmpty self.old.runs → NoneEmpty self.new.runs }
+        ensures { self.new ≡ with_run_closed self.old }
     {
         if self.open_run.is_empty() {
             return;
@@ -151,11 +154,7 @@ impl PlainSpool {
     pub fn free_front(&mut self, i: usize, n: usize)
         requires run { i < length self.old.runs }
         requires pairs { n ≤ length (pairs_of (get_or self.old.runs i [])) }
-        ensures runs { self.new.runs ≡ set self.old.runs i (without_pairs n (get_or self.old.runs i [])) }
-        ensures open_run { self.new.open_run ≡ self.old.open_run }
-        ensures account { self.new.account ≡ with_free self.old.account self.new.account.free }
-        ensures law { self.new.account.free + length (get_or self.new.runs i [])
-            ≡ self.old.account.free + length (get_or self.old.runs i []) }
+        ensures { self.new ≡ with_freed self.old i n }
     {
         let run = &mut self.runs[i];
         run.free_front(n, &mut self.account, &mut self.spare);
@@ -163,9 +162,7 @@ impl PlainSpool {
 
     /// Gives every page back to the account, with all runs and pairs.
     pub fn end(&mut self)
-        ensures runs { self.new.runs ≡ [] }
-        ensures open_run { self.new.open_run ≡ [] }
-        ensures account { self.new.account ≡ with_free self.old.account self.old.account.quota }
+        ensures { self.new ≡ without_runs self.old }
     {
         while let Some(mut run) = self.runs.pop() {
             let len = run.len();
@@ -220,6 +217,7 @@ impl Spool for PlainSpool {
     }
 
     fn end_run(&mut self) {
+        self.laws();
         PlainSpool::end_run(self)
     }
 

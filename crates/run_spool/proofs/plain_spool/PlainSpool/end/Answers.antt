@@ -1,6 +1,6 @@
 use Rattle.std.proofs.Common.{length, arith, vec_capacity}
 use Rattle.run_spool.proofs.RunSteps.{given_more}
-use Rattle.run_spool.proofs.SpoolSteps.{run_ended, open_ended}
+use Rattle.run_spool.proofs.SpoolSteps.{run_ended, open_ended, ended_spool}
 use Rattle.run_spool.proofs.plain_spool.PlainSpool.end.Goals as goal
 
 pub loop-run-preserved : goal.loop-run-preserved
@@ -19,26 +19,18 @@ invariant_of-self c =
     let d = c.in_default.ensures in
     let f = c.free_first.ensures in
     let none = d.cases.0 in
-    let e = open_ended c.args.self.now.account c.free_first.new.account (length c.free_first.new.spare) c.free_first.new.chain c.pop.new.self.items (vec_capacity c.pop.new.self)
-    i.0 (omega arith) d.items d.capacity i.1 f.chain f.given f.account f.frames in
+    let e =
+    open_ended c.args.self.now.account c.free_first.new.account (length c.free_first.new.spare) c.free_first.new.chain c.pop.new.self.items
+    (vec_capacity c.pop.new.self) i.0 (omega arith) d.items d.capacity i.1 f.chain f.given f.account f.frames in
     e.spool
 
-pub returns-clause-open_run : goal.returns-clause-open_run
-returns-clause-open_run c =
+pub returns : goal.returns
+returns c =
     let i = c.loop-run.invariant in
     let d = c.in_default.ensures in
     let f = c.free_first.ensures in
     let none = d.cases.0 in
-    let e = open_ended c.args.self.now.account c.free_first.new.account (length c.free_first.new.spare) c.free_first.new.chain c.pop.new.self.items (vec_capacity c.pop.new.self)
-    i.0 (omega arith) d.items d.capacity i.1 f.chain f.given f.account f.frames in
-    e.chain_is
-
-pub returns-clause-account : goal.returns-clause-account
-returns-clause-account c =
-    let i = c.loop-run.invariant in
-    let d = c.in_default.ensures in
-    let f = c.free_first.ensures in
-    let none = d.cases.0 in
-    let e = open_ended c.args.self.now.account c.free_first.new.account (length c.free_first.new.spare) c.free_first.new.chain c.pop.new.self.items (vec_capacity c.pop.new.self)
-    i.0 (omega arith) d.items d.capacity i.1 f.chain f.given f.account f.frames in
-    e.whole
+    let e =
+    open_ended c.args.self.now.account c.free_first.new.account (length c.free_first.new.spare) c.free_first.new.chain c.pop.new.self.items
+    (vec_capacity c.pop.new.self) i.0 (omega arith) d.items d.capacity i.1 f.chain f.given f.account f.frames in
+    ended_spool c.args.self.now c.pop.new.self.items c.free_first.new.chain c.free_first.new.account e.none e.chain_is e.whole

@@ -7,4 +7,4 @@ use Rattle.run_spool.proofs.plain_spool.PlainSpoolSpool.end_run.Goals as goal
 
 pub returns-clause-runs : goal.returns-clause-runs
 returns-clause-runs c =
-    ap (λ (s : SpoolValue). map pairs_of s.runs) c.end_run.ensures.closed ∙ closed_pairs c.args.self.now.runs c.args.self.now.open_run c.end_run.ensures.sound
+    ap (λ (s : SpoolValue). map pairs_of s.runs) c.end_run.ensures ∙ closed_pairs c.args.self.now.runs c.args.self.now.open_run c.laws.ensures.each
