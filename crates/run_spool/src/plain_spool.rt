@@ -92,22 +92,15 @@ impl PlainSpool {
         ensures same { OnErr result (self.new ≡ self.old) }
         ensures runs { self.new.runs ≡ self.old.runs }
     {
-        if FIXED_SIZE + pair.key.bytes().len() <= room_left(&self.open_run) {
-            push_pair(&mut self.open_run, &pair);
-            drop(pair);
-            self.open_len += 1;
-            return Ok(());
+        if room_left(&self.open_run) < FIXED_SIZE + pair.key.bytes().len() {
+            let Ok(page) = self.account.lease() else {
+                return Err((pair, Fault::NoPage));
+            };
+            add_page(&mut self.spare, &mut self.open_run, page);
         }
-        match self.account.lease() {
-            Ok(page) => {
-                add_page(&mut self.spare, &mut self.open_run, page);
-                push_pair(&mut self.open_run, &pair);
-                drop(pair);
-                self.open_len += 1;
-                Ok(())
-            }
-            Err(fault) => Err((pair, fault)),
-        }
+        push_pair(&mut self.open_run, &pair);
+        self.open_len += 1;
+        Ok(())
     }
 
     /// Closes the open run, if it has a pair.
