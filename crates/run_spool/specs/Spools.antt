@@ -1,5 +1,5 @@
 -- Spools of every kind.
-use Rattle.std.specs.Prelude.{[], ◌∷◌, ◌++◌, ◌<◌, List, All, length, Option, option_map}
+use Rattle.std.specs.Prelude.{[], ◌∷◌, ◌++◌, ◌<◌, List, All, length, Option, option_map, filter_map}
 use Rattle.spool_ledger.specs.Accounts.{Stake}
 
 -- the closed runs with the open one behind them, if it has anything
@@ -10,6 +10,10 @@ with_closed_run runs (first ∷ run) = runs ++ (first ∷ run) ∷ []
 -- no closed run is empty
 abbrev pub NoneEmpty : {X : Type 0} → List (List X) → Type 0
 NoneEmpty runs = All (λ run. 0 < length run) runs
+
+-- the stakes that there are
+abbrev pub stakes_in : List (Option Stake) → List Stake
+stakes_in stakes = filter_map (λ stake. stake) stakes
 
 -- the same pool, with no page
 abbrev pub without_pages : Option Stake → Option Stake

@@ -6,7 +6,7 @@
 //! who works with spools is generic in the kind, or takes `Box<dyn Spool + Send>`.
 //!
 //! No drop of a box tells its owner anything. So a spool owns its account, [`Spool::end`] gives every page back to it, and
-//! [`Spool::take_account`] hands it over with all its pages.
+//! [`Spool::take_account`] hands it over with all its pages; [`give_up`] does both.
 //!
 //! A plain spool takes all its memory when it is made: pages move from frame to frame, and no frame or run needs memory
 //! later on.
@@ -15,11 +15,13 @@
 mod area;
 mod boxed;
 mod frames;
+mod giving_up;
 mod marks;
 mod page;
 mod plain_spool;
 mod run;
 mod spool;
 
+pub use giving_up::{give_up, give_up_all};
 pub use plain_spool::PlainSpool;
 pub use spool::Spool;

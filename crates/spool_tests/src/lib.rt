@@ -3,3 +3,5 @@
 
 #[cfg(test)]
 mod pools;
+#[cfg(test)]
+mod spools;
