@@ -29,7 +29,8 @@ pub count_append : (a b : List (Option PageValue)) → length (pairs_of (pages_i
 count_append a b = ap length (pairs_append a b) ∙ length-append (pairs_of (pages_in a)) (pairs_of (pages_in b))
 
 -- the pairs on the first page and on the others
-pub count_first : (x : Option PageValue) (xs : List (Option PageValue)) → length (pairs_of (pages_in (x ∷ xs))) ≡ length (page_in x).pairs + length (pairs_of (pages_in xs))
+pub count_first : (x : Option PageValue) (xs : List (Option PageValue))
+    → length (pairs_of (pages_in (x ∷ xs))) ≡ length (page_in x).pairs + length (pairs_of (pages_in xs))
 count_first x xs = length-append (page_in x).pairs (pairs_of (pages_in xs))
 
 pub count_one : (x : Option PageValue) → length (pairs_of (pages_in (x ∷ []))) ≡ length (page_in x).pairs
@@ -39,6 +40,7 @@ count_one x = omega (arith, count_first x [])
 pub count_last : (xs : List (Option PageValue)) (n : ℕ) → n + 1 ≡ length xs →
     length (pairs_of (pages_in xs)) ≡ length (pairs_of (pages_in (take n xs))) + length (page_in (get_or xs n None)).pairs
 count_last xs n e =
-    let split : xs ≡ take n xs ++ get_or xs n None ∷ [] = sym (take-append-drop n xs) ∙ ap (λ (ys : List (Option PageValue)). take n xs ++ ys) (drop_last xs n None e) in
+    let split : xs ≡ take n xs ++ get_or xs n None ∷ [] = sym (take-append-drop n xs)
+    ∙ ap (λ (ys : List (Option PageValue)). take n xs ++ ys) (drop_last xs n None e) in
     ap (λ (ys : List (Option PageValue)). length (pairs_of (pages_in ys))) split
     ∙ omega (arith, count_append (take n xs) (get_or xs n None ∷ []), count_one (get_or xs n None))

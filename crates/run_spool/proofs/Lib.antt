@@ -1,3 +1,4 @@
+pub mod Closings
 pub mod Writes
 pub mod Stores
 pub mod Marked

@@ -71,7 +71,8 @@ pub record Freed (bytes : List ℕ) (m : Marks) (n at : ℕ) : Type 0 where
   pub page : IsPage bytes (record { start = at; end = m.end; count = m.count - n; cursor = 0; offset = at })
   pub pairs : read_pairs (m.count - n) (drop at bytes) ≡ drop n (pairs_at bytes m)
 
-pub freed : {bytes b : List ℕ} {m : Marks} {n at : ℕ} → IsPage bytes m → n ≤ m.count → b ≡ bytes → Stored b at m.end (drop n (pairs_at b m)) → Freed bytes m n at
+pub freed : {bytes b : List ℕ} {m : Marks} {n at : ℕ} → IsPage bytes m → n ≤ m.count → b ≡ bytes → Stored b at m.end (drop n (pairs_at b m))
+    → Freed bytes m n at
 freed {bytes = bytes} {m = m} {n = n} {at = at} h le same found =
     let there = subst (λ (xs : List ℕ). Stored xs at m.end (drop n (pairs_at xs m))) same found in
     let count : m.count - n ≡ length (drop n (pairs_at bytes m)) = omega (arith, length-drop n (pairs_at bytes m), pairs_count bytes m) in
@@ -88,7 +89,8 @@ pub record Found (bytes b : List ℕ) (m : Marks) (n at : ℕ) : Type 0 where
   pub short : first_length (drop at b) ≤ 812
   pub pair : (d : Pair) → first_pair (drop at b) ≡ get_or (pairs_at bytes m) n d
 
-pub found : {bytes b : List ℕ} {m : Marks} {n at : ℕ} → IsPage bytes m → n < m.count → b ≡ bytes → Stored b at m.end (drop n (pairs_at b m)) → Found bytes b m n at
+pub found : {bytes b : List ℕ} {m : Marks} {n at : ℕ} → IsPage bytes m → n < m.count → b ≡ bytes → Stored b at m.end (drop n (pairs_at b m))
+    → Found bytes b m n at
 found {bytes = bytes} {b = b} {m = m} {n = n} {at = at} h lt same there =
     let ps = pairs_at b m in
     let count = pairs_count b m in
@@ -100,7 +102,10 @@ found {bytes = bytes} {b = b} {m = m} {n = n} {at = at} h lt same there =
       page = record { stored = h.stored; reached = omega arith; ahead = here };
       within = omega arith;
       short = one.short;
-      pair = λ (d2 : Pair). (let two = step_at b at m.end ps n d2 (omega arith) there in two.pair_is ∙ ap (λ (xs : List ℕ). get_or (pairs_at xs m) n d2) same);
+      pair = λ (d2 : Pair). (
+          let two = step_at b at m.end ps n d2 (omega arith) there in
+          two.pair_is ∙ ap (λ (xs : List ℕ). get_or (pairs_at xs m) n d2) same
+          );
     }
 
 -- a pair by its parts

@@ -27,7 +27,8 @@ pub no_runs : (runs : List (List PageValue)) → map pairs_of runs ≡ [] → ru
 no_runs [] e = refl
 no_runs (r ∷ rs) e = cc
 
-pub freed_runs : (runs : List (List PageValue)) (i n : ℕ) → map pairs_of (set runs i (without_pairs n (get_or runs i []))) ≡ set (map pairs_of runs) i (drop n (get_or (map pairs_of runs) i []))
+pub freed_runs : (runs : List (List PageValue)) (i n : ℕ)
+    → map pairs_of (set runs i (without_pairs n (get_or runs i []))) ≡ set (map pairs_of runs) i (drop n (get_or (map pairs_of runs) i []))
 freed_runs runs i n =
     map-set pairs_of runs i (without_pairs n (get_or runs i []))
     ∙ ap (set (map pairs_of runs) i) (pairs_without (get_or runs i []) n ∙ ap (drop n) (sym (get_or-map pairs_of runs i [])))

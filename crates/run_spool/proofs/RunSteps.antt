@@ -1,5 +1,6 @@
 -- The steps of a walk over the pages of a run.
-use Rattle.std.proofs.Common.{◌≡◌, ℕ, ◌+◌, ◌-◌, ◌≤◌, ◌<◌, List, [], ◌∷◌, ◌++◌, length, take, drop, refl, sym, ap, ◌∙◌, subst, arith, append_assoc, Option, ltb, inl, inr}
+use Rattle.std.proofs.Common.{◌≡◌, ℕ, ◌+◌, ◌-◌, ◌≤◌, ◌<◌, List, [], ◌∷◌, ◌++◌, length, take, drop, refl, sym, ap, ◌∙◌, subst, arith, append_assoc}
+use Rattle.std.proofs.Common.{Option, ltb, inl, inr}
 use Rattle.std.specs.List.{All}
 use Rattle.std.proofs.lemmas.Bool.{lt-ltb, le-ltb, cond-true, cases_lt}
 use Rattle.std.proofs.lemmas.List.{take-append-drop, length-append, length-map, length-drop, length-take-le, drop_all, drop_at, drop-drop, drop-append-le}
@@ -59,7 +60,8 @@ pub record Forth (passed ahead : List (Option PageValue)) (before len : ℕ) : T
   pub run : IsRun (passed ++ take 1 ahead) (drop 1 ahead) (before + length (first_page ahead).pairs) len
   pub nearer : length (drop 1 ahead) < length ahead
 
-pub forth : {passed : List (Option PageValue)} {before len : ℕ} (ahead : List (Option PageValue)) → IsRun passed ahead before len → before < len → Forth passed ahead before len
+pub forth : {passed : List (Option PageValue)} {before len : ℕ} (ahead : List (Option PageValue)) → IsRun passed ahead before len → before < len
+    → Forth passed ahead before len
 forth {passed = passed} {before = before} {len = len} [] run lt =
     let is = run.before_is in
     let all = run.len_is in
@@ -77,14 +79,17 @@ forth {passed = passed} {before = before} {len = len} (x ∷ xs) run lt =
 -- pages that each have a pair lose none where no pair is let go
 pub without_none : (run : List PageValue) → All HasPairs run → without_pairs 0 run ≡ run
 without_none [] each = refl
-without_none (p ∷ ps) each = cond-true (ltb 0 (length p.pairs)) (p ∷ ps) (without_pairs (0 - length p.pairs) ps) (lt-ltb 0 (length p.pairs) (All-head HasPairs p ps each))
+without_none (p ∷ ps) each =
+    cond-true (ltb 0 (length p.pairs)) (p ∷ ps) (without_pairs (0 - length p.pairs) ps) (lt-ltb 0 (length p.pairs) (All-head HasPairs p ps each))
 
 -- the last step of letting pairs go, on a page that keeps some
 pub free_part : (chain : List (Option PageValue)) (left : ℕ) → left < length (first_page chain).pairs →
     pages_in (with_first chain (without_first (first_page chain) left)) ≡ without_pairs left (pages_in chain)
 free_part [] left lt = absurd (omega arith)
 free_part (x ∷ xs) left lt =
-    sym (cond-true (ltb left (length (page_in x).pairs)) (without_first (page_in x) left ∷ pages_in xs) (without_pairs (left - length (page_in x).pairs) (pages_in xs)) (lt-ltb left (length (page_in x).pairs) lt))
+    let page = page_in x in
+    let less = without_pairs (left - length page.pairs) (pages_in xs) in
+    sym (cond-true (ltb left (length page.pairs)) (without_first page left ∷ pages_in xs) less (lt-ltb left (length page.pairs) lt))
 
 -- a step of letting pairs go, by a whole page
 pub record FreeWhole (chain : List (Option PageValue)) (left : ℕ) : Type 0 where
@@ -95,7 +100,8 @@ pub record FreeWhole (chain : List (Option PageValue)) (left : ℕ) : Type 0 whe
   pub each : All HasPairs (pages_in (drop 1 chain))
   pub shorter : length (drop 1 chain) + 1 ≡ length chain
 
-pub free_whole : (chain : List (Option PageValue)) (left : ℕ) → 0 < left → length (first_page chain).pairs ≤ left → left ≤ length (pairs_of (pages_in chain)) →
+pub free_whole : (chain : List (Option PageValue)) (left : ℕ) → 0 < left → length (first_page chain).pairs ≤ left →
+    left ≤ length (pairs_of (pages_in chain)) →
     All HasPairs (pages_in chain) → FreeWhole chain left
 free_whole [] left lt le all each = absurd (omega arith)
 free_whole (x ∷ xs) left lt le all each = record {
@@ -117,7 +123,9 @@ pairs_without (p ∷ ps) n =
       | inr le ↦
           (let m = n - length p.pairs in
           let e : length p.pairs + m ≡ n = omega arith in
-          rw (le-ltb n (length p.pairs) le) (pairs_without ps m ∙ ap (drop m) (sym (drop_at p.pairs (pairs_of ps) (length p.pairs) refl)) ∙ drop-drop m (length p.pairs) (p.pairs ++ pairs_of ps) ∙ ap (λ (k : ℕ). drop k (p.pairs ++ pairs_of ps)) e))
+          rw (le-ltb n (length p.pairs) le)
+          (pairs_without ps m ∙ ap (drop m) (sym (drop_at p.pairs (pairs_of ps) (length p.pairs) refl))
+          ∙ drop-drop m (length p.pairs) (p.pairs ++ pairs_of ps) ∙ ap (λ (k : ℕ). drop k (p.pairs ++ pairs_of ps)) e))
     ]
 
 -- each page of it has a pair
@@ -144,7 +152,8 @@ pub given_more : (a b c : AccountValue) (n : ℕ) → c ≡ with_free b n → b 
 given_more a b c n e f = e ∙ ap (λ (x : AccountValue). with_free x n) f ∙ ap (with_free a) (sym (ap (λ (x : AccountValue). x.free) e))
 
 -- a run without its first n pairs, which has all its pages ahead
-pub freed_run : {passed ahead : List (Option PageValue)} {before len : ℕ} (n : ℕ) (none chain : List (Option PageValue)) → IsRun passed ahead before len → n ≤ len →
+pub freed_run : {passed ahead : List (Option PageValue)} {before len : ℕ} (n : ℕ) (none chain : List (Option PageValue))
+    → IsRun passed ahead before len → n ≤ len →
     none ≡ [] → pages_in chain ≡ without_pairs n (pages_in (passed ++ ahead)) → IsRun none chain 0 (len - n)
 freed_run {passed = passed} {ahead = ahead} {len = len} n none chain run le is_none pages =
     let small = run.small in

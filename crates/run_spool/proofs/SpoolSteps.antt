@@ -1,5 +1,6 @@
 -- Pairs pushed into a spool.
-use Rattle.std.proofs.Common.{◌≡◌, ℕ, ◌+◌, ◌-◌, ◌*◌, ◌≤◌, ◌<◌, List, [], ◌∷◌, ◌++◌, length, get_or, set, take, refl, sym, ap, ◌∙◌, subst, arith, Option, Some, None}
+use Rattle.std.proofs.Common.{◌≡◌, ℕ, ◌+◌, ◌-◌, ◌*◌, ◌≤◌, ◌<◌, List, [], ◌∷◌, ◌++◌, length, get_or, set, take, refl, sym, ap, ◌∙◌, subst, arith}
+use Rattle.std.proofs.Common.{Option, Some, None}
 use Rattle.std.specs.List.{All, sum_by, take-map}
 use Rattle.std.proofs.Math.ListN.{get_or-map}
 use Rattle.std.proofs.Math.Seq.{get_or-append_seam}
@@ -35,7 +36,8 @@ pub record Opened (chain front : List (Option PageValue)) (last : PageValue) : T
   pub each : All HasPairs (pages_in chain)
   pub packed : All IsPacked (pages_in chain)
 
-pub opened : (chain front : List (Option PageValue)) (last : PageValue) (pair : Pair) → chain ≡ front ++ Some (with_pair last pair) ∷ [] → All HasPairs (pages_in front) →
+pub opened : (chain front : List (Option PageValue)) (last : PageValue) (pair : Pair) → chain ≡ front ++ Some (with_pair last pair) ∷ []
+    → All HasPairs (pages_in front) →
     All IsPacked (pages_in front) → IsPacked last → pair_size pair ≤ last.room → Opened chain front last
 opened chain front last pair is each packed good fits =
     let page = with_pair last pair in
@@ -64,7 +66,8 @@ some_chain : (chain : List (Option PageValue)) → 0 < (last_page chain).room �
 some_chain [] lt = absurd (omega arith)
 some_chain (x ∷ xs) lt = omega arith
 
-pub last_of_chain : (chain : List (Option PageValue)) → 0 < (last_page chain).room → All HasPairs (pages_in chain) → All IsPacked (pages_in chain) → Last chain
+pub last_of_chain :
+    (chain : List (Option PageValue)) → 0 < (last_page chain).room → All HasPairs (pages_in chain) → All IsPacked (pages_in chain) → Last chain
 last_of_chain chain lt each packed =
     let there = some_chain chain lt in
     let k = length chain - 1 in
@@ -114,7 +117,8 @@ pushed_last {chain = chain} pair new s fits is =
 
 -- the fields of a spool after a pair was written on a new page
 pub pushed_new : {account : AccountValue} {spare : ℕ} {runs : List (List PageValue)} {capacity : ℕ} {chain : List (Option PageValue)} {len : ℕ} (pair : Pair)
-    (leased : AccountValue) (left : ℕ) (one new : List (Option PageValue)) → IsSpool account spare runs capacity chain len → pair_size pair ≤ 4096 → NoneEmpty runs →
+    (leased : AccountValue) (left : ℕ) (one new : List (Option PageValue)) → IsSpool account spare runs capacity chain len → pair_size pair ≤ 4096
+    → NoneEmpty runs →
     0 < account.free → leased ≡ with_free account (account.free - 1) → left + 1 ≡ spare → one ≡ chain ++ Some (record { pairs = []; room = 4096 }) ∷ [] →
     new ≡ with_last one (with_pair (last_page one) pair) → IsSpool leased left runs capacity new (len + 1)
 pushed_new {account = account} {runs = runs} {chain = chain} {len = len} pair leased left one new s fits some there is_leased is_left is_one is_new =
@@ -154,8 +158,10 @@ pushed_new {account = account} {runs = runs} {chain = chain} {len = len} pair le
 
 -- the fields of a spool whose last run has given its pages back
 pub run_ended : {account : AccountValue} {spare : ℕ} {runs : List (List PageValue)} {capacity : ℕ} {chain : List (Option PageValue)} {len : ℕ}
-    (given : AccountValue) (left : ℕ) (rest : List (List PageValue)) (run after : List PageValue) (room n : ℕ) → IsSpool account spare runs capacity chain len →
-    runs ≡ rest ++ run ∷ [] → room ≡ capacity → n ≡ length (pairs_of run) → after ≡ without_pairs n run → given.free + length after ≡ account.free + length run →
+    (given : AccountValue) (left : ℕ) (rest : List (List PageValue)) (run after : List PageValue) (room n : ℕ) →
+    IsSpool account spare runs capacity chain len →
+    runs ≡ rest ++ run ∷ [] → room ≡ capacity → n ≡ length (pairs_of run) → after ≡ without_pairs n run
+    → given.free + length after ≡ account.free + length run →
     given ≡ with_free account given.free → left + length after ≡ spare + length run → IsSpool given left rest room chain len
 run_ended {runs = runs} {chain = chain} given left rest run after room n s is same all gone count kept frames =
     let none = ap (λ (xs : List PageValue). length xs) (gone ∙ without_all run n all) in
@@ -196,17 +202,18 @@ none_there [] e = refl
 none_there (x ∷ xs) e = cc
 
 pub open_ended : {account : AccountValue} {spare : ℕ} {runs : List (List PageValue)} {capacity : ℕ} {chain : List (Option PageValue)} {len : ℕ}
-    (start given : AccountValue) (left : ℕ) (new : List (Option PageValue)) (rest : List (List PageValue)) (room : ℕ) → IsSpool account spare runs capacity chain len →
+    (start given : AccountValue) (left : ℕ) (new : List (Option PageValue)) (rest : List (List PageValue)) (room : ℕ)
+    → IsSpool account spare runs capacity chain len →
     length runs ≡ 0 → runs ≡ rest ++ [] → room ≡ capacity → account ≡ with_free start account.free →
     pages_in new ≡ without_pairs len (pages_in chain) → given.free + length new ≡ account.free + length chain →
     given ≡ with_free account given.free → left + length new ≡ spare + length chain → Ended start given left rest room new
-open_ended {account = account} {runs = runs} {chain = chain} {len = len} start given left new rest room s no_runs same_runs same_room from gone count kept frames =
+open_ended {account = account} {runs = runs} {chain = chain} {len = len} start given left new rest room s no_runs runs_is room_is from gone count kept frames =
     let none : pages_in new ≡ [] = gone ∙ without_all (pages_in chain) len s.open_len_is in
     let no_frame : new ≡ [] = none_there new none in
     let long = ap (λ (xs : List (Option PageValue)). length xs) no_frame in
     let empty : runs ≡ [] = none_left runs no_runs in
     let pages = ap run_pages empty in
-    let few = ap (λ (xs : List (List PageValue)). length xs) same_runs ∙ length-append rest [] in
+    let few = ap (λ (xs : List (List PageValue)). length xs) runs_is ∙ length-append rest [] in
     let no_rest : rest ≡ [] = none_left rest (omega arith) in
     let none_rest = ap run_pages no_rest in
     let quota = ap (λ (a : AccountValue). a.quota) kept in

@@ -171,11 +171,12 @@ pub pair_written : (p : Pair) (at : ℕ) (bytes one two three length_bytes key r
     length_bytes ≡ big_bytes 2 (length key) → rid ≡ big_bytes 4 p.rid.page ++ big_bytes 2 p.rid.slot →
     one ≡ overwritten at length_bytes bytes → two ≡ overwritten (at + 2) key one → three ≡ overwritten (at + 2 + length key) rid two →
     three ≡ overwritten at (pair_bytes p) bytes
+unfolding rid_bytes
 pair_written p at bytes one two three length_bytes key rid fits k l r first second third =
     let n = ap length k in
     let all = overwritten-thrice at (big_bytes 2 (length key)) key (big_bytes 4 p.rid.page ++ big_bytes 2 p.rid.slot) bytes (omega arith) in
     third ∙ ap (overwritten (at + 2 + length key) rid) (second ∙ ap (overwritten (at + 2) key) first)
     ∙ ap (λ (xs : List ℕ). overwritten (at + 2 + length key) xs (overwritten (at + 2) key (overwritten at length_bytes bytes))) r
-    ∙ ap (λ (xs : List ℕ). overwritten (at + 2 + length key) (big_bytes 4 p.rid.page ++ big_bytes 2 p.rid.slot) (overwritten (at + 2) key (overwritten at xs bytes))) l
+    ∙ ap (λ (xs : List ℕ). overwritten (at + 2 + length key) (rid_bytes p.rid) (overwritten (at + 2) key (overwritten at xs bytes))) l
     ∙ all
     ∙ ap (λ (xs : List ℕ). overwritten at (big_bytes 2 (length xs) ++ (xs ++ (big_bytes 4 p.rid.page ++ big_bytes 2 p.rid.slot))) bytes) k

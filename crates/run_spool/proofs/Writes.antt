@@ -50,7 +50,8 @@ overwritten-twice at a b bytes h =
     let n : (at + length a) + length b ≡ at + length (a ++ b) = omega (arith, length-append a b) in
     let back : drop ((at + length a) + length b) (overwritten at a bytes) ≡ drop (at + length (a ++ b)) bytes =
     drop-overwritten ((at + length a) + length b) at a bytes (omega arith) (omega arith) ∙ ap (λ (k : ℕ). drop k bytes) n in
-    rw (front, back) (append_assoc (take at bytes) a (b ++ drop (at + length (a ++ b)) bytes) ∙ ap (λ (xs : List ℕ). take at bytes ++ xs) (sym (append_assoc a b (drop (at + length (a ++ b)) bytes))))
+    let rest = drop (at + length (a ++ b)) bytes in
+    rw (front, back) (append_assoc (take at bytes) a (b ++ rest) ∙ ap (λ (xs : List ℕ). take at bytes ++ xs) (sym (append_assoc a b rest)))
 
 -- three writes, each right behind the one before
 pub overwritten-thrice : (at : ℕ) (a b c bytes : List ℕ) → at + (length a + length b) ≤ length bytes →

@@ -86,13 +86,13 @@ pub record IsPlainSpool (spool : SpoolValue) : Type 0 where
   pub packed : All IsPacked spool.open_run
 
 -- the fields of a spool
-pub record IsSpool (account : AccountValue) (spare : ℕ) (runs : List (List PageValue)) (capacity : ℕ) (open_run : List (Option PageValue)) (open_len : ℕ) : Type 0 where
-  pub law : account.free + run_pages runs + length open_run ≡ account.quota
+pub record IsSpool (account : AccountValue) (spare : ℕ) (runs : List (List PageValue)) (places : ℕ) (chain : List (Option PageValue)) (len : ℕ) : Type 0 where
+  pub law : account.free + run_pages runs + length chain ≡ account.quota
   pub spare_is : spare ≡ account.free
   pub small : account.quota < 2 ^ 32
-  pub open_len_is : open_len ≡ length (pairs_of (pages_in open_run))
-  pub each : All HasPairs (pages_in open_run)
-  pub packed : All IsPacked (pages_in open_run)
-  pub room : account.quota ≤ capacity
+  pub open_len_is : len ≡ length (pairs_of (pages_in chain))
+  pub each : All HasPairs (pages_in chain)
+  pub packed : All IsPacked (pages_in chain)
+  pub room : account.quota ≤ places
   pub fits : length runs ≤ account.quota
-  pub open_fits : 0 < length open_run → length runs + 1 ≤ account.quota
+  pub open_fits : 0 < length chain → length runs + 1 ≤ account.quota

@@ -8,7 +8,7 @@ use Rattle.std.specs.Prelude.{if◌then◌else◌, Some, None}
 use Rattle.std.proofs.lemmas.Bool.{le-ltb}
 use Rattle.keybytes.specs.declared.fault.Fault.TheVariants.{BadCount}
 use Rattle.spool_ledger.specs.Pools.{PoolValue, split_refusal}
-use Rattle.spool_ledger.specs.Accounts.{AccountValue, IsWhole, leased, new_account, with_free}
+use Rattle.spool_ledger.specs.Accounts.{AccountValue, IsWhole, leased, filled, unfilled, new_account}
 
 -- the place that a change in place has reached holds what it held at first
 pub reached :
@@ -20,17 +20,17 @@ reached f xs ys i x within so_far is =
     is ∙ (ap (λ l. get_or l i x) parts ∙ get_or_at front (get_or xs i x) (drop (i + 1) xs) x i long)
 
 -- accounts with no page yet lack their quotas
-pub leased_rooms : (number : ℕ) (quotas : List ℕ) → sum_by leased (map (λ quota. with_free (new_account number quota) 0) quotas) ≡ sum quotas
+pub leased_rooms : (number : ℕ) (quotas : List ℕ) → sum_by leased (map (unfilled number) quotas) ≡ sum quotas
 leased_rooms number [] = refl
 leased_rooms number (quota ∷ quotas) =
-    let rooms = map (λ q. with_free (new_account number q) 0) quotas in
+    let rooms = map (unfilled number) quotas in
     let wanted : sum (quota ∷ quotas) ≡ quota + sum quotas = sum_by-cons (λ q. q) quota quotas in
-    omega (arith, leased_rooms number quotas, sum_by-cons leased (with_free (new_account number quota) 0) rooms, wanted)
+    omega (arith, leased_rooms number quotas, sum_by-cons leased (unfilled number quota) rooms, wanted)
 
 -- once filled they are as new
 pub filled_rooms :
     (number : ℕ) (quotas : List ℕ)
-    → map (λ (account : AccountValue). with_free account account.quota) (map (λ quota. with_free (new_account number quota) 0) quotas) ≡ map (new_account number) quotas
+    → map filled (map (unfilled number) quotas) ≡ map (new_account number) quotas
 filled_rooms number [] = refl
 filled_rooms number (quota ∷ quotas) = ap (λ rest. new_account number quota ∷ rest) (filled_rooms number quotas)
 

@@ -30,6 +30,14 @@ new_account pool quota = record { pool = pool; quota = quota; free = quota }
 abbrev pub with_free : AccountValue → ℕ → AccountValue
 with_free account free = record { pool = account.pool; quota = account.quota; free = free }
 
+-- an account that has none of its pages yet
+abbrev pub unfilled : ℕ → ℕ → AccountValue
+unfilled pool quota = with_free (new_account pool quota) 0
+
+-- the account with all its pages
+abbrev pub filled : AccountValue → AccountValue
+filled account = with_free account account.quota
+
 -- what an account keeps: never more pages than its quota, and room for each of them
 pub record IsAccount (quota free room : ℕ) : Type 0 where
   pub within : free ≤ quota

@@ -1,5 +1,5 @@
 ghost use Rattle.std.specs.Prelude.{◌≡◌, ◌↔◌, ◌+◌, ◌-◌, ◌^◌, ◌<◌, ◌≤◌, IsOk, IfOk, IfErr, OnOk, OnErr, vec_len, vec_capacity};
-ghost use Rattle.spool_ledger.specs.Accounts.{leased, new_account, with_free};
+ghost use Rattle.spool_ledger.specs.Accounts.{leased, filled, unfilled, new_account, with_free};
 
 use crate::Page;
 use keybytes::Fault;
@@ -87,7 +87,7 @@ impl Account {
 
     /// An account that has no page yet, with room for its quota.
     pub(crate) fn with_room(alloc: Global, pool: u64, quota: u32) -> Result<Account, Fault>
-        ensures made { IfOk result (λ account. account ≡ with_free (new_account pool quota) 0) }
+        ensures made { IfOk result (λ account. account ≡ unfilled pool quota) }
         ensures memory { IfErr result (λ fault. fault ≡ Fault.Memory) }
     {
         let free = Vec::with_capacity(alloc, quota as usize)?;
@@ -97,7 +97,7 @@ impl Account {
     /// Takes pages out of the pool's until the quota is here.
     pub(crate) fn fill(&mut self, pages: &mut Vec<Page>)
         requires enough { leased self.old ≤ vec_len pages.old }
-        ensures whole { self.new ≡ with_free self.old self.old.quota }
+        ensures whole { self.new ≡ filled self.old }
         ensures taken { vec_len pages.new + leased self.old ≡ vec_len pages.old }
         ensures room { vec_capacity pages.new ≡ vec_capacity pages.old }
     {

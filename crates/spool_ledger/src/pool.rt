@@ -1,7 +1,7 @@
 ghost use Rattle.std.specs.Prelude.{◌≡◌, ◌↔◌, ◌+◌, ◌-◌, ◌≤◌, ◌<◌, All, IsOk, IfOk, IfErr, map, sum, vec_len, vec_capacity};
 ghost use Rattle.std.specs.List.{sum_by};
 ghost use Rattle.keybytes.specs.Answered.{Answered};
-ghost use Rattle.spool_ledger.specs.Accounts.{IsWhole, leased, new_account, with_free};
+ghost use Rattle.spool_ledger.specs.Accounts.{IsWhole, leased, filled, unfilled};
 ghost use Rattle.spool_ledger.specs.Pools.{new_pool, split_refusal, Splits, after_reclaim, quota_of};
 
 use crate::{Account, Page};
@@ -86,7 +86,7 @@ impl Pool {
 
 // Accounts that have no page yet, with room for their quotas.
 fn accounts_with_room(alloc: Global, number: u64, quotas: &[u32]) -> Result<Vec<Account>, Fault>
-    ensures made { IfOk result (λ accounts. accounts.items ≡ map (λ quota. with_free (new_account number quota) 0) quotas.now) }
+    ensures made { IfOk result (λ accounts. accounts.items ≡ map (unfilled number) quotas.now) }
     ensures memory { IfErr result (λ fault. fault ≡ Fault.Memory) }
 {
     let mut accounts = Vec::with_capacity(alloc, quotas.len())?;
@@ -99,7 +99,7 @@ fn accounts_with_room(alloc: Global, number: u64, quotas: &[u32]) -> Result<Vec<
 // Moves pages into the accounts until each has its quota.
 fn fill_all(accounts: &mut [Account], pages: &mut Vec<Page>)
     requires enough { sum_by leased accounts.old ≤ vec_len pages.old }
-    ensures filled { accounts.new ≡ map (λ account. with_free account account.quota) accounts.old }
+    ensures filled { accounts.new ≡ map filled accounts.old }
     ensures taken { vec_len pages.new + sum_by leased accounts.old ≡ vec_len pages.old }
     ensures room { vec_capacity pages.new ≡ vec_capacity pages.old }
 {

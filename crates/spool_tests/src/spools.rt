@@ -1,5 +1,7 @@
 //! What spools keep, for plain ones and for those in a box.
-ghost use Rattle.std.specs.Prelude.{◌≡◌, ◌<◌, [], length, IfOk};
+ghost use Rattle.std.specs.Prelude.{◌≡◌, ◌<◌, length, IfOk};
+ghost use Rattle.spool_ledger.specs.Accounts.{new_account};
+ghost use Rattle.run_spool.specs.PlainSpools.{new_spool};
 ghost use Rattle.run_spool.specs.Spools.{NoneEmpty};
 
 use keybytes::{Fault, Key, Pair, Rid};
@@ -75,38 +77,63 @@ fn keeps<S: Spool>(alloc: Global, spool: &mut S) -> Result<bool, Fault>
     Ok(spool.run_len(0) == 0 && spool.run_count() == 1 && !spool.is_empty())
 }
 
+/// A plain spool with that many pages, and the pool that they are of.
+fn new_spool(alloc: Global, pages: u32) -> Result<(Pool, PlainSpool), Fault>
+    ensures pool { IfOk result (λ both. (both.0.number ≡ 1) × (both.0.out ≡ pages)) }
+    ensures spool { IfOk result (λ both. both.1 ≡ new_spool (new_account 1 pages)) }
+{
+    let mut pool = Pool::new(alloc, 1, pages)?;
+    let Some(account) = pool.split(alloc, &[pages])?.pop() else {
+        return Err(Fault::Memory);
+    };
+    match PlainSpool::new(alloc, account) {
+        Ok(spool) => Ok((pool, spool)),
+        Err((_, fault)) => Err(fault),
+    }
+}
+
 /// Whether a spool of two pages keeps its pairs, and the pool has both pages once it is given up.
 fn keeps_and_ends(alloc: Global) -> Result<bool, Fault> {
-    let mut pool = Pool::new(alloc, 1, 2)?;
-    let mut accounts = pool.split(alloc, &[2])?;
-    let Some(account) = accounts.pop() else {
-        return Ok(false);
-    };
-    let mut spool = match PlainSpool::new(alloc, account) {
-        Ok(spool) => spool,
-        Err((_, fault)) => return Err(fault),
-    };
+    let (mut pool, mut spool) = new_spool(alloc, 2)?;
+    let mut accounts = Vec::with_capacity(alloc, 1)?;
     let kept = keeps(alloc, &mut spool)?;
     if let Some(account) = give_up(spool) {
-        accounts.push(account)?;
+        accounts.push_reserved(account);
     }
     let is_back = pool.reclaim(accounts).is_ok();
     prove!(is_back);
     Ok(kept)
 }
 
+/// Whether just 240 pairs find room on a page, and the next one comes back.
+fn fills_a_page(alloc: Global) -> Result<bool, Fault> {
+    let (_, mut spool) = new_spool(alloc, 1)?;
+    push_pairs(alloc, &mut spool, 0, 240)?;
+    let last = pair(alloc, 240)?;
+    match spool.push(last) {
+        Ok(()) => Ok(false),
+        Err((back, fault)) => Ok(back == pair(alloc, 240)? && fault == Fault::NoPage),
+    }
+}
+
+fn of_plain_spools(alloc: Global) -> Result<bool, Fault> {
+    Ok(keeps_and_ends(alloc)? && fills_a_page(alloc)?)
+}
+
 #[test]
-fn a_plain_spool(rt: HostRuntime) -> Result<(), Fail> {
-    assert!(rt; keeps_and_ends(rt.alloc())?);
-    Ok(())
+fn plain_spools_where_memory_may_run_out(rt: HostRuntime) {
+    let told = match of_plain_spools(rt.alloc()) {
+        Err(Fault::Memory) => of_plain_spools(rt.alloc()),
+        told => told,
+    };
+    assert!(rt; told == Ok(true));
 }
 
 #[test]
 fn a_spool_in_a_box(rt: HostRuntime) -> Result<(), Fail> {
     let alloc = rt.alloc();
-    let account = Pool::new(alloc, 1, 2)?.split(alloc, &[2])?.pop();
-    let spool = account.and_then(|account| PlainSpool::new(alloc, account).ok());
-    let mut spool: Box<dyn Spool + Send> = Box::new(alloc, spool.expect(&rt, "memory"))?;
+    let (_, spool) = new_spool(alloc, 2)?;
+    let mut spool: Box<dyn Spool + Send> = Box::new(alloc, spool)?;
     assert!(rt; keeps(alloc, &mut spool)?);
     Ok(())
 }

@@ -11,5 +11,6 @@ returns-in-Some c =
     let n = length xs - 1 in
     let there : 0 < length xs = c.in-Some.ensures.variant.0 refl in
     let last : c.in-Some.frame.now ≡ get_or xs n None = c.in-Some.ensures.value ∙ get_or_default xs n c.in-Some.frame.now None (omega arith) in
+    let pushed : Option PageValue → Option PageValue = λ frame. Some (with_pair (page_in frame) c.args.pair.now) in
     set_last xs n c.push_at.new.frame (omega arith)
-    ∙ ap (λ (x : Option PageValue). take n xs ++ x ∷ []) (c.push_at.ensures ∙ ap (λ (x : Option PageValue). let y : Option PageValue = Some (with_pair (page_in x) c.args.pair.now) in y) last)
+    ∙ ap (λ (x : Option PageValue). take n xs ++ x ∷ []) (c.push_at.ensures ∙ ap pushed last)

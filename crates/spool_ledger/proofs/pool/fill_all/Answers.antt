@@ -2,7 +2,7 @@ use Rattle.std.proofs.Common.{◌≡◌, ◌∙◌, ◌+◌, ◌<◌, List, leng
 use Rattle.std.proofs.lemmas.List.Edits.{map_over_more}
 use Rattle.std.proofs.lemmas.List.Sums.{sum_by-drop_more}
 use Rattle.std.specs.List.{sum_by}
-use Rattle.spool_ledger.specs.Accounts.{AccountValue, leased, with_free}
+use Rattle.spool_ledger.specs.Accounts.{AccountValue, leased, filled}
 use Rattle.spool_ledger.proofs.Fills.{reached}
 use Rattle.spool_ledger.proofs.pool.fill_all.Goals as goal
 
@@ -12,9 +12,8 @@ fill-requires c =
     let accounts : List AccountValue = c.args.accounts.now in
     let account : AccountValue = c.account-item.result in
     let within : i < length accounts = omega arith in
-    let fill : AccountValue → AccountValue = λ a. with_free a a.quota in
     let here : account ≡ get_or accounts i account =
-    reached fill accounts c.loop-account.accounts i account within c.loop-account.invariant.filled c.account-item.is in
+    reached filled accounts c.loop-account.accounts i account within c.loop-account.invariant.filled c.account-item.is in
     let rest : sum_by leased (drop i accounts) ≡ leased account + sum_by leased (drop (i + 1) accounts) =
     sum_by-drop_more leased accounts i account within ∙ ap (λ a. leased a + sum_by leased (drop (i + 1) accounts)) (sym here) in
     record { enough = rw (← c.account-item.is) (omega (arith, c.loop-account.invariant.taken, c.requires.enough, rest)) }
@@ -25,17 +24,16 @@ loop-account-preserved c =
     let accounts : List AccountValue = c.args.accounts.now in
     let account : AccountValue = c.account-item.result in
     let within : i < length accounts = omega arith in
-    let fill : AccountValue → AccountValue = λ a. with_free a a.quota in
     let here : account ≡ get_or accounts i account =
-    reached fill accounts c.loop-account.accounts i account within c.loop-account.invariant.filled c.account-item.is in
+    reached filled accounts c.loop-account.accounts i account within c.loop-account.invariant.filled c.account-item.is in
     let rest : sum_by leased (drop i accounts) ≡ leased account + sum_by leased (drop (i + 1) accounts) =
     sum_by-drop_more leased accounts i account within ∙ ap (λ a. leased a + sum_by leased (drop (i + 1) accounts)) (sym here) in
-    let filled : c.fill.new.self ≡ fill account = c.fill.ensures.whole ∙ ap fill (sym c.account-item.is) in
+    let whole : c.fill.new.self ≡ filled account = c.fill.ensures.whole ∙ ap filled (sym c.account-item.is) in
     let taken = ap (λ a. leased a) (sym c.account-item.is) in
     record {
       filled =
-          ap (λ a. set c.loop-account.accounts i a) filled
-          ∙ map_over_more fill accounts c.loop-account.accounts i account within c.loop-account.invariant.filled c.account-item.is;
+          ap (λ a. set c.loop-account.accounts i a) whole
+          ∙ map_over_more filled accounts c.loop-account.accounts i account within c.loop-account.invariant.filled c.account-item.is;
       taken = omega (arith, c.loop-account.invariant.taken, c.fill.ensures.taken, rest, taken);
       room = c.fill.ensures.room ∙ c.loop-account.invariant.room;
     }

@@ -6,21 +6,29 @@ use Rattle.run_spool.proofs.page.PairPage.free_front.Goals as goal
 
 pub seek-offset-requires-clause-there : goal.seek-offset-requires-clause-there
 seek-offset-requires-clause-there c =
-    omega (arith, c.requires, pairs_count c.self.inside.page.bytes.value c.self.inside.marks, ap (λ (p : PageValue). length p.pairs) c.self.view_is)
+    let view = ap (λ (p : PageValue). length p.pairs) c.self.view_is in
+    let count = pairs_count c.self.inside.page.bytes.value c.self.inside.marks in
+    omega (arith, c.requires, count, view)
 
 pub overflow_sub-self : goal.overflow_sub-self
 overflow_sub-self c =
-    omega (arith, c.requires, pairs_count c.self.inside.page.bytes.value c.self.inside.marks, ap (λ (p : PageValue). length p.pairs) c.self.view_is)
+    let view = ap (λ (p : PageValue). length p.pairs) c.self.view_is in
+    let count = pairs_count c.self.inside.page.bytes.value c.self.inside.marks in
+    omega (arith, c.requires, count, view)
 
 pub invariant_of-self : goal.invariant_of-self
 invariant_of-self c =
-    let f = freed c.self.invariant (omega (arith, c.requires, pairs_count c.self.inside.page.bytes.value c.self.inside.marks, ap (λ (p : PageValue). length p.pairs) c.self.view_is))
+    let view = ap (λ (p : PageValue). length p.pairs) c.self.view_is in
+    let count = pairs_count c.self.inside.page.bytes.value c.self.inside.marks in
+    let f = freed c.self.invariant (omega (arith, c.requires, count, view))
     c.deref.ensures c.seek-offset.ensures in
     f.page
 
 pub returns : goal.returns
 returns c =
-    let f = freed c.self.invariant (omega (arith, c.requires, pairs_count c.self.inside.page.bytes.value c.self.inside.marks, ap (λ (p : PageValue). length p.pairs) c.self.view_is))
+    let view = ap (λ (p : PageValue). length p.pairs) c.self.view_is in
+    let count = pairs_count c.self.inside.page.bytes.value c.self.inside.marks in
+    let f = freed c.self.invariant (omega (arith, c.requires, count, view))
     c.deref.ensures c.seek-offset.ensures in
     let make : List Pair → PageValue = λ ps. record { pairs = ps; room = 4096 - c.self.inside.marks.end } in
     ap make f.pairs ∙ ap (λ (v : PageValue). without_first v c.args.n) c.self.view_is

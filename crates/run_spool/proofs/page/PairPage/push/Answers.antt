@@ -14,8 +14,9 @@ invariant_of-self c =
     let within = c.self.invariant.stored.within in
     let room = ap (λ (p : PageValue). p.room) c.self.view_is in
     let fits : m.end + pair_size c.args.pair.now ≤ 4096 = omega (arith, c.requires) in
+    let key = ap (λ (k : List ℕ). 8 + length k) c.bytes.ensures.bytes in
     let p = pushed c.args.pair.now c.write_pair.new.bytes (8 + length c.bytes.result.now) c.write_pair.ensures.good fits
-    (c.write_pair.ensures.bytes ∙ ap (overwritten m.end (pair_bytes c.args.pair.now)) c.deref_mut.ensures.value) (ap (λ (k : List ℕ). 8 + length k) c.bytes.ensures.bytes) c.self.invariant in
+    (c.write_pair.ensures.bytes ∙ ap (overwritten m.end (pair_bytes c.args.pair.now)) c.deref_mut.ensures.value) key c.self.invariant in
     p.page
 
 pub returns : goal.returns

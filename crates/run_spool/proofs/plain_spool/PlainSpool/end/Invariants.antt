@@ -4,7 +4,9 @@ use Rattle.run_spool.specs.PlainSpools.{IsSpool}
 use Rattle.run_spool.proofs.plain_spool.PlainSpool.end.Given as goal
 
 abbrev pub invariant-loop-run : goal.invariant-loop-run
-invariant-loop-run l = IsSpool l.self-inside.account (length l.self-inside.spare) l.self-inside.runs.items (vec_capacity l.self-inside.runs) l.self-inside.open_run l.self-inside.open_len
+invariant-loop-run l =
+    let s = l.self-inside in
+    IsSpool s.account (length s.spare) s.runs.items (vec_capacity s.runs) s.open_run s.open_len
     × (l.self-inside.account ≡ with_free l.fn.self.account l.self-inside.account.free)
 
 abbrev pub decreases-loop-run : goal.decreases-loop-run

@@ -1,6 +1,5 @@
 use Rattle.std.proofs.Common.{◌≡◌, ◌∙◌, ◌+◌, ℕ, List, Option, length, ap, sym, subst, rules, arith}
 use Rattle.std.proofs.lemmas.List.{length-map, length-drop}
-use Rattle.spool_ledger.specs.Accounts.{AccountValue}
 use Rattle.run_spool.specs.PlainSpools.{SpoolValue}
 use Rattle.run_spool.specs.Spools.{NoneEmpty}
 use Rattle.keybytes.specs.declared.pair.Pair.{Pair}

@@ -14,7 +14,9 @@ invariant-loop-account l = record {
   counted : l.missing + sum_by quota_of (into_iter_items l.account-iterator) ≤ l.initial.self-inside.out;
   missing : l.missing + sum_by leased (into_iter_items l.account-iterator) ≡ sum_by leased l.fn.accounts.items;
   whole : l.missing ≡ 0 → All IsWhole (into_iter_items l.account-iterator) → All IsWhole l.fn.accounts.items;
-  free : vec_len l.self-inside.pages + sum_by free_of (into_iter_items l.account-iterator) ≡ vec_len l.initial.self-inside.pages + sum_by free_of l.fn.accounts.items;
+  free :
+      vec_len l.self-inside.pages + sum_by free_of (into_iter_items l.account-iterator)
+      ≡ vec_len l.initial.self-inside.pages + sum_by free_of l.fn.accounts.items;
   out : l.self-inside.out + sum_by free_of l.fn.accounts.items ≡ l.initial.self-inside.out + sum_by free_of (into_iter_items l.account-iterator);
   room : vec_len l.self-inside.pages + l.self-inside.out ≤ vec_capacity l.self-inside.pages;
 }
