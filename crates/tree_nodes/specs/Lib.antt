@@ -1,0 +1,5 @@
+pub mod Fans
+pub mod Found
+pub mod Leaves
+pub mod Lists
+pub mod Order
