@@ -21,6 +21,9 @@ pub struct Fan<C> {
 }
 
 impl<C: Drop> Fan<C> {
+    ghost use Rattle.std.specs.Borrow.{sem};
+    ghost use Rattle.tree_nodes.specs.Lending.{LendsChild};
+
     /// A fan with no child, and the memory for all that it will ever have.
     pub fn new(alloc: Global) -> Result<Fan<C>, Fault>
         ensures blank { IfOk result IsBlankFan }
@@ -36,6 +39,15 @@ impl<C: Drop> Fan<C> {
         ensures { result.now ≡ children_of self.now }
     {
         self.children.as_slice()
+    }
+
+    /// The child at that place.
+    pub fn child_mut(&mut self, place: usize) -> &mut C
+        requires { place < length (children_of self.old) }
+        ensures* lends { sem 𝓛 (LendsChild C.row self.entry place result) }
+        ensures child { result.now ≡ slice_index_or (children_of self.old) place result.now }
+    {
+        &mut self.children[place]
     }
 
     /// The pairs between the children.
