@@ -1,6 +1,6 @@
 ghost use Rattle.std.specs.Prelude.{◌≡◌, ◌≤◌, [], IfErr};
 
-use crate::key::INLINE;
+use crate::key::KEY_INLINE;
 use crate::{Fault, KEY_MAX, Key};
 use smallvec::SmallVec;
 use std::alloc::Global;
@@ -8,7 +8,7 @@ use std::alloc::Global;
 /// Memory for the copy of any key, taken before the copy is made.
 #[derive(Debug, Drop)]
 pub struct KeyMemory {
-    bytes: SmallVec<u8, INLINE>,
+    bytes: SmallVec<u8, KEY_INLINE>,
     ghost empty: { bytes.items ≡ [] },
     ghost room: { 812 ≤ bytes.capacity },
 }

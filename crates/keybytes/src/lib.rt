@@ -22,7 +22,7 @@ mod text;
 
 pub use cell::{Cell, TEXT_MAX};
 pub use fault::Fault;
-pub use key::{KEY_MAX, Key};
+pub use key::{KEY_INLINE, KEY_MAX, Key};
 pub use key_memory::KeyMemory;
 pub use key_spec::{KEY_COLUMNS_MAX, KeySpec};
 pub use kind::Kind;

@@ -35,13 +35,22 @@ impl<C: Drop> Fan<C> {
         })
     }
 
-    pub fn children(&self) -> &[C]
-        ensures { result.now ≡ children_of self.now }
+    /// How many children it has.
+    pub fn len(&self) -> usize
+        ensures { result ≡ length (children_of self.now) }
     {
-        self.children.as_slice()
+        self.children.len()
     }
 
     /// The child at that place.
+    pub fn child(&self, place: usize) -> &C
+        requires { place < length (children_of self.now) }
+        ensures { result.now ≡ slice_index_or (children_of self.now) place result.now }
+    {
+        &self.children[place]
+    }
+
+    /// The child at that place, to be changed.
     pub fn child_mut(&mut self, place: usize) -> &mut C
         requires { place < length (children_of self.old) }
         ensures* lends { sem 𝓛 (LendsChild C.row self.entry place result) }
@@ -50,11 +59,12 @@ impl<C: Drop> Fan<C> {
         &mut self.children[place]
     }
 
-    /// The pairs between the children.
-    pub fn separators(&self) -> &[Pair]
-        ensures { result.now ≡ separators_of self.now }
+    /// The pair behind the child at that place: what is left of it is less, and what is right of it isn't.
+    pub fn separator(&self, place: usize) -> &Pair
+        requires { place < length (separators_of self.now) }
+        ensures { result.now ≡ slice_index_or (separators_of self.now) place result.now }
     {
-        self.separators.as_slice()
+        &self.separators[place]
     }
 
     /// The place of the child that the pair of that key and RID belongs to.

@@ -1,0 +1,12 @@
+pub mod Falls
+pub mod From
+pub mod Grown
+pub mod Left
+pub mod Marks
+pub mod Nodes
+pub mod Roots
+pub mod Seen
+pub mod Splits
+pub mod TreeValue
+pub mod Trees
+pub mod Weave

@@ -1,0 +1,146 @@
+ghost use Rattle.std.specs.Prelude.{◌≡◌, true, [], length, map, IfOk, IfErr, OnOk, Some, if◌then◌else◌};
+ghost use Rattle.std.specs.List.{filter};
+ghost use Rattle.std.specs.FinMap.{contains_key};
+ghost use Rattle.keybytes.specs.Pairs.{set_of, with_pair, without_pair, AreOrdered};
+ghost use Rattle.btree.specs.From.{from};
+ghost use Rattle.btree.specs.Left.{pairs_left};
+
+use crate::node::Node;
+use crate::pairs::Pairs;
+use crate::rooting::{Rooted, insert_under, remove_under};
+use crate::spare::Spare;
+use keybytes::{Fault, Key, Pair, Rid};
+use std::alloc::Global;
+use std::marker::Model;
+
+/// Pairs of a key and a RID in order, none twice. Contracts see the list of the pairs, and whether there is room for one
+/// more.
+#[derive(Drop)]
+pub struct Tree {
+    alloc: Global,
+    root: Option<Node>,
+    height: usize,
+    count: usize,
+    spare: Spare,
+    ready: bool,
+}
+
+impl Model for Tree {
+    ghost use Rattle.btree.specs.TreeValue.{TreeValue};
+
+    ghost Value = { TreeValue };
+
+    ghost use Rattle.btree.specs.Trees.{tree_value, IsTree};
+
+    ghost view = { tree_value };
+
+    ghost invariant = { IsTree };
+}
+
+impl Tree {
+    /// An empty tree.
+    pub fn new(alloc: Global) -> Tree
+        ensures { result.pairs ≡ [] }
+    {
+        Tree {
+            alloc,
+            root: None,
+            height: 0,
+            count: 0,
+            spare: Spare {
+                leaf: None,
+                key: None,
+                fans: Vec::new(alloc),
+            },
+            ready: false,
+        }
+    }
+
+    /// Does nothing: its clause tells what every tree keeps.
+    pub fn laws(&self)
+        ensures { AreOrdered self.now.pairs }
+    {
+        let _kept = &self.root;
+    }
+
+    /// How many pairs there are.
+    pub fn len(&self) -> usize
+        ensures { result ≡ length self.now.pairs }
+    {
+        self.count
+    }
+
+    /// Whether the pair is there.
+    pub fn contains(&self, key: &Key, rid: Rid) -> bool
+        ensures { result ≡ contains_key (set_of self.now.pairs) (record { key = key.now; rid = rid }) }
+    {
+        match &self.root {
+            Some(root) => root.contains(key, rid),
+            None => false,
+        }
+    }
+
+    /// All pairs in order.
+    pub fn iter(&self) -> Pairs<'_>
+        ensures { pairs_left result ≡ self.now.pairs }
+    {
+        self.from(&Key::new(self.alloc), Rid { page: 0, slot: 0 })
+    }
+
+    /// The pairs in order, from that of the key and RID on.
+    fn from(&self, key: &Key, rid: Rid) -> Pairs<'_>
+        ensures { pairs_left result ≡ from (record { key = key.now; rid = rid }) self.now.pairs }
+    {
+        Pairs::new(self.root.as_ref(), key, rid)
+    }
+
+    /// Takes the memory that the insert of a pair needs, whatever its key. An `Err` changes nothing that contracts see.
+    pub fn make_room(&mut self, _key: &Key) -> Result<(), Fault>
+        ensures pairs { self.new.pairs ≡ self.old.pairs }
+        ensures ok { OnOk result (self.new.room ≡ true) }
+        ensures memory { IfErr result (λ fault. fault ≡ Fault.Memory) }
+    {
+        if self.ready {
+            return Ok(());
+        }
+        if self.count == usize::MAX {
+            return Err(Fault::Memory);
+        }
+        self.spare.fill(self.alloc, self.height)?;
+        self.ready = true;
+        Ok(())
+    }
+
+    /// Puts the pair into its place, unless it is there.
+    pub fn insert(&mut self, key: Key, rid: Rid)
+        requires { self.old.room ≡ true }
+        ensures { set_of self.new.pairs ≡ with_pair (Some (record { key = key; rid = rid })) (set_of self.old.pairs) }
+    {
+        self.ready = false;
+        let Rooted {
+            root,
+            added,
+            deeper,
+        } = insert_under(self.root.take(), Pair { key, rid }, &mut self.spare);
+        self.root = Some(root);
+        self.height += one_if(deeper);
+        self.count += one_if(added);
+    }
+
+    /// Takes the pair out, and answers whether it was there.
+    pub fn remove(&mut self, key: &Key, rid: Rid) -> bool
+        ensures found { result ≡ contains_key (set_of self.old.pairs) (record { key = key.now; rid = rid }) }
+        ensures removed { set_of self.new.pairs ≡ without_pair (Some (record { key = key.now; rid = rid })) (set_of self.old.pairs) }
+        ensures room { self.new.room ≡ self.old.room }
+    {
+        let found = remove_under(&mut self.root, key, rid);
+        self.count -= one_if(found);
+        found
+    }
+}
+
+fn one_if(test: bool) -> usize
+    ensures { result ≡ (if test then 1 else 0) }
+{
+    if test { 1 } else { 0 }
+}
