@@ -11,3 +11,4 @@ pub mod Removed
 pub mod TreeFacts
 pub mod Weaves
 pub mod Sets
+pub mod Keys

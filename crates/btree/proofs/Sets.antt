@@ -1,15 +1,15 @@
 -- Pairs that rise, as a set.
 use Rattle.std.proofs.Common.{◌≡◌, Bool, true, false, List, [], ◌∷◌, refl, sym, ap, ◌∙◌, subst, inl, inr}
-use Rattle.std.specs.Prelude.{not, ◌&&◌, ◌||◌, T, cond, Some}
+use Rattle.std.specs.Prelude.{not, ◌&&◌, ◌||◌, T, Some}
 use Rattle.std.specs.declared.cmp.Ordering.{Ordering}
 use Rattle.std.specs.declared.cmp.Ordering.TheVariants.{Less, Equal, Greater}
 use Rattle.std.specs.Ordering.{is_lt, is_eq, eq_by_cmp, ordering_reverse}
 use Rattle.std.specs.FinMap.{contains_key, insert, remove}
 use Rattle.std.specs.FinMap.Entries.{is_sorted, below_all}
-use Rattle.std.proofs.lemmas.Bool.{cases_Bool, both_ways, false≢true}
+use Rattle.std.proofs.lemmas.Bool.{cases_Bool}
 use Rattle.keybytes.specs.declared.pair.Pair.{Pair}
 use Rattle.keybytes.specs.Pairs.{pair_cmp, set_of, with_pair, without_pair, AreOrdered}
-use Rattle.keybytes.proofs.PairSets.{pairs_total, marked, is_in, items_are, same_members, contains-set_of, contains-insert, contains-remove, tied_pairs, itself}
+use Rattle.keybytes.proofs.PairSets.{pairs_total, marked, is_in, items_are, same_members, contains-set_of, contains-insert, contains-remove, tied_pairs}
 use Rattle.tree_nodes.specs.Lists.{In, IsRising, same_by, has, put, without}
 use Rattle.tree_nodes.specs.Order.{is_before}
 use Rattle.tree_nodes.proofs.Strict.{before-strict}
@@ -54,8 +54,8 @@ in_put p q (r ∷ ps) = elim (cases_Bool (is_before p r)) [
 pub put_is : (p : Pair) (ps : List Pair) → set_of (put is_before p ps) ≡ with_pair (Some p) (set_of ps)
 put_is p ps =
     same_members (set_of (put is_before p ps)) (insert (set_of ps) p tt) (λ q.
-        contains-set_of (put is_before p ps) q ∙ in_put p q ps
-        ∙ ap (λ b. eq_by_cmp pair_cmp q p || b) (sym (contains-set_of ps q)) ∙ sym (contains-insert (set_of ps) p q))
+    contains-set_of (put is_before p ps) q ∙ in_put p q ps
+    ∙ ap (λ b. eq_by_cmp pair_cmp q p || b) (sym (contains-set_of ps q)) ∙ sym (contains-insert (set_of ps) p q))
 
 -- a pair before all of them isn't one of them
 absent : (p : Pair) (ps : List Pair) → ((q : Pair) → In q ps → is_before p q ≡ true) → is_in p ps ≡ false
@@ -89,8 +89,8 @@ in_without p q (x ∷ ps) r = elim (cases_Bool (same_by is_before p x)) [
 pub without_is : (p : Pair) (ps : List Pair) → IsRising is_before ps → set_of (without is_before p ps) ≡ without_pair (Some p) (set_of ps)
 without_is p ps r =
     same_members (set_of (without is_before p ps)) (remove (set_of ps) p) (λ q.
-        contains-set_of (without is_before p ps) q ∙ in_without p q ps r
-        ∙ ap (λ b. not (eq_by_cmp pair_cmp q p) && b) (sym (contains-set_of ps q)) ∙ sym (contains-remove (set_of ps) p q))
+    contains-set_of (without is_before p ps) q ∙ in_without p q ps r
+    ∙ ap (λ b. not (eq_by_cmp pair_cmp q p) && b) (sym (contains-set_of ps q)) ∙ sym (contains-remove (set_of ps) p q))
 
 both : (a b : Bool) → T a → T b → T (a && b)
 both true b p q = q

@@ -2,9 +2,6 @@
 use Rattle.std.specs.Prelude.{◌≡◌, ℕ, suc, true, false, if◌then◌else◌, List, [], ◌∷◌, ◌++◌, Option, None, Some}
 use Rattle.std.specs.Borrow.{Bor}
 use Rattle.keybytes.specs.declared.pair.Pair.{Pair}
-use Rattle.std.specs.Ordering.{nat_cmp, is_eq}
-use Rattle.std.specs.Cmp.Lexicographic.{slice_cmp}
-use Rattle.keybytes.specs.declared.rid.Rid.{Rid}
 use Rattle.tree_nodes.specs.Lists.{In}
 use Rattle.tree_nodes.specs.Order.{is_before}
 use Rattle.btree.specs.Marks.{Mark, Item, Between, mark_before, items_of}
@@ -46,8 +43,3 @@ above_next (Some next) marks = suc (above next.now marks)
 abbrev pub NextAbove : Pair → List Mark → Option (Bor Pair) → Type 0
 NextAbove p marks None = Unit {0}
 NextAbove p marks (Some next) = (is_before p next.now ≡ true) × In (Between next.now) marks
-
--- the RIDs of the pairs at the front_count that have the key
-abbrev pub leading : List ℕ → List Pair → List Rid
-leading key [] = []
-leading key (p ∷ ps) = if is_eq (slice_cmp nat_cmp p.key key) then p.rid ∷ leading key ps else []

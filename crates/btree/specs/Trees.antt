@@ -1,5 +1,5 @@
 -- What a tree keeps true.
-use Rattle.std.specs.Prelude.{◌≡◌, ℕ, suc, ◌+◌, ◌^◌, ◌<◌, true, length}
+use Rattle.std.specs.Prelude.{◌≡◌, suc, ◌+◌, ◌^◌, ◌<◌, true, length}
 use Rattle.btree.specs.declared.tree.Tree.TheInside.{Inside}
 use Rattle.tree_nodes.specs.Lists.{IsRising}
 use Rattle.btree.specs.Marks.{mark_before, pairs_in}

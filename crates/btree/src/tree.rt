@@ -1,16 +1,19 @@
 ghost use Rattle.std.specs.Prelude.{◌≡◌, true, [], length, map, IfOk, IfErr, OnOk, Some, if◌then◌else◌};
-ghost use Rattle.std.specs.List.{filter};
 ghost use Rattle.std.specs.FinMap.{contains_key};
 ghost use Rattle.keybytes.specs.Pairs.{set_of, with_pair, without_pair, AreOrdered};
+ghost use Rattle.tree_nodes.specs.Order.{PairsRise};
 ghost use Rattle.btree.specs.From.{from};
-ghost use Rattle.btree.specs.Left.{pairs_left};
+ghost use Rattle.btree.specs.Left.{pairs_left, range_left};
+ghost use Rattle.btree.specs.TreeValue.{rids_of, pairs_between};
 
 use crate::node::Node;
 use crate::pairs::Pairs;
+use crate::range::Range;
 use crate::rooting::{Rooted, insert_under, remove_under};
 use crate::spare::Spare;
 use keybytes::{Fault, Key, Pair, Rid};
 use std::alloc::Global;
+use std::cmp::Ordering;
 use std::marker::Model;
 
 /// Pairs of a key and a RID in order, none twice. Contracts see the list of the pairs, and whether there is room for one
@@ -80,18 +83,47 @@ impl Tree {
         }
     }
 
+    /// The RIDs that have the key, in order.
+    pub fn rids(&self, key: &Key) -> Result<Vec<Rid>, Fault>
+        ensures rids { IfOk result (λ rids. rids.items ≡ rids_of key.now self.now.pairs) }
+        ensures memory { IfErr result (λ fault. fault ≡ Fault.Memory) }
+    {
+        let mut rids = Vec::new(self.alloc);
+        let mut pairs = self.from(key);
+        while let Some(pair) = pairs.next() {
+            if pair.key.cmp(key) != Ordering::Equal {
+                break;
+            }
+            rids.push(pair.rid)?;
+        }
+        Ok(rids)
+    }
+
+    /// The pairs whose key isn't less than `lo`, and less than `hi`, in order. Of all that, `hi` alone is copied.
+    pub fn range(&self, lo: &Key, hi: &Key) -> Result<Range<'_>, Fault>
+        ensures pairs { IfOk result (λ range. range_left range ≡ pairs_between lo.now hi.now self.now.pairs) }
+        ensures memory { IfErr result (λ fault. fault ≡ Fault.Memory) }
+    {
+        let end = hi.clone()?;
+        Ok(Range {
+            pairs: self.from(lo),
+            end,
+        })
+    }
+
     /// All pairs in order.
     pub fn iter(&self) -> Pairs<'_>
         ensures { pairs_left result ≡ self.now.pairs }
     {
-        self.from(&Key::new(self.alloc), Rid { page: 0, slot: 0 })
+        self.from(&Key::new(self.alloc))
     }
 
-    /// The pairs in order, from that of the key and RID on.
-    fn from(&self, key: &Key, rid: Rid) -> Pairs<'_>
-        ensures { pairs_left result ≡ from (record { key = key.now; rid = rid }) self.now.pairs }
+    /// The pairs in order, from the least that the key may have.
+    fn from(&self, key: &Key) -> Pairs<'_>
+        ensures pairs { pairs_left result ≡ from (record { key = key.now; rid = record { page = 0; slot = 0 } }) self.now.pairs }
+        ensures rise { PairsRise self.now.pairs }
     {
-        Pairs::new(self.root.as_ref(), key, rid)
+        Pairs::new(self.root.as_ref(), key, Rid { page: 0, slot: 0 })
     }
 
     /// Takes the memory that the insert of a pair needs, whatever its key. An `Err` changes nothing that contracts see.

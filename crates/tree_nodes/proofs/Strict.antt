@@ -1,6 +1,5 @@
 -- The order of pairs is strict.
 use Rattle.std.proofs.Common.{◌≡◌, ℕ, true, false, List, [], ◌∷◌, arith, refl, sym, ap}
-use Rattle.std.specs.Prelude.{Bool}
 use Rattle.std.proofs.lemmas.Bool.{false≢true, true≢false}
 use Rattle.std.specs.declared.cmp.Ordering.{Ordering}
 use Rattle.std.specs.declared.cmp.Ordering.TheVariants.{Less, Equal, Greater}
@@ -43,10 +42,10 @@ least_key : (key : List ℕ) → is_lt (slice_cmp nat_cmp key []) ≡ false
 least_key [] = refl
 least_key (x ∷ key) = refl
 
-least_number : (n : ℕ) → is_lt (nat_cmp n 0) ≡ false
+pub least_number : (n : ℕ) → is_lt (nat_cmp n 0) ≡ false
 least_number n = grind (arith)
 
-then_least : (r s : Ordering) → is_lt r ≡ false → is_lt s ≡ false → is_lt (ordering_then r s) ≡ false
+pub then_least : (r s : Ordering) → is_lt r ≡ false → is_lt s ≡ false → is_lt (ordering_then r s) ≡ false
 then_least Less s h k = h
 then_least Equal s h k = k
 then_least Greater s h k = refl

@@ -1,4 +1,3 @@
-use Rattle.std.proofs.Common.{sym, ◌∙◌}
 use Rattle.btree.proofs.LeafGrown.{grown_same, grown_put}
 use Rattle.btree.proofs.growing.insert_into_leaf.Goals as goal
 

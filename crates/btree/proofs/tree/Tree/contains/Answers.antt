@@ -1,6 +1,4 @@
-use Rattle.std.proofs.Common.{◌≡◌, Bool, sym, ap, ◌∙◌}
-use Rattle.std.specs.FinMap.{contains_key}
-use Rattle.keybytes.specs.Pairs.{set_of}
+use Rattle.std.proofs.Common.{sym, ap, ◌∙◌}
 use Rattle.keybytes.specs.declared.pair.Pair.{Pair}
 use Rattle.tree_nodes.specs.Lists.{has}
 use Rattle.tree_nodes.specs.Order.{is_before}

@@ -1,4 +1,4 @@
-use Rattle.std.proofs.Common.{◌≡◌, ◌+◌, sym, ap, ◌∙◌}
+use Rattle.std.proofs.Common.{◌+◌, sym, ap, ◌∙◌}
 use Rattle.std.specs.Prelude.{Some}
 use Rattle.std.proofs.lemmas.Bool.{false≢true}
 use Rattle.keybytes.specs.Pairs.{set_of, with_pair}

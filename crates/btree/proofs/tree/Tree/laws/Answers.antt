@@ -1,4 +1,4 @@
-use Rattle.std.proofs.Common.{ap, subst}
+use Rattle.std.proofs.Common.{subst}
 use Rattle.keybytes.specs.Pairs.{AreOrdered}
 use Rattle.btree.specs.TreeValue.{TreeValue}
 use Rattle.btree.proofs.TreeFacts.{rising_pairs}

@@ -1,8 +1,8 @@
-use Rattle.std.proofs.Common.{◌≡◌, List, sym, ap, ◌∙◌, subst, arith, refl}
+use Rattle.std.proofs.Common.{List, sym, ap, ◌∙◌, subst, arith, refl}
 use Rattle.keybytes.specs.Pairs.{set_of, without_pair}
 use Rattle.keybytes.specs.declared.pair.Pair.{Pair}
 use Rattle.std.specs.Prelude.{Some}
-use Rattle.tree_nodes.specs.Lists.{IsRising, has, without}
+use Rattle.tree_nodes.specs.Lists.{IsRising, has}
 use Rattle.tree_nodes.specs.Order.{is_before}
 use Rattle.tree_nodes.proofs.Rising.{rising_without}
 use Rattle.btree.specs.Marks.{Mark, Item, mark_before, pairs_in}
