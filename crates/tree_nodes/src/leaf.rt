@@ -1,4 +1,4 @@
-ghost use Rattle.std.specs.Prelude.{◌≡◌, ◌<◌, ◌≤◌, [], length, take, drop, IfOk, IfErr};
+ghost use Rattle.std.specs.Prelude.{◌≡◌, ◌<◌, ◌≤◌, [], ◌∷◌, ◌++◌, length, take, drop, IfOk, IfErr};
 ghost use Rattle.tree_nodes.specs.Found.{IsAt, IsGap};
 ghost use Rattle.tree_nodes.specs.Lists.{put, without, has, front_count};
 ghost use Rattle.tree_nodes.specs.Order.{is_before, PairsRise};
@@ -96,6 +96,15 @@ impl Leaf {
         ensures { self.new ≡ put is_before pair self.old }
     {
         insert_reserved(&mut self.pairs, place, pair);
+    }
+
+    /// Puts a pair behind all others, with no search.
+    pub fn push(&mut self, pair: Pair)
+        requires room { length self.old < 32 }
+        requires rise { PairsRise (self.old ++ pair ∷ []) }
+        ensures { self.new ≡ self.old ++ pair ∷ [] }
+    {
+        self.pairs.push_reserved(pair);
     }
 
     /// Takes the pair out, and answers whether it was there.
