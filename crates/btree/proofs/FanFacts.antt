@@ -17,7 +17,7 @@ use Rattle.tree_nodes.proofs.Rising.{in_right, rising_parts}
 use Rattle.btree.proofs.Around.{Around, around}
 
 -- the separators stand in the weave
-in_weave : (t : Pair) (cs : List Seen) (ss : List Pair) → length ss ≤ length cs → In t ss → In (Between t) (weave cs ss)
+pub in_weave : (t : Pair) (cs : List Seen) (ss : List Pair) → length ss ≤ length cs → In t ss → In (Between t) (weave cs ss)
 in_weave t cs [] e h = absurd h
 in_weave t [] (s ∷ ss) e h = absurd (omega arith)
 in_weave t (c ∷ cs) (s ∷ ss) e h = elim h [

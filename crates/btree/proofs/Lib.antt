@@ -1,3 +1,4 @@
+pub mod Appending
 pub mod Around
 pub mod FanFacts
 pub mod FanGrown
@@ -5,6 +6,7 @@ pub mod FanInserted
 pub mod MarksGrown
 pub mod LeafGrown
 pub mod Leaving
+pub mod Loads
 pub mod MarkFacts
 pub mod Middles
 pub mod Removed

@@ -1,10 +1,11 @@
 -- Pairs that rise, as a set.
-use Rattle.std.proofs.Common.{◌≡◌, Bool, true, false, List, [], ◌∷◌, refl, sym, ap, ◌∙◌, subst, inl, inr}
+use Rattle.std.proofs.Common.{◌≡◌, Bool, true, false, List, [], ◌∷◌, map, refl, sym, ap, ◌∙◌, subst, inl, inr}
 use Rattle.std.specs.Prelude.{not, ◌&&◌, ◌||◌, T, Some}
 use Rattle.std.specs.declared.cmp.Ordering.{Ordering}
 use Rattle.std.specs.declared.cmp.Ordering.TheVariants.{Less, Equal, Greater}
 use Rattle.std.specs.Ordering.{is_lt, is_eq, eq_by_cmp, ordering_reverse}
-use Rattle.std.specs.FinMap.{contains_key, insert, remove}
+use Rattle.std.specs.FinMap.{contains_key, insert, remove, keys, entries, entries_sorted}
+use Rattle.std.specs.FinSet.{FinSet}
 use Rattle.std.specs.FinMap.Entries.{is_sorted, below_all}
 use Rattle.std.proofs.lemmas.Bool.{cases_Bool}
 use Rattle.keybytes.specs.declared.pair.Pair.{Pair}
@@ -108,3 +109,41 @@ sorted (p ∷ ps) r = both (below_all pair_cmp p (marked ps)) (is_sorted pair_cm
 
 pub ordered_of : (ps : List Pair) → IsRising is_before ps → AreOrdered ps
 ordered_of ps r = items_are ps ps (sorted ps r) (λ q. refl)
+
+-- and back
+first_of : (a b : Bool) → T (a && b) → T a
+first_of true b p = tt
+first_of false b p = p
+
+second_of : (a b : Bool) → T (a && b) → T b
+second_of true b p = p
+second_of false b p = absurd p
+
+holds_true : (b : Bool) → T b → b ≡ true
+holds_true true p = refl
+holds_true false p = absurd p
+
+above : (p : Pair) (ps : List Pair) → T (below_all pair_cmp p (marked ps)) → (q : Pair) → In q ps → is_before p q ≡ true
+unfolding is_before
+above p [] h q i = absurd i
+above p (r ∷ ps) h q i = elim i [
+  | inl is ↦ rw is (holds_true (is_lt (pair_cmp p r)) (first_of (is_lt (pair_cmp p r)) (below_all pair_cmp p (marked ps)) h))
+  | inr k ↦ above p ps (second_of (is_lt (pair_cmp p r)) (below_all pair_cmp p (marked ps)) h) q k
+]
+
+rises : (ps : List Pair) → T (is_sorted pair_cmp (marked ps)) → IsRising is_before ps
+rises [] h = tt
+rises (p ∷ ps) h = (
+  above p ps (first_of (below_all pair_cmp p (marked ps)) (is_sorted pair_cmp (marked ps)) h),
+  rises ps (second_of (below_all pair_cmp p (marked ps)) (is_sorted pair_cmp (marked ps)) h),
+)
+
+marks_of : (es : List (Pair × Unit {0})) → marked (map (λ e. e.0) es) ≡ es
+marks_of [] = refl
+marks_of (e ∷ es) = ap (λ xs. e ∷ xs) (marks_of es)
+
+keys_rise : (s : FinSet pair_cmp) → IsRising is_before (keys s)
+keys_rise s = rises (keys s) (subst (λ es. T (is_sorted pair_cmp es)) (sym (marks_of (entries s))) (entries_sorted s))
+
+pub rises_of : (ps : List Pair) → AreOrdered ps → IsRising is_before ps
+rises_of ps ordered = subst (IsRising is_before) (sym ordered) (keys_rise (set_of ps))

@@ -25,6 +25,12 @@ pub record Inserted (p : Pair) (old new : Seen) (split : Option Split) : Type 0 
   pub height : new.height ≡ old.height
   pub beside : SplitAt old.height split
 
+-- those marks stand behind the node's, in the node or in what was split off it
+pub record Appended (more : List Mark) (old new : Seen) (split : Option Split) : Type 0 where
+  pub marks : marks_after new.marks split ≡ old.marks ++ more
+  pub height : new.height ≡ old.height
+  pub beside : SplitAt old.height split
+
 -- each is blank
 abbrev pub AllBlank : List (Fan Seen) → Type 0
 AllBlank [] = Unit {0}

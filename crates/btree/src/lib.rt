@@ -8,6 +8,7 @@
 #![tactic(auto)]
 
 mod growing;
+mod loader;
 mod node;
 mod pairs;
 mod range;
@@ -16,6 +17,7 @@ mod spare;
 mod split;
 mod tree;
 
+pub use loader::Loader;
 pub use pairs::Pairs;
 pub use range::Range;
 pub use tree::Tree;

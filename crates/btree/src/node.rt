@@ -1,15 +1,15 @@
-ghost use Rattle.std.specs.Prelude.{◌≡◌, ◌++◌, suc, not};
+ghost use Rattle.std.specs.Prelude.{◌≡◌, ◌≤◌, ◌∷◌, ◌++◌, suc, not, vec_len};
 ghost use Rattle.btree.specs.From.{LeafFrom, from, from_next, NextAbove};
 ghost use Rattle.tree_nodes.specs.Fans.{children_of, separators_of};
-ghost use Rattle.tree_nodes.specs.Lists.{has, without};
-ghost use Rattle.btree.specs.Marks.{Item, mark_before, items_of, pairs_in};
-ghost use Rattle.btree.specs.Splits.{Inserted, IsStocked, IsUsed};
+ghost use Rattle.tree_nodes.specs.Lists.{has, without, IsRising};
+ghost use Rattle.btree.specs.Marks.{Item, Between, mark_before, items_of, pairs_in};
+ghost use Rattle.btree.specs.Splits.{Inserted, Appended, AllBlank, LeafBlank, IsStocked, IsUsed};
 ghost use Rattle.btree.specs.Nodes.{IsFanned};
 ghost use Rattle.btree.specs.Weave.{weave, height_of};
 
 use crate::growing::{insert_into_fan, insert_into_leaf};
 use crate::spare::Spare;
-use crate::split::Growth;
+use crate::split::{Growth, Split};
 use keybytes::{Key, Pair, Rid};
 use std::marker::Model;
 use tree_nodes::{Fan, Leaf};
@@ -144,6 +144,30 @@ impl Node {
                         added,
                         split: insert_into_fan(fan, place, split, spare),
                     },
+                }
+            }
+        }
+    }
+
+    /// Puts a leaf behind all others, with the pair in front of it; takes no memory but the spare one.
+    pub fn append(&mut self, separator: Pair, leaf: Leaf, spare: &mut Spare) -> Option<Split>
+        requires rising { IsRising mark_before (self.old.marks ++ Between separator ∷ items_of leaf) }
+        requires blank { AllBlank spare.old.fans.items }
+        requires enough { self.old.height ≤ vec_len spare.old.fans }
+        requires leaf { LeafBlank spare.old.leaf }
+        ensures appended { Appended (Between separator ∷ items_of leaf) self.old self.new result }
+        ensures used { IsUsed spare.old spare.new self.old.height }
+    {
+        match &mut self.kind {
+            Kind::Leaf(_) => Some(Split {
+                separator,
+                node: Node::leaf(leaf),
+            }),
+            Kind::Fan(fan) => {
+                let last = fan.len() - 1;
+                match fan.child_mut(last).append(separator, leaf, spare) {
+                    None => None,
+                    Some(split) => insert_into_fan(fan, last, split, spare),
                 }
             }
         }

@@ -15,6 +15,17 @@ pub struct Spare {
 }
 
 impl Spare {
+    /// None as yet.
+    pub fn new(alloc: Global) -> Spare
+        ensures { IsTidy result }
+    {
+        Spare {
+            leaf: None,
+            key: None,
+            fans: Vec::new(alloc),
+        }
+    }
+
     /// Takes what an insert into a tree of that height may use.
     pub fn fill(&mut self, alloc: Global, height: usize) -> Result<(), Fault>
         requires { IsTidy self.old }
@@ -52,7 +63,7 @@ impl Spare {
 }
 
 /// Takes fans until there are more than that many.
-fn fill_fans(fans: &mut Vec<Fan<Node>>, alloc: Global, height: usize) -> Result<(), Fault>
+pub fn fill_fans(fans: &mut Vec<Fan<Node>>, alloc: Global, height: usize) -> Result<(), Fault>
     requires { AllBlank fans.old.items }
     ensures blank { AllBlank fans.new.items }
     ensures ok { OnOk result (suc height ≤ vec_len fans.new) }

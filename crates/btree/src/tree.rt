@@ -1,9 +1,12 @@
 ghost use Rattle.std.specs.Prelude.{◌≡◌, true, [], length, map, IfOk, IfErr, OnOk, Some, if◌then◌else◌};
 ghost use Rattle.std.specs.FinMap.{contains_key};
 ghost use Rattle.keybytes.specs.Pairs.{set_of, with_pair, without_pair, AreOrdered};
+ghost use Rattle.tree_nodes.specs.Lists.{IsRising};
 ghost use Rattle.tree_nodes.specs.Order.{PairsRise};
 ghost use Rattle.btree.specs.From.{from};
 ghost use Rattle.btree.specs.Left.{pairs_left, range_left};
+ghost use Rattle.btree.specs.Marks.{mark_before, pairs_in};
+ghost use Rattle.btree.specs.Splits.{IsTidy};
 ghost use Rattle.btree.specs.TreeValue.{rids_of, pairs_between};
 
 use crate::node::Node;
@@ -50,11 +53,25 @@ impl Tree {
             root: None,
             height: 0,
             count: 0,
-            spare: Spare {
-                leaf: None,
-                key: None,
-                fans: Vec::new(alloc),
-            },
+            spare: Spare::new(alloc),
+            ready: false,
+        }
+    }
+
+    /// A tree of that root, which is as high and has as many pairs as that.
+    pub(crate) fn of(alloc: Global, root: Node, height: usize, count: usize, spare: Spare) -> Tree
+        requires rising { IsRising mark_before root.marks }
+        requires height { height ≡ root.height }
+        requires count { count ≡ length (pairs_in root.marks) }
+        requires tidy { IsTidy spare }
+        ensures { result.pairs ≡ pairs_in root.marks }
+    {
+        Tree {
+            alloc,
+            root: Some(root),
+            height,
+            count,
+            spare,
             ready: false,
         }
     }
@@ -149,13 +166,13 @@ impl Tree {
         ensures { set_of self.new.pairs ≡ with_pair (Some (record { key = key; rid = rid })) (set_of self.old.pairs) }
     {
         self.ready = false;
-        let Rooted {
-            root,
-            added,
-            deeper,
-        } = insert_under(self.root.take(), Pair { key, rid }, &mut self.spare);
-        self.root = Some(root);
-        self.height += one_if(deeper);
+        let Rooted { raised, added } = insert_under(
+            self.root.take(),
+            Pair { key, rid },
+            &mut self.spare,
+        );
+        self.root = Some(raised.root);
+        self.height += one_if(raised.deeper);
         self.count += one_if(added);
     }
 
@@ -171,7 +188,8 @@ impl Tree {
     }
 }
 
-fn one_if(test: bool) -> usize
+/// 1 where the test is true, else 0.
+pub fn one_if(test: bool) -> usize
     ensures { result ≡ (if test then 1 else 0) }
 {
     if test { 1 } else { 0 }
