@@ -7,7 +7,7 @@ use Rattle.std.specs.Cmp.Lexicographic.{slice_cmp}
 use Rattle.std.specs.List.{All}
 use Rattle.std.specs.Option.{option_map}
 use Rattle.std.specs.FinSet.{FinSet}
-use Rattle.std.specs.FinMap.{from_entries, insert, remove}
+use Rattle.std.specs.FinMap.{from_entries, insert, remove, keys}
 use Rattle.keybytes.specs.Keys.{KeySpecValue, key_of, key_columns, IsKeyOf, IsRowOf}
 use Rattle.keybytes.specs.Cells.{columns_cmp}
 use Rattle.keybytes.specs.Rids.{rid_cmp}
@@ -26,6 +26,10 @@ pair_with spec rid row = option_map (λ cells. record { key = key_of spec cells;
 -- the pairs as a set
 abbrev pub set_of : List Pair → FinSet pair_cmp
 set_of pairs = from_entries (map (λ pair. (pair, tt)) pairs)
+
+-- the pairs stand in order, each once
+abbrev pub AreOrdered : List Pair → Type 0
+AreOrdered pairs = pairs ≡ keys (set_of pairs)
 
 -- the set with one pair more, if there is one
 abbrev pub with_pair : Option Pair → FinSet pair_cmp → FinSet pair_cmp

@@ -12,12 +12,12 @@ pub const KEY_MAX: usize = 812;
 const _: () = prove!(KEY_MAX == KEY_COLUMNS_MAX * (1 + 2 * TEXT_MAX + 2));
 
 /// The bytes that a key keeps in place; a longer key lies in memory of its own.
-const INLINE: usize = 24;
+pub const KEY_INLINE: usize = 24;
 
 /// The bytes of a key, at most [`KEY_MAX`], in the order of lists of bytes. Contracts see the list of the bytes.
 #[derive(Debug, Drop)]
 pub struct Key {
-    bytes: SmallVec<u8, INLINE>,
+    pub(crate) bytes: SmallVec<u8, KEY_INLINE>,
 }
 
 impl Model for Key {

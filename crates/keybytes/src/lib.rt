@@ -10,6 +10,7 @@ mod cell;
 mod fault;
 mod key;
 mod key_cell;
+mod key_memory;
 mod key_spec;
 mod kind;
 mod pair;
@@ -21,7 +22,8 @@ mod text;
 
 pub use cell::{Cell, TEXT_MAX};
 pub use fault::Fault;
-pub use key::{KEY_MAX, Key};
+pub use key::{KEY_INLINE, KEY_MAX, Key};
+pub use key_memory::KeyMemory;
 pub use key_spec::{KEY_COLUMNS_MAX, KeySpec};
 pub use kind::Kind;
 pub use pair::Pair;

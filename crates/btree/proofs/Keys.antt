@@ -1,0 +1,134 @@
+-- The pairs of one key, and those of the keys in a range, among pairs that rise.
+use Rattle.std.proofs.Common.{◌≡◌, ℕ, Bool, true, false, List, [], ◌∷◌, map, refl, sym, ap, ◌∙◌, subst, inl, inr}
+use Rattle.std.specs.Prelude.{not, ◌&&◌, if◌then◌else◌}
+use Rattle.std.specs.List.{filter, take_while}
+use Rattle.std.specs.declared.cmp.Ordering.{Ordering}
+use Rattle.std.specs.declared.cmp.Ordering.TheVariants.{Less, Equal, Greater}
+use Rattle.std.specs.Ordering.{nat_cmp, is_lt, is_eq, ordering_then, ordering_reverse}
+use Rattle.std.specs.Cmp.Lexicographic.{slice_cmp, nat_list_cmp_total}
+use Rattle.std.specs.FinMap.{slice_cmp-IsAntisymmetric, nat_cmp-IsAntisymmetric}
+use Rattle.std.proofs.lemmas.Bool.{cases_Bool, both_ways, false≢true, true≢false}
+use Rattle.std.proofs.lemmas.List.Sums.{take_while-cons}
+use Rattle.keybytes.specs.declared.pair.Pair.{Pair}
+use Rattle.keybytes.specs.declared.rid.Rid.{Rid}
+use Rattle.keybytes.specs.Rids.{rid_cmp}
+use Rattle.tree_nodes.specs.Lists.{In, IsRising}
+use Rattle.tree_nodes.specs.Order.{is_before}
+use Rattle.tree_nodes.proofs.Strict.{before-strict, pair_same, least_number, then_least}
+use Rattle.tree_nodes.proofs.Places.{one_way}
+use Rattle.btree.specs.From.{from}
+use Rattle.btree.specs.TreeValue.{is_key, is_less, rids_of, pairs_between}
+
+-- the least pair of a key
+abbrev pub first_of : List ℕ → Pair
+first_of key = record { key = key; rid = record { page = 0; slot = 0 } }
+
+-- the RIDs of the pairs at the front that have the key
+abbrev pub leading : List ℕ → List Pair → List Rid
+leading key [] = []
+leading key (p ∷ ps) = if is_key key p then p.rid ∷ leading key ps else []
+
+then_first : (r s : Ordering) → is_lt s ≡ false → is_lt (ordering_then r s) ≡ is_lt r
+then_first Less s h = refl
+then_first Equal s h = h
+then_first Greater s h = refl
+
+-- a pair is before the least one of a key where its key is less
+before_first : (p : Pair) (key : List ℕ) → is_before p (first_of key) ≡ is_less p.key key
+unfolding is_before
+before_first p key =
+    then_first (slice_cmp nat_cmp p.key key) (rid_cmp p.rid (record { page = 0; slot = 0 })) (then_least _ _ (least_number p.rid.page) (least_number p.rid.slot))
+
+greater : (o : Ordering) → is_lt o ≡ false → is_eq o ≡ false → is_lt (ordering_reverse o) ≡ true
+greater Less e f = absurd (true≢false e)
+greater Equal e f = absurd (true≢false f)
+greater Greater e f = refl
+
+then_less : (r s : Ordering) → is_lt r ≡ true → is_lt (ordering_then r s) ≡ true
+then_less Less s e = refl
+then_less Equal s e = absurd (false≢true e)
+then_less Greater s e = absurd (false≢true e)
+
+-- a pair of a greater key is behind each of the key
+behind_key : (p : Pair) (key : List ℕ) (rid : Rid) → is_less p.key key ≡ false → is_key key p ≡ false → is_before (record { key = key; rid = rid }) p ≡ true
+unfolding is_before
+behind_key p key rid e f =
+    then_less (slice_cmp nat_cmp key p.key) (rid_cmp rid p.rid) (ap is_lt (nat_list_cmp_total.antisymm key p.key) ∙ greater (slice_cmp nat_cmp p.key key) e f)
+
+equal : (o : Ordering) → is_eq o ≡ true → o ≡ Equal
+equal Less e = absurd (false≢true e)
+equal Equal e = refl
+equal Greater e = absurd (false≢true e)
+
+key_is : (p : Pair) (key : List ℕ) → is_key key p ≡ true → p.key ≡ key
+key_is p key e = slice_cmp-IsAntisymmetric nat_cmp-IsAntisymmetric p.key key (equal (slice_cmp nat_cmp p.key key) e)
+
+less_apart : (o : Ordering) → is_lt o ≡ true → is_eq o ≡ false
+less_apart Less e = refl
+less_apart Equal e = absurd (false≢true e)
+less_apart Greater e = absurd (false≢true e)
+
+filter_none : (test : Pair → Bool) (ps : List Pair) → ((p : Pair) → In p ps → test p ≡ false) → filter test ps ≡ []
+filter_none test [] h = refl
+filter_none test (p ∷ ps) h = rw (h p (inl refl)) (filter_none test ps (λ q i. h q (inr i)))
+
+-- what is behind a pair that isn't before another isn't either
+not_before : (p q r : Pair) → is_before p q ≡ true → is_before p r ≡ false → is_before q r ≡ false
+not_before p q r up stop = elim (cases_Bool (is_before q r)) [
+  | inl e ↦ absurd (both_ways _ stop (before-strict.onward p q r up e))
+  | inr e ↦ e
+]
+
+-- no pair behind one of a greater key has the key
+past : (key : List ℕ) (p q : Pair) → is_less p.key key ≡ false → is_key key p ≡ false → is_before p q ≡ true → is_key key q ≡ false
+past key p q e f up = elim (cases_Bool (is_key key q)) [
+  | inl same ↦
+      let there : record { key = key; rid = q.rid } ≡ q = pair_same _ q (sym (key_is q key same)) refl in
+      let back : is_before q p ≡ true = subst (λ t. is_before t p ≡ true) there (behind_key p key q.rid e f) in
+      absurd (both_ways _ (one_way before-strict p q up) back)
+  | inr other ↦ other
+]
+
+leading_rest : (key : List ℕ) (ps : List Pair) → IsRising is_before ps → ((p : Pair) → In p ps → is_less p.key key ≡ false) → leading key ps ≡ rids_of key ps
+leading_rest key [] r h = refl
+leading_rest key (p ∷ ps) r h = elim (cases_Bool (is_key key p)) [
+  | inl e ↦ rw e (ap (λ rids. p.rid ∷ rids) (leading_rest key ps r.1 (λ q i. h q (inr i))))
+  | inr e ↦ rw e (sym (ap (map (λ q. q.rid)) (filter_none (is_key key) ps (λ q i. past key p q (h p (inl refl)) e (r.0 q i)))))
+]
+
+-- none of the pairs from the least of a key on has a less key
+from_key : (key : List ℕ) (p : Pair) (ps : List Pair) → IsRising is_before (p ∷ ps) → is_before p (first_of key) ≡ false → (q : Pair) → In q (p ∷ ps) → is_less q.key key ≡ false
+from_key key p ps r stop q h = elim h [
+  | inl is ↦ ap (λ t. is_less t.key key) is ∙ sym (before_first p key) ∙ stop
+  | inr i ↦ sym (before_first q key) ∙ not_before p q (first_of key) (r.0 q i) stop
+]
+
+-- the RIDs of a key
+pub leading_is : (key : List ℕ) (ps : List Pair) → IsRising is_before ps → leading key (from (first_of key) ps) ≡ rids_of key ps
+leading_is key [] r = refl
+leading_is key (p ∷ ps) r = elim (cases_Bool (is_before p (first_of key))) [
+  | inl e ↦ rw (e, less_apart (slice_cmp nat_cmp p.key key) (sym (before_first p key) ∙ e)) (leading_is key ps r.1)
+  | inr e ↦ rw e (leading_rest key (p ∷ ps) r (from_key key p ps r e))
+]
+
+between_rest : (lo hi : List ℕ) (ps : List Pair) → IsRising is_before ps → ((p : Pair) → In p ps → is_less p.key lo ≡ false)
+    → take_while (λ p. is_less p.key hi) ps ≡ pairs_between lo hi ps
+between_rest lo hi [] r h = refl
+between_rest lo hi (p ∷ ps) r h = elim (cases_Bool (is_less p.key hi)) [
+  | inl e ↦
+      take_while-cons (λ q. is_less q.key hi) p ps
+      ∙ rw (e, h p (inl refl)) (ap (λ qs. p ∷ qs) (between_rest lo hi ps r.1 (λ q i. h q (inr i))))
+  | inr e ↦
+      let none : (q : Pair) → In q ps → (not (is_less q.key lo) && is_less q.key hi) ≡ false =
+      λ q i. rw (sym (before_first q hi) ∙ not_before p q (first_of hi) (r.0 q i) (before_first p hi ∙ e), h q (inr i)) refl in
+      take_while-cons (λ q. is_less q.key hi) p ps
+      ∙ rw (e, h p (inl refl)) (sym (filter_none (λ q. not (is_less q.key lo) && is_less q.key hi) ps none))
+]
+
+-- the pairs of the keys in a range
+pub between_is : (lo hi : List ℕ) (ps : List Pair) → IsRising is_before ps → take_while (λ p. is_less p.key hi) (from (first_of lo) ps) ≡ pairs_between lo hi ps
+between_is lo hi [] r = refl
+between_is lo hi (p ∷ ps) r = elim (cases_Bool (is_before p (first_of lo))) [
+  | inl e ↦ rw (e, sym (before_first p lo) ∙ e) (between_is lo hi ps r.1)
+  | inr e ↦ rw e (between_rest lo hi (p ∷ ps) r (from_key lo p ps r e))
+]

@@ -1,0 +1,16 @@
+pub mod Appending
+pub mod Around
+pub mod FanFacts
+pub mod FanGrown
+pub mod FanInserted
+pub mod MarksGrown
+pub mod LeafGrown
+pub mod Leaving
+pub mod Loads
+pub mod MarkFacts
+pub mod Middles
+pub mod Removed
+pub mod TreeFacts
+pub mod Weaves
+pub mod Sets
+pub mod Keys

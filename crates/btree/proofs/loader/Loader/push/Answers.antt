@@ -1,0 +1,80 @@
+use Rattle.std.proofs.Common.{◌≡◌, ◌+◌, Option, refl, ◌++◌, [], ◌∷◌, List, length, length-append, ap, sym, ◌∙◌, subst, inr, arith}
+use Rattle.keybytes.specs.declared.pair.Pair.{Pair}
+use Rattle.keybytes.specs.Pairs.{AreOrdered}
+use Rattle.tree_nodes.specs.Lists.{IsRising}
+use Rattle.tree_nodes.specs.Order.{is_before}
+use Rattle.tree_nodes.proofs.Strict.{pair_same}
+use Rattle.btree.specs.declared.loader.Full.{Full}
+use Rattle.btree.specs.Loading.{marks_behind, height_behind}
+use Rattle.btree.specs.Marks.{mark_before, items_of, pairs_in}
+use Rattle.btree.proofs.Loads.{pushed, started}
+use Rattle.btree.proofs.Sets.{rises_of}
+use Rattle.btree.proofs.TreeFacts.{deeper_height}
+use Rattle.btree.proofs.loader.Loader.push.Goals as goal
+
+-- the pairs so far and the next one rise
+order : (was now : List Pair) (p : Pair) → was ≡ now → AreOrdered (now ++ p ∷ []) → IsRising is_before (was ++ p ∷ [])
+order was now p is o = subst (λ ps. IsRising is_before (ps ++ p ∷ [])) (sym is) (rises_of (now ++ p ∷ []) o)
+
+pub push-requires-clause-rise : goal.push-requires-clause-rise
+push-requires-clause-rise c =
+    (pushed (marks_behind c.self.inside.full) c.self.inside.leaf c.args.pair c.self.invariant.rising c.self.invariant.begun (order _ _ c.args.pair c.self.view_is c.requires)).leaf
+
+pub invariant_of-self : goal.invariant_of-self
+invariant_of-self c =
+    let ms = marks_behind c.self.inside.full in
+    let ps : List Pair = c.self.inside.leaf in
+    let p = c.args.pair in
+    let b = pushed ms ps p c.self.invariant.rising c.self.invariant.begun (order _ _ p c.self.view_is c.requires) in
+    let R : List Pair → Type 0 = λ qs. IsRising mark_before (ms ++ items_of qs) in
+    let is : c.push.new.self ≡ ps ++ p ∷ [] = c.push.ensures in
+    let len : length (ps ++ p ∷ []) ≡ length ps + 1 = length-append ps (p ∷ []) in
+    let all : length (pairs_in ms ++ c.push.new.self) ≡ length (pairs_in ms ++ ps) + 1 =
+    ap length (ap (λ (qs : List Pair). pairs_in ms ++ qs) is ∙ b.pairs) ∙ length-append (pairs_in ms ++ ps) (p ∷ []) in
+    record {
+      rising = subst R (sym is) b.rising;
+      begun = inr (omega (arith, ap length is, len));
+      height_is = c.self.invariant.height_is;
+      count_is = omega (arith, all, c.self.invariant.count_is, c.in-Some.ensures);
+      tidy = c.self.invariant.tidy;
+    }
+
+pub invariant_of-self-2 : goal.invariant_of-self-2
+invariant_of-self-2 c =
+    let ms = marks_behind c.self.inside.full in
+    let ps : List Pair = c.self.inside.leaf in
+    let p = c.args.pair in
+    let is : c.append_under-root.result.root.marks ≡ ms ++ items_of ps =
+    c.append_under-root.ensures.marks
+    ∙ ap (λ (f : Option Full). marks_behind f ++ items_of c.replace-full.result) c.take.ensures.value
+    ∙ ap (λ (qs : List Pair). ms ++ items_of qs) c.replace-full.ensures.value in
+    let alone : c.replace-full.new.dest ≡ p ∷ [] =
+    c.replace-full.ensures.after ∙ c.push-2.ensures ∙ ap (λ (qs : List Pair). qs ++ p ∷ []) c.in_ok-leaf.ensures.empty in
+    let b = started ms c.append_under-root.result.root.marks ps p (record { key = c.in_ok-clone.field-0; rid = p.rid }) c.replace-full.new.dest
+    c.self.invariant.rising c.self.invariant.begun (order _ _ p c.self.view_is c.requires) is (pair_same _ p c.in_ok-clone.ensures.same refl) alone in
+    let all = ap length b.pairs ∙ length-append (pairs_in ms ++ ps) (p ∷ []) in
+    let under = c.append_under-root.ensures in
+    record {
+      rising = b.rising;
+      begun = inr (omega (arith, b.one));
+      height_is =
+          ap (λ n. n + c.one_if.result) (c.self.invariant.height_is ∙ ap height_behind (sym c.take.ensures.value))
+          ∙ deeper_height _ _ _ _ under.height.is c.one_if.ensures;
+      count_is = omega (arith, all, c.self.invariant.count_is, c.in-Some.ensures);
+      tidy = record { leaf = under.used.leaf; blank = under.used.blank };
+    }
+
+pub returns-clause-ok : goal.returns-clause-ok
+returns-clause-ok c =
+    let ms = marks_behind c.self.inside.full in
+    let ps : List Pair = c.self.inside.leaf in
+    let p = c.args.pair in
+    let is : c.append_under-root.result.root.marks ≡ ms ++ items_of ps =
+    c.append_under-root.ensures.marks
+    ∙ ap (λ (f : Option Full). marks_behind f ++ items_of c.replace-full.result) c.take.ensures.value
+    ∙ ap (λ (qs : List Pair). ms ++ items_of qs) c.replace-full.ensures.value in
+    let alone : c.replace-full.new.dest ≡ p ∷ [] =
+    c.replace-full.ensures.after ∙ c.push-2.ensures ∙ ap (λ (qs : List Pair). qs ++ p ∷ []) c.in_ok-leaf.ensures.empty in
+    let b = started ms c.append_under-root.result.root.marks ps p (record { key = c.in_ok-clone.field-0; rid = p.rid }) c.replace-full.new.dest
+    c.self.invariant.rising c.self.invariant.begun (order _ _ p c.self.view_is c.requires) is (pair_same _ p c.in_ok-clone.ensures.same refl) alone in
+    b.pairs ∙ ap (λ (qs : List Pair). qs ++ p ∷ []) c.self.view_is

@@ -1,0 +1,14 @@
+pub mod Falls
+pub mod From
+pub mod Grown
+pub mod Left
+pub mod Loading
+pub mod Marks
+pub mod Nodes
+pub mod Raising
+pub mod Roots
+pub mod Seen
+pub mod Splits
+pub mod TreeValue
+pub mod Trees
+pub mod Weave

@@ -1,0 +1,7 @@
+-- A node as the one above it sees it.
+use Rattle.std.specs.Prelude.{ℕ, List}
+use Rattle.btree.specs.Marks.{Mark}
+
+pub record Seen : Type 0 where
+  pub marks : List Mark
+  pub height : ℕ

@@ -1,0 +1,28 @@
+-- A tree as its callers see it, and what they may ask of its pairs.
+use Rattle.std.specs.Prelude.{ℕ, Bool, not, ◌&&◌, List, map}
+use Rattle.std.specs.List.{filter}
+use Rattle.std.specs.Ordering.{nat_cmp, is_eq, is_lt}
+use Rattle.std.specs.Cmp.Lexicographic.{slice_cmp}
+use Rattle.keybytes.specs.declared.pair.Pair.{Pair}
+use Rattle.keybytes.specs.declared.rid.Rid.{Rid}
+
+-- the pairs in order, and whether there is room for one more
+pub record TreeValue : Type 0 where
+  pub pairs : List Pair
+  pub room : Bool
+
+-- the first key is less than the second
+abbrev pub is_less : List ℕ → List ℕ → Bool
+is_less a b = is_lt (slice_cmp nat_cmp a b)
+
+-- that is the key of the pair
+abbrev pub is_key : List ℕ → Pair → Bool
+is_key key pair = is_eq (slice_cmp nat_cmp pair.key key)
+
+-- the RIDs that have the key, in the order of the pairs
+abbrev pub rids_of : List ℕ → List Pair → List Rid
+rids_of key pairs = map (λ pair. pair.rid) (filter (is_key key) pairs)
+
+-- the pairs whose key isn't less than lo, and less than hi
+abbrev pub pairs_between : List ℕ → List ℕ → List Pair → List Pair
+pairs_between lo hi pairs = filter (λ pair. not (is_less pair.key lo) && is_less pair.key hi) pairs

@@ -1,0 +1,196 @@
+ghost use Rattle.std.specs.Prelude.{◌≡◌, true, [], length, map, IfOk, IfErr, OnOk, Some, if◌then◌else◌};
+ghost use Rattle.std.specs.FinMap.{contains_key};
+ghost use Rattle.keybytes.specs.Pairs.{set_of, with_pair, without_pair, AreOrdered};
+ghost use Rattle.tree_nodes.specs.Lists.{IsRising};
+ghost use Rattle.tree_nodes.specs.Order.{PairsRise};
+ghost use Rattle.btree.specs.From.{from};
+ghost use Rattle.btree.specs.Left.{pairs_left, range_left};
+ghost use Rattle.btree.specs.Marks.{mark_before, pairs_in};
+ghost use Rattle.btree.specs.Splits.{IsTidy};
+ghost use Rattle.btree.specs.TreeValue.{rids_of, pairs_between};
+
+use crate::node::Node;
+use crate::pairs::Pairs;
+use crate::range::Range;
+use crate::rooting::{Rooted, insert_under, remove_under};
+use crate::spare::Spare;
+use keybytes::{Fault, Key, Pair, Rid};
+use std::alloc::Global;
+use std::cmp::Ordering;
+use std::marker::Model;
+
+/// Pairs of a key and a RID in order, none twice. Contracts see the list of the pairs, and whether there is room for one
+/// more.
+#[derive(Drop)]
+pub struct Tree {
+    alloc: Global,
+    root: Option<Node>,
+    height: usize,
+    count: usize,
+    spare: Spare,
+    ready: bool,
+}
+
+impl Model for Tree {
+    ghost use Rattle.btree.specs.TreeValue.{TreeValue};
+
+    ghost Value = { TreeValue };
+
+    ghost use Rattle.btree.specs.Trees.{tree_value, IsTree};
+
+    ghost view = { tree_value };
+
+    ghost invariant = { IsTree };
+}
+
+impl Tree {
+    /// An empty tree.
+    pub fn new(alloc: Global) -> Tree
+        ensures { result.pairs ≡ [] }
+    {
+        Tree {
+            alloc,
+            root: None,
+            height: 0,
+            count: 0,
+            spare: Spare::new(alloc),
+            ready: false,
+        }
+    }
+
+    /// A tree of that root, which is as high and has as many pairs as that.
+    pub(crate) fn of(alloc: Global, root: Node, height: usize, count: usize, spare: Spare) -> Tree
+        requires rising { IsRising mark_before root.marks }
+        requires height { height ≡ root.height }
+        requires count { count ≡ length (pairs_in root.marks) }
+        requires tidy { IsTidy spare }
+        ensures { result.pairs ≡ pairs_in root.marks }
+    {
+        Tree {
+            alloc,
+            root: Some(root),
+            height,
+            count,
+            spare,
+            ready: false,
+        }
+    }
+
+    /// Does nothing: its clause tells what every tree keeps.
+    pub fn laws(&self)
+        ensures { AreOrdered self.now.pairs }
+    {
+        let _kept = &self.root;
+    }
+
+    /// How many pairs there are.
+    pub fn len(&self) -> usize
+        ensures { result ≡ length self.now.pairs }
+    {
+        self.count
+    }
+
+    /// Whether the pair is there.
+    pub fn contains(&self, key: &Key, rid: Rid) -> bool
+        ensures { result ≡ contains_key (set_of self.now.pairs) (record { key = key.now; rid = rid }) }
+    {
+        match &self.root {
+            Some(root) => root.contains(key, rid),
+            None => false,
+        }
+    }
+
+    /// The RIDs that have the key, in order.
+    pub fn rids(&self, key: &Key) -> Result<Vec<Rid>, Fault>
+        ensures rids { IfOk result (λ rids. rids.items ≡ rids_of key.now self.now.pairs) }
+        ensures memory { IfErr result (λ fault. fault ≡ Fault.Memory) }
+    {
+        let mut rids = Vec::new(self.alloc);
+        let mut pairs = self.from(key);
+        while let Some(pair) = pairs.next() {
+            if pair.key.cmp(key) != Ordering::Equal {
+                break;
+            }
+            rids.push(pair.rid)?;
+        }
+        Ok(rids)
+    }
+
+    /// The pairs whose key isn't less than `lo`, and less than `hi`, in order. Of all that, `hi` alone is copied.
+    pub fn range(&self, lo: &Key, hi: &Key) -> Result<Range<'_>, Fault>
+        ensures pairs { IfOk result (λ range. range_left range ≡ pairs_between lo.now hi.now self.now.pairs) }
+        ensures memory { IfErr result (λ fault. fault ≡ Fault.Memory) }
+    {
+        let end = hi.clone()?;
+        Ok(Range {
+            pairs: self.from(lo),
+            end,
+        })
+    }
+
+    /// All pairs in order.
+    pub fn iter(&self) -> Pairs<'_>
+        ensures { pairs_left result ≡ self.now.pairs }
+    {
+        self.from(&Key::new(self.alloc))
+    }
+
+    /// The pairs in order, from the least that the key may have.
+    fn from(&self, key: &Key) -> Pairs<'_>
+        ensures pairs { pairs_left result ≡ from (record { key = key.now; rid = record { page = 0; slot = 0 } }) self.now.pairs }
+        ensures rise { PairsRise self.now.pairs }
+    {
+        Pairs::new(self.root.as_ref(), key, Rid { page: 0, slot: 0 })
+    }
+
+    /// Takes the memory that the insert of a pair needs, whatever its key. An `Err` changes nothing that contracts see.
+    pub fn make_room(&mut self, _key: &Key) -> Result<(), Fault>
+        ensures pairs { self.new.pairs ≡ self.old.pairs }
+        ensures ok { OnOk result (self.new.room ≡ true) }
+        ensures memory { IfErr result (λ fault. fault ≡ Fault.Memory) }
+    {
+        if self.ready {
+            return Ok(());
+        }
+        if self.count == usize::MAX {
+            return Err(Fault::Memory);
+        }
+        self.spare.fill(self.alloc, self.height)?;
+        self.ready = true;
+        Ok(())
+    }
+
+    /// Puts the pair into its place, unless it is there.
+    pub fn insert(&mut self, key: Key, rid: Rid)
+        requires { self.old.room ≡ true }
+        ensures { set_of self.new.pairs ≡ with_pair (Some (record { key = key; rid = rid })) (set_of self.old.pairs) }
+    {
+        self.ready = false;
+        let Rooted { raised, added } = insert_under(
+            self.root.take(),
+            Pair { key, rid },
+            &mut self.spare,
+        );
+        self.root = Some(raised.root);
+        self.height += one_if(raised.deeper);
+        self.count += one_if(added);
+    }
+
+    /// Takes the pair out, and answers whether it was there.
+    pub fn remove(&mut self, key: &Key, rid: Rid) -> bool
+        ensures found { result ≡ contains_key (set_of self.old.pairs) (record { key = key.now; rid = rid }) }
+        ensures removed { set_of self.new.pairs ≡ without_pair (Some (record { key = key.now; rid = rid })) (set_of self.old.pairs) }
+        ensures room { self.new.room ≡ self.old.room }
+    {
+        let found = remove_under(&mut self.root, key, rid);
+        self.count -= one_if(found);
+        found
+    }
+}
+
+/// 1 where the test is true, else 0.
+pub fn one_if(test: bool) -> usize
+    ensures { result ≡ (if test then 1 else 0) }
+{
+    if test { 1 } else { 0 }
+}

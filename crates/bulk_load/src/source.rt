@@ -1,0 +1,26 @@
+use keybytes::{Fault, Pair};
+use std::vec::IntoIter;
+
+/// Pairs that come one by one.
+pub trait Source {
+    ghost use Rattle.std.specs.Prelude.{◌≡◌, List, [], ◌∷◌, IfOk, IfErr, MatchOption};
+    ghost use Rattle.keybytes.specs.declared.pair.Pair.{Pair};
+
+    /// The pairs that are left.
+    ghost left: { Self → List Pair };
+
+    /// The next pair, or none where none is left.
+    fn next(&mut self) -> Result<Option<Pair>, Fault>
+        ensures first { IfOk result (λ next. MatchOption next (left self.old ≡ []) (λ pair. left self.old ≡ pair ∷ left self.new)) }
+        ensures memory { IfErr result (λ fault. fault ≡ Fault.Memory) };
+}
+
+impl Source for IntoIter<Pair> {
+    ghost use Rattle.std.specs.Vec.Iter.{into_iter_items};
+
+    ghost left = { into_iter_items };
+
+    fn next(&mut self) -> Result<Option<Pair>, Fault> {
+        Ok(Iterator::next(self))
+    }
+}

@@ -1,0 +1,6 @@
+pub mod Counts
+pub mod Fronts
+pub mod LeafFacts
+pub mod Places
+pub mod Rising
+pub mod Strict

@@ -1,0 +1,6 @@
+pub mod Fans
+pub mod Found
+pub mod Leaves
+pub mod Lending
+pub mod Lists
+pub mod Order
