@@ -6,7 +6,8 @@ use Rattle.script.specs.Fields.{SpellEach, SpellsCell, SpellsKind, SpellsNumber,
 use Rattle.script.specs.Lines.{SpellLine, SpellParts, SpellTable, SpellsLabel, name_of}
 use Rattle.script.specs.Shapes.{Fit, HasShape, IsRemark, IsSpelled, parts_of, repeated_of, written}
 use Rattle.script.specs.declared.command.Command.{Command}
-use Rattle.script.specs.declared.command.Command.TheVariants.{Row, Begin, Insert, Update, Delete, Undo, Commit, Get, Start as StartCommand, Scan, Digest, Seal, Load, Switch, Abandon, Side, Pairs, Rest}
+use Rattle.script.specs.declared.command.Command.TheVariants.{Row, Begin, Insert, Update, Delete, Undo, Commit, Get, Start as StartCommand, Scan, Digest, Seal}
+use Rattle.script.specs.declared.command.Command.TheVariants.{Load, Switch, Abandon, Side, Pairs, Rest}
 use Rattle.script.specs.declared.command_name.CommandName.{CommandName}
 use Rattle.script.specs.declared.command_name.CommandName.TheVariants as name
 use Rattle.script.specs.declared.line.Line.{Line}
@@ -67,7 +68,8 @@ table_fits [] table spelled = spelled
 table_fits (f ∷ fs) table spelled = ((table.slot_limit, spelled.0), each_fits SpellsKind part.Kind kind_part fs table.kinds.items spelled.1)
 
 -- the fields of a command
-command_fits : (fields : List (List ℕ)) (command : Command) → SpellParts fields command → Fit (parts_of (name_of command)) (repeated_of (name_of command)) fields
+command_fits : (fields : List (List ℕ)) (command : Command) → SpellParts fields command
+    → Fit (parts_of (name_of command)) (repeated_of (name_of command)) fields
 command_fits fields (Row cells) spelled = each_fits SpellsCell part.Cell cell_part fields cells.items spelled
 command_fits fields (Begin label) spelled = one_fits SpellsLabel part.Label label_part fields label spelled
 command_fits [] (Insert label cells) spelled = spelled

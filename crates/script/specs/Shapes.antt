@@ -6,7 +6,8 @@ use Rattle.keybytes.specs.declared.kind.Kind.{Kind}
 use Rattle.keybytes.specs.declared.rid.Rid.{Rid}
 use Rattle.script.specs.Fields.{is_label, SpellsCell, SpellsDealing, SpellsKind, SpellsNumber, SpellsRid, SpellsSpec}
 use Rattle.script.specs.declared.command_name.CommandName.{CommandName}
-use Rattle.script.specs.declared.command_name.CommandName.TheVariants.{Table, Row, Begin, Insert, Update, Delete, Undo, Commit, Get, Start, Scan, Digest, Seal, Load, Switch, Abandon, Side, Pairs, Rest}
+use Rattle.script.specs.declared.command_name.CommandName.TheVariants.{Table, Row, Begin, Insert, Update, Delete, Undo, Commit, Get, Start, Scan, Digest, Seal}
+use Rattle.script.specs.declared.command_name.CommandName.TheVariants.{Load, Switch, Abandon, Side, Pairs, Rest}
 use Rattle.script.specs.declared.dealing.Dealing.{Dealing}
 use Rattle.script.specs.declared.part.Part.{Part}
 use Rattle.script.specs.declared.part.Part.TheVariants as part

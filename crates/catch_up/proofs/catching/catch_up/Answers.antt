@@ -19,10 +19,12 @@ loop-built-preserved-then-in_ring-gt0 c =
     let known : List Entry = known_items c.beside-in_ring.new.consumer in
     let side : SideFileValue = c.beside-in_ring.new.self in
     let same : received c.beside-in_ring.new.consumer ≡ now = search rules in
-    let all = received_all (received c.beside-in_ring.new.consumer) known side.end.sent (received c.apply_known.new.ring) c.beside-in_ring.result c.beside-in_ring.ensures.value
+    let all = received_all (received c.beside-in_ring.new.consumer) known side.end.sent (received c.apply_known.new.ring) c.beside-in_ring.result
+    c.beside-in_ring.ensures.value
     c.beside-in_ring.ensures.in_order c.apply_known.ensures.received in
     let done : received c.apply_known.new.ring ≡ now ++ known = all.0 ∙ ap (λ xs. xs ++ known) same in
-    let taken : take c.beside-in_ring.result known ≡ known = take_all c.beside-in_ring.result known (let value = c.beside-in_ring.ensures.value in omega (arith, value)) in
+    let taken : take c.beside-in_ring.result known ≡ known =
+    take_all c.beside-in_ring.result known (let value = c.beside-in_ring.ensures.value in omega (arith, value)) in
     let build = c.args.built.now.build in
     let step : set_of c.apply_known.new.built.pairs ≡ apply_entries (told_to build known) (set_of c.loop-built.built.pairs) =
     c.apply_known.ensures.applied
