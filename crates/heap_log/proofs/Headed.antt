@@ -22,6 +22,7 @@ use Rattle.heap_log.specs.Standing.{newest_at, standing_count, NamesEarlier}
 use Rattle.heap_log.proofs.Last.{count_below-some, count_below-le}
 use Rattle.heap_log.proofs.Added.{last-added, undone-fresh, newest-plain, count-plain, newest-undo, count-undo, newest-unmoved, count-unmoved}
 use Rattle.keybytes.proofs.SameRids.{same_rid-true, same_rid-refl}
+use Rattle.heap_log.proofs.Growing.{undone-past}
 use Rattle.heap_log.proofs.Records.{txn_of-write, one_writer, one_place, some_place-by, some_place-there, write_within, record_at-read}
 
 same_txn_head : (m n o p : Option ℕ) (a b : ℕ) → m ≡ n → o ≡ p → a ≡ b
@@ -214,3 +215,10 @@ pub stands-read : (log : List LogRec) (links : List Link) → AreLinks log links
 stands-read log links h passes n link rec low high is link_is stands e =
     and_from (passes (record_at log n)) (not (undone log n)) (ap passes (record_at-read log n rec low high is) ∙ e)
     (not_from_false (undone log n) (undone-read log links h n link low high link_is ∙ stands))
+
+-- an undo of a record that is read and is no write
+pub heads-other : (log : List LogRec) (links : List Link) → AreLinks log links → (txn n : ℕ) (rec : LogRec) → 1 ≤ n → n ≤ length log
+    → rec ≡ get_or log (n - 1) rec → (IsSome (place_of (Some rec)) → ⊥) → AreHeadsAfter log (log ++ Undo txn n ∷ []) None
+heads-other log links h txn n rec low high is none =
+    let past : undone log (length log + 1) ≡ false = undone-past log h.earlier (length log + 1) (omega arith) in
+    heads-no_write log txn n past (low, high) (λ some. none (rw (record_at-read log n rec low high is) at some))
