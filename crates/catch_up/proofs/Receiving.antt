@@ -1,5 +1,5 @@
 -- How far a side-file is applied.
-use Rattle.std.proofs.Common.{◌≡◌, ℕ, ◌+◌, ◌-◌, ◌≤◌, List, [], ◌++◌, length, length-append, take, drop, refl, sym, ap, ◌∙◌, arith}
+use Rattle.std.proofs.Common.{◌≡◌, ℕ, ◌+◌, ◌-◌, ◌≤◌, List, ◌++◌, length, length-append, take, drop, refl, ap, ◌∙◌, arith}
 use Rattle.std.proofs.lemmas.List.{take_all, drop-append-le, take-append-le, length-take, length-drop}
 use Rattle.std.specs.Prelude.{min}
 use Rattle.side_file.specs.declared.entry.Entry.{Entry}

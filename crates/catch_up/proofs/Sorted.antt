@@ -1,6 +1,6 @@
 -- Lists of pairs in order: where a pair stands in one, and what is left when it is put in or taken out.
-use Rattle.std.proofs.Common.{◌≡◌, ℕ, zero, suc, ◌+◌, ◌<◌, ◌≤◌, Bool, true, false, List, [], ◌∷◌, ◌++◌, length, take, drop, map, refl, sym, ap, ◌∙◌, subst}
-use Rattle.std.proofs.Common.{arith, inl, inr}
+use Rattle.std.proofs.Common.{◌≡◌, ℕ, zero, suc, ◌<◌, ◌≤◌, Bool, true, false, List, [], ◌∷◌, length, map, refl, sym, ap, ◌∙◌, subst}
+use Rattle.std.proofs.Common.{arith}
 use Rattle.std.specs.Prelude.{◌&&◌, ◌||◌, not, T, slice_index_or}
 use Rattle.std.specs.List as list
 use Rattle.std.specs.List.{AllWithin, HoldsAt}
@@ -11,7 +11,7 @@ use Rattle.std.specs.Ordering.{is_lt, is_eq, ordering_index, ordering_reverse, e
 use Rattle.std.specs.FinMap.{keys, entries, entries_sorted}
 use Rattle.std.specs.FinMap.Entries.{is_sorted, below_all}
 use Rattle.std.specs.FinSet.{FinSet}
-use Rattle.std.proofs.lemmas.Bool.{cases_Bool, false≢true, false_from_ne_true, or_left, or_right}
+use Rattle.std.proofs.lemmas.Bool.{false≢true, false_from_ne_true, or_left, or_right}
 use Rattle.keybytes.specs.Pairs.{pair_cmp, set_of}
 use Rattle.keybytes.specs.declared.pair.Pair.{Pair}
 use Rattle.keybytes.proofs.PairSets.{pairs_total, exact_of_pairs, marked, is_in, items_are, tied_pairs, itself}

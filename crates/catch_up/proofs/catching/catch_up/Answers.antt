@@ -1,4 +1,4 @@
-use Rattle.std.proofs.Common.{rules, ◌≡◌, ◌∙◌, ◌+◌, ◌-◌, ◌<◌, ◌++◌, List, length, length-append, take, drop, sym, ap, arith}
+use Rattle.std.proofs.Common.{rules, ◌≡◌, ◌∙◌, ◌++◌, List, length, length-append, take, drop, ap, arith}
 use Rattle.std.proofs.lemmas.List.{take_all, length-take, length-drop}
 use Rattle.side_file.specs.Changes.{feed_most}
 use Rattle.visibility.specs.Applied.{apply_entries}
@@ -6,7 +6,7 @@ use Rattle.rtrb.specs.Ring.{received, known_items}
 use Rattle.keybytes.specs.Pairs.{set_of}
 use Rattle.side_file.specs.declared.entry.Entry.{Entry}
 use Rattle.side_file.specs.SideFileValue.{SideFileValue}
-use Rattle.catch_up.specs.Built.{all_waiting, told_to}
+use Rattle.catch_up.specs.Built.{told_to}
 use Rattle.catch_up.proofs.Receiving.{received_all, begins_on, goes_on, count_waiting}
 use Rattle.catch_up.proofs.Telling.{applied_more}
 use Rattle.catch_up.proofs.catching.catch_up.Goals as goal
