@@ -8,7 +8,7 @@ use rtrb::Consumer;
 use side_file::{Entry, SideFile};
 use std::alloc::{AllocError, Global};
 
-/// A side-file, with the other end of its ring.
+/// A side-file, with the other end of its ring. What is refused for want of memory is tried once more: it has changed nothing.
 #[derive(Drop)]
 pub struct BothEnds {
     side: SideFile,
@@ -18,12 +18,17 @@ pub struct BothEnds {
 
 impl BothEnds {
     pub fn new(alloc: Global) -> Result<BothEnds, Fault> {
-        let (side, consumer) = SideFile::new(alloc)?;
+        let (side, consumer) = match SideFile::new(alloc) {
+            Ok(ends) => ends,
+            Err(_) => SideFile::new(alloc)?,
+        };
         Ok(BothEnds { side, consumer })
     }
 
     pub fn append(&mut self, entry: Entry) -> Result<(), Fault> {
-        self.side.reserve(1)?;
+        if self.side.reserve(1).is_err() {
+            self.side.reserve(1)?;
+        }
         self.side.append(entry);
         Ok(())
     }
@@ -55,7 +60,9 @@ impl BothEnds {
     }
 
     pub fn catch_up(&mut self, built: &mut Built) -> Result<(), Fault> {
-        make_room(built, &mut self.side, &mut self.consumer)?;
+        if make_room(built, &mut self.side, &mut self.consumer).is_err() {
+            make_room(built, &mut self.side, &mut self.consumer)?;
+        }
         catch_up(built, &mut self.side, &mut self.consumer);
         Ok(())
     }

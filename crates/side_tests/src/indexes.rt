@@ -93,3 +93,19 @@ fn take_a_thousand_entries(rt: HostRuntime) -> Result<(), Fail> {
     assert!(rt; pairs.len() == 1000 && matches!(pairs.first(), Some(pair) if pair.rid.page == 1));
     Ok(())
 }
+
+/// Ten entries into an index, whatever allocation fails.
+fn ten_entries(alloc: Global) -> Result<bool, Fault> {
+    let mut both = BothEnds::new(alloc)?;
+    for page in 0..10 {
+        both.append(entry(alloc, (7, Op::Insert, b'a', page))?)?;
+    }
+    let mut built = empty(alloc, 7);
+    both.catch_up(&mut built)?;
+    Ok(built.pairs().len() == 10)
+}
+
+#[test]
+fn an_index_where_memory_may_run_out(rt: HostRuntime) {
+    assert!(rt; ten_entries(rt.alloc()) == Ok(true));
+}

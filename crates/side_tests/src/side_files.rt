@@ -70,28 +70,10 @@ fn a_reset_drops_what_is_left(rt: HostRuntime) -> Result<(), Fail> {
     Ok(())
 }
 
-/// Appends once there is room, which is asked for once more where memory was refused: that has changed nothing.
-fn append_again(both: &mut BothEnds, alloc: Global, page: u32) -> Result<(), Fault> {
-    let left = both.left();
-    match both.append(entry(alloc, page)) {
-        Err(Fault::Memory) if both.left() == left => both.append(entry(alloc, page)),
-        said => said,
-    }
-}
-
-fn new_again(alloc: Global) -> Result<BothEnds, Fault> {
-    match BothEnds::new(alloc) {
-        Ok(both) => Ok(both),
-        Err(_) => BothEnds::new(alloc),
-    }
-}
-
 /// Ten entries through the ring, whatever allocation fails.
 fn ten_entries(alloc: Global) -> Result<bool, Fault> {
-    let mut both = new_again(alloc)?;
-    for page in 0..10 {
-        append_again(&mut both, alloc, page)?;
-    }
+    let mut both = BothEnds::new(alloc)?;
+    append_all(&mut both, alloc, 10)?;
     Ok(both.feed(10) == 10 && both.in_ring() == 10 && takes_all(&mut both, alloc, 0, 10))
 }
 
