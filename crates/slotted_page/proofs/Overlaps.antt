@@ -6,8 +6,7 @@ use Rattle.std.proofs.lemmas.List.{take-take}
 use Rattle.std.proofs.lemmas.List.Elements.{All-head, All-tail}
 use Rattle.std.proofs.lemmas.Slice.{between_is}
 use Rattle.slotted_page.specs.Slot.{Slot, row}
-use Rattle.slotted_page.specs.Entry.{slot_of, slots_of, IsPlaced}
-use Rattle.slotted_page.specs.Entry.{Apart}
+use Rattle.slotted_page.specs.Entry.{slot_of, slots_of, IsPlaced, Apart}
 use Rattle.slotted_page.specs.declared.entry.Entry.{Entry}
 use Rattle.slotted_page.specs.declared.entry.Entry.TheVariants.{Free, Held, Row}
 use Rattle.slotted_page.proofs.Packing.{Stacked, same_drop, placed_from_stacked}
