@@ -1,5 +1,6 @@
 -- Lists of pairs in order: where a pair stands in one, and what is left when it is put in or taken out.
-use Rattle.std.proofs.Common.{◌≡◌, ℕ, zero, suc, ◌+◌, ◌<◌, ◌≤◌, Bool, true, false, List, [], ◌∷◌, ◌++◌, length, take, drop, map, refl, sym, ap, ◌∙◌, subst, arith, inl, inr}
+use Rattle.std.proofs.Common.{◌≡◌, ℕ, zero, suc, ◌<◌, ◌≤◌, Bool, true, false, List, [], ◌∷◌, length, map, refl, sym, ap, ◌∙◌, subst}
+use Rattle.std.proofs.Common.{arith}
 use Rattle.std.specs.Prelude.{◌&&◌, ◌||◌, not, T, slice_index_or}
 use Rattle.std.specs.List as list
 use Rattle.std.specs.List.{AllWithin, HoldsAt}
@@ -10,7 +11,7 @@ use Rattle.std.specs.Ordering.{is_lt, is_eq, ordering_index, ordering_reverse, e
 use Rattle.std.specs.FinMap.{keys, entries, entries_sorted}
 use Rattle.std.specs.FinMap.Entries.{is_sorted, below_all}
 use Rattle.std.specs.FinSet.{FinSet}
-use Rattle.std.proofs.lemmas.Bool.{cases_Bool, false≢true, false_from_ne_true, or_left, or_right}
+use Rattle.std.proofs.lemmas.Bool.{false≢true, false_from_ne_true, or_left, or_right}
 use Rattle.keybytes.specs.Pairs.{pair_cmp, set_of}
 use Rattle.keybytes.specs.declared.pair.Pair.{Pair}
 use Rattle.keybytes.proofs.PairSets.{pairs_total, exact_of_pairs, marked, is_in, items_are, tied_pairs, itself}
@@ -141,7 +142,8 @@ insert_rises p qs zero rises within low high = (head_before p qs rises high, ris
 insert_rises p [] (suc i) rises within low high = absurd (omega (arith, within))
 insert_rises p (q ∷ qs) (suc i) rises within low high = (
   before_insert q p qs i (low 0 p (omega arith) (omega arith)) rises.0,
-  insert_rises p qs i rises.1 (omega (arith, within)) (λ k d a b. low (suc k) d (omega arith) (omega (arith, b))) (λ k d a b. high (suc k) d (omega (arith, a)) (omega (arith, b))),
+  insert_rises p qs i rises.1 (omega (arith, within)) (λ k d a b. low (suc k) d (omega arith) (omega (arith, b)))
+      (λ k d a b. high (suc k) d (omega (arith, a)) (omega (arith, b))),
 )
 
 pub insert_members : (p : Pair) (qs : List Pair) (i : ℕ) (q : Pair) → is_in q (list.insert qs i p) ≡ (eq_by_cmp pair_cmp q p || is_in q qs)
@@ -231,4 +233,5 @@ gap_in p (x ∷ qs) (suc i) within low high =
     let less : pair_cmp x p ≡ Less = low 0 p (omega arith) (omega arith) in
     let more : pair_cmp p x ≡ Greater = pairs_total.antisymm p x ∙ ap ordering_reverse less in
     ap (λ b. b || is_in p qs) (ap is_eq more)
-    ∙ gap_in p qs i (omega (arith, within)) (λ k d a b. low (suc k) d (omega arith) (omega (arith, b))) (λ k d a b. high (suc k) d (omega (arith, a)) (omega (arith, b)))
+    ∙ gap_in p qs i (omega (arith, within)) (λ k d a b. low (suc k) d (omega arith) (omega (arith, b)))
+    (λ k d a b. high (suc k) d (omega (arith, a)) (omega (arith, b)))

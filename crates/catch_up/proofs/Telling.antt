@@ -1,6 +1,7 @@
 -- What entries do to an index, part by part.
-use Rattle.std.proofs.Common.{◌≡◌, ℕ, zero, suc, ◌+◌, ◌≤◌, Bool, true, false, List, [], ◌∷◌, ◌++◌, length, take, drop, map, append_assoc, refl, sym, ap, ◌∙◌, arith}
-use Rattle.std.specs.Prelude.{filter, ◌==◌, if◌then◌else◌}
+use Rattle.std.proofs.Common.{◌≡◌, ℕ, zero, suc, ◌+◌, Bool, true, false, List, [], ◌∷◌, ◌++◌, take, drop, map, append_assoc, refl, sym, ap, ◌∙◌}
+use Rattle.std.proofs.Common.{arith}
+use Rattle.std.specs.Prelude.{filter, ◌==◌}
 use Rattle.std.specs.FinSet.{FinSet}
 use Rattle.std.proofs.lemmas.Bool.{eq-eqb}
 use Rattle.std.proofs.lemmas.List.{map-append}
@@ -60,7 +61,8 @@ told_one : (build : ℕ) (entry : Entry) (same : Bool) → (entry.build == build
 told_one build entry same is s = rw is refl
 
 -- an entry of that build is applied, another's is not
-pub told_own : (build : ℕ) (entry : Entry) (s : FinSet pair_cmp) → entry.build ≡ build → apply_entries (told_to build (entry ∷ [])) s ≡ apply_entry (told entry) s
+pub told_own : (build : ℕ) (entry : Entry) (s : FinSet pair_cmp) → entry.build ≡ build
+    → apply_entries (told_to build (entry ∷ [])) s ≡ apply_entry (told entry) s
 told_own build entry s own = told_one build entry true (eq-eqb entry.build build own) s
 
 pub told_other : (build : ℕ) (entry : Entry) (s : FinSet pair_cmp) → (entry.build == build) ≡ false → apply_entries (told_to build (entry ∷ [])) s ≡ s

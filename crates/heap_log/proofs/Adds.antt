@@ -5,7 +5,8 @@ use Rattle.keybytes.specs.Rids.{same_rid}
 use Rattle.keybytes.specs.declared.rid.Rid.{Rid}
 use Rattle.heap_log.specs.declared.record.LogRec.{LogRec}
 use Rattle.heap_log.specs.declared.record.LogRec.TheVariants.{Write, Undo, Commit, Switch}
-use Rattle.heap_log.specs.Standing.{is_number, is_undo_of, is_write_at, is_write_of, last_at, last_below, last_of, live_at, newest_at, newest_standing, place_of, record_at, rid_of, row_at, standing_before, standing_count, stands_of, undone}
+use Rattle.heap_log.specs.Standing.{is_number, is_undo_of, is_write_at, is_write_of, last_at, last_below, last_of, live_at, newest_at, newest_standing}
+use Rattle.heap_log.specs.Standing.{place_of, record_at, rid_of, row_at, standing_before, standing_count, stands_of, undone}
 
 -- the row that stands at the RID once the record is added
 abbrev pub live_after : List LogRec → LogRec → Rid → Option (List Cell)
@@ -62,7 +63,8 @@ pub record AddsToBefore (old : List LogRec) (added : LogRec) (new : List LogRec)
 -- all else stays
 pub record AddsToLast (old : List LogRec) (added : LogRec) (new : List LogRec) : Type 0 where
   pub of_txn : (txn : ℕ) → last_of new txn (length new + 1) ≡ (if is_write_of txn (Some added) then Some (length old + 1) else last_of old txn (length old + 1))
-  pub at_rid : (rid : Rid) → last_at new rid (length new + 1) ≡ (if is_write_at rid (Some added) then Some (length old + 1) else last_at old rid (length old + 1))
+  pub at_rid : (rid : Rid) → last_at new rid (length new + 1)
+      ≡ (if is_write_at rid (Some added) then Some (length old + 1) else last_at old rid (length old + 1))
   pub earlier : (txn n : ℕ) → n ≤ length old + 1 → last_of new txn n ≡ last_of old txn n
 
 -- what a record does to the numbers: it takes the next one, each before it keeps its record, and no undo names a later one

@@ -1,5 +1,6 @@
 -- A log with one record more, and its beginnings: what its undos name, and where the row stays.
-use Rattle.std.proofs.Common.{◌≡◌, ℕ, zero, suc, ◌+◌, ◌<◌, Bool, true, false, List, [], ◌∷◌, ◌++◌, length, take, Option, Some, None, refl, sym, ap, ◌∙◌, arith, inl, inr, subst}
+use Rattle.std.proofs.Common.{◌≡◌, ℕ, zero, suc, ◌+◌, ◌<◌, Bool, true, false, List, [], ◌∷◌, ◌++◌, length, take, Option, Some, None, refl, sym, ap, ◌∙◌, arith}
+use Rattle.std.proofs.Common.{inl, inr, subst}
 use Rattle.std.specs.Prelude.{◌||◌, ◌&&◌, not}
 use Rattle.std.specs.List.{slice_get, list_any}
 use Rattle.std.proofs.lemmas.Bool.{cases_Bool, cases_eq, cases_lt, and_left, ne_eqb, false≢true, cond-false}
@@ -9,25 +10,30 @@ use Rattle.keybytes.specs.declared.rid.Rid.{Rid}
 use Rattle.heap_log.specs.declared.record.LogRec.{LogRec}
 use Rattle.heap_log.specs.declared.record.LogRec.TheVariants.{Write, Undo, Commit, Switch}
 use Rattle.heap_log.specs.Growing.{UndoesNameEarlier, Added, changed_rid, first_records}
-use Rattle.heap_log.specs.Standing.{record_at, undone, is_undo_of, is_write_at, place_of, stands_at, newest_at, last_below, live_at, row_at, row_of, NamesEarlier}
+use Rattle.heap_log.specs.Standing.{record_at, undone, is_undo_of, is_write_at, place_of, stands_at, newest_at, last_below, live_at, row_at, row_of}
+use Rattle.heap_log.specs.Standing.{NamesEarlier}
 use Rattle.heap_log.proofs.Adds.{AddsToLive, AddsToStanding, AddsToBefore, AddsToLast, AddsToNumbers}
 use Rattle.heap_log.proofs.Last.{IsLast, last_below_some, last_below-more, last_below_agree}
-use Rattle.heap_log.proofs.Records.{slice_get-append_left, slice_get-append_seam, record_at-kept, record_at-added, length-added, undone-added, or_no, undo_within}
+use Rattle.heap_log.proofs.Records.{slice_get-append_left, slice_get-append_seam, record_at-kept, record_at-added, length-added, undone-added, or_no}
+use Rattle.heap_log.proofs.Records.{undo_within}
 use Rattle.heap_log.proofs.Added.{adds_to_before, adds_to_last, adds_to_numbers, adds_to_standing}
 use Rattle.heap_log.proofs.Live.{adds_to_live}
 
 -- no record from that number on undoes one past the end
-none_past : (k : ℕ) (log : List LogRec) (n : ℕ) → ((i : ℕ) (rec : LogRec) → slice_get log i ≡ Some rec → NamesEarlier (k + i) rec) → k + length log < n → list_any (is_undo_of n) log ≡ false
+none_past : (k : ℕ) (log : List LogRec) (n : ℕ) → ((i : ℕ) (rec : LogRec) → slice_get log i ≡ Some rec → NamesEarlier (k + i) rec) → k + length log < n
+    → list_any (is_undo_of n) log ≡ false
 none_past k [] n names past = refl
 none_past k (rec ∷ log) n names past =
     let here : is_undo_of n rec ≡ false = undo_within (k + 0) n rec (names 0 rec refl) (omega (arith, past)) in
     let rest : list_any (is_undo_of n) log ≡ false =
-    none_past (k + 1) log n (λ i r at. let same : k + suc i ≡ k + 1 + i = omega arith in subst (λ (m : ℕ). NamesEarlier m r) same (names (suc i) r at)) (omega (arith, past)) in
+    none_past (k + 1) log n (λ i r at. let same : k + suc i ≡ k + 1 + i = omega arith in subst (λ (m : ℕ). NamesEarlier m r) same (names (suc i) r at))
+    (omega (arith, past)) in
     ap (λ b. b || list_any (is_undo_of n) log) here ∙ rest
 
 -- no undo names a number past the records
 pub undone-past : (log : List LogRec) → UndoesNameEarlier log → (n : ℕ) → length log < n → undone log n ≡ false
-undone-past log names n past = none_past 0 log n (λ i rec at. let same : i ≡ 0 + i = omega arith in subst (λ (m : ℕ). NamesEarlier m rec) same (names i rec at)) (omega (arith, past))
+undone-past log names n past =
+    none_past 0 log n (λ i rec at. let same : i ≡ 0 + i = omega arith in subst (λ (m : ℕ). NamesEarlier m rec) same (names i rec at)) (omega (arith, past))
 
 -- that is kept by a record that names an earlier one
 pub names_more : (log : List LogRec) (rec : LogRec) → UndoesNameEarlier log → NamesEarlier (length log) rec → UndoesNameEarlier (log ++ rec ∷ [])
@@ -101,7 +107,8 @@ written_place rid (Some (Commit t)) e = absurd (false≢true e)
 written_place rid (Some (Switch v)) e = absurd (false≢true e)
 
 -- a record that is of another RID undoes nothing here
-not_undone : (log : List LogRec) (rec : LogRec) (rid : Rid) (n : ℕ) → is_rid rid (changed_rid log rec) ≡ false → is_write_at rid (record_at log n) ≡ true → is_undo_of n rec ≡ false
+not_undone : (log : List LogRec) (rec : LogRec) (rid : Rid) (n : ℕ) → is_rid rid (changed_rid log rec) ≡ false → is_write_at rid (record_at log n) ≡ true
+    → is_undo_of n rec ≡ false
 not_undone log (Write t r row) rid n other here = refl
 not_undone log (Undo t m) rid n other here =
     ne_eqb m n (λ is. false≢true (sym other ∙ ap (λ k. is_rid rid (place_of (record_at log k))) is ∙ written_place rid (record_at log n) here))
@@ -115,7 +122,8 @@ not_written log (Commit t) rid other = refl
 not_written log (Switch v) rid other = refl
 
 -- what stands here stands as before
-stands_kept : (log : List LogRec) (rec : LogRec) (rid : Rid) (n : ℕ) → is_rid rid (changed_rid log rec) ≡ false → n < length log + 1 → stands_at (log ++ rec ∷ []) rid n ≡ stands_at log rid n
+stands_kept : (log : List LogRec) (rec : LogRec) (rid : Rid) (n : ℕ) → is_rid rid (changed_rid log rec) ≡ false → n < length log + 1
+    → stands_at (log ++ rec ∷ []) rid n ≡ stands_at log rid n
 stands_kept log rec rid n other within =
     ap (λ x. is_write_at rid x && not (undone (log ++ rec ∷ []) n)) (record_at-kept log rec n within)
     ∙ (elim (cases_Bool (is_write_at rid (record_at log n))) [
@@ -128,7 +136,8 @@ stands_kept log rec rid n other within =
     ])
 
 -- the newest standing write at another RID stays, whatever the log
-pub newest_kept : (log : List LogRec) (rec : LogRec) (rid : Rid) → is_rid rid (changed_rid log rec) ≡ false → newest_at (log ++ rec ∷ []) rid ≡ newest_at log rid
+pub newest_kept : (log : List LogRec) (rec : LogRec) (rid : Rid) → is_rid rid (changed_rid log rec) ≡ false
+    → newest_at (log ++ rec ∷ []) rid ≡ newest_at log rid
 newest_kept log rec rid other =
     let new : List LogRec = log ++ rec ∷ [] in
     let n : ℕ = length log + 1 in

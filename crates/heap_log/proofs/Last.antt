@@ -82,7 +82,8 @@ last_below_taken p q n m h miss same =
     last_below_skip q m n l at ∙ last_below_agree q p m (λ k b. same k (omega arith) (omega arith))
 
 -- where one number no longer passes, and it was not the last, the answer stays
-pub last_below_without : (p q : ℕ → Bool) (n m : ℕ) → (last_below p n ≡ Some m → ⊥) → q m ≡ false → ((k : ℕ) → k < n → (k ≡ m → ⊥) → q k ≡ p k) → last_below q n ≡ last_below p n
+pub last_below_without : (p q : ℕ → Bool) (n m : ℕ) → (last_below p n ≡ Some m → ⊥) → q m ≡ false → ((k : ℕ) → k < n → (k ≡ m → ⊥) → q k ≡ p k)
+    → last_below q n ≡ last_below p n
 last_below_without p q n m other miss same = at (last_below p n) refl
   where
     at : (o : Option ℕ) → last_below p n ≡ o → last_below q n ≡ last_below p n
@@ -113,7 +114,8 @@ count_below_agree p q (suc n) h =
     rw (here, rest) refl
 
 -- where one number no longer passes, there is one less
-pub count_below_taken : (p q : ℕ → Bool) (n m : ℕ) → m < n → p m ≡ true → q m ≡ false → ((k : ℕ) → k < n → (k ≡ m → ⊥) → q k ≡ p k) → count_below q n + 1 ≡ count_below p n
+pub count_below_taken : (p q : ℕ → Bool) (n m : ℕ) → m < n → p m ≡ true → q m ≡ false → ((k : ℕ) → k < n → (k ≡ m → ⊥) → q k ≡ p k)
+    → count_below q n + 1 ≡ count_below p n
 count_below_taken p q zero m l hit miss same = absurd (omega arith)
 count_below_taken p q (suc n) m l hit miss same =
     elim (cases_eq n m) [

@@ -4,7 +4,8 @@ use Rattle.std.specs.Prelude.{not, IfSome}
 use Rattle.std.proofs.lemmas.Bool.{and_parts}
 use Rattle.keybytes.specs.declared.rid.Rid.{Rid}
 use Rattle.heap_log.specs.declared.record.LogRec.{LogRec}
-use Rattle.heap_log.specs.Standing.{record_at, undone, is_write_of, is_write_at, last_below, last_of, last_at, stands_of, stands_at, newest_standing, standing_before, rid_of, IsWrite}
+use Rattle.heap_log.specs.Standing.{record_at, undone, is_write_of, is_write_at, last_below, last_of, last_at, stands_of, stands_at, newest_standing}
+use Rattle.heap_log.specs.Standing.{standing_before, rid_of, IsWrite}
 use Rattle.heap_log.proofs.Last.{last_below_some}
 use Rattle.heap_log.proofs.Records.{write_within, some_place-by, some_place-there}
 

@@ -1,5 +1,6 @@
 -- The records of a log by their numbers, and those of a log with one record more.
-use Rattle.std.proofs.Common.{◌≡◌, ℕ, zero, suc, ◌+◌, ◌-◌, ◌<◌, ◌≤◌, Bool, true, false, List, [], ◌∷◌, ◌++◌, length, get_or, Option, Some, None, refl, sym, ap, ◌∙◌, arith, add-one, length-append, ◌⊎◌, inl, inr}
+use Rattle.std.proofs.Common.{◌≡◌, ℕ, zero, suc, ◌+◌, ◌-◌, ◌<◌, ◌≤◌, Bool, true, false, List, [], ◌∷◌, ◌++◌, length, get_or, Option, Some, None, refl, sym, ap}
+use Rattle.std.proofs.Common.{◌∙◌, arith, add-one, length-append, ◌⊎◌, inl, inr}
 use Rattle.std.specs.Prelude.{◌||◌, IsSome}
 use Rattle.std.specs.List.{slice_get}
 use Rattle.std.proofs.lemmas.List.Folds.{list_any-append}
@@ -51,7 +52,8 @@ undo_within count n (Commit t) h l = refl
 undo_within count n (Switch verdicts) h l = refl
 
 -- a write in the longer log is an old one or the new one
-pub written_cases : (log : List LogRec) (rec : LogRec) (test : Option LogRec → Bool) (n : ℕ) → test None ≡ false → test (record_at (log ++ rec ∷ []) n) ≡ true → ((n < length log + 1) × (test (record_at log n) ≡ true)) ⊎ ((n ≡ length log + 1) × (test (Some rec) ≡ true))
+pub written_cases : (log : List LogRec) (rec : LogRec) (test : Option LogRec → Bool) (n : ℕ) → test None ≡ false → test (record_at (log ++ rec ∷ []) n) ≡ true
+    → ((n < length log + 1) × (test (record_at log n) ≡ true)) ⊎ ((n ≡ length log + 1) × (test (Some rec) ≡ true))
 written_cases log rec test n none e =
     elim (cases_lt n (length log + 1)) [
       | inl l ↦ inl (l, ap test (sym (record_at-kept log rec n l)) ∙ e)
@@ -62,7 +64,8 @@ written_cases log rec test n none e =
     ]
 
 -- a write has the number of a record
-pub write_within : (log : List LogRec) (n : ℕ) (test : Option LogRec → Bool) → test None ≡ false → test (record_at log n) ≡ true → (0 < n) × (n < length log + 1)
+pub write_within : (log : List LogRec) (n : ℕ) (test : Option LogRec → Bool) → test None ≡ false → test (record_at log n) ≡ true
+    → (0 < n) × (n < length log + 1)
 write_within log zero test none e = absurd (false≢true (sym none ∙ e))
 write_within log (suc i) test none e =
     elim (cases_lt i (length log)) [

@@ -1,5 +1,6 @@
 -- What a log keeps beside its records.
-use Rattle.std.specs.Prelude.{◌≡◌, ℕ, ◌+◌, ◌≤◌, ◌<◌, Bool, true, false, ◌&&◌, ◌||◌, not, if◌then◌else◌, List, length, Option, Some, None, IsSome, slice_index_or}
+use Rattle.std.specs.Prelude.{◌≡◌, ℕ, ◌+◌, ◌≤◌, ◌<◌, Bool, true, false, ◌&&◌, ◌||◌, not, if◌then◌else◌, List, length, Option, Some, None, IsSome}
+use Rattle.std.specs.Prelude.{slice_index_or}
 use Rattle.heap_log.specs.declared.record.LogRec.{LogRec}
 use Rattle.heap_log.specs.declared.link.Link.{Link}
 use Rattle.heap_log.specs.declared.chain.Chain.{Chain}
@@ -43,12 +44,20 @@ pub record LeadsTo (passes : Option LogRec → Bool) (log : List LogRec) (n : �
   pub there : (k : ℕ) → place ≡ Some k → (k < n) × (passes (record_at log k) ≡ true)
   pub passed : (k : ℕ) → end_of place ≤ k → k < n → stands_by passes log k ≡ false
 
+-- a write's link leads back along the chain
+abbrev pub LinksBack : List LogRec → Option LogRec → ℕ → Link → Chain → Type 0
+LinksBack log write n link chain = IsSome (place_of write) → LeadsTo (on_chain chain write) log n (link_before chain link)
+
+-- and it names the last write of the write's transaction before it
+abbrev pub NamesPrevious : List LogRec → Option LogRec → ℕ → Link → Type 0
+NamesPrevious log write n link = IsSome (place_of write) → link.previous ≡ last_of log (txn_of write) n
+
 -- the links go with the records
 pub record AreLinks (log : List LogRec) (links : List Link) : Type 0 where
   pub lengths : length links ≡ length log
   pub flags : (i : ℕ) (d : Link) → i < length log → (slice_index_or links i d).undone ≡ undone log (i + 1)
-  pub back : (i : ℕ) (d : Link) (chain : Chain) → i < length log → IsSome (place_of (record_at log (i + 1))) → LeadsTo (on_chain chain (record_at log (i + 1))) log (i + 1) (link_before chain (slice_index_or links i d))
-  pub previous : (i : ℕ) (d : Link) → i < length log → IsSome (place_of (record_at log (i + 1))) → (slice_index_or links i d).previous ≡ last_of log (txn_of (record_at log (i + 1))) (i + 1)
+  pub back : (i : ℕ) (d : Link) (chain : Chain) → i < length log → LinksBack log (record_at log (i + 1)) (i + 1) (slice_index_or links i d) chain
+  pub previous : (i : ℕ) (d : Link) → i < length log → NamesPrevious log (record_at log (i + 1)) (i + 1) (slice_index_or links i d)
   pub earlier : UndoesNameEarlier log
 
 -- the same links, with those that the record undoes marked
@@ -62,5 +71,5 @@ pub record AreMarked (added : LogRec) (old new : List Link) : Type 0 where
 -- the link of a record that comes next
 pub record IsLinkOf (log : List LogRec) (added : LogRec) (link : Link) : Type 0 where
   pub stands : link.undone ≡ false
-  pub back : (chain : Chain) → IsSome (place_of (Some added)) → LeadsTo (on_chain chain (Some added)) log (length log + 1) (link_before chain link)
-  pub previous : IsSome (place_of (Some added)) → link.previous ≡ last_of log (txn_of (Some added)) (length log + 1)
+  pub back : (chain : Chain) → LinksBack log (Some added) (length log + 1) link chain
+  pub previous : NamesPrevious log (Some added) (length log + 1) link

@@ -2,7 +2,8 @@ ghost use Rattle.std.specs.Prelude.{◌≡◌, ℕ, ◌<◌, ◌≤◌, ◌+◌,
 ghost use Rattle.heap_log.specs.Growing.{Added, UndoesNameEarlier};
 ghost use Rattle.heap_log.specs.Heads.{txn_head, rid_head, AreHeadsAfter};
 ghost use Rattle.heap_log.specs.Links.{newest_before, newest_without, IsLinkOf};
-ghost use Rattle.heap_log.specs.Standing.{record_at, undone, place_of, txn_of, is_number, is_write_of, is_write_at, last_of, last_at, stands_of, stands_at, newest_standing, standing_before, standing_count, IsWrite, NamesEarlier};
+ghost use Rattle.heap_log.specs.Standing.{record_at, undone, place_of, txn_of, is_number, is_write_of, is_write_at, last_of, last_at, stands_of, stands_at};
+ghost use Rattle.heap_log.specs.Standing.{newest_standing, standing_before, standing_count, IsWrite, NamesEarlier};
 
 use crate::LogRec;
 use crate::chain::Chain;

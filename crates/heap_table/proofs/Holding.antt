@@ -31,7 +31,8 @@ writes_by txn rid (Commit t) = refl
 writes_by txn rid (Switch o) = refl
 
 -- the first writer that passes did write
-finds_wrote : (p : ℕ → Bool) (log : List LogRec) (rid : Rid) (t : ℕ) → find p (filter_map (writer_at rid) log) ≡ Some t → (p t ≡ true) × (wrote log t rid ≡ true)
+finds_wrote : (p : ℕ → Bool) (log : List LogRec) (rid : Rid) (t : ℕ) → find p (filter_map (writer_at rid) log) ≡ Some t
+    → (p t ≡ true) × (wrote log t rid ≡ true)
 finds_wrote p [] rid t e = absurd (cc)
 finds_wrote p (rec ∷ log) rid t e = elim (some_or_none (writer_at rid rec)) [
   | inl none ↦
@@ -39,7 +40,8 @@ finds_wrote p (rec ∷ log) rid t e = elim (some_or_none (writer_at rid rec)) [
       (rest.0, or_right (writes t rid rec) (wrote log t rid) rest.1)
   | inr some ↦
       let w = some.0 in
-      let at : find p (w ∷ filter_map (writer_at rid) log) ≡ Some t = sym (ap (λ (o : Option ℕ). find p (cons_option o (filter_map (writer_at rid) log))) some.1) ∙ e in
+      let at : find p (w ∷ filter_map (writer_at rid) log) ≡ Some t =
+      sym (ap (λ (o : Option ℕ). find p (cons_option o (filter_map (writer_at rid) log))) some.1) ∙ e in
       elim (cases_Bool (p w)) [
         | inl hit ↦
             let same : w ≡ t = same_Some w t (sym (ap (λ (b : Bool). if b then Some w else find p (filter_map (writer_at rid) log)) hit) ∙ at) in
@@ -60,7 +62,8 @@ finds_none p (rec ∷ log) rid t e has = elim (some_or_none (writer_at rid rec))
       (sym (ap (λ (b : Bool). b || wrote log t rid) other) ∙ has)
   | inr some ↦
       let w = some.0 in
-      let at : find p (w ∷ filter_map (writer_at rid) log) ≡ None = sym (ap (λ (o : Option ℕ). find p (cons_option o (filter_map (writer_at rid) log))) some.1) ∙ e in
+      let at : find p (w ∷ filter_map (writer_at rid) log) ≡ None =
+      sym (ap (λ (o : Option ℕ). find p (cons_option o (filter_map (writer_at rid) log))) some.1) ∙ e in
       elim (cases_Bool (p w)) [
         | inl hit ↦ absurd (none-some w (sym at ∙ ap (λ (b : Bool). if b then Some w else find p (filter_map (writer_at rid) log)) hit))
         | inr miss ↦ elim (or_cases (writes t rid rec) (wrote log t rid) has) [
@@ -80,7 +83,8 @@ holder_none : (log : List LogRec) (rid : Rid) (txn : ℕ) → holder log rid ≡
 holder_none log rid txn e has = finds_none (is_busy log) log rid txn e has
 
 -- at most one open transaction has a write at a RID
-one_holder : (s : HeapState) → IsSound s → (u v : ℕ) (rid : Rid) → is_open s.active u ≡ true → is_open s.active v ≡ true → HasWrite s.log u rid → HasWrite s.log v rid → u ≡ v
+one_holder : (s : HeapState) → IsSound s → (u v : ℕ) (rid : Rid) → is_open s.active u ≡ true → is_open s.active v ≡ true → HasWrite s.log u rid
+    → HasWrite s.log v rid → u ≡ v
 one_holder s h u v rid open_u open_v a b =
     elim (cases_order a.number b.number) [
       | inl e ↦ one_writer u v (record_at s.log a.number) a.by (ap (λ n. is_write_of v (record_at s.log n)) e ∙ b.by)
@@ -118,9 +122,11 @@ holder_unwritten s h rid none = no_holder s h rid (λ txn is has.
     let w = write_at s.log rid a.number a.there in
     false≢true (sym (last_below_none (λ k. is_write_at rid (record_at s.log k)) (length s.log + 1) none a.number (omega (arith, w.high))) ∙ a.there))
 
-pub holder_last : (s : HeapState) → IsSound s → (rid : Rid) (n txn : ℕ) → last_at s.log rid (length s.log + 1) ≡ Some n → is_write_of txn (record_at s.log n) ≡ true → holder s.log rid ≡ (if is_open s.active txn then Some txn else None)
+pub holder_last : (s : HeapState) → IsSound s → (rid : Rid) (n txn : ℕ) → last_at s.log rid (length s.log + 1) ≡ Some n
+    → is_write_of txn (record_at s.log n) ≡ true → holder s.log rid ≡ (if is_open s.active txn then Some txn else None)
 holder_last s h rid n txn e by =
-    let last : IsLast (λ k. is_write_at rid (record_at s.log k)) (length s.log + 1) n = last_below_some (λ k. is_write_at rid (record_at s.log k)) (length s.log + 1) n e in
+    let last : IsLast (λ k. is_write_at rid (record_at s.log k)) (length s.log + 1) n =
+    last_below_some (λ k. is_write_at rid (record_at s.log k)) (length s.log + 1) n e in
     elim (cases_Bool (is_open s.active txn)) [
       | inl is ↦ rw is (holder_is s h rid txn is (wrote_from s.log txn rid n by last.passes))
       | inr closed ↦ rw closed (no_holder s h rid (λ u is has.

@@ -1,5 +1,6 @@
 -- A table keeps what it keeps through each change.
-use Rattle.std.proofs.Common.{map, ◌≡◌, ◌≢◌, inl, inr, ℕ, zero, suc, ◌+◌, ◌<◌, ◌≤◌, max, Bool, true, false, List, [], ◌∷◌, ◌++◌, length, Option, Some, None, refl, sym, ap, ◌∙◌, arith}
+use Rattle.std.proofs.Common.{map, ◌≡◌, ◌≢◌, inl, inr, ℕ, zero, suc, ◌+◌, ◌<◌, ◌≤◌, max, Bool, true, false, List, [], ◌∷◌, ◌++◌, length, Option, Some, None}
+use Rattle.std.proofs.Common.{refl, sym, ap, ◌∙◌, arith}
 use Rattle.std.specs.Prelude.{◌==◌, ◌&&◌}
 use Rattle.std.specs.Option.{option_map}
 use Rattle.std.proofs.lemmas.Bool.{cases_Bool, cases_lt, false≢true}
@@ -35,7 +36,8 @@ use Rattle.heap_table.proofs.OpenOnes.{open_without_self, open_without_other, wi
 use Rattle.heap_table.proofs.PageLists.{pages_by_same, pages_by_changed, pages_by_inside}
 use Rattle.heap_table.proofs.Slots.{under_kept, Wrote, write_slot, write_other_slot}
 use Rattle.heap_table.proofs.Sounds.{wrote_still, sound_commit, sound_switch}
-use Rattle.heap_table.proofs.Undoing.{ended_slot, going_slot, fits_quiet, fits_write, fits_undo, Undid, undo_there, undo_live, undo_other_live, undo_slot, undo_other_slot}
+use Rattle.heap_table.proofs.Undoing.{ended_slot, going_slot, fits_quiet, fits_write, fits_undo, Undid, undo_there, undo_live, undo_other_live, undo_slot}
+use Rattle.heap_table.proofs.Undoing.{undo_other_slot}
 use Rattle.heap_table.proofs.Writers.{wrote_from}
 
 -- a record of a row that fits, or of none, leaves rows that fit
@@ -80,7 +82,8 @@ end_other page rid txn cells other = grind (arith, nat_tests)
 -- a write changes one slot
 pub kept_write :
     (s t : HeapState) (p q : PagesValue) (txn : ℕ) (rid : Rid) (row : Option (List Cell)) → IsKept s p → Wrote s t txn rid row
-    → t.schema ≡ s.schema → t.slot_limit ≡ s.slot_limit → t.page_limit ≡ s.page_limit → rid.page ≤ pages_written s.log → rid.slot ≤ slots_written s.log rid.page → rid.page < s.page_limit
+    → t.schema ≡ s.schema → t.slot_limit ≡ s.slot_limit → t.page_limit ≡ s.page_limit → rid.page ≤ pages_written s.log → rid.slot ≤ slots_written s.log rid.page
+    → rid.page < s.page_limit
     → ((cells : List Cell) → row ≡ Some cells → IsRow cells × (fits s.schema cells ≡ true))
     → q.pages ≡ with_slot_in p.pages p.limit rid (changed (slot_in p.pages rid) (option_map row_bytes row)) → q.limit ≡ p.limit
     → IsKept t q
@@ -88,7 +91,8 @@ kept_write s t p q txn rid row kept w schema slots limit in_pages in_slots below
     let rec : LogRec = Write txn rid row in
     let pages_grown : pages_written t.log ≡ max (pages_written s.log) (rid.page + 1) = ap pages_written w.added.is ∙ pages_written-added s.log rec in
     let grown : slots_written t.log rid.page ≡ max (slots_written s.log rid.page) (rid.slot + 1) =
-    ap (λ (l : List LogRec). slots_written l rid.page) w.added.is ∙ (slots_written-added s.log rec rid.page ∙ ap (max (slots_written s.log rid.page)) (end_here rid.page rid.slot txn row)) in
+    ap (λ (l : List LogRec). slots_written l rid.page) w.added.is
+    ∙ (slots_written-added s.log rec rid.page ∙ ap (max (slots_written s.log rid.page)) (end_here rid.page rid.slot txn row)) in
     let others : (page : ℕ) → page ≢ rid.page → slots_written t.log page ≡ slots_written s.log page =
     λ page differs. ap (λ (l : List LogRec). slots_written l page) w.added.is
     ∙ (slots_written-added s.log rec page ∙ (ap (max (slots_written s.log page)) (end_other page rid txn row differs) ∙ max-zero (slots_written s.log page))) in
@@ -112,13 +116,15 @@ kept_write s t p q txn rid row kept w schema slots limit in_pages in_slots below
     }
 
 -- a record that is no write leaves the numbers of pages and slots
-same_counts : (log new : List LogRec) (rec : LogRec) → new ≡ log ++ rec ∷ [] → pages_written (rec ∷ []) ≡ 0 → ((page : ℕ) → slots_written (rec ∷ []) page ≡ 0) → (pages_written new ≡ pages_written log) × ((page : ℕ) → slots_written new page ≡ slots_written log page)
+same_counts : (log new : List LogRec) (rec : LogRec) → new ≡ log ++ rec ∷ [] → pages_written (rec ∷ []) ≡ 0 → ((page : ℕ) → slots_written (rec ∷ []) page ≡ 0)
+    → (pages_written new ≡ pages_written log) × ((page : ℕ) → slots_written new page ≡ slots_written log page)
 same_counts log new rec is pages slots =
     let none : page_end rec ≡ 0 = sym (max-zero (page_end rec)) ∙ pages in (
       ap pages_written is ∙ (pages_written-added log rec ∙ (ap (max (pages_written log)) none ∙ max-zero (pages_written log))),
       λ page.
           let nothing : slot_end page rec ≡ 0 = sym (max-zero (slot_end page rec)) ∙ slots page in
-          ap (λ (l : List LogRec). slots_written l page) is ∙ (slots_written-added log rec page ∙ (ap (max (slots_written log page)) nothing ∙ max-zero (slots_written log page))),
+          ap (λ (l : List LogRec). slots_written l page) is
+          ∙ (slots_written-added log rec page ∙ (ap (max (slots_written log page)) nothing ∙ max-zero (slots_written log page))),
     )
 
 -- a record that is no write, after which each slot is what the pages have
@@ -132,7 +138,8 @@ kept_after s t p q rec slot kept sound undo_fits added none no_page no_slot sche
     let counts = same_counts s.log t.log rec added.is no_page no_slot in
     record {
       pages_are =
-          pages ∙ (pages_by_same slot (slot_of t.log) (slots_written s.log) (slots_written t.log) (pages_written s.log) s.slot_limit same (λ page. sym (counts.1 page))
+          pages ∙ (pages_by_same slot (slot_of t.log) (slots_written s.log) (slots_written t.log) (pages_written s.log) s.slot_limit same
+          (λ page. sym (counts.1 page))
           ∙ (ap (λ (n : ℕ). pages_by (slot_of t.log) (slots_written t.log) n s.slot_limit) (sym counts.0)
           ∙ ap (pages_by (slot_of t.log) (slots_written t.log) (pages_written t.log)) (sym slots)));
       limit = pages_limit ∙ (kept.limit ∙ sym slots);
@@ -152,7 +159,8 @@ pub kept_switch :
 kept_switch s t p q verdicts kept added active begun schema slots limit pages pages_limit =
     let sound = sound_switch s t verdicts kept.sound added active begun in
     kept_after s t p q (Switch verdicts) (slot_of s.log) kept sound
-    (fits_quiet s t (Switch verdicts) kept.sound sound added (λ u r. refl) (λ r. refl) (λ n. refl) (λ n. tt) (λ u e. sym (ap (λ a. is_open a u) active) ∙ e) added.live.live kept.undo_fits)
+    (fits_quiet s t (Switch verdicts) kept.sound sound added (λ u r. refl) (λ r. refl) (λ n. refl) (λ n. tt) (λ u e. sym (ap (λ a. is_open a u) active) ∙ e)
+    added.live.live kept.undo_fits)
     added refl refl (λ page. refl) schema slots limit (pages ∙ kept.pages_are)
     (λ rid.
     sym (going_slot s t kept.sound sound (λ u. ap (λ a. is_open a u) active) rid (λ u. wrote_still s.log t.log (Switch verdicts) u rid added.is refl)
@@ -160,14 +168,17 @@ kept_switch s t p q verdicts kept added active begun schema slots limit pages pa
     pages_limit
 
 -- the pages have a slot for each RID that was written
-pub have_written : (s : HeapState) (p : PagesValue) (txn : ℕ) (log : List LogRec) → IsKept s p → ((rid : Rid) → wrote log txn rid ≡ true → wrote s.log txn rid ≡ true) → HaveWritten p log txn (slot_of s.log) (slots_written s.log) (pages_written s.log) s.slot_limit
+pub have_written : (s : HeapState) (p : PagesValue) (txn : ℕ) (log : List LogRec) → IsKept s p
+    → ((rid : Rid) → wrote log txn rid ≡ true → wrote s.log txn rid ≡ true)
+    → HaveWritten p log txn (slot_of s.log) (slots_written s.log) (pages_written s.log) s.slot_limit
 have_written s p txn log kept same = (kept.pages_are, λ rid e. written_inside s.log txn rid (same rid e))
 
 -- a commit settles the slots that its transaction wrote
 pub kept_commit :
     (s t : HeapState) (p q : PagesValue) (txn : ℕ) → IsKept s p → is_open s.active txn ≡ true → Grows s.log (Commit txn) t.log
     → t.active ≡ without txn s.active → t.begun ≡ s.begun → t.schema ≡ s.schema → t.slot_limit ≡ s.slot_limit → t.page_limit ≡ s.page_limit
-    → ((slot : Rid → Slot) (slots : ℕ → ℕ) (count limit : ℕ) → p.pages ≡ pages_by slot slots count limit → q.pages ≡ pages_by (λ rid. settled_if (wrote t.log txn rid) (slot rid)) slots count limit)
+    → ((slot : Rid → Slot) (slots : ℕ → ℕ) (count limit : ℕ) → p.pages ≡ pages_by slot slots count limit
+    → q.pages ≡ pages_by (λ rid. settled_if (wrote t.log txn rid) (slot rid)) slots count limit)
     → q.limit ≡ p.limit → IsKept t q
 kept_commit s t p q txn kept opened added active begun schema slots limit settles pages_limit =
     let sound = sound_commit s t txn kept.sound added active begun opened in
@@ -175,11 +186,13 @@ kept_commit s t p q txn kept opened added active begun schema slots limit settle
     let others : (other : ℕ) → other ≢ txn → is_open t.active other ≡ is_open s.active other =
     λ other differs. ap (λ a. is_open a other) active ∙ open_without_other txn other s.active differs in
     kept_after s t p q (Commit txn) (λ rid. settled_if (wrote t.log txn rid) (slot_of s.log rid)) kept sound
-    (fits_quiet s t (Commit txn) kept.sound sound added (λ u r. refl) (λ r. refl) (λ n. refl) (λ n. tt) (λ u e. without_fewer txn u s.active (sym (ap (λ a. is_open a u) active) ∙ e)) added.live.live kept.undo_fits)
+    (fits_quiet s t (Commit txn) kept.sound sound added (λ u r. refl) (λ r. refl) (λ n. refl) (λ n. tt)
+    (λ u e. without_fewer txn u s.active (sym (ap (λ a. is_open a u) active) ∙ e)) added.live.live kept.undo_fits)
     added refl refl (λ page. refl) schema slots limit
     (settles (slot_of s.log) (slots_written s.log) (pages_written s.log) s.slot_limit kept.pages_are)
     (λ rid.
-    ap (settled_if (wrote t.log txn rid)) (sym (under_kept s.log t.log (Commit txn) rid (holder s.log rid) added.is (λ u e. (holder_wrote s.log rid u e).1) (λ u. refl) (added.live.live rid)))
+    ap (settled_if (wrote t.log txn rid)) (sym
+    (under_kept s.log t.log (Commit txn) rid (holder s.log rid) added.is (λ u e. (holder_wrote s.log rid u e).1) (λ u. refl) (added.live.live rid)))
     ∙ sym (ended_slot s t txn kept.sound sound opened closed others rid (λ u. wrote_still s.log t.log (Commit txn) u rid added.is refl)))
     pages_limit
 
@@ -200,10 +213,13 @@ undone_pages s t p m txn n rid kept u pages =
 
 -- an undo puts the row before back, and settles the slots that its transaction wrote where no write of it is left
 pub kept_undo :
-    (s t : HeapState) (p m q : PagesValue) (txn n : ℕ) (rid : Rid) → IsKept s p → Undid s t txn n rid → t.active ≡ still_open txn (standing_count t.log txn) s.active
+    (s t : HeapState) (p m q : PagesValue) (txn n : ℕ) (rid : Rid) → IsKept s p → Undid s t txn n rid
+    → t.active ≡ still_open txn (standing_count t.log txn) s.active
     → t.schema ≡ s.schema → t.slot_limit ≡ s.slot_limit → t.page_limit ≡ s.page_limit
-    → m.pages ≡ with_slot_in p.pages p.limit rid (changed (slot_in p.pages rid) (option_map row_bytes (row_at s.log (standing_before s.log n)))) → m.limit ≡ p.limit
-    → ((slot : Rid → Slot) (slots : ℕ → ℕ) (count limit : ℕ) → m.pages ≡ pages_by slot slots count limit → q.pages ≡ pages_by (λ r. settled_if ((standing_count t.log txn == 0) && wrote t.log txn r) (slot r)) slots count limit)
+    → m.pages ≡ with_slot_in p.pages p.limit rid (changed (slot_in p.pages rid) (option_map row_bytes (row_at s.log (standing_before s.log n))))
+    → m.limit ≡ p.limit
+    → ((slot : Rid → Slot) (slots : ℕ → ℕ) (count limit : ℕ) → m.pages ≡ pages_by slot slots count limit
+    → q.pages ≡ pages_by (λ r. settled_if ((standing_count t.log txn == 0) && wrote t.log txn r) (slot r)) slots count limit)
     → q.limit ≡ m.limit → IsKept t q
 kept_undo s t p m q txn n rid kept u active schema slots limit pages m_limit settles q_limit =
     kept_after s t p q (Undo txn n) (λ r. settled_if ((left == 0) && wrote t.log txn r) (mid r)) kept u.sound

@@ -1,5 +1,6 @@
 -- What follows from what a table keeps.
-use Rattle.std.proofs.Common.{◌≡◌, inl, inr, ℕ, zero, suc, add-zero, ◌+◌, ◌<◌, ◌≤◌, Bool, true, false, List, [], ◌∷◌, ◌++◌, length, get_or, Option, Some, None, IfSome, refl, sym, ap, ◌∙◌, subst, arith}
+use Rattle.std.proofs.Common.{◌≡◌, inl, inr, ℕ, zero, suc, add-zero, ◌+◌, ◌<◌, ◌≤◌, Bool, true, false, List, [], ◌∷◌, ◌++◌, length, get_or, Option, Some, None}
+use Rattle.std.proofs.Common.{IfSome, refl, sym, ap, ◌∙◌, subst, arith}
 use Rattle.std.specs.Prelude.{nat_lt, if◌then◌else◌, position, is_some}
 use Rattle.std.specs.Option.{option_map, option_to_list}
 use Rattle.std.specs.List.{range_with_len, filter_map, cons_option}
@@ -82,7 +83,8 @@ bytes_of-slot_with None None reserve = refl
 bytes_of-slot_with None (Some txn) reserve = refl
 bytes_of-slot_with (Some cells) h reserve = refl
 
-spells_live : (kinds : List Kind) (cells : Option (List Cell)) → ((row : List Cell) → cells ≡ Some row → IsRow row × (fits kinds row ≡ true)) → IfSome cells (λ row. Spells kinds (row_bytes row) row)
+spells_live : (kinds : List Kind) (cells : Option (List Cell)) → ((row : List Cell) → cells ≡ Some row → IsRow row × (fits kinds row ≡ true))
+    → IfSome cells (λ row. Spells kinds (row_bytes row) row)
 spells_live kinds None fit = tt
 spells_live kinds (Some row) fit = let held = fit row refl in record { held = held.0.each; fitting = held.1; bytes_are = refl }
 
@@ -111,7 +113,8 @@ room_within page size slot room = by_first page size slot (position is_free page
   is_free_free (held_slot r) e = absurd (cc)
   is_free_free (row_slot b r) e = absurd (cc)
 
-  by_first : (page : PageValue) (size slot : ℕ) (first : Option ℕ) → position is_free page.slots ≡ first → slot_for first page size ≡ Some slot → (slot ≤ length page.slots) × (slot_at page slot ≡ free)
+  by_first : (page : PageValue) (size slot : ℕ) (first : Option ℕ) → position is_free page.slots ≡ first → slot_for first page size ≡ Some slot
+      → (slot ≤ length page.slots) × (slot_at page slot ≡ free)
   by_first page size slot None is room =
       let e = (cond_some _ (length page.slots) slot room).1 in
       (omega (arith, e), get_or_past page.slots slot free (omega (arith, e)))
@@ -129,7 +132,8 @@ pub record GoesTo (s : HeapState) (size : ℕ) (rid : Rid) : Type 0 where
   pub limit : rid.page < s.page_limit
 
 -- the slot that a page of the table has room in is empty
-empty_slot : (s : HeapState) (page size slot : ℕ) → room_for (page_of s page) size ≡ Some slot → (slot ≤ slots_written s.log page) × (slot_of s.log (rid_at page slot) ≡ free)
+empty_slot : (s : HeapState) (page size slot : ℕ) → room_for (page_of s page) size ≡ Some slot
+    → (slot ≤ slots_written s.log page) × (slot_of s.log (rid_at page slot) ≡ free)
 empty_slot s page size slot room =
     let within = room_within (page_of s page) size slot room in
     let len = length_page_by (slot_of s.log) (slots_written s.log) s.slot_limit page in
@@ -169,7 +173,8 @@ goes_to s p size rid kept sized place = by_page (position (takes size) (table_pa
       let next = cond_some (nat_lt count s.page_limit) (rid_at count 0) rid place in
       let fresh : page_of s count ≡ new_page s.slot_limit =
       ap (λ (n : ℕ). page_by (slot_of s.log) (λ _. n) s.slot_limit count) (slots_past s.log count (omega arith)) in
-      let room : room_for (page_of s count) size ≡ Some 0 = ap (λ (q : PageValue). room_for q size) fresh ∙ new_page_takes s.slot_limit size (kept_slots s p kept) sized.1 in
+      let room : room_for (page_of s count) size ≡ Some 0 =
+      ap (λ (q : PageValue). room_for q size) fresh ∙ new_page_takes s.slot_limit size (kept_slots s p kept) sized.1 in
       let within = empty_slot s count size 0 room in
       subst (GoesTo s size) next.1 (record {
         page = omega arith;

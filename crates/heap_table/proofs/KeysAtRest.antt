@@ -26,12 +26,15 @@ in_own (p ∷ pairs) zero d below = or_left (eq_by_cmp pair_cmp p p) (is_in p pa
 in_own (p ∷ pairs) (suc k) d below =
     or_right (eq_by_cmp pair_cmp (get_or pairs k d) p) (is_in (get_or pairs k d) pairs) (in_own pairs k d (omega arith))
 
-key_is : (spec : KeySpecValue) (log : List LogRec) (q : Pair) (row : List Cell) → pair_at spec log q.rid ≡ Some q → live_at log q.rid ≡ Some row → key_of spec row ≡ q.key
+key_is : (spec : KeySpecValue) (log : List LogRec) (q : Pair) (row : List Cell) → pair_at spec log q.rid ≡ Some q → live_at log q.rid ≡ Some row
+    → key_of spec row ≡ q.key
 key_is spec log q row at live =
-    let pair : Some (record { key = key_of spec row; rid = q.rid }) ≡ Some q = sym (ap (option_map (λ (cells : List Cell). record { key = key_of spec cells; rid = q.rid })) live) ∙ at in
+    let pair : Some (record { key = key_of spec row; rid = q.rid }) ≡ Some q =
+    sym (ap (option_map (λ (cells : List Cell). record { key = key_of spec cells; rid = q.rid })) live) ∙ at in
     ap (λ (p : Pair). p.key) (same_Some (record { key = key_of spec row; rid = q.rid }) q pair)
 
-pub keys_at_rest : (spec : KeySpecValue) (kinds : List Kind) (log : List LogRec) → spec.kinds ≡ kinds → RowsFit kinds log → HaveKeysOf spec (pairs_at_rest spec log)
+pub keys_at_rest : (spec : KeySpecValue) (kinds : List Kind) (log : List LogRec) → spec.kinds ≡ kinds → RowsFit kinds log
+    → HaveKeysOf spec (pairs_at_rest spec log)
 keys_at_rest spec kinds log same fit = λ k d below.
     let q = get_or (pairs_at_rest spec log) k d in
     let here : is_in q (filter_map (pair_at spec log) (written_rids log)) ≡ true =
@@ -39,5 +42,8 @@ keys_at_rest spec kinds log same fit = λ k d below.
     let counts = sym (all_listed spec log (written_rids log) (row_written log) q) ∙ here in
     let at = pair_there (pair_at spec log q.rid) q counts in
     let row = row_there spec log q counts in
-    let of_table : IsRowOf spec row.0 = record { is_row = fit.is_row q.rid row.0 row.1; fits_kinds = subst (λ (ks : List Kind). fits ks row.0 ≡ true) (sym same) (fit.fitting q.rid row.0 row.1) } in
+    let of_table : IsRowOf spec row.0 = record {
+      is_row = fit.is_row q.rid row.0 row.1;
+      fits_kinds = subst (λ (ks : List Kind). fits ks row.0 ≡ true) (sym same) (fit.fitting q.rid row.0 row.1);
+    } in
     (row.0, (of_table, key_is spec log q row.0 at row.1))

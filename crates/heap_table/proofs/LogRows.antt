@@ -70,13 +70,15 @@ pub end_here : (page slot : ℕ) (txn : ℕ) (cells : Option (List Cell)) → sl
 end_here page slot txn cells = grind (arith, nat_tests)
 
 -- a RID that a transaction wrote is on a page that is, in a slot that is
-pub written_inside : (log : List LogRec) (txn : ℕ) (rid : Rid) → wrote log txn rid ≡ true → (rid.page < pages_written log) × (rid.slot < slots_written log rid.page)
+pub written_inside : (log : List LogRec) (txn : ℕ) (rid : Rid) → wrote log txn rid ≡ true
+    → (rid.page < pages_written log) × (rid.slot < slots_written log rid.page)
 written_inside [] txn rid e = absurd (false≢true e)
 written_inside (rec ∷ log) txn rid e = elim (or_cases (writes txn rid rec) (wrote log txn rid) e) [
   | inl here ↦ written_here rec txn rid here (pages_written log) (slots_written log rid.page)
   | inr there ↦ let rest = written_inside log txn rid there in (omega (arith, rest.0), omega (arith, rest.1))
 ] where
-  written_here : (rec : LogRec) (txn : ℕ) (rid : Rid) → writes txn rid rec ≡ true → (m n : ℕ) → (rid.page < max (page_end rec) m) × (rid.slot < max (slot_end rid.page rec) n)
+  written_here : (rec : LogRec) (txn : ℕ) (rid : Rid) → writes txn rid rec ≡ true → (m n : ℕ)
+      → (rid.page < max (page_end rec) m) × (rid.slot < max (slot_end rid.page rec) n)
   written_here (Write w r row) txn rid e m n =
       let same : r ≡ rid = same_rid-true r rid (and_parts (w == txn) (same_rid r rid) e).1 in
       let page : r.page ≡ rid.page = ap (λ (x : Rid). x.page) same in
@@ -89,7 +91,8 @@ written_inside (rec ∷ log) txn rid e = elim (or_cases (writes txn rid rec) (wr
 
 -- the newest write that stands at a RID is one there
 pub newest_there : (log : List LogRec) (rid : Rid) (n : ℕ) → newest_at log rid ≡ Some n → is_write_at rid (record_at log n) ≡ true
-newest_there log rid n e = (and_parts (is_write_at rid (record_at log n)) (not (undone log n)) (last_below_some (stands_at log rid) (length log + 1) n e).passes).0
+newest_there log rid n e =
+    (and_parts (is_write_at rid (record_at log n)) (not (undone log n)) (last_below_some (stands_at log rid) (length log + 1) n e).passes).0
 
 -- somebody wrote where a row stands
 live_written : (log : List LogRec) (rid : Rid) (cells : List Cell) → live_at log rid ≡ Some cells → (txn : ℕ) × (wrote log txn rid ≡ true)

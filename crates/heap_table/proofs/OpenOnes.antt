@@ -43,7 +43,8 @@ open_marked txn other (t ∷ ts) =
     ap (λ (n : ℕ). (n == other) || is_open (map (mark txn) ts) other) (mark_txn txn t)
     ∙ ap (λ (b : Bool). (t.txn == other) || b) (open_marked txn other ts)
 
-pub open_begun : (txn other : ℕ) (active : List OpenTxn) → is_open (active ++ record { txn = txn; ending = false } ∷ []) other ≡ (is_open active other || (txn == other))
+pub open_begun : (txn other : ℕ) (active : List OpenTxn)
+    → is_open (active ++ record { txn = txn; ending = false } ∷ []) other ≡ (is_open active other || (txn == other))
 open_begun txn other active =
     list_any-append (λ (t : OpenTxn). t.txn == other) active (record { txn = txn; ending = false } ∷ [])
     ∙ ap (λ (b : Bool). is_open active other || b) (or-false (txn == other))
@@ -64,7 +65,8 @@ open_accepted s txn e = elim (cases_Bool (is_open s.active txn)) [
   refused f = cc
 
 -- a list that has what the function gives at each place is the list of what it gives
-pub map_at : {X : Type 0} (f : X → X) (xs ys : List X) → length ys ≡ length xs → ((k : ℕ) (d : X) → k < length xs → get_or ys k d ≡ f (get_or xs k d)) → ys ≡ map f xs
+pub map_at : {X : Type 0} (f : X → X) (xs ys : List X) → length ys ≡ length xs → ((k : ℕ) (d : X) → k < length xs → get_or ys k d ≡ f (get_or xs k d))
+    → ys ≡ map f xs
 map_at f [] [] e h = refl
 map_at f [] (y ∷ ys) e h = absurd (omega (arith, e))
 map_at f (x ∷ xs) [] e h = absurd (omega (arith, e))
@@ -74,7 +76,8 @@ map_at f (x ∷ xs) (y ∷ ys) e h =
     rw (head, tail) refl
 
 -- an undo step opens nobody
-pub still_fewer : (txn other left : ℕ) (active : List OpenTxn) → is_open active txn ≡ true → is_open (still_open txn left active) other ≡ true → is_open active other ≡ true
+pub still_fewer : (txn other left : ℕ) (active : List OpenTxn) → is_open active txn ≡ true → is_open (still_open txn left active) other ≡ true
+    → is_open active other ≡ true
 still_fewer txn other left active opened e = elim (cases_eq other txn) [
   | inl same ↦ ap (is_open active) same ∙ opened
   | inr differs ↦ sym (open_still_other txn other left active differs) ∙ e

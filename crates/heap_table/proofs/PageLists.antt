@@ -1,5 +1,6 @@
 -- Lists of pages: pages by a function of the RID, and pages with another slot at a RID.
-use Rattle.std.proofs.Common.{◌≡◌, ◌≢◌, inl, inr, ℕ, zero, suc, ◌+◌, ◌<◌, ◌≤◌, max, Bool, true, false, List, [], ◌∷◌, ◌++◌, map, length, get_or, set, refl, sym, ap, ◌∙◌, subst, arith, get_or-set_same, get_or-set_other}
+use Rattle.std.proofs.Common.{◌≡◌, ◌≢◌, inl, inr, ℕ, zero, suc, ◌+◌, ◌<◌, ◌≤◌, max, Bool, true, false, List, [], ◌∷◌, ◌++◌, map, length, get_or, set, refl, sym}
+use Rattle.std.proofs.Common.{ap, ◌∙◌, subst, arith, get_or-set_same, get_or-set_other}
 use Rattle.std.specs.Prelude.{nat_lt, cond, Some, None}
 use Rattle.std.proofs.Math.Seq.{set-append_seam}
 use Rattle.std.specs.List.{range_with_len}
@@ -19,7 +20,8 @@ map_same : {X Y : Type 0} (f g : X → Y) (xs : List X) → ((x : X) → f x ≡
 map_same f g [] same = refl
 map_same f g (x ∷ xs) same = rw (same x, map_same f g xs same) refl
 
-same_page : {xs ys : List Slot} {m n : ℕ} → xs ≡ ys → m ≡ n → (let p : PageValue = record { slots = xs; limit = m } in p) ≡ (let q : PageValue = record { slots = ys; limit = n } in q)
+same_page : {xs ys : List Slot} {m n : ℕ} → xs ≡ ys → m ≡ n
+    → (let p : PageValue = record { slots = xs; limit = m } in p) ≡ (let q : PageValue = record { slots = ys; limit = n } in q)
 same_page {xs = xs} {ys = ys} {m = m} {n = n} e f =
     ap (λ (zs : List Slot). let p : PageValue = record { slots = zs; limit = m } in p) e
     ∙ ap (λ (k : ℕ). let p : PageValue = record { slots = ys; limit = k } in p) f
@@ -313,7 +315,8 @@ held_stays pages limit rid is_held = elim (cases_lt rid.page (length pages)) [
         | inl inside ↦
             let same : with_slot page rid.slot (held (reserve_of (slot_at page rid.slot))) ≡ page =
             same_page (put_same page.slots rid.slot (held (reserve_of (slot_at page rid.slot))) inside (held_is (slot_at page rid.slot) is_held)) refl in
-            sym (with_slot_there pages limit rid (held (reserve_of (slot_in pages rid))) (new_page 0) below ∙ (ap (set pages rid.page) same ∙ set-get_or pages rid.page (new_page 0)))
+            sym (with_slot_there pages limit rid (held (reserve_of (slot_in pages rid))) (new_page 0) below
+            ∙ (ap (set pages rid.page) same ∙ set-get_or pages rid.page (new_page 0)))
         | inr past ↦ absurd (subst IsHeld (get_or_past page.slots rid.slot free past) is_held)
       ]
   | inr past ↦

@@ -1,5 +1,6 @@
 -- The pairs of all pages, put in order, are the pairs at rest.
-use Rattle.std.proofs.Common.{◌≡◌, ℕ, zero, suc, add-zero, zero-add, ◌+◌, ◌<◌, Bool, true, false, List, [], ◌∷◌, ◌++◌, append_assoc, Option, Some, None, refl, sym, ap, ◌∙◌, arith, subst}
+use Rattle.std.proofs.Common.{◌≡◌, ℕ, zero, suc, add-zero, zero-add, ◌+◌, ◌<◌, Bool, true, false, List, [], ◌∷◌, ◌++◌, append_assoc, Option, Some, None, refl}
+use Rattle.std.proofs.Common.{sym, ap, ◌∙◌, arith, subst}
 use Rattle.std.specs.Prelude.{filter_map, flat_map, map, T, IsPermutation}
 use Rattle.std.specs.declared.cmp.Ordering.{Ordering}
 use Rattle.std.specs.declared.cmp.Ordering.TheVariants.{Less, Equal, Greater}
@@ -35,7 +36,8 @@ use Rattle.heap_table.proofs.TablePairs.{own_pair, all_listed, row_written, list
 abbrev pub rids_from : List LogRec → ℕ → ℕ → List Rid
 rids_from log first count = flat_map (rids_on log) (range_with_len first count)
 
-pub pairs_of_rids : (spec : KeySpecValue) (log : List LogRec) (first count : ℕ) → pairs_from spec log first count ≡ filter_map (pair_at spec log) (rids_from log first count)
+pub pairs_of_rids : (spec : KeySpecValue) (log : List LogRec) (first count : ℕ)
+    → pairs_from spec log first count ≡ filter_map (pair_at spec log) (rids_from log first count)
 pairs_of_rids spec log first zero = refl
 pairs_of_rids spec log first (suc count) =
     ap (λ ps. pairs_on spec log first ++ ps) (pairs_of_rids spec log (first + 1) count)
@@ -50,7 +52,8 @@ pub all_weaker : {X : Type 0} (P Q : X → Type 0) → ((x : X) → P x → Q x)
 all_weaker P Q f [] a = tt
 all_weaker P Q f (x ∷ xs) a = (f x a.0, all_weaker P Q f xs a.1)
 
-pub distinct_append : {X : Type 0} (e : X → X → Bool) (xs ys : List X) → IsDistinct e xs → IsDistinct e ys → AllByRecursion (λ x. AllByRecursion (λ y. e x y ≡ false) ys) xs → IsDistinct e (xs ++ ys)
+pub distinct_append : {X : Type 0} (e : X → X → Bool) (xs ys : List X) → IsDistinct e xs → IsDistinct e ys
+    → AllByRecursion (λ x. AllByRecursion (λ y. e x y ≡ false) ys) xs → IsDistinct e (xs ++ ys)
 unfolding IsDistinct
 distinct_append e [] ys a b apart = b
 distinct_append e (x ∷ xs) ys a b apart = (all_append (λ y. e x y ≡ false) xs ys a.0 apart.0, distinct_append e xs ys a.1 b apart.1)
@@ -62,7 +65,8 @@ slots_apart : (page s t : ℕ) → s < t → same_rid (rid_at page s) (rid_at pa
 slots_apart page s t less = grind (arith, nat_tests, less)
 
 -- the RIDs of one page have later slots
-later_slots : (page slot first count : ℕ) → slot < first → AllByRecursion (λ r. same_rid (rid_at page slot) r ≡ false) (map (rid_at page) (range_with_len first count))
+later_slots : (page slot first count : ℕ) → slot < first
+    → AllByRecursion (λ r. same_rid (rid_at page slot) r ≡ false) (map (rid_at page) (range_with_len first count))
 later_slots page slot first zero less = tt
 later_slots page slot first (suc count) less = (slots_apart page slot first less, later_slots page slot (first + 1) count (omega arith))
 
@@ -113,19 +117,22 @@ pairs_apart spec log p [] apart = tt
 pairs_apart spec log p (r ∷ rs) apart = one_apart spec log p r rs (pair_at spec log r) refl apart.0 (pairs_apart spec log p rs apart.1)
 
 one_distinct :
-    (spec : KeySpecValue) (log : List LogRec) (r : Rid) (rs : List Rid) (o : Option Pair) → pair_at spec log r ≡ o → AllByRecursion (λ y. same_rid r y ≡ false) rs
+    (spec : KeySpecValue) (log : List LogRec) (r : Rid) (rs : List Rid) (o : Option Pair) → pair_at spec log r ≡ o
+    → AllByRecursion (λ y. same_rid r y ≡ false) rs
     → IsDistinct (eq_by_cmp pair_cmp) (filter_map (pair_at spec log) rs) → IsDistinct (eq_by_cmp pair_cmp) (cons_option o (filter_map (pair_at spec log) rs))
 unfolding IsDistinct
 one_distinct spec log r rs None is apart rest = rest
 one_distinct spec log r rs (Some p) is apart rest =
     (pairs_apart spec log p rs (subst (λ (x : Rid). AllByRecursion (λ y. same_rid x y ≡ false) rs) (sym (own_pair spec r (live_at log r) p is)) apart), rest)
 
-pairs_distinct : (spec : KeySpecValue) (log : List LogRec) (rids : List Rid) → IsDistinct same_rid rids → IsDistinct (eq_by_cmp pair_cmp) (filter_map (pair_at spec log) rids)
+pairs_distinct : (spec : KeySpecValue) (log : List LogRec) (rids : List Rid) → IsDistinct same_rid rids
+    → IsDistinct (eq_by_cmp pair_cmp) (filter_map (pair_at spec log) rids)
 unfolding IsDistinct
 pairs_distinct spec log [] apart = tt
 pairs_distinct spec log (r ∷ rs) apart = one_distinct spec log r rs (pair_at spec log r) refl apart.0 (pairs_distinct spec log rs apart.1)
 
-listed_from : (log : List LogRec) (rid : Rid) (first count k : ℕ) → k < count → first + k ≡ rid.page → rid.slot < slots_written log rid.page → list_any (λ r. same_rid r rid) (rids_from log first count) ≡ true
+listed_from : (log : List LogRec) (rid : Rid) (first count k : ℕ) → k < count → first + k ≡ rid.page → rid.slot < slots_written log rid.page
+    → list_any (λ r. same_rid r rid) (rids_from log first count) ≡ true
 listed_from log rid first zero k less page slot = absurd (omega arith)
 listed_from log rid first (suc count) zero less page slot =
     list_any-append (λ r. same_rid r rid) (rids_on log first) (rids_from log (first + 1) count)
@@ -136,7 +143,8 @@ listed_from log rid first (suc count) (suc k) less page slot =
     ∙ or_right (list_any (λ r. same_rid r rid) (rids_on log first)) (list_any (λ r. same_rid r rid) (rids_from log (first + 1) count))
     (listed_from log rid (first + 1) count k (omega arith) (omega (arith, page)) slot)
 
-listed_all : (log : List LogRec) (rid : Rid) (row : List Cell) → live_at log rid ≡ Some row → list_any (λ r. same_rid r rid) (rids_from log 0 (pages_written log)) ≡ true
+listed_all : (log : List LogRec) (rid : Rid) (row : List Cell) → live_at log rid ≡ Some row
+    → list_any (λ r. same_rid r rid) (rids_from log 0 (pages_written log)) ≡ true
 listed_all log rid row live =
     let inside = rows_are_inside log in
     listed_from log rid 0 (pages_written log) rid.page (inside.page rid row live) (zero-add rid.page) (inside.slot rid row live)
@@ -147,7 +155,8 @@ by_order_of Less a b = refl
 by_order_of Equal a b = absurd (false≢true (sym b))
 by_order_of Greater a b = absurd (false≢true (sym a))
 
-rises_above : (x : Pair) (ys : List Pair) → AllByRecursion (λ y. is_lt (pair_cmp y x) ≡ false) ys → AllByRecursion (λ y. eq_by_cmp pair_cmp x y ≡ false) ys → below_all pair_cmp x (marked ys) ≡ true
+rises_above : (x : Pair) (ys : List Pair) → AllByRecursion (λ y. is_lt (pair_cmp y x) ≡ false) ys → AllByRecursion (λ y. eq_by_cmp pair_cmp x y ≡ false) ys
+    → below_all pair_cmp x (marked ys) ≡ true
 rises_above x [] a b = refl
 rises_above x (y ∷ ys) a b =
     and_from (is_lt (pair_cmp x y)) (below_all pair_cmp x (marked ys))
@@ -199,9 +208,11 @@ in_order spec log made ys is moved sorted =
     ∙ sym (all_listed spec log (written_rids log) (row_written log) q))
 
 -- the pairs of pages one after another
-pub pairs_joined : (spec : KeySpecValue) (log : List LogRec) (first n m : ℕ) → pairs_from spec log first (n + m) ≡ pairs_from spec log first n ++ pairs_from spec log (first + n) m
+pub pairs_joined : (spec : KeySpecValue) (log : List LogRec) (first n m : ℕ)
+    → pairs_from spec log first (n + m) ≡ pairs_from spec log first n ++ pairs_from spec log (first + n) m
 pairs_joined spec log first zero m = let same : zero + m ≡ m = zero-add m in let here : first + zero ≡ first = add-zero first in rw (same, here) refl
 pairs_joined spec log first (suc n) m =
     let more : suc n + m ≡ suc (n + m) = omega arith in
     let on : first + suc n ≡ first + 1 + n = omega arith in
-    rw (more, on) (ap (λ ps. pairs_on spec log first ++ ps) (pairs_joined spec log (first + 1) n m) ∙ sym (append_assoc (pairs_on spec log first) (pairs_from spec log (first + 1) n) (pairs_from spec log (first + 1 + n) m)))
+    rw (more, on) (ap (λ ps. pairs_on spec log first ++ ps) (pairs_joined spec log (first + 1) n m)
+    ∙ sym (append_assoc (pairs_on spec log first) (pairs_from spec log (first + 1) n) (pairs_from spec log (first + 1 + n) m)))

@@ -15,7 +15,8 @@ use Rattle.keybytes.specs.declared.fault.Fault.TheVariants.{PageFull}
 use Rattle.keybytes.specs.declared.rid.Rid.{Rid}
 use Rattle.heap_log.specs.declared.record.LogRec.{LogRec}
 use Rattle.heap_log.specs.declared.record.LogRec.TheVariants.{Undo}
-use Rattle.heap_log.specs.Standing.{record_at, row_of, rid_of, undone, is_write_at, stands_of, live_at, row_at, newest_standing, standing_before, standing_count, newest_at}
+use Rattle.heap_log.specs.Standing.{record_at, row_of, rid_of, undone, is_write_at, stands_of, live_at, row_at, newest_standing, standing_before}
+use Rattle.heap_log.specs.Standing.{standing_count, newest_at}
 use Rattle.heap_log.proofs.Last.{IsLast, last_below_some}
 use Rattle.heap_log.proofs.Numbers.{newest_standing-of}
 use Rattle.slotted_page.specs.Slot.{Slot, reserve_of, IsRow as HasRow, IsHeld, IsTaken}
@@ -57,7 +58,8 @@ pub record CanChange (s : HeapState) (txn : ℕ) (rid : Rid) (new : Option (List
   pub fit : (cells : List Cell) → new ≡ Some cells → IsRow cells × (fits s.schema cells ≡ true)
 
 -- where a row stands is a place
-standing_place : (s : HeapState) (p : PagesValue) (rid : Rid) (cells : List Cell) → IsKept s p → live_at s.log rid ≡ Some cells → (rid.page < pages_written s.log) × ((rid.slot < slots_written s.log rid.page) × (rid.page < s.page_limit))
+standing_place : (s : HeapState) (p : PagesValue) (rid : Rid) (cells : List Cell) → IsKept s p → live_at s.log rid ≡ Some cells
+    → (rid.page < pages_written s.log) × ((rid.slot < slots_written s.log rid.page) × (rid.page < s.page_limit))
 standing_place s p rid cells kept stands =
     let inside = rows_are_inside s.log in
     let page = inside.page rid cells stands in
@@ -118,13 +120,15 @@ grows s rid size e = elim (cases_Bool (fits_at (page_of s rid.page) rid.slot siz
   refused : Some PageFull ≡ None → ⊥
   refused f = cc
 
-pub page_there : (s : HeapState) (p : PagesValue) (rid : Rid) (cells : List Cell) (limit : ℕ) → IsKept s p → live_at s.log rid ≡ Some cells → page_or_new p.pages limit rid.page ≡ page_of s rid.page
+pub page_there : (s : HeapState) (p : PagesValue) (rid : Rid) (cells : List Cell) (limit : ℕ) → IsKept s p → live_at s.log rid ≡ Some cells
+    → page_or_new p.pages limit rid.page ≡ page_of s rid.page
 page_there s p rid cells limit kept stands =
     let place = standing_place s p rid cells kept stands in
     kept_page s p rid.page (new_page limit) kept (omega (arith, place.0, kept_count s p kept))
 
 pub can_write :
-    (s : HeapState) (p : PagesValue) (txn : ℕ) (rid : Rid) (old new : Option (List Cell)) → IsKept s p → 0 < p.spare → old ≡ live_at s.log rid → IfSome new IsSized
+    (s : HeapState) (p : PagesValue) (txn : ℕ) (rid : Rid) (old new : Option (List Cell)) → IsKept s p → 0 < p.spare → old ≡ live_at s.log rid
+    → IfSome new IsSized
     → IsLawful s txn rid None old new → CanWrite p rid old new
 can_write s p txn rid None None kept memory is sized lawful = lawful
 can_write s p txn rid None (Some new) kept memory is sized lawful =
@@ -169,9 +173,11 @@ can_restore s p txn n rid old new kept is lawful =
     kept_slot s p rid kept ∙ (ap (λ (cells : Option (List Cell)). slot_with cells (holder s.log rid) (room_needed s.log rid)) (sym is)
     ∙ ap (λ (h : Option ℕ). slot_with old h (room_needed s.log rid)) can.holder) in
     let size : row_size new ≤ reserve_of (slot_in p.pages rid) =
-    (let reserve = ap reserve_of (kept_slot s p rid kept) ∙ reserve_slot s.log rid in let fits = can.size in let same = ap row_size lawful.3 in omega (arith, reserve, fits, same)) in
+    (let reserve = ap reserve_of (kept_slot s p rid kept) ∙ reserve_slot s.log rid in let fits = can.size in let same = ap row_size lawful.3 in
+    omega (arith, reserve, fits, same)) in
     by old new (slot_in p.pages rid) (room_needed s.log rid) slot size where
-      by : (old new : Option (List Cell)) (x : Slot) (reserve : ℕ) → slot_in p.pages rid ≡ slot_with old (Some txn) reserve → row_size new ≤ reserve_of (slot_in p.pages rid) → CanRestore p rid old new
+      by : (old new : Option (List Cell)) (x : Slot) (reserve : ℕ) → slot_in p.pages rid ≡ slot_with old (Some txn) reserve
+          → row_size new ≤ reserve_of (slot_in p.pages rid) → CanRestore p rid old new
       by None None x reserve is size = subst IsHeld (sym is) tt
       by (Some cells) None x reserve is size = subst HasRow (sym is) tt
       by None (Some new) x reserve is size = (subst IsTaken (sym is) tt, size)
@@ -191,24 +197,28 @@ shape_written kinds log place fit = accepted (row_at log place) (written_fits ki
   accepted (Some row) fits_it = rw fits_it.1 refl
 
 new_fits :
-    (s : HeapState) (p : PagesValue) (txn : ℕ) (rid : Rid) (undone : Option ℕ) (old new : Option (List Cell)) → IsKept s p → old ≡ live_at s.log rid → IfSome new IsSized
+    (s : HeapState) (p : PagesValue) (txn : ℕ) (rid : Rid) (undone : Option ℕ) (old new : Option (List Cell)) → IsKept s p → old ≡ live_at s.log rid
+    → IfSome new IsSized
     → IsLawful s txn rid undone old new → IfSome new (IsTableRow s.schema)
 new_fits s p txn rid None old new kept is sized lawful = if_some new (IsTableRow s.schema) (can_change s p txn rid old new kept is sized lawful).fit
 new_fits s p txn rid (Some n) old new kept is sized lawful =
-    subst (λ (row : Option (List Cell)). IfSome row (IsTableRow s.schema)) (sym lawful.3) (written_fits s.schema s.log (standing_before s.log n) kept.writes_fit)
+    subst (λ (row : Option (List Cell)). IfSome row (IsTableRow s.schema)) (sym lawful.3)
+    (written_fits s.schema s.log (standing_before s.log n) kept.writes_fit)
 
 -- what is ready for a table's value, told of its fields
 pub ready_inside : (h g : HeapValue) (ready : Ready) → h ≡ g → IsReady g ready → IsReady h ready
 ready_inside h g ready is is_ready = subst (λ (x : HeapValue). IsReady x ready) (sym is) is_ready
 
 -- a ready change is lawful as what it is: a write, or the undo of the write of that number
-pub lawful_as : (h : HeapValue) (ready : Ready) (number : Option ℕ) → IsReady h ready → ready.undone ≡ number → IsLawful h.state ready.txn ready.rid number ready.old ready.new
+pub lawful_as : (h : HeapValue) (ready : Ready) (number : Option ℕ) → IsReady h ready → ready.undone ≡ number
+    → IsLawful h.state ready.txn ready.rid number ready.old ready.new
 lawful_as h ready number is_ready same = subst (λ (o : Option ℕ). IsLawful h.state ready.txn ready.rid o ready.old ready.new) same is_ready.lawful
 
 -- what holds of a change that is made ready
 pub lawful_change : (h : HeapValue) (p : PagesValue) (ready : Ready) → IsReady h ready → IsKept h.state p → IsLawfulChange h.state ready
 lawful_change h p ready is kept = record {
-  old_fits = subst (λ (row : Option (List Cell)). IfSome row (IsTableRow h.state.schema)) (sym is.old) (written_fits h.state.schema h.state.log (newest_at h.state.log ready.rid) kept.writes_fit);
+  old_fits = subst (λ (row : Option (List Cell)). IfSome row (IsTableRow h.state.schema)) (sym is.old)
+      (written_fits h.state.schema h.state.log (newest_at h.state.log ready.rid) kept.writes_fit);
   new_fits = new_fits h.state p ready.txn ready.rid ready.undone ready.old ready.new kept is.old is.new is.lawful;
   writer = λ none.
       let can = can_change h.state p ready.txn ready.rid ready.old ready.new kept is.old is.new (lawful_as h ready None is none) in
@@ -246,4 +256,5 @@ pub undone_row :
     → mid ≡ with_slot_in pages limit ready.rid (changed (slot_in pages ready.rid) (option_map row_bytes ready.new))
     → mid ≡ with_slot_in pages limit ready.rid (changed (slot_in pages ready.rid) (option_map row_bytes (row_at h.state.log (standing_before h.state.log n))))
 undone_row h ready n pages mid limit is_ready undone is =
-    is ∙ ap (λ (new : Option (List Cell)). with_slot_in pages limit ready.rid (changed (slot_in pages ready.rid) (option_map row_bytes new))) (lawful_as h ready (Some n) is_ready undone).3
+    is ∙ ap (λ (new : Option (List Cell)). with_slot_in pages limit ready.rid (changed (slot_in pages ready.rid) (option_map row_bytes new)))
+    (lawful_as h ready (Some n) is_ready undone).3

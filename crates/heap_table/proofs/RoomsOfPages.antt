@@ -1,5 +1,6 @@
 -- The rooms that are kept of a table's pages.
-use Rattle.std.proofs.Common.{◌≡◌, inl, inr, ℕ, suc, ◌+◌, ◌<◌, Bool, List, [], ◌∷◌, ◌++◌, length, get_or, set, Some, None, refl, sym, ap, ◌∙◌, subst, arith, get_or-set_same, get_or-set_other}
+use Rattle.std.proofs.Common.{◌≡◌, inl, inr, ℕ, suc, ◌+◌, ◌<◌, Bool, List, [], ◌∷◌, ◌++◌, length, get_or, set, Some, None, refl, sym, ap, ◌∙◌, subst, arith}
+use Rattle.std.proofs.Common.{get_or-set_same, get_or-set_other}
 use Rattle.std.specs.Prelude.{position, is_some, nat_le, nat_lt, not, cond}
 use Rattle.std.specs.List.{position_or_len}
 use Rattle.std.proofs.lemmas.Bool.{cases_eq, cases_lt}
@@ -30,7 +31,8 @@ position_same p q xs ys count same =
     ap (λ (k : ℕ). cond (nat_lt k (length xs)) (Some k) None) first
     ∙ ap (λ (n : ℕ). cond (nat_lt (position_or_len q ys) n) (Some (position_or_len q ys)) None) count
 
-pub lowest_room : (pages : List PageValue) (rooms : List ℕ) (len : ℕ) → RoomsAreOf pages rooms → 0 < len → position (λ room. nat_le len room) rooms ≡ position (takes len) pages
+pub lowest_room : (pages : List PageValue) (rooms : List ℕ) (len : ℕ) → RoomsAreOf pages rooms → 0 < len
+    → position (λ room. nat_le len room) rooms ≡ position (takes len) pages
 lowest_room pages rooms len follow some =
     sym (position_same (takes len) (λ room. nat_le len room) pages rooms (sym follow.count)
     (λ i d e below. follow.takes i len d below some ∙ ap (nat_le len) (get_or_default rooms i 0 e (omega (arith, below, follow.count)))))

@@ -1,5 +1,6 @@
 -- The slots that a transaction wrote, settled write by write from the last to the first.
-use Rattle.std.proofs.Common.{◌≡◌, ◌≢◌, inl, inr, ℕ, zero, suc, ◌+◌, ◌-◌, ◌<◌, ◌≤◌, Bool, true, false, List, [], ◌∷◌, length, drop, get_or, Option, Some, None, refl, sym, ap, ◌∙◌, arith}
+use Rattle.std.proofs.Common.{◌≡◌, ◌≢◌, inl, inr, ℕ, zero, suc, ◌+◌, ◌-◌, ◌<◌, ◌≤◌, Bool, true, false, List, [], ◌∷◌, length, drop, get_or, Option, Some, None}
+use Rattle.std.proofs.Common.{refl, sym, ap, ◌∙◌, arith}
 use Rattle.std.proofs.Math.Bool.{and-false}
 use Rattle.std.specs.Prelude.{◌||◌}
 use Rattle.std.specs.Option.{unwrap_or}
@@ -33,7 +34,8 @@ pub record HasSettled (log : List LogRec) (txn : ℕ) (old : PagesValue) (place 
   pub limit : new.limit ≡ old.limit
   pub spare : new.spare ≡ old.spare
 
-wrote_step : (log : List LogRec) (k : ℕ) (rec : LogRec) (txn : ℕ) (rid : Rid) → slice_get log k ≡ Some rec → wrote (drop k log) txn rid ≡ (writes txn rid rec || wrote (drop (suc k) log) txn rid)
+wrote_step : (log : List LogRec) (k : ℕ) (rec : LogRec) (txn : ℕ) (rid : Rid) → slice_get log k ≡ Some rec
+    → wrote (drop k log) txn rid ≡ (writes txn rid rec || wrote (drop (suc k) log) txn rid)
 wrote_step [] k rec txn rid e = absurd (cc)
 wrote_step (x ∷ log) zero rec txn rid e = let same : x ≡ rec = same_Some x rec e in rw same refl
 wrote_step (x ∷ log) (suc k) rec txn rid e = wrote_step log k rec txn rid e
@@ -59,12 +61,14 @@ wrote_skip (suc d) m log txn rid within none = elim (slice_get_cases log m).1 [
 -- nothing was written behind the last write
 none_behind : (log : List LogRec) (txn : ℕ) (rid : Rid) (place : Option ℕ) → last_of log txn (length log + 1) ≡ place → wrote_behind log txn place rid ≡ false
 none_behind log txn rid None e =
-    wrote_skip (length log) 0 log txn rid (omega arith) (λ i low high. last_below_none (λ k. is_write_of txn (record_at log k)) (length log + 1) e i (omega (arith, high)))
+    wrote_skip (length log) 0 log txn rid (omega arith)
+    (λ i low high. last_below_none (λ k. is_write_of txn (record_at log k)) (length log + 1) e i (omega (arith, high)))
     ∙ ap (λ (l : List LogRec). wrote l txn rid) (ap (λ (k : ℕ). drop k log) zero_more ∙ drop-length log) where
       zero_more : 0 + length log ≡ length log
       zero_more = omega arith
 none_behind log txn rid (Some n) e =
-    let last : IsLast (λ k. is_write_of txn (record_at log k)) (length log + 1) n = last_below_some (λ k. is_write_of txn (record_at log k)) (length log + 1) n e in
+    let last : IsLast (λ k. is_write_of txn (record_at log k)) (length log + 1) n =
+    last_below_some (λ k. is_write_of txn (record_at log k)) (length log + 1) n e in
     let whole : n + (length log - n) ≡ length log = omega (arith, last.below) in
     wrote_skip (length log - n) n log txn rid (omega (arith, whole)) (λ i low high. last.after i low (omega (arith, high, whole)))
     ∙ ap (λ (l : List LogRec). wrote l txn rid) (ap (λ (k : ℕ). drop k log) whole ∙ drop-length log)
@@ -95,7 +99,8 @@ same_shape f g m n c d k l e =
       λ page below.
           let blank : PageValue = new_page 0 in
           let same : page_by f m k page ≡ page_by g n l page =
-          sym (get_or_pages_by f m c k page blank below) ∙ (ap (λ (ps : List PageValue). get_or ps page blank) e ∙ get_or_pages_by g n d l page blank (omega (arith, below, count))) in
+          sym (get_or_pages_by f m c k page blank below)
+          ∙ (ap (λ (ps : List PageValue). get_or ps page blank) e ∙ get_or_pages_by g n d l page blank (omega (arith, below, count))) in
           sym (length_page_by f m k page) ∙ (ap (λ (p : PageValue). length p.slots) same ∙ length_page_by g n l page),
     )
 
@@ -107,9 +112,12 @@ settled_again false slot = refl
 
 -- one write more
 pub settle_next :
-    (log : List LogRec) (txn n : ℕ) (rec : LogRec) (old mid new : PagesValue) (place : Option ℕ) (rid : Rid) (slot : Rid → Slot) (slots : ℕ → ℕ) (count limit : ℕ)
-    → HasSettled log txn old (Some n) mid → HaveWritten old log txn slot slots count limit → IsWrite log n → record_at log n ≡ Some rec → is_write_at rid (Some rec) ≡ true
-    → last_of log txn n ≡ place → new.pages ≡ with_slot_in mid.pages mid.limit rid (settled (slot_in mid.pages rid)) → new.limit ≡ mid.limit → new.spare ≡ mid.spare
+    (log : List LogRec) (txn n : ℕ) (rec : LogRec) (old mid new : PagesValue) (place : Option ℕ) (rid : Rid) (slot : Rid → Slot) (slots : ℕ → ℕ)
+    (count limit : ℕ)
+    → HasSettled log txn old (Some n) mid → HaveWritten old log txn slot slots count limit → IsWrite log n → record_at log n ≡ Some rec
+    → is_write_at rid (Some rec) ≡ true
+    → last_of log txn n ≡ place → new.pages ≡ with_slot_in mid.pages mid.limit rid (settled (slot_in mid.pages rid)) → new.limit ≡ mid.limit
+    → new.spare ≡ mid.spare
     → HasSettled log txn old place new
 settle_next log txn n rec old mid new place rid slot slots count limit h have within is there e pages same_limit same_spare = record {
   by = λ m at. last_of-of log txn n m (e ∙ at);

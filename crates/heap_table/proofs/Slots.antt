@@ -47,7 +47,8 @@ room_kept log new rec rid txn is has none =
     let first : before_first txn rid new ≡ before_first txn rid log = ap (before_first txn rid) is ∙ before_first_kept txn rid log (rec ∷ []) has in
     let none_here : size_written txn rid rec ≡ 0 = rw none refl in
     let greatest : greatest_written txn rid new ≡ greatest_written txn rid log =
-    ap (greatest_written txn rid) is ∙ (greatest_written-added txn rid log rec ∙ (ap (max (greatest_written txn rid log)) none_here ∙ max-zero (greatest_written txn rid log))) in
+    ap (greatest_written txn rid) is ∙ (greatest_written-added txn rid log rec
+    ∙ (ap (max (greatest_written txn rid log)) none_here ∙ max-zero (greatest_written txn rid log))) in
     rw (first, greatest) refl
 
 -- the slot under a holder that wrote there stays with such a record, where the same row stands
@@ -77,7 +78,8 @@ write_holder s t txn rid row w =
     holder_is t w.sound rid txn (ap (λ a. is_open a txn) w.active ∙ w.opened)
     (wrote_then s.log t.log (Write txn rid row) txn rid w.added.is ∙ rw (writes_here txn rid row) (or-true (wrote s.log txn rid)))
 
-pub write_other_holder : (s t : HeapState) (txn : ℕ) (rid : Rid) (row : Option (List Cell)) → Wrote s t txn rid row → (other : Rid) → other ≢ rid → holder t.log other ≡ holder s.log other
+pub write_other_holder : (s t : HeapState) (txn : ℕ) (rid : Rid) (row : Option (List Cell)) → Wrote s t txn rid row → (other : Rid) → other ≢ rid
+    → holder t.log other ≡ holder s.log other
 write_other_holder s t txn rid row w other differs =
     same_holder s t w.was w.sound other (λ u. wrote_still s.log t.log (Write txn rid row) u other w.added.is (writes_other txn u rid other row differs))
     (λ u has. busy_write s t txn rid row w.was w.added w.opened u ∙ (elim (cases_Bool (txn == u)) [
@@ -88,10 +90,12 @@ write_other_holder s t txn rid row w other differs =
 pub write_live : (s t : HeapState) (txn : ℕ) (rid : Rid) (row : Option (List Cell)) → Wrote s t txn rid row → live_at t.log rid ≡ row
 write_live s t txn rid row w = w.added.live.live rid ∙ rw (same_rid-refl rid) refl
 
-pub write_other_live : (s t : HeapState) (txn : ℕ) (rid : Rid) (row : Option (List Cell)) → Wrote s t txn rid row → (other : Rid) → other ≢ rid → live_at t.log other ≡ live_at s.log other
+pub write_other_live : (s t : HeapState) (txn : ℕ) (rid : Rid) (row : Option (List Cell)) → Wrote s t txn rid row → (other : Rid) → other ≢ rid
+    → live_at t.log other ≡ live_at s.log other
 write_other_live s t txn rid row w other differs = w.added.live.live other ∙ rw (same_rid_other rid other differs) refl
 
-pub write_room : (s t : HeapState) (txn : ℕ) (rid : Rid) (row : Option (List Cell)) → Wrote s t txn rid row → room_needed t.log rid ≡ max (room_needed s.log rid) (row_size row)
+pub write_room : (s t : HeapState) (txn : ℕ) (rid : Rid) (row : Option (List Cell)) → Wrote s t txn rid row
+    → room_needed t.log rid ≡ max (room_needed s.log rid) (row_size row)
 write_room s t txn rid row w =
     let rec : LogRec = Write txn rid row in
     let size_is : size_written txn rid rec ≡ row_size row = rw (writes_here txn rid row) refl in
@@ -103,7 +107,8 @@ write_room s t txn rid row w =
             | inl has ↦ absurd (none-some txn (sym none ∙ holder_is s w.was rid txn w.opened has))
             | inr fresh ↦ fresh
           ] in
-          let first : before_first txn rid t.log ≡ s.log = ap (before_first txn rid) w.added.is ∙ before_first_next txn rid s.log rec fresh (writes_here txn rid row) in
+          let first : before_first txn rid t.log ≡ s.log =
+          ap (before_first txn rid) w.added.is ∙ before_first_next txn rid s.log rec fresh (writes_here txn rid row) in
           let nothing : greatest_written txn rid s.log ≡ 0 = greatest_none txn rid s.log fresh in
           rw (first, greatest, nothing, none) (ap (max (row_size (live_at s.log rid))) (zero-max (row_size row)))
       | inr some ↦
@@ -111,22 +116,26 @@ write_room s t txn rid row w =
           let same : some.0 ≡ txn = free_for s w.was txn some.0 rid w.free_for (holder_open s w.was rid some.0 some.1) by.1 in
           let held_by : holder s.log rid ≡ Some txn = some.1 ∙ ap Some same in
           let has : wrote s.log txn rid ≡ true = ap (λ (u : ℕ). wrote s.log u rid) (sym same) ∙ by.1 in
-          let first : before_first txn rid t.log ≡ before_first txn rid s.log = ap (before_first txn rid) w.added.is ∙ before_first_kept txn rid s.log (rec ∷ []) has in
+          let first : before_first txn rid t.log ≡ before_first txn rid s.log =
+          ap (before_first txn rid) w.added.is ∙ before_first_kept txn rid s.log (rec ∷ []) has in
           rw (first, greatest, held_by) (max_turned (row_size (live_at (before_first txn rid s.log) rid)) (greatest_written txn rid s.log) (row_size row))
     ])
 
 -- the slot of the RID that was written
-pub write_slot : (s t : HeapState) (txn : ℕ) (rid : Rid) (row : Option (List Cell)) → Wrote s t txn rid row → slot_of t.log rid ≡ changed (slot_of s.log rid) (option_map row_bytes row)
+pub write_slot : (s t : HeapState) (txn : ℕ) (rid : Rid) (row : Option (List Cell)) → Wrote s t txn rid row
+    → slot_of t.log rid ≡ changed (slot_of s.log rid) (option_map row_bytes row)
 write_slot s t txn rid row w =
     ap (λ (h : Option ℕ). slot_with (live_at t.log rid) h (room_needed t.log rid)) (write_holder s t txn rid row w)
     ∙ (ap (λ (cells : Option (List Cell)). slot_with cells (Some txn) (room_needed t.log rid)) (write_live s t txn rid row w)
     ∙ (ap (slot_with row (Some txn)) (write_room s t txn rid row w ∙ ap (λ (n : ℕ). max n (row_size row)) (sym (reserve_slot s.log rid))) ∙ by row)) where
-      by : (cells : Option (List Cell)) → slot_with cells (Some txn) (max (reserve_of (slot_of s.log rid)) (row_size cells)) ≡ changed (slot_of s.log rid) (option_map row_bytes cells)
+      by : (cells : Option (List Cell)) → slot_with cells (Some txn) (max (reserve_of (slot_of s.log rid)) (row_size cells))
+          ≡ changed (slot_of s.log rid) (option_map row_bytes cells)
       by None = ap held (max-zero (reserve_of (slot_of s.log rid)))
       by (Some cells) = refl
 
 -- the slots of the others
-pub write_other_slot : (s t : HeapState) (txn : ℕ) (rid : Rid) (row : Option (List Cell)) → Wrote s t txn rid row → (other : Rid) → other ≢ rid → slot_of t.log other ≡ slot_of s.log other
+pub write_other_slot : (s t : HeapState) (txn : ℕ) (rid : Rid) (row : Option (List Cell)) → Wrote s t txn rid row → (other : Rid) → other ≢ rid
+    → slot_of t.log other ≡ slot_of s.log other
 write_other_slot s t txn rid row w other differs =
     ap (λ (h : Option ℕ). slot_under h t.log other) (write_other_holder s t txn rid row w other differs)
     ∙ under_kept s.log t.log (Write txn rid row) other (holder s.log other) w.added.is (λ u e. (holder_wrote s.log other u e).1)

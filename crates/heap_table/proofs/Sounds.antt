@@ -1,5 +1,6 @@
 -- A table stays sound.
-use Rattle.std.proofs.Common.{◌≡◌, ◌≢◌, ◌⊎◌, inl, inr, ℕ, ◌+◌, ◌≤◌, Bool, true, false, List, [], ◌∷◌, ◌++◌, length, Option, Some, None, refl, sym, ap, ◌∙◌, subst, arith}
+use Rattle.std.proofs.Common.{◌≡◌, ◌≢◌, ◌⊎◌, inl, inr, ℕ, ◌+◌, ◌≤◌, Bool, true, false, List, [], ◌∷◌, ◌++◌, length, Option, Some, None, refl, sym, ap, ◌∙◌}
+use Rattle.std.proofs.Common.{subst, arith}
 use Rattle.std.proofs.Math.Bool.{and-false, and-true, or-false, or-true}
 use Rattle.std.specs.Prelude.{◌||◌, ◌&&◌, not, nat_lt, ◌==◌, if◌then◌else◌}
 use Rattle.std.proofs.lemmas.Bool.{cases_Bool, cases_eq, cases_lt, false≢true, eqb-true, eq-eqb, ne_eqb, or_cases, and_parts, or_from}
@@ -29,10 +30,12 @@ use Rattle.heap_table.proofs.Writers.{HasWrite, wrote_from, wrote-added, committ
 pub record MayAdd (s : HeapState) (rec : LogRec) (t : HeapState) : Type 0 where
   pub known : (txn : ℕ) (rid : Rid) → writes txn rid rec ≡ true → txn ≤ s.begun
   pub commits : (txn : ℕ) → is_commit_of txn rec ≡ true → (txn ≤ s.begun) × (is_open t.active txn ≡ false)
-  pub alone : (txn : ℕ) (rid : Rid) → is_open s.active txn ≡ true → is_write_at rid (Some rec) ≡ true → HasWrite s.log txn rid → is_write_of txn (Some rec) ≡ true
+  pub alone : (txn : ℕ) (rid : Rid) → is_open s.active txn ≡ true → is_write_at rid (Some rec) ≡ true → HasWrite s.log txn rid
+      → is_write_of txn (Some rec) ≡ true
   pub busy : (txn : ℕ) (rid : Rid) → wrote t.log txn rid ≡ true → is_busy t.log txn ≡ is_open t.active txn
 
-pub wrote_then : (log new : List LogRec) (rec : LogRec) (txn : ℕ) (rid : Rid) → new ≡ log ++ rec ∷ [] → wrote new txn rid ≡ (wrote log txn rid || writes txn rid rec)
+pub wrote_then : (log new : List LogRec) (rec : LogRec) (txn : ℕ) (rid : Rid) → new ≡ log ++ rec ∷ []
+    → wrote new txn rid ≡ (wrote log txn rid || writes txn rid rec)
 wrote_then log new rec txn rid is = ap (λ (l : List LogRec). wrote l txn rid) is ∙ wrote-added log rec txn rid
 
 committed_then : (log new : List LogRec) (rec : LogRec) (txn : ℕ) → new ≡ log ++ rec ∷ [] → committed new txn ≡ (committed log txn || is_commit_of txn rec)
@@ -67,7 +70,8 @@ sound_added s t rec h added begun fewer may =
             | inl last ↦
                 let m_is : m ≡ length s.log + 1 = omega (arith, within.high, count, last) in
                 let m_rec : record_at t.log m ≡ Some rec = ap (record_at t.log) m_is ∙ numbers.here in
-                let has : HasWrite s.log txn rid = record { number = n; by = ap (is_write_of txn) (sym n_is) ∙ by; there = ap (is_write_at rid) (sym n_is) ∙ there } in
+                let has : HasWrite s.log txn rid =
+                record { number = n; by = ap (is_write_of txn) (sym n_is) ∙ by; there = ap (is_write_at rid) (sym n_is) ∙ there } in
                 ap (is_write_of txn) m_rec ∙ may.alone txn rid (fewer txn e) (ap (is_write_at rid) (sym m_rec) ∙ at) has
             | inr old ↦
                 let m_is : record_at t.log m ≡ record_at s.log m = numbers.earlier m (omega (arith, old)) in
@@ -77,7 +81,8 @@ sound_added s t rec h added begun fewer may =
     }
 
 -- whether a transaction is busy, from what it is told by
-busy_from : (log : List LogRec) (txn count : ℕ) (ended : Bool) → standing_count log txn ≡ count → committed log txn ≡ ended → is_busy log txn ≡ (nat_lt 0 count && not ended)
+busy_from : (log : List LogRec) (txn count : ℕ) (ended : Bool) → standing_count log txn ≡ count → committed log txn ≡ ended
+    → is_busy log txn ≡ (nat_lt 0 count && not ended)
 busy_from log txn count ended is_count is_ended = rw (is_count, is_ended) refl
 
 -- the transaction that writes next may: nobody else holds the RID
@@ -89,7 +94,8 @@ unheld txn other e = elim (cases_Bool (other == txn)) [
   refused : Some (RowHeld other) ≡ None → ⊥
   refused f = cc
 
-pub free_for : (s : HeapState) → IsSound s → (txn other : ℕ) (rid : Rid) → held_refusal txn (holder s.log rid) ≡ None → is_open s.active other ≡ true → wrote s.log other rid ≡ true → other ≡ txn
+pub free_for : (s : HeapState) → IsSound s → (txn other : ℕ) (rid : Rid) → held_refusal txn (holder s.log rid) ≡ None → is_open s.active other ≡ true
+    → wrote s.log other rid ≡ true → other ≡ txn
 free_for s h txn other rid free is has = unheld txn other (ap (held_refusal txn) (sym (holder_is s h rid other is has)) ∙ free)
 
 -- who is busy after a write
@@ -98,7 +104,8 @@ pub busy_write :
     → is_open s.active txn ≡ true → (other : ℕ)
     → is_busy t.log other ≡ (if txn == other then true else is_busy s.log other)
 busy_write s t txn rid row h added opened other =
-    let ended : committed t.log other ≡ committed s.log other = committed_then s.log t.log (Write txn rid row) other added.is ∙ or-false (committed s.log other) in
+    let ended : committed t.log other ≡ committed s.log other =
+    committed_then s.log t.log (Write txn rid row) other added.is ∙ or-false (committed s.log other) in
     elim (cases_Bool (txn == other)) [
       | inl same ↦
           let is_txn : txn ≡ other = eqb-true txn other same in
@@ -128,7 +135,9 @@ sound_write s t txn rid row h added active begun opened free =
           busy_write s t txn rid row h added opened u ∙ (elim (cases_Bool (txn == u)) [
             | inl same ↦ rw same (sym (ap (λ a. is_open a u) active ∙ (ap (is_open s.active) (sym (eqb-true txn u same)) ∙ opened)))
             | inr differs ↦
-                let old : wrote s.log u place ≡ true = elim (or_cases (wrote s.log u place) (writes u place (Write txn rid row)) (sym (wrote_then s.log t.log (Write txn rid row) u place added.is) ∙ e)) [
+                let old : wrote s.log u place ≡ true = elim
+                (or_cases (wrote s.log u place) (writes u place (Write txn rid row))
+                (sym (wrote_then s.log t.log (Write txn rid row) u place added.is) ∙ e)) [
                   | inl old ↦ old
                   | inr new ↦ absurd (false≢true (sym differs ∙ (and_parts (txn == u) (same_rid rid place) new).0))
                 ] in
@@ -137,7 +146,8 @@ sound_write s t txn rid row h added active begun opened free =
     })
 
 -- who wrote there before a record that is no write of it there
-pub wrote_still : (log new : List LogRec) (rec : LogRec) (txn : ℕ) (rid : Rid) → new ≡ log ++ rec ∷ [] → writes txn rid rec ≡ false → wrote new txn rid ≡ wrote log txn rid
+pub wrote_still : (log new : List LogRec) (rec : LogRec) (txn : ℕ) (rid : Rid) → new ≡ log ++ rec ∷ [] → writes txn rid rec ≡ false
+    → wrote new txn rid ≡ wrote log txn rid
 wrote_still log new rec txn rid is none = wrote_then log new rec txn rid is ∙ rw none (or-false (wrote log txn rid))
 
 -- who is busy after a commit
@@ -149,7 +159,8 @@ busy_commit s t txn added other = elim (cases_Bool (txn == other)) [
       let ended : committed t.log other ≡ true = committed_then s.log t.log (Commit txn) other added.is ∙ rw same (or-true (committed s.log other)) in
       busy_from t.log other (standing_count t.log other) true refl ended ∙ rw same (and-false (nat_lt 0 (standing_count t.log other)))
   | inr differs ↦
-      let ended : committed t.log other ≡ committed s.log other = committed_then s.log t.log (Commit txn) other added.is ∙ rw differs (or-false (committed s.log other)) in
+      let ended : committed t.log other ≡ committed s.log other =
+      committed_then s.log t.log (Commit txn) other added.is ∙ rw differs (or-false (committed s.log other)) in
       busy_from t.log other (standing_count s.log other) (committed s.log other) (added.standing.count other) ended ∙ rw differs refl
 ]
 
@@ -163,14 +174,18 @@ sound_commit s t txn h added active begun opened =
     sound_added s t (Commit txn) h added begun (λ u e. without_fewer txn u s.active (sym (ap (λ a. is_open a u) active) ∙ e)) (record {
       known = λ u place e. absurd (false≢true e);
       commits = λ u e.
-          let same : txn ≡ u = eqb-true txn u e in
-          (rw (sym same) (h.openers txn opened), ap (λ a. is_open a u) active ∙ (ap (λ (v : ℕ). is_open (without v s.active) u) same ∙ open_without_self u s.active));
+          let same : txn ≡ u = eqb-true txn u e in (
+            rw (sym same) (h.openers txn opened),
+            ap (λ a. is_open a u) active
+                ∙ (ap (λ (v : ℕ). is_open (without v s.active) u) same ∙ open_without_self u s.active),
+          );
       alone = λ u place open_u at has. absurd (false≢true at);
       busy = λ u place e.
           let old : wrote s.log u place ≡ true = sym (wrote_still s.log t.log (Commit txn) u place added.is refl) ∙ e in
           busy_commit s t txn added u ∙ (elim (cases_Bool (txn == u)) [
             | inl same ↦
-                rw same (sym (ap (λ a. is_open a u) active ∙ (ap (λ (v : ℕ). is_open (without v s.active) u) (eqb-true txn u same) ∙ open_without_self u s.active)))
+                rw same (sym (ap (λ a. is_open a u) active
+                ∙ (ap (λ (v : ℕ). is_open (without v s.active) u) (eqb-true txn u same) ∙ open_without_self u s.active)))
             | inr differs ↦
                 rw differs (h.busy u place old ∙ sym (ap (λ a. is_open a u) active ∙ open_without_other txn u s.active (eq_turned txn u differs)))
           ]);
@@ -221,16 +236,19 @@ pub sound_undo :
     → t.active ≡ still_open txn (standing_count t.log txn) s.active → t.begun ≡ s.begun
     → newest_standing s.log txn ≡ Some n → is_open s.active txn ≡ true → IsSound t
 sound_undo s t txn n h added active begun newest opened =
-    sound_added s t (Undo txn n) h added begun (λ u e. still_fewer txn u (standing_count t.log txn) s.active opened (sym (ap (λ a. is_open a u) active) ∙ e)) (record {
+    sound_added s t (Undo txn n) h added begun (λ u e. still_fewer txn u (standing_count t.log txn) s.active opened (sym (ap (λ a. is_open a u) active) ∙ e))
+    (record {
       known = λ u place e. absurd (false≢true e);
       commits = λ u e. absurd (false≢true e);
       alone = λ u place open_u at has. absurd (false≢true at);
       busy = λ u place e.
           let old : wrote s.log u place ≡ true = sym (wrote_still s.log t.log (Undo txn n) u place added.is refl) ∙ e in
           busy_undo s t txn n h added newest opened u ∙ (elim (cases_Bool (txn == u)) [
-            | inl same ↦ rw same (sym (ap (λ a. is_open a u) active ∙ (ap (is_open (still_open txn (standing_count t.log txn) s.active)) (sym (eqb-true txn u same)) ∙ still (standing_count t.log txn))))
+            | inl same ↦ rw same (sym (ap (λ a. is_open a u) active
+                ∙ (ap (is_open (still_open txn (standing_count t.log txn) s.active)) (sym (eqb-true txn u same)) ∙ still (standing_count t.log txn))))
             | inr differs ↦
-                rw differs (h.busy u place old ∙ sym (ap (λ a. is_open a u) active ∙ open_still_other txn u (standing_count t.log txn) s.active (eq_turned txn u differs)))
+                rw differs (h.busy u place old ∙ sym (ap (λ a. is_open a u) active
+                ∙ open_still_other txn u (standing_count t.log txn) s.active (eq_turned txn u differs)))
           ]);
     }) where
       still : (left : ℕ) → is_open (still_open txn left s.active) txn ≡ nat_lt 0 left
@@ -257,7 +275,8 @@ sound_ended s t txn h is active begun newest = record {
         | inr differs ↦ h.busy u rid old ∙ sym (ap (λ a. is_open a u) active ∙ open_without_other txn u s.active differs)
       ]);
   held = λ u n m rid e l by there at.
-      let P : List LogRec → Type 0 = λ log. is_write_of u (record_at log n) ≡ true → is_write_at rid (record_at log n) ≡ true → is_write_at rid (record_at log m) ≡ true → is_write_of u (record_at log m) ≡ true in
+      let P : List LogRec → Type 0 = λ log. is_write_of u (record_at log n) ≡ true → is_write_at rid (record_at log n) ≡ true
+      → is_write_at rid (record_at log m) ≡ true → is_write_of u (record_at log m) ≡ true in
       subst P (sym is) (h.held u n m rid (was_open u e) l) by there at;
 } where
   was_open : (u : ℕ) → is_open t.active u ≡ true → is_open s.active u ≡ true
@@ -288,7 +307,8 @@ sound_begin s t h is active begun = record {
       ap (λ (log : List LogRec). is_busy log u) is
       ∙ (h.busy u rid old ∙ sym (ap (λ a. is_open a u) active ∙ (open_begun (s.begun + 1) u s.active ∙ rw apart (or-false (is_open s.active u)))));
   held = λ u n m rid e l by there at.
-      let P : List LogRec → Type 0 = λ log. is_write_of u (record_at log n) ≡ true → is_write_at rid (record_at log n) ≡ true → is_write_at rid (record_at log m) ≡ true → is_write_of u (record_at log m) ≡ true in
+      let P : List LogRec → Type 0 = λ log. is_write_of u (record_at log n) ≡ true → is_write_at rid (record_at log n) ≡ true
+      → is_write_at rid (record_at log m) ≡ true → is_write_of u (record_at log m) ≡ true in
       subst P (sym is) (λ by there at. elim (old_or_new u e) [
         | inl old ↦ h.held u n m rid old l by there at
         | inr new ↦ let before = h.writers u rid (wrote_from s.log u rid n by there) in absurd (omega (arith, before, new))

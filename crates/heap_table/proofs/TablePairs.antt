@@ -1,5 +1,6 @@
 -- The set of the pairs of a table: its members, and what becomes of it where one row changes.
-use Rattle.std.proofs.Common.{◌≡◌, ℕ, zero, suc, ◌+◌, ◌<◌, Bool, true, false, List, [], ◌∷◌, map, Option, Some, None, refl, sym, ap, ◌∙◌, inl, inr, arith, add-zero, zero-add}
+use Rattle.std.proofs.Common.{◌≡◌, ℕ, zero, suc, ◌+◌, ◌<◌, Bool, true, false, List, [], ◌∷◌, map, Option, Some, None, refl, sym, ap, ◌∙◌, inl, inr, arith}
+use Rattle.std.proofs.Common.{add-zero, zero-add}
 use Rattle.std.specs.Prelude.{◌||◌, ◌&&◌, ◌==◌, filter_map}
 use Rattle.std.specs.FinMap.{contains_key, keys}
 use Rattle.std.specs.List.{list_any, slice_get, cons_option, range_with_len}
@@ -30,12 +31,14 @@ pub pair_there : (o : Option Pair) (q : Pair) → is_pair o q ≡ true → o ≡
 pair_there None q e = absurd (false≢true e)
 pair_there (Some p) q e = ap (λ x. Some x) (sym (tied_pairs q p e))
 
-row_of_pair : (spec : KeySpecValue) (rid : Rid) (cells : Option (List Cell)) (p : Pair) → pair_with spec rid cells ≡ Some p → (row : List Cell) × (cells ≡ Some row)
+row_of_pair : (spec : KeySpecValue) (rid : Rid) (cells : Option (List Cell)) (p : Pair) → pair_with spec rid cells ≡ Some p
+    → (row : List Cell) × (cells ≡ Some row)
 row_of_pair spec rid None p e = absurd (cc)
 row_of_pair spec rid (Some row) p e = (row, refl)
 
 -- where a pair stands, a row does
-pub row_there : (spec : KeySpecValue) (log : List LogRec) (q : Pair) → is_pair (pair_at spec log q.rid) q ≡ true → (row : List Cell) × (live_at log q.rid ≡ Some row)
+pub row_there : (spec : KeySpecValue) (log : List LogRec) (q : Pair) → is_pair (pair_at spec log q.rid) q ≡ true
+    → (row : List Cell) × (live_at log q.rid ≡ Some row)
 row_there spec log q e = row_of_pair spec q.rid (live_at log q.rid) q (pair_there (pair_at spec log q.rid) q e)
 
 -- what is in the rest is in the whole
@@ -55,7 +58,8 @@ written_at : (log : List LogRec) (rid : Rid) (n : ℕ) → is_write_at rid (reco
 written_at log rid zero e = absurd (false≢true e)
 written_at log rid (suc k) e = written log rid k e
 
-stood : (log : List LogRec) (rid : Rid) (row : List Cell) (o : Option ℕ) → newest_at log rid ≡ o → row_at log o ≡ Some row → list_any (λ r. same_rid r rid) (written_rids log) ≡ true
+stood : (log : List LogRec) (rid : Rid) (row : List Cell) (o : Option ℕ) → newest_at log rid ≡ o → row_at log o ≡ Some row
+    → list_any (λ r. same_rid r rid) (written_rids log) ≡ true
 stood log rid row None is e = absurd (cc)
 stood log rid row (Some n) is e = written_at log rid n (newest_there log rid n is)
 
@@ -73,9 +77,11 @@ all_listed spec log rids each q =
 
 -- the set has just the pair at each RID
 pub contains-index_pairs : (spec : KeySpecValue) (log : List LogRec) (q : Pair) → contains_key (index_pairs spec log) q ≡ is_pair (pair_at spec log q.rid) q
-contains-index_pairs spec log q = contains-set_of (filter_map (pair_at spec log) (written_rids log)) q ∙ all_listed spec log (written_rids log) (row_written log) q
+contains-index_pairs spec log q =
+    contains-set_of (filter_map (pair_at spec log) (written_rids log)) q ∙ all_listed spec log (written_rids log) (row_written log) q
 
-pair_kept : (spec : KeySpecValue) (old new : List LogRec) (q : Pair) → live_at new q.rid ≡ live_at old q.rid → is_pair (pair_at spec new q.rid) q ≡ is_pair (pair_at spec old q.rid) q
+pair_kept : (spec : KeySpecValue) (old new : List LogRec) (q : Pair) → live_at new q.rid ≡ live_at old q.rid
+    → is_pair (pair_at spec new q.rid) q ≡ is_pair (pair_at spec old q.rid) q
 pair_kept spec old new q live = ap (λ (cells : Option (List Cell)). is_pair (pair_with spec q.rid cells) q) live
 
 -- where the same rows stand, the pairs are the same
@@ -84,7 +90,8 @@ same_rows spec old new live =
     same_members (index_pairs spec new) (index_pairs spec old) (λ q.
     contains-index_pairs spec new q ∙ pair_kept spec old new q (live q.rid) ∙ sym (contains-index_pairs spec old q))
 
-pub pairs_kept : (spec : KeySpecValue) (old new : List LogRec) → ((rid : Rid) → live_at new rid ≡ live_at old rid) → pairs_at_rest spec new ≡ pairs_at_rest spec old
+pub pairs_kept : (spec : KeySpecValue) (old new : List LogRec) → ((rid : Rid) → live_at new rid ≡ live_at old rid)
+    → pairs_at_rest spec new ≡ pairs_at_rest spec old
 pairs_kept spec old new live = ap keys (same_rows spec old new live)
 
 -- one row that gives way to another changes the pairs by exactly a delete of its old pair, if any, and an insert of the new one, if any
@@ -124,7 +131,8 @@ none_elsewhere page rid (slot ∷ slots) other =
     ∙ none_elsewhere page rid slots other
 
 -- a page has the pairs of its RIDs
-pub on_page : (spec : KeySpecValue) (log : List LogRec) (page : ℕ) (q : Pair) → is_in q (pairs_on spec log page) ≡ ((page == q.rid.page) && is_pair (pair_at spec log q.rid) q)
+pub on_page : (spec : KeySpecValue) (log : List LogRec) (page : ℕ) (q : Pair)
+    → is_in q (pairs_on spec log page) ≡ ((page == q.rid.page) && is_pair (pair_at spec log q.rid) q)
 on_page spec log page q =
     let own : (rid : Rid) → IsOwn rid (pair_at spec log rid) = λ rid. own_pair spec rid (live_at log rid) in
     elim (cases_Bool (page == q.rid.page)) [

@@ -1,5 +1,6 @@
 -- A tournament: its levels, a step of its search, and which page the search finds.
-use Rattle.std.proofs.Common.{◌≡◌, ℕ, suc, zero, ◌+◌, ◌-◌, ◌*◌, ◌/◌, ◌^◌, ◌≤◌, ◌<◌, List, length, get_or, take, drop, refl, ap, ◌∙◌, arith, Bool, Some, None, true, false, inl, inr}
+use Rattle.std.proofs.Common.{◌≡◌, ℕ, suc, zero, ◌+◌, ◌-◌, ◌*◌, ◌/◌, ◌^◌, ◌≤◌, ◌<◌, List, length, get_or, take, drop, refl, ap, ◌∙◌, arith, Bool, Some, None}
+use Rattle.std.proofs.Common.{true, false, inl, inr}
 use Rattle.std.specs.Prelude.{position, nat_le}
 use Rattle.std.specs.List.{position_or_len}
 use Rattle.std.proofs.lemmas.Bool.{cases_eq, cases_lt, le-leb, lt-leb, lt-ltb, le-ltb}
@@ -104,7 +105,8 @@ none_in_root {nodes = nodes} {leaves = leaves} {count = count} r len some less =
     position_none (λ room. nat_le len room) (take count (drop leaves nodes)) (λ k lt.
     let below : k < count = omega (arith, lt, count_is r) in
     let is = room_at nodes leaves count k below in
-    let root = le_root (leaves + k) nodes leaves (leaves + k) r.tournament r.long (omega (arith, some, r.counted)) (omega arith) (omega (arith, below, r.counted, r.long)) in
+    let root = le_root (leaves + k) nodes leaves (leaves + k) r.tournament r.long (omega (arith, some, r.counted)) (omega arith)
+    (omega (arith, below, r.counted, r.long)) in
     lt-leb len (get_or (take count (drop leaves nodes)) k 0) (omega (arith, is, root, less)))
 
 -- the first leaf with the room is that of the first page with the room

@@ -1,5 +1,6 @@
 -- The rows that come back, the slots they come back to, and what is left where a transaction ends.
-use Rattle.std.proofs.Common.{◌≡◌, ◌≢◌, inl, inr, ℕ, ◌+◌, ◌≤◌, max, Bool, true, false, List, [], ◌∷◌, ◌++◌, length, Option, Some, None, refl, sym, ap, ◌∙◌, subst, arith}
+use Rattle.std.proofs.Common.{◌≡◌, ◌≢◌, inl, inr, ℕ, ◌+◌, ◌≤◌, max, Bool, true, false, List, [], ◌∷◌, ◌++◌, length, Option, Some, None, refl, sym, ap, ◌∙◌}
+use Rattle.std.proofs.Common.{subst, arith}
 use Rattle.std.proofs.Math.Bool.{or-false}
 use Rattle.std.specs.Prelude.{◌||◌, ◌&&◌, not, ◌==◌}
 use Rattle.std.specs.Option.{option_map}
@@ -10,7 +11,8 @@ use Rattle.keybytes.specs.declared.cell.Cell.{Cell}
 use Rattle.keybytes.specs.declared.rid.Rid.{Rid}
 use Rattle.heap_log.specs.declared.record.LogRec.{LogRec}
 use Rattle.heap_log.specs.declared.record.LogRec.TheVariants.{Write, Undo}
-use Rattle.heap_log.specs.Standing.{record_at, is_write_of, is_write_at, is_undo_of, is_number, rid_of, row_of, stands_of, stands_at, undone, newest_standing, newest_at, standing_before, live_at, row_at, last_below}
+use Rattle.heap_log.specs.Standing.{record_at, is_write_of, is_write_at, is_undo_of, is_number, rid_of, row_of, stands_of, stands_at, undone, newest_standing}
+use Rattle.heap_log.specs.Standing.{newest_at, standing_before, live_at, row_at, last_below}
 use Rattle.heap_log.proofs.Adds.{KeepsBefore}
 use Rattle.heap_log.proofs.Last.{IsLast, last_below_some, last_below_is, last_below_agree}
 use Rattle.heap_log.proofs.Numbers.{write_at, newest_standing-of}
@@ -25,7 +27,8 @@ use Rattle.keybytes.proofs.SameRids.{same_rid-true}
 use Rattle.heap_log.proofs.Records.{rid_of-write}
 use Rattle.heap_table.proofs.LogRows.{newest_there, length_grown}
 use Rattle.heap_table.proofs.Holding.{holder_is, holder_open, holder_wrote, no_holder, same_holder}
-use Rattle.heap_table.proofs.Slots.{at_its_rid, reserve_slot, room_kept, under_kept, Wrote, write_holder, write_other_holder, write_live, write_other_live, write_room, write_other_slot}
+use Rattle.heap_table.proofs.Slots.{at_its_rid, reserve_slot, room_kept, under_kept, Wrote, write_holder, write_other_holder, write_live, write_other_live}
+use Rattle.heap_table.proofs.Slots.{write_room, write_other_slot}
 use Rattle.heap_table.proofs.Sounds.{wrote_still}
 use Rattle.heap_table.proofs.Writers.{wrote_from}
 use Rattle.heap_table.proofs.Small.{rid_cases, some_or_none}
@@ -43,7 +46,8 @@ row_before_kept log new rec n added within keeps =
           ap row_of (added.numbers.earlier k (omega (arith, last.below, within)))
 
 -- what stands of a transaction among the records that were there
-stood : (log new : List LogRec) (rec : LogRec) (txn n : ℕ) → Grows log rec new → n ≤ length log → is_undo_of n rec ≡ false → stands_of new txn n ≡ true → stands_of log txn n ≡ true
+stood : (log new : List LogRec) (rec : LogRec) (txn n : ℕ) → Grows log rec new → n ≤ length log → is_undo_of n rec ≡ false → stands_of new txn n ≡ true
+    → stands_of log txn n ≡ true
 stood log new rec txn n added within none e =
     let parts = and_parts (is_write_of txn (record_at new n)) (not (undone new n)) e in
     let same : undone new n ≡ undone log n = added.numbers.undoes n ∙ rw none (or-false (undone log n)) in
@@ -74,7 +78,8 @@ ended_slot s t txn h k opened closed others rid written = elim (cases_Bool (wrot
       ]) in
       ap (λ (o : Option ℕ). slot_under o t.log rid) none
       ∙ (freed (live_at t.log rid) (room_held_by (Some txn) t.log rid)
-      ∙ (ap (λ (o : Option ℕ). settled (slot_under o t.log rid)) (sym was) ∙ ap (λ (b : Bool). settled_if b (slot_under (holder s.log rid) t.log rid)) (sym has)))
+      ∙ (ap (λ (o : Option ℕ). settled (slot_under o t.log rid)) (sym was)
+      ∙ ap (λ (b : Bool). settled_if b (slot_under (holder s.log rid) t.log rid)) (sym has)))
   | inr never ↦
       let same : holder t.log rid ≡ holder s.log rid = elim (some_or_none (holder s.log rid)) [
         | inl none ↦ no_holder t k rid (λ u is by. elim (cases_eq u txn) [
@@ -106,7 +111,8 @@ fits_after :
     (s t : HeapState) (rec : LogRec) → IsSound s → IsSound t → t.log ≡ s.log ++ rec ∷ [] → ((txn : ℕ) (rid : Rid) → writes txn rid rec ≡ false)
     → ((txn : ℕ) → is_open t.active txn ≡ true → is_open s.active txn ≡ true)
     → ((rid : Rid) → row_size (live_at t.log rid) ≤ room_needed s.log rid)
-    → ((txn n : ℕ) (rid : Rid) → holder s.log rid ≡ Some txn → stands_of t.log txn n ≡ true → is_write_at rid (record_at t.log n) ≡ true → row_size (row_at t.log (standing_before t.log n)) ≤ room_needed s.log rid)
+    → ((txn n : ℕ) (rid : Rid) → holder s.log rid ≡ Some txn → stands_of t.log txn n ≡ true → is_write_at rid (record_at t.log n) ≡ true
+    → row_size (row_at t.log (standing_before t.log n)) ≤ room_needed s.log rid)
     → UndoFits t.log
 fits_after s t rec h k is none fewer live before = record {
   live = λ rid. elim (some_or_none (holder t.log rid)) [
@@ -140,7 +146,8 @@ old_number s t rec n rid added nowhere there =
 pub fits_quiet :
     (s t : HeapState) (rec : LogRec) → IsSound s → IsSound t → Grows s.log rec t.log → ((txn : ℕ) (rid : Rid) → writes txn rid rec ≡ false)
     → ((rid : Rid) → is_write_at rid (Some rec) ≡ false) → ((n : ℕ) → is_undo_of n rec ≡ false) → ((n : ℕ) → KeepsBefore s.log n rec)
-    → ((txn : ℕ) → is_open t.active txn ≡ true → is_open s.active txn ≡ true) → ((rid : Rid) → live_at t.log rid ≡ live_at s.log rid) → UndoFits s.log → UndoFits t.log
+    → ((txn : ℕ) → is_open t.active txn ≡ true → is_open s.active txn ≡ true) → ((rid : Rid) → live_at t.log rid ≡ live_at s.log rid) → UndoFits s.log
+    → UndoFits t.log
 fits_quiet s t rec h k added none nowhere undoes keeps fewer live fits =
     fits_after s t rec h k added.is none fewer (λ rid. rw (live rid) (fits.live rid))
     (λ u m rid e stands there.
@@ -155,7 +162,8 @@ pub fits_write :
 fits_write s t txn rid row w fits = record {
   live = λ other. elim (rid_cases rid other) [
     | inl same ↦ rw same (let room = write_room s t txn rid row w in let live = ap row_size (write_live s t txn rid row w) in omega (arith, room, live))
-    | inr differs ↦ let room = other_room other differs in let live = ap row_size (write_other_live s t txn rid row w other differs) in let old = fits.live other in omega (arith, room, live, old)
+    | inr differs ↦ let room = other_room other differs in let live = ap row_size (write_other_live s t txn rid row w other differs) in
+        let old = fits.live other in omega (arith, room, live, old)
   ];
   before = λ u m other e stands there. elim (cases_lt (length s.log) m) [
     | inl last ↦
@@ -179,7 +187,8 @@ fits_write s t txn rid row w fits = record {
           | inl same ↦
               let is_txn : txn ≡ u = same_Some txn u (sym (write_holder s t txn rid row w) ∙ (ap (holder t.log) (sym same) ∙ e)) in
               let by : is_write_of u (record_at s.log m) ≡ true = (and_parts (is_write_of u (record_at s.log m)) (not (undone s.log m)) stands_s).0 in
-              let held_by : holder s.log other ≡ Some u = holder_is s w.was other u (ap (is_open s.active) (sym is_txn) ∙ w.opened) (wrote_from s.log u other m by there_s) in
+              let held_by : holder s.log other ≡ Some u =
+              holder_is s w.was other u (ap (is_open s.active) (sym is_txn) ∙ w.opened) (wrote_from s.log u other m by there_s) in
               let fit = fits.before u m other held_by stands_s there_s in
               let room : room_needed t.log other ≡ max (room_needed s.log other) (row_size row) = rw same (write_room s t txn rid row w) in
               omega (arith, fit, room, size)
@@ -232,7 +241,8 @@ pub undo_there : (s t : HeapState) (txn n : ℕ) (rid : Rid) → Undid s t txn n
 undo_there s t txn n rid u = rw u.place (at_its_rid txn (record_at s.log n) (newest_standing-of s.log txn n u.newest))
 
 undo_holder : (s t : HeapState) (txn n : ℕ) (rid : Rid) → Undid s t txn n rid → holder s.log rid ≡ Some txn
-undo_holder s t txn n rid u = holder_is s u.was rid txn u.opened (wrote_from s.log txn rid n (newest_standing-of s.log txn n u.newest) (undo_there s t txn n rid u))
+undo_holder s t txn n rid u =
+    holder_is s u.was rid txn u.opened (wrote_from s.log txn rid n (newest_standing-of s.log txn n u.newest) (undo_there s t txn n rid u))
 
 undo_last : (s t : HeapState) (txn n : ℕ) (rid : Rid) → Undid s t txn n rid → IsLast (stands_of s.log txn) (length s.log + 1) n
 undo_last s t txn n rid u = last_below_some (stands_of s.log txn) (length s.log + 1) n u.newest
@@ -269,7 +279,8 @@ undo_other_live s t txn n rid u other differs = u.added.live.live other ∙ (eli
   elsewhere : (o : Option ℕ) → newest_at s.log other ≡ o → is_number n o ≡ true → ⊥
   elsewhere None e same = false≢true same
   elsewhere (Some k) e same =
-      let at : is_write_at other (record_at s.log n) ≡ true = ap (λ (m : ℕ). is_write_at other (record_at s.log m)) (sym (eqb-true k n same)) ∙ newest_there s.log other k e in
+      let at : is_write_at other (record_at s.log n) ≡ true =
+      ap (λ (m : ℕ). is_write_at other (record_at s.log m)) (sym (eqb-true k n same)) ∙ newest_there s.log other k e in
       differs (sym (rid_of-write other (record_at s.log n) at) ∙ sym u.place)
 
 -- the row that comes back fits
@@ -290,13 +301,16 @@ undo_slot s t txn n rid u =
     ∙ (ap (slot_with (row_at s.log (standing_before s.log n)) (Some txn)) room
     ∙ by (row_at s.log (standing_before s.log n)) (slot_of s.log rid)
     (let size = undo_size s t txn n rid u in let reserve = reserve_slot s.log rid in omega (arith, size, reserve)))) where
-      by : (cells : Option (List Cell)) (slot : Slot) → row_size cells ≤ reserve_of slot → slot_with cells (Some txn) (reserve_of slot) ≡ changed slot (option_map row_bytes cells)
+      by : (cells : Option (List Cell)) (slot : Slot) → row_size cells ≤ reserve_of slot
+          → slot_with cells (Some txn) (reserve_of slot) ≡ changed slot (option_map row_bytes cells)
       by None slot fits = refl
-      by (Some cells) slot fits = let most : reserve_of slot ≡ max (reserve_of slot) (length (row_bytes cells)) = omega (arith, fits) in ap (row_slot (row_bytes cells)) most
+      by (Some cells) slot fits =
+          let most : reserve_of slot ≡ max (reserve_of slot) (length (row_bytes cells)) = omega (arith, fits) in ap (row_slot (row_bytes cells)) most
 
 -- the slots of the others stay under the holders that they had
 pub undo_other_slot :
-    (s t : HeapState) (txn n : ℕ) (rid : Rid) → Undid s t txn n rid → (other : Rid) → other ≢ rid → slot_under (holder s.log other) t.log other ≡ slot_of s.log other
+    (s t : HeapState) (txn n : ℕ) (rid : Rid) → Undid s t txn n rid → (other : Rid) → other ≢ rid
+    → slot_under (holder s.log other) t.log other ≡ slot_of s.log other
 undo_other_slot s t txn n rid u other differs =
     under_kept s.log t.log (Undo txn n) other (holder s.log other) u.added.is (λ v e. (holder_wrote s.log other v e).1) (λ v. refl)
     (undo_other_live s t txn n rid u other differs)
@@ -329,7 +343,8 @@ fits_undo s t txn n rid u =
       | inr differs ↦
           inr (elim (cases_Bool (is_write_at (rid_of (record_at s.log m)) (record_at s.log n))) [
             | inl also ↦
-                let at : is_write_at other (record_at s.log n) ≡ true = ap (λ (r : Rid). is_write_at r (record_at s.log n)) (sym (rid_of-write other (record_at s.log m) there_s)) ∙ also in
+                let at : is_write_at other (record_at s.log n) ≡ true =
+                ap (λ (r : Rid). is_write_at r (record_at s.log n)) (sym (rid_of-write other (record_at s.log m) there_s)) ∙ also in
                 absurd (differs (sym (rid_of-write other (record_at s.log n) at) ∙ sym u.place))
             | inr none ↦ none
           ])

@@ -27,14 +27,16 @@ wrote_some log txn rid e =
     let both = and_parts (is_write_of txn (Some x)) (is_write_at rid (Some x)) found.4 in
     record { number = suc found.0; by = ap (is_write_of txn) at ∙ both.0; there = ap (is_write_at rid) at ∙ both.1 }
 
-wrote_by : (log : List LogRec) (txn : ℕ) (rid : Rid) (k : ℕ) (o : Option LogRec) → slice_get log k ≡ o → is_write_of txn o ≡ true → is_write_at rid o ≡ true → wrote log txn rid ≡ true
+wrote_by : (log : List LogRec) (txn : ℕ) (rid : Rid) (k : ℕ) (o : Option LogRec) → slice_get log k ≡ o → is_write_of txn o ≡ true → is_write_at rid o ≡ true
+    → wrote log txn rid ≡ true
 wrote_by log txn rid k None is by there = absurd (false≢true by)
 wrote_by log txn rid k (Some r) is by there =
     let here : get_or log k r ≡ r = get_or_from_slice_get log k r r is in
     list_any_at (writes txn rid) log k r (slice_get_within log k r is)
     (ap (writes txn rid) here ∙ and_from (is_write_of txn (Some r)) (is_write_at rid (Some r)) by there)
 
-pub wrote_from : (log : List LogRec) (txn : ℕ) (rid : Rid) (n : ℕ) → is_write_of txn (record_at log n) ≡ true → is_write_at rid (record_at log n) ≡ true → wrote log txn rid ≡ true
+pub wrote_from : (log : List LogRec) (txn : ℕ) (rid : Rid) (n : ℕ) → is_write_of txn (record_at log n) ≡ true → is_write_at rid (record_at log n) ≡ true
+    → wrote log txn rid ≡ true
 wrote_from log txn rid zero by there = absurd (false≢true by)
 wrote_from log txn rid (suc i) by there = wrote_by log txn rid i (slice_get log i) refl by there
 
@@ -46,14 +48,16 @@ pub committed-added : (log : List LogRec) (rec : LogRec) (txn : ℕ) → committ
 committed-added log rec txn =
     list_any-append (is_commit_of txn) log (rec ∷ []) ∙ ap (λ (b : Bool). committed log txn || b) (or-false (is_commit_of txn rec))
 
-pub greatest_written-added : (txn : ℕ) (rid : Rid) (log : List LogRec) (rec : LogRec) → greatest_written txn rid (log ++ rec ∷ []) ≡ max (greatest_written txn rid log) (size_written txn rid rec)
+pub greatest_written-added : (txn : ℕ) (rid : Rid) (log : List LogRec) (rec : LogRec)
+    → greatest_written txn rid (log ++ rec ∷ []) ≡ max (greatest_written txn rid log) (size_written txn rid rec)
 greatest_written-added txn rid [] rec = max_comm (size_written txn rid rec) 0
 greatest_written-added txn rid (first ∷ log) rec =
     ap (max (size_written txn rid first)) (greatest_written-added txn rid log rec)
     ∙ max_turned (size_written txn rid first) (greatest_written txn rid log) (size_written txn rid rec)
 
 -- the log before a first write that is there already
-pub before_first_kept : (txn : ℕ) (rid : Rid) (log more : List LogRec) → wrote log txn rid ≡ true → before_first txn rid (log ++ more) ≡ before_first txn rid log
+pub before_first_kept : (txn : ℕ) (rid : Rid) (log more : List LogRec) → wrote log txn rid ≡ true
+    → before_first txn rid (log ++ more) ≡ before_first txn rid log
 before_first_kept txn rid [] more e = absurd (false≢true e)
 before_first_kept txn rid (rec ∷ log) more e = elim (cases_Bool (writes txn rid rec)) [
   | inl is ↦ rw is refl
@@ -63,7 +67,8 @@ before_first_kept txn rid (rec ∷ log) more e = elim (cases_Bool (writes txn ri
 ]
 
 -- the log before the first write, where that comes next
-pub before_first_next : (txn : ℕ) (rid : Rid) (log : List LogRec) (rec : LogRec) → wrote log txn rid ≡ false → writes txn rid rec ≡ true → before_first txn rid (log ++ rec ∷ []) ≡ log
+pub before_first_next : (txn : ℕ) (rid : Rid) (log : List LogRec) (rec : LogRec) → wrote log txn rid ≡ false → writes txn rid rec ≡ true
+    → before_first txn rid (log ++ rec ∷ []) ≡ log
 before_first_next txn rid [] rec none is = rw is refl
 before_first_next txn rid (first ∷ log) rec none is = elim (cases_Bool (writes txn rid first)) [
   | inl e ↦ absurd (false≢true (sym none ∙ ap (λ (b : Bool). b || wrote log txn rid) e))

@@ -1,5 +1,6 @@
 -- The pages of a table as a list of values: the slot of a RID, and pages by what a function gives each RID.
-use Rattle.std.specs.Prelude.{◌≡◌, ◌<◌, ◌≤◌, ◌+◌, Vec, vec_len, vec_capacity, is_some, nat_le, ℕ, max, nat_lt, Bool, true, false, if◌then◌else◌, Option, Some, None, List, [], ◌∷◌, ◌++◌, length, map, get_or, set}
+use Rattle.std.specs.Prelude.{◌≡◌, ◌<◌, ◌≤◌, ◌+◌, Vec, vec_len, vec_capacity, is_some, nat_le, ℕ, max, nat_lt, Bool, true, false, if◌then◌else◌, Option, Some}
+use Rattle.std.specs.Prelude.{None, List, [], ◌∷◌, ◌++◌, length, map, get_or, set}
 use Rattle.std.specs.List.{range_with_len}
 use Rattle.keybytes.specs.declared.rid.Rid.{Rid}
 use Rattle.slotted_page.specs.Slot.{Slot, free, held, row, reserve_of}

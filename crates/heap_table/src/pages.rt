@@ -1,5 +1,6 @@
 //! The pages of a table, by number.
-ghost use Rattle.std.specs.Prelude.{ℕ, is_some, nat_le, ◌≡◌, ◌<◌, ◌≤◌, ◌+◌, ◌∷◌, ◌++◌, [], length, max, cond, nat_lt, get_or, position, vec_len, Some, None, true, IfSome, IfErr, OnOk, OnErr, MatchOption};
+ghost use Rattle.std.specs.Prelude.{ℕ, is_some, nat_le, ◌≡◌, ◌<◌, ◌≤◌, ◌+◌, ◌∷◌, ◌++◌, [], length, max, cond, nat_lt, get_or, position, vec_len, Some, None};
+ghost use Rattle.std.specs.Prelude.{true, IfSome, IfErr, OnOk, OnErr, MatchOption};
 ghost use Rattle.slotted_page.specs.Slot.{row, held, bytes_of, reserve_of, IsRow, IsTaken, IsRowSize};
 ghost use Rattle.slotted_page.specs.Page.{PageValue, slot_at, with_slot, room_for, fits_at};
 ghost use Rattle.heap_table.specs.HeapState.{takes};

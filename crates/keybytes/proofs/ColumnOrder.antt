@@ -23,12 +23,14 @@ is_less Equal e = absurd (false≢true e)
 is_less Greater e = absurd (false≢true e)
 
 -- each pair is below those behind it
-first_below : (p : Pair) (ps : List Pair) → below_all pair_cmp p (marked ps) ≡ true → (j : ℕ) (d : Pair) → j < length ps → is_lt (pair_cmp p (get_or ps j d)) ≡ true
+first_below : (p : Pair) (ps : List Pair) → below_all pair_cmp p (marked ps) ≡ true → (j : ℕ) (d : Pair) → j < length ps
+    → is_lt (pair_cmp p (get_or ps j d)) ≡ true
 first_below p [] e j d less = absurd (omega (arith, less))
 first_below p (q ∷ qs) e zero d less = (and_parts (is_lt (pair_cmp p q)) (below_all pair_cmp p (marked qs)) e).0
 first_below p (q ∷ qs) e (suc j) d less = first_below p qs (and_parts (is_lt (pair_cmp p q)) (below_all pair_cmp p (marked qs)) e).1 j d (omega (arith, less))
 
-all_below : (ps : List Pair) → is_sorted pair_cmp (marked ps) ≡ true → (i j : ℕ) (d : Pair) → i < j → j < length ps → is_lt (pair_cmp (get_or ps i d) (get_or ps j d)) ≡ true
+all_below : (ps : List Pair) → is_sorted pair_cmp (marked ps) ≡ true → (i j : ℕ) (d : Pair) → i < j → j < length ps
+    → is_lt (pair_cmp (get_or ps i d) (get_or ps j d)) ≡ true
 all_below [] e i j d less inside = absurd (omega (arith, inside))
 all_below (p ∷ ps) e i zero d less inside = absurd (omega (arith, less))
 all_below (p ∷ ps) e zero (suc j) d less inside =

@@ -1,5 +1,6 @@
 -- What a key's bytes tell of its columns, and how long they are.
-use Rattle.std.proofs.Common.{◌≡◌, ℕ, zero, suc, ◌*◌, ◌<◌, ◌≤◌, ℤ, ◌<ℤ◌, nat_lt, true, false, List, [], ◌∷◌, ◌++◌, map, length, get_or, slice_index_or, nat_cmp, int_cmp, Ordering, Equal, refl, sym, ap, ap₂, ◌∙◌, subst, arith, append-nil, length-append, lit≤}
+use Rattle.std.proofs.Common.{◌≡◌, ℕ, zero, suc, ◌*◌, ◌<◌, ◌≤◌, ℤ, ◌<ℤ◌, nat_lt, true, false, List, [], ◌∷◌, ◌++◌, map, length, get_or, slice_index_or, nat_cmp}
+use Rattle.std.proofs.Common.{int_cmp, Ordering, Equal, refl, sym, ap, ap₂, ◌∙◌, subst, arith, append-nil, length-append, lit≤}
 use Rattle.std.specs.List.{All, flat_map}
 use Rattle.std.specs.Ordering.{MatchOrdering, ordering_then}
 use Rattle.std.specs.Cmp.Lexicographic.{slice_cmp}
@@ -7,7 +8,8 @@ use Rattle.std.proofs.lemmas.Bool.{and_parts, and_from, ltb-true}
 use Rattle.std.proofs.lemmas.Cmp.{ranked, int_ranked, tied_itself, nat_list_cmp_total}
 use Rattle.std.proofs.lemmas.List.Elements.{All-head, All-tail, All-map}
 use Rattle.keybytes.specs.Cells.{IsCell, fits, fits_kind, cell_cmp, columns_cmp}
-use Rattle.keybytes.specs.Keys.{KeySpecValue, are_there, are_key_columns, has_key_length, are_distinct, escaped_byte, cell_key, key_bytes, key_columns, key_kinds, key_of, HasKey, IsRowOf, IsKeyOf, StandsForColumns}
+use Rattle.keybytes.specs.Keys.{KeySpecValue, are_there, are_key_columns, has_key_length, are_distinct, escaped_byte, cell_key, key_bytes, key_columns}
+use Rattle.keybytes.specs.Keys.{key_kinds, key_of, HasKey, IsRowOf, IsKeyOf, StandsForColumns}
 use Rattle.keybytes.specs.declared.cell.Cell.{Cell}
 use Rattle.keybytes.specs.declared.cell.Cell.TheVariants.{Null, Int, Text, Flag}
 use Rattle.keybytes.specs.declared.kind.Kind.{Kind}
@@ -35,12 +37,14 @@ columns-same us vs tied = slice_cmp-same cell_cmp cell-same us vs tied
 
 -- ---- two keys of one specification
 
-keys-order : (spec : KeySpecValue) (key other : List ℕ) (us vs : List Cell) (xs ys : List ℕ) → HasKey spec key us → HasKey spec other vs → slice_cmp nat_cmp (key ++ xs) (other ++ ys) ≡ ordering_then (columns_cmp us vs) (slice_cmp nat_cmp xs ys)
+keys-order : (spec : KeySpecValue) (key other : List ℕ) (us vs : List Cell) (xs ys : List ℕ) → HasKey spec key us → HasKey spec other vs
+    → slice_cmp nat_cmp (key ++ xs) (other ++ ys) ≡ ordering_then (columns_cmp us vs) (slice_cmp nat_cmp xs ys)
 keys-order spec key other us vs xs ys has_us has_vs =
     ap₂ (λ m n. slice_cmp nat_cmp (m ++ xs) (n ++ ys)) (sym has_us.bytes) (sym has_vs.bytes)
     ∙ key_bytes-order (key_kinds spec) us vs xs ys has_us.fits_kinds has_vs.fits_kinds has_us.each has_vs.each
 
-pub key-order : (spec : KeySpecValue) (key other : List ℕ) (us vs : List Cell) → HasKey spec key us → HasKey spec other vs → slice_cmp nat_cmp key other ≡ columns_cmp us vs
+pub key-order : (spec : KeySpecValue) (key other : List ℕ) (us vs : List Cell) → HasKey spec key us → HasKey spec other vs
+    → slice_cmp nat_cmp key other ≡ columns_cmp us vs
 key-order spec key other us vs has_us has_vs =
     ap₂ (slice_cmp nat_cmp) (sym (append-nil key)) (sym (append-nil other))
     ∙ keys-order spec key other us vs [] [] has_us has_vs
@@ -54,7 +58,8 @@ key-front spec key other rest us vs has_us has_vs front =
 
 -- ---- the key's columns of a row
 
-fits-at : (kinds : List Kind) (row : List Cell) (i : ℕ) → fits kinds row ≡ true → i < length kinds → fits_kind (get_or kinds i IntKind) (get_or row i Null) ≡ true
+fits-at : (kinds : List Kind) (row : List Cell) (i : ℕ) → fits kinds row ≡ true → i < length kinds
+    → fits_kind (get_or kinds i IntKind) (get_or row i Null) ≡ true
 fits-at [] [] i fit within = absurd (omega arith)
 fits-at [] (cell ∷ row) i fit within = cc
 fits-at (kind ∷ kinds) [] i fit within = cc
@@ -62,7 +67,8 @@ fits-at (kind ∷ kinds) (cell ∷ row) zero fit within = (and_parts (fits_kind 
 fits-at (kind ∷ kinds) (cell ∷ row) (suc i) fit within =
     fits-at kinds row i (and_parts (fits_kind kind cell) (fits kinds row) fit).1 (omega arith)
 
-picked-fits : (kinds : List Kind) (row : List Cell) (columns : List ℕ) → fits kinds row ≡ true → are_there kinds columns ≡ true → fits (map (λ column. slice_index_or kinds column IntKind) columns) (map (λ column. slice_index_or row column Null) columns) ≡ true
+picked-fits : (kinds : List Kind) (row : List Cell) (columns : List ℕ) → fits kinds row ≡ true → are_there kinds columns ≡ true
+    → fits (map (λ column. slice_index_or kinds column IntKind) columns) (map (λ column. slice_index_or row column Null) columns) ≡ true
 picked-fits kinds row [] fit there = refl
 picked-fits kinds row (column ∷ columns) fit there =
     let parts = and_parts (nat_lt column (length kinds)) (are_there kinds columns) there in
@@ -81,7 +87,8 @@ pub there-part : (kinds : List Kind) (columns : List ℕ) → are_key_columns ki
 there-part kinds columns held =
     (and_parts (are_distinct columns) (are_there kinds columns) (and_parts (has_key_length columns) _ held).1).1
 
-pub has-key : (spec : KeySpecValue) (row : List Cell) → are_key_columns spec.kinds spec.columns ≡ true → IsRowOf spec row → HasKey spec (key_of spec row) (key_columns spec row)
+pub has-key : (spec : KeySpecValue) (row : List Cell) → are_key_columns spec.kinds spec.columns ≡ true → IsRowOf spec row
+    → HasKey spec (key_of spec row) (key_columns spec row)
 has-key spec row held is_row = record {
   fits_kinds = picked-fits spec.kinds row spec.columns is_row.fits_kinds (there-part spec.kinds spec.columns held);
   each = picked-cells row spec.columns is_row.is_row.each;
@@ -89,17 +96,21 @@ has-key spec row held is_row = record {
 }
 
 -- the columns of a row's key
-pub columns-of_key : (spec : KeySpecValue) (key : List ℕ) → are_key_columns spec.kinds spec.columns ≡ true → IsKeyOf spec key → (columns : List Cell) × HasKey spec key columns
+pub columns-of_key : (spec : KeySpecValue) (key : List ℕ) → are_key_columns spec.kinds spec.columns ≡ true → IsKeyOf spec key
+    → (columns : List Cell) × HasKey spec key columns
 columns-of_key spec key held of_row =
     (key_columns spec of_row.0, subst (λ (bytes : List ℕ). HasKey spec bytes (key_columns spec of_row.0)) of_row.1.1 (has-key spec of_row.0 held of_row.1.0))
 
-pub key_of-laws : (spec : KeySpecValue) (row : List Cell) → are_key_columns spec.kinds spec.columns ≡ true → IsRowOf spec row → StandsForColumns spec row (key_of spec row)
+pub key_of-laws : (spec : KeySpecValue) (row : List Cell) → are_key_columns spec.kinds spec.columns ≡ true → IsRowOf spec row
+    → StandsForColumns spec row (key_of spec row)
 key_of-laws spec row held is_row =
     let own = has-key spec row held is_row in
     record {
       order = λ other is_other. key-order spec _ _ _ _ own (has-key spec other held is_other);
-      tells_apart = λ other is_other same. sym (key-front spec (key_of spec row) (key_of spec other) [] _ _ own (has-key spec other held is_other) (same ∙ sym (append-nil (key_of spec row))));
-      no_front = λ other rest is_other front. ap key_bytes (sym (key-front spec (key_of spec row) (key_of spec other) rest _ _ own (has-key spec other held is_other) front));
+      tells_apart = λ other is_other same. sym
+          (key-front spec (key_of spec row) (key_of spec other) [] _ _ own (has-key spec other held is_other) (same ∙ sym (append-nil (key_of spec row))));
+      no_front = λ other rest is_other front. ap key_bytes
+          (sym (key-front spec (key_of spec row) (key_of spec other) rest _ _ own (has-key spec other held is_other) front));
     }
 
 -- ---- how long keys are
@@ -119,4 +130,9 @@ length-cell_key (Flag false) held = lit≤ tt
 pub length-key_bytes : (cells : List Cell) → All IsCell cells → length (key_bytes cells) ≤ 203 * length cells
 length-key_bytes [] held = lit≤ tt
 length-key_bytes (cell ∷ cells) held =
-    omega (arith, length-append (cell_key cell) (key_bytes cells), length-cell_key cell (All-head IsCell cell cells held), length-key_bytes cells (All-tail IsCell cell cells held))
+    omega (
+      arith,
+      length-append (cell_key cell) (key_bytes cells),
+      length-cell_key cell (All-head IsCell cell cells held),
+      length-key_bytes cells (All-tail IsCell cell cells held),
+    )

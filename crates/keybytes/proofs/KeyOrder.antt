@@ -1,5 +1,6 @@
 -- The bytes of keys compare as the columns do.
-use Rattle.std.proofs.Common.{◌≡◌, ℕ, zero, suc, ◌+◌, ◌*◌, ◌/◌, ◌%◌, ◌^◌, ◌<◌, ◌<ℤ◌, ℤ, pos, negsuc, true, false, List, [], ◌∷◌, ◌++◌, FitsSigned, w64, nat_cmp, int_cmp, Ordering, Less, Equal, Greater, refl, sym, ap, ap₂, ◌∙◌, arith, append_assoc, pow-suc, mod-eq_of_lt, div-one, lit<}
+use Rattle.std.proofs.Common.{◌≡◌, ℕ, zero, suc, ◌+◌, ◌*◌, ◌/◌, ◌%◌, ◌^◌, ◌<◌, ◌<ℤ◌, ℤ, pos, negsuc, true, false, List, [], ◌∷◌, ◌++◌, FitsSigned, w64, nat_cmp}
+use Rattle.std.proofs.Common.{int_cmp, Ordering, Less, Equal, Greater, refl, sym, ap, ap₂, ◌∙◌, arith, append_assoc, pow-suc, mod-eq_of_lt, div-one, lit<}
 use Rattle.std.specs.List.{All}
 use Rattle.std.specs.Int.{bytes_high_first, byte_at, to_be_bytes}
 use Rattle.std.specs.Ordering.{MatchOrdering, ordering_then}
@@ -57,7 +58,8 @@ byte_at-is : (k n : ℕ) → byte_at k n ≡ n / 256 ^ k % 256
 byte_at-is zero n = rw div-one refl
 byte_at-is (suc k) n = refl
 
-digits_match : (c a b p q : ℕ) (high low : Ordering) → p < c → q < c → MatchOrdering high (a < b) (a ≡ b) (b < a) → MatchOrdering low (p < q) (p ≡ q) (q < p) → MatchOrdering (ordering_then high low) (a * c + p < b * c + q) (a * c + p ≡ b * c + q) (b * c + q < a * c + p)
+digits_match : (c a b p q : ℕ) (high low : Ordering) → p < c → q < c → MatchOrdering high (a < b) (a ≡ b) (b < a) → MatchOrdering low (p < q) (p ≡ q) (q < p)
+    → MatchOrdering (ordering_then high low) (a * c + p < b * c + q) (a * c + p ≡ b * c + q) (b * c + q < a * c + p)
 digits_match c a b p q Less low in_p in_q h l = omega (arith, mul-add-lt a c p b h in_p)
 digits_match c a b p q Equal Less in_p in_q h l = rw h (omega arith)
 digits_match c a b p q Equal Equal in_p in_q h l = rw (h, l) refl
@@ -73,13 +75,23 @@ nat_cmp-digits : (c a b p q : ℕ) → p < c → q < c → nat_cmp (a * c + p) (
 nat_cmp-digits c a b p q in_p in_q =
     sym (nat_cmp_is _ _ _ (digits_match c a b p q (nat_cmp a b) (nat_cmp p q) in_p in_q (ranked a b _ refl) (ranked p q _ refl)))
 
-nat_cmp-bytes : (k m n : ℕ) → ordering_then (nat_cmp (byte_at k m) (byte_at k n)) (nat_cmp (m % 256 ^ k) (n % 256 ^ k)) ≡ nat_cmp (m % 256 ^ suc k) (n % 256 ^ suc k)
+nat_cmp-bytes : (k m n : ℕ) → ordering_then (nat_cmp (byte_at k m) (byte_at k n)) (nat_cmp (m % 256 ^ k) (n % 256 ^ k))
+    ≡ nat_cmp (m % 256 ^ suc k) (n % 256 ^ suc k)
 nat_cmp-bytes k m n =
-    rw (byte_at-is k m, byte_at-is k n, pow-succ' 256 k, mod-mul m {m = 256} {c = 256 ^ k} (lit< tt) (one_above k), mod-mul n {m = 256} {c = 256 ^ k} (lit< tt) (one_above k))
-    (sym (nat_cmp-digits (256 ^ k) (m / 256 ^ k % 256) (n / 256 ^ k % 256) (m % 256 ^ k) (n % 256 ^ k) (mod_below m (256 ^ k) (one_above k)) (mod_below n (256 ^ k) (one_above k))))
+    rw (
+      byte_at-is k m,
+      byte_at-is k n,
+      pow-succ' 256 k,
+      mod-mul m {m = 256} {c = 256 ^ k} (lit< tt) (one_above k),
+      mod-mul n {m = 256} {c = 256 ^ k} (lit< tt) (one_above k),
+    )
+    (sym (nat_cmp-digits (256 ^ k) (m / 256 ^ k % 256) (n / 256 ^ k % 256) (m % 256 ^ k) (n % 256 ^ k) (mod_below m (256 ^ k) (one_above k))
+    (mod_below n (256 ^ k) (one_above k))))
 
 -- bytes of numbers, the highest first, compare as the numbers do, and then what follows them
-bytes_high_first-order : (k m n : ℕ) (xs ys : List ℕ) → slice_cmp nat_cmp (bytes_high_first k m ++ xs) (bytes_high_first k n ++ ys) ≡ ordering_then (nat_cmp (m % 256 ^ k) (n % 256 ^ k)) (slice_cmp nat_cmp xs ys)
+bytes_high_first-order : (k m n : ℕ) (xs ys : List ℕ)
+    → slice_cmp nat_cmp (bytes_high_first k m ++ xs) (bytes_high_first k n ++ ys)
+    ≡ ordering_then (nat_cmp (m % 256 ^ k) (n % 256 ^ k)) (slice_cmp nat_cmp xs ys)
 bytes_high_first-order zero m n xs ys = rw (mod-one m, mod-one n) refl
 bytes_high_first-order (suc k) m n xs ys =
     ap (ordering_then (nat_cmp (byte_at k m) (byte_at k n))) (bytes_high_first-order k m n xs ys)
@@ -87,7 +99,9 @@ bytes_high_first-order (suc k) m n xs ys =
     ∙ ap (λ o. ordering_then o (slice_cmp nat_cmp xs ys)) (nat_cmp-bytes k m n)
 
 -- numbers compare as they do moved up
-raised_match : (m n : ℤ) → FitsSigned w64 m → FitsSigned w64 n → (o : Ordering) → MatchOrdering o (raised_number m < raised_number n) (raised_number m ≡ raised_number n) (raised_number n < raised_number m) → MatchOrdering o (m <ℤ n) (m ≡ n) (n <ℤ m)
+raised_match : (m n : ℤ) → FitsSigned w64 m → FitsSigned w64 n → (o : Ordering)
+    → MatchOrdering o (raised_number m < raised_number n) (raised_number m ≡ raised_number n) (raised_number n < raised_number m)
+    → MatchOrdering o (m <ℤ n) (m ≡ n) (n <ℤ m)
 raised_match (pos m) (pos n) fits_m fits_n Less h = omega (arith, ints)
 raised_match (pos m) (pos n) fits_m fits_n Equal h = ap pos (omega arith)
 raised_match (pos m) (pos n) fits_m fits_n Greater h = omega (arith, ints)
@@ -108,7 +122,9 @@ pub raised_number-lt : (n : ℤ) → FitsSigned w64 n → raised_number n < 2 ^ 
 raised_number-lt (pos n) fits_n = omega (arith, fits_n.sfits)
 raised_number-lt (negsuc n) fits_n = omega (arith, fits_n.sfits)
 
-int_key-order : (m n : ℤ) (xs ys : List ℕ) → FitsSigned w64 m → FitsSigned w64 n → slice_cmp nat_cmp (to_be_bytes w64 (raised_number m) ++ xs) (to_be_bytes w64 (raised_number n) ++ ys) ≡ ordering_then (int_cmp m n) (slice_cmp nat_cmp xs ys)
+int_key-order : (m n : ℤ) (xs ys : List ℕ) → FitsSigned w64 m → FitsSigned w64 n
+    → slice_cmp nat_cmp (to_be_bytes w64 (raised_number m) ++ xs) (to_be_bytes w64 (raised_number n) ++ ys)
+    ≡ ordering_then (int_cmp m n) (slice_cmp nat_cmp xs ys)
 int_key-order m n xs ys fits_m fits_n =
     let whole_m : raised_number m % 256 ^ 8 ≡ raised_number m = mod-eq_of_lt (raised_number-lt m fits_m) in
     let whole_n : raised_number n % 256 ^ 8 ≡ raised_number n = mod-eq_of_lt (raised_number-lt n fits_n) in
@@ -130,7 +146,8 @@ zero_behind : (a : ℕ) → nat_cmp (suc a) 0 ≡ Greater
 zero_behind a = grind (arith, nat_tests)
 
 -- texts compare as their keys do, and then what follows them: the end and a byte 0 of a text differ in the second byte
-text_key-order : (s t xs ys : List ℕ) → slice_cmp nat_cmp (text_key s ++ xs) (text_key t ++ ys) ≡ ordering_then (slice_cmp nat_cmp s t) (slice_cmp nat_cmp xs ys)
+text_key-order : (s t xs ys : List ℕ) → slice_cmp nat_cmp (text_key s ++ xs) (text_key t ++ ys)
+    ≡ ordering_then (slice_cmp nat_cmp s t) (slice_cmp nat_cmp xs ys)
 text_key-order [] [] xs ys = refl
 text_key-order [] (zero ∷ t) xs ys = refl
 text_key-order [] (suc b ∷ t) xs ys = then_less _ _ (zero_before b)
@@ -147,7 +164,8 @@ text_key-order (suc a ∷ s) (suc b ∷ t) xs ys =
 -- ---- cells and columns
 
 -- the keys of two cells of one column compare as the cells do, and then what follows them
-pub cell_key-order : (kind : Kind) (a b : Cell) (xs ys : List ℕ) → fits_kind kind a ≡ true → fits_kind kind b ≡ true → IsCell a → IsCell b → slice_cmp nat_cmp (cell_key a ++ xs) (cell_key b ++ ys) ≡ ordering_then (cell_cmp a b) (slice_cmp nat_cmp xs ys)
+pub cell_key-order : (kind : Kind) (a b : Cell) (xs ys : List ℕ) → fits_kind kind a ≡ true → fits_kind kind b ≡ true → IsCell a → IsCell b
+    → slice_cmp nat_cmp (cell_key a ++ xs) (cell_key b ++ ys) ≡ ordering_then (cell_cmp a b) (slice_cmp nat_cmp xs ys)
 cell_key-order kind Null Null xs ys fits_a fits_b is_a is_b = refl
 cell_key-order kind Null (Int n) xs ys fits_a fits_b is_a is_b = refl
 cell_key-order kind Null (Text t) xs ys fits_a fits_b is_a is_b = refl
@@ -166,7 +184,8 @@ cell_key-order TextKind a b xs ys fits_a fits_b is_a is_b = cc
 cell_key-order FlagKind a b xs ys fits_a fits_b is_a is_b = cc
 
 -- the keys of two lists of columns compare as the lists do, and then what follows them
-pub key_bytes-order : (kinds : List Kind) (us bs : List Cell) (xs ys : List ℕ) → fits kinds us ≡ true → fits kinds bs ≡ true → All IsCell us → All IsCell bs → slice_cmp nat_cmp (key_bytes us ++ xs) (key_bytes bs ++ ys) ≡ ordering_then (columns_cmp us bs) (slice_cmp nat_cmp xs ys)
+pub key_bytes-order : (kinds : List Kind) (us bs : List Cell) (xs ys : List ℕ) → fits kinds us ≡ true → fits kinds bs ≡ true → All IsCell us → All IsCell bs
+    → slice_cmp nat_cmp (key_bytes us ++ xs) (key_bytes bs ++ ys) ≡ ordering_then (columns_cmp us bs) (slice_cmp nat_cmp xs ys)
 key_bytes-order [] [] [] xs ys fits_as fits_bs are_as are_bs = refl
 key_bytes-order [] [] (b ∷ bs) xs ys fits_as fits_bs are_as are_bs = cc
 key_bytes-order [] (a ∷ us) bs xs ys fits_as fits_bs are_as are_bs = cc

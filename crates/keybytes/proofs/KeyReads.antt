@@ -1,5 +1,7 @@
 -- What is left of a key while its columns are read back.
-use Rattle.std.proofs.Common.{subst, ◌≡◌, ℕ, zero, suc, ◌+◌, ◌-◌, ◌%◌, ◌^◌, ◌≤◌, ℤ, pos, negsuc, Bool, true, false, List, [], ◌∷◌, ◌++◌, length, take, drop, get_or, not, eqb, FitsSigned, IsUtf8, w64, if◌then◌else◌, refl, sym, ap, ◌∙◌, arith, append_assoc, append-nil, get_or-drop, drop-drop, drop_at, length-append, length-drop}
+use Rattle.std.proofs.Common.{subst, ◌≡◌, ℕ, zero, suc, ◌+◌, ◌-◌, ◌%◌, ◌^◌, ◌≤◌, ℤ, pos, negsuc, Bool, true, false, List, [], ◌∷◌, ◌++◌, length, take, drop}
+use Rattle.std.proofs.Common.{get_or, not, eqb, FitsSigned, IsUtf8, w64, if◌then◌else◌, refl, sym, ap, ◌∙◌, arith, append_assoc, append-nil, get_or-drop}
+use Rattle.std.proofs.Common.{drop-drop, drop_at, length-append, length-drop}
 use Rattle.std.specs.List.{All}
 use Rattle.std.specs.Int.{to_be_bytes, cast_signed, cast_unsigned}
 use Rattle.std.proofs.lemmas.Int.{to_z-of_z}
@@ -35,7 +37,8 @@ pub record TextLeft (text rest bytes read : List ℕ) (at : ℕ) : Type 0 where
   pub passed : at + length (text_key left) ≡ length (text_key text)
 
 module _ (text rest bytes read : List ℕ) (at : ℕ) where
-  zero_more : (left : List ℕ) → text ≡ read ++ left → drop at bytes ≡ text_key left ++ rest → at + length (text_key left) ≡ length (text_key text) → get_or bytes at 0 ≡ 0 → get_or bytes (at + 1) 0 ≡ 255 → TextLeft text rest bytes (read ++ 0 ∷ []) (at + 2)
+  zero_more : (left : List ℕ) → text ≡ read ++ left → drop at bytes ≡ text_key left ++ rest → at + length (text_key left) ≡ length (text_key text)
+      → get_or bytes at 0 ≡ 0 → get_or bytes (at + 1) 0 ≡ 255 → TextLeft text rest bytes (read ++ 0 ∷ []) (at + 2)
   zero_more [] whole behind passed first second =
       let other : get_or bytes (at + 1) 0 ≡ 1 = second-read bytes at 0 1 rest behind in
       absurd (omega arith)
@@ -49,7 +52,8 @@ module _ (text rest bytes read : List ℕ) (at : ℕ) where
       let other : get_or bytes at 0 ≡ suc b = front-read bytes at (suc b) _ behind in
       absurd (omega arith)
 
-  other_more : (left : List ℕ) → text ≡ read ++ left → drop at bytes ≡ text_key left ++ rest → at + length (text_key left) ≡ length (text_key text) → (get_or bytes at 0 ≡ 0 → ⊥) → TextLeft text rest bytes (read ++ get_or bytes at 0 ∷ []) (at + 1)
+  other_more : (left : List ℕ) → text ≡ read ++ left → drop at bytes ≡ text_key left ++ rest → at + length (text_key left) ≡ length (text_key text)
+      → (get_or bytes at 0 ≡ 0 → ⊥) → TextLeft text rest bytes (read ++ get_or bytes at 0 ∷ []) (at + 1)
   other_more [] whole behind passed apart = absurd (apart (front-read bytes at 0 _ behind))
   other_more (zero ∷ left) whole behind passed apart = absurd (apart (front-read bytes at 0 _ behind))
   other_more (suc b ∷ left) whole behind passed apart =
@@ -61,21 +65,25 @@ module _ (text rest bytes read : List ℕ) (at : ℕ) where
         passed = omega arith;
       }
 
-  none_more : (left : List ℕ) → text ≡ read ++ left → drop at bytes ≡ text_key left ++ rest → at + length (text_key left) ≡ length (text_key text) → get_or bytes at 0 ≡ 0 → (get_or bytes (at + 1) 0 ≡ 255 → ⊥) → (text ≡ read) × (at + 2 ≡ length (text_key text))
+  none_more : (left : List ℕ) → text ≡ read ++ left → drop at bytes ≡ text_key left ++ rest → at + length (text_key left) ≡ length (text_key text)
+      → get_or bytes at 0 ≡ 0 → (get_or bytes (at + 1) 0 ≡ 255 → ⊥) → (text ≡ read) × (at + 2 ≡ length (text_key text))
   none_more [] whole behind passed first apart = (whole ∙ append-nil read, passed)
   none_more (zero ∷ left) whole behind passed first apart = absurd (apart (second-read bytes at 0 255 _ behind))
   none_more (suc b ∷ left) whole behind passed first apart =
       let other : get_or bytes at 0 ≡ suc b = front-read bytes at (suc b) _ behind in
       absurd (omega arith)
 
-pub text_zero_more : (text rest bytes read : List ℕ) (at : ℕ) → TextLeft text rest bytes read at → get_or bytes at 0 ≡ 0 → get_or bytes (at + 1) 0 ≡ 255 → TextLeft text rest bytes (read ++ 0 ∷ []) (at + 2)
+pub text_zero_more : (text rest bytes read : List ℕ) (at : ℕ) → TextLeft text rest bytes read at → get_or bytes at 0 ≡ 0 → get_or bytes (at + 1) 0 ≡ 255
+    → TextLeft text rest bytes (read ++ 0 ∷ []) (at + 2)
 text_zero_more text rest bytes read at was first second = zero_more text rest bytes read at was.left was.whole was.behind was.passed first second
 
-pub text_other_more : (text rest bytes read : List ℕ) (at : ℕ) → TextLeft text rest bytes read at → (get_or bytes at 0 ≡ 0 → ⊥) → TextLeft text rest bytes (read ++ get_or bytes at 0 ∷ []) (at + 1)
+pub text_other_more : (text rest bytes read : List ℕ) (at : ℕ) → TextLeft text rest bytes read at → (get_or bytes at 0 ≡ 0 → ⊥)
+    → TextLeft text rest bytes (read ++ get_or bytes at 0 ∷ []) (at + 1)
 text_other_more text rest bytes read at was apart = other_more text rest bytes read at was.left was.whole was.behind was.passed apart
 
 -- where the end mark stands, the text is read
-pub text_end : (text rest bytes read : List ℕ) (at : ℕ) → TextLeft text rest bytes read at → get_or bytes at 0 ≡ 0 → (get_or bytes (at + 1) 0 ≡ 255 → ⊥) → (text ≡ read) × (at + 2 ≡ length (text_key text))
+pub text_end : (text rest bytes read : List ℕ) (at : ℕ) → TextLeft text rest bytes read at → get_or bytes at 0 ≡ 0 → (get_or bytes (at + 1) 0 ≡ 255 → ⊥)
+    → (text ≡ read) × (at + 2 ≡ length (text_key text))
 text_end text rest bytes read at was first apart = none_more text rest bytes read at was.left was.whole was.behind was.passed first apart
 
 -- ---- a cell
@@ -107,31 +115,37 @@ pub record FlagFront (cell : Cell) (rest bytes : List ℕ) : Type 0 where
   pub behind : drop 1 bytes ≡ (if flag then 1 else 0) ∷ rest
 
 module _ {rest bytes : List ℕ} where
-  int_front_at : (cell : Cell) → fits_kind IntKind cell ≡ true → IsCell cell → bytes ≡ cell_key cell ++ rest → (get_or bytes 0 0 ≡ 0 → ⊥) → IntFront cell rest bytes
+  int_front_at : (cell : Cell) → fits_kind IntKind cell ≡ true → IsCell cell → bytes ≡ cell_key cell ++ rest → (get_or bytes 0 0 ≡ 0 → ⊥)
+      → IntFront cell rest bytes
   int_front_at Null of_kind valid front apart = absurd (apart (ap (λ (xs : List ℕ). get_or xs 0 0) front))
   int_front_at (Int number) of_kind valid front apart = record { number = number; is_cell = refl; valid = valid; behind = ap (drop 1) front }
   int_front_at (Text text) of_kind valid front apart = absurd cc
   int_front_at (Flag flag) of_kind valid front apart = absurd cc
 
-  text_front_at : (cell : Cell) → fits_kind TextKind cell ≡ true → IsCell cell → bytes ≡ cell_key cell ++ rest → (get_or bytes 0 0 ≡ 0 → ⊥) → TextFront cell rest bytes
+  text_front_at : (cell : Cell) → fits_kind TextKind cell ≡ true → IsCell cell → bytes ≡ cell_key cell ++ rest → (get_or bytes 0 0 ≡ 0 → ⊥)
+      → TextFront cell rest bytes
   text_front_at Null of_kind valid front apart = absurd (apart (ap (λ (xs : List ℕ). get_or xs 0 0) front))
   text_front_at (Int number) of_kind valid front apart = absurd cc
   text_front_at (Text text) of_kind valid front apart = record { text = text; is_cell = refl; utf8 = valid.0; behind = ap (drop 1) front }
   text_front_at (Flag flag) of_kind valid front apart = absurd cc
 
-  flag_front_at : (cell : Cell) → fits_kind FlagKind cell ≡ true → IsCell cell → bytes ≡ cell_key cell ++ rest → (get_or bytes 0 0 ≡ 0 → ⊥) → FlagFront cell rest bytes
+  flag_front_at : (cell : Cell) → fits_kind FlagKind cell ≡ true → IsCell cell → bytes ≡ cell_key cell ++ rest → (get_or bytes 0 0 ≡ 0 → ⊥)
+      → FlagFront cell rest bytes
   flag_front_at Null of_kind valid front apart = absurd (apart (ap (λ (xs : List ℕ). get_or xs 0 0) front))
   flag_front_at (Int number) of_kind valid front apart = absurd cc
   flag_front_at (Text text) of_kind valid front apart = absurd cc
   flag_front_at (Flag flag) of_kind valid front apart = record { flag = flag; is_cell = refl; behind = ap (drop 1) front }
 
-pub int_front : (kind : Kind) (cell : Cell) (rest bytes : List ℕ) → kind ≡ IntKind → BeginsWithCellKey kind cell rest bytes → (get_or bytes 0 0 ≡ 0 → ⊥) → IntFront cell rest bytes
+pub int_front : (kind : Kind) (cell : Cell) (rest bytes : List ℕ) → kind ≡ IntKind → BeginsWithCellKey kind cell rest bytes → (get_or bytes 0 0 ≡ 0 → ⊥)
+    → IntFront cell rest bytes
 int_front kind cell rest bytes is_kind begins apart = int_front_at cell (rw is_kind at begins.of_kind) begins.valid begins.front apart
 
-pub text_front : (kind : Kind) (cell : Cell) (rest bytes : List ℕ) → kind ≡ TextKind → BeginsWithCellKey kind cell rest bytes → (get_or bytes 0 0 ≡ 0 → ⊥) → TextFront cell rest bytes
+pub text_front : (kind : Kind) (cell : Cell) (rest bytes : List ℕ) → kind ≡ TextKind → BeginsWithCellKey kind cell rest bytes → (get_or bytes 0 0 ≡ 0 → ⊥)
+    → TextFront cell rest bytes
 text_front kind cell rest bytes is_kind begins apart = text_front_at cell (rw is_kind at begins.of_kind) begins.valid begins.front apart
 
-pub flag_front : (kind : Kind) (cell : Cell) (rest bytes : List ℕ) → kind ≡ FlagKind → BeginsWithCellKey kind cell rest bytes → (get_or bytes 0 0 ≡ 0 → ⊥) → FlagFront cell rest bytes
+pub flag_front : (kind : Kind) (cell : Cell) (rest bytes : List ℕ) → kind ≡ FlagKind → BeginsWithCellKey kind cell rest bytes → (get_or bytes 0 0 ≡ 0 → ⊥)
+    → FlagFront cell rest bytes
 flag_front kind cell rest bytes is_kind begins apart = flag_front_at cell (rw is_kind at begins.of_kind) begins.valid begins.front apart
 
 -- ---- the columns
@@ -146,7 +160,8 @@ pub record ColumnsLeft (columns read : List Cell) (kinds : List Kind) (bytes : L
   pub within : at ≤ length bytes
 
 module _ (columns read : List Cell) (kind : Kind) (kinds : List Kind) (bytes : List ℕ) (at : ℕ) where
-  begins_at : (left : List Cell) → fits (kind ∷ kinds) left ≡ true → All IsCell left → drop at bytes ≡ key_bytes left → (cell : Cell) × (rest : List ℕ) × BeginsWithCellKey kind cell rest (drop at bytes)
+  begins_at : (left : List Cell) → fits (kind ∷ kinds) left ≡ true → All IsCell left → drop at bytes ≡ key_bytes left
+      → (cell : Cell) × (rest : List ℕ) × BeginsWithCellKey kind cell rest (drop at bytes)
   begins_at [] fit each behind = absurd cc
   begins_at (cell ∷ left) fit each behind = (
     cell,
@@ -158,12 +173,16 @@ module _ (columns read : List Cell) (kind : Kind) (kinds : List Kind) (bytes : L
     },
   )
 
-  columns_more_at : (left : List Cell) → columns ≡ read ++ left → fits (kind ∷ kinds) left ≡ true → All IsCell left → drop at bytes ≡ key_bytes left → at ≤ length bytes → (next : Cell) (len : ℕ) → ((cell : Cell) (rest : List ℕ) → BeginsWithCellKey kind cell rest (drop at bytes) → (next ≡ cell) × (len ≡ length (cell_key cell))) → ColumnsLeft columns (read ++ next ∷ []) kinds bytes (at + len)
+  columns_more_at : (left : List Cell) → columns ≡ read ++ left → fits (kind ∷ kinds) left ≡ true → All IsCell left → drop at bytes ≡ key_bytes left
+      → at ≤ length bytes → (next : Cell) (len : ℕ)
+      → ((cell : Cell) (rest : List ℕ) → BeginsWithCellKey kind cell rest (drop at bytes) → (next ≡ cell) × (len ≡ length (cell_key cell)))
+      → ColumnsLeft columns (read ++ next ∷ []) kinds bytes (at + len)
   columns_more_at [] whole fit each behind within next len tells = absurd cc
   columns_more_at (cell ∷ left) whole fit each behind within next len tells =
       let parts = and_parts (fits_kind kind cell) (fits kinds left) fit in
       let told = tells cell (key_bytes left) (record { of_kind = parts.0; valid = All-head IsCell cell left each; front = behind }) in
-      let long : length bytes - at ≡ length (cell_key cell) + length (key_bytes left) = sym (length-drop at bytes) ∙ ap length behind ∙ length-append (cell_key cell) (key_bytes left) in
+      let long : length bytes - at ≡ length (cell_key cell) + length (key_bytes left) =
+      sym (length-drop at bytes) ∙ ap length behind ∙ length-append (cell_key cell) (key_bytes left) in
       record {
         left = left;
         whole = whole ∙ sym (append_assoc read (cell ∷ []) left) ∙ ap (λ (x : Cell). (read ++ x ∷ []) ++ left) (sym told.0);
@@ -173,33 +192,43 @@ module _ (columns read : List Cell) (kind : Kind) (kinds : List Kind) (bytes : L
         within = omega (arith, told.1);
       }
 
-pub columns_begin : (columns read : List Cell) (kind : Kind) (kinds : List Kind) (bytes : List ℕ) (at : ℕ) → ColumnsLeft columns read (kind ∷ kinds) bytes at → (cell : Cell) × (rest : List ℕ) × BeginsWithCellKey kind cell rest (drop at bytes)
+pub columns_begin : (columns read : List Cell) (kind : Kind) (kinds : List Kind) (bytes : List ℕ) (at : ℕ) → ColumnsLeft columns read (kind ∷ kinds) bytes at
+    → (cell : Cell) × (rest : List ℕ) × BeginsWithCellKey kind cell rest (drop at bytes)
 columns_begin columns read kind kinds bytes at was = begins_at columns read kind kinds bytes at was.left was.fits_kinds was.each was.behind
 
 -- one more cell is read
-pub columns_more : (columns read : List Cell) (kind : Kind) (kinds : List Kind) (bytes : List ℕ) (at : ℕ) → ColumnsLeft columns read (kind ∷ kinds) bytes at → (next : Cell) (len : ℕ) → ((cell : Cell) (rest : List ℕ) → BeginsWithCellKey kind cell rest (drop at bytes) → (next ≡ cell) × (len ≡ length (cell_key cell))) → ColumnsLeft columns (read ++ next ∷ []) kinds bytes (at + len)
+pub columns_more : (columns read : List Cell) (kind : Kind) (kinds : List Kind) (bytes : List ℕ) (at : ℕ) → ColumnsLeft columns read (kind ∷ kinds) bytes at
+    → (next : Cell) (len : ℕ) → ((cell : Cell) (rest : List ℕ) → BeginsWithCellKey kind cell rest (drop at bytes)
+    → (next ≡ cell) × (len ≡ length (cell_key cell))) → ColumnsLeft columns (read ++ next ∷ []) kinds bytes (at + len)
 columns_more columns read kind kinds bytes at was next len tells =
     columns_more_at columns read kind kinds bytes at was.left was.whole was.fits_kinds was.each was.behind was.within next len tells
 
 -- ---- what is read behind a tag
 
-pub read-number : (cell : Cell) (rest bytes : List ℕ) → IntFront cell rest bytes → (read : ℕ) → read ≡ big_number 8 (take (length bytes - 1) (drop 1 bytes)) → (number : ℤ) → number ≡ cast_signed w64 ((read + (2 ^ 64 - 2 ^ 63)) % 2 ^ 64) → Int (cast_signed w64 (cast_unsigned w64 number)) ≡ cell
+pub read-number : (cell : Cell) (rest bytes : List ℕ) → IntFront cell rest bytes → (read : ℕ) → read ≡ big_number 8 (take (length bytes - 1) (drop 1 bytes))
+    → (number : ℤ) → number ≡ cast_signed w64 ((read + (2 ^ 64 - 2 ^ 63)) % 2 ^ 64) → Int (cast_signed w64 (cast_unsigned w64 number)) ≡ cell
 read-number cell rest bytes front read is_read number is_number =
-    let whole : read ≡ raised_number front.number = is_read ∙ ap (big_number 8) (take_rest bytes 1 ∙ front.behind) ∙ big_number-reads_back 8 (raised_number front.number) rest (raised_number-lt front.number front.valid) in
-    let same : number ≡ front.number = is_number ∙ ap (λ (n : ℕ). cast_signed w64 ((n + (2 ^ 64 - 2 ^ 63)) % 2 ^ 64)) whole ∙ lowered-raised_number front.number front.valid in
+    let whole : read ≡ raised_number front.number =
+    is_read ∙ ap (big_number 8) (take_rest bytes 1 ∙ front.behind)
+    ∙ big_number-reads_back 8 (raised_number front.number) rest (raised_number-lt front.number front.valid) in
+    let same : number ≡ front.number =
+    is_number ∙ ap (λ (n : ℕ). cast_signed w64 ((n + (2 ^ 64 - 2 ^ 63)) % 2 ^ 64)) whole ∙ lowered-raised_number front.number front.valid in
     ap (λ (n : ℤ). Int (cast_signed w64 (cast_unsigned w64 n))) same ∙ ap Int (to_z-of_z w64 front.number front.valid) ∙ sym front.is_cell
 
 flag-read : (flag : Bool) (xs rest : List ℕ) → xs ≡ (if flag then 1 else 0) ∷ rest → Flag (not (eqb (get_or xs 0 0) 0)) ≡ Flag flag
 flag-read true xs rest front = ap (λ (ys : List ℕ). Flag (not (eqb (get_or ys 0 0) 0))) front
 flag-read false xs rest front = ap (λ (ys : List ℕ). Flag (not (eqb (get_or ys 0 0) 0))) front
 
-pub read-flag : (cell : Cell) (rest bytes : List ℕ) → FlagFront cell rest bytes → Flag (not (eqb (get_or (take (length bytes - 1) (drop 1 bytes)) 0 0) 0)) ≡ cell
+pub read-flag : (cell : Cell) (rest bytes : List ℕ) → FlagFront cell rest bytes
+    → Flag (not (eqb (get_or (take (length bytes - 1) (drop 1 bytes)) 0 0) 0)) ≡ cell
 read-flag cell rest bytes front = flag-read front.flag _ rest (take_rest bytes 1 ∙ front.behind) ∙ sym front.is_cell
 
 -- all cells are read
-pub columns_done : (columns read : List Cell) (kinds : List Kind) (bytes : List ℕ) (at : ℕ) → kinds ≡ [] → ColumnsLeft columns read kinds bytes at → columns ≡ read
+pub columns_done : (columns read : List Cell) (kinds : List Kind) (bytes : List ℕ) (at : ℕ) → kinds ≡ [] → ColumnsLeft columns read kinds bytes at
+    → columns ≡ read
 columns_done columns read kinds bytes at none was =
-    was.whole ∙ ap (λ (xs : List Cell). read ++ xs) (nothing was.left (subst (λ (ks : List Kind). fits ks was.left ≡ true) none was.fits_kinds)) ∙ append-nil read where
+    was.whole ∙ ap (λ (xs : List Cell). read ++ xs) (nothing was.left (subst (λ (ks : List Kind). fits ks was.left ≡ true) none was.fits_kinds))
+    ∙ append-nil read where
       nothing : (left : List Cell) → fits [] left ≡ true → left ≡ []
       nothing [] fit = refl
       nothing (cell ∷ left) fit = absurd cc

@@ -8,7 +8,8 @@ use Rattle.std.specs.Cmp.{IsTotalOrder}
 use Rattle.std.specs.Cmp.Lexicographic.{slice_cmp}
 use Rattle.std.specs.List.{list_any, cons_option}
 use Rattle.std.specs.FinSet.{FinSet}
-use Rattle.std.specs.FinMap.{FinMap, get, insert, remove, contains_key, contains_key-keys, keys, entries, entries_sorted, get-entries, get-insert, get-remove, get-from_entries, same_map, IsAntisymmetric, slice_cmp-IsAntisymmetric, nat_cmp-IsAntisymmetric}
+use Rattle.std.specs.FinMap.{FinMap, get, insert, remove, contains_key, contains_key-keys, keys, entries, entries_sorted, get-entries, get-insert, get-remove}
+use Rattle.std.specs.FinMap.{get-from_entries, same_map, IsAntisymmetric, slice_cmp-IsAntisymmetric, nat_cmp-IsAntisymmetric}
 use Rattle.std.specs.FinMap.Entries.{find, is_sorted, is_some-find, same_entries}
 use Rattle.std.proofs.lemmas.Cmp.{then_total, on_total, nat_list_cmp_total, tied_itself}
 use Rattle.std.proofs.lemmas.Map.Lookups.{exact_pairs, exact_unsigned}
@@ -23,7 +24,8 @@ pub pairs_total : IsTotalOrder pair_cmp
 pairs_total = then_total (on_total (λ p. p.key) nat_list_cmp_total) (on_total (λ p. p.rid) rid_cmp-total)
 
 exact_rids : (a b : Rid) → rid_cmp a b ≡ Equal → a ≡ b
-exact_rids a b h = ap (λ (p : ℕ × ℕ). record { page = p.0; slot = p.1 }) (exact_pairs nat_cmp nat_cmp exact_unsigned exact_unsigned (a.page, a.slot) (b.page, b.slot) h)
+exact_rids a b h =
+    ap (λ (p : ℕ × ℕ). record { page = p.0; slot = p.1 }) (exact_pairs nat_cmp nat_cmp exact_unsigned exact_unsigned (a.page, a.slot) (b.page, b.slot) h)
 
 -- only equal pairs tie
 pub exact_of_pairs : IsAntisymmetric pair_cmp

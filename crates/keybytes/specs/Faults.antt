@@ -1,7 +1,10 @@
 -- The number and the name of each refusal.
 use Rattle.std.specs.Prelude.{◌≡◌, ◌⊎◌, ℕ, List, codes, Option, Some, None}
 use Rattle.keybytes.specs.declared.fault.Fault.{Fault}
-use Rattle.keybytes.specs.declared.fault.Fault.TheVariants.{BadColumn, TextTooLong, RowShape, TableFull, NoSuchRow, RowHeld, PageFull, NoSuchTxn, TooManyTxns, TxnEnding, Fenced, Duplicate, KeyHeld, BuildRunning, NoBuild, BadRanges, BadCount, SpoolNotEmpty, RangeDone, RingFull, NotScanned, NotLoaded, Behind, Busy, NoPage, Short, BadScript, NotSealed, Memory}
+use Rattle.keybytes.specs.declared.fault.Fault.TheVariants.{BadColumn, TextTooLong, RowShape, TableFull, NoSuchRow, RowHeld, PageFull, NoSuchTxn, TooManyTxns}
+use Rattle.keybytes.specs.declared.fault.Fault.TheVariants.{TxnEnding, Fenced, Duplicate, KeyHeld, BuildRunning, NoBuild, BadRanges, BadCount, SpoolNotEmpty}
+use Rattle.keybytes.specs.declared.fault.Fault.TheVariants.{RangeDone, RingFull, NotScanned, NotLoaded, Behind, Busy, NoPage, Short, BadScript, NotSealed}
+use Rattle.keybytes.specs.declared.fault.Fault.TheVariants.{Memory}
 
 -- the number under which scripts know a refusal
 abbrev pub number_of : Fault → ℕ

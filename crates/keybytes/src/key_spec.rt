@@ -118,7 +118,8 @@ impl KeySpec {
         requires { IsKeyOf self.now key.now }
         ensures columns { IfOk result (λ cells. HasKey self.now key.now cells.items) }
         ensures only { IfOk result (λ cells. (columns : List Cell) → HasKey self.now key.now columns → columns ≡ cells.items) }
-        ensures of_rows { IfOk result (λ cells. (row : List Cell) → IsRowOf self.now row → key_of self.now row ≡ key.now → key_columns self.now row ≡ cells.items) }
+        ensures of_rows { IfOk result (λ cells. (row : List Cell) → IsRowOf self.now row → key_of self.now row ≡ key.now
+            → key_columns self.now row ≡ cells.items) }
         ensures memory { IfErr result (λ fault. fault ≡ Fault.Memory) }
     {
         let alloc = *self.kinds.allocator();

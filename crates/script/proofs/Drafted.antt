@@ -1,5 +1,6 @@
 -- A draft of a script, and the lines that were read.
-use Rattle.std.proofs.Common.{◌≡◌, ℕ, ◌+◌, ◌-◌, List, [], ◌∷◌, ◌++◌, length, Option, Some, None, Result, Ok, Err, IfOk, is_some, true, false, arith, length-append, refl, sym, ap, ◌∙◌}
+use Rattle.std.proofs.Common.{◌≡◌, ℕ, ◌+◌, ◌-◌, List, [], ◌∷◌, ◌++◌, length, Option, Some, None, Result, Ok, Err, IfOk, is_some, true, false, arith}
+use Rattle.std.proofs.Common.{length-append, refl, sym, ap, ◌∙◌}
 use Rattle.std.proofs.lemmas.List.{append-nil, append_assoc}
 use Rattle.std.proofs.lemmas.Slice.Zip.{AllZip-long}
 use Rattle.script.specs.Drafts.{DraftValue, HasRead, IsBlank, IsDraft, MayFollow, listed, with_line}
@@ -46,7 +47,8 @@ drafted_more draft lines number (CommandLine command) is follows drafted =
       rw drafted.1 (sym (commands_from-append 1 lines (CommandLine command ∷ []) ∙ rw here refl)),
     )
 
-ordered_more : (draft : DraftValue) (lines : List Line) (line : Line) → MayFollow draft line → IsDraft draft lines → InOrder lines → InOrder (lines ++ line ∷ [])
+ordered_more : (draft : DraftValue) (lines : List Line) (line : Line) → MayFollow draft line → IsDraft draft lines → InOrder lines
+    → InOrder (lines ++ line ∷ [])
 ordered_more draft lines PassedOver follows drafted ordered = InOrder-more lines PassedOver ordered tt
 ordered_more draft lines (TableLine table) follows drafted ordered =
     let blank = lines_blank draft lines drafted follows in

@@ -1,5 +1,6 @@
 -- What std's parsing says of texts of digits.
-use Rattle.std.proofs.Common.{◌≡◌, ℕ, ◌+◌, ◌<◌, ◌≤◌, nat_lt, get_or, ◌≢◌, Bool, true, false, List, [], ◌∷◌, length, arith, rules, refl, sym, ◌∙◌, ap, codes, MatchOption, Option, option_map, Some, None, Result, Ok, Err}
+use Rattle.std.proofs.Common.{◌≡◌, ℕ, ◌+◌, ◌<◌, ◌≤◌, nat_lt, get_or, ◌≢◌, Bool, true, false, List, [], ◌∷◌, length, arith, rules, refl, sym, ◌∙◌, ap, codes}
+use Rattle.std.proofs.Common.{MatchOption, Option, option_map, Some, None, Result, Ok, Err}
 use Rattle.std.proofs.Math.Bool.{and-false}
 use Rattle.std.proofs.lemmas.Bool.Decides.{nat_tests}
 use Rattle.std.proofs.lemmas.Str.Parse.{IsNumeralModel, numerals_by_value}
@@ -30,7 +31,8 @@ pub below_false : (a b : ℕ) → (a < b → ⊥) → nat_lt a b ≡ false
 below_false a b above = grind (arith, nat_tests)
 
 -- the number that a text of digits spells
-pub number_below-some : (limit : ℕ) (text : List ℕ) → is_digits text ≡ true → digits_value 10 text < limit → number_below limit text ≡ Some (digits_value 10 text)
+pub number_below-some : (limit : ℕ) (text : List ℕ) → is_digits text ≡ true → digits_value 10 text < limit
+    → number_below limit text ≡ Some (digits_value 10 text)
 number_below-some limit text are below = simp (are, below_true _ _ below)
 
 pub number_below-above : (limit : ℕ) (text : List ℕ) → (digits_value 10 text < limit → ⊥) → number_below limit text ≡ None
@@ -51,7 +53,8 @@ number_below-not limit text not = bool_cases (is_digits text)
     (λ none. number_below-none limit text none)
 
 -- what a parse gives, where it succeeds at just such a text
-pub parsed : {T E : Type 0} (f : ℕ → T) (limit : ℕ) (text : List ℕ) (r : Result T E) → OkIff r (SpellsBelow limit text) (f (digits_value 10 text)) → result_ok r ≡ option_map f (number_below limit text)
+pub parsed : {T E : Type 0} (f : ℕ → T) (limit : ℕ) (text : List ℕ) (r : Result T E) → OkIff r (SpellsBelow limit text) (f (digits_value 10 text))
+    → result_ok r ≡ option_map f (number_below limit text)
 parsed f limit text (Ok x) h =
     let are : is_digits text ≡ true = grind (arith, h.0.0, h.0.1, below_true 0 (length text) h.0.1) in
     ap Some h.1 ∙ sym (ap (option_map f) (number_below-some limit text are h.0.2))

@@ -10,7 +10,8 @@ use Rattle.script.specs.declared.table.Table.{Table}
 next_number : (number : ℕ) (lines : List Line) → number + 1 + length lines ≡ number + suc (length lines)
 next_number number lines = omega arith
 
-pub tables_from-append : (number : ℕ) (lines more : List Line) → tables_from number (lines ++ more) ≡ tables_from number lines ++ tables_from (number + length lines) more
+pub tables_from-append : (number : ℕ) (lines more : List Line)
+    → tables_from number (lines ++ more) ≡ tables_from number lines ++ tables_from (number + length lines) more
 tables_from-append number [] more = rw add-zero refl
 tables_from-append number (PassedOver ∷ lines) more =
     tables_from-append (number + 1) lines more ∙ ap (λ n. tables_from (number + 1) lines ++ tables_from n more) (next_number number lines)
@@ -47,7 +48,8 @@ InOrder-more (TableLine table ∷ lines) line ordered one = NoTable-more lines l
 InOrder-more (CommandLine command ∷ lines) line ordered one = NoTable-more lines line ordered one
 
 -- a table may stand only where there is no table and no command before
-pub table_first : (number : ℕ) (lines : List Line) (table : Table) → tables_from number lines ≡ [] → commands_from number lines ≡ [] → InOrder (lines ++ TableLine table ∷ [])
+pub table_first : (number : ℕ) (lines : List Line) (table : Table) → tables_from number lines ≡ [] → commands_from number lines ≡ []
+    → InOrder (lines ++ TableLine table ∷ [])
 table_first number [] table tables commands = tt
 table_first number (PassedOver ∷ lines) table tables commands = table_first (number + 1) lines table tables commands
 table_first number (TableLine before ∷ lines) table tables commands = absurd (let both = tables in cc)
@@ -59,7 +61,8 @@ table_last (PassedOver ∷ lines) table none = table_last lines table none
 table_last (TableLine before ∷ lines) table none = none
 table_last (CommandLine command ∷ lines) table none = table_last lines table none
 
-pub first_table : (number : ℕ) (lines : List Line) (table : Table) → InOrder (lines ++ TableLine table ∷ []) → (tables_from number lines ≡ []) × (commands_from number lines ≡ [])
+pub first_table : (number : ℕ) (lines : List Line) (table : Table) → InOrder (lines ++ TableLine table ∷ [])
+    → (tables_from number lines ≡ []) × (commands_from number lines ≡ [])
 first_table number [] table ordered = (refl, refl)
 first_table number (PassedOver ∷ lines) table ordered = first_table (number + 1) lines table ordered
 first_table number (TableLine before ∷ lines) table ordered = absurd (table_last lines table ordered)

@@ -1,8 +1,10 @@
 -- What one read takes from the records that a reader has left.
 use denote.Ref.{Bor}
-use Rattle.std.proofs.Common.{◌≡◌, ◌==◌, ◌&&◌, not, ℕ, zero, suc, ◌+◌, ◌-◌, ◌<◌, ◌≤◌, true, false, List, [], ◌∷◌, ◌++◌, length, take, drop, Option, Some, None, add-one, arith, refl, ap, sym, ◌∙◌}
+use Rattle.std.proofs.Common.{◌≡◌, ◌==◌, ◌&&◌, not, ℕ, zero, suc, ◌+◌, ◌-◌, ◌<◌, ◌≤◌, true, false, List, [], ◌∷◌, ◌++◌, length, take, drop, Option, Some, None}
+use Rattle.std.proofs.Common.{add-one, arith, refl, ap, sym, ◌∙◌}
 use Rattle.csv.specs.Machine.{Read, ends_at_end, field_after, fields_after, is_end, next_record, step}
-use Rattle.csv.specs.Reading.{ExplainsRead, NextIs, ReadRecord, Ready, ReadsNext, TookRecord, default_config, has_failed, pending_of, reader_trim, records_from, records_next, source_of, strip_bom}
+use Rattle.csv.specs.Reading.{ExplainsRead, NextIs, ReadRecord, Ready, ReadsNext, TookRecord, default_config, has_failed, pending_of, reader_trim, records_from}
+use Rattle.csv.specs.Reading.{records_next, source_of, strip_bom}
 use Rattle.csv.specs.declared.parser.Config.{Config}
 use Rattle.csv.specs.declared.parser.State.{State}
 use Rattle.csv.specs.declared.parser.State.TheVariants as st
@@ -27,8 +29,10 @@ shrinks cfg s fields field [] p is = bool_cases (ends_at_end s)
     (λ ends. let found : Some (fields ++ (field ∷ []), st.StartRecord, []) ≡ Some p = rw ends at is in let rest : p.2 ≡ [] = cc in rw rest (omega arith))
     (λ goes. let none : None ≡ Some p = rw goes at is in cc)
 shrinks cfg s fields field (c ∷ rest) p is = bool_cases (is_end (step cfg s c).1)
-    (λ ends. let found : Some (fields_after (step cfg s c).1 fields field, (step cfg s c).0, rest) ≡ Some p = rw ends at is in let same : p.2 ≡ rest = cc in rw same (omega arith))
-    (λ goes. let fewer = shrinks cfg (step cfg s c).0 (fields_after (step cfg s c).1 fields field) (field_after (step cfg s c).1 c field) rest p (rw goes at is) in omega arith)
+    (λ ends. let found : Some (fields_after (step cfg s c).1 fields field, (step cfg s c).0, rest) ≡ Some p = rw ends at is in let same : p.2 ≡ rest = cc in
+    rw same (omega arith))
+    (λ goes. let fewer = shrinks cfg (step cfg s c).0 (fields_after (step cfg s c).1 fields field) (field_after (step cfg s c).1 c field) rest p
+    (rw goes at is) in omega arith)
 
 -- a record that the end of the text ends is the last
 last_read : (cfg : Config) (s : State) (fields : List (List ℕ)) (field : List ℕ) (p : Read)
@@ -47,7 +51,8 @@ none_at_end (suc n) = refl
 abbrev SameRecords : ℕ → ℕ → Type 0
 SameRecords n m = (s : State) (xs : List ℕ) → length xs < n → length xs < m → records_from default_config n s xs ≡ records_from default_config m s xs
 
-same_after : (n m : ℕ) → SameRecords n m → (s : State) (xs : List ℕ) → length xs ≤ n → length xs ≤ m → (o : Option Read) → next_record default_config s [] [] xs ≡ o
+same_after : (n m : ℕ) → SameRecords n m → (s : State) (xs : List ℕ) → length xs ≤ n → length xs ≤ m → (o : Option Read)
+    → next_record default_config s [] [] xs ≡ o
     → records_next (records_from default_config n) o ≡ records_next (records_from default_config m) o
 same_after n m same s xs below also None is = refl
 same_after n m same s [] below also (Some p) is =

@@ -1,6 +1,7 @@
 -- How the fields of a record are spelled.
 use denote.Ref.{Bor}
-use Rattle.std.specs.Prelude.{◌≡◌, ◌==◌, ℕ, ◌+◌, ◌^◌, ◌<◌, map, ℤ, pos, neg_ℤ, nat_lt, nat_le, slice_index, Bool, ◌&&◌, List, ◌∷◌, ◌++◌, length, drop, codes, Option, option_map, Some, None, if◌then◌else◌}
+use Rattle.std.specs.Prelude.{◌≡◌, ◌==◌, ℕ, ◌+◌, ◌^◌, ◌<◌, map, ℤ, pos, neg_ℤ, nat_lt, nat_le, slice_index, Bool, ◌&&◌, List, ◌∷◌, ◌++◌, length, drop, codes}
+use Rattle.std.specs.Prelude.{Option, option_map, Some, None, if◌then◌else◌}
 use Rattle.std.specs.Char.{is_ascii_alphanumeric, is_ascii_digit}
 use Rattle.std.specs.List.{list_all, slice_split, AllZip}
 use Rattle.std.specs.Str.Parse.{digits_value}

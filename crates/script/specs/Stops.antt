@@ -21,7 +21,8 @@ IsMisspelled records fields = (rest : List (List (List ℕ))) × (records ≡ fi
 
 -- the first of the records is a table, and these lines stand before it
 abbrev pub IsLateTable : List Line → List (List (List ℕ)) → Type 0
-IsLateTable lines records = (table : Table) × (rest : List (List (List ℕ))) × TakesLine records rest (TableLine table) × ¬ (InOrder (lines ++ TableLine table ∷ []))
+IsLateTable lines records =
+    (table : Table) × (rest : List (List (List ℕ))) × TakesLine records rest (TableLine table) × ¬ (InOrder (lines ++ TableLine table ∷ []))
 
 -- why the first of the records gave no line; the fields are those that were read last
 abbrev pub FailsToSpell : List (List (List ℕ)) → List (List ℕ) → Cause → Type 0

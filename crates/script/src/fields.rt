@@ -7,7 +7,8 @@ ghost use Rattle.script.specs.declared.dealing.Dealing.{Dealing as DealingValue}
 ghost use Rattle.script.specs.declared.spec.Spec.{Spec as SpecValue};
 ghost use Rattle.script.specs.declared.part.Part.TheVariants as part;
 ghost use Rattle.script.specs.Shapes.{Fit};
-ghost use Rattle.script.specs.Fields.{number_of, int_of, slot_of, texts, SpellEach, SpellsCell, SpellsDealing, SpellsKind, SpellsNumbers, SpellsRid, SpellsSpec};
+ghost use Rattle.script.specs.Fields.{number_of, int_of, slot_of, texts, SpellEach, SpellsCell, SpellsDealing, SpellsKind, SpellsNumbers, SpellsRid};
+ghost use Rattle.script.specs.Fields.{SpellsSpec};
 
 use crate::record_error::RecordError;
 use crate::{Dealing, Spec};

@@ -12,8 +12,6 @@
 mod entry;
 mod op;
 mod side_file;
-#[cfg(test)]
-mod tests;
 
 pub use entry::Entry;
 pub use op::Op;

@@ -1,9 +1,11 @@
 -- What the bytes of a page say: its head, its entries and its slots.
-use Rattle.std.proofs.Common.{◌≡◌, ℕ, ◌+◌, ◌-◌, ◌*◌, ◌≤◌, ◌<◌, suc, zero, List, [], ◌∷◌, ◌++◌, length, get_or, set, take, drop, refl, sym, ap, ◌∙◌, arith, false, append_assoc}
+use Rattle.std.proofs.Common.{◌≡◌, ℕ, ◌+◌, ◌-◌, ◌*◌, ◌≤◌, ◌<◌, suc, zero, List, [], ◌∷◌, ◌++◌, length, get_or, set, take, drop, refl, sym, ap, ◌∙◌, arith}
+use Rattle.std.proofs.Common.{false, append_assoc}
 use Rattle.std.specs.Prelude.{nat_eq}
 use Rattle.std.specs.List.{All, flat_map, sum_by}
 use Rattle.std.proofs.lemmas.Bool.{ne_eqb}
-use Rattle.std.proofs.lemmas.List.{get_or-map, drop-drop, drop-take, length-map, length-append, take_at, drop_at, take-take, take-append-drop, length-take-le, set_split, flat_map_more}
+use Rattle.std.proofs.lemmas.List.{get_or-map, drop-drop, drop-take, length-map, length-append, take_at, drop_at, take-take, take-append-drop, length-take-le}
+use Rattle.std.proofs.lemmas.List.{set_split, flat_map_more}
 use Rattle.std.proofs.lemmas.List.Concat.{flat_map-append}
 use Rattle.std.proofs.lemmas.List.Elements.{All-head, All-tail}
 use Rattle.std.proofs.lemmas.List.Sums.{sum_by-cons}
@@ -12,7 +14,8 @@ use Rattle.byteorder.specs.Endian.{big_bytes, big_number}
 use Rattle.byteorder.specs.Numbers.{big_from-take, big_number-reads_back}
 use Rattle.slotted_page.specs.Slot.{free}
 use Rattle.slotted_page.specs.Entry.{slot_of, entry_reserve, IsPlaced}
-use Rattle.slotted_page.specs.Image.{overwritten, number_at, three, entry_bytes, head_bytes, entry_from, first_entry, read_entries, image_entries, slots_in, KeepsFormat}
+use Rattle.slotted_page.specs.Image.{overwritten, number_at, three, entry_bytes, head_bytes, entry_from, first_entry, read_entries, image_entries, slots_in}
+use Rattle.slotted_page.specs.Image.{KeepsFormat}
 use Rattle.slotted_page.specs.declared.entry.Entry.{Entry}
 use Rattle.slotted_page.specs.declared.entry.Entry.TheVariants.{Free, Held, Row}
 use Rattle.slotted_page.proofs.Writes.{rest-overwritten}
@@ -98,13 +101,15 @@ read_back floor (e ∷ es) rest p h le =
 take_flat : (es : List Entry) (s : ℕ) → s ≤ length es → take (6 * s) (flat_map entry_bytes es) ≡ flat_map entry_bytes (take s es)
 take_flat es s le =
     let n : length (flat_map entry_bytes (take s es)) ≡ 6 * s = length_flat (take s es) ∙ ap (λ (k : ℕ). 6 * k) (length-take-le s es le) in
-    ap (λ (xs : List Entry). take (6 * s) (flat_map entry_bytes xs)) (sym (take-append-drop s es)) ∙ ap (take (6 * s)) (flat_map-append entry_bytes (take s es) (drop s es))
+    ap (λ (xs : List Entry). take (6 * s) (flat_map entry_bytes xs)) (sym (take-append-drop s es))
+    ∙ ap (take (6 * s)) (flat_map-append entry_bytes (take s es) (drop s es))
     ∙ take_at (flat_map entry_bytes (take s es)) (flat_map entry_bytes (drop s es)) (6 * s) n
 
 drop_flat : (es : List Entry) (s : ℕ) → s ≤ length es → drop (6 * s) (flat_map entry_bytes es) ≡ flat_map entry_bytes (drop s es)
 drop_flat es s le =
     let n : length (flat_map entry_bytes (take s es)) ≡ 6 * s = length_flat (take s es) ∙ ap (λ (k : ℕ). 6 * k) (length-take-le s es le) in
-    ap (λ (xs : List Entry). drop (6 * s) (flat_map entry_bytes xs)) (sym (take-append-drop s es)) ∙ ap (drop (6 * s)) (flat_map-append entry_bytes (take s es) (drop s es))
+    ap (λ (xs : List Entry). drop (6 * s) (flat_map entry_bytes xs)) (sym (take-append-drop s es))
+    ∙ ap (drop (6 * s)) (flat_map-append entry_bytes (take s es) (drop s es))
     ∙ drop_at (flat_map entry_bytes (take s es)) (flat_map entry_bytes (drop s es)) (6 * s) n
 
 -- the entries of a page that is the same up to their end
@@ -124,9 +129,11 @@ entries_set es count s e image n lt long is =
     let front : take (6 * s) rest ≡ flat_map entry_bytes (take s es) =
     sym (take-take (6 * s) (6 * count) rest (omega arith)) ∙ ap (take (6 * s)) is ∙ take_flat es s (omega arith) in
     let back : take m (drop (6 * (s + 1)) rest) ≡ flat_map entry_bytes (drop (s + 1) es) =
-    sym (drop-take (6 * (s + 1)) m rest) ∙ ap (λ (k : ℕ). drop (6 * (s + 1)) (take k rest)) all ∙ ap (drop (6 * (s + 1))) is ∙ drop_flat es (s + 1) (omega arith) in
+    sym (drop-take (6 * (s + 1)) m rest) ∙ ap (λ (k : ℕ). drop (6 * (s + 1)) (take k rest)) all ∙ ap (drop (6 * (s + 1))) is
+    ∙ drop_flat es (s + 1) (omega arith) in
     let written : drop 8 (overwritten (8 + 6 * s) (entry_bytes e) image) ≡ (flat_map entry_bytes (take s es) ++ entry_bytes e) ++ drop (6 * (s + 1)) rest =
-    rest-overwritten 8 (6 * s) (entry_bytes e) image (omega arith) ∙ rw (front, end) (sym (append_assoc (flat_map entry_bytes (take s es)) (entry_bytes e) (drop (6 * (s + 1)) rest))) in
+    rest-overwritten 8 (6 * s) (entry_bytes e) image (omega arith)
+    ∙ rw (front, end) (sym (append_assoc (flat_map entry_bytes (take s es)) (entry_bytes e) (drop (6 * (s + 1)) rest))) in
     let k : length (flat_map entry_bytes (take s es) ++ entry_bytes e) ≡ 6 * (s + 1) =
     omega (arith, length-append (flat_map entry_bytes (take s es)) (entry_bytes e), length_flat (take s es), length-take-le s es (omega arith), six) in
     let split : take (6 * count) ((flat_map entry_bytes (take s es) ++ entry_bytes e) ++ drop (6 * (s + 1)) rest)
@@ -199,7 +206,8 @@ entry_held o l r z h = rw (z, h) refl
 pub entry_free : (o l r : ℕ) → o ≡ 0 → (l ≡ 65535 → ⊥) → entry_from o l r ≡ Free
 entry_free o l r z ne = rw (z, ne_eqb l 65535 ne) refl
 
-pub slot_of_image : (image : List ℕ) (s : ℕ) → s < length (slots_in image) → get_or (slots_in image) s free ≡ slot_of image (get_or (image_entries image) s Free)
+pub slot_of_image : (image : List ℕ) (s : ℕ) → s < length (slots_in image)
+    → get_or (slots_in image) s free ≡ slot_of image (get_or (image_entries image) s Free)
 slot_of_image image s lt =
     get_or-map (slot_of image) (image_entries image) s Free free (omega (arith, slots_count image, entries_count image))
 

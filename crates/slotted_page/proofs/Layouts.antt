@@ -1,5 +1,6 @@
 -- A page's bytes by its entries: what a change of head, entries or rows leaves.
-use Rattle.std.proofs.Common.{◌≡◌, ℕ, ◌+◌, ◌-◌, ◌*◌, ◌≤◌, ◌<◌, suc, zero, List, [], ◌∷◌, ◌++◌, length, get_or, set, take, drop, refl, sym, ap, ◌∙◌, arith, subst}
+use Rattle.std.proofs.Common.{◌≡◌, ℕ, ◌+◌, ◌-◌, ◌*◌, ◌≤◌, ◌<◌, suc, zero, List, [], ◌∷◌, ◌++◌, length, get_or, set, take, drop, refl, sym, ap, ◌∙◌, arith}
+use Rattle.std.proofs.Common.{subst}
 use Rattle.std.specs.Prelude.{slice_range}
 use Rattle.std.specs.List.{All, flat_map, sum_by}
 use Rattle.std.proofs.lemmas.List.{length-append, length-drop, length-set, length_push, map-set, map_push, take-append-drop, take-take}
@@ -15,7 +16,8 @@ use Rattle.slotted_page.specs.declared.entry.Entry.TheVariants.{Free, Held, Row}
 use Rattle.slotted_page.proofs.Writes.{length-overwritten, take-overwritten, drop-overwritten, range-overwritten}
 use Rattle.slotted_page.proofs.Packing.{Stacked, same_drop, slots_same, all_lower, stacked_within, placed_from_stacked}
 use Rattle.slotted_page.proofs.Overlaps.{AllApart, apart_from_pairs, pairs_from_apart, apart_push, apart_store, apart_from_stacked}
-use Rattle.slotted_page.proofs.Images.{IsHead, head_written, head_same, length_entry, read_back, entries_front, entries_set, entries_push, entries_count, slots_count}
+use Rattle.slotted_page.proofs.Images.{IsHead, head_written, head_same, length_entry, read_back, entries_front, entries_set, entries_push, entries_count}
+use Rattle.slotted_page.proofs.Images.{slots_count}
 
 pub reserve_same : (image : List ℕ) (e : Entry) → entry_reserve e ≡ reserve_of (slot_of image e)
 reserve_same image Free = refl
@@ -138,7 +140,8 @@ laid_head image b es count floor long is counted entries above within empty plac
 pub laid_floor : {image : List ℕ} {es : List Entry} {count floor : ℕ} → Laid image es count floor → (b : List ℕ) (low : ℕ) →
     b ≡ head_bytes count low ++ drop 8 image → 8 + 6 * count ≤ low → low ≤ floor → 0 < count → Laid b es count low
 laid_floor {image = image} {es = es} {count = count} {floor = floor} f b low is above le some =
-    laid_head image b es count low f.long is f.counted f.entries above (omega (arith, f.within)) (λ z. absurd (omega arith)) (all_lower low floor es le f.placed) f.apart f.room
+    laid_head image b es count low f.long is f.counted f.entries above (omega (arith, f.within)) (λ z. absurd (omega arith))
+    (all_lower low floor es le f.placed) f.apart f.room
 
 -- another entry at s
 pub laid_set : {image : List ℕ} {es : List Entry} {count floor : ℕ} → Laid image es count floor → (b : List ℕ) (s : ℕ) (e : Entry) →
@@ -148,12 +151,14 @@ pub laid_set : {image : List ℕ} {es : List Entry} {count floor : ℕ} → Laid
 laid_set {image = image} {es = es} {count = count} {floor = floor} f b s e lt is placed apart room =
     let six = length_entry e in
     let long : length b ≡ 4096 = ap length is ∙ length-overwritten (8 + 6 * s) (entry_bytes e) image (omega (arith, six, f.long, f.above, f.within)) ∙ f.long in
-    let t : take 8 b ≡ take 8 image = ap (take 8) is ∙ take-overwritten 8 (8 + 6 * s) (entry_bytes e) image (omega arith) (omega (arith, f.long, f.above, f.within)) in
+    let t : take 8 b ≡ take 8 image =
+    ap (take 8) is ∙ take-overwritten 8 (8 + 6 * s) (entry_bytes e) image (omega arith) (omega (arith, f.long, f.above, f.within)) in
     record {
       long = long;
       head = head_same b t f.head;
       counted = length-set es s e ∙ f.counted;
-      entries = ap (λ (xs : List ℕ). take (6 * count) (drop 8 xs)) is ∙ entries_set es count s e image f.counted lt (omega (arith, f.long, f.above, f.within)) f.entries;
+      entries = ap (λ (xs : List ℕ). take (6 * count) (drop 8 xs)) is
+          ∙ entries_set es count s e image f.counted lt (omega (arith, f.long, f.above, f.within)) f.entries;
       above = f.above;
       within = f.within;
       empty = f.empty;
@@ -166,7 +171,8 @@ laid_set {image = image} {es = es} {count = count} {floor = floor} f b s e lt is
 pub rows_kept : {image : List ℕ} {es : List Entry} {count floor : ℕ} → Laid image es count floor → (b : List ℕ) (s : ℕ) (e : Entry) →
     s < count → b ≡ overwritten (8 + 6 * s) (entry_bytes e) image → drop floor b ≡ drop floor image
 rows_kept {image = image} {count = count} {floor = floor} f b s e lt is =
-    ap (drop floor) is ∙ drop-overwritten floor (8 + 6 * s) (entry_bytes e) image (omega (arith, length_entry e, f.above)) (omega (arith, f.long, f.above, f.within))
+    ap (drop floor) is ∙ drop-overwritten floor (8 + 6 * s) (entry_bytes e) image (omega (arith, length_entry e, f.above))
+    (omega (arith, f.long, f.above, f.within))
 
 -- the slots with another entry at s
 pub slots_set : {image : List ℕ} {es : List Entry} {count floor : ℕ} → Laid image es count floor → (b : List ℕ) (s : ℕ) (e : Entry) →
@@ -184,7 +190,8 @@ laid_push {image = image} {es = es} {count = count} {floor = floor} f b c wrote 
     let long : length b ≡ 4096 = ap length wrote ∙ length-overwritten (8 + 6 * count) (entry_bytes Free) image (omega (arith, f.long, f.within)) ∙ f.long in
     let entries : take (6 * (count + 1)) (drop 8 b) ≡ flat_map entry_bytes (es ++ Free ∷ []) =
     ap (λ (xs : List ℕ). take (6 * (count + 1)) (drop 8 xs)) wrote ∙ entries_push es count Free image f.counted (omega (arith, f.long, f.within)) f.entries in
-    laid_head b c (es ++ Free ∷ []) (count + 1) floor long head (length_push es Free ∙ ap (λ (n : ℕ). n + 1) f.counted) entries above f.within (λ z. absurd (omega arith))
+    laid_head b c (es ++ Free ∷ []) (count + 1) floor long head (length_push es Free ∙ ap (λ (n : ℕ). n + 1) f.counted) entries above f.within
+    (λ z. absurd (omega arith))
     (All-push (IsPlaced floor) es Free f.placed tt) (apart_push es f.apart) (omega (arith, room, sum_by_push entry_reserve es Free))
 
 pub slots_push : {image : List ℕ} {es : List Entry} {count floor : ℕ} → Laid image es count floor → (b c : List ℕ) →
@@ -213,7 +220,8 @@ pub record Stores (image b c d : List ℕ) (count s low r : ℕ) (bytes : List �
   pub there : s < count
 
 -- the page with the row's bytes and the lower floor
-lowered : {image b c d : List ℕ} {es : List Entry} {count floor s low r : ℕ} {bytes : List ℕ} → Laid image es count floor → Stores image b c d count s low r bytes →
+lowered : {image b c d : List ℕ} {es : List Entry} {count floor s low r : ℕ} {bytes : List ℕ} → Laid image es count floor
+    → Stores image b c d count s low r bytes →
     low + length bytes ≡ floor → Laid c es count low
 lowered {image = image} {b = b} {c = c} {count = count} {low = low} {bytes = bytes} f k end =
     let long : length b ≡ 4096 = ap length k.wrote ∙ length-overwritten low bytes image (omega (arith, f.long, f.within, end)) ∙ f.long in
@@ -221,20 +229,23 @@ lowered {image = image} {b = b} {c = c} {count = count} {low = low} {bytes = byt
     ap (take (8 + 6 * count)) k.wrote ∙ take-overwritten (8 + 6 * count) low bytes image k.above (omega (arith, f.long, f.within, end)) in
     laid_floor (laid_front f b long front) c low k.head k.above (omega arith) (omega (arith, k.there))
 
-pub laid_store : {image b c d : List ℕ} {es : List Entry} {count floor s low r : ℕ} {bytes : List ℕ} → Laid image es count floor → Stores image b c d count s low r bytes →
+pub laid_store : {image b c d : List ℕ} {es : List Entry} {count floor s low r : ℕ} {bytes : List ℕ} → Laid image es count floor
+    → Stores image b c d count s low r bytes →
     low + length bytes ≡ floor → slot_of image (get_or es s Free) ≡ held r → Laid d (set es s (Row low (length bytes) r)) count low
 laid_store {image = image} {d = d} {es = es} {count = count} {floor = floor} {s = s} {low = low} {r = r} {bytes = bytes} f k end was =
     let e = held_entry image (get_or es s Free) r was in
     laid_set (lowered f k end) d s (Row low (length bytes) r) k.there k.entry (omega arith, omega (arith, f.within, end), k.some, k.size, k.reserved)
     (apart_store floor es s low (length bytes) r (omega (arith, end)) f.placed f.apart) (omega (arith, f.room, ap entry_reserve e))
 
-pub slots_store : {image b c d : List ℕ} {es : List Entry} {count floor s low r : ℕ} {bytes : List ℕ} → Laid image es count floor → Stores image b c d count s low r bytes →
+pub slots_store : {image b c d : List ℕ} {es : List Entry} {count floor s low r : ℕ} {bytes : List ℕ} → Laid image es count floor
+    → Stores image b c d count s low r bytes →
     low + length bytes ≡ floor → slots_of d (set es s (Row low (length bytes) r)) ≡ set (slots_of image es) s (row bytes r)
 slots_store {image = image} {b = b} {c = c} {d = d} {es = es} {count = count} {floor = floor} {s = s} {low = low} {r = r} {bytes = bytes} f k end =
     let e = Row low (length bytes) r in
     let after : drop low c ≡ drop low b = ap (drop low) k.head ∙ drop-append-drop 8 b (head_bytes count low) low (omega (arith, k.above)) refl in
     let rest : drop floor c ≡ drop floor image =
-    same_drop c b low floor (omega arith) after ∙ ap (drop floor) k.wrote ∙ drop-overwritten floor low bytes image (omega (arith, end)) (omega (arith, f.long, f.within, end)) in
+    same_drop c b low floor (omega arith) after ∙ ap (drop floor) k.wrote
+    ∙ drop-overwritten floor low bytes image (omega (arith, end)) (omega (arith, f.long, f.within, end)) in
     let range : slice_range c low (low + length bytes) ≡ bytes =
     ap (take ((low + length bytes) - low)) (after ∙ ap (drop low) k.wrote) ∙ range-overwritten low bytes image (omega (arith, f.long, f.within, end)) in
     let x : slot_of c e ≡ row bytes r = ap (λ (ys : List ℕ). row ys r) range in

@@ -1,12 +1,12 @@
-use Rattle.std.proofs.Common.{◌≡◌, ℕ, ◌+◌, ◌-◌, ◌≤◌, ◌<◌, ◌⊎◌, suc, zero, List, [], ◌∷◌, ◌++◌, length, get_or, set, take, drop, refl, sym, ap, ◌∙◌, arith, subst, inl, inr}
+use Rattle.std.proofs.Common.{◌≡◌, ℕ, ◌+◌, ◌-◌, ◌≤◌, ◌<◌, ◌⊎◌, suc, zero, List, [], ◌∷◌, ◌++◌, length, get_or, set, take, drop, refl, sym, ap, ◌∙◌, arith}
+use Rattle.std.proofs.Common.{subst, inl, inr}
 use Rattle.std.specs.Prelude.{slice_range}
 use Rattle.std.specs.List.{All, AllPairs}
 use Rattle.std.proofs.lemmas.List.{take-take}
 use Rattle.std.proofs.lemmas.List.Elements.{All-head, All-tail}
 use Rattle.std.proofs.lemmas.Slice.{between_is}
 use Rattle.slotted_page.specs.Slot.{Slot, row}
-use Rattle.slotted_page.specs.Entry.{slot_of, slots_of, IsPlaced}
-use Rattle.slotted_page.specs.Entry.{Apart}
+use Rattle.slotted_page.specs.Entry.{slot_of, slots_of, IsPlaced, Apart}
 use Rattle.slotted_page.specs.declared.entry.Entry.{Entry}
 use Rattle.slotted_page.specs.declared.entry.Entry.TheVariants.{Free, Held, Row}
 use Rattle.slotted_page.proofs.Packing.{Stacked, same_drop, placed_from_stacked}
@@ -86,8 +86,10 @@ pub apart_store : (floor : ℕ) (es : List Entry) (s o l r : ℕ) → o + l ≤ 
     AllApart (set es s (Row o l r))
 apart_store floor [] s o l r le p a = tt
 apart_store floor (e ∷ es) zero o l r le p a = (above_all floor o l r es le (All-tail (IsPlaced floor) e es p), a.1)
-apart_store floor (e ∷ es) (suc s) o l r le p a =
-    (set_one e (Row o l r) es s (below_apart floor o l r e le (All-head (IsPlaced floor) e es p)) a.0, apart_store floor es s o l r le (All-tail (IsPlaced floor) e es p) a.1)
+apart_store floor (e ∷ es) (suc s) o l r le p a = (
+  set_one e (Row o l r) es s (below_apart floor o l r e le (All-head (IsPlaced floor) e es p)) a.0,
+  apart_store floor es s o l r le (All-tail (IsPlaced floor) e es p) a.1,
+)
 
 push_free : (e : Entry) (es : List Entry) → ApartAll e es → Apart e Free → ApartAll e (es ++ Free ∷ [])
 push_free e [] h f = (f, tt)
@@ -144,7 +146,8 @@ same_range : (a b : List ℕ) (o n p m : ℕ) → SameBut a b o n → (o + n ≤
 same_range a b o n p m k h = elim h [
   | inl le ↦ ap (take ((p + m) - p)) (same_drop b a (o + n) p le k.after)
   | inr le ↦
-      between_is b p (p + m) ∙ ap (drop p) (sym (take-take (p + m) o b le) ∙ ap (take (p + m)) k.before ∙ take-take (p + m) o a le) ∙ sym (between_is a p (p + m))
+      between_is b p (p + m) ∙ ap (drop p) (sym (take-take (p + m) o b le) ∙ ap (take (p + m)) k.before ∙ take-take (p + m) o a le)
+      ∙ sym (between_is a p (p + m))
 ]
 
 slot_after : (a b : List ℕ) (o l r n : ℕ) (e : Entry) → n ≤ l → SameBut a b o n → Apart (Row o l r) e → slot_of b e ≡ slot_of a e

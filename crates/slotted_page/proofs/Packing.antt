@@ -107,7 +107,8 @@ pub lengths_step : {entries old : List Entry} {i j o l r : ℕ} → PacksRow ent
     sum_by length_of (drop j old) ≡ l + sum_by length_of (drop i old)
 lengths_step {old = old} {i = i} {j = j} {l = l} k =
     let p : length_of (get_or old j Free) ≡ l = ap length_of k.is in
-    let s : sum_by length_of (drop j old) ≡ length_of (get_or old j Free) + sum_by length_of (drop (j + 1) old) = sum_by-drop_more length_of old j Free k.old_within in
+    let s : sum_by length_of (drop j old) ≡ length_of (get_or old j Free) + sum_by length_of (drop (j + 1) old) =
+    sum_by-drop_more length_of old j Free k.old_within in
     let t : sum_by length_of (drop j old) ≡ length_of (get_or old j Free) + sum_by length_of (drop i old) = rw k.next at s in
     rw p at t
 

@@ -56,8 +56,10 @@ packs_empty {from = from} {to = to} {i = i} {floor = floor} p j next none stack 
     let n = entries_count from in
     let a : drop j old ≡ e ∷ drop i old = rw (← next) (drop_more old j Free (omega (arith, n, p.within))) in
     let g : get_or p.now j Free ≡ e = front_same p.now old i j (omega arith) p.front in
-    let b : drop j p.now ≡ e ∷ drop i p.now = rw (← next) (drop_more p.now j Free (omega (arith, p.counted, p.within)) ∙ ap (λ (x : Entry). x ∷ drop (j + 1) p.now) g) in
-    let s : sum_by length_of (drop j old) ≡ length_of e + sum_by length_of (drop (j + 1) old) = sum_by-drop_more length_of old j Free (omega (arith, n, p.within)) in
+    let b : drop j p.now ≡ e ∷ drop i p.now =
+    rw (← next) (drop_more p.now j Free (omega (arith, p.counted, p.within)) ∙ ap (λ (x : Entry). x ∷ drop (j + 1) p.now) g) in
+    let s : sum_by length_of (drop j old) ≡ length_of e + sum_by length_of (drop (j + 1) old) =
+    sum_by-drop_more length_of old j Free (omega (arith, n, p.within)) in
     let t : sum_by length_of (drop j old) ≡ length_of e + sum_by length_of (drop i old) = rw next at s in
     let r = p.rows in
     record {
@@ -80,13 +82,15 @@ packs_other p j (Held r) next is none = packs_empty p j next (rw (← is) refl) 
 packs_other p j (Row o l r) next is none = absurd (none o l r refl)
 
 -- the bytes of the next row fit between the entries and the floor
-pub packs_fits : {from to : List ℕ} {i floor o l r : ℕ} → KeepsFormat from → Packs from to i floor → (j : ℕ) → j + 1 ≡ i → get_or (image_entries from) j Free ≡ Row o l r →
+pub packs_fits : {from to : List ℕ} {i floor o l r : ℕ} → KeepsFormat from → Packs from to i floor → (j : ℕ) → j + 1 ≡ i
+    → get_or (image_entries from) j Free ≡ Row o l r →
     8 + 6 * number_at from 2 + l ≤ floor
 packs_fits {from = from} {floor = floor} k p j next is =
     let old = image_entries from in
     let f = laid_format k in
     let n = entries_count from in
-    let row : PacksRow p.now old _ j _ _ _ = record { next = next; within = omega (arith, p.counted, p.within); old_within = omega (arith, n, p.within); front = p.front; is = is } in
+    let row : PacksRow p.now old _ j _ _ _ =
+    record { next = next; within = omega (arith, p.counted, p.within); old_within = omega (arith, n, p.within); front = p.front; is = is } in
     omega (arith, lengths_step row, lengths_tail old j, p.floor_is, lengths_le (number_at from 4) old f.placed, f.room)
 
 -- a row, whose bytes are written below the floor before its entry is
@@ -101,15 +105,18 @@ packs_row {from = from} {to = to} {i = i} {floor = floor} {o = o} {l = l} {r = r
     let n = entries_count from in
     let six = length_entry e in
     let fits = packs_fits k p j step is in
-    let row : PacksRow p.now old i j o l r = record { next = step; within = omega (arith, p.counted, p.within); old_within = omega (arith, n, p.within); front = p.front; is = is } in
+    let row : PacksRow p.now old i j o l r =
+    record { next = step; within = omega (arith, p.counted, p.within); old_within = omega (arith, n, p.within); front = p.front; is = is } in
     let placed = all_lower 0 (number_at from 4) old (omega arith) (laid_format k).placed in
     let m : length bytes ≡ l = bytes_step row from k.long placed in
     let total : floor ≤ 4096 = omega (arith, p.floor_is) in
     let low : next + length bytes ≤ length to = omega (arith, p.long) in
     let long : length b ≡ 4096 = ap length wrote ∙ length-overwritten next bytes to low ∙ p.long in
-    let front : take (8 + 6 * count) b ≡ take (8 + 6 * count) to = ap (take (8 + 6 * count)) wrote ∙ take-overwritten (8 + 6 * count) next bytes to (omega arith) (omega arith) in
+    let front : take (8 + 6 * count) b ≡ take (8 + 6 * count) to =
+    ap (take (8 + 6 * count)) wrote ∙ take-overwritten (8 + 6 * count) next bytes to (omega arith) (omega arith) in
     let high : 8 + 6 * j + length (entry_bytes e) ≤ length b = omega (arith, p.within) in
-    let after : drop next c ≡ drop next b = ap (drop next) entry ∙ drop-overwritten next (8 + 6 * j) (entry_bytes e) b (omega (arith, p.within)) (omega arith) in
+    let after : drop next c ≡ drop next b =
+    ap (drop next) entry ∙ drop-overwritten next (8 + 6 * j) (entry_bytes e) b (omega (arith, p.within)) (omega arith) in
     let kept : drop floor c ≡ drop floor to =
     same_drop c b next floor (omega arith) after ∙ ap (drop floor) wrote ∙ drop-overwritten floor next bytes to (omega arith) (omega arith) in
     let range : slice_range c next (next + length bytes) ≡ bytes =
@@ -135,7 +142,8 @@ pub packed_laid : {from to : List ℕ} {i floor : ℕ} → KeepsFormat from → 
 packed_laid {from = from} {to = to} {i = i} {floor = floor} k p b count end c is =
     let z : i ≡ 0 = omega arith in
     let n : count ≡ number_at from 2 = c ∙ slots_count from in
-    laid_packed (laid_format k) to b p.now floor p.long p.counted p.written (rw z at p.stacked) (rw z at p.floor_is) (rw z at p.rows) (is ∙ ap (λ (m : ℕ). head_bytes m floor ++ drop 8 to) n)
+    laid_packed (laid_format k) to b p.now floor p.long p.counted p.written (rw z at p.stacked) (rw z at p.floor_is) (rw z at p.rows)
+    (is ∙ ap (λ (m : ℕ). head_bytes m floor ++ drop 8 to) n)
 
 pub packed_slots : {from to : List ℕ} {i floor : ℕ} → KeepsFormat from → (p : Packs from to i floor) → (b : List ℕ) (count : ℕ) → i ≤ 0 →
     count ≡ length (slots_in from) → b ≡ head_bytes count floor ++ drop 8 to → slots_in b ≡ slots_in from

@@ -107,10 +107,12 @@ pub over_laid : {page : PageValue} {image : List ℕ} {limit reserved : ℕ} →
     Laid b (image_entries image) (number_at image 2) (number_at image 4)
 over_laid {image = image} f b o bytes low high is =
     laid_front f.laid b (ap length is ∙ length-overwritten o bytes image (omega (arith, f.laid.long)) ∙ f.laid.long)
-    (ap (take (8 + 6 * number_at image 2)) is ∙ take-overwritten (8 + 6 * number_at image 2) o bytes image (omega (arith, f.laid.above)) (omega (arith, f.laid.long)))
+    (ap (take (8 + 6 * number_at image 2)) is
+    ∙ take-overwritten (8 + 6 * number_at image 2) o bytes image (omega (arith, f.laid.above)) (omega (arith, f.laid.long)))
 
 -- the slots after a row's bytes and its entry are written over those at s
-pub over_slots : {page : PageValue} {image : List ℕ} {limit reserved : ℕ} → PageFacts page image limit reserved → (b c : List ℕ) (s o l was r : ℕ) (bytes : List ℕ) →
+pub over_slots : {page : PageValue} {image : List ℕ} {limit reserved : ℕ} → PageFacts page image limit reserved
+    → (b c : List ℕ) (s o l was r : ℕ) (bytes : List ℕ) →
     s < length page.slots → get_or (image_entries image) s Free ≡ Row o l was → length bytes ≤ l → b ≡ overwritten o bytes image →
     c ≡ overwritten (8 + 6 * s) (entry_bytes (Row o (length bytes) r)) b → IsPlaced (number_at image 4) (Row o (length bytes) r) →
     Within (Row o (length bytes) r) (get_or (image_entries image) s Free) → CanReserve page s r → slots_in c ≡ put page.slots s (row bytes r)

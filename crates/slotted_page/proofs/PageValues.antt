@@ -1,5 +1,6 @@
 -- Pages as values: a slot put into a page, and what an answer of `room_for` says.
-use Rattle.std.proofs.Common.{◌≡◌, ℕ, ◌+◌, ◌≤◌, ◌<◌, suc, zero, List, [], ◌∷◌, ◌++◌, length, get_or, set, refl, sym, ap, ◌∙◌, arith, Bool, true, false, cond, Option, Some, None}
+use Rattle.std.proofs.Common.{◌≡◌, ℕ, ◌+◌, ◌≤◌, ◌<◌, suc, zero, List, [], ◌∷◌, ◌++◌, length, get_or, set, refl, sym, ap, ◌∙◌, arith, Bool, true, false, cond}
+use Rattle.std.proofs.Common.{Option, Some, None}
 use Rattle.std.specs.Prelude.{position, nat_lt, ◌&&◌}
 use Rattle.std.proofs.lemmas.Bool.{leb-true, ltb-true, false≢true}
 use Rattle.std.proofs.lemmas.List.{get_or_past, length_push, length-set}
@@ -59,7 +60,8 @@ same_total slots s x lt e = let h = sum_by-set reserve_of slots s x free lt in o
 pub with_with : (page next : PageValue) (s : ℕ) (x y : Slot) → s ≤ length page.slots → next ≡ with_slot page s x →
     with_slot next s y ≡ with_slot page s y
 with_with page next s x y le e =
-    ap (λ (p : PageValue). with_slot p s y) e ∙ ap (λ (slots : List Slot). let p : PageValue = record { slots = slots; limit = page.limit } in p) (put_put page.slots s x y le)
+    ap (λ (p : PageValue). with_slot p s y) e
+    ∙ ap (λ (slots : List Slot). let p : PageValue = record { slots = slots; limit = page.limit } in p) (put_put page.slots s x y le)
 
 pub get_with : (page next : PageValue) (s : ℕ) (x : Slot) → s ≤ length page.slots → next ≡ with_slot page s x → slot_at next s ≡ x
 get_with page next s x le e = ap (λ (p : PageValue). slot_at p s) e ∙ get_put page.slots s x le

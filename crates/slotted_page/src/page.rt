@@ -1,6 +1,8 @@
-ghost use Rattle.std.specs.Prelude.{◌≡◌, ◌↔◌, ℕ, ◌+◌, ◌^◌, ◌<◌, ◌≤◌, [], length, cond, is_some, position, nat_le, true, false, IsTrue, IfOk, OnErr, IfErr, IfSome, MatchResult, MatchOption, Some, None};
+ghost use Rattle.std.specs.Prelude.{◌≡◌, ◌↔◌, ℕ, ◌+◌, ◌^◌, ◌<◌, ◌≤◌, [], length, cond, is_some, position, nat_le, true, false, IsTrue, IfOk, OnErr, IfErr};
+ghost use Rattle.std.specs.Prelude.{IfSome, MatchResult, MatchOption, Some, None};
 ghost use Rattle.slotted_page.specs.Slot.{free, held, row, is_free, is_held, bytes_of, trimmed, total_reserve, rows_from, IsRow, IsHeld, IsTaken, IsRowSize};
-ghost use Rattle.slotted_page.specs.Page.{slot_at, reserve_at, grown_reserve, with_slot, taken_bytes, has_room, room_for, slots_with_row, bytes_left, fits_at, CanReserve, IsSoundPage};
+ghost use Rattle.slotted_page.specs.Page.{slot_at, reserve_at, grown_reserve, with_slot, taken_bytes, has_room, room_for, slots_with_row, bytes_left, fits_at};
+ghost use Rattle.slotted_page.specs.Page.{CanReserve, IsSoundPage};
 ghost use Rattle.slotted_page.specs.Rows.{rows_left};
 ghost use Rattle.slotted_page.specs.Image.{slots_in, KeepsFormat};
 

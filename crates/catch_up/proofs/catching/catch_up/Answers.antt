@@ -1,4 +1,4 @@
-use Rattle.std.proofs.Common.{rules, ◌≡◌, ◌∙◌, ◌+◌, ◌-◌, ◌<◌, ◌++◌, List, length, length-append, take, drop, sym, ap, arith}
+use Rattle.std.proofs.Common.{rules, ◌≡◌, ◌∙◌, ◌++◌, List, length, length-append, take, drop, ap, arith}
 use Rattle.std.proofs.lemmas.List.{take_all, length-take, length-drop}
 use Rattle.side_file.specs.Changes.{feed_most}
 use Rattle.visibility.specs.Applied.{apply_entries}
@@ -6,7 +6,7 @@ use Rattle.rtrb.specs.Ring.{received, known_items}
 use Rattle.keybytes.specs.Pairs.{set_of}
 use Rattle.side_file.specs.declared.entry.Entry.{Entry}
 use Rattle.side_file.specs.SideFileValue.{SideFileValue}
-use Rattle.catch_up.specs.Built.{all_waiting, told_to}
+use Rattle.catch_up.specs.Built.{told_to}
 use Rattle.catch_up.proofs.Receiving.{received_all, begins_on, goes_on, count_waiting}
 use Rattle.catch_up.proofs.Telling.{applied_more}
 use Rattle.catch_up.proofs.catching.catch_up.Goals as goal
@@ -19,10 +19,12 @@ loop-built-preserved-then-in_ring-gt0 c =
     let known : List Entry = known_items c.beside-in_ring.new.consumer in
     let side : SideFileValue = c.beside-in_ring.new.self in
     let same : received c.beside-in_ring.new.consumer ≡ now = search rules in
-    let all = received_all (received c.beside-in_ring.new.consumer) known side.end.sent (received c.apply_known.new.ring) c.beside-in_ring.result c.beside-in_ring.ensures.value
+    let all = received_all (received c.beside-in_ring.new.consumer) known side.end.sent (received c.apply_known.new.ring) c.beside-in_ring.result
+    c.beside-in_ring.ensures.value
     c.beside-in_ring.ensures.in_order c.apply_known.ensures.received in
     let done : received c.apply_known.new.ring ≡ now ++ known = all.0 ∙ ap (λ xs. xs ++ known) same in
-    let taken : take c.beside-in_ring.result known ≡ known = take_all c.beside-in_ring.result known (let value = c.beside-in_ring.ensures.value in omega (arith, value)) in
+    let taken : take c.beside-in_ring.result known ≡ known =
+    take_all c.beside-in_ring.result known (let value = c.beside-in_ring.ensures.value in omega (arith, value)) in
     let build = c.args.built.now.build in
     let step : set_of c.apply_known.new.built.pairs ≡ apply_entries (told_to build known) (set_of c.loop-built.built.pairs) =
     c.apply_known.ensures.applied

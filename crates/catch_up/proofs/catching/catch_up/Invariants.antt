@@ -16,7 +16,8 @@ invariant-loop-built l = record {
   build : l.built.build ≡ l.initial.built.build;
   begins : take (length (received l.initial.ring)) (received l.ring) ≡ received l.initial.ring;
   room : length (all_waiting l.side (received l.ring)) ≤ l.built.room;
-  applied : set_of l.built.pairs ≡ apply_entries (told_to l.initial.built.build (drop (length (received l.initial.ring)) (received l.ring))) (set_of l.initial.built.pairs);
+  applied : set_of l.built.pairs ≡ apply_entries (told_to l.initial.built.build (drop (length (received l.initial.ring)) (received l.ring)))
+      (set_of l.initial.built.pairs);
 }
 
 abbrev pub decreases-loop-built : goal.decreases-loop-built

@@ -2,7 +2,6 @@ use Rattle.std.proofs.Common.{rules, ◌≡◌, ◌∙◌, sym, ap, subst, List,
 use Rattle.std.specs.List as list
 use Rattle.keybytes.specs.Pairs.{set_of}
 use Rattle.keybytes.specs.declared.pair.Pair.{Pair}
-use Rattle.std.specs.FinMap.{insert}
 use Rattle.catch_up.specs.Built.{AreOrdered}
 use Rattle.catch_up.proofs.Placed.{Gap, Found, put_found, put_gap}
 use Rattle.catch_up.proofs.pairs.put.Goals as goal

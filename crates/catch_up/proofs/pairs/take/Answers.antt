@@ -1,5 +1,4 @@
-use Rattle.std.proofs.Common.{rules, ◌≡◌, ◌∙◌, sym, ap, subst, List, ◌<◌, ◌≤◌, length}
-use Rattle.std.specs.List as list
+use Rattle.std.proofs.Common.{rules, ◌∙◌, sym, ap, subst, List, ◌<◌, ◌≤◌, length}
 use Rattle.keybytes.specs.Pairs.{set_of}
 use Rattle.keybytes.specs.declared.pair.Pair.{Pair}
 use Rattle.catch_up.specs.Built.{AreOrdered}

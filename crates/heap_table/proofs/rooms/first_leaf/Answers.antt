@@ -20,7 +20,8 @@ loop-level-preserved c =
     let was = c.loop-level.invariant in
     let some = pow_pos c.loop-level._level in
     let more = level_more c.loop-level._level in
-    let inside : 2 * node + 1 < length nodes = omega (arith, was.inside, level_below c.loop-level._level c.args.height c.loop-level-test.true, c.requires.long) in
+    let inside : 2 * node + 1 < length nodes =
+    omega (arith, was.inside, level_below c.loop-level._level c.args.height c.loop-level-test.true, c.requires.long) in
     elim c.if-nodes-left.branch [
       | then-nodes-left w ↦ record {
         inside = omega (arith, w.node-is, was.inside, more);

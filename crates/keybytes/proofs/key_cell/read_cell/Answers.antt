@@ -25,7 +25,8 @@ returns-clause-cell c cell rest begins =
     elim c.match-kind.branch [
       | in-Int w ↦
           ap (λ r. r.0) w.result-is
-          ∙ read-number cell rest c.args.bytes.now (int_front c.args.kind cell rest _ w.in-Int.is begins c.if-bytes-eq-NULL.false) _ w.read_u64.ensures _ w.cast_signed-number.ensures
+          ∙ read-number cell rest c.args.bytes.now (int_front c.args.kind cell rest _ w.in-Int.is begins c.if-bytes-eq-NULL.false) _ w.read_u64.ensures _
+          w.cast_signed-number.ensures
       | in-Text+in_ok-text-in-Text w ↦
           let front = text_front c.args.kind cell rest c.args.bytes.now w.in-Text.is begins c.if-bytes-eq-NULL.false in
           ap (λ r. r.0) w.result-is ∙ ap Text (w.in_ok-text-in-Text.ensures.text front.text rest (begun _ _ _ front)) ∙ sym front.is_cell

@@ -6,5 +6,6 @@ use Rattle.script.proofs.fields.cell.Goals as goal
 pub returns-in-None-clause-refused : goal.returns-in-None-clause-refused
 returns-in-None-clause-refused c =
     let text = c.args.text.now in
-    let no_text = at_none _ c.strip_prefix.result (strip_prefix_char 61 text c.strip_prefix.result c.strip_prefix.ensures.cases (lit< tt)) c.in_default.not-Some in
+    let no_text =
+    at_none _ c.strip_prefix.result (strip_prefix_char 61 text c.strip_prefix.result c.strip_prefix.ensures.cases (lit< tt)) c.in_default.not-Some in
     λ _. spells_none text c.in_default-text.not-text (sym c.in-None.ensures) no_text c.in_default-text.not-true c.in_default-text.not-false

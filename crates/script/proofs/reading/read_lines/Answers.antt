@@ -14,5 +14,6 @@ returns-in-Err-add-clause-stopped c =
 pub loop-number-preserved : goal.loop-number-preserved
 loop-number-preserved c =
     let takes = rw c.in-Ok-Some.field-0-is at c.in-Ok-Some.ensures.found in
-    rw c.in_default.ensures.ok (more_read c.args.text.now c.loop-number.records c.next_line.new.records c.loop-number.draft c.loop-number.number c.in-Ok-Some.line
+    rw c.in_default.ensures.ok (more_read c.args.text.now c.loop-number.records c.next_line.new.records c.loop-number.draft c.loop-number.number
+    c.in-Ok-Some.line
     c.loop-number.invariant takes c.in_default.ensures.accepted)

@@ -24,12 +24,15 @@ loop-slot-preserved c =
 
 pub returns-clause-format : goal.returns-clause-format
 returns-clause-format c =
-    format_laid (packed_laid c.requires c.loop-slot.invariant c.write_head.new.image c.image_slots-count.result c.loop-slot-test.false c.image_slots-count.ensures c.write_head.ensures)
+    format_laid (packed_laid c.requires c.loop-slot.invariant c.write_head.new.image c.image_slots-count.result c.loop-slot-test.false
+    c.image_slots-count.ensures c.write_head.ensures)
 
 pub returns-clause-slots : goal.returns-clause-slots
 returns-clause-slots c =
-    packed_slots c.requires c.loop-slot.invariant c.write_head.new.image c.image_slots-count.result c.loop-slot-test.false c.image_slots-count.ensures c.write_head.ensures
+    packed_slots c.requires c.loop-slot.invariant c.write_head.new.image c.image_slots-count.result c.loop-slot-test.false c.image_slots-count.ensures
+    c.write_head.ensures
 
 pub returns-clause-floor : goal.returns-clause-floor
 returns-clause-floor c =
-    packed_floor c.requires c.loop-slot.invariant c.write_head.new.image c.image_slots-count.result c.loop-slot-test.false c.image_slots-count.ensures c.write_head.ensures
+    packed_floor c.requires c.loop-slot.invariant c.write_head.new.image c.image_slots-count.result c.loop-slot-test.false c.image_slots-count.ensures
+    c.write_head.ensures

@@ -42,5 +42,6 @@ returns c =
     let next = laid_store f k (omega (arith, room.room)) was in
     record {
       format = format_laid next;
-      slots = slots_laid next ∙ slots_store f k (omega (arith, room.room)) ∙ ap (λ (slots : List Slot). set slots c.args.slot (row bytes c.args.reserve)) room.slots;
+      slots = slots_laid next ∙ slots_store f k (omega (arith, room.room))
+          ∙ ap (λ (slots : List Slot). set slots c.args.slot (row bytes c.args.reserve)) room.slots;
     }

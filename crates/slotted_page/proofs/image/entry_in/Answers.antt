@@ -29,7 +29,8 @@ number_in-reserve-requires c = omega (arith, entry_within c.requires.format c.re
 pub returns-then-offset-ne0 : goal.returns-then-offset-ne0
 returns-then-offset-ne0 c =
     let o = c.number_in-offset in let l = c.number_in-length in let r = c.number_in-reserve in
-    sym (entry_row o.result l.result r.result c.if-offset-ne0.true) ∙ entry_of_image c.args.image.now c.args.slot o.result l.result r.result c.requires.there o.ensures l.ensures r.ensures
+    sym (entry_row o.result l.result r.result c.if-offset-ne0.true)
+    ∙ entry_of_image c.args.image.now c.args.slot o.result l.result r.result c.requires.there o.ensures l.ensures r.ensures
 
 pub returns-then-length : goal.returns-then-length
 returns-then-length c =

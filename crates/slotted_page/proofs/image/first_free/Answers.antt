@@ -12,7 +12,8 @@ returns-then-is_free c =
 pub loop-slot-preserved : goal.loop-slot-preserved
 loop-slot-preserved c =
     below_more _ _ c.loop-slot.invariant
-    (free_at c.args.image.now c.loop-slot.slot c.entry_in.result false (omega (arith, c.image_slots-slot-end.ensures)) c.entry_in.ensures (sym c.if-is_free.false ∙ c.is_free.ensures))
+    (free_at c.args.image.now c.loop-slot.slot c.entry_in.result false (omega (arith, c.image_slots-slot-end.ensures)) c.entry_in.ensures
+    (sym c.if-is_free.false ∙ c.is_free.ensures))
 
 pub returns : goal.returns
 returns c = none_free (slots_in c.args.image.now) c.image_slots-slot-end.result c.image_slots-slot-end.ensures (λ k lt. c.loop-slot.invariant k (omega arith))

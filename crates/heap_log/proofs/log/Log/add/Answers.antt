@@ -25,9 +25,12 @@ invariant_of-self c =
     let names = earlier log _ c.args.added same c.requires.earlier in
     let heads : AreHeadsAfter log (log ++ c.args.added ∷ []) c.heads_after-heads.result = rw same c.heads_after-heads.ensures in
     record {
-      links = rw (c.push_reserved.ensures.items, c.push_reserved-2.ensures.items) (links_grow _ _ _ _ _ c.self.invariant.links c.mark_undone.ensures.marked names link);
-      txns = λ txn. c.set_txn_head.ensures.set txn ∙ ap (with_txn c.heads_after-heads.result txn) (c.self.invariant.txns txn) ∙ sym (rw c.push_reserved.ensures.items (heads.txns txn));
-      rids = λ rid. c.set_rid_head.ensures.set rid ∙ ap (with_rid c.heads_after-heads.result rid) (c.self.invariant.rids rid) ∙ sym (rw c.push_reserved.ensures.items (heads.rids rid));
+      links = rw (c.push_reserved.ensures.items, c.push_reserved-2.ensures.items)
+          (links_grow _ _ _ _ _ c.self.invariant.links c.mark_undone.ensures.marked names link);
+      txns = λ txn. c.set_txn_head.ensures.set txn ∙ ap (with_txn c.heads_after-heads.result txn) (c.self.invariant.txns txn)
+          ∙ sym (rw c.push_reserved.ensures.items (heads.txns txn));
+      rids = λ rid. c.set_rid_head.ensures.set rid ∙ ap (with_rid c.heads_after-heads.result rid) (c.self.invariant.rids rid)
+          ∙ sym (rw c.push_reserved.ensures.items (heads.rids rid));
       records_room = omega arith;
       links_room = omega arith;
       txns_room = omega arith;
@@ -39,4 +42,5 @@ returns-clause-added c =
     let log : List LogRec = c.self.inside.records.items in
     let same : log ≡ c.args.self.now.records = ap (λ (v : LogValue). v.records) c.self.view_is in
     let names = earlier log _ c.args.added same c.requires.earlier in
-    shown log _ _ c.args.added same c.push_reserved.ensures.items (record { records = refl; earlier = names_more log c.args.added c.self.invariant.links.earlier names })
+    shown log _ _ c.args.added same c.push_reserved.ensures.items
+    (record { records = refl; earlier = names_more log c.args.added c.self.invariant.links.earlier names })

@@ -12,14 +12,17 @@ returns-in-Write c =
     let number : c.len-number.result + 1 ≡ length c.args.self.now.records + 1 = omega (arith, ap length view, c.self.inside.records.ok) in
     rw c.in-Write.is (heads-write c.args.self.now.records c.in-Write.txn c.in-Write.rid c.in-Write.row c.heads_with.result
     (undone-past _ h.earlier (length c.args.self.now.records + 1) (omega arith)) c.heads_with.ensures.txn c.heads_with.ensures.rid
-    (rw number at c.heads_with.ensures.last) (rw number at c.heads_with.ensures.newest) c.heads_with.ensures.standing (rw number at c.heads_with.ensures.at_rid))
+    (rw number at c.heads_with.ensures.last) (rw number at c.heads_with.ensures.newest) c.heads_with.ensures.standing
+    (rw number at c.heads_with.ensures.at_rid))
 
 pub returns-in-Commit : goal.returns-in-Commit
 returns-in-Commit c =
     let h : AreLinks c.args.self.now.records c.self.inside.links.items = rw (ap (λ (v : LogValue). v.records) c.self.view_is) at c.self.invariant.links in
-    rw c.in-Commit.is (heads-plain c.args.self.now.records _ (undone-past _ h.earlier (length c.args.self.now.records + 1) (omega arith)) tt (λ k. refl) (λ txn. refl) (λ rid. refl))
+    rw c.in-Commit.is (heads-plain c.args.self.now.records _ (undone-past _ h.earlier (length c.args.self.now.records + 1) (omega arith)) tt (λ k. refl)
+    (λ txn. refl) (λ rid. refl))
 
 pub returns-in-Switch : goal.returns-in-Switch
 returns-in-Switch c =
     let h : AreLinks c.args.self.now.records c.self.inside.links.items = rw (ap (λ (v : LogValue). v.records) c.self.view_is) at c.self.invariant.links in
-    rw c.in-Switch.is (heads-plain c.args.self.now.records _ (undone-past _ h.earlier (length c.args.self.now.records + 1) (omega arith)) tt (λ k. refl) (λ txn. refl) (λ rid. refl))
+    rw c.in-Switch.is (heads-plain c.args.self.now.records _ (undone-past _ h.earlier (length c.args.self.now.records + 1) (omega arith)) tt (λ k. refl)
+    (λ txn. refl) (λ rid. refl))

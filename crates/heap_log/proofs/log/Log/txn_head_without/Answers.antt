@@ -15,9 +15,11 @@ overflow_sub-result c =
 
 pub returns-then-is_number-clause-newest : goal.returns-then-is_number-clause-newest
 returns-then-is_number-clause-newest c =
-    let by = and_parts (is_write_of c.args.txn (record_at c.args.self.now.records c.args.number)) (not (undone c.args.self.now.records c.args.number)) c.requires in
+    let by =
+    and_parts (is_write_of c.args.txn (record_at c.args.self.now.records c.args.number)) (not (undone c.args.self.now.records c.args.number)) c.requires in
     let newest : is_number c.args.number (newest_standing c.args.self.now.records c.args.txn) ≡ true =
     ap (λ (head : TxnHead). is_number c.args.number head.newest) (sym c.txn_head-head.ensures) ∙ sym c.is_number.ensures ∙ c.if-is_number.true in
     c.before_on.ensures
-    ∙ ap (λ (passes : Option LogRec → Bool). last_below (stands_by passes c.args.self.now.records) c.args.number) (on_chain-of c.args.txn (record_at c.args.self.now.records c.args.number) by.0)
+    ∙ ap (λ (passes : Option LogRec → Bool). last_below (stands_by passes c.args.self.now.records) c.args.number)
+    (on_chain-of c.args.txn (record_at c.args.self.now.records c.args.number) by.0)
     ∙ sym (cond-true _ (last_below (stands_of c.args.self.now.records c.args.txn) c.args.number) (newest_standing c.args.self.now.records c.args.txn) newest)

@@ -13,4 +13,5 @@ returns-in-Some c =
 
 pub returns-in-None : goal.returns-in-None
 returns-in-None c =
-    ap row_missing (sym (shows_none _ _ _ c.in-None.ensures.bytes (slot_shows _ c.self.inside.pages c.args.rid c.self.invariant.kept) ∙ ap (λ (h : HeapValue). live_at h.state.log c.args.rid) c.self.view_is))
+    ap row_missing (sym (shows_none _ _ _ c.in-None.ensures.bytes (slot_shows _ c.self.inside.pages c.args.rid c.self.invariant.kept)
+    ∙ ap (λ (h : HeapValue). live_at h.state.log c.args.rid) c.self.view_is))

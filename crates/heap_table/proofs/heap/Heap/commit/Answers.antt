@@ -16,14 +16,16 @@ settle_writes-requires c =
     let added = grown _ _ _ _ c.in_ok-reserve.ensures.records c.add.ensures.added in
     let log = c.self.inside.log.records in
     let have = have_written _ c.self.inside.pages c.args.txn c.add.new.self.records c.self.invariant.kept
-    (λ (rid : Rid) (e : wrote c.add.new.self.records c.args.txn rid ≡ true). sym (wrote_still log c.add.new.self.records (Commit c.args.txn) c.args.txn rid added.is refl) ∙ e) in
+    (λ (rid : Rid) (e : wrote c.add.new.self.records c.args.txn rid ≡ true). sym
+    (wrote_still log c.add.new.self.records (Commit c.args.txn) c.args.txn rid added.is refl) ∙ e) in
     (slot_of log, slots_written log, pages_written log, c.self.inside.slot_limit, have)
 
 pub invariant_of-self-2 : goal.invariant_of-self-2
 invariant_of-self-2 c =
     let added = grown _ _ _ _ c.in_ok-reserve.ensures.records c.add.ensures.added in
     let opened : is_open c.self.inside.open_txns.items c.args.txn ≡ true =
-    subst (λ (h : HeapValue). is_open h.state.active c.args.txn ≡ true) (sym c.self.view_is) (open_accepted c.args.self.now.state c.args.txn c.in_ok-check_txn.ensures) in
+    subst (λ (h : HeapValue). is_open h.state.active c.args.txn ≡ true) (sym c.self.view_is)
+    (open_accepted c.args.self.now.state c.args.txn c.in_ok-check_txn.ensures) in
     record {
       kept = kept_commit _ _ c.self.inside.pages c.settle_writes.new.pages c.args.txn c.self.invariant.kept opened added c.end.ensures refl refl refl refl
           c.settle_writes.ensures.settled c.settle_writes.ensures.limit;

@@ -10,5 +10,6 @@ page-requires c =
 pub returns-clause-copy : goal.returns-clause-copy
 returns-clause-copy c =
     let kept = kept_now _ _ _ c.self.view_is c.self.invariant in
-    kept_image _ c.self.inside.pages c.args.page c.page.result.now c.take_copy.new.self kept c.requires (c.page.ensures c.page.result.now) c.take_copy.ensures.page
+    kept_image _ c.self.inside.pages c.args.page c.page.result.now c.take_copy.new.self kept c.requires (c.page.ensures c.page.result.now)
+    c.take_copy.ensures.page
     c.take_copy.ensures.slots

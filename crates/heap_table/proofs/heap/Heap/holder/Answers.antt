@@ -11,7 +11,8 @@ use Rattle.heap_table.proofs.heap.Heap.holder.Goals as goal
 pub returns-in_err-number : goal.returns-in_err-number
 returns-in_err-number c =
     c.from_residual.ensures
-    ∙ sym (ap (λ (h : HeapValue). holder h.state.log c.args.rid) (sym c.self.view_is) ∙ holder_unwritten _ c.self.invariant.kept.sound c.args.rid (sym c.in_err-number.ensures.value))
+    ∙ sym (ap (λ (h : HeapValue). holder h.state.log c.args.rid) (sym c.self.view_is)
+    ∙ holder_unwritten _ c.self.invariant.kept.sound c.args.rid (sym c.in_err-number.ensures.value))
 
 pub returns : goal.returns
 returns c =

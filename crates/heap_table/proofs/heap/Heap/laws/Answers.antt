@@ -20,4 +20,5 @@ pub returns-clause-undos : goal.returns-clause-undos
 returns-clause-undos c = subst (λ (h : HeapValue). UndoesNameEarlier h.state.log) c.self.view_is c.laws.ensures
 
 pub returns-clause-ready : goal.returns-clause-ready
-returns-clause-ready c = subst (λ (h : HeapValue). (ready : Ready) → IsReady h ready → IsLawfulChange h.state ready) c.self.view_is (λ ready is. lawful_change _ _ ready is c.self.invariant.kept)
+returns-clause-ready c = subst (λ (h : HeapValue). (ready : Ready) → IsReady h ready → IsLawfulChange h.state ready) c.self.view_is
+    (λ ready is. lawful_change _ _ ready is c.self.invariant.kept)

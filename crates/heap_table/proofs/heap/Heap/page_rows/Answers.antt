@@ -22,7 +22,8 @@ returns-in_err-row-clause-memory c =
     let p = err_from_is_err_and c.from_residual.result c.from_residual.ensures.1 in
     let kept = kept_now _ _ _ c.self.view_is c.self.invariant in
     let below : c.args.page < length c.self.inside.pages.pages = omega (arith, c.requires, kept_count _ _ kept) in
-    let shows = page_shows _ _ c.args.page c.loop-slot.slot c.page-page_now.result.now c.self.invariant.kept below (c.page-page_now.ensures c.page-page_now.result.now) in
+    let shows = page_shows _ _ c.args.page c.loop-slot.slot c.page-page_now.result.now c.self.invariant.kept below
+    (c.page-page_now.ensures c.page-page_now.result.now) in
     let spelled = shows_spelled c.self.inside.schema _ c.in-Some.bytes.now _ c.in-Some.ensures.bytes shows in
     rw (p.1, p.2) (spelled_memory _ _ spelled.0 _ spelled.1.1 c.in_err-row.ensures.refused)
 

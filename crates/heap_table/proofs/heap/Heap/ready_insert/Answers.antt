@@ -9,7 +9,8 @@ pub returns-clause-ready : goal.returns-clause-ready
 returns-clause-ready c =
     let kept = kept_now _ _ _ c.self.view_is c.self.invariant in
     let size = ap length c.in_ok-bytes.ensures.ok in
-    let sized : IsRowSize (length (row_bytes c.args.row)) = (omega (arith, size, c.in_ok-bytes.ensures.some), omega (arith, size, c.in_ok-bytes.ensures.size)) in
+    let sized : IsRowSize (length (row_bytes c.args.row)) =
+    (omega (arith, size, c.in_ok-bytes.ensures.some), omega (arith, size, c.in_ok-bytes.ensures.size)) in
     let place = c.in_ok-rid.ensures.place in
     let goes = goes_to c.args.self.now.state c.self.inside.pages (length (row_bytes c.args.row)) c.in_ok-rid.rid kept sized place in
     let same = c.in_ok-reserve.ensures.same in

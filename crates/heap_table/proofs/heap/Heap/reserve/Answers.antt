@@ -6,7 +6,8 @@ use Rattle.heap_table.proofs.heap.Heap.reserve.Goals as goal
 pub invariant_of-self-in_err-reserve-2 : goal.invariant_of-self-in_err-reserve-2
 invariant_of-self-in_err-reserve-2 c =
     record {
-      kept = kept_same _ _ c.self.inside.pages c.reserve.new.self c.in_err-reserve-2.ensures.records refl refl refl c.in_ok-reserve.ensures.pages c.in_ok-reserve.ensures.limit
+      kept = kept_same _ _ c.self.inside.pages c.reserve.new.self c.in_err-reserve-2.ensures.records refl refl refl c.in_ok-reserve.ensures.pages
+          c.in_ok-reserve.ensures.limit
           (sound_same _ _ c.in_err-reserve-2.ensures.records refl refl c.self.invariant.kept.sound) c.self.invariant.kept;
       room = let same = c.in_err-reserve-2.ensures.err in rw same (omega (arith, c.in_ok-reserve.ensures.spare, c.self.invariant.room));
     }
@@ -14,7 +15,8 @@ invariant_of-self-in_err-reserve-2 c =
 pub invariant_of-self-2 : goal.invariant_of-self-2
 invariant_of-self-2 c =
     record {
-      kept = kept_same _ _ c.self.inside.pages c.reserve.new.self c.in_ok-reserve-2.ensures.records refl refl refl c.in_ok-reserve.ensures.pages c.in_ok-reserve.ensures.limit
+      kept = kept_same _ _ c.self.inside.pages c.reserve.new.self c.in_ok-reserve-2.ensures.records refl refl refl c.in_ok-reserve.ensures.pages
+          c.in_ok-reserve.ensures.limit
           (sound_same _ _ c.in_ok-reserve-2.ensures.records refl refl c.self.invariant.kept.sound) c.self.invariant.kept;
       room = omega (arith, c.in_ok-reserve.ensures.ok, c.in_ok-reserve.ensures.spare, c.in_ok-reserve-2.ensures.exact, c.self.invariant.room);
     }

@@ -14,18 +14,21 @@ returns-in_default-clause-ok c =
 pub returns-in_err-read-clause-there : goal.returns-in_err-read-clause-there
 returns-in_err-read-clause-there c =
     let p = err_from_is_err_and c.from_residual.result c.from_residual.ensures.1 in
-    let spelled = shows_spelled c.self.inside.schema _ c.in-Some.bytes.now _ c.in-Some.ensures.bytes (slot_shows _ c.self.inside.pages c.args.rid c.self.invariant.kept) in
+    let spelled = shows_spelled c.self.inside.schema _ c.in-Some.bytes.now _ c.in-Some.ensures.bytes
+    (slot_shows _ c.self.inside.pages c.args.rid c.self.invariant.kept) in
     let live = ap (λ (h : HeapValue). live_at h.state.log c.args.rid) (sym c.self.view_is) ∙ spelled.1.0 in
     rw (p.1, live) refl
 
 pub returns-in_err-read-clause-memory : goal.returns-in_err-read-clause-memory
 returns-in_err-read-clause-memory c =
     let p = err_from_is_err_and c.from_residual.result c.from_residual.ensures.1 in
-    let spelled = shows_spelled c.self.inside.schema _ c.in-Some.bytes.now _ c.in-Some.ensures.bytes (slot_shows _ c.self.inside.pages c.args.rid c.self.invariant.kept) in
+    let spelled = shows_spelled c.self.inside.schema _ c.in-Some.bytes.now _ c.in-Some.ensures.bytes
+    (slot_shows _ c.self.inside.pages c.args.rid c.self.invariant.kept) in
     rw (p.1, p.2) (spelled_memory _ _ spelled.0 _ spelled.1.1 c.in_err-read.ensures.refused)
 
 pub returns-clause-ok : goal.returns-clause-ok
 returns-clause-ok c =
-    let spelled = shows_spelled c.self.inside.schema _ c.in-Some.bytes.now _ c.in-Some.ensures.bytes (slot_shows _ c.self.inside.pages c.args.rid c.self.invariant.kept) in
+    let spelled = shows_spelled c.self.inside.schema _ c.in-Some.bytes.now _ c.in-Some.ensures.bytes
+    (slot_shows _ c.self.inside.pages c.args.rid c.self.invariant.kept) in
     let live = spelled.1.0 ∙ ap Some (c.in_ok-read.ensures.alone spelled.0 spelled.1.1) in
     sym live ∙ ap (λ (h : HeapValue). live_at h.state.log c.args.rid) c.self.view_is

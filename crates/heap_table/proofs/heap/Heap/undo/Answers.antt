@@ -30,7 +30,8 @@ pub go_on_ending-requires : goal.go_on_ending-requires
 go_on_ending-requires c =
     let is_ready = ready_inside _ _ _ c.self.view_is c.requires.ready in
     let added = grows _ _ _ c.add.ensures.added in
-    undone_inside _ c.self.inside.pages c.undo_slot.new.pages c.args.ready c.args.number c.add.new.self.records is_ready c.self.invariant.kept c.requires.undo added
+    undone_inside _ c.self.inside.pages c.undo_slot.new.pages c.args.ready c.args.number c.add.new.self.records is_ready c.self.invariant.kept c.requires.undo
+    added
     c.undo_slot.ensures.pages
 
 pub invariant_of-self : goal.invariant_of-self
@@ -39,7 +40,8 @@ invariant_of-self c =
     let is_ready = ready_inside _ _ _ c.self.view_is c.requires.ready in
     let added = grows _ _ _ c.add.ensures.added in
     record {
-      kept = kept_undone _ _ c.self.inside.pages c.undo_slot.new.pages c.go_on_ending.new.pages c.args.ready c.args.number is_ready c.self.invariant.kept c.requires.undo added
+      kept = kept_undone _ _ c.self.inside.pages c.undo_slot.new.pages c.go_on_ending.new.pages c.args.ready c.args.number is_ready c.self.invariant.kept
+          c.requires.undo added
           (c.go_on_ending.ensures.active ∙ ap (λ (left : ℕ). still_open txn left c.self.inside.open_txns.items) c.standing-left.ensures) refl refl refl refl
           c.undo_slot.ensures.pages c.undo_slot.ensures.limit
           (λ slot slots count limit is. rw (← c.standing-left.ensures) (c.go_on_ending.ensures.settled slot slots count limit is)) c.go_on_ending.ensures.limit;
@@ -51,5 +53,6 @@ returns-clause-rows c =
     let n = c.args.number in
     let is_ready = ready_inside _ _ _ c.self.view_is c.requires.ready in
     let added = grows _ _ _ c.add.ensures.added in
-    subst (λ (h : HeapValue). SetsRow h.state.log (rid_of (record_at h.state.log n)) (row_at h.state.log (standing_before h.state.log n)) c.add.new.self.records) c.self.view_is
+    subst (λ (h : HeapValue). SetsRow h.state.log (rid_of (record_at h.state.log n)) (row_at h.state.log (standing_before h.state.log n))
+    c.add.new.self.records) c.self.view_is
     (undone_sets _ c.self.inside.pages c.args.ready n c.add.new.self.records is_ready c.self.invariant.kept c.requires.undo added)

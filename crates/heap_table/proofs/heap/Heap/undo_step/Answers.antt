@@ -35,6 +35,7 @@ invariant_of-self c =
 pub returns-in_default-clause-undone : goal.returns-in_default-clause-undone
 returns-in_default-clause-undone c = (
   c.in_ok-ready.ensures.accepted,
-  ends (heap_value c.self.inside).state c.args.self.now.state c.args.txn c.end.new.open_txns.items (ap (λ (h : HeapValue). h.state) c.self.view_is ∙ c.in_ok-ready.ensures.same)
+  ends (heap_value c.self.inside).state c.args.self.now.state c.args.txn c.end.new.open_txns.items
+      (ap (λ (h : HeapValue). h.state) c.self.view_is ∙ c.in_ok-ready.ensures.same)
       (c.in_ok-ready.ensures.none (ap Ok c.in_default.is)) c.end.ensures,
 )

@@ -32,4 +32,5 @@ pub returns-clause-rows : goal.returns-clause-rows
 returns-clause-rows c =
     let ready = c.args.ready in
     let added = grows _ _ _ c.add.ensures.added in
-    subst (λ (h : HeapValue). SetsRow h.state.log ready.rid ready.new c.add.new.self.records) c.self.view_is (write_sets _ _ ready.txn ready.rid ready.new added)
+    subst (λ (h : HeapValue). SetsRow h.state.log ready.rid ready.new c.add.new.self.records) c.self.view_is
+    (write_sets _ _ ready.txn ready.rid ready.new added)

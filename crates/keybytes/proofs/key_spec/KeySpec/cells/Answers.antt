@@ -10,7 +10,9 @@ use Rattle.keybytes.proofs.KeyWrites.{column-within, kinds-more}
 use Rattle.keybytes.proofs.key_spec.KeySpec.cells.Goals as goal
 
 -- the next column is of the kind that the table says
-next_left : (spec inside : KeySpecValue) (items : List ℕ) (i : ℕ) (kind : Kind) (columns read : List Cell) (bytes : List ℕ) (at : ℕ) → inside ≡ spec → are_key_columns inside.kinds inside.columns ≡ true → items ≡ inside.columns → i < length items → kind ≡ get_or inside.kinds (get_or items i 0) kind → ColumnsLeft columns read (drop i (key_kinds spec)) bytes at → ColumnsLeft columns read (kind ∷ drop (i + 1) (key_kinds spec)) bytes at
+next_left : (spec inside : KeySpecValue) (items : List ℕ) (i : ℕ) (kind : Kind) (columns read : List Cell) (bytes : List ℕ) (at : ℕ) → inside ≡ spec
+    → are_key_columns inside.kinds inside.columns ≡ true → items ≡ inside.columns → i < length items → kind ≡ get_or inside.kinds (get_or items i 0) kind
+    → ColumnsLeft columns read (drop i (key_kinds spec)) bytes at → ColumnsLeft columns read (kind ∷ drop (i + 1) (key_kinds spec)) bytes at
 next_left spec inside items i kind columns read bytes at is_spec held is_items within is_kind was =
     let own : items ≡ spec.columns = is_items ∙ ap (λ (s : KeySpecValue). s.columns) is_spec in
     let there : get_or items i 0 < length inside.kinds = rw is_items (column-within inside.kinds inside.columns i held (rw is_items at within)) in
@@ -21,7 +23,8 @@ next_left spec inside items i kind columns read bytes at is_spec held is_items w
     (kinds-more spec.kinds spec.columns i (rw own at within) ∙ ap (λ (kind : Kind). kind ∷ drop (i + 1) (key_kinds spec)) (sym same)) was
 
 -- what reading a cell tells, for the bytes as the code cuts them
-from_there : (kind : Kind) (cell : Cell) (rest bytes : List ℕ) (at : ℕ) → BeginsWithCellKey kind cell rest (drop at bytes) → BeginsWithCellKey kind cell rest (take (length bytes - at) (drop at bytes))
+from_there : (kind : Kind) (cell : Cell) (rest bytes : List ℕ) (at : ℕ) → BeginsWithCellKey kind cell rest (drop at bytes)
+    → BeginsWithCellKey kind cell rest (take (length bytes - at) (drop at bytes))
 from_there kind cell rest bytes at begins = subst (BeginsWithCellKey kind cell rest) (sym (take_rest bytes at)) begins
 
 -- the specification as its type keeps it
@@ -31,22 +34,33 @@ held spec inside is_spec was = subst (λ (s : KeySpecValue). are_key_columns s.k
 pub read_cell-requires : goal.read_cell-requires
 read_cell-requires c =
     let own = columns-of_key c.args.self.now c.args.key.now (held c.args.self.now _ c.self.view_is c.self.invariant) c.requires in
-    let was = next_left c.args.self.now _ _ _ _ _ _ _ _ c.self.view_is c.self.invariant c.deref-column-items.ensures.value c.loop-column-test.true c.index.ensures (c.loop-column.invariant own.0 own.1) in
+    let was = next_left c.args.self.now _ _ _ _ _ _ _ _ c.self.view_is c.self.invariant c.deref-column-items.ensures.value c.loop-column-test.true
+    c.index.ensures (c.loop-column.invariant own.0 own.1) in
     let begun = columns_begin _ _ _ _ _ _ was in
     (begun.0, begun.1, from_there _ _ _ c.bytes-bytes.result.now c.loop-column.at begun.2)
 
 pub overflow_add-at : goal.overflow_add-at
 overflow_add-at c =
     let own = columns-of_key c.args.self.now c.args.key.now (held c.args.self.now _ c.self.view_is c.self.invariant) c.requires in
-    let was = next_left c.args.self.now _ _ _ _ _ _ _ _ c.self.view_is c.self.invariant c.deref-column-items.ensures.value c.loop-column-test.true c.index.ensures (c.loop-column.invariant own.0 own.1) in
-    let more = columns_more _ _ _ _ _ _ was c.in_ok-cell.cell c.in_ok-cell.len (λ cell rest begins. (c.in_ok-cell.ensures.cell cell rest (from_there _ _ _ c.bytes-bytes.result.now c.loop-column.at begins), c.in_ok-cell.ensures.len cell rest (from_there _ _ _ c.bytes-bytes.result.now c.loop-column.at begins))) in
+    let was = next_left c.args.self.now _ _ _ _ _ _ _ _ c.self.view_is c.self.invariant c.deref-column-items.ensures.value c.loop-column-test.true
+    c.index.ensures (c.loop-column.invariant own.0 own.1) in
+    let more = columns_more _ _ _ _ _ _ was c.in_ok-cell.cell c.in_ok-cell.len
+    (λ cell rest begins. (
+      c.in_ok-cell.ensures.cell cell rest (from_there _ _ _ c.bytes-bytes.result.now c.loop-column.at begins),
+      c.in_ok-cell.ensures.len cell rest (from_there _ _ _ c.bytes-bytes.result.now c.loop-column.at begins),
+    )) in
     omega (arith, more.within, c.bytes-bytes.ensures.short, ap length c.bytes-bytes.ensures.bytes)
 
 pub loop-column-preserved : goal.loop-column-preserved
 loop-column-preserved c columns has =
-    let was = next_left c.args.self.now _ _ _ _ _ _ _ _ c.self.view_is c.self.invariant c.deref-column-items.ensures.value c.loop-column-test.true c.index.ensures (c.loop-column.invariant columns has) in
+    let was = next_left c.args.self.now _ _ _ _ _ _ _ _ c.self.view_is c.self.invariant c.deref-column-items.ensures.value c.loop-column-test.true
+    c.index.ensures (c.loop-column.invariant columns has) in
     rw c.in_ok-push.ensures.items
-    (columns_more _ _ _ _ _ _ was c.in_ok-cell.cell c.in_ok-cell.len (λ cell rest begins. (c.in_ok-cell.ensures.cell cell rest (from_there _ _ _ c.bytes-bytes.result.now c.loop-column.at begins), c.in_ok-cell.ensures.len cell rest (from_there _ _ _ c.bytes-bytes.result.now c.loop-column.at begins))))
+    (columns_more _ _ _ _ _ _ was c.in_ok-cell.cell c.in_ok-cell.len
+    (λ cell rest begins. (
+      c.in_ok-cell.ensures.cell cell rest (from_there _ _ _ c.bytes-bytes.result.now c.loop-column.at begins),
+      c.in_ok-cell.ensures.len cell rest (from_there _ _ _ c.bytes-bytes.result.now c.loop-column.at begins),
+    )))
 
 pub slice_bounds-read_cell-count : goal.slice_bounds-read_cell-count
 slice_bounds-read_cell-count c =
@@ -66,7 +80,12 @@ read_all c columns has =
     let items : c.deref-column-items.result.now ≡ c.args.self.now.columns =
     c.deref-column-items.ensures.value ∙ ap (λ (s : KeySpecValue). s.columns) c.self.view_is in
     let count : length (key_kinds c.args.self.now) ≤ c.loop-column.column-index =
-    omega (arith, c.loop-column-test.false, ap length items, length-map c.args.self.now.columns (λ column. slice_index_or c.args.self.now.kinds column IntKind)) in
+    omega (
+      arith,
+      c.loop-column-test.false,
+      ap length items,
+      length-map c.args.self.now.columns (λ column. slice_index_or c.args.self.now.kinds column IntKind),
+    ) in
     columns_done _ _ _ _ _ (drop_all c.loop-column.column-index (key_kinds c.args.self.now) count) (c.loop-column.invariant columns has)
 
 pub returns-clause-columns : goal.returns-clause-columns

@@ -11,23 +11,28 @@ use Rattle.keybytes.proofs.Spelling.{length-fits}
 use Rattle.keybytes.proofs.key_spec.KeySpec.key.Goals as goal
 
 -- the column at a place of the specification is one of the row's
-there : (spec inside : KeySpecValue) (row cells : List Cell) (items : List ℕ) (i : ℕ) → inside ≡ spec → are_key_columns inside.kinds inside.columns ≡ true → items ≡ inside.columns → cells ≡ row → fits spec.kinds row ≡ true → i < length items → get_or items i 0 < length cells
+there : (spec inside : KeySpecValue) (row cells : List Cell) (items : List ℕ) (i : ℕ) → inside ≡ spec → are_key_columns inside.kinds inside.columns ≡ true
+    → items ≡ inside.columns → cells ≡ row → fits spec.kinds row ≡ true → i < length items → get_or items i 0 < length cells
 there spec inside row cells items i is_spec held is_items is_cells fit within =
     let of_kinds : get_or items i 0 < length inside.kinds = rw is_items (column-within inside.kinds inside.columns i held (rw is_items at within)) in
     omega (arith, ap (λ (s : KeySpecValue). length s.kinds) is_spec, length-fits spec.kinds row fit, ap length is_cells)
 
 -- a key is at most as long as any may be
-size : (spec inside : KeySpecValue) (row : List Cell) → inside ≡ spec → are_key_columns inside.kinds inside.columns ≡ true → IsRow row → length (key_of spec row) ≤ 812
+size : (spec inside : KeySpecValue) (row : List Cell) → inside ≡ spec → are_key_columns inside.kinds inside.columns ≡ true → IsRow row
+    → length (key_of spec row) ≤ 812
 size spec inside row is_spec held is_row =
     length-key_of spec row (subst (λ (s : KeySpecValue). are_key_columns s.kinds s.columns ≡ true) is_spec held) is_row.each
 
 -- the whole key, as the loop writes it
-whole : (spec inside : KeySpecValue) (row cells : List Cell) (items : List ℕ) → inside ≡ spec → items ≡ inside.columns → cells ≡ row → key_bytes (map (λ column. slice_index_or cells column Null) items) ≡ key_of spec row
+whole : (spec inside : KeySpecValue) (row cells : List Cell) (items : List ℕ) → inside ≡ spec → items ≡ inside.columns → cells ≡ row
+    → key_bytes (map (λ column. slice_index_or cells column Null) items) ≡ key_of spec row
 whole spec inside row cells items is_spec is_items is_cells =
-    ap₂ (λ (cells : List Cell) (items : List ℕ). key_bytes (map (λ column. slice_index_or cells column Null) items)) is_cells (is_items ∙ ap (λ (s : KeySpecValue). s.columns) is_spec)
+    ap₂ (λ (cells : List Cell) (items : List ℕ). key_bytes (map (λ column. slice_index_or cells column Null) items)) is_cells
+    (is_items ∙ ap (λ (s : KeySpecValue). s.columns) is_spec)
 
 -- the key that the loop leaves
-done : (spec inside : KeySpecValue) (row cells : List Cell) (items : List ℕ) (i : ℕ) (key : List ℕ) → inside ≡ spec → items ≡ inside.columns → cells ≡ row → key ≡ key_bytes (map (λ column. slice_index_or cells column Null) (take i items)) → length items ≤ i → key ≡ key_of spec row
+done : (spec inside : KeySpecValue) (row cells : List Cell) (items : List ℕ) (i : ℕ) (key : List ℕ) → inside ≡ spec → items ≡ inside.columns → cells ≡ row
+    → key ≡ key_bytes (map (λ column. slice_index_or cells column Null) (take i items)) → length items ≤ i → key ≡ key_of spec row
 done spec inside row cells items i key is_spec is_items is_cells written ended =
     written
     ∙ ap (λ (items : List ℕ). key_bytes (map (λ column. slice_index_or cells column Null) items)) (take_all i items ended)
@@ -35,35 +40,41 @@ done spec inside row cells items i key is_spec is_items is_cells written ended =
 
 pub offset_bounds-cells-column : goal.offset_bounds-cells-column
 offset_bounds-cells-column c =
-    let within = there c.args.self.now _ c.args.row.now _ _ _ c.self.view_is c.self.invariant c.deref-column-items.ensures.value c.cells-cells.ensures.cells c.requires c.loop-column-test.true in
+    let within = there c.args.self.now _ c.args.row.now _ _ _ c.self.view_is c.self.invariant c.deref-column-items.ensures.value c.cells-cells.ensures.cells
+    c.requires c.loop-column-test.true in
     omega (arith, within, ap length c.cells-cells.ensures.cells, c.cells-cells.ensures.row.few)
 
 pub bounds-cells-column : goal.bounds-cells-column
 bounds-cells-column c =
-    there c.args.self.now _ c.args.row.now _ _ _ c.self.view_is c.self.invariant c.deref-column-items.ensures.value c.cells-cells.ensures.cells c.requires c.loop-column-test.true
+    there c.args.self.now _ c.args.row.now _ _ _ c.self.view_is c.self.invariant c.deref-column-items.ensures.value c.cells-cells.ensures.cells c.requires
+    c.loop-column-test.true
 
 pub add_cell-requires : goal.add_cell-requires
 add_cell-requires c =
-    let within = there c.args.self.now _ c.args.row.now _ _ _ c.self.view_is c.self.invariant c.deref-column-items.ensures.value c.cells-cells.ensures.cells c.requires c.loop-column-test.true in
+    let within = there c.args.self.now _ c.args.row.now _ _ _ c.self.view_is c.self.invariant c.deref-column-items.ensures.value c.cells-cells.ensures.cells
+    c.requires c.loop-column-test.true in
     let room = column-room _ _ _ _ _ c.loop-column.invariant c.loop-column-test.true within c.index-cells-column.is in
     let all = whole c.args.self.now _ c.args.row.now _ _ c.self.view_is c.deref-column-items.ensures.value c.cells-cells.ensures.cells in
     omega (arith, room, ap length all, size c.args.self.now _ c.args.row.now c.self.view_is c.self.invariant c.cells-cells.ensures.row)
 
 pub returns-in_err-add_cell-clause-inline : goal.returns-in_err-add_cell-clause-inline
 returns-in_err-add_cell-clause-inline c short =
-    let within = there c.args.self.now _ c.args.row.now _ _ _ c.self.view_is c.self.invariant c.deref-column-items.ensures.value c.cells-cells.ensures.cells c.requires c.loop-column-test.true in
+    let within = there c.args.self.now _ c.args.row.now _ _ _ c.self.view_is c.self.invariant c.deref-column-items.ensures.value c.cells-cells.ensures.cells
+    c.requires c.loop-column-test.true in
     let room = column-room _ _ _ _ _ c.loop-column.invariant c.loop-column-test.true within c.index-cells-column.is in
     let all = whole c.args.self.now _ c.args.row.now _ _ c.self.view_is c.deref-column-items.ensures.value c.cells-cells.ensures.cells in
     absurd (false≢true (c.in_err-add_cell.ensures.inline (omega (arith, room, ap length all, short))))
 
 pub loop-column-preserved : goal.loop-column-preserved
 loop-column-preserved c =
-    let within = there c.args.self.now _ c.args.row.now _ _ _ c.self.view_is c.self.invariant c.deref-column-items.ensures.value c.cells-cells.ensures.cells c.requires c.loop-column-test.true in
+    let within = there c.args.self.now _ c.args.row.now _ _ _ c.self.view_is c.self.invariant c.deref-column-items.ensures.value c.cells-cells.ensures.cells
+    c.requires c.loop-column-test.true in
     c.in_ok-add_cell.ensures.ok ∙ column-more _ _ _ _ _ c.loop-column.invariant c.loop-column-test.true within c.index-cells-column.is
 
 pub returns-clause-size : goal.returns-clause-size
 returns-clause-size c =
-    let is_key = done c.args.self.now _ c.args.row.now _ _ _ _ c.self.view_is c.deref-column-items.ensures.value c.cells-cells.ensures.cells c.loop-column.invariant c.loop-column-test.false in
+    let is_key = done c.args.self.now _ c.args.row.now _ _ _ _ c.self.view_is c.deref-column-items.ensures.value c.cells-cells.ensures.cells
+    c.loop-column.invariant c.loop-column-test.false in
     omega (arith, ap length is_key, size c.args.self.now _ c.args.row.now c.self.view_is c.self.invariant c.cells-cells.ensures.row)
 
 -- what the key has by the laws, and that its columns are the row's
@@ -72,13 +83,15 @@ held spec inside is_spec there = subst (λ (s : KeySpecValue). are_key_columns s
 
 pub returns-clause-laws : goal.returns-clause-laws
 returns-clause-laws c =
-    let is_key = done c.args.self.now _ c.args.row.now _ _ _ _ c.self.view_is c.deref-column-items.ensures.value c.cells-cells.ensures.cells c.loop-column.invariant c.loop-column-test.false in
+    let is_key = done c.args.self.now _ c.args.row.now _ _ _ _ c.self.view_is c.deref-column-items.ensures.value c.cells-cells.ensures.cells
+    c.loop-column.invariant c.loop-column-test.false in
     let is_row : IsRowOf c.args.self.now c.args.row.now = record { is_row = c.cells-cells.ensures.row; fits_kinds = c.requires } in
     subst (StandsForColumns c.args.self.now c.args.row.now) (sym is_key)
     (key_of-laws c.args.self.now c.args.row.now (held c.args.self.now _ c.self.view_is c.self.invariant) is_row)
 
 pub returns-clause-is_key : goal.returns-clause-is_key
 returns-clause-is_key c =
-    let is_key = done c.args.self.now _ c.args.row.now _ _ _ _ c.self.view_is c.deref-column-items.ensures.value c.cells-cells.ensures.cells c.loop-column.invariant c.loop-column-test.false in
+    let is_key = done c.args.self.now _ c.args.row.now _ _ _ _ c.self.view_is c.deref-column-items.ensures.value c.cells-cells.ensures.cells
+    c.loop-column.invariant c.loop-column-test.false in
     let is_row : IsRowOf c.args.self.now c.args.row.now = record { is_row = c.cells-cells.ensures.row; fits_kinds = c.requires } in
     (c.args.row.now, (is_row, sym is_key))

@@ -12,7 +12,14 @@ whole c =
 
 pub overflow_add-size : goal.overflow_add-size
 overflow_add-size c =
-    omega (arith, c.loop-cell.invariant.limit, c.cell_size-size.ensures.limit, c.loop-cell-test.true, c.self.invariant.few, ap length c.deref-cell-items.ensures.value)
+    omega (
+      arith,
+      c.loop-cell.invariant.limit,
+      c.cell_size-size.ensures.limit,
+      c.loop-cell-test.true,
+      c.self.invariant.few,
+      ap length c.deref-cell-items.ensures.value,
+    )
 
 pub returns-clause-some : goal.returns-clause-some
 returns-clause-some c = omega (arith, whole c, (length-row_bytes c.self.inside.cells.items c.self.invariant.each).0, c.self.invariant.some)

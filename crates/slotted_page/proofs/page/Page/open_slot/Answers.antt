@@ -20,4 +20,5 @@ returns-else-slot-image_slots c =
     let f = page_facts c.self.invariant c.self.view_is in
     let page = c.args.self.now in
     let lt : c.args.slot < length page.slots = omega (arith, f.slots_long, c.image_slots.ensures, c.requires.there, c.if-slot-image_slots.false) in
-    ap (λ (slots : List Slot). let q : PageValue = record { slots = slots; limit = page.limit } in q) (sym (put_same page.slots c.args.slot lt c.requires.is_free))
+    ap (λ (slots : List Slot). let q : PageValue = record { slots = slots; limit = page.limit } in q)
+    (sym (put_same page.slots c.args.slot lt c.requires.is_free))

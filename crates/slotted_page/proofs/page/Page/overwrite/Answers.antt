@@ -16,7 +16,8 @@ record Overwrites (image : List ℕ) (slot o n reserve : ℕ) : Type 0 where
   placed : IsPlaced (number_at image 4) (Row o n reserve)
   within : Within (Row o n reserve) (get_or (image_entries image) slot Free)
 
-overwrites : {page : PageValue} {image : List ℕ} {limit reserved : ℕ} → PageFacts page image limit reserved → (slot o l was n reserve : ℕ) → slot < length page.slots
+overwrites : {page : PageValue} {image : List ℕ} {limit reserved : ℕ} → PageFacts page image limit reserved → (slot o l was n reserve : ℕ)
+    → slot < length page.slots
     → get_or (image_entries image) slot Free ≡ Row o l was → n ≤ l → IsRowSize n → n ≤ reserve → Overwrites image slot o n reserve
 overwrites f slot o l was n reserve lt is shorter size reserved =
     let p = placed_here f slot o l was lt is in
@@ -33,7 +34,8 @@ invariant_of-self c =
     let f = page_facts c.self.invariant c.self.view_is in
     let bytes = c.args.bytes.now in
     let is = sym c.entry_in.ensures ∙ c.in-Row.is in
-    let o = overwrites f c.args.slot c.in-Row.offset c.in-Row.length c.in-Row.was (length bytes) c.args.reserve c.requires.there is (omega (arith, c.if-length-bytes.false)) c.requires.size c.requires.reserved in
+    let o = overwrites f c.args.slot c.in-Row.offset c.in-Row.length c.in-Row.was (length bytes) c.args.reserve c.requires.there is
+    (omega (arith, c.if-length-bytes.false)) c.requires.size c.requires.reserved in
     set_page f (over_laid f c.write_at.new.image c.in-Row.offset bytes o.low o.high c.write_at.ensures) c.write_entry.new.image c.args.slot c.in-Row.was
     (Row c.in-Row.offset (length bytes) c.args.reserve) c.requires.there c.write_entry.ensures o.placed o.within (sym (ap entry_reserve is)) c.requires.room
 
@@ -42,7 +44,9 @@ returns c =
     let f = page_facts c.self.invariant c.self.view_is in
     let bytes = c.args.bytes.now in
     let is = sym c.entry_in.ensures ∙ c.in-Row.is in
-    let o = overwrites f c.args.slot c.in-Row.offset c.in-Row.length c.in-Row.was (length bytes) c.args.reserve c.requires.there is (omega (arith, c.if-length-bytes.false)) c.requires.size c.requires.reserved in
-    let e = over_slots f c.write_at.new.image c.write_entry.new.image c.args.slot c.in-Row.offset c.in-Row.length c.in-Row.was c.args.reserve bytes c.requires.there is
+    let o = overwrites f c.args.slot c.in-Row.offset c.in-Row.length c.in-Row.was (length bytes) c.args.reserve c.requires.there is
+    (omega (arith, c.if-length-bytes.false)) c.requires.size c.requires.reserved in
+    let e = over_slots f c.write_at.new.image c.write_entry.new.image c.args.slot c.in-Row.offset c.in-Row.length c.in-Row.was c.args.reserve bytes
+    c.requires.there is
     c.if-length-bytes.false c.write_at.ensures c.write_entry.ensures o.placed o.within c.requires.room in
     cc (e, f.limit_is)

@@ -45,6 +45,7 @@ returns-in-Row c =
     let lt = row_within c.args.self.now.slots c.args.slot c.requires in
     let is = sym c.entry_in.ensures ∙ c.in-Row.is in
     let t = trims f c.args.slot c.in-Row.offset c.in-Row.length c.in-Row.reserve lt is in
-    let e = set_slots f c.write_entry.new.image c.args.slot (Row c.in-Row.offset c.in-Row.length c.in-Row.length) lt c.write_entry.ensures t.placed t.within t.room
+    let e =
+    set_slots f c.write_entry.new.image c.args.slot (Row c.in-Row.offset c.in-Row.length c.in-Row.length) lt c.write_entry.ensures t.placed t.within t.room
     ∙ ap (λ (x : Slot). put c.args.self.now.slots c.args.slot x) t.after in
     cc (e, f.limit_is)
