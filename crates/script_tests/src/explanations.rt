@@ -55,7 +55,8 @@ const EXPLAINED: [(&[u8], &str); 26] = [
     ),
     (
         b"table,2,int\nfly\n",
-        "record 2 is bad: field 1, \"fly\", is no command (table, row, begin, insert, update, delete, undo, commit, get, start, scan, seal, load, switch, abandon, side, pairs or rest)",
+        "record 2 is bad: field 1, \"fly\", is no command (table, row, begin, insert, update, delete, undo, commit, get, start, \
+            scan, seal, load, switch, abandon, side, pairs or rest)",
     ),
     (
         b"table,2,int\nupdate,A,0.0\n",
