@@ -24,11 +24,11 @@ pub record IsPage (bytes : List ℕ) (m : Marks) : Type 0 where
 abbrev pub page_value : List ℕ → Marks → PageValue
 page_value bytes m = record { pairs = pairs_at bytes m; room = 4096 - m.end }
 
--- the pair with number n has that key and that place
+-- pair n has that key and that RID
 abbrev pub IsPairAt : List Pair → ℕ → List ℕ → Rid → Type 0
 IsPairAt pairs n key rid = let pair : Pair = record { key = key; rid = rid } in get_or pairs n pair ≡ pair
 
--- a page that never was
+-- what stands for a page where there is none: it has no pair, and no room for one
 abbrev pub no_page : PageValue
 no_page = record { pairs = []; room = 0 }
 

@@ -37,7 +37,7 @@ on_last run pair = take (length run - 1) run ++ with_pair (last_of run) pair ∷
 abbrev pub NeedsPage : SpoolValue → Pair → Type 0
 NeedsPage spool pair = (last_of spool.open_run).room < pair_size pair
 
--- the spool is full for a pair
+-- there is no page for a pair that needs one
 abbrev pub IsFull : SpoolValue → Pair → Type 0
 IsFull spool pair = NeedsPage spool pair × (spool.account.free ≡ 0)
 
@@ -85,7 +85,7 @@ pub record IsPlainSpool (spool : SpoolValue) : Type 0 where
   pub each : All HasPairs spool.open_run
   pub packed : All IsPacked spool.open_run
 
--- the fields of a spool
+-- the fields of a plain spool: a frame for each page of its quota and a place for each run, of which no more are closed than that
 pub record IsSpool (account : AccountValue) (spare : ℕ) (runs : List (List PageValue)) (places : ℕ) (chain : List (Option PageValue)) (len : ℕ) : Type 0 where
   pub law : account.free + run_pages runs + length chain ≡ account.quota
   pub spare_is : spare ≡ account.free

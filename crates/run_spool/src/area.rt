@@ -1,5 +1,5 @@
-//! Pairs in the bytes of a page, one after the other: the length of the key in two bytes, the key, the row's page in four
-//! bytes and its slot in two. Numbers have their high byte first.
+//! Pairs in the bytes of a page, one after the other: the length of the key in two bytes, the key, the page of the RID
+//! in four bytes and its slot in two. Numbers have their high byte first.
 
 ghost use Rattle.std.specs.Prelude.{◌≡◌, ◌+◌, ◌-◌, ◌<◌, ◌≤◌, ◌++◌, ◌∷◌, [], length, drop, take, get_or, IfOk, IfErr};
 ghost use Rattle.byteorder.specs.Endian.{big_bytes};
@@ -25,7 +25,7 @@ fn write_at(bytes: &mut [u8; PAGE_SIZE], at: usize, new: &[u8])
     bytes[at..at + new.len()].copy_from_slice(new);
 }
 
-/// The six bytes of a row's place.
+/// The six bytes of a RID.
 fn rid_to_bytes(page: u32, slot: u16) -> [u8; 6]
     ensures { result ≡ big_bytes 4 page ++ big_bytes 2 slot }
 {

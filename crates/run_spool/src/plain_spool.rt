@@ -20,14 +20,16 @@ use std::mem;
 /// Runs of pairs on the pages of an account. Contracts see the closed runs and the open one, each as its pages, and the
 /// account.
 ///
-/// It takes its memory when it is made: a frame for each page of the quota, and for each run. A run with a pair has a
-/// page, so there are never more runs than that while pairs are pushed.
+/// It takes its memory when it is made: a frame for each page of the quota, and a place for as many closed runs. A run with a
+/// pair has a page, so there are no more runs than that as long as no closed run is empty while pairs are pushed.
 #[derive(Drop)]
 pub struct PlainSpool {
     account: Account,
+    /// The frames that have no page.
     spare: Chain,
     runs: Vec<Run>,
     open_run: Chain,
+    /// The number of pairs of the open run.
     open_len: usize,
 }
 
@@ -38,9 +40,10 @@ impl Model for PlainSpool {
 
     ghost Value = { SpoolValue };
 
-    ghost view = { λ s. record { runs = s.runs.items; open_run = pages_in s.open_run; account = s.account } };
+    ghost view = { λ spool. record { runs = spool.runs.items; open_run = pages_in spool.open_run; account = spool.account } };
 
-    ghost invariant = { λ s. IsSpool s.account (length s.spare) s.runs.items (vec_capacity s.runs) s.open_run s.open_len };
+    ghost invariant = { λ spool. IsSpool spool.account (length spool.spare) spool.runs.items (vec_capacity spool.runs)
+        spool.open_run spool.open_len };
 }
 
 impl PlainSpool {
@@ -81,8 +84,8 @@ impl PlainSpool {
         self.runs.is_empty() && self.open_len == 0
     }
 
-    /// Writes a pair behind those of the open run. It takes no memory; an `Err` gives the pair back, and says that it
-    /// needs a page and none is free.
+    /// Puts a pair behind those of the open run, on its last page or on a new one. [`Fault::NoPage`] where it needs a page and
+    /// none is free; the pair comes back then.
     pub fn push(&mut self, pair: Pair) -> Result<(), (Pair, Fault)>
         requires { NoneEmpty self.old.runs }
         ensures pushed { IfOk result (λ _. self.new ≡ with_pushed self.old pair) }
@@ -123,7 +126,7 @@ impl PlainSpool {
         self.runs.len()
     }
 
-    /// The number of pairs of a closed run.
+    /// The number of pairs of closed run `i` that aren't freed.
     pub fn run_len(&self, i: usize) -> usize
         requires { i < length self.now.runs }
         ensures { result ≡ length (pairs_of (get_or self.now.runs i [])) }
@@ -131,7 +134,7 @@ impl PlainSpool {
         self.runs[i].len()
     }
 
-    /// Reads a pair of a closed run. An `Err` says that there is no memory for the key.
+    /// Reads pair `j` of closed run `i`: its key into `key`, for which there may be no memory.
     pub fn read(&mut self, i: usize, j: usize, key: &mut Key) -> Result<Rid, Fault>
         requires run { i < length self.old.runs }
         requires pair { j < length (pairs_of (get_or self.old.runs i [])) }
@@ -143,7 +146,7 @@ impl PlainSpool {
         run.read(j, key)
     }
 
-    /// Lets the first pairs of a closed run go. A page on which none is left goes back to the account.
+    /// Frees the first `n` pairs of closed run `i`. A page on which none is left goes back to the account.
     pub fn free_front(&mut self, i: usize, n: usize)
         requires run { i < length self.old.runs }
         requires pairs { n ≤ length (pairs_of (get_or self.old.runs i [])) }
@@ -153,7 +156,7 @@ impl PlainSpool {
         run.free_front(n, &mut self.account, &mut self.spare);
     }
 
-    /// Gives every page back to the account, with all runs and pairs.
+    /// Gives every page back to the account, with all pairs; no run is left.
     pub fn end(&mut self)
         ensures { self.new ≡ without_runs self.old }
     {
@@ -170,7 +173,7 @@ impl PlainSpool {
         self.open_len = 0;
     }
 
-    /// Hands the account over, and keeps one with no page. The spool has no page leased, and so no run.
+    /// Hands the account over, whole since the spool has no run, and keeps one with no page.
     pub fn take_account(&mut self) -> Account
         requires runs { self.old.runs ≡ [] }
         requires open_run { self.old.open_run ≡ [] }

@@ -14,36 +14,17 @@ use std::collections::LinkedList;
 use std::marker::Model;
 use std::mem;
 
-/// Moves pages so that the pair with number `n` stands on the first page ahead, and returns how many pairs have been
-/// passed. It passes the pages between, and none where the pair is on the first page ahead already.
-fn seek(passed: &mut Chain, ahead: &mut Chain, mut before: usize, len: usize, n: usize) -> usize
-    requires run { IsRun passed.old ahead.old before len }
-    requires there { n < len }
-    ensures run { IsRun passed.new ahead.new result len }
-    ensures same { passed.new ++ ahead.new ≡ passed.old ++ ahead.old }
-    ensures from { result ≤ n }
-    ensures within { n < result + length (first_page ahead.new).pairs }
-{
-    while n < before {
-        before -= last_len(passed);
-        move_last(passed, ahead);
-    }
-    while before + first_len(ahead) <= n {
-        before += first_len(ahead);
-        move_first(ahead, passed);
-    }
-    before
-}
-
 /// A run of pairs. Contracts see the list of its pages.
 ///
-/// The pages before the one that was read last are in one chain, the others in another: reading a run in order takes one
-/// step a page.
+/// The pages before the one that was read last are in one chain, that one and those behind it in another: reading a run in order
+/// takes one step a page.
 #[derive(Drop)]
 pub(crate) struct Run {
     passed: Chain,
     ahead: Chain,
+    /// The number of pairs on the pages passed.
     before: usize,
+    /// The number of all pairs.
     len: usize,
 }
 
@@ -113,6 +94,27 @@ impl Run {
         self.len -= n;
         free_first(&mut self.ahead, n, account, spare);
     }
+}
+
+/// Moves pages so that the pair with number `n` stands on the first page ahead, and returns how many pairs have been
+/// passed. It passes the pages between, and none where the pair is on the first page ahead already.
+fn seek(passed: &mut Chain, ahead: &mut Chain, mut before: usize, len: usize, n: usize) -> usize
+    requires run { IsRun passed.old ahead.old before len }
+    requires there { n < len }
+    ensures run { IsRun passed.new ahead.new result len }
+    ensures same { passed.new ++ ahead.new ≡ passed.old ++ ahead.old }
+    ensures from { result ≤ n }
+    ensures within { n < result + length (first_page ahead.new).pairs }
+{
+    while n < before {
+        before -= last_len(passed);
+        move_last(passed, ahead);
+    }
+    while before + first_len(ahead) <= n {
+        before += first_len(ahead);
+        move_first(ahead, passed);
+    }
+    before
 }
 
 /// Lets the first pairs of the pages in a chain go.
