@@ -132,7 +132,8 @@ impl Tree {
     pub fn iter(&self) -> Pairs<'_>
         ensures { pairs_left result ≡ self.now.pairs }
     {
-        self.from(&Key::new(self.alloc))
+        let least = Key::new(self.alloc);
+        self.from(&least)
     }
 
     /// The pairs in order, from the least that the key may have.

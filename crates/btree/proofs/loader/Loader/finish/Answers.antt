@@ -5,7 +5,8 @@ use Rattle.btree.proofs.Loads.{pairs_to}
 use Rattle.btree.proofs.loader.Loader.finish.Goals as goal
 
 pub of-requires-clause-count : goal.of-requires-clause-count
-of-requires-clause-count c = c.self.invariant.count_is ∙ sym (ap length (ap pairs_in c.append_under-root.ensures.marks ∙ pairs_to (marks_behind c.self.inside.full) c.self.inside.leaf))
+of-requires-clause-count c = c.self.invariant.count_is ∙ sym (ap length
+    (ap pairs_in c.append_under-root.ensures.marks ∙ pairs_to (marks_behind c.self.inside.full) c.self.inside.leaf))
 
 pub returns-clause-pairs : goal.returns-clause-pairs
 returns-clause-pairs c =

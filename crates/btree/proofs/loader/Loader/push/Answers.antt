@@ -18,7 +18,8 @@ order was now p is o = subst (λ ps. IsRising is_before (ps ++ p ∷ [])) (sym i
 
 pub push-requires-clause-rise : goal.push-requires-clause-rise
 push-requires-clause-rise c =
-    (pushed (marks_behind c.self.inside.full) c.self.inside.leaf c.args.pair c.self.invariant.rising c.self.invariant.begun (order _ _ c.args.pair c.self.view_is c.requires)).leaf
+    (pushed (marks_behind c.self.inside.full) c.self.inside.leaf c.args.pair c.self.invariant.rising c.self.invariant.begun
+    (order _ _ c.args.pair c.self.view_is c.requires)).leaf
 
 pub invariant_of-self : goal.invariant_of-self
 invariant_of-self c =
