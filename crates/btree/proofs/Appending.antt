@@ -45,7 +45,8 @@ at_end {p} {seen} {fan} {i} {rest} f rise e =
     let apart : (s : Pair) → In s ss → not (is_before p s) ≡ true = λ s k.
     let I : List Mark → Type 0 = λ ms. In (Between s) ms in
     let there : In (Between s) seen.marks = subst I (sym f.marks) (in_weave s (children_of fan) ss (omega (arith, few)) k) in
-    not_from_false _ (one_way before-strict s p ((rising_parts mark_before seen.marks (Between p ∷ rest) rise).apart (Between s) (Between p) there (inl refl))) in
+    not_from_false _ (one_way before-strict s p ((rising_parts mark_before seen.marks (Between p ∷ rest) rise).apart (Between s) (Between p) there
+    (inl refl))) in
     let all : front_count (λ s. not (is_before p s)) ss ≡ length ss = front_all (λ s. not (is_before p s)) ss apart in
     let a = around_fan f p i (omega (arith, all, few, e)) in
     record { at = f; around = a; nothing = a.last (omega (arith, few, e)); rising = rise }
@@ -62,7 +63,8 @@ moved l c r t e =
     ∙ ap (λ (u : List Mark). l ++ u) (sym (append-nil (c ++ t)))
     ∙ ap (λ (u : List Mark). l ++ ((c ++ t) ++ u)) (sym e)
 
-module _ {p : Pair} {seen : Seen} {fan : Fan Seen} {i : ℕ} {more : List Mark} (b : AtEnd p seen fan i more) (old : Seen) (old_is : old ≡ get_or (children_of fan) i old) where
+module _ {p : Pair} {seen : Seen} {fan : Fan Seen} {i : ℕ} {more : List Mark} (b : AtEnd p seen fan i more) (old : Seen)
+    (old_is : old ≡ get_or (children_of fan) i old) where
   pub whole : seen.marks ++ more ≡ b.around.l ++ ((old.marks ++ more) ++ b.around.r)
   whole =
       ap (λ (ms : List Mark). ms ++ more) (b.at.marks ∙ b.around.is old ∙ ap (λ (c : Seen). b.around.l ++ (c.marks ++ b.around.r)) (sym old_is))
@@ -72,7 +74,8 @@ module _ {p : Pair} {seen : Seen} {fan : Fan Seen} {i : ℕ} {more : List Mark} 
   whole_rises = let R : List Mark → Type 0 = λ ms. IsRising mark_before ms in subst R whole b.rising
 
   pub child_rises : IsRising mark_before (old.marks ++ more)
-  child_rises = (rising_parts mark_before (old.marks ++ more) b.around.r (rising_parts mark_before b.around.l ((old.marks ++ more) ++ b.around.r) whole_rises).right).left
+  child_rises = (rising_parts mark_before (old.marks ++ more) b.around.r
+      (rising_parts mark_before b.around.l ((old.marks ++ more) ++ b.around.r) whole_rises).right).left
 
   pub child_height : old.height ≡ height_of (children_of fan)
   child_height = ap (λ (c : Seen). c.height) old_is ∙ AllAt-get _ _ _ _ b.at.level b.around.within
@@ -90,7 +93,8 @@ last_at {p} {seen} {fan} {i} {more} {old} {new} {was} {split} b is g e =
     let I : Option Split → Type 0 = λ s. Appended more old new s in
     record { end = b; old_is = is; appended = subst I e g }
 
-module _ {p : Pair} {seen : Seen} {fan : Fan Seen} {i : ℕ} {more : List Mark} {old new : Seen} {split : Option Split} (b : Last p seen fan i more old new split) where
+module _ {p : Pair} {seen : Seen} {fan : Fan Seen} {i : ℕ} {more : List Mark} {old new : Seen} {split : Option Split}
+    (b : Last p seen fan i more old new split) where
   pub now_is : b.end.around.l ++ (marks_after new.marks split ++ b.end.around.r) ≡ seen.marks ++ more
   now_is =
       ap (λ (ms : List Mark). b.end.around.l ++ (ms ++ b.end.around.r)) b.appended.marks

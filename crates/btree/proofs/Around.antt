@@ -24,7 +24,9 @@ pub record Around (p : Pair) (cs : List Seen) (ss : List Pair) (i : ℕ) : Type 
   pub below : (y : Mark) → In y l → mark_before y (Item p) ≡ true
   pub above : (y : Mark) → In y r → mark_before (Item p) y ≡ true
 
-pub around : (p : Pair) (cs : List Seen) (ss : List Pair) → length ss + 1 ≡ length cs → IsRising mark_before (weave cs ss) → Around p cs ss (front_count (λ s. not (is_before p s)) ss)
+pub around :
+    (p : Pair) (cs : List Seen) (ss : List Pair) → length ss + 1 ≡ length cs → IsRising mark_before (weave cs ss)
+    → Around p cs ss (front_count (λ s. not (is_before p s)) ss)
 around p [] ss e rise = absurd (omega arith)
 around p (c ∷ []) [] e rise = record {
   l = [];

@@ -95,7 +95,9 @@ at_fan {k} {seen} {fan} view_is kept is =
       ordered = record { rising = rising_separators (children_of fan) (separators_of fan) (omega arith) f.rising };
     }
 
-pub around_fan : {seen : Seen} {fan : Fan Seen} → AtFan seen fan → (p : Pair) (i : ℕ) → i ≡ front_count (λ s. not (is_before p s)) (separators_of fan) → Around p (children_of fan) (separators_of fan) i
+pub around_fan :
+    {seen : Seen} {fan : Fan Seen} → AtFan seen fan → (p : Pair) (i : ℕ) → i ≡ front_count (λ s. not (is_before p s)) (separators_of fan)
+    → Around p (children_of fan) (separators_of fan) i
 around_fan {seen} {fan} f p i e = rw e (around p (children_of fan) (separators_of fan) f.sound.between f.rising)
 
 pub rising_kind : (k : Kind) → IsKind k → IsRising mark_before (seen_kind k).marks

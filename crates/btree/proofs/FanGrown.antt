@@ -21,14 +21,17 @@ pub record Made (fan : Fan Seen) (h : ℕ) : Type 0 where
   pub kept : IsFanned fan
   pub height : height_of (children_of fan) ≡ h
 
-pub made : (fan : Fan Seen) (cs : List Seen) (ss : List Pair) (h : ℕ) → IsFan fan → (children_of fan) ≡ cs → (separators_of fan) ≡ ss → IsRising mark_before (weave cs ss) → AllAt h cs → Made fan h
+pub made :
+    (fan : Fan Seen) (cs : List Seen) (ss : List Pair) (h : ℕ) → IsFan fan → (children_of fan) ≡ cs → (separators_of fan) ≡ ss
+    → IsRising mark_before (weave cs ss) → AllAt h cs → Made fan h
 made fan cs ss h sound a b rise all =
     let P : List Seen → Type 0 = λ v. AllAt h v in
     let level : AllAt h (children_of fan) = subst P (sym a) all in
     let top : height_of (children_of fan) ≡ h = height_of-all h (children_of fan) level sound.some in
     let Q : ℕ → Type 0 = λ n. AllAt n (children_of fan) in
     let R : List Mark → Type 0 = λ ms. IsRising mark_before ms in
-    let e : weave (children_of fan) (separators_of fan) ≡ weave cs ss = ap (λ (v : List Seen). weave v (separators_of fan)) a ∙ ap (λ (v : List Pair). weave cs v) b in
+    let e : weave (children_of fan) (separators_of fan) ≡ weave cs ss = ap (λ (v : List Seen). weave v (separators_of fan)) a
+    ∙ ap (λ (v : List Pair). weave cs v) b in
     record {
       kept = record { sound = sound; rising = subst R (sym e) rise; level = subst Q (sym top) level };
       height = top;
@@ -38,7 +41,8 @@ made fan cs ss h sound a b rise all =
 pub record Halves (cs : List Seen) (ss : List Pair) (i : ℕ) (n : Seen) (s : Pair) (fan other : Fan Seen) (between : Pair) : Type 0 where
   pub left : Made fan n.height
   pub right : Made other n.height
-  pub marks : weave (children_of fan) (separators_of fan) ++ Between between ∷ weave (children_of other) (separators_of other) ≡ weave (insert cs (i + 1) n) (insert ss i s)
+  pub marks : weave (children_of fan) (separators_of fan) ++ Between between ∷ weave (children_of other) (separators_of other)
+      ≡ weave (insert cs (i + 1) n) (insert ss i s)
 
 -- the parts of the separators around the one at k
 parted : (k : ℕ) (ss : List Pair) (m : Pair) → k < length ss → m ≡ get_or ss k m → ss ≡ take k ss ++ m ∷ drop (suc k) ss
@@ -68,7 +72,8 @@ halves_lower cs ss i n s fan right between full e h all rise sound1 sound2 at a 
     ∙ ap (λ (k : ℕ). weave (insert lo k n) (insert sl i s) ++ Between between ∷ weave hi sh) (sym one) in
     let R : List Mark → Type 0 = λ ms. IsRising mark_before ms in
     let j = rising_parts mark_before (weave (insert lo (i + 1) n) (insert sl i s)) (Between between ∷ weave hi sh) (subst R whole rise) in
-    let left = made fan (insert lo (i + 1) n) (insert sl i s) n.height sound1 a b j.left (AllAt-insert n.height (i + 1) lo n (AllAt-take n.height 16 cs all) refl) in
+    let left = made fan (insert lo (i + 1) n) (insert sl i s) n.height sound1 a b j.left
+    (AllAt-insert n.height (i + 1) lo n (AllAt-take n.height 16 cs all) refl) in
     record {
       left = left;
       right = made right hi sh n.height sound2 c d j.right.1 (AllAt-drop n.height 16 cs all);
@@ -110,7 +115,8 @@ halves_upper cs ss i n s fan right between full e h all rise sound1 sound2 at a 
     let j = rising_parts mark_before (weave lo sl) (Between between ∷ weave (insert hi (k + 1) n) (insert sh k s)) (subst R whole rise) in
     record {
       left = made fan lo sl n.height sound1 a b j.left (AllAt-take n.height 16 cs all);
-      right = made right (insert hi (k + 1) n) (insert sh k s) n.height sound2 c d j.right.1 (AllAt-insert n.height (k + 1) hi n (AllAt-drop n.height 16 cs all) refl);
+      right = made right (insert hi (k + 1) n) (insert sh k s) n.height sound2 c d j.right.1
+          (AllAt-insert n.height (k + 1) hi n (AllAt-drop n.height 16 cs all) refl);
       marks =
           ap (λ (u : List Seen). weave u (separators_of fan) ++ Between between ∷ weave (children_of right) (separators_of right)) a
           ∙ ap (λ (v : List Pair). weave lo v ++ Between between ∷ weave (children_of right) (separators_of right)) b

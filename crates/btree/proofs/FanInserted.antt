@@ -42,7 +42,8 @@ module _ {p : Pair} {seen : Seen} {fan : Fan Seen} {i : ℕ} {old new : Seen} {s
   grown =
       let R : List Mark → Type 0 = λ ms. IsRising mark_before ms in
       let G : List Mark → Type 0 = λ ms. GrownBy p ms (b.around.l ++ (marks_after new.marks split ++ b.around.r)) in
-      subst G (sym marks_is) (grown_inside p b.around.l old.marks b.around.r (marks_after new.marks split) b.inserted.grown (subst R (sym b.at.marks ∙ marks_is) b.at.rising) b.around.below b.around.above)
+      subst G (sym marks_is) (grown_inside p b.around.l old.marks b.around.r (marks_after new.marks split) b.inserted.grown
+      (subst R (sym b.at.marks ∙ marks_is) b.at.rising) b.around.below b.around.above)
 
   pub held : has mark_before (Item p) old.marks ≡ has mark_before (Item p) seen.marks
   held = sym (ap (has mark_before (Item p)) marks_is ∙ has-middle mark_before-strict (Item p) b.around.l old.marks b.around.r b.around.below b.around.above)
@@ -52,7 +53,8 @@ pub record Stays (p : Pair) (seen : Seen) (new : Kind) : Type 0 where
   pub kept : IsKind new
   pub inserted : Inserted p seen (seen_kind new) None
 
-pub stays : {p : Pair} {seen : Seen} {fan : Fan Seen} {i : ℕ} {old new : Seen} → Below p seen fan i old new None → Stays p seen (kind.Fan (with_child fan i new))
+pub stays :
+    {p : Pair} {seen : Seen} {fan : Fan Seen} {i : ℕ} {old new : Seen} → Below p seen fan i old new None → Stays p seen (kind.Fan (with_child fan i new))
 stays {p} {seen} {fan} {i} {old} {new} b =
     let g = grown b in
     let f = fanned_with b.at b.around new (b.inserted.height ∙ height_is b) g.rising in
@@ -67,12 +69,17 @@ pub record TakesIn (fan : Fan Seen) (i : ℕ) (new : Seen) (split : Split) : Typ
   pub rising : IsRising mark_before (weave (insert (set (children_of fan) i new) (i + 1) split.node) (insert (separators_of fan) i split.separator))
   pub level : AllAt split.node.height (set (children_of fan) i new)
 
-pub split_is : {p : Pair} {seen : Seen} {fan : Fan Seen} {i : ℕ} {old new : Seen} {split : Split} → (b : Below p seen fan i old new (Some split)) → weave (insert (set (children_of fan) i new) (i + 1) split.node) (insert (separators_of fan) i split.separator) ≡ b.around.l ++ (marks_after new.marks (Some split) ++ b.around.r)
+pub split_is :
+    {p : Pair} {seen : Seen} {fan : Fan Seen} {i : ℕ} {old new : Seen} {split : Split} → (b : Below p seen fan i old new (Some split))
+    → weave (insert (set (children_of fan) i new) (i + 1) split.node) (insert (separators_of fan) i split.separator) ≡ b.around.l
+    ++ (marks_after new.marks (Some split) ++ b.around.r)
 split_is {p} {seen} {fan} {i} {old} {new} {split} b =
     let one : i + 1 ≡ suc i = omega arith in
-    ap (λ (k : ℕ). weave (insert (set (children_of fan) i new) k split.node) (insert (separators_of fan) i split.separator)) one ∙ b.around.split new split.node split.separator
+    ap (λ (k : ℕ). weave (insert (set (children_of fan) i new) k split.node) (insert (separators_of fan) i split.separator)) one
+    ∙ b.around.split new split.node split.separator
 
-pub takes_in : {p : Pair} {seen : Seen} {fan : Fan Seen} {i : ℕ} {old new : Seen} {split : Split} → Below p seen fan i old new (Some split) → TakesIn fan i new split
+pub takes_in :
+    {p : Pair} {seen : Seen} {fan : Fan Seen} {i : ℕ} {old new : Seen} {split : Split} → Below p seen fan i old new (Some split) → TakesIn fan i new split
 takes_in {p} {seen} {fan} {i} {old} {new} {split} b =
     let R : List Mark → Type 0 = λ ms. IsRising mark_before ms in
     let beside : split.node.height ≡ old.height = b.inserted.beside in
@@ -83,8 +90,11 @@ takes_in {p} {seen} {fan} {i} {old} {new} {split} b =
       level = subst L same (AllAt-set (height_of (children_of fan)) (children_of fan) i new b.at.level (b.inserted.height ∙ height_is b));
     }
 
-pub takes_split : {p : Pair} {seen : Seen} {fan : Fan Seen} {i : ℕ} {old new : Seen} {split : Split} → Below p seen fan i old new (Some split) → (after : Fan Seen) (result : Option Split)
-    → marks_after (weave (children_of after) (separators_of after)) result ≡ weave (insert (set (children_of fan) i new) (i + 1) split.node) (insert (separators_of fan) i split.separator)
+pub takes_split :
+    {p : Pair} {seen : Seen} {fan : Fan Seen} {i : ℕ} {old new : Seen} {split : Split} → Below p seen fan i old new (Some split)
+    → (after : Fan Seen) (result : Option Split)
+    → marks_after (weave (children_of after) (separators_of after)) result
+    ≡ weave (insert (set (children_of fan) i new) (i + 1) split.node) (insert (separators_of fan) i split.separator)
     → height_of (children_of after) ≡ split.node.height → SplitAt (suc split.node.height) result → Inserted p seen (seen_kind (kind.Fan after)) result
 takes_split {p} {seen} {fan} {i} {old} {new} {split} b after result marks height side =
     let beside : split.node.height ≡ old.height = b.inserted.beside in
@@ -98,7 +108,9 @@ takes_split {p} {seen} {fan} {i} {old} {new} {split} b after result marks height
     }
 
 -- a leaf
-pub leaf_inserted : {seen : Seen} {pairs : List Pair} → AtLeaf seen pairs → (p : Pair) (new : List Pair) (result : Option Split) → GrownBy p (items_of pairs) (marks_after (items_of new) result) → SplitAt 0 result → Inserted p seen (seen_kind (kind.Leaf new)) result
+pub leaf_inserted :
+    {seen : Seen} {pairs : List Pair} → AtLeaf seen pairs → (p : Pair) (new : List Pair) (result : Option Split)
+    → GrownBy p (items_of pairs) (marks_after (items_of new) result) → SplitAt 0 result → Inserted p seen (seen_kind (kind.Leaf new)) result
 leaf_inserted {seen} {pairs} f p new result g side =
     let G : List Mark → Type 0 = λ ms. GrownBy p ms (marks_after (items_of new) result) in
     let S : ℕ → Type 0 = λ n. SplitAt n result in
@@ -114,7 +126,10 @@ used_within old new n m u h = record { leaf = u.leaf; blank = u.blank; used = om
 pub used_both : (old mid new : Spare) (n m k : ℕ) → IsUsed old mid n → IsUsed mid new m → n + m ≤ k → IsUsed old new k
 used_both old mid new n m k u v h = record { leaf = v.leaf; blank = v.blank; used = omega (arith, u.used, v.used) }
 
-pub below_at : {p : Pair} {seen : Seen} {fan : Fan Seen} {i : ℕ} {old new : Seen} {was split : Option Split} → AtFan seen fan → Around p (children_of fan) (separators_of fan) i → old ≡ get_or (children_of fan) i old → Inserted p old new was → was ≡ split → Below p seen fan i old new split
+pub below_at :
+    {p : Pair} {seen : Seen} {fan : Fan Seen} {i : ℕ} {old new : Seen} {was split : Option Split} → AtFan seen fan
+    → Around p (children_of fan) (separators_of fan) i → old ≡ get_or (children_of fan) i old → Inserted p old new was → was ≡ split
+    → Below p seen fan i old new split
 below_at {p} {seen} {fan} {i} {old} {new} {was} {split} f a is g e =
     let I : Option Split → Type 0 = λ s. Inserted p old new s in
     record { at = f; around = a; old_is = is; inserted = subst I e g }

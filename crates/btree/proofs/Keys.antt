@@ -37,7 +37,8 @@ then_first Greater s h = refl
 before_first : (p : Pair) (key : List ℕ) → is_before p (first_of key) ≡ is_less p.key key
 unfolding is_before
 before_first p key =
-    then_first (slice_cmp nat_cmp p.key key) (rid_cmp p.rid (record { page = 0; slot = 0 })) (then_least _ _ (least_number p.rid.page) (least_number p.rid.slot))
+    then_first (slice_cmp nat_cmp p.key key) (rid_cmp p.rid (record { page = 0; slot = 0 }))
+    (then_least _ _ (least_number p.rid.page) (least_number p.rid.slot))
 
 greater : (o : Ordering) → is_lt o ≡ false → is_eq o ≡ false → is_lt (ordering_reverse o) ≡ true
 greater Less e f = absurd (true≢false e)
@@ -97,7 +98,9 @@ leading_rest key (p ∷ ps) r h = elim (cases_Bool (is_key key p)) [
 ]
 
 -- none of the pairs from the least of a key on has a less key
-from_key : (key : List ℕ) (p : Pair) (ps : List Pair) → IsRising is_before (p ∷ ps) → is_before p (first_of key) ≡ false → (q : Pair) → In q (p ∷ ps) → is_less q.key key ≡ false
+from_key :
+    (key : List ℕ) (p : Pair) (ps : List Pair) → IsRising is_before (p ∷ ps) → is_before p (first_of key) ≡ false → (q : Pair) → In q (p ∷ ps)
+    → is_less q.key key ≡ false
 from_key key p ps r stop q h = elim h [
   | inl is ↦ ap (λ t. is_less t.key key) is ∙ sym (before_first p key) ∙ stop
   | inr i ↦ sym (before_first q key) ∙ not_before p q (first_of key) (r.0 q i) stop

@@ -37,7 +37,9 @@ pub record Halved (ps lo hi : List Pair) (first : Pair) : Type 0 where
 whole : {ps lo hi : List Pair} {first : Pair} → Halved ps lo hi first → lo ++ hi ≡ ps
 whole {ps} {lo} {hi} h = ap (λ (a : List Pair). a ++ hi) h.kept ∙ ap (λ (b : List Pair). take 16 ps ++ b) h.moved ∙ take-append-drop 16 ps
 
-pub split_lower : {ps lo hi : List Pair} {first : Pair} → Halved ps lo hi first → (p : Pair) (key : List ℕ) → key ≡ first.key → is_before p (record { key = key; rid = first.rid }) ≡ true → (new : List Pair) (marks : List Mark) → new ≡ put is_before p lo → marks ≡ items_of hi → GrownBy p (items_of ps) (items_of new ++ Between (record { key = key; rid = first.rid }) ∷ marks)
+pub split_lower : {ps lo hi : List Pair} {first : Pair} → Halved ps lo hi first → (p : Pair) (key : List ℕ) → key ≡ first.key
+    → is_before p (record { key = key; rid = first.rid }) ≡ true → (new : List Pair) (marks : List Mark) → new ≡ put is_before p lo → marks ≡ items_of hi
+    → GrownBy p (items_of ps) (items_of new ++ Between (record { key = key; rid = first.rid }) ∷ marks)
 split_lower {ps} {lo} {hi} {first} h p key is lt new marks e m =
     let sep : Pair = record { key = key; rid = first.rid } in
     let same : sep ≡ first = pair_same sep first is refl in
@@ -51,7 +53,9 @@ split_lower {ps} {lo} {hi} {first} h p key is lt new marks e m =
     let g = grown_lower p sep lo hi (subst R (sym (whole h)) h.ordered.rising) (omega (arith, a)) (omega (arith, b)) (subst F (sym same) h.at_front) lt in
     subst P (whole h) (subst Q (sym e) (subst S (sym m) g))
 
-pub split_upper : {ps lo hi : List Pair} {first : Pair} → Halved ps lo hi first → (p : Pair) (key : List ℕ) → key ≡ first.key → is_before p (record { key = key; rid = first.rid }) ≡ false → (new : List Pair) (marks : List Mark) → new ≡ put is_before p hi → marks ≡ items_of new → GrownBy p (items_of ps) (items_of lo ++ Between (record { key = key; rid = first.rid }) ∷ marks)
+pub split_upper : {ps lo hi : List Pair} {first : Pair} → Halved ps lo hi first → (p : Pair) (key : List ℕ) → key ≡ first.key
+    → is_before p (record { key = key; rid = first.rid }) ≡ false → (new : List Pair) (marks : List Mark) → new ≡ put is_before p hi → marks ≡ items_of new
+    → GrownBy p (items_of ps) (items_of lo ++ Between (record { key = key; rid = first.rid }) ∷ marks)
 split_upper {ps} {lo} {hi} {first} h p key is lt new marks e m =
     let sep : Pair = record { key = key; rid = first.rid } in
     let same : sep ≡ first = pair_same sep first is refl in
@@ -76,7 +80,9 @@ grown_then_parted p old mid new g a = record {
   below = λ m h u. a.below m (g.below m h u);
 }
 
-put_end : (p last : Pair) (ps : List Pair) → PairsRise ps → length ps ≡ 32 → last ≡ get_or ps 31 last → is_before last p ≡ true → put is_before p ps ≡ ps ++ p ∷ []
+put_end :
+    (p last : Pair) (ps : List Pair) → PairsRise ps → length ps ≡ 32 → last ≡ get_or ps 31 last → is_before last p ≡ true
+    → put is_before p ps ≡ ps ++ p ∷ []
 put_end p last ps o full is lt =
     let n = front_count (λ q. is_before q p) ps in
     let reach : 31 + 1 ≤ n = below_more ps p last 31 o (omega (arith, full)) is lt in
@@ -86,12 +92,15 @@ put_end p last ps o full is lt =
     (h.last (omega (arith, all))).put ∙ ap (λ (k : ℕ). insert ps k p) all ∙ insert_end ps p
 
 -- a pair behind all others starts a leaf of its own
-pub grown_end : (p last sep : Pair) (ps : List Pair) (marks : List Mark) → PairsRise ps → length ps ≡ 32 → last ≡ get_or ps 31 last → is_before last p ≡ true → sep ≡ p → marks ≡ Item p ∷ [] → GrownBy p (items_of ps) (items_of ps ++ Between sep ∷ marks)
+pub grown_end :
+    (p last sep : Pair) (ps : List Pair) (marks : List Mark) → PairsRise ps → length ps ≡ 32 → last ≡ get_or ps 31 last → is_before last p ≡ true → sep ≡ p
+    → marks ≡ Item p ∷ [] → GrownBy p (items_of ps) (items_of ps ++ Between sep ∷ marks)
 grown_end p last sep [] marks o full is lt same m = absurd (omega arith)
 grown_end p last sep (z ∷ lo) marks o full is lt same m =
     let e = put_end p last (z ∷ lo) o full is lt in
     let g = grown_put p (z ∷ lo) ((z ∷ lo) ++ p ∷ []) o (sym e) in
-    let r : IsRising is_before ((z ∷ lo) ++ p ∷ []) = let R : List Pair → Type 0 = λ qs. IsRising is_before qs in subst R e (rising_put before-strict p (z ∷ lo) o.rising) in
+    let r : IsRising is_before ((z ∷ lo) ++ p ∷ []) = let R : List Pair
+    → Type 0 = λ qs. IsRising is_before qs in subst R e (rising_put before-strict p (z ∷ lo) o.rising) in
     let S : Pair → Type 0 = λ t. GrownBy p (items_of (z ∷ lo)) (items_of (z ∷ lo) ++ Between t ∷ marks) in
     let M : List Mark → Type 0 = λ ms. GrownBy p (items_of (z ∷ lo)) (items_of (z ∷ lo) ++ Between p ∷ ms) in
     subst S (sym same) (subst M (sym m) (grown_then_parted p _ _ _ g (parted_leaf z lo p [] r)))

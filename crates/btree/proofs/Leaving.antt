@@ -1,6 +1,7 @@
 -- The leaf that a pair belongs to, and what is behind it.
 use Rattle.tree_nodes.specs.Fans.{children_of, separators_of}
-use Rattle.std.proofs.Common.{◌≡◌, ℕ, suc, ◌<◌, ◌≤◌, Bool, true, false, List, [], ◌∷◌, ◌++◌, Option, Some, None, Bor, get_or, take, drop, refl, sym, ap, ◌∙◌, subst, inl, inr, arith, append_assoc}
+use Rattle.std.proofs.Common.{◌≡◌, ℕ, suc, ◌<◌, ◌≤◌, Bool, true, false, List, [], ◌∷◌, ◌++◌, Option, Some, None, Bor, get_or, take, drop, refl, sym}
+use Rattle.std.proofs.Common.{ap, ◌∙◌, subst, inl, inr, arith, append_assoc}
 use Rattle.std.proofs.lemmas.Bool.{cases_Bool, both_ways, not-true}
 use Rattle.std.proofs.lemmas.List.{take-append-drop}
 use Rattle.keybytes.specs.declared.pair.Pair.{Pair}
@@ -41,7 +42,9 @@ append-nil : {X : Type 0} (xs : List X) → xs ++ [] ≡ xs
 append-nil [] = refl
 append-nil (x ∷ xs) = ap (λ ys. x ∷ ys) (append-nil xs)
 
-pub leaf_of_leaf : {seen : Seen} {pairs : List Pair} → AtLeaf seen pairs → PairsRise pairs → (p : Pair) (leaf : List Pair) → leaf ≡ drop (front_count (λ q. is_before q p) pairs) pairs → LeafFrom p seen.marks leaf None
+pub leaf_of_leaf :
+    {seen : Seen} {pairs : List Pair} → AtLeaf seen pairs → PairsRise pairs → (p : Pair) (leaf : List Pair)
+    → leaf ≡ drop (front_count (λ q. is_before q p) pairs) pairs → LeafFrom p seen.marks leaf None
 leaf_of_leaf {seen} {pairs} f o p leaf e =
     let n = front_count (λ q. is_before q p) pairs in
     let R : List Pair → Type 0 = λ qs. (q : Pair) → In q qs → is_before q p ≡ false in
@@ -61,7 +64,10 @@ leaf_of_leaf {seen} {pairs} f o p leaf e =
 shift : (l a w b r : List Mark) → l ++ ((a ++ (w ++ b)) ++ r) ≡ (l ++ a) ++ (w ++ (b ++ r))
 shift l a w b r = simp append_assoc
 
-pub leaf_of_child : {seen : Seen} {fan : Fan Seen} {p : Pair} {i : ℕ} → AtFan seen fan → (a : Around p (children_of fan) (separators_of fan) i) → (child : Seen) → child ≡ get_or (children_of fan) i child → (leaf : List Pair) (next : Bor Pair) → LeafFrom p child.marks leaf (Some next) → LeafFrom p seen.marks leaf (Some next)
+pub leaf_of_child :
+    {seen : Seen} {fan : Fan Seen} {p : Pair} {i : ℕ} → AtFan seen fan → (a : Around p (children_of fan) (separators_of fan) i) → (child : Seen)
+    → child ≡ get_or (children_of fan) i child → (leaf : List Pair) (next : Bor Pair) → LeafFrom p child.marks leaf (Some next)
+    → LeafFrom p seen.marks leaf (Some next)
 leaf_of_child {seen} {fan} {p} {i} f a child is leaf next g = record {
   before = a.l ++ g.before;
   after = g.after ++ a.r;
@@ -77,7 +83,10 @@ leaf_of_child {seen} {fan} {p} {i} f a child is leaf next g = record {
   ];
 }
 
-pub leaf_at_end : {seen : Seen} {fan : Fan Seen} {p : Pair} {i : ℕ} → AtFan seen fan → (a : Around p (children_of fan) (separators_of fan) i) → (child : Seen) → child ≡ get_or (children_of fan) i child → (leaf : List Pair) (next : Option (Bor Pair)) (rest : List Mark) → LeafFrom p child.marks leaf None → a.r ≡ next_marks next rest → LeafFrom p seen.marks leaf next
+pub leaf_at_end :
+    {seen : Seen} {fan : Fan Seen} {p : Pair} {i : ℕ} → AtFan seen fan → (a : Around p (children_of fan) (separators_of fan) i) → (child : Seen)
+    → child ≡ get_or (children_of fan) i child → (leaf : List Pair) (next : Option (Bor Pair)) (rest : List Mark) → LeafFrom p child.marks leaf None
+    → a.r ≡ next_marks next rest → LeafFrom p seen.marks leaf next
 leaf_at_end {seen} {fan} {p} {i} f a child is leaf next rest g e =
     let B : List Mark → Type 0 = λ ms. (m : Mark) → In m ms → mark_before (Item p) m ≡ true in
     record {
@@ -105,11 +114,15 @@ from-not_below p (q ∷ b) h = rw (h q (inl refl)) refl
 pub record Leaving (p : Pair) (pairs leaf : List Pair) (next : Option (Bor Pair)) : Type 0 where
   pub is : from p pairs ≡ leaf ++ from_next next pairs
 
-pairs_behind : (next : Option (Bor Pair)) (before : List Mark) (leaf : List Pair) (after : List Mark) → IsRising mark_before (before ++ (items_of leaf ++ next_marks next after)) → from_next next (pairs_in (before ++ (items_of leaf ++ next_marks next after))) ≡ pairs_in (next_marks next after)
+pairs_behind :
+    (next : Option (Bor Pair)) (before : List Mark) (leaf : List Pair) (after : List Mark)
+    → IsRising mark_before (before ++ (items_of leaf ++ next_marks next after))
+    → from_next next (pairs_in (before ++ (items_of leaf ++ next_marks next after))) ≡ pairs_in (next_marks next after)
 pairs_behind None before leaf after r = refl
 pairs_behind (Some next) before leaf after r =
     let a = before ++ items_of leaf in
-    let shape : before ++ (items_of leaf ++ Between next.now ∷ after) ≡ a ++ Between next.now ∷ after = sym (append_assoc before (items_of leaf) (Between next.now ∷ after)) in
+    let shape : before ++ (items_of leaf ++ Between next.now ∷ after) ≡ a
+    ++ Between next.now ∷ after = sym (append_assoc before (items_of leaf) (Between next.now ∷ after)) in
     let R : List Mark → Type 0 = λ ms. IsRising mark_before ms in
     let j = rising_parts mark_before a (Between next.now ∷ after) (subst R shape r) in
     ap (λ (ms : List Mark). from next.now (pairs_in ms)) shape
@@ -117,11 +130,14 @@ pairs_behind (Some next) before leaf after r =
     ∙ from-below next.now (pairs_in a) (pairs_in after) (λ q i. j.apart (Item q) (Between next.now) (in-pairs_in q a i) (inl refl))
     ∙ from-not_below next.now (pairs_in after) (λ q i. not-true _ (j.right.0 (Item q) (in-pairs_in q after i)))
 
-pub leaving : (p : Pair) (marks : List Mark) (leaf : List Pair) (next : Option (Bor Pair)) → IsRising mark_before marks → LeafFrom p marks leaf next → Leaving p (pairs_in marks) leaf next
+pub leaving :
+    (p : Pair) (marks : List Mark) (leaf : List Pair) (next : Option (Bor Pair)) → IsRising mark_before marks → LeafFrom p marks leaf next
+    → Leaving p (pairs_in marks) leaf next
 leaving p marks leaf next r g =
     let R : List Mark → Type 0 = λ ms. IsRising mark_before ms in
     let tail = next_marks next g.after in
-    let tail_pairs : pairs_in (items_of leaf ++ tail) ≡ leaf ++ pairs_in tail = pairs_in-append (items_of leaf) tail ∙ ap (λ (ps : List Pair). ps ++ pairs_in tail) (pairs_in-items_of leaf) in
+    let tail_pairs : pairs_in (items_of leaf ++ tail) ≡ leaf ++ pairs_in tail = pairs_in-append (items_of leaf) tail
+    ∙ ap (λ (ps : List Pair). ps ++ pairs_in tail) (pairs_in-items_of leaf) in
     let split : pairs_in marks ≡ pairs_in g.before ++ (leaf ++ pairs_in tail) =
     ap pairs_in g.is ∙ pairs_in-append g.before (items_of leaf ++ tail) ∙ ap (λ (ps : List Pair). pairs_in g.before ++ ps) tail_pairs in
     record {
@@ -132,17 +148,22 @@ leaving p marks leaf next r g =
             | inl k ↦ g.reached q k
             | inr k ↦ one_way before-strict p q (g.behind (Item q) (in-pairs_in q tail k))
           ])
-          ∙ ap (λ (ps : List Pair). leaf ++ ps) (sym (ap (λ (ms : List Mark). from_next next (pairs_in ms)) g.is ∙ pairs_behind next g.before leaf g.after (subst R g.is r)));
+          ∙ ap (λ (ps : List Pair). leaf ++ ps) (sym (ap (λ (ms : List Mark). from_next next (pairs_in ms)) g.is
+          ∙ pairs_behind next g.before leaf g.after (subst R g.is r)));
     }
 
-pub told : {p : Pair} {marks : List Mark} {leaf : List Pair} {was next : Option (Bor Pair)} → LeafFrom p marks leaf was → was ≡ next → LeafFrom p marks leaf next
+pub told :
+    {p : Pair} {marks : List Mark} {leaf : List Pair} {was next : Option (Bor Pair)} → LeafFrom p marks leaf was → was ≡ next → LeafFrom p marks leaf next
 told {p} {marks} {leaf} {was} {next} g e = let L : Option (Bor Pair) → Type 0 = λ o. LeafFrom p marks leaf o in subst L e g
 
 pub next_above : (p : Pair) (marks : List Mark) (leaf : List Pair) (next : Option (Bor Pair)) → LeafFrom p marks leaf next → NextAbove p marks next
 next_above p marks leaf None g = tt
 next_above p marks leaf (Some next) g =
-    let I : List Mark → Type 0 = λ ms. In (Between next.now) ms in
-    (g.behind (Between next.now) (inl refl), subst I (sym g.is) (in_right (Between next.now) g.before _ (in_right (Between next.now) (items_of leaf) _ (inl refl))))
+    let I : List Mark → Type 0 = λ ms. In (Between next.now) ms in (
+      g.behind (Between next.now) (inl refl),
+      subst I (sym g.is)
+          (in_right (Between next.now) g.before _ (in_right (Between next.now) (items_of leaf) _ (inl refl))),
+    )
 
 above-le : (s n : Pair) (marks : List Mark) → is_before s n ≡ true → above n marks ≤ above s marks
 above-le s n [] h = omega arith
@@ -158,7 +179,8 @@ pub above-lt : (s n : Pair) (marks : List Mark) → is_before s n ≡ true → I
 above-lt s n [] h i = absurd i
 above-lt s n (m ∷ marks) h i = elim i [
   | inl is ↦
-      let no_itself : mark_before (Between n) m ≡ false = let P : Mark → Type 0 = λ x. mark_before (Between n) x ≡ false in subst P is (mark_before-strict.not_itself (Between n)) in
+      let no_itself : mark_before (Between n) m ≡ false = let P : Mark → Type 0 = λ x. mark_before (Between n) x
+      ≡ false in subst P is (mark_before-strict.not_itself (Between n)) in
       let yes_above : mark_before (Between s) m ≡ true = let P : Mark → Type 0 = λ x. mark_before (Between s) x ≡ true in subst P is h in
       rw (no_itself, yes_above) (omega (arith, above-le s n marks h))
   | inr k ↦ elim (cases_Bool (mark_before (Between n) m)) [

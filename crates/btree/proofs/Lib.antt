@@ -5,6 +5,7 @@ pub mod FanGrown
 pub mod FanInserted
 pub mod MarksGrown
 pub mod LeafGrown
+pub mod LeavesIn
 pub mod Leaving
 pub mod Loads
 pub mod MarkFacts

@@ -19,7 +19,9 @@ items_in q [] h = absurd h
 items_in q (p ∷ ps) h = elim h [ inl e ↦ inl (ap Item e) | inr i ↦ inr (items_in q ps i) ]
 
 -- in the middle of other marks
-pub grown_inside : (p : Pair) (l w r new : List Mark) → GrownBy p w new → IsRising mark_before (l ++ (w ++ r)) → ((y : Mark) → In y l → mark_before y (Item p) ≡ true) → ((y : Mark) → In y r → mark_before (Item p) y ≡ true) → GrownBy p (l ++ (w ++ r)) (l ++ (new ++ r))
+pub grown_inside :
+    (p : Pair) (l w r new : List Mark) → GrownBy p w new → IsRising mark_before (l ++ (w ++ r)) → ((y : Mark) → In y l → mark_before y (Item p) ≡ true)
+    → ((y : Mark) → In y r → mark_before (Item p) y ≡ true) → GrownBy p (l ++ (w ++ r)) (l ++ (new ++ r))
 grown_inside p l w r new g rise before behind =
     let j = rising_parts mark_before l (w ++ r) rise in
     let k = rising_parts mark_before w r j.right in
@@ -40,7 +42,8 @@ grown_inside p l w r new g rise before behind =
       pairs =
           pairs_in-append l (new ++ r)
           ∙ ap (λ ps. pairs_in l ++ ps) (pairs_in-append new r ∙ ap (λ ps. ps ++ pairs_in r) g.pairs)
-          ∙ sym (put-middle before-strict p (pairs_in l) (pairs_in w) (pairs_in r) (λ q i. before (Item q) (in-pairs_in q l i)) (λ q i. behind (Item q) (in-pairs_in q r i)))
+          ∙ sym (put-middle before-strict p (pairs_in l) (pairs_in w) (pairs_in r) (λ q i. before (Item q) (in-pairs_in q l i))
+          (λ q i. behind (Item q) (in-pairs_in q r i)))
           ∙ ap (put is_before p) (sym (pairs_in-append l (w ++ r) ∙ ap (λ ps. pairs_in l ++ ps) (pairs_in-append w r)));
       above = λ m h u x i. elim (in_either x l (new ++ r) i) [
         | inl n ↦ h x (in_left x l (w ++ r) n)
@@ -92,12 +95,16 @@ grown_parted p old mid new a g = record {
   below = λ m h u. g.below m (a.below m h) u;
 }
 
-pub parted_leaf : (z : Pair) (lo : List Pair) (s : Pair) (hi : List Pair) → IsRising is_before ((z ∷ lo) ++ (s ∷ hi)) → Parted (items_of ((z ∷ lo) ++ (s ∷ hi))) (items_of (z ∷ lo) ++ Between s ∷ items_of (s ∷ hi))
+pub parted_leaf :
+    (z : Pair) (lo : List Pair) (s : Pair) (hi : List Pair) → IsRising is_before ((z ∷ lo) ++ (s ∷ hi))
+    → Parted (items_of ((z ∷ lo) ++ (s ∷ hi))) (items_of (z ∷ lo) ++ Between s ∷ items_of (s ∷ hi))
 parted_leaf z lo s hi rise =
     let j = rising_parts is_before (z ∷ lo) (s ∷ hi) rise in
     let whole : items_of ((z ∷ lo) ++ (s ∷ hi)) ≡ items_of (z ∷ lo) ++ items_of (s ∷ hi) = items_of-append (z ∷ lo) (s ∷ hi) in
-    let inner : (x : Mark) → In x (items_of (z ∷ lo)) → In x (items_of ((z ∷ lo) ++ (s ∷ hi))) = λ x i. let V : List Mark → Type 0 = λ ms. In x ms in subst V (sym whole) (in_left x (items_of (z ∷ lo)) (items_of (s ∷ hi)) i) in
-    let outer : (x : Mark) → In x (items_of (s ∷ hi)) → In x (items_of ((z ∷ lo) ++ (s ∷ hi))) = λ x i. let V : List Mark → Type 0 = λ ms. In x ms in subst V (sym whole) (in_right x (items_of (z ∷ lo)) (items_of (s ∷ hi)) i) in
+    let inner : (x : Mark) → In x (items_of (z ∷ lo)) → In x (items_of ((z ∷ lo) ++ (s ∷ hi))) = λ x i. let V : List Mark
+    → Type 0 = λ ms. In x ms in subst V (sym whole) (in_left x (items_of (z ∷ lo)) (items_of (s ∷ hi)) i) in
+    let outer : (x : Mark) → In x (items_of (s ∷ hi)) → In x (items_of ((z ∷ lo) ++ (s ∷ hi))) = λ x i. let V : List Mark
+    → Type 0 = λ ms. In x ms in subst V (sym whole) (in_right x (items_of (z ∷ lo)) (items_of (s ∷ hi)) i) in
     let first : mark_before (Between s) (Item s) ≡ true = not_from_false _ (before-strict.not_itself s) in
     let rest = rising-items_of (s ∷ hi) j.right in
     let tail : IsRising mark_before (Between s ∷ items_of (s ∷ hi)) =
@@ -111,7 +118,8 @@ parted_leaf z lo s hi rise =
             let to : mark_before x (Between s) ≡ true = rw n.1.0 (j.apart n.0 s n.1.1 (inl refl)) in
             elim i [ inl e ↦ rw e to | inr k ↦ onward x (Between s) y to (tail.0 y k) ];
       });
-      pairs = pairs_in-append (items_of (z ∷ lo)) (Between s ∷ items_of (s ∷ hi)) ∙ sym (pairs_in-append (items_of (z ∷ lo)) (items_of (s ∷ hi))) ∙ ap pairs_in (sym whole);
+      pairs = pairs_in-append (items_of (z ∷ lo)) (Between s ∷ items_of (s ∷ hi)) ∙ sym (pairs_in-append (items_of (z ∷ lo)) (items_of (s ∷ hi)))
+          ∙ ap pairs_in (sym whole);
       above = λ m h x i. elim (in_either x (items_of (z ∷ lo)) (Between s ∷ items_of (s ∷ hi)) i) [
         | inl n ↦ h x (inner x n)
         | inr n ↦ elim n [
@@ -129,7 +137,9 @@ parted_leaf z lo s hi rise =
     }
 
 -- a leaf is split, and the pair goes into its lower or its upper half
-pub grown_lower : (p s : Pair) (lo hi : List Pair) → IsRising is_before (lo ++ hi) → 0 < length lo → 0 < length hi → s ≡ get_or hi 0 s → is_before p s ≡ true → GrownBy p (items_of (lo ++ hi)) (items_of (put is_before p lo) ++ Between s ∷ items_of hi)
+pub grown_lower :
+    (p s : Pair) (lo hi : List Pair) → IsRising is_before (lo ++ hi) → 0 < length lo → 0 < length hi → s ≡ get_or hi 0 s → is_before p s ≡ true
+    → GrownBy p (items_of (lo ++ hi)) (items_of (put is_before p lo) ++ Between s ∷ items_of hi)
 grown_lower p s [] hi rise some_lo some_hi is lt = absurd (omega arith)
 grown_lower p s (z ∷ lo) [] rise some_lo some_hi is lt = absurd (omega arith)
 grown_lower p s (z ∷ lo) (q ∷ hi) rise some_lo some_hi is lt =
@@ -138,7 +148,8 @@ grown_lower p s (z ∷ lo) (q ∷ hi) rise some_lo some_hi is lt =
     let parted = parted_leaf z lo q hi rise in
     let j = rising_parts mark_before (items_of (z ∷ lo)) (Between q ∷ items_of (q ∷ hi)) parted.rising in
     subst Q (sym is) (grown_parted p _ _ _ parted
-    (grown_inside p [] (items_of (z ∷ lo)) (Between q ∷ items_of (q ∷ hi)) _ (grown_leaf p (z ∷ lo) (rising_parts is_before (z ∷ lo) (q ∷ hi) rise).left) parted.rising
+    (grown_inside p [] (items_of (z ∷ lo)) (Between q ∷ items_of (q ∷ hi)) _ (grown_leaf p (z ∷ lo) (rising_parts is_before (z ∷ lo) (q ∷ hi) rise).left)
+    parted.rising
     (λ y h. absurd h)
     (λ y h. elim h [ inl e ↦ rw e less | inr i ↦ onward (Item p) (Between q) y less (j.right.0 y i) ])))
 
@@ -146,7 +157,9 @@ append-nil : {X : Type 0} (xs : List X) → xs ++ [] ≡ xs
 append-nil [] = refl
 append-nil (x ∷ xs) = ap (λ ys. x ∷ ys) (append-nil xs)
 
-pub grown_upper : (p s : Pair) (lo hi : List Pair) → IsRising is_before (lo ++ hi) → 0 < length lo → 0 < length hi → s ≡ get_or hi 0 s → is_before p s ≡ false → GrownBy p (items_of (lo ++ hi)) (items_of lo ++ Between s ∷ items_of (put is_before p hi))
+pub grown_upper :
+    (p s : Pair) (lo hi : List Pair) → IsRising is_before (lo ++ hi) → 0 < length lo → 0 < length hi → s ≡ get_or hi 0 s → is_before p s ≡ false
+    → GrownBy p (items_of (lo ++ hi)) (items_of lo ++ Between s ∷ items_of (put is_before p hi))
 grown_upper p s [] hi rise some_lo some_hi is lt = absurd (omega arith)
 grown_upper p s (z ∷ lo) [] rise some_lo some_hi is lt = absurd (omega arith)
 grown_upper p s (z ∷ lo) (q ∷ hi) rise some_lo some_hi is lt =
@@ -156,9 +169,11 @@ grown_upper p s (z ∷ lo) (q ∷ hi) rise some_lo some_hi is lt =
     let j = rising_parts mark_before (items_of (z ∷ lo)) (Between q ∷ items_of (q ∷ hi)) parted.rising in
     let w = items_of (q ∷ hi) in
     let l = items_of (z ∷ lo) ++ Between q ∷ [] in
-    let shape : (v : List Mark) → l ++ (v ++ []) ≡ items_of (z ∷ lo) ++ Between q ∷ v = λ v. append_assoc (items_of (z ∷ lo)) (Between q ∷ []) (v ++ []) ∙ ap (λ (u : List Mark). items_of (z ∷ lo) ++ Between q ∷ u) (append-nil v) in
+    let shape : (v : List Mark) → l ++ (v ++ []) ≡ items_of (z ∷ lo) ++ Between q ∷ v = λ v. append_assoc (items_of (z ∷ lo)) (Between q ∷ []) (v ++ [])
+    ∙ ap (λ (u : List Mark). items_of (z ∷ lo) ++ Between q ∷ u) (append-nil v) in
     let R : List Mark → Type 0 = λ ms. IsRising mark_before ms in
-    let g = grown_inside p l w [] (items_of (put is_before p (q ∷ hi))) (grown_leaf p (q ∷ hi) (rising_parts is_before (z ∷ lo) (q ∷ hi) rise).right) (subst R (sym (shape w)) parted.rising)
+    let g = grown_inside p l w [] (items_of (put is_before p (q ∷ hi))) (grown_leaf p (q ∷ hi) (rising_parts is_before (z ∷ lo) (q ∷ hi) rise).right)
+    (subst R (sym (shape w)) parted.rising)
     (λ y h. elim (in_either y (items_of (z ∷ lo)) (Between q ∷ []) h) [
       | inl i ↦ onward y (Between q) (Item p) (j.apart y (Between q) i (inl refl)) less
       | inr i ↦ elim i [ inl e ↦ rw e less | inr n ↦ absurd n ]

@@ -25,7 +25,8 @@ module _ {X : Type 0} {lt : X → X → Bool} (o : IsStrict lt) (x : X) where
   without-right (y ∷ w) r h =
       elim (cases_Bool (same_by lt x y)) [ inl e ↦ rw e refl | inr e ↦ rw e (ap (λ zs. y ∷ zs) (without-right w r h)) ]
 
-  pub without-middle : (l w r : List X) → ((y : X) → In y l → lt y x ≡ true) → ((y : X) → In y r → lt x y ≡ true) → without lt x (l ++ (w ++ r)) ≡ l ++ (without lt x w ++ r)
+  pub without-middle :
+      (l w r : List X) → ((y : X) → In y l → lt y x ≡ true) → ((y : X) → In y r → lt x y ≡ true) → without lt x (l ++ (w ++ r)) ≡ l ++ (without lt x w ++ r)
   without-middle l w r h k = without-left l (w ++ r) h ∙ ap (λ zs. l ++ zs) (without-right w r k)
 
   put-left : (l m : List X) → ((y : X) → In y l → lt y x ≡ true) → put lt x (l ++ m) ≡ l ++ put lt x m
@@ -44,5 +45,6 @@ module _ {X : Type 0} {lt : X → X → Bool} (o : IsStrict lt) (x : X) where
         | inr e ↦ elim (cases_Bool (lt y x)) [ inl f ↦ rw (e, f) (ap (λ zs. y ∷ zs) (put-right w r h)) | inr f ↦ rw (e, f) refl ]
       ]
 
-  pub put-middle : (l w r : List X) → ((y : X) → In y l → lt y x ≡ true) → ((y : X) → In y r → lt x y ≡ true) → put lt x (l ++ (w ++ r)) ≡ l ++ (put lt x w ++ r)
+  pub put-middle :
+      (l w r : List X) → ((y : X) → In y l → lt y x ≡ true) → ((y : X) → In y r → lt x y ≡ true) → put lt x (l ++ (w ++ r)) ≡ l ++ (put lt x w ++ r)
   put-middle l w r h k = put-left l (w ++ r) h ∙ ap (λ zs. l ++ zs) (put-right w r k)

@@ -40,7 +40,10 @@ pub record Fanned (seen : Seen) (fan : Fan Seen) (marks : List Mark) : Type 0 wh
   pub is : weave (children_of fan) (separators_of fan) ≡ marks
   pub height : suc (height_of (children_of fan)) ≡ seen.height
 
-pub fanned_with : {seen : Seen} {fan : Fan Seen} {p : Pair} {i : ℕ} → AtFan seen fan → (a : Around p (children_of fan) (separators_of fan) i) → (child : Seen) → child.height ≡ height_of (children_of fan) → IsRising mark_before (a.l ++ (child.marks ++ a.r)) → Fanned seen (with_child fan i child) (a.l ++ (child.marks ++ a.r))
+pub fanned_with :
+    {seen : Seen} {fan : Fan Seen} {p : Pair} {i : ℕ} → AtFan seen fan → (a : Around p (children_of fan) (separators_of fan) i) → (child : Seen)
+    → child.height ≡ height_of (children_of fan) → IsRising mark_before (a.l ++ (child.marks ++ a.r))
+    → Fanned seen (with_child fan i child) (a.l ++ (child.marks ++ a.r))
 fanned_with {seen} {fan} {p} {i} f a child h rise =
     let sound = sound_with fan i child f.sound in
     let all = AllAt-set (height_of (children_of fan)) (children_of fan) i child f.level h in
@@ -58,7 +61,8 @@ pub record Removed (p : Pair) (old : Seen) (new : Kind) : Type 0 where
   pub marks : (seen_kind new).marks ≡ without mark_before (Item p) old.marks
   pub height : (seen_kind new).height ≡ old.height
 
-pub removed_leaf : {seen : Seen} {pairs : List Pair} → AtLeaf seen pairs → (p : Pair) (new : List Pair) → new ≡ without is_before p pairs → Removed p seen (kind.Leaf new)
+pub removed_leaf :
+    {seen : Seen} {pairs : List Pair} → AtLeaf seen pairs → (p : Pair) (new : List Pair) → new ≡ without is_before p pairs → Removed p seen (kind.Leaf new)
 removed_leaf {seen} {pairs} f p new e =
     let m : items_of new ≡ without mark_before (Item p) (items_of pairs) = ap items_of e ∙ sym (without-items_of p pairs) in
     let Q : List Mark → Type 0 = λ ms. IsRising mark_before ms in
@@ -68,11 +72,15 @@ removed_leaf {seen} {pairs} f p new e =
       height = sym f.height;
     }
 
-pub removed_fan : {seen : Seen} {fan : Fan Seen} {p : Pair} {i : ℕ} → AtFan seen fan → Around p (children_of fan) (separators_of fan) i → (old child : Seen) → old ≡ get_or (children_of fan) i old → child.marks ≡ without mark_before (Item p) old.marks → child.height ≡ old.height → Removed p seen (kind.Fan (with_child fan i child))
+pub removed_fan :
+    {seen : Seen} {fan : Fan Seen} {p : Pair} {i : ℕ} → AtFan seen fan → Around p (children_of fan) (separators_of fan) i → (old child : Seen)
+    → old ≡ get_or (children_of fan) i old → child.marks ≡ without mark_before (Item p) old.marks → child.height ≡ old.height
+    → Removed p seen (kind.Fan (with_child fan i child))
 removed_fan {seen} {fan} {p} {i} f a old child is marks height =
     let at : weave (children_of fan) (separators_of fan) ≡ a.l ++ (old.marks ++ a.r) = a.is old ∙ ap (λ (c : Seen). a.l ++ (c.marks ++ a.r)) (sym is) in
     let whole : without mark_before (Item p) (weave (children_of fan) (separators_of fan)) ≡ a.l ++ (child.marks ++ a.r) =
-    ap (without mark_before (Item p)) at ∙ without-middle mark_before-strict (Item p) a.l old.marks a.r a.below a.above ∙ ap (λ ms. a.l ++ (ms ++ a.r)) (sym marks) in
+    ap (without mark_before (Item p)) at ∙ without-middle mark_before-strict (Item p) a.l old.marks a.r a.below a.above
+    ∙ ap (λ ms. a.l ++ (ms ++ a.r)) (sym marks) in
     let Q : List Mark → Type 0 = λ ms. IsRising mark_before ms in
     let h : old.height ≡ height_of (children_of fan) = ap (λ (c : Seen). c.height) is ∙ AllAt-get _ _ _ _ f.level a.within in
     let new = fanned_with f a child (height ∙ h) (subst Q whole (rising_without mark_before (Item p) (weave (children_of fan) (separators_of fan)) f.rising)) in

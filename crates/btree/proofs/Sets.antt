@@ -48,7 +48,8 @@ in_put p q (r ∷ ps) = elim (cases_Bool (is_before p r)) [
   | inl e ↦ rw e refl
   | inr e ↦ elim (cases_Bool (is_before r p)) [
     | inl f ↦ rw (e, f) (ap (λ b. eq_by_cmp pair_cmp q r || b) (in_put p q ps) ∙ or_swap (eq_by_cmp pair_cmp q r) (eq_by_cmp pair_cmp q p) (is_in q ps))
-    | inr f ↦ rw (e, f) (sym (ap (λ t. eq_by_cmp pair_cmp q t || (eq_by_cmp pair_cmp q r || is_in q ps)) (before-strict.tied p r e f) ∙ or_twice (eq_by_cmp pair_cmp q r) (is_in q ps)))
+    | inr f ↦ rw (e, f) (sym (ap (λ t. eq_by_cmp pair_cmp q t || (eq_by_cmp pair_cmp q r || is_in q ps)) (before-strict.tied p r e f)
+        ∙ or_twice (eq_by_cmp pair_cmp q r) (is_in q ps)))
   ]
 ]
 

@@ -1,11 +1,12 @@
 -- The pairs of a tree among its marks.
-use Rattle.std.proofs.Common.{◌≡◌, ℕ, suc, ◌+◌, Bool, true, false, cond, not, ◌&&◌, ◌||◌, List, [], ◌∷◌, ◌++◌, Option, length, get_or, refl, sym, ap, ◌∙◌, subst, inl, inr, arith, append_assoc}
+use Rattle.std.proofs.Common.{◌≡◌, ℕ, suc, ◌+◌, Bool, true, false, cond, not, ◌&&◌, ◌||◌, List, [], ◌∷◌, ◌++◌, Option, length, get_or, refl, ap}
+use Rattle.std.proofs.Common.{◌∙◌, subst, inl, inr, arith}
 use Rattle.std.proofs.lemmas.Bool.{cases_Bool, cases_lt, both_ways}
 use Rattle.std.proofs.lemmas.List.Edits.{length-insert}
 use Rattle.keybytes.specs.declared.pair.Pair.{Pair}
 use Rattle.tree_nodes.specs.declared.fan.Fan.{Fan}
 use Rattle.tree_nodes.specs.Lists.{IsRising, IsStrict, same_by, has, put, without, front_count}
-use Rattle.tree_nodes.specs.Order.{is_before, PairsRise}
+use Rattle.tree_nodes.specs.Order.{is_before}
 use Rattle.btree.specs.Marks.{Mark, Item, Between, mark_before, pairs_in}
 use Rattle.btree.specs.Seen.{Seen}
 use Rattle.tree_nodes.specs.Fans.{IsBlankFan}
@@ -15,8 +16,7 @@ use Rattle.btree.specs.Grown.{GrownBy}
 use Rattle.btree.specs.Trees.{tree_value, IsTree}
 use Rattle.btree.specs.Roots.{marks_under, height_under}
 use Rattle.tree_nodes.proofs.Strict.{before-strict}
-use Rattle.tree_nodes.proofs.Places.{put_present, here, one_way}
-use Rattle.tree_nodes.proofs.Rising.{in_right}
+use Rattle.tree_nodes.proofs.Places.{put_present, here}
 use Rattle.btree.proofs.MarkFacts.{in-pairs_in}
 
 not_both : (b : Bool) → (not b && not (not b)) ≡ false
@@ -44,7 +44,9 @@ length-without lt x [] = refl
 length-without lt x (y ∷ ys) =
     elim (cases_Bool (same_by lt x y)) [ inl e ↦ rw e (omega arith) | inr e ↦ rw e (omega (arith, length-without lt x ys)) ]
 
-pub length-put : {X : Type 0} {lt : X → X → Bool} → IsStrict lt → (x : X) (ys : List X) → IsRising lt ys → length (put lt x ys) ≡ length ys + cond (not (has lt x ys)) 1 0
+pub length-put :
+    {X : Type 0} {lt : X → X → Bool} → IsStrict lt → (x : X) (ys : List X) → IsRising lt ys
+    → length (put lt x ys) ≡ length ys + cond (not (has lt x ys)) 1 0
 length-put {lt = lt} o x ys r =
     let h = here o x ys r in
     elim (cases_Bool (has lt x ys)) [
@@ -102,16 +104,3 @@ added_count {tree} {root} a p new added one g f o =
 pub deeper_height : (before after : ℕ) (deeper : Bool) (one : ℕ) → after ≡ cond deeper (suc before) before → one ≡ cond deeper 1 0 → before + one ≡ after
 deeper_height before after true one e f = omega arith
 deeper_height before after false one e f = omega arith
-
--- a pair behind all others
-put_last : (p : Pair) (a b : List Pair) → IsRising is_before (a ++ p ∷ b) → put is_before p a ≡ a ++ p ∷ []
-put_last p [] b r = refl
-put_last p (q ∷ a) b r =
-    let less : is_before q p ≡ true = r.0 p (in_right p a (p ∷ b) (inl refl)) in
-    rw (one_way before-strict q p less, less) (ap (λ ps. q ∷ ps) (put_last p a b r.1))
-
-pub loaded_more : (p : Pair) (pairs left rest all new : List Pair) → PairsRise all → pairs ++ left ≡ all → left ≡ p ∷ rest → new ≡ put is_before p pairs → new ++ rest ≡ all
-loaded_more p pairs left rest all new o e f g =
-    let whole : pairs ++ p ∷ rest ≡ all = ap (λ (ps : List Pair). pairs ++ ps) (sym f) ∙ e in
-    let R : List Pair → Type 0 = λ ps. IsRising is_before ps in
-    ap (λ (ps : List Pair). ps ++ rest) (g ∙ put_last p pairs rest (subst R (sym whole) o.rising)) ∙ append_assoc pairs (p ∷ []) rest ∙ whole

@@ -17,7 +17,8 @@ most_at h (child ∷ children) a = omega (arith, a.0, most_at h children a.1)
 
 falls_kind : (k : Kind) → IsKind k → deep-Kind k ≤ (seen_kind k).height
 falls_kind (kind.Leaf pairs) h = omega arith
-falls_kind (kind.Fan fan) h = let m : most (λ child. child.height + 1) (children_of fan) ≤ suc (height_of (children_of fan)) = most_at _ _ h.level in omega arith
+falls_kind (kind.Fan fan) h = let m : most (λ child. child.height + 1) (children_of fan) ≤ suc (height_of (children_of fan)) = most_at _ _ h.level in omega
+    arith
 
 pub falls : (a : Inside) → IsNode a → max (deep-Kind a.kind) 0 ≤ (seen a).height
 falls a h = omega (arith, falls_kind a.kind h)

@@ -25,3 +25,14 @@ abbrev pub pairs_in : List Mark → List Pair
 pairs_in [] = []
 pairs_in (Item pair ∷ marks) = pair ∷ pairs_in marks
 pairs_in (Between pair ∷ marks) = pairs_in marks
+
+-- a pair in front of the first list's
+abbrev pub in_first : Pair → List (List Pair) → List (List Pair)
+in_first pair [] = (pair ∷ []) ∷ []
+in_first pair (leaf ∷ leaves) = (pair ∷ leaf) ∷ leaves
+
+-- the pairs of each leaf: between each two leaves stands one separator
+abbrev pub leaves_in : List Mark → List (List Pair)
+leaves_in [] = [] ∷ []
+leaves_in (Item pair ∷ marks) = in_first pair (leaves_in marks)
+leaves_in (Between pair ∷ marks) = [] ∷ leaves_in marks

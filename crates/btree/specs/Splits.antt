@@ -6,13 +6,19 @@ use Rattle.btree.specs.declared.split.Split.{Split}
 use Rattle.btree.specs.declared.spare.Spare.{Spare}
 use Rattle.btree.specs.Marks.{Mark, Between}
 use Rattle.btree.specs.Seen.{Seen}
-use Rattle.tree_nodes.specs.Fans.{IsBlankFan}
+use Rattle.std.specs.List.{insert}
+use Rattle.tree_nodes.specs.Fans.{children_of, separators_of, IsBlankFan}
+use Rattle.btree.specs.Weave.{weave}
 use Rattle.btree.specs.Grown.{GrownBy}
 
 -- the marks of a node and of what was split off it
 abbrev pub marks_after : List Mark → Option Split → List Mark
 marks_after marks None = marks
 marks_after marks (Some split) = marks ++ Between split.separator ∷ split.node.marks
+
+-- the marks of a fan, were what was split off its child at that place put behind that child
+abbrev pub marks_with : Fan Seen → ℕ → Split → List Mark
+marks_with fan place split = weave (insert (children_of fan) (place + 1) split.node) (insert (separators_of fan) place split.separator)
 
 -- what was split off has that height
 abbrev pub SplitAt : ℕ → Option Split → Type 0

@@ -1,15 +1,16 @@
 -- A tree as its callers see it, and what they may ask of its pairs.
-use Rattle.std.specs.Prelude.{ℕ, Bool, not, ◌&&◌, List, map}
-use Rattle.std.specs.List.{filter}
+use Rattle.std.specs.Prelude.{◌≡◌, ◌⊎◌, ◌≤◌, ℕ, Bool, not, ◌&&◌, List, [], ◌∷◌, ◌++◌, map, length}
+use Rattle.std.specs.List.{All, filter}
 use Rattle.std.specs.Ordering.{nat_cmp, is_eq, is_lt}
 use Rattle.std.specs.Cmp.Lexicographic.{slice_cmp}
 use Rattle.keybytes.specs.declared.pair.Pair.{Pair}
 use Rattle.keybytes.specs.declared.rid.Rid.{Rid}
 
--- the pairs in order, and whether there is room for one more
+-- the pairs in order, whether there is room for one more, and the pairs of each leaf, from left to right
 pub record TreeValue : Type 0 where
   pub pairs : List Pair
   pub room : Bool
+  pub leaves : List (List Pair)
 
 -- the first key is less than the second
 abbrev pub is_less : List ℕ → List ℕ → Bool
@@ -26,3 +27,12 @@ rids_of key pairs = map (λ pair. pair.rid) (filter (is_key key) pairs)
 -- the pairs whose key isn't less than lo, and less than hi
 abbrev pub pairs_between : List ℕ → List ℕ → List Pair → List Pair
 pairs_between lo hi pairs = filter (λ pair. not (is_less pair.key lo) && is_less pair.key hi) pairs
+
+-- leaves that are filled from left to right: each but the last has 32 pairs, and the last has the rest, at least one unless it is alone
+pub record AreFilled (leaves : List (List Pair)) : Type 0 where
+  pub full : List (List Pair)
+  pub rest : List Pair
+  pub is : leaves ≡ full ++ rest ∷ []
+  pub have_32 : All (λ leaf. length leaf ≡ 32) full
+  pub few : length rest ≤ 32
+  pub some : (full ≡ []) ⊎ (1 ≤ length rest)

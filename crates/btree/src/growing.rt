@@ -1,13 +1,11 @@
 //! Inserts into a leaf and into a fan, which are split where they are full.
 ghost use Rattle.std.specs.Prelude.{◌≡◌, ◌<◌, ◌≤◌, ◌+◌, [], ◌∷◌, suc, not, length, Some, vec_len};
-ghost use Rattle.std.specs.List.{insert};
 ghost use Rattle.tree_nodes.specs.Fans.{children_of, separators_of, IsFan};
-ghost use Rattle.tree_nodes.specs.Found.{IsGap};
 ghost use Rattle.tree_nodes.specs.Lists.{has, IsRising};
 ghost use Rattle.tree_nodes.specs.Order.{is_before, PairsRise};
 ghost use Rattle.btree.specs.Grown.{GrownBy};
 ghost use Rattle.btree.specs.Marks.{Item, mark_before, items_of};
-ghost use Rattle.btree.specs.Splits.{marks_after, SplitAt, AllBlank, IsStocked, LeafBlank, IsUsed};
+ghost use Rattle.btree.specs.Splits.{marks_after, marks_with, SplitAt, AllBlank, IsStocked, LeafBlank, IsUsed};
 ghost use Rattle.btree.specs.Nodes.{IsFanned};
 ghost use Rattle.btree.specs.Weave.{weave, height_of, AllAt};
 
@@ -129,13 +127,13 @@ pub fn insert_into_fan(
 ) -> Option<Split>
     requires fan { IsFan fan.old }
     requires within { place < length (children_of fan.old) }
-    requires rising { IsRising mark_before (weave (insert (children_of fan.old) (place + 1) split.node) (insert (separators_of fan.old) place split.separator)) }
+    requires rising { IsRising mark_before (marks_with fan.old place split) }
     requires level { AllAt split.node.height (children_of fan.old) }
     requires blank { AllBlank spare.old.fans.items }
     requires enough { 1 ≤ vec_len spare.old.fans }
     requires leaf { LeafBlank spare.old.leaf }
     ensures fanned { IsFanned fan.new }
-    ensures marks { marks_after (weave (children_of fan.new) (separators_of fan.new)) result ≡ weave (insert (children_of fan.old) (place + 1) split.node) (insert (separators_of fan.old) place split.separator) }
+    ensures marks { marks_after (weave (children_of fan.new) (separators_of fan.new)) result ≡ marks_with fan.old place split }
     ensures height { height_of (children_of fan.new) ≡ split.node.height }
     ensures beside { SplitAt (suc split.node.height) result }
     ensures used { IsUsed spare.old spare.new 1 }

@@ -1,5 +1,6 @@
 ghost use Rattle.std.specs.Prelude.{◌≡◌, [], ◌∷◌, ◌++◌, length, IfOk, IfErr, OnOk, OnErr};
 ghost use Rattle.keybytes.specs.Pairs.{AreOrdered};
+ghost use Rattle.btree.specs.TreeValue.{AreFilled};
 
 use crate::node::Node;
 use crate::rooting::{Raised, append_under};
@@ -91,6 +92,7 @@ impl Loader {
     /// The tree of the pairs.
     pub fn finish(self) -> Result<Tree, Fault>
         ensures pairs { IfOk result (λ tree. tree.pairs ≡ self) }
+        ensures filled { IfOk result (λ tree. AreFilled tree.leaves) }
         ensures memory { IfErr result (λ fault. fault ≡ Fault.Memory) }
     {
         let Loader {
@@ -101,6 +103,7 @@ impl Loader {
             count,
             mut spare,
         } = self;
+        let _few = leaf.pairs();
         fill_fans(&mut spare.fans, alloc, height)?;
         let Raised { root, deeper } = append_under(full, leaf, &mut spare);
         Ok(Tree::of(alloc, root, height + one_if(deeper), count, spare))

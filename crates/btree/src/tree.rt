@@ -5,7 +5,7 @@ ghost use Rattle.tree_nodes.specs.Lists.{IsRising};
 ghost use Rattle.tree_nodes.specs.Order.{PairsRise};
 ghost use Rattle.btree.specs.From.{from};
 ghost use Rattle.btree.specs.Left.{pairs_left, range_left};
-ghost use Rattle.btree.specs.Marks.{mark_before, pairs_in};
+ghost use Rattle.btree.specs.Marks.{mark_before, pairs_in, leaves_in};
 ghost use Rattle.btree.specs.Splits.{IsTidy};
 ghost use Rattle.btree.specs.TreeValue.{rids_of, pairs_between};
 
@@ -19,8 +19,8 @@ use std::alloc::Global;
 use std::cmp::Ordering;
 use std::marker::Model;
 
-/// Pairs of a key and a RID in order, none twice. Contracts see the list of the pairs, and whether there is room for one
-/// more.
+/// Pairs of a key and a RID in order, none twice. Contracts see the list of the pairs, whether there is room for one more,
+/// and which pairs each leaf has.
 #[derive(Drop)]
 pub struct Tree {
     alloc: Global,
@@ -64,7 +64,8 @@ impl Tree {
         requires height { height ≡ root.height }
         requires count { count ≡ length (pairs_in root.marks) }
         requires tidy { IsTidy spare }
-        ensures { result.pairs ≡ pairs_in root.marks }
+        ensures pairs { result.pairs ≡ pairs_in root.marks }
+        ensures leaves { result.leaves ≡ leaves_in root.marks }
     {
         Tree {
             alloc,
@@ -132,7 +133,8 @@ impl Tree {
     pub fn iter(&self) -> Pairs<'_>
         ensures { pairs_left result ≡ self.now.pairs }
     {
-        self.from(&Key::new(self.alloc))
+        let least = Key::new(self.alloc);
+        self.from(&least)
     }
 
     /// The pairs in order, from the least that the key may have.

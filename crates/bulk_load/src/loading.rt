@@ -1,4 +1,5 @@
 ghost use Rattle.std.specs.Prelude.{◌≡◌, IfOk, IfErr};
+ghost use Rattle.btree.specs.TreeValue.{AreFilled};
 ghost use Rattle.keybytes.specs.Pairs.{AreOrdered};
 
 use crate::Source;
@@ -6,10 +7,12 @@ use btree::{Loader, Tree};
 use keybytes::Fault;
 use std::alloc::Global;
 
-/// The tree of pairs that come in order, none twice. After an `Err` the pairs that were taken are lost.
+/// The tree of pairs that come in order, none twice, with its leaves filled from left to right. After an `Err` the pairs that
+/// were taken are lost.
 pub fn load<S: Source>(alloc: Global, source: &mut S) -> Result<Tree, Fault>
     requires { AreOrdered (S.left source.old) }
     ensures pairs { IfOk result (λ tree. tree.pairs ≡ S.left source.old) }
+    ensures filled { IfOk result (λ tree. AreFilled tree.leaves) }
     ensures memory { IfErr result (λ fault. fault ≡ Fault.Memory) }
 {
     let mut loader = Loader::new(alloc)?;

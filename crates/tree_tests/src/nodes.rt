@@ -1,7 +1,7 @@
 //! Each call of a leaf and of a fan once.
 
-use crate::fixtures::pair;
-use keybytes::{Fault, Pair, Rid};
+use crate::fixtures::{pair, rid};
+use keybytes::{Fault, Pair};
 use std::alloc::Global;
 use std::test::Fail;
 use tree_nodes::{Fan, Leaf};
@@ -36,13 +36,11 @@ fn a_fan(rt: HostRuntime) -> Result<(), Fail> {
     fan.start(0);
     fan.insert(0, pair(rt.alloc(), 30)?, 2);
     fan.insert(0, pair(rt.alloc(), 10)?, 1);
-    let Pair { key, rid } = pair(rt.alloc(), 10)?;
-    assert!(rt; fan.find(&key, rid) == 1 && fan.find(&key, Rid { page: 0, slot: 0 }) == 0);
-    assert!(rt; fan.len() == 3 && *fan.child(2) == 2 && fan.separator(0).rid == rid);
+    assert!(rt; fan.len() == 3 && *fan.child(2) == 2 && fan.separator(0).rid == rid(10));
     *fan.child_mut(2) = 7;
     let mut rest = Fan::new(rt.alloc())?;
     let between = fan.split(1, &mut rest);
-    assert!(rt; between.rid == rid && fan.len() == 1 && *rest.child(1) == 7);
+    assert!(rt; between.rid == rid(10) && fan.len() == 1 && *rest.child(1) == 7);
     let (_, child) = rest.remove(0);
     assert!(rt; child == 7 && rest.len() == 1);
     Ok(())

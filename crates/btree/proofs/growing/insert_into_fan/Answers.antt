@@ -16,38 +16,53 @@ split-between-requires-clause-blank c = (blank_last _ _ _ c.requires.blank c.in-
 
 pub returns-then-len-lt-FAN_MAX-clause-fanned : goal.returns-then-len-lt-FAN_MAX-clause-fanned
 returns-then-len-lt-FAN_MAX-clause-fanned c =
-    (made _ _ _ c.args.split.node.height c.insert.ensures.fan c.insert.ensures.children c.insert.ensures.separators c.requires.rising (AllAt-insert _ _ _ _ c.requires.level refl)).kept
+    (made _ _ _ c.args.split.node.height c.insert.ensures.fan c.insert.ensures.children c.insert.ensures.separators c.requires.rising
+    (AllAt-insert _ _ _ _ c.requires.level refl)).kept
 
 pub returns-then-len-lt-FAN_MAX-clause-height : goal.returns-then-len-lt-FAN_MAX-clause-height
 returns-then-len-lt-FAN_MAX-clause-height c =
-    (made _ _ _ c.args.split.node.height c.insert.ensures.fan c.insert.ensures.children c.insert.ensures.separators c.requires.rising (AllAt-insert _ _ _ _ c.requires.level refl)).height
+    (made _ _ _ c.args.split.node.height c.insert.ensures.fan c.insert.ensures.children c.insert.ensures.separators c.requires.rising
+    (AllAt-insert _ _ _ _ c.requires.level refl)).height
 
-halves : (c : Joined-place-lt-FAN_KEPT) → Halves (children_of c.args.fan.now) (separators_of c.args.fan.now) c.args.place c.args.split.node c.args.split.separator c.if-place-lt-FAN_KEPT.fan c.if-place-lt-FAN_KEPT.right c.split-between.result
+halves :
+    (c : Joined-place-lt-FAN_KEPT)
+    → Halves (children_of c.args.fan.now) (separators_of c.args.fan.now) c.args.place c.args.split.node c.args.split.separator c.if-place-lt-FAN_KEPT.fan
+    c.if-place-lt-FAN_KEPT.right c.split-between.result
 halves c =
     let few = c.requires.fan.few in
     let full : length (children_of c.args.fan.now) ≡ 32 = omega arith in
     elim c.if-place-lt-FAN_KEPT.branch [
-      | then-place-lt-FAN_KEPT w ↦ rw (w.fan-is, w.right-is) (halves_lower _ _ _ _ _ _ _ _ full c.requires.fan.between w.if-place-lt-FAN_KEPT.true c.requires.level c.requires.rising
+      | then-place-lt-FAN_KEPT w ↦ rw (w.fan-is, w.right-is) (halves_lower _ _ _ _ _ _ _ _ full c.requires.fan.between w.if-place-lt-FAN_KEPT.true
+          c.requires.level c.requires.rising
           w.insert-then-place-lt-FAN_KEPT.ensures.fan c.split-between.ensures.into_fan c.split-between.ensures.between
-          (w.insert-then-place-lt-FAN_KEPT.ensures.children ∙ ap (λ (v : List Seen). insert v (c.args.place + 1) c.args.split.node) c.split-between.ensures.children)
-          (w.insert-then-place-lt-FAN_KEPT.ensures.separators ∙ ap (λ (v : List Pair). insert v c.args.place c.args.split.separator) c.split-between.ensures.separators)
+          (w.insert-then-place-lt-FAN_KEPT.ensures.children
+          ∙ ap (λ (v : List Seen). insert v (c.args.place + 1) c.args.split.node) c.split-between.ensures.children)
+          (w.insert-then-place-lt-FAN_KEPT.ensures.separators
+          ∙ ap (λ (v : List Pair). insert v c.args.place c.args.split.separator) c.split-between.ensures.separators)
           c.split-between.ensures.into_children c.split-between.ensures.into_separators)
-      | else-place-lt-FAN_KEPT w ↦ rw (w.fan-is, w.right-is) (halves_upper _ _ _ _ _ _ _ _ full c.requires.fan.between w.if-place-lt-FAN_KEPT.false c.requires.level c.requires.rising
+      | else-place-lt-FAN_KEPT w ↦ rw (w.fan-is, w.right-is) (halves_upper _ _ _ _ _ _ _ _ full c.requires.fan.between w.if-place-lt-FAN_KEPT.false
+          c.requires.level c.requires.rising
           c.split-between.ensures.fan w.insert-else-place-lt-FAN_KEPT.ensures.fan c.split-between.ensures.between
           c.split-between.ensures.children c.split-between.ensures.separators
-          (w.insert-else-place-lt-FAN_KEPT.ensures.children ∙ ap (λ (v : List Seen). insert v (c.args.place - 16 + 1) c.args.split.node) c.split-between.ensures.into_children)
-          (w.insert-else-place-lt-FAN_KEPT.ensures.separators ∙ ap (λ (v : List Pair). insert v (c.args.place - 16) c.args.split.separator) c.split-between.ensures.into_separators))
+          (w.insert-else-place-lt-FAN_KEPT.ensures.children
+          ∙ ap (λ (v : List Seen). insert v (c.args.place - 16 + 1) c.args.split.node) c.split-between.ensures.into_children)
+          (w.insert-else-place-lt-FAN_KEPT.ensures.separators
+          ∙ ap (λ (v : List Pair). insert v (c.args.place - 16) c.args.split.separator) c.split-between.ensures.into_separators))
     ]
 
 pub fan-requires-2 : goal.fan-requires-2
 fan-requires-2 c = (halves c).right.kept
 
-ends : (c : After-start) → Halves (children_of c.args.fan.now) (separators_of c.args.fan.now) c.args.place c.args.split.node c.args.split.separator c.args.fan.now c.start.new.self c.args.split.separator
+ends :
+    (c : After-start)
+    → Halves (children_of c.args.fan.now) (separators_of c.args.fan.now) c.args.place c.args.split.node c.args.split.separator c.args.fan.now
+    c.start.new.self c.args.split.separator
 ends c =
     let few = c.requires.fan.few in
     let full : length (children_of c.args.fan.now) ≡ 32 = omega arith in
     let place : c.args.place ≡ 31 = omega arith in
-    halves_end _ _ _ _ _ _ _ full c.requires.fan.between place c.requires.level c.requires.rising c.requires.fan c.start.ensures.fan refl refl c.start.ensures.children c.start.ensures.separators
+    halves_end _ _ _ _ _ _ _ full c.requires.fan.between place c.requires.level c.requires.rising c.requires.fan c.start.ensures.fan refl refl
+    c.start.ensures.children c.start.ensures.separators
 
 pub fan-requires : goal.fan-requires
 fan-requires c = (ends c).right.kept
@@ -70,7 +85,12 @@ pub returns-then-place-clause-beside : goal.returns-then-place-clause-beside
 returns-then-place-clause-beside c = c.fan.ensures.height ∙ ap suc (ends c.before).right.height
 
 pub returns-then-place-clause-used : goal.returns-then-place-clause-used
-returns-then-place-clause-used c = record { leaf = c.requires.leaf; blank = (blank_last _ _ _ c.requires.blank c.in-Some.ensures.items).1; used = omega (arith, c.in-Some.ensures.len) }
+returns-then-place-clause-used c = record {
+  leaf = c.requires.leaf;
+  blank = (blank_last _ _ _ c.requires.blank c.in-Some.ensures.items).1;
+  used = omega
+      (arith, c.in-Some.ensures.len);
+}
 
 pub returns-clause-fanned : goal.returns-clause-fanned
 returns-clause-fanned c = (halves c.before).left.kept
@@ -88,4 +108,9 @@ pub returns-clause-beside : goal.returns-clause-beside
 returns-clause-beside c = c.fan-2.ensures.height ∙ ap suc (halves c.before).right.height
 
 pub returns-clause-used : goal.returns-clause-used
-returns-clause-used c = record { leaf = c.requires.leaf; blank = (blank_last _ _ _ c.requires.blank c.in-Some.ensures.items).1; used = omega (arith, c.in-Some.ensures.len) }
+returns-clause-used c = record {
+  leaf = c.requires.leaf;
+  blank = (blank_last _ _ _ c.requires.blank c.in-Some.ensures.items).1;
+  used = omega
+      (arith, c.in-Some.ensures.len);
+}

@@ -15,8 +15,10 @@ returns-clause-grown c =
       at_front = cc (c.index-pairs-0.is, c.pairs-2.ensures.pairs);
     } in
     elim c.if-is_after.branch [
-      | then-is_after w ↦ split_lower h c.args.pair c.copy.result c.copy.ensures.copy (sym c.is_after.ensures ∙ w.if-is_after.true) _ _ (w.leaf-is ∙ w.insert.ensures) (c.leaf.ensures.marks ∙ ap items_of w.right-is)
-      | else-is_after w ↦ rw w.leaf-is (split_upper h c.args.pair c.copy.result c.copy.ensures.copy (sym c.is_after.ensures ∙ w.if-is_after.false) _ _ (w.right-is ∙ w.insert-else-is_after.ensures) c.leaf.ensures.marks)
+      | then-is_after w ↦ split_lower h c.args.pair c.copy.result c.copy.ensures.copy (sym c.is_after.ensures ∙ w.if-is_after.true) _ _
+          (w.leaf-is ∙ w.insert.ensures) (c.leaf.ensures.marks ∙ ap items_of w.right-is)
+      | else-is_after w ↦ rw w.leaf-is (split_upper h c.args.pair c.copy.result c.copy.ensures.copy (sym c.is_after.ensures ∙ w.if-is_after.false) _ _
+          (w.right-is ∙ w.insert-else-is_after.ensures) c.leaf.ensures.marks)
     ]
 
 pub returns-clause-rising : goal.returns-clause-rising
@@ -24,7 +26,8 @@ returns-clause-rising c = rising_left _ _ _ _ _ (returns-clause-grown c)
 
 pub returns-then-is_before-clause-grown : goal.returns-then-is_before-clause-grown
 returns-then-is_before-clause-grown c =
-    grown_end c.args.pair c.index-pairs.result _ _ _ c.requires.rise c.requires.full (cc (c.index-pairs.is, c.pairs.ensures.pairs)) (sym c.is_before.ensures ∙ c.if-is_before.true) c.start_leaf.ensures.separator c.start_leaf.ensures.marks
+    grown_end c.args.pair c.index-pairs.result _ _ _ c.requires.rise c.requires.full (cc (c.index-pairs.is, c.pairs.ensures.pairs))
+    (sym c.is_before.ensures ∙ c.if-is_before.true) c.start_leaf.ensures.separator c.start_leaf.ensures.marks
 
 pub returns-then-is_before-clause-rising : goal.returns-then-is_before-clause-rising
 returns-then-is_before-clause-rising c = rising_left _ _ _ _ _ (returns-then-is_before-clause-grown c)

@@ -7,6 +7,7 @@ use Rattle.tree_nodes.proofs.Strict.{pair_same}
 use Rattle.btree.specs.declared.loader.Full.{Full}
 use Rattle.btree.specs.Loading.{marks_behind, height_behind}
 use Rattle.btree.specs.Marks.{mark_before, items_of, pairs_in}
+use Rattle.btree.proofs.LeavesIn.{full_after}
 use Rattle.btree.proofs.Loads.{pushed, started}
 use Rattle.btree.proofs.Sets.{rises_of}
 use Rattle.btree.proofs.TreeFacts.{deeper_height}
@@ -18,7 +19,8 @@ order was now p is o = subst (λ ps. IsRising is_before (ps ++ p ∷ [])) (sym i
 
 pub push-requires-clause-rise : goal.push-requires-clause-rise
 push-requires-clause-rise c =
-    (pushed (marks_behind c.self.inside.full) c.self.inside.leaf c.args.pair c.self.invariant.rising c.self.invariant.begun (order _ _ c.args.pair c.self.view_is c.requires)).leaf
+    (pushed (marks_behind c.self.inside.full) c.self.inside.leaf c.args.pair c.self.invariant.rising c.self.invariant.begun
+    (order _ _ c.args.pair c.self.view_is c.requires)).leaf
 
 pub invariant_of-self : goal.invariant_of-self
 invariant_of-self c =
@@ -34,6 +36,7 @@ invariant_of-self c =
     record {
       rising = subst R (sym is) b.rising;
       begun = inr (omega (arith, ap length is, len));
+      full = c.self.invariant.full;
       height_is = c.self.invariant.height_is;
       count_is = omega (arith, all, c.self.invariant.count_is, c.in-Some.ensures);
       tidy = c.self.invariant.tidy;
@@ -57,6 +60,7 @@ invariant_of-self-2 c =
     record {
       rising = b.rising;
       begun = inr (omega (arith, b.one));
+      full = full_after c.self.inside.full ps _ c.self.invariant.full (omega (arith, c.if-pairs-lt-LEAF_MAX.false, c.pairs.ensures.few, ap length c.pairs.ensures.pairs)) is;
       height_is =
           ap (λ n. n + c.one_if.result) (c.self.invariant.height_is ∙ ap height_behind (sym c.take.ensures.value))
           ∙ deeper_height _ _ _ _ under.height.is c.one_if.ensures;

@@ -38,7 +38,8 @@ pub returns-clause-appended : goal.returns-clause-appended
 returns-clause-appended t c = elim c.match-self.branch [
   | in-Leaf w ↦
       let f = at_leaf c.self.view_is c.self.invariant w.in-Leaf.is in
-      rw (w.self-inside-is, w.result-is) (leaf_ends c.args.self.now _ w.leaf.result c.args.separator _ c.self.view_is f.height w.leaf.ensures.marks w.leaf.ensures.height)
+      rw (w.self-inside-is, w.result-is) (leaf_ends c.args.self.now _ w.leaf.result c.args.separator _ c.self.view_is f.height w.leaf.ensures.marks
+      w.leaf.ensures.height)
   | in-Fan+in-None w ↦
       let f = at_fan c.self.view_is c.self.invariant w.in-Fan.is in
       let e = at_end f c.requires.rising (omega (arith, w.len-last.ensures, f.sound.some)) in

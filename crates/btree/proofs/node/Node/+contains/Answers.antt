@@ -20,7 +20,8 @@ pub contains-requires-in-Fan : goal.contains-requires-in-Fan
 contains-requires-in-Fan t c =
     let f = at_fan c.self.view_is c.self.invariant c.in-Fan.is in
     let a = around_fan f _ _ c.find-place.ensures in
-    let h : c.child.result.now.height ≡ height_of (children_of c.in-Fan.fan) = ap (λ (s : Seen). s.height) c.child.ensures ∙ AllAt-get _ _ _ _ f.level a.within in
+    let h : c.child.result.now.height ≡ height_of (children_of c.in-Fan.fan) = ap (λ (s : Seen). s.height) c.child.ensures
+    ∙ AllAt-get _ _ _ _ f.level a.within in
     (omega (arith, f.height, c.decreases), tt)
 
 pub returns-in-Leaf : goal.returns-in-Leaf

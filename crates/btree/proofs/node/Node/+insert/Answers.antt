@@ -21,8 +21,17 @@ pub insert-added-requires : goal.insert-added-requires
 insert-added-requires t c =
     let f = at_fan c.self.view_is c.self.invariant c.in-Fan.is in
     let a = around_fan f c.args.pair _ c.find-place.ensures in
-    let h : c.child_mut.result.now.height ≡ height_of (children_of c.in-Fan.fan) = ap (λ (s : Seen). s.height) c.child_mut.ensures.child ∙ AllAt-get _ _ _ _ f.level a.within in
-    (omega (arith, f.height, c.decreases), record { leaf = c.requires.leaf; key = c.requires.key; blank = c.requires.blank; enough = omega (arith, f.height, c.requires.enough) })
+    let h : c.child_mut.result.now.height ≡ height_of (children_of c.in-Fan.fan) = ap (λ (s : Seen). s.height) c.child_mut.ensures.child
+    ∙ AllAt-get _ _ _ _ f.level a.within in (
+      omega (arith, f.height, c.decreases),
+      record {
+        leaf = c.requires.leaf;
+        key = c.requires.key;
+        blank = c.requires.blank;
+        enough = omega
+            (arith, f.height, c.requires.enough);
+      },
+    )
 
 pub insert_into_fan-requires-clause-within : goal.insert_into_fan-requires-clause-within
 insert_into_fan-requires-clause-within t c =
@@ -72,7 +81,8 @@ returns-clause-inserted t c = elim c.match-self.branch [
   | in-Fan+in-Some w ↦
       let f = at_fan c.self.view_is c.self.invariant w.in-Fan.is in
       let b = below_at f (around_fan f c.args.pair _ w.find-place.ensures) w.child_mut.ensures.child w.insert-added.ensures.inserted w.in-Some.is in
-      rw (w.self-inside-is, w.result-is) (takes_split b w.insert_into_fan.new.fan _ w.insert_into_fan.ensures.marks w.insert_into_fan.ensures.height w.insert_into_fan.ensures.beside)
+      rw (w.self-inside-is, w.result-is) (takes_split b w.insert_into_fan.new.fan _ w.insert_into_fan.ensures.marks w.insert_into_fan.ensures.height
+      w.insert_into_fan.ensures.beside)
 ]
 
 pub returns-clause-added : goal.returns-clause-added

@@ -21,7 +21,8 @@ pub leaf_from-requires : goal.leaf_from-requires
 leaf_from-requires t c =
     let f = at_fan c.self.view_is c.self.invariant c.in-Fan.is in
     let a = around_fan f _ _ c.find-place.ensures in
-    let h : c.child.result.now.height ≡ height_of (children_of c.in-Fan.fan) = ap (λ (s : Seen). s.height) c.child.ensures ∙ AllAt-get _ _ _ _ f.level a.within in
+    let h : c.child.result.now.height ≡ height_of (children_of c.in-Fan.fan) = ap (λ (s : Seen). s.height) c.child.ensures
+    ∙ AllAt-get _ _ _ _ f.level a.within in
     (omega (arith, f.height, c.decreases), tt)
 
 pub returns-in-Leaf : goal.returns-in-Leaf
@@ -51,7 +52,8 @@ returns-then-place-len t c =
     let next = c.separator.result in
     let within : c.find-place.result < length (separators_of c.in-Fan.fan) = omega (arith, f.sound.between) in
     let m = a.more next.now within in
-    let e : Between (get_or (separators_of c.in-Fan.fan) c.find-place.result next.now) ∷ m.0 ≡ Between next.now ∷ m.0 = ap (λ (q : Pair). Between q ∷ m.0) (sym c.separator.ensures) in
+    let e : Between (get_or (separators_of c.in-Fan.fan) c.find-place.result next.now) ∷ m.0
+    ≡ Between next.now ∷ m.0 = ap (λ (q : Pair). Between q ∷ m.0) (sym c.separator.ensures) in
     leaf_at_end f a c.child.result.now c.child.ensures _ (Some next) m.0 (told c.leaf_from.ensures c.in_default.is) (m.1 ∙ e)
 
 pub returns-else-place-len : goal.returns-else-place-len

@@ -22,7 +22,8 @@ pub remove-requires-in-Fan : goal.remove-requires-in-Fan
 remove-requires-in-Fan t c =
     let f = at_fan c.self.view_is c.self.invariant c.in-Fan.is in
     let a = around_fan f _ _ c.find-place.ensures in
-    let h : c.child_mut.result.now.height ≡ height_of (children_of c.in-Fan.fan) = ap (λ (s : Seen). s.height) c.child_mut.ensures.child ∙ AllAt-get _ _ _ _ f.level a.within in
+    let h : c.child_mut.result.now.height ≡ height_of (children_of c.in-Fan.fan) = ap (λ (s : Seen). s.height) c.child_mut.ensures.child
+    ∙ AllAt-get _ _ _ _ f.level a.within in
     (omega (arith, f.height, c.decreases), tt)
 
 pub invariant_of-self : goal.invariant_of-self
@@ -44,7 +45,15 @@ returns-clause-found t c = elim c.match-self.branch [
   | in-Fan w ↦
       let f = at_fan c.self.view_is c.self.invariant w.in-Fan.is in
       let a = around_fan f _ _ w.find-place.ensures in
-      cc (w.result-is, w.remove-in-Fan.ensures.found, a.is w.child_mut.result.now, w.child_mut.ensures.child, f.marks, has-middle mark_before-strict _ a.l w.child_mut.result.now.marks a.r a.below a.above)
+      cc (
+        w.result-is,
+        w.remove-in-Fan.ensures.found,
+        a.is w.child_mut.result.now,
+        w.child_mut.ensures.child,
+        f.marks,
+        has-middle mark_before-strict _ a.l
+            w.child_mut.result.now.marks a.r a.below a.above,
+      )
 ]
 
 pub returns-clause-removed : goal.returns-clause-removed

@@ -11,7 +11,8 @@ pub returns-in-Some : goal.returns-in-Some
 returns-in-Some c =
     let p : Pair = record { key = c.args.key.now; rid = c.args.rid } in
     let a = at_root c.self.invariant c.in-Some.is in
-    c.contains.ensures ∙ held_pairs p c.in-Some.root.marks ∙ ap (has is_before p) (sym a.pairs_are ∙ ap (λ (v : TreeValue). v.pairs) c.self.view_is) ∙ has_is p c.args.self.now.pairs
+    c.contains.ensures ∙ held_pairs p c.in-Some.root.marks ∙ ap (has is_before p) (sym a.pairs_are ∙ ap (λ (v : TreeValue). v.pairs) c.self.view_is)
+    ∙ has_is p c.args.self.now.pairs
 
 pub returns-in-None : goal.returns-in-None
 returns-in-None c =

@@ -14,7 +14,11 @@ use Rattle.btree.proofs.tree.Tree.remove.Goals as goal
 pub overflow_sub-self : goal.overflow_sub-self
 overflow_sub-self c =
     let a = at_root c.self.invariant refl in
-    omega (arith, removed_count a (record { key = c.args.key.now; rid = c.args.rid }) _ _ _ c.remove_under-found.ensures.removed c.remove_under-found.ensures.found c.one_if.ensures)
+    omega (
+      arith,
+      removed_count a (record { key = c.args.key.now; rid = c.args.rid }) _ _ _ c.remove_under-found.ensures.removed
+          c.remove_under-found.ensures.found c.one_if.ensures,
+    )
 
 pub invariant_of-self : goal.invariant_of-self
 invariant_of-self c =
