@@ -1,10 +1,10 @@
 //! The steps of a build that touch the table.
 ghost use Rattle.std.specs.Prelude.{◌≡◌, ◌<◌, ◌+◌, ◌∷◌, [], List, length, Some, None, IfOk, IfErr, OnOk, OnErr, MatchOption, MatchResult, if◌then◌else◌, true, false, vec_len, vec_capacity, ◌==◌, is_some, IsSome, IfSome, ◌≤◌, ◌-◌, ℕ};
 ghost use Rattle.rtrb.specs.Ring.{received};
-ghost use Rattle.keybytes.specs.Pairs.{set_of};
+ghost use Rattle.keybytes.specs.Pairs.{AreOrdered, set_of};
 ghost use Rattle.visibility.specs.Applied.{apply_entries};
 ghost use Rattle.side_file.specs.Ends.{ring_take};
-ghost use Rattle.catch_up.specs.Built.{AreOrdered, told_to};
+ghost use Rattle.catch_up.specs.Built.{told_to};
 ghost use Rattle.builder_core.specs.SideFiles.{IsDrained};
 ghost use Rattle.builder_core.specs.CoreState.{opening};
 ghost use Rattle.keybytes.specs.Answered.{Answered};

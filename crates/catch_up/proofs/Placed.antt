@@ -8,10 +8,9 @@ use Rattle.std.specs.declared.cmp.Ordering.TheVariants.{Less, Equal, Greater}
 use Rattle.std.specs.Ordering.{ordering_index, eq_by_cmp}
 use Rattle.std.specs.FinMap.{insert, remove}
 use Rattle.std.specs.FinSet.{FinSet}
-use Rattle.keybytes.specs.Pairs.{pair_cmp, set_of}
+use Rattle.keybytes.specs.Pairs.{AreOrdered, pair_cmp, set_of}
 use Rattle.keybytes.specs.declared.pair.Pair.{Pair}
 use Rattle.keybytes.proofs.PairSets.{is_in, same_members, contains-set_of, contains-insert, contains-remove, tied_pairs}
-use Rattle.catch_up.specs.Built.{AreOrdered}
 use Rattle.catch_up.proofs.Sorted.{rises_of, ordered_of, compares, insert_rises, insert_members, remove_rises, remove_members, found_in, gap_in}
 
 abbrev pub Gap : Pair → List Pair → ℕ → Type 0

@@ -11,10 +11,9 @@ use Rattle.std.specs.FinMap.{keys, entries, entries_sorted}
 use Rattle.std.specs.FinMap.Entries.{is_sorted, below_all}
 use Rattle.std.specs.FinSet.{FinSet}
 use Rattle.std.proofs.lemmas.Bool.{false≢true, false_from_ne_true, or_left, or_right}
-use Rattle.keybytes.specs.Pairs.{pair_cmp, set_of}
+use Rattle.keybytes.specs.Pairs.{AreOrdered, pair_cmp, set_of}
 use Rattle.keybytes.specs.declared.pair.Pair.{Pair}
 use Rattle.keybytes.proofs.PairSets.{pairs_total, exact_of_pairs, marked, is_in, items_are, tied_pairs, itself}
-use Rattle.catch_up.specs.Built.{AreOrdered}
 
 -- whether the pair is before all of these
 abbrev before_all : Pair → List Pair → Bool

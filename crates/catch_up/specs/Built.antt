@@ -1,7 +1,5 @@
 -- An index that is being built, and what the entries of its side-file do to it.
-use Rattle.std.specs.Prelude.{◌≡◌, ℕ, ◌==◌, ◌++◌, List, length, map, filter, drop}
-use Rattle.std.specs.FinMap.{keys}
-use Rattle.keybytes.specs.Pairs.{set_of}
+use Rattle.std.specs.Prelude.{ℕ, ◌==◌, ◌++◌, List, length, map, filter, drop}
 use Rattle.keybytes.specs.declared.pair.Pair.{Pair}
 use Rattle.side_file.specs.declared.entry.Entry.{Entry}
 use Rattle.side_file.specs.SideFileValue.{SideFileValue}
@@ -14,10 +12,6 @@ pub record BuiltValue : Type 0 where
   pub build : ℕ
   pub pairs : List Pair
   pub room : ℕ
-
--- the pairs stand in order, each once
-abbrev pub AreOrdered : List Pair → Type 0
-AreOrdered pairs = pairs ≡ keys (set_of pairs)
 
 abbrev pub change_by : Op → Pair → SideEntry
 change_by Delete pair = delete pair

@@ -1,7 +1,7 @@
 ghost use Rattle.std.specs.Prelude.{◌≡◌, ◌∷◌, [], ◌≤◌, ◌<◌, ◌+◌, ◌-◌, Some, None, OnOk, IfErr, vec_len, vec_capacity};
-ghost use Rattle.keybytes.specs.Pairs.{set_of};
+ghost use Rattle.keybytes.specs.Pairs.{AreOrdered, set_of};
 ghost use Rattle.visibility.specs.Applied.{apply_entry, apply_entries};
-ghost use Rattle.catch_up.specs.Built.{AreOrdered, told, told_to};
+ghost use Rattle.catch_up.specs.Built.{told, told_to};
 
 use crate::pairs::{put, take};
 use keybytes::{Fault, Pair};
@@ -17,7 +17,8 @@ pub struct Built {
 
 impl Model for Built {
     ghost use Rattle.std.specs.Prelude.{◌-◌, vec_len, vec_capacity};
-    ghost use Rattle.catch_up.specs.Built.{BuiltValue, AreOrdered};
+    ghost use Rattle.keybytes.specs.Pairs.{AreOrdered};
+    ghost use Rattle.catch_up.specs.Built.{BuiltValue};
 
     ghost Value = { BuiltValue };
 

@@ -1,7 +1,6 @@
 //! Pairs in order, in a list.
 ghost use Rattle.std.specs.Prelude.{◌≡◌, ◌<◌, ◌≤◌, ◌+◌, Some, vec_len, vec_capacity};
-ghost use Rattle.keybytes.specs.Pairs.{set_of, with_pair, without_pair};
-ghost use Rattle.catch_up.specs.Built.{AreOrdered};
+ghost use Rattle.keybytes.specs.Pairs.{AreOrdered, set_of, with_pair, without_pair};
 
 use keybytes::Pair;
 

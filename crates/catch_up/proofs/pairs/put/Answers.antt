@@ -1,8 +1,7 @@
 use Rattle.std.proofs.Common.{rules, ◌≡◌, ◌∙◌, sym, ap, subst, List, ◌<◌, ◌≤◌, length}
 use Rattle.std.specs.List as list
-use Rattle.keybytes.specs.Pairs.{set_of}
+use Rattle.keybytes.specs.Pairs.{AreOrdered, set_of}
 use Rattle.keybytes.specs.declared.pair.Pair.{Pair}
-use Rattle.catch_up.specs.Built.{AreOrdered}
 use Rattle.catch_up.proofs.Placed.{Gap, Found, put_found, put_gap}
 use Rattle.catch_up.proofs.pairs.put.Goals as goal
 

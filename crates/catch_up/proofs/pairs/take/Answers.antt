@@ -1,7 +1,6 @@
 use Rattle.std.proofs.Common.{rules, ◌∙◌, sym, ap, subst, List, ◌<◌, ◌≤◌, length}
-use Rattle.keybytes.specs.Pairs.{set_of}
+use Rattle.keybytes.specs.Pairs.{AreOrdered, set_of}
 use Rattle.keybytes.specs.declared.pair.Pair.{Pair}
-use Rattle.catch_up.specs.Built.{AreOrdered}
 use Rattle.catch_up.proofs.Placed.{Gap, Found, take_found, take_gap}
 use Rattle.catch_up.proofs.pairs.take.Goals as goal
 
