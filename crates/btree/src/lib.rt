@@ -5,6 +5,7 @@
 //! empty. A look-up, an insert and a removal go down one path and bisect in each node.
 //!
 //! [`Tree::make_room`] takes the memory that one insert may need and changes nothing else; [`Tree::insert`] then can't fail.
+//! A [`Loader`] makes a tree of pairs that come in order.
 #![tactic(auto)]
 
 mod growing;

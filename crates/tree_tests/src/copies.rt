@@ -15,9 +15,7 @@ impl<'a> Copies<'a> {
     pub fn of(tree: &'a Tree) -> Copies<'a>
         ensures { pairs_left result.pairs ≡ tree.now.pairs }
     {
-        Copies {
-            pairs: tree.iter(),
-        }
+        Copies { pairs: tree.iter() }
     }
 }
 
