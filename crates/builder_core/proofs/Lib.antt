@@ -1,3 +1,4 @@
+pub mod AtWork
 pub mod Copies
 pub mod CopyPairs
 pub mod Distinct
@@ -7,12 +8,13 @@ pub mod Following
 pub mod Making
 pub mod NextPages
 pub mod Performed
+pub mod Places
+pub mod Puts
 pub mod RangeScans
 pub mod Refusals
 pub mod Runs
 pub mod ScanExamples
 pub mod ScanSteps
-pub mod Sealing
 pub mod Seen
 pub mod SideFollows
 pub mod SideKept
@@ -23,4 +25,5 @@ pub mod SwitchIn
 pub mod Switching
 pub mod TableBuilds
 pub mod Told
-pub mod Working
+pub mod Waits
+pub mod Works

@@ -1,23 +1,24 @@
-//! The half of a build that needs no lock.
-ghost use Rattle.std.specs.Prelude.{ℕ, ◌-◌, vec_len, vec_capacity, IfSome, ◌≡◌, ◌≤◌, ◌<◌, ◌+◌, [], List, length, true, is_some, if◌then◌else◌, Some, None, IfErr, IfOk, OnOk, OnErr, MatchResult, MatchOption, IsPermutation, T};
-ghost use Rattle.heap_table.proofs.PairsAtRest.{InOrder};
-ghost use Rattle.builder_core.specs.Builds.{WorkValue, after_put, after_sort, HasSealed};
-ghost use Rattle.builder_core.specs.ImagePairs.{HavePairs};
+//! What stands beside a table: the workers of its builds, and their work.
+ghost use Rattle.std.specs.Prelude.{◌≡◌, ◌≤◌, ◌-◌, ℕ, length, vec_len, vec_capacity, is_some, true, None, Some, IsSome, IfSome, IfOk, IfErr, OnOk, OnErr};
+ghost use Rattle.std.specs.Prelude.{MatchResult, MatchOption};
+ghost use Rattle.building.specs.Work.{after_seal};
+ghost use Rattle.builder_core.specs.Working.{CanTake, SeesCopies, HasTaken, HasLoaded, IsSpoiled};
 
-use crate::Pair;
-use crate::worker::Worker;
-use heap_table::PageImage;
+use crate::{Ends, Pair, Table};
+use building::{Worker, gather};
 use keybytes::{Fault, KeySpec, Schema};
+use rtrb::Consumer;
+use side_file::Entry;
 use std::alloc::Global;
-use std::marker::Model;
+use std::marker::{Model, PhantomData};
 
-/// The work of a build of one index by one worker.
+/// The work of a build of one index.
 #[derive(Drop)]
 pub struct Work {
-    spec: KeySpec,
-    worker: Worker,
-    tree: Option<Vec<Pair>>,
-    spoiled: Option<Fault>,
+    pub(crate) spec: KeySpec,
+    pub(crate) workers: usize,
+    pub(crate) tree: Option<Vec<Pair>>,
+    pub(crate) spoiled: Option<Fault>,
 }
 
 impl Model for Work {
@@ -26,21 +27,26 @@ impl Model for Work {
 
     ghost Value = { WorkValue };
 
-    ghost view = { λ work. record { spec = work.spec; worker = work.worker; tree = option_map (λ pairs. pairs.items) work.tree; room = room_in work.tree; spoiled = work.spoiled } };
+    ghost view = { λ work. record {
+      spec = work.spec;
+      workers = work.workers;
+      tree = option_map (λ pairs. pairs.items) work.tree;
+      room = room_in work.tree;
+      spoiled = work.spoiled;
+    } };
 }
 
 impl Work {
-    /// A build that has done nothing. Takes the memory for the copies that may wait.
-    pub fn new(alloc: Global, spec: KeySpec) -> Result<Work, Fault>
-        ensures ok { IfOk result (λ work. work ≡ record { spec = spec; worker = record { ring = []; pairs = []; taken = 0 }; tree = None; room = 0; spoiled = None }) }
-        ensures memory { IfErr result (λ fault. fault ≡ Fault.Memory) }
+    /// A build by so many workers that has done nothing.
+    pub fn new(spec: KeySpec, workers: usize) -> Work
+        ensures { result ≡ record { spec = spec; workers = workers; tree = None; room = 0; spoiled = None } }
     {
-        Ok(Work {
+        Work {
             spec,
-            worker: Worker::new(alloc)?,
+            workers,
             tree: None,
             spoiled: None,
-        })
+        }
     }
 
     /// Why the build can't go on, if it can't.
@@ -53,61 +59,11 @@ impl Work {
         }
     }
 
-    /// How many copies wait for the worker.
-    pub fn waiting(&self) -> usize
-        ensures { result ≡ length self.now.worker.ring }
-    {
-        self.worker.waiting()
-    }
-
     /// Whether the pairs are in order.
     pub fn is_loaded(&self) -> bool
         ensures { result ≡ is_some self.now.tree }
     {
         self.tree.is_some()
-    }
-
-    /// Puts a copy to the worker.
-    pub fn put(&mut self, image: PageImage)
-        requires { length self.old.worker.ring < 4 }
-        ensures { self.new ≡ record self.old { worker = after_put self.old.worker image } }
-    {
-        self.worker.put(image);
-    }
-
-    /// Lets the worker take all copies, and answers how many there were. Want of memory spoils the build.
-    pub fn seal(&mut self, schema: &Schema) -> Result<usize, Fault>
-        requires columns { self.old.spec.kinds ≡ schema.now }
-        requires copies { (made : List Pair) × HavePairs self.old.spec self.old.worker.ring made }
-        requires room { self.old.worker.taken + length self.old.worker.ring ≤ 65536 }
-        ensures count { IfOk result (λ images. images ≡ length self.old.worker.ring) }
-        ensures sealed { OnOk result (HasSealed self.old.spec self.old.worker self.new.worker) }
-        ensures kept { OnOk result (self.new ≡ record self.old { worker = self.new.worker }) }
-        ensures spoiled { OnErr result (self.new ≡ record self.old { worker = self.new.worker; spoiled = Some Fault.Memory }) }
-        ensures waits { OnErr result ((self.new.worker.ring ≡ self.old.worker.ring) × (self.new.worker.taken ≡ self.old.worker.taken)) }
-        ensures memory { IfErr result (λ fault. fault ≡ Fault.Memory) }
-    {
-        let sealed = self.worker.seal(schema, &self.spec);
-        if sealed.is_err() {
-            self.spoiled = Some(Fault::Memory);
-        }
-        sealed
-    }
-
-    /// Puts the pairs in order, and answers how many there are; 0 where they are in order already.
-    pub fn load(&mut self) -> usize
-        ensures count { result ≡ (if is_some self.old.tree then 0 else length self.old.worker.pairs) }
-        ensures again { is_some self.old.tree ≡ true → self.new ≡ self.old }
-        ensures loaded { self.old.tree ≡ None → (pairs : List Pair) × (room : ℕ) × (self.new ≡ after_sort self.old pairs room)
-            × IsPermutation self.old.worker.pairs pairs × InOrder pairs }
-    {
-        if self.tree.is_some() {
-            return 0;
-        }
-        let pairs = self.worker.take_sorted();
-        let count = pairs.len();
-        self.tree = Some(pairs);
-        count
     }
 
     /// Makes room for that many more pairs beside those in order.
@@ -132,33 +88,137 @@ impl Work {
     }
 }
 
-/// What the workers of a build do outside of any lock. It belongs to one table, and is empty while no build runs.
+/// What the workers of a build do outside of any lock: the workers, and the work of the build that runs.
 #[derive(Drop)]
-pub struct Building {
+pub struct Building<T: Table> {
+    pub(crate) workers: Vec<Worker>,
+    pub(crate) side_end: Consumer<Entry>,
     pub(crate) work: Option<Work>,
+    of: PhantomData<T>,
 }
 
-impl Model for Building {
-    ghost use Rattle.std.specs.Prelude.{Option};
-    ghost use Rattle.builder_core.specs.Builds.{WorkValue};
+impl<T: Table> Model for Building<T> {
+    ghost use Rattle.builder_core.specs.Builds.{BuildingValue};
 
-    ghost Value = { Option WorkValue };
+    ghost Value = { BuildingValue };
 
-    ghost view = { λ building. building.work };
+    ghost use Rattle.building.specs.TakeEnd.{take_end};
+    ghost use Rattle.builder_core.specs.Rings.{AreTakeEnds};
+
+    ghost view = { λ building. record { workers = building.workers.items; side = take_end building.side_end; work = building.work } };
+
+    ghost invariant = { λ building. AreTakeEnds T.pages T.side building.workers.items (take_end building.side_end) };
 }
 
-impl Building {
-    /// No build is at work.
-    pub fn new() -> Building
-        ensures { result ≡ None }
+impl<T: Table> Building<T> {
+    /// No build is at work. Takes no memory.
+    pub fn new(ends: Ends<T>) -> Building<T>
+        ensures { result ≡ record { workers = ends.workers; side = ends.side; work = None } }
     {
-        Building { work: None }
+        let Ends {
+            workers,
+            side_end,
+            of,
+        } = ends;
+        Building {
+            workers,
+            side_end,
+            work: None,
+            of,
+        }
+    }
+
+    /// Hands the ends of the rings back; the work of a build that runs is given up. Takes no memory.
+    pub fn into_ends(self) -> Ends<T>
+        ensures { result ≡ record { workers = self.workers; side = self.side } }
+    {
+        let Building {
+            workers,
+            side_end,
+            of,
+            ..
+        } = self;
+        Ends {
+            workers,
+            side_end,
+            of,
+        }
     }
 
     /// The work of the build that runs.
     pub(crate) fn work(&self) -> Option<&Work>
-        ensures { MatchOption result (self.now ≡ None) (λ work. self.now ≡ Some work.now) }
+        ensures { MatchOption result (self.now.work ≡ None) (λ work. self.now.work ≡ Some work.now) }
     {
         self.work.as_ref()
+    }
+
+    /// Lets a worker take the next copy that it has seen. Want of memory spoils the build.
+    pub(crate) fn digest(&mut self, worker: usize, schema: &Schema) -> Result<usize, Fault>
+        requires { CanTake schema.now worker 1 self.old }
+        ensures taken { IfOk result (λ images. HasTaken worker 1 (λ w. w) self.old images self.new) }
+        ensures spoiled { OnErr result (IsSpoiled self.old self.new) }
+        ensures memory { IfErr result (λ fault. fault ≡ Fault.Memory) }
+    {
+        let Some(work) = &mut self.work else {
+            unreachable!()
+        };
+        let images = self.workers[worker].digest(schema, &work.spec);
+        if images.is_err() {
+            work.spoiled = Some(Fault::Memory);
+        }
+        images
+    }
+
+    /// Lets a worker take all copies that it has seen, and close its run. Want of memory spoils the build.
+    pub(crate) fn seal(&mut self, worker: usize, schema: &Schema) -> Result<usize, Fault>
+        requires { (n : ℕ) → SeesCopies worker n self.old → CanTake schema.now worker n self.old }
+        ensures taken { IfOk result (λ images. (n : ℕ) → SeesCopies worker n self.old → HasTaken worker n after_seal self.old images self.new) }
+        ensures spoiled { OnErr result (IsSpoiled self.old self.new) }
+        ensures memory { IfErr result (λ fault. fault ≡ Fault.Memory) }
+    {
+        let Some(work) = &mut self.work else {
+            unreachable!()
+        };
+        let images = self.workers[worker].seal(schema, &work.spec);
+        if images.is_err() {
+            work.spoiled = Some(Fault::Memory);
+        }
+        images
+    }
+
+    /// Puts the pairs in order that the workers made, and answers how many there are; 0 where they are in order already. Want of
+    /// memory spoils the build.
+    pub(crate) fn load(&mut self, alloc: Global) -> Result<usize, Fault>
+        requires runs { IsSome self.old.work }
+        requires few { IfSome self.old.work (λ work. work.workers ≤ length self.old.workers) }
+        ensures loaded { IfOk result (λ count. HasLoaded self.old count self.new) }
+        ensures spoiled { OnErr result (IsSpoiled self.old self.new) }
+        ensures memory { IfErr result (λ fault. fault ≡ Fault.Memory) }
+    {
+        let Some(work) = &mut self.work else {
+            unreachable!()
+        };
+        if work.is_loaded() {
+            return Ok(0);
+        }
+        let (workers, _) = self.workers.as_mut_slice().split_at_mut(work.workers);
+        match gather(alloc, workers) {
+            Ok(pairs) => {
+                let count = pairs.len();
+                work.tree = Some(pairs);
+                Ok(count)
+            }
+            Err(fault) => {
+                work.spoiled = Some(fault);
+                Err(fault)
+            }
+        }
+    }
+
+    /// Gives the work of the build up. Takes no memory.
+    pub(crate) fn give_up(&mut self)
+        ensures { self.new ≡ record self.old { work = None } }
+    {
+        self.work = None;
     }
 }

@@ -140,3 +140,9 @@ start_taking build spec end before =
 
 pub start_holds : (build : ℕ) (spec : KeySpecValue) (end : TakeEnd Copied) → All (λ copied. copied.build < build) end.received → HoldsPairs spec (at_start build end)
 start_holds build spec end before = subst (λ (images : List ImageValue). HavePairs spec images []) (sym (images_none build end.received before)) refl
+
+-- the image of one copy, of that build or of another
+pub own_image_of : (build : ℕ) (copied : Copied) → copied.build ≡ build → images_of build (copied ∷ []) ≡ copied.image ∷ []
+own_image_of build copied is =
+    let own : (copied.build == build) ≡ true = grind (arith, nat_tests) in
+    rw own refl

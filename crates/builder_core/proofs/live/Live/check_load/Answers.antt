@@ -6,7 +6,7 @@ use Rattle.builder_core.proofs.Refusals.{running, is_running, load_loud, load_fr
 use Rattle.builder_core.proofs.live.Live.check_load.Goals as goal
 
 pub returns-clause-runs : goal.returns-clause-runs
-returns-clause-runs c = record {
+returns-clause-runs g c = record {
   only = c.if-index-ne0.false;
   runs = is_running c.args.self.now c.args.building.now c.in-Some-Some.build.now c.in-Some-Some.work.now c.in-Some-Some.ensures.build c.in-Some-Some.ensures'
       c.build.ensures.follows c.requires;
@@ -16,7 +16,7 @@ returns-clause-runs c = record {
 }
 
 pub returns-then-waiting-gt0-clause-accepted : goal.returns-then-waiting-gt0-clause-accepted
-returns-then-waiting-gt0-clause-accepted c =
+returns-then-waiting-gt0-clause-accepted g c =
     let b : BuildState = c.in-Some-Some.build.now in
     let w : WorkValue = c.in-Some-Some.work.now in
     let run = running c.args.self.now c.args.building.now b w c.in-Some-Some.ensures.build c.in-Some-Some.ensures' c.build.ensures.follows c.requires in
@@ -25,7 +25,7 @@ returns-then-waiting-gt0-clause-accepted c =
     rw c.if-index-ne0.false (load_loud c.args.self.now c.args.building.now b w run c.in_ok-check.ensures all some)
 
 pub returns-clause-accepted : goal.returns-clause-accepted
-returns-clause-accepted c =
+returns-clause-accepted g c =
     let b : BuildState = c.in-Some-Some.build.now in
     let w : WorkValue = c.in-Some-Some.work.now in
     let run = running c.args.self.now c.args.building.now b w c.in-Some-Some.ensures.build c.in-Some-Some.ensures' c.build.ensures.follows c.requires in

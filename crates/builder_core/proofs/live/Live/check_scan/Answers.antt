@@ -6,7 +6,7 @@ use Rattle.builder_core.proofs.Refusals.{running, scan_full, scan_free}
 use Rattle.builder_core.proofs.live.Live.check_scan.Goals as goal
 
 pub returns-then-waiting-ge-RING_MAX-clause-refused : goal.returns-then-waiting-ge-RING_MAX-clause-refused
-returns-then-waiting-ge-RING_MAX-clause-refused c =
+returns-then-waiting-ge-RING_MAX-clause-refused g c =
     let b : BuildState = c.in-Some-Some.build.now in
     let w : WorkValue = c.in-Some-Some.work.now in
     let run = running c.args.self.now c.args.building.now b w c.in-Some-Some.ensures.build c.in-Some-Some.ensures' c.build.ensures.follows c.requires in
@@ -18,7 +18,7 @@ returns-then-waiting-ge-RING_MAX-clause-refused c =
     scan_full c.args.self.now c.args.building.now b w run c.args.range c.args.worker there for c.in_ok-page.page fine next full
 
 pub returns-clause-accepted : goal.returns-clause-accepted
-returns-clause-accepted c =
+returns-clause-accepted g c =
     let b : BuildState = c.in-Some-Some.build.now in
     let w : WorkValue = c.in-Some-Some.work.now in
     let run = running c.args.self.now c.args.building.now b w c.in-Some-Some.ensures.build c.in-Some-Some.ensures' c.build.ensures.follows c.requires in

@@ -8,7 +8,7 @@ use Rattle.builder_core.proofs.Told.{commit_works}
 use Rattle.builder_core.proofs.live.Live.commit.Goals as goal
 
 pub invariant_of-self : goal.invariant_of-self
-invariant_of-self c =
+invariant_of-self g c =
     let old = c.self.inside in
     let done = committed old.heap c.commit.new.self c.args.txn c.commit.result c.commit.ensures.committed in (
       follow_kept old.heap.state.log c.commit.new.self.state.log old.ready.items c.commit.ensures.rows c.self.invariant.0,
@@ -25,7 +25,7 @@ kept live new work txn heap follows (inl done) is works = commit_works live new 
 kept live new work txn heap follows (inr refused) is works = subst (λ (l : LiveState). WorksOn l work) (sym (is ∙ ap (live_with_heap live) refused)) works
 
 pub returns-clause-works : goal.returns-clause-works
-returns-clause-works c = λ work works.
+returns-clause-works g c = λ work works.
     let inside = c.self.inside in
     let done = committed inside.heap c.commit.new.self c.args.txn c.commit.result c.commit.ensures.committed in
     kept (the_view inside) (the_view (record inside { heap = c.commit.new.self })) work c.args.txn c.commit.new.self.state c.self.invariant.1 done refl

@@ -21,7 +21,7 @@ below live None cause range page free next follows = absurd (let bad : Some NoBu
 below live (Some b) cause range page free next follows = next_written live.heap.schema live.heap.log b range page follows next
 
 pub copy_page-requires : goal.copy_page-requires
-copy_page-requires c =
+copy_page-requires g c =
     let may = c.in-Ok.ensures.page in
     let live : LiveState = c.args.self.now in
     let follows : BuildFollows live.heap.schema live.heap.log live.build =
@@ -30,7 +30,7 @@ copy_page-requires c =
     subst (λ (l : LiveState). c.in-Ok.page < pages_written l.heap.log) (sym c.self.view_is) less
 
 pub invariant_of-self : goal.invariant_of-self
-invariant_of-self c =
+invariant_of-self g c =
     let old : HeapState = c.self.inside.heap.state in
     let b : BuildState = c.in-Some.build in
     let may : MayScan c.args.self.now c.args.building.now c.args.range c.args.worker c.in-Ok.page = c.in-Ok.ensures.page in
@@ -50,7 +50,7 @@ invariant_of-self c =
     )
 
 pub returns-clause-works : goal.returns-clause-works
-returns-clause-works c =
+returns-clause-works g c =
     let old : HeapState = c.self.inside.heap.state in
     let b : BuildState = c.in-Some.build in
     let w : WorkValue = c.in-Some-work.work in

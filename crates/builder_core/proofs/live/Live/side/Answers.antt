@@ -8,7 +8,7 @@ use Rattle.builder_core.proofs.SideKept.{entries_left, keys_left}
 use Rattle.builder_core.proofs.live.Live.side.Goals as goal
 
 pub returns-clause-keys : goal.returns-clause-keys
-returns-clause-keys c =
+returns-clause-keys g c =
     let inside = c.self.inside in
     let heap = inside.heap.state in
     let keys = keys_left heap.schema heap.log inside.build inside.side c.args.index c.self.invariant.1 c.self.invariant.2
@@ -17,7 +17,7 @@ returns-clause-keys c =
     (subst (λ (es : List Entry). HaveEntryKeys inside.build c.args.index es) (sym c.entries.ensures) keys)
 
 pub returns-clause-ok : goal.returns-clause-ok
-returns-clause-ok c =
+returns-clause-ok g c =
     let inside = c.self.inside in
     let heap = inside.heap.state in
     let left = entries_left heap.schema heap.log inside.build inside.side c.args.index c.self.invariant.1 c.self.invariant.2

@@ -21,7 +21,7 @@ abbrev opened : ℕ → KeySpecValue → ℕ → ℕ → CutsValue → BuildStat
 opened number spec workers records cuts = build_over number spec workers records cuts []
 
 pub invariant_of-self : goal.invariant_of-self
-invariant_of-self c =
+invariant_of-self g c =
     let heap = c.self.inside.heap.state in
     let plan = c.args.plan.now in
     let number : ℕ = c.self.inside.builds + 1 in
@@ -47,13 +47,13 @@ invariant_of-self c =
     )
 
 pub dealt_cuts-requires : goal.dealt_cuts-requires
-dealt_cuts-requires c =
+dealt_cuts-requires g c =
     let live : LiveState = c.args.self.now in
     let pages : c.pages-pages.result ≡ pages_written live.heap.log = c.pages-pages.ensures.pages ∙ ap (λ (l : LiveState). pages_written l.heap.log) c.self.view_is in
     ap (λ n. dealing_refusal n c.args.plan.now.dealing) pages ∙ c.in_ok-spec.ensures.ranges
 
 pub returns-clause-started : goal.returns-clause-started
-returns-clause-started c =
+returns-clause-started g c =
     let live : LiveState = c.args.self.now in
     let plan = c.args.plan.now in
     let spec : KeySpecValue = c.in_ok-spec.spec.now in
