@@ -15,7 +15,7 @@ use Rattle.builder_core.specs.Builds.{worker_state}
 use Rattle.builder_core.specs.CoreState.{WorkerState}
 use Rattle.builder_core.specs.Rings.{all_sent, at_rest_on, AreOfBuilds, AreTaking, AreHolding}
 use Rattle.builder_core.specs.Working.{all_emptied}
-use Rattle.builder_core.proofs.Places.{at_set, all_at, at_map, map_at, same_at}
+use Rattle.builder_core.proofs.Places.{at_set, all_at, at_map, map_at, same_at, mapped}
 
 -- a worker without its pairs, and without what it knows of its ring
 abbrev pub outline : WorkerValue → WorkerValue
@@ -54,10 +54,6 @@ taking_same build spec count all old new same taking k sent worker less there at
     taking_like build spec sent it.0 worker it.2 (taking k sent it.0 less there it.1)
 
 -- nor does what callers see of the workers
-mapped : {X Y Z : Type 0} (f : X → Y) (g : Y → Z) (xs : List X) → map g (map f xs) ≡ map (λ x. g (f x)) xs
-mapped f g [] = refl
-mapped f g (x ∷ xs) = ap (λ ys. g (f x) ∷ ys) (mapped f g xs)
-
 pub states_same :
     (count : ℕ) (old new : List WorkerValue) → map outline old ≡ map outline new → map worker_state (take count new) ≡ map worker_state (take count old)
 states_same count old new same =
