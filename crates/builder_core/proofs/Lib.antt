@@ -1,4 +1,5 @@
 pub mod AtWork
+pub mod OneWorker
 pub mod Copies
 pub mod CopyPairs
 pub mod Distinct

@@ -74,7 +74,7 @@ pub put_scanned :
     (kinds : List Kind) (log : List LogRec) (b : BuildState) (all : List (List Copied)) (worker page : ℕ) (sent : List Copied) (image : ImageValue)
     → slice_get all worker ≡ Some sent → ArePut kinds log b all → IsImage kinds log page image
     → ArePut kinds log (record b { scans = b.scans ++ scan_now worker page log ∷ [] })
-        (set all worker (sent ++ record { build = b.number; image = image } ∷ []))
+    (set all worker (sent ++ record { build = b.number; image = image } ∷ []))
 put_scanned kinds log b all worker page sent image at put copy k new here =
     let copied : Copied = record { build = b.number; image = image } in
     elim (at_set all worker (sent ++ copied ∷ []) k new here) [

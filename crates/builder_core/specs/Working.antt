@@ -10,32 +10,35 @@ use Rattle.building.specs.Work.{next_images, after_digest, CanDigest, emptied}
 use Rattle.building.specs.WorkerValue.{WorkerValue}
 use Rattle.builder_core.specs.Builds.{BuildingValue, WorkValue, after_sort}
 
--- the worker of that number has seen so many copies in its ring
-pub record SeesCopies (worker n : ℕ) (building : BuildingValue) : Type 0 where
-  pub it : WorkerValue
-  pub there : slice_get building.workers worker ≡ Some it
-  pub seen : length it.end.known ≡ n
-
--- and can make the pairs of the first n of them
-pub record CanTake (kinds : List Kind) (worker n : ℕ) (building : BuildingValue) : Type 0 where
+-- a worker can make the pairs of so many of the copies that it sees in its ring
+pub record CanTake (kinds : List Kind) (worker : ℕ) (count : WorkerValue → ℕ) (building : BuildingValue) : Type 0 where
   pub work : WorkValue
   pub runs : building.work ≡ Some work
   pub columns : work.spec.kinds ≡ kinds
   pub it : WorkerValue
   pub there : slice_get building.workers worker ≡ Some it
-  pub seen : 0 < n → n ≤ length it.end.known
-  pub can : CanDigest work.spec n it
+  pub seen : count it ≤ length it.end.known
+  pub can : CanDigest work.spec (count it) it
 
 -- it took these, made their pairs, and did what else it does then; answered with the number of images of its build
-pub record HasTaken (worker n : ℕ) (then : WorkerValue → WorkerValue) (old : BuildingValue) (images : ℕ) (new : BuildingValue) : Type 0 where
+pub record HasTaken
+    (worker : ℕ) (count : WorkerValue → ℕ) (then : WorkerValue → WorkerValue) (old : BuildingValue) (images : ℕ) (new : BuildingValue)
+    : Type 0 where
   pub work : WorkValue
   pub runs : old.work ≡ Some work
   pub it : WorkerValue
   pub there : slice_get old.workers worker ≡ Some it
   pub made : List Pair
-  pub have : HavePairs work.spec (next_images n it) made
-  pub count : images ≡ length (next_images n it)
-  pub left : new ≡ record old { workers = set old.workers worker (then (after_digest n made it)) }
+  pub have : HavePairs work.spec (next_images (count it) it) made
+  pub counted : images ≡ length (next_images (count it) it)
+  pub left : new ≡ record old { workers = set old.workers worker (then (after_digest (count it) made it)) }
+
+-- the copies that a worker takes at a digest, and at a seal
+abbrev pub one_copy : WorkerValue → ℕ
+one_copy worker = 1
+
+abbrev pub all_copies : WorkerValue → ℕ
+all_copies worker = length worker.end.known
 
 -- the build can't go on for want of memory
 pub record IsSpoiled (old new : BuildingValue) : Type 0 where

@@ -11,7 +11,7 @@
 //! that may be running: [`Core::step`] answers one event, and [`run_events`] a list of them. [`at_rest`] makes the pairs of a table that nobody writes.
 #![tactic(auto)]
 
-mod building;
+mod beside;
 mod changes;
 mod core_steps;
 mod dealing;
@@ -30,8 +30,9 @@ mod run;
 mod scan;
 mod table;
 mod table_scan;
+mod work;
 
-pub use building::Building;
+pub use beside::Building;
 pub use core_steps::Core;
 pub use dealing::Dealing;
 pub use ends::Ends;

@@ -17,10 +17,10 @@ ghost use Rattle.builder_core.specs.SideFiles.{IsDrained};
 ghost use Rattle.builder_core.specs.Steps.{Starts, Scans, Digests, Seals, Loads, Switches, OnBuild, spoiled_by, start_refusal, counts_fit};
 ghost use Rattle.builder_core.specs.declared.event.Event.{Event};
 
-use crate::building::Work;
 use crate::parts::WORKERS_MAX;
 use crate::rings::{first_loud, restart_all, waiting};
 use crate::table_scan::TableScan;
+use crate::work::Work;
 use crate::{Building, Dealing, Live, Pair, Plan, ReadyIndex, Table};
 use building::{Copied, RING_IMAGES};
 use catch_up::{Built, catch_up};

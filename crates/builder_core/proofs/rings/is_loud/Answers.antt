@@ -18,13 +18,13 @@ returns-then-waiting-gt0-clause-loud c = λ is sent w there at quiet.
     let seen : c.waiting.result ≡ length w.end.known = subst (λ o. IfSome o (λ v. c.waiting.result ≡ length v.end.known)) at c.waiting.ensures.seen in
     omega (arith, seen, ap length none, c.if-waiting-gt0.true)
 
-pub returns-else-waiting-gt0-clause-loud : goal.returns-clause-loud
+pub returns-else-waiting-gt0-clause-loud : goal.returns-else-waiting-gt0-clause-loud
 returns-else-waiting-gt0-clause-loud c = λ is sent w there at quiet.
     let here : c.index.result.now ≡ w = c.index.ensures ∙ get_or_from_slice_get c.waiting.new.workers.items c.args.worker w c.index.result.now at in
     let closed : (w.open_pairs == 0) ≡ true = eq-eqb w.open_pairs 0 quiet.closed in
     false≢true (ap not (sym closed) ∙ sym (ap (λ (v : WorkerValue). not (v.open_pairs == 0)) here) ∙ sym c.has_open_run.ensures ∙ is)
 
-pub returns-else-waiting-gt0-clause-quiet : goal.returns-clause-quiet
+pub returns-else-waiting-gt0-clause-quiet : goal.returns-else-waiting-gt0-clause-quiet
 returns-else-waiting-gt0-clause-quiet c = λ is sent w there at.
     let here : c.index.result.now ≡ w = c.index.ensures ∙ get_or_from_slice_get c.waiting.new.workers.items c.args.worker w c.index.result.now at in
     let end = at_map (λ (e : PutEnd Copied). e.sent) c.waiting.new.pages.items c.args.worker sent there in

@@ -1,92 +1,16 @@
-//! What stands beside a table: the workers of its builds, and their work.
-ghost use Rattle.std.specs.Prelude.{◌≡◌, ◌≤◌, ◌-◌, ℕ, length, vec_len, vec_capacity, is_some, true, None, Some, IsSome, IfSome, IfOk, IfErr, OnOk, OnErr};
-ghost use Rattle.std.specs.Prelude.{MatchResult, MatchOption};
+//! What stands beside a table.
+ghost use Rattle.std.specs.Prelude.{◌≡◌, ◌≤◌, length, None, Some, IsSome, IfSome, IfOk, IfErr, OnErr, MatchOption};
 ghost use Rattle.building.specs.Work.{after_seal};
-ghost use Rattle.builder_core.specs.Working.{CanTake, SeesCopies, HasTaken, HasLoaded, IsSpoiled};
+ghost use Rattle.builder_core.specs.Working.{CanTake, HasTaken, one_copy, all_copies, HasLoaded, IsSpoiled};
 
-use crate::{Ends, Pair, Table};
+use crate::work::Work;
+use crate::{Ends, Table};
 use building::{Worker, gather};
-use keybytes::{Fault, KeySpec, Schema};
+use keybytes::{Fault, Schema};
 use rtrb::Consumer;
 use side_file::Entry;
 use std::alloc::Global;
 use std::marker::{Model, PhantomData};
-
-/// The work of a build of one index.
-#[derive(Drop)]
-pub struct Work {
-    pub(crate) spec: KeySpec,
-    pub(crate) workers: usize,
-    pub(crate) tree: Option<Vec<Pair>>,
-    pub(crate) spoiled: Option<Fault>,
-}
-
-impl Model for Work {
-    ghost use Rattle.std.specs.Option.{option_map};
-    ghost use Rattle.builder_core.specs.Builds.{WorkValue, room_in};
-
-    ghost Value = { WorkValue };
-
-    ghost view = { λ work. record {
-      spec = work.spec;
-      workers = work.workers;
-      tree = option_map (λ pairs. pairs.items) work.tree;
-      room = room_in work.tree;
-      spoiled = work.spoiled;
-    } };
-}
-
-impl Work {
-    /// A build by so many workers that has done nothing.
-    pub fn new(spec: KeySpec, workers: usize) -> Work
-        ensures { result ≡ record { spec = spec; workers = workers; tree = None; room = 0; spoiled = None } }
-    {
-        Work {
-            spec,
-            workers,
-            tree: None,
-            spoiled: None,
-        }
-    }
-
-    /// Why the build can't go on, if it can't.
-    pub fn check(&self) -> Result<(), Fault>
-        ensures { MatchResult result (λ _. self.now.spoiled ≡ None) (λ fault. self.now.spoiled ≡ Some fault) }
-    {
-        match self.spoiled {
-            Some(fault) => Err(fault),
-            None => Ok(()),
-        }
-    }
-
-    /// Whether the pairs are in order.
-    pub fn is_loaded(&self) -> bool
-        ensures { result ≡ is_some self.now.tree }
-    {
-        self.tree.is_some()
-    }
-
-    /// Makes room for that many more pairs beside those in order.
-    pub fn make_room(&mut self, n: usize) -> Result<(), Fault>
-        requires { is_some self.old.tree ≡ true }
-        ensures room { OnOk result (n ≤ self.new.room) }
-        ensures same { self.new ≡ record self.old { room = self.new.room } }
-        ensures memory { IfErr result (λ fault. fault ≡ Fault.Memory) }
-    {
-        if let Some(pairs) = &mut self.tree {
-            pairs.reserve(n)?;
-        }
-        Ok(())
-    }
-
-    /// The pairs of the index, if they are in order.
-    pub fn into_pairs(self) -> Option<Vec<Pair>>
-        ensures pairs { MatchOption result (self.tree ≡ None) (λ pairs. self.tree ≡ Some pairs.items) }
-        ensures room { IfSome result (λ pairs. vec_capacity pairs - vec_len pairs ≡ self.room) }
-    {
-        self.tree
-    }
-}
 
 /// What the workers of a build do outside of any lock: the workers, and the work of the build that runs.
 #[derive(Drop)]
@@ -154,36 +78,42 @@ impl<T: Table> Building<T> {
 
     /// Lets a worker take the next copy that it has seen. Want of memory spoils the build.
     pub(crate) fn digest(&mut self, worker: usize, schema: &Schema) -> Result<usize, Fault>
-        requires { CanTake schema.now worker 1 self.old }
-        ensures taken { IfOk result (λ images. HasTaken worker 1 (λ w. w) self.old images self.new) }
+        requires { CanTake schema.now worker one_copy self.old }
+        ensures taken { IfOk result (λ images. HasTaken worker one_copy (λ w. w) self.old images self.new) }
         ensures spoiled { OnErr result (IsSpoiled self.old self.new) }
         ensures memory { IfErr result (λ fault. fault ≡ Fault.Memory) }
     {
         let Some(work) = &mut self.work else {
             unreachable!()
         };
-        let images = self.workers[worker].digest(schema, &work.spec);
-        if images.is_err() {
-            work.spoiled = Some(Fault::Memory);
-        }
-        images
+        let images = match self.workers[worker].digest(schema, &work.spec) {
+            Ok(images) => images,
+            Err(fault) => {
+                work.spoiled = Some(fault);
+                return Err(fault);
+            }
+        };
+        Ok(images)
     }
 
     /// Lets a worker take all copies that it has seen, and close its run. Want of memory spoils the build.
     pub(crate) fn seal(&mut self, worker: usize, schema: &Schema) -> Result<usize, Fault>
-        requires { (n : ℕ) → SeesCopies worker n self.old → CanTake schema.now worker n self.old }
-        ensures taken { IfOk result (λ images. (n : ℕ) → SeesCopies worker n self.old → HasTaken worker n after_seal self.old images self.new) }
+        requires { CanTake schema.now worker all_copies self.old }
+        ensures taken { IfOk result (λ images. HasTaken worker all_copies after_seal self.old images self.new) }
         ensures spoiled { OnErr result (IsSpoiled self.old self.new) }
         ensures memory { IfErr result (λ fault. fault ≡ Fault.Memory) }
     {
         let Some(work) = &mut self.work else {
             unreachable!()
         };
-        let images = self.workers[worker].seal(schema, &work.spec);
-        if images.is_err() {
-            work.spoiled = Some(Fault::Memory);
-        }
-        images
+        let images = match self.workers[worker].seal(schema, &work.spec) {
+            Ok(images) => images,
+            Err(fault) => {
+                work.spoiled = Some(fault);
+                return Err(fault);
+            }
+        };
+        Ok(images)
     }
 
     /// Puts the pairs in order that the workers made, and answers how many there are; 0 where they are in order already. Want of
@@ -202,17 +132,16 @@ impl<T: Table> Building<T> {
             return Ok(0);
         }
         let (workers, _) = self.workers.as_mut_slice().split_at_mut(work.workers);
-        match gather(alloc, workers) {
-            Ok(pairs) => {
-                let count = pairs.len();
-                work.tree = Some(pairs);
-                Ok(count)
-            }
+        let pairs = match gather(alloc, workers) {
+            Ok(pairs) => pairs,
             Err(fault) => {
                 work.spoiled = Some(fault);
-                Err(fault)
+                return Err(fault);
             }
-        }
+        };
+        let count = pairs.len();
+        work.tree = Some(pairs);
+        Ok(count)
     }
 
     /// Gives the work of the build up. Takes no memory.

@@ -1,0 +1,55 @@
+-- What stands beside a table, where one worker changes.
+use Rattle.std.proofs.Common.{◌≡◌, ℕ, List, length, set, get_or, length-set, Option, Some, sym, ap, ◌∙◌}
+use Rattle.std.specs.List.{slice_get}
+use Rattle.std.proofs.lemmas.Option.{get_or_from_slice_get, same_Some}
+use Rattle.keybytes.specs.declared.fault.Fault.{Fault}
+use Rattle.keybytes.specs.declared.fault.Fault.TheVariants.{Memory}
+use Rattle.side_file.specs.Ends.{RingId}
+use Rattle.side_file.specs.declared.entry.Entry.{Entry}
+use Rattle.building.specs.TakeEnd.{TakeEnd}
+use Rattle.building.specs.WorkerValue.{WorkerValue}
+use Rattle.builder_core.specs.Builds.{BuildingValue, WorkValue}
+use Rattle.builder_core.specs.Rings.{AreTakeEnds}
+use Rattle.builder_core.proofs.Places.{kept}
+
+-- the ends are of the same rings
+pub ends_set :
+    (page_rings side_ring : List RingId) (workers : List WorkerValue) (side : TakeEnd Entry) (i : ℕ) (new old : WorkerValue)
+    → AreTakeEnds page_rings side_ring workers side → old ≡ get_or workers i old → new.end.ring ≡ old.end.ring
+    → AreTakeEnds page_rings side_ring (set workers i new) side
+ends_set page_rings side_ring workers side i new old are at same = record {
+  workers_are = kept (λ (w : WorkerValue). w.end.ring) workers page_rings i new old are.workers_are (same ∙ ap (λ (w : WorkerValue). w.end.ring) at);
+  side_is = are.side_is;
+  sixteen = length-set workers i new ∙ are.sixteen;
+}
+
+-- the worker in a place, by its index
+pub worker_is : (workers : List WorkerValue) (i : ℕ) (it there : WorkerValue) → slice_get workers i ≡ Some it → there ≡ get_or workers i there → there ≡ it
+worker_is workers i it there at is = is ∙ get_or_from_slice_get workers i it there at
+
+-- what is left, told of the value that was there
+pub left_set :
+    (workers : List WorkerValue) (side : TakeEnd Entry) (o : Option WorkValue) (old : BuildingValue) (work : WorkValue) (i : ℕ) (x y : WorkerValue)
+    → record { workers = workers; side = side; work = o } ≡ old → o ≡ Some work → x ≡ y
+    → record { workers = set workers i x; side = side; work = Some work } ≡ record old { workers = set old.workers i y }
+left_set workers side o old work i x y is some same =
+    ap (λ (w : WorkerValue). with_parts (set workers i w) (Some work)) same
+    ∙ ap (with_parts (set workers i y)) (sym some)
+    ∙ ap (λ (b : BuildingValue). record b { workers = set b.workers i y }) is where
+      with_parts : List WorkerValue → Option WorkValue → BuildingValue
+      with_parts ws w = record { workers = ws; side = side; work = w }
+
+pub left_spoiled :
+    (workers new : List WorkerValue) (side : TakeEnd Entry) (o : Option WorkValue) (old : BuildingValue) (inside work : WorkValue) (fault : Fault)
+    → record { workers = workers; side = side; work = o } ≡ old → inside ≡ work → fault ≡ Memory
+    → record { workers = new; side = side; work = Some (record inside { spoiled = Some fault }) }
+    ≡ record old { workers = new; work = Some (record work { spoiled = Some Memory }) }
+left_spoiled workers new side o old inside work fault is same memory =
+    ap (λ (f : Fault). with_work (record inside { spoiled = Some f })) memory
+    ∙ ap (λ (w : WorkValue). with_work (record w { spoiled = Some Memory })) same
+    ∙ ap (λ (b : BuildingValue). record b { workers = new; work = Some (record work { spoiled = Some Memory }) }) is where
+      with_work : WorkValue → BuildingValue
+      with_work w = record { workers = new; side = side; work = Some w }
+
+pub the_work : (o : Option WorkValue) (a b : WorkValue) → o ≡ Some a → o ≡ Some b → a ≡ b
+the_work o a b one other = same_Some a b (sym one ∙ other)
