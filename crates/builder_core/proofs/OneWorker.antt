@@ -1,5 +1,5 @@
 -- What stands beside a table, where one worker changes.
-use Rattle.std.proofs.Common.{◌≡◌, ℕ, List, length, set, get_or, length-set, Option, Some, sym, ap, ◌∙◌}
+use Rattle.std.proofs.Common.{◌≡◌, ℕ, List, length, map, set, get_or, length-set, Option, Some, sym, ap, ◌∙◌}
 use Rattle.std.specs.List.{slice_get}
 use Rattle.std.proofs.lemmas.Option.{get_or_from_slice_get, same_Some}
 use Rattle.keybytes.specs.declared.fault.Fault.{Fault}
@@ -8,9 +8,12 @@ use Rattle.side_file.specs.Ends.{RingId}
 use Rattle.side_file.specs.declared.entry.Entry.{Entry}
 use Rattle.building.specs.TakeEnd.{TakeEnd}
 use Rattle.building.specs.WorkerValue.{WorkerValue}
-use Rattle.builder_core.specs.Builds.{BuildingValue, WorkValue}
+use Rattle.keybytes.specs.declared.pair.Pair.{Pair}
+use Rattle.builder_core.specs.Builds.{BuildingValue, WorkValue, after_sort}
 use Rattle.builder_core.specs.Rings.{AreTakeEnds}
-use Rattle.builder_core.proofs.Places.{kept}
+use Rattle.builder_core.specs.Working.{all_emptied}
+use Rattle.builder_core.proofs.AtWork.{outline, outlines_emptied}
+use Rattle.builder_core.proofs.Places.{kept, mapped, as_long}
 
 -- the ends are of the same rings
 pub ends_set :
@@ -53,3 +56,29 @@ left_spoiled workers new side o old inside work fault is same memory =
 
 pub the_work : (o : Option WorkValue) (a b : WorkValue) → o ≡ Some a → o ≡ Some b → a ≡ b
 the_work o a b one other = same_Some a b (sym one ∙ other)
+
+-- workers that gave their pairs have the rings that they had
+pub ends_emptied :
+    (page_rings side_ring : List RingId) (count : ℕ) (workers new : List WorkerValue) (side : TakeEnd Entry) → AreTakeEnds page_rings side_ring workers side
+    → new ≡ all_emptied count workers → AreTakeEnds page_rings side_ring new side
+ends_emptied page_rings side_ring count workers new side are is =
+    let same : map outline workers ≡ map outline new = outlines_emptied count workers ∙ ap (map outline) (sym is) in
+    record {
+      workers_are =
+          sym (mapped outline (λ (w : WorkerValue). w.end.ring) new) ∙ ap (map (λ (w : WorkerValue). w.end.ring)) (sym same)
+          ∙ mapped outline (λ (w : WorkerValue). w.end.ring) workers ∙ are.workers_are;
+      side_is = are.side_is;
+      sixteen = sym (as_long outline outline workers new same) ∙ are.sixteen;
+    }
+
+pub left_sorted :
+    (workers new : List WorkerValue) (side : TakeEnd Entry) (o : Option WorkValue) (old : BuildingValue) (inside work : WorkValue) (pairs : List Pair) (room : ℕ)
+    → record { workers = workers; side = side; work = o } ≡ old → inside ≡ work → new ≡ all_emptied inside.workers workers
+    → record { workers = new; side = side; work = Some (after_sort inside pairs room) }
+    ≡ record old { workers = all_emptied work.workers old.workers; work = Some (after_sort work pairs room) }
+left_sorted workers new side o old inside work pairs room is same emptied =
+    ap (λ (ws : List WorkerValue). with_parts ws inside) emptied
+    ∙ ap (λ (w : WorkValue). with_parts (all_emptied w.workers workers) w) same
+    ∙ ap (λ (b : BuildingValue). record b { workers = all_emptied work.workers b.workers; work = Some (after_sort work pairs room) }) is where
+      with_parts : List WorkerValue → WorkValue → BuildingValue
+      with_parts ws w = record { workers = ws; side = side; work = Some (after_sort w pairs room) }

@@ -3,9 +3,10 @@ ghost use Rattle.std.specs.Prelude.{◌≡◌, ◌≤◌, length, None, Some, Is
 ghost use Rattle.building.specs.Work.{after_seal};
 ghost use Rattle.builder_core.specs.Working.{CanTake, HasTaken, one_copy, all_copies, HasLoaded, IsSpoiled};
 
+use crate::rings::gather_first;
 use crate::work::Work;
 use crate::{Ends, Table};
-use building::{Worker, gather};
+use building::Worker;
 use keybytes::{Fault, Schema};
 use rtrb::Consumer;
 use side_file::Entry;
@@ -131,8 +132,7 @@ impl<T: Table> Building<T> {
         if work.is_loaded() {
             return Ok(0);
         }
-        let (workers, _) = self.workers.as_mut_slice().split_at_mut(work.workers);
-        let pairs = match gather(alloc, workers) {
+        let pairs = match gather_first(alloc, &mut self.workers, work.workers) {
             Ok(pairs) => pairs,
             Err(fault) => {
                 work.spoiled = Some(fault);

@@ -1,11 +1,15 @@
 //! Both ends of the rings that copies of pages go through, at hand.
-ghost use Rattle.std.specs.Prelude.{◌≡◌, ◌++◌, ◌<◌, ◌≤◌, ◌+◌, List, map, length, slice_get, true, false, Some, IfSome, MatchOption};
+ghost use Rattle.std.specs.Prelude.{◌≡◌, ◌++◌, ◌<◌, ◌≤◌, ◌+◌, List, map, length, slice_get, true, false, take, flat_map, Some, IfSome, IfOk, IfErr, OnOk, OnErr, MatchOption, IsPermutation};
+ghost use Rattle.heap_table.proofs.PairsAtRest.{InOrder};
 ghost use Rattle.side_file.specs.Ends.{PutEnd};
 ghost use Rattle.building.specs.WorkerValue.{WorkerValue};
 ghost use Rattle.building.specs.declared.copied.Copied.{Copied};
 ghost use Rattle.builder_core.specs.Rings.{put_rings, take_rings, all_sent, at_rest_on, AreLooked, AreQuiet, IsLoud, IsQuiet};
+ghost use Rattle.builder_core.specs.Working.{all_emptied};
 
-use building::{PagePutter, Worker};
+use building::{PagePutter, Worker, gather};
+use keybytes::{Fault, Pair};
+use std::alloc::Global;
 
 /// Empties every ring, and lets its worker begin a build.
 pub fn restart_all(pages: &mut Vec<PagePutter>, workers: &mut Vec<Worker>, build: u64)
@@ -63,4 +67,21 @@ pub fn first_loud(
         }
     }
     None
+}
+
+/// Hands the pairs of the first so many workers on, in order.
+pub fn gather_first(
+    alloc: Global,
+    workers: &mut Vec<Worker>,
+    count: usize,
+) -> Result<Vec<Pair>, Fault>
+    requires { count ≤ length workers.old.items }
+    ensures moved { IfOk result (λ pairs. IsPermutation (flat_map (λ worker. worker.pairs) (take count workers.old.items)) pairs.items) }
+    ensures sorted { IfOk result (λ pairs. InOrder pairs.items) }
+    ensures left { OnOk result (workers.new.items ≡ all_emptied count workers.old.items) }
+    ensures memory { IfErr result (λ fault. fault ≡ Fault.Memory) }
+    ensures unchanged { OnErr result (workers.new.items ≡ workers.old.items) }
+{
+    let (workers, _) = workers.as_mut_slice().split_at_mut(count);
+    gather(alloc, workers)
 }
