@@ -28,8 +28,8 @@ running live building b w build_is work_is follows works = record {
   follows = subst (BuildFollows live.state.heap.schema live.state.heap.log) build_is follows;
   on = subst (λ (o : Option BuildState). IsWorkOf live.state.heap.schema live.state.heap.log o (Some w)) build_is
       (subst (IsWorkOf live.state.heap.schema live.state.heap.log live.state.build) work_is works.work);
-  at_work = subst (λ (o : Option BuildState). WorkersFollow live building o (Some w)) build_is
-      (subst (WorkersFollow live building live.state.build) work_is works.workers);
+  at_work = subst (λ (o : Option BuildState). WorkersFollow live.pages live.side building o (Some w)) build_is
+      (subst (WorkersFollow live.pages live.side building live.state.build) work_is works.workers);
 }
 
 -- the same, told of a table from within
@@ -46,8 +46,8 @@ pub works_with :
 works_with live building b w run = record {
   work = subst (λ (o : Option BuildState). IsWorkOf live.state.heap.schema live.state.heap.log o building.work) (sym run.build_is)
       (subst (IsWorkOf live.state.heap.schema live.state.heap.log (Some b)) (sym run.work_is) run.on);
-  workers = subst (λ (o : Option BuildState). WorkersFollow live building o building.work) (sym run.build_is)
-      (subst (WorkersFollow live building (Some b)) (sym run.work_is) run.at_work);
+  workers = subst (λ (o : Option BuildState). WorkersFollow live.pages live.side building o building.work) (sym run.build_is)
+      (subst (WorkersFollow live.pages live.side building (Some b)) (sym run.work_is) run.at_work);
 }
 
 -- what callers see of work that goes on

@@ -159,21 +159,21 @@ IsWorkOf kinds log (Some b) None = ⊥
 IsWorkOf kinds log (Some b) (Some work) = IsWorkOn kinds log b work
 
 -- the workers of the build are at work on what their rings were sent, unless it is spoiled
-pub record AreAtWork (b : BuildState) (live : LiveValue) (building : BuildingValue) (work : WorkValue) : Type 0 where
+pub record AreAtWork (b : BuildState) (pages : List (PutEnd Copied)) (side : PutEnd Entry) (building : BuildingValue) (work : WorkValue) : Type 0 where
   -- nothing is in the side-file's ring
-  pub drained : IsDrained live.side building.side.ring building.side.received
-  pub taking : work.spoiled ≡ None → AreTaking b.number work.spec b.workers (all_sent live.pages) building.workers
+  pub drained : IsDrained side building.side.ring building.side.received
+  pub taking : work.spoiled ≡ None → AreTaking b.number work.spec b.workers (all_sent pages) building.workers
   pub holding : work.spoiled ≡ None → work.tree ≡ None → AreHolding work.spec b.workers building.workers
 
-abbrev pub WorkersFollow : LiveValue → BuildingValue → Option BuildState → Option WorkValue → Type 0
-WorkersFollow live building None work = Unit {0}
-WorkersFollow live building (Some b) None = Unit {0}
-WorkersFollow live building (Some b) (Some work) = AreAtWork b live building work
+abbrev pub WorkersFollow : List (PutEnd Copied) → PutEnd Entry → BuildingValue → Option BuildState → Option WorkValue → Type 0
+WorkersFollow pages side building None work = Unit {0}
+WorkersFollow pages side building (Some b) None = Unit {0}
+WorkersFollow pages side building (Some b) (Some work) = AreAtWork b pages side building work
 
 -- what stands beside a table goes with it
 pub record WorksOn (live : LiveValue) (building : BuildingValue) : Type 0 where
   pub work : IsWorkOf live.state.heap.schema live.state.heap.log live.state.build building.work
-  pub workers : WorkersFollow live building live.state.build building.work
+  pub workers : WorkersFollow live.pages live.side building live.state.build building.work
 
 -- a build runs on that table, and this is its work
 pub record IsRunning (live : LiveValue) (building : BuildingValue) (b : BuildState) (work : WorkValue) : Type 0 where
@@ -181,7 +181,7 @@ pub record IsRunning (live : LiveValue) (building : BuildingValue) (b : BuildSta
   pub work_is : building.work ≡ Some work
   pub follows : IsBuildOf live.state.heap.schema live.state.heap.log b
   pub on : IsWorkOn live.state.heap.schema live.state.heap.log b work
-  pub at_work : AreAtWork b live building work
+  pub at_work : AreAtWork b live.pages live.side building work
 
 -- how many places of a ring are known to be free
 abbrev pub free_places : Option (PutEnd Copied) → ℕ
