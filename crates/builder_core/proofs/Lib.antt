@@ -1,5 +1,4 @@
 pub mod AtWork
-pub mod OneWorker
 pub mod Copies
 pub mod CopyPairs
 pub mod Distinct
@@ -9,6 +8,8 @@ pub mod Following
 pub mod Looks
 pub mod Making
 pub mod NextPages
+pub mod OneRing
+pub mod OneWorker
 pub mod Performed
 pub mod Places
 pub mod Puts
