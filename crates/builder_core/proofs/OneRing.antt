@@ -1,11 +1,13 @@
 -- The ends that put, where one of them changes.
-use Rattle.std.proofs.Common.{◌≡◌, ℕ, ◌<◌, ◌≤◌, ◌==◌, true, List, length, set, get_or, length-set, Option, Some, None, refl, sym, ap, ◌∙◌, subst}
-use Rattle.std.specs.List.{slice_get}
+use Rattle.std.proofs.Common.{◌≡◌, ℕ, ◌<◌, ◌≤◌, ◌==◌, ◌++◌, ◌∷◌, [], true, List, length, set, get_or, length-set, Option, Some, None, refl, sym, ap, ◌∙◌, subst, arith}
+use Rattle.std.specs.List.{All, slice_get}
 use Rattle.std.proofs.lemmas.Bool.{eq-eqb}
-use Rattle.std.proofs.lemmas.List.{map-set}
+use Rattle.std.proofs.lemmas.List.{map-set, get_or-set_same}
+use Rattle.std.proofs.lemmas.List.Elements.{All-set, All-push}
 use Rattle.keybytes.specs.declared.fault.Fault.TheVariants.{RingFull}
 use Rattle.keybytes.specs.declared.kind.Kind.{Kind}
 use Rattle.heap_log.specs.declared.record.LogRec.{LogRec}
+use Rattle.heap_table.specs.Images.{ImageValue, IsImage}
 use Rattle.heap_table.specs.Pages.{pages_written}
 use Rattle.side_file.specs.Ends.{PutEnd, RingId}
 use Rattle.side_file.specs.declared.entry.Entry.{Entry}
@@ -13,9 +15,13 @@ use Rattle.building.specs.declared.copied.Copied.{Copied}
 use Rattle.builder_core.specs.Builds.{LiveValue, BuildingValue, WorkValue, BuildFollows, WorkersFollow, page_refusal, full_refusal, put_refusal, free_places}
 use Rattle.builder_core.specs.CoreState.{BuildState, LiveState}
 use Rattle.builder_core.specs.Ranges.{next_page}
-use Rattle.builder_core.specs.Rings.{all_sent, ArePutEnds, AreTaking}
+use Rattle.builder_core.specs.Rings.{all_sent, AreOfBuilds, ArePut, ArePutEnds, AreTaking, HasPut}
 use Rattle.builder_core.specs.Steps.{OnBuild}
-use Rattle.builder_core.proofs.Places.{kept}
+use Rattle.builder_core.proofs.Places.{kept, all_at}
+use Rattle.building.proofs.Taking.{put_taking}
+use Rattle.builder_core.proofs.AtWork.{taking_put}
+use Rattle.builder_core.proofs.Puts.{put_scanned}
+use Rattle.builder_core.proofs.ScanSteps.{scan_now}
 use Rattle.builder_core.proofs.TableBuilds.{next_written}
 
 -- the ends are of the same rings
@@ -66,3 +72,53 @@ pub next_below :
     → BuildFollows live.heap.schema live.heap.log build → page < pages_written live.heap.log
 next_below live None range worker page on follows = absurd on
 next_below live (Some b) range worker page on follows = next_written live.heap.schema live.heap.log b range page follows on.0
+
+-- its worker has a ring
+pub worker_below :
+    (live : LiveState) (build : Option BuildState) (range worker page : ℕ) → OnBuild build (λ b. (next_page b range ≡ Some page) × (worker < b.workers))
+    → BuildFollows live.heap.schema live.heap.log build → worker < 16
+worker_below live None range worker page on follows = absurd on
+worker_below live (Some b) range worker page on follows = omega (arith, on.1, follows.few_workers)
+
+-- a place that is written twice
+pub written_twice : (pages : List (PutEnd Copied)) (i : ℕ) (first at : PutEnd Copied) → i < length pages → at ≡ get_or (set pages i first) i at → at ≡ first
+written_twice pages i first at less is = is ∙ get_or-set_same pages i first at less
+
+pub builds_put :
+    (builds : ℕ) (all : List (List Copied)) (i : ℕ) (sent : List Copied) (copied : Copied) → slice_get all i ≡ Some sent → copied.build ≤ builds
+    → AreOfBuilds builds all → AreOfBuilds builds (set all i (sent ++ copied ∷ []))
+builds_put builds all i sent copied there few before =
+    let Old : List Copied → Type 0 = λ xs. All (λ c. c.build ≤ builds) xs in
+    All-set Old all i (sent ++ copied ∷ []) (All-push (λ c. c.build ≤ builds) sent copied (all_at Old all i sent before there) few) before
+
+-- the rings where a page was copied for a build and its copy put
+pub put_next :
+    (kinds : List Kind) (log : List LogRec) (builds : ℕ) (b : BuildState) (all : List (List Copied)) (worker page records number : ℕ) (sent : List Copied)
+    (image : ImageValue) → HasPut kinds log builds b all → slice_get all worker ≡ Some sent → records ≡ length log → number ≡ b.number
+    → IsImage kinds log page image
+    → HasPut kinds log builds (record b { scans = b.scans ++ record { worker = worker; page = page; records = records } ∷ [] })
+        (set all worker (sent ++ record { build = number; image = image } ∷ []))
+put_next kinds log builds b all worker page records number sent image is there now same copy = record {
+  number = is.number;
+  put =
+      subst (λ (r : ℕ). ArePut kinds log (record b { scans = b.scans ++ record { worker = worker; page = page; records = r } ∷ [] })
+      (set all worker (sent ++ record { build = number; image = image } ∷ []))) (sym now)
+      (subst (λ (n : ℕ). ArePut kinds log (record b { scans = b.scans ++ scan_now worker page log ∷ [] })
+      (set all worker (sent ++ record { build = n; image = image } ∷ []))) (sym same)
+      (put_scanned kinds log b all worker page sent image there is.put copy));
+}
+
+-- a worker goes on taking what its ring is sent
+pub workers_put :
+    (pages : List (PutEnd Copied)) (side : PutEnd Entry) (building : BuildingValue) (b new : BuildState) (work : Option WorkValue)
+    (i : ℕ) (sent : List Copied) (copied : Copied) (put : List (PutEnd Copied)) → WorkersFollow pages side building (Some b) work
+    → slice_get (all_sent pages) i ≡ Some sent → all_sent put ≡ set (all_sent pages) i (sent ++ copied ∷ []) → copied.build ≡ b.number
+    → new.number ≡ b.number → new.workers ≡ b.workers → WorkersFollow put side building (Some new) work
+workers_put pages side building b new None i sent copied put follow there is own number workers = tt
+workers_put pages side building b new (Some w) i sent copied put follow there is own number workers = record {
+  drained = follow.drained;
+  taking = λ fine.
+      rw (is, number, workers) (taking_put b.number w.spec b.workers (all_sent pages) building.workers i (sent ++ copied ∷ []) (follow.taking fine)
+      (λ worker less at. put_taking b.number w.spec sent worker (follow.taking fine i sent worker less there at) copied own));
+  holding = λ fine none. rw workers (follow.holding fine none);
+}
