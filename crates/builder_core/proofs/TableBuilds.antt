@@ -164,3 +164,10 @@ pub work_next :
 work_next kinds log b work range worker page records is next now =
     subst (λ r. IsWorkOn kinds log (record b { scans = b.scans ++ record { worker = worker; page = page; records = r } ∷ [] }) work)
     (sym now) (scanned_work_on kinds log b work worker page is (λ none. no_page b none range page next))
+
+pub work_of_next :
+    (kinds : List Kind) (log : List LogRec) (b : BuildState) (work : Option WorkValue) (range worker page records : ℕ) → IsWorkOf kinds log (Some b) work
+    → next_page b range ≡ Some page → records ≡ length log
+    → IsWorkOf kinds log (Some (record b { scans = b.scans ++ record { worker = worker; page = page; records = records } ∷ [] })) work
+work_of_next kinds log b None range worker page records is next now = is
+work_of_next kinds log b (Some w) range worker page records is next now = work_next kinds log b w range worker page records is next now
