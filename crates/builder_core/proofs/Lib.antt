@@ -5,6 +5,7 @@ pub mod Distinct
 pub mod EntrySteps
 pub mod Examples
 pub mod Following
+pub mod Looked
 pub mod Looks
 pub mod Making
 pub mod NextPages

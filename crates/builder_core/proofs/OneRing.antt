@@ -97,7 +97,7 @@ pub put_next :
     (image : ImageValue) → HasPut kinds log builds b all → slice_get all worker ≡ Some sent → records ≡ length log → number ≡ b.number
     → IsImage kinds log page image
     → HasPut kinds log builds (record b { scans = b.scans ++ record { worker = worker; page = page; records = records } ∷ [] })
-        (set all worker (sent ++ record { build = number; image = image } ∷ []))
+    (set all worker (sent ++ record { build = number; image = image } ∷ []))
 put_next kinds log builds b all worker page records number sent image is there now same copy = record {
   number = is.number;
   put =

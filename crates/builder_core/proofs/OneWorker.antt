@@ -1,5 +1,5 @@
 -- What stands beside a table, where one worker changes.
-use Rattle.std.proofs.Common.{◌≡◌, ℕ, List, length, map, set, get_or, length-set, Option, Some, sym, ap, ◌∙◌}
+use Rattle.std.proofs.Common.{◌≡◌, ℕ, List, length, map, set, get_or, length-set, [], Option, Some, sym, ap, ◌∙◌}
 use Rattle.std.specs.List.{slice_get}
 use Rattle.std.proofs.lemmas.Option.{get_or_from_slice_get, same_Some}
 use Rattle.keybytes.specs.declared.fault.Fault.{Fault}
@@ -7,12 +7,14 @@ use Rattle.keybytes.specs.declared.fault.Fault.TheVariants.{Memory}
 use Rattle.side_file.specs.Ends.{RingId}
 use Rattle.side_file.specs.declared.entry.Entry.{Entry}
 use Rattle.building.specs.TakeEnd.{TakeEnd}
+use Rattle.building.specs.Work.{knowing}
 use Rattle.building.specs.WorkerValue.{WorkerValue}
 use Rattle.keybytes.specs.declared.pair.Pair.{Pair}
 use Rattle.builder_core.specs.Builds.{BuildingValue, WorkValue, after_sort}
 use Rattle.builder_core.specs.Rings.{AreTakeEnds}
 use Rattle.builder_core.specs.Working.{all_emptied}
 use Rattle.builder_core.proofs.AtWork.{outline, outlines_emptied}
+use Rattle.builder_core.proofs.Looks.{takes_looked}
 use Rattle.builder_core.proofs.Places.{kept, mapped, as_long}
 
 -- the ends are of the same rings
@@ -82,3 +84,13 @@ left_sorted workers new side o old inside work pairs room is same emptied =
     ∙ ap (λ (b : BuildingValue). record b { workers = all_emptied work.workers b.workers; work = Some (after_sort work pairs room) }) is where
       with_parts : List WorkerValue → WorkValue → BuildingValue
       with_parts ws w = record { workers = ws; side = side; work = Some (after_sort w pairs room) }
+
+-- workers whose rings were looked at have the rings that they had
+pub ends_looked :
+    (page_rings side_ring : List RingId) (workers new : List WorkerValue) (side : TakeEnd Entry) → AreTakeEnds page_rings side_ring workers side
+    → map (knowing []) new ≡ map (knowing []) workers → AreTakeEnds page_rings side_ring new side
+ends_looked page_rings side_ring workers new side are same = record {
+  workers_are = takes_looked workers new same ∙ are.workers_are;
+  side_is = are.side_is;
+  sixteen = as_long (knowing []) (knowing []) new workers same ∙ are.sixteen;
+}

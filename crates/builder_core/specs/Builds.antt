@@ -21,7 +21,7 @@ use Rattle.building.specs.WorkerValue.{WorkerValue}
 use Rattle.building.specs.declared.copied.Copied.{Copied}
 use Rattle.builder_core.specs.CoreState.{BuildState, LiveState, WorkerState, IndexState, WorkState, CoreState, scanning_of, live_with_heap, idle, spoiled_work}
 use Rattle.builder_core.specs.Ranges.{next_page, open_range}
-use Rattle.builder_core.specs.Rings.{all_sent, AreForWorkers, AreTaking, AreHolding, AreQuiet}
+use Rattle.builder_core.specs.Rings.{all_sent, AreForWorkers, AreLooked, AreTaking, AreHolding, AreQuiet}
 use Rattle.builder_core.specs.Scanning.{IsScanned, ReadOnce, scanned_at, scanned_pairs}
 use Rattle.builder_core.specs.SideFiles.{IsDrained}
 use Rattle.builder_core.specs.Steps.{refusal, cause_if, build_cause, counts_refusal, range_refusal}
@@ -174,6 +174,14 @@ WorkersFollow pages side building (Some b) (Some work) = AreAtWork b pages side 
 pub record WorksOn (live : LiveValue) (building : BuildingValue) : Type 0 where
   pub work : IsWorkOf live.state.heap.schema live.state.heap.log live.state.build building.work
   pub workers : WorkersFollow live.pages live.side building live.state.build building.work
+
+-- both ends of the rings were looked at, and nothing else changed
+pub record HasLooked (live : LiveValue) (building : BuildingValue) (new_live : LiveValue) (new_building : BuildingValue) : Type 0 where
+  pub state : new_live.state ≡ live.state
+  pub side : new_live.side ≡ live.side
+  pub rings : AreLooked live.pages building.workers new_live.pages new_building.workers
+  pub other_side : new_building.side ≡ building.side
+  pub work : new_building.work ≡ building.work
 
 -- a build runs on that table, and this is its work
 pub record IsRunning (live : LiveValue) (building : BuildingValue) (b : BuildState) (work : WorkValue) : Type 0 where

@@ -19,6 +19,7 @@ mod ends;
 mod event;
 mod live;
 mod live_builds;
+mod live_workers;
 mod live_writes;
 mod parts;
 mod plan;

@@ -18,11 +18,11 @@ ghost use Rattle.builder_core.specs.Steps.{Starts, Scans, Digests, Seals, Loads,
 ghost use Rattle.builder_core.specs.declared.event.Event.{Event};
 
 use crate::parts::WORKERS_MAX;
-use crate::rings::{first_loud, restart_all, waiting};
+use crate::rings::restart_all;
 use crate::table_scan::TableScan;
 use crate::work::Work;
 use crate::{Building, Dealing, Live, Pair, Plan, ReadyIndex, Table};
-use building::{Copied, RING_IMAGES};
+use building::Copied;
 use catch_up::{Built, catch_up};
 use heap_log::{Outcome, Verdicts};
 use heap_table::{Heap, PageImage};
@@ -140,36 +140,6 @@ impl<T: Table> Live<T> {
             && self.builds < u64::MAX
     }
 
-    /// Why a page of the range would not be copied for the worker, with both ends of the worker's ring at hand. Takes no memory.
-    pub fn check_scan(
-        &mut self,
-        range: usize,
-        worker: usize,
-        building: &mut Building<T>,
-    ) -> Result<(), Fault>
-        requires { WorksOn self.old building.old }
-        ensures accepted { OnOk result (cause_of self.old building.old (Event.Scan range worker) ≡ None) }
-        ensures refused { IfErr result (λ fault. cause_of self.old building.old (Event.Scan range worker) ≡ Some fault) }
-        ensures state { core_state self.new building.new ≡ core_state self.old building.old }
-        ensures works { WorksOn self.new building.new }
-        ensures room { OnOk result (put_refusal self.new range worker ≡ None) }
-    {
-        let (Some(build), Some(work)) = (self.build(), building.work()) else {
-            return Err(Fault::NoBuild);
-        };
-        if range >= build.ranges() || worker >= build.workers() {
-            return Err(Fault::BadCount);
-        }
-        work.check()?;
-        if build.next_page(range).is_none() {
-            return Err(Fault::RangeDone);
-        }
-        if waiting(&mut self.pages, &mut building.workers, worker) >= RING_IMAGES {
-            return Err(Fault::RingFull);
-        }
-        Ok(())
-    }
-
     /// The lowest page of the range that is left to be copied for the worker.
     fn next_page(&self, range: usize, worker: usize) -> Result<u32, Fault>
         ensures page { IfOk result (λ page. OnBuild self.now.state.build (λ b. (next_page b range ≡ Some page) × (worker < b.workers))) }
@@ -217,95 +187,6 @@ impl<T: Table> Live<T> {
         let build = scan.number();
         self.pages[worker].put(Copied { build, image });
         Ok(page)
-    }
-
-    /// Why the worker would make no pairs. Takes no memory.
-    pub fn check_worker(&self, worker: usize, building: &Building<T>) -> Result<(), Fault>
-        requires { WorksOn self.now building.now }
-        ensures accepted { MatchResult result
-            (λ _. cause_of self.now building.now (Event.Seal worker) ≡ None)
-            (λ fault. cause_of self.now building.now (Event.Seal worker) ≡ Some fault) }
-        ensures runs { OnOk result (MayWork self.now building.now worker) }
-    {
-        let (Some(build), Some(work)) = (self.build(), building.work()) else {
-            return Err(Fault::NoBuild);
-        };
-        if worker >= build.workers() {
-            return Err(Fault::BadCount);
-        }
-        work.check()
-    }
-
-    /// Lets the worker take the next copy, if one waits, and answers how many it took. Want of memory spoils the build.
-    pub(crate) fn digest(
-        &mut self,
-        worker: usize,
-        building: &mut Building<T>,
-    ) -> Result<usize, Fault>
-        requires works { WorksOn self.old building.old }
-        requires runs { MayWork self.old building.old worker }
-        ensures digested { IfOk result (λ images. Digests worker (core_state self.old building.old) images (core_state self.new building.new)) }
-        ensures spoiled { OnErr result (core_state self.new building.new ≡ spoiled_by Fault.Memory (core_state self.old building.old)) }
-        ensures works { WorksOn self.new building.new }
-        ensures memory { IfErr result (λ fault. fault ≡ Fault.Memory) }
-    {
-        if waiting(&mut self.pages, &mut building.workers, worker) == 0 {
-            return Ok(0);
-        }
-        building.digest(worker, self.heap.schema())
-    }
-
-    /// Lets the worker take all copies that wait and close its run, and answers how many it took. Want of memory spoils the build.
-    pub(crate) fn seal(&mut self, worker: usize, building: &mut Building<T>) -> Result<usize, Fault>
-        requires works { WorksOn self.old building.old }
-        requires runs { MayWork self.old building.old worker }
-        ensures sealed { IfOk result (λ images. Seals worker (core_state self.old building.old) images (core_state self.new building.new)) }
-        ensures spoiled { OnErr result (core_state self.new building.new ≡ spoiled_by Fault.Memory (core_state self.old building.old)) }
-        ensures works { WorksOn self.new building.new }
-        ensures memory { IfErr result (λ fault. fault ≡ Fault.Memory) }
-    {
-        waiting(&mut self.pages, &mut building.workers, worker);
-        building.seal(worker, self.heap.schema())
-    }
-
-    /// Why the pairs of the index would not be put in order, with both ends of the rings at hand. Takes no memory.
-    pub fn check_load(&mut self, index: usize, building: &mut Building<T>) -> Result<(), Fault>
-        requires { WorksOn self.old building.old }
-        ensures accepted { OnOk result (cause_of self.old building.old (Event.Load index) ≡ None) }
-        ensures refused { IfErr result (λ fault. cause_of self.old building.old (Event.Load index) ≡ Some fault) }
-        ensures state { core_state self.new building.new ≡ core_state self.old building.old }
-        ensures works { WorksOn self.new building.new }
-        ensures runs { OnOk result (MayLoad self.new building.new index) }
-    {
-        let (Some(build), Some(work)) = (self.build(), building.work()) else {
-            return Err(Fault::NoBuild);
-        };
-        if index != 0 {
-            return Err(Fault::BadCount);
-        }
-        work.check()?;
-        if let Some(range) = build.first_open() {
-            return Err(Fault::NotScanned(range));
-        }
-        let count = build.workers();
-        match first_loud(&mut self.pages, &mut building.workers, count) {
-            Some(worker) => Err(Fault::NotSealed(worker)),
-            None => Ok(()),
-        }
-    }
-
-    /// Puts the pairs in order that the workers made, and answers how many there are; 0 where they are in order already. Want of
-    /// memory spoils the build.
-    pub(crate) fn load(&self, building: &mut Building<T>) -> Result<usize, Fault>
-        requires works { WorksOn self.now building.old }
-        requires runs { MayLoad self.now building.old 0 }
-        ensures loaded { IfOk result (λ pairs. Loads 0 (core_state self.now building.old) pairs (core_state self.now building.new)) }
-        ensures spoiled { OnErr result (core_state self.now building.new ≡ spoiled_by Fault.Memory (core_state self.now building.old)) }
-        ensures works { WorksOn self.now building.new }
-        ensures memory { IfErr result (λ fault. fault ≡ Fault.Memory) }
-    {
-        self.heap.laws();
-        building.load(self.alloc)
     }
 
     /// Why the indexes of the build would not become ready. Takes no memory.
