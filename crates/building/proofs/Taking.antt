@@ -48,6 +48,7 @@ module _ (build : ℕ) (spec : KeySpecValue) (sent : List Copied) (worker : Work
     in_order = taking.in_order;
     own = taking.own;
     taken = taking.taken;
+    sealed_was_taken = taking.sealed_was_taken;
     last = taking.last;
     since_seal = taking.since_seal;
     open_run = taking.open_run;
@@ -61,6 +62,7 @@ module _ (build : ℕ) (spec : KeySpecValue) (sent : List Copied) (worker : Work
     in_order = sym (append_assoc worker.end.received taking.rest (copied ∷ [])) ∙ ap (λ copies. copies ++ copied ∷ []) taking.in_order;
     own = All-push (IsOwn build) taking.rest copied taking.own is;
     taken = taking.taken;
+    sealed_was_taken = taking.sealed_was_taken;
     last = taking.last;
     since_seal = taking.since_seal;
     open_run = taking.open_run;
@@ -74,6 +76,7 @@ module _ (build : ℕ) (spec : KeySpecValue) (sent : List Copied) (worker : Work
     in_order = taking.in_order;
     own = taking.own;
     taken = taking.taken;
+    sealed_was_taken = omega arith;
     last = [];
     since_seal = subst (λ (images : List ImageValue). HavePairs spec images []) (sym none) refl;
     open_run = refl;
@@ -100,12 +103,12 @@ module _ (build : ℕ) (spec : KeySpecValue) (sent : List Copied) (worker : Work
         omega (arith, count, taken, here, few)
 
     -- it takes the next copies
-    pub digested_taking : (made : List Pair) → HavePairs spec (next_images n worker) made → worker.sealed ≤ worker.taken → IsTaking build spec sent (after_digest n made worker)
-    digested_taking made have sealed =
+    pub digested_taking : (made : List Pair) → HavePairs spec (next_images n worker) made → IsTaking build spec sent (after_digest n made worker)
+    digested_taking made have =
         let images : received_images (after_digest n made worker) ≡ received_images worker ++ next_images n worker =
         images-append worker.build worker.end.received (take n worker.end.known) in
         let count = length-append (received_images worker) (next_images n worker) in
-        let within : worker.sealed ≤ length (received_images worker) = omega (arith, taking.taken, sealed) in
+        let within : worker.sealed ≤ length (received_images worker) = omega (arith, taking.taken, taking.sealed_was_taken) in
         let later : drop worker.sealed (received_images (after_digest n made worker)) ≡ drop worker.sealed (received_images worker) ++ next_images n worker =
         ap (drop worker.sealed) images ∙ drop-append-le worker.sealed (received_images worker) (next_images n worker) within in
         record {
@@ -115,6 +118,7 @@ module _ (build : ℕ) (spec : KeySpecValue) (sent : List Copied) (worker : Work
               ∙ (ap (λ copies. worker.end.received ++ copies) (take-append-drop n worker.end.known) ∙ in_order);
           own = All-drop (IsOwn build) n worker.end.known (sees_own worker.end.known in_order);
           taken = omega (arith, taking.taken, ap length images, count);
+          sealed_was_taken = omega (arith, taking.sealed_was_taken);
           last = taking.last ++ made;
           since_seal = subst (λ (xs : List ImageValue). HavePairs spec xs (taking.last ++ made)) (sym later)
               (have_append spec (drop worker.sealed (received_images worker)) (next_images n worker) taking.last made taking.since_seal have);
@@ -133,6 +137,7 @@ start_taking build spec end before =
       in_order = append-nil end.received;
       own = All-nil (IsOwn build);
       taken = sym (ap length none);
+      sealed_was_taken = omega arith;
       last = [];
       since_seal = subst (λ (images : List ImageValue). HavePairs spec images []) (sym none) refl;
       open_run = refl;

@@ -1,5 +1,5 @@
 -- What a worker has made of the copies that were put for its build.
-use Rattle.std.specs.Prelude.{◌≡◌, ℕ, ◌%◌, List, ◌++◌, length, drop}
+use Rattle.std.specs.Prelude.{◌≡◌, ℕ, ◌%◌, ◌≤◌, List, ◌++◌, length, drop}
 use Rattle.std.specs.List.{All}
 use Rattle.keybytes.specs.Keys.{KeySpecValue}
 use Rattle.keybytes.specs.declared.pair.Pair.{Pair}
@@ -21,6 +21,7 @@ pub record IsTaking (build : ℕ) (spec : KeySpecValue) (sent : List Copied) (wo
   pub in_order : worker.end.received ++ rest ≡ sent
   pub own : All (λ copied. copied.build ≡ build) rest
   pub taken : worker.taken ≡ length (received_images worker)
+  pub sealed_was_taken : worker.sealed ≤ worker.taken
   -- the pairs of the copies that it took since it last sealed
   pub last : List Pair
   pub since_seal : HavePairs spec (drop worker.sealed (received_images worker)) last
