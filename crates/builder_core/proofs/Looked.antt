@@ -3,7 +3,7 @@ use Rattle.std.proofs.Common.{◌≡◌, ℕ, List, [], ◌∷◌, map, Option, 
 use Rattle.building.specs.WorkerValue.{WorkerValue}
 use Rattle.building.specs.Work.{knowing}
 use Rattle.builder_core.specs.Builds.{LiveValue, BuildingValue, WorkValue, HasLooked, IsRunning, IsWorkOf, WorkersFollow, WorksOn, work_state, core_state, worker_state, state_unless, index_state}
-use Rattle.builder_core.specs.CoreState.{BuildState, WorkState}
+use Rattle.builder_core.specs.CoreState.{BuildState, LiveState, WorkState}
 use Rattle.builder_core.proofs.AtWork.{outline, outlines_looked, states_same, taking_same, holding_looked}
 use Rattle.builder_core.proofs.OneRing.{workers_looked}
 
@@ -37,7 +37,10 @@ workers_after live new_live building new (Some b) (Some w) looked follow = recor
 pub works_looked : (live new_live : LiveValue) (building new : BuildingValue) → HasLooked live building new_live new → WorksOn live building → WorksOn new_live new
 works_looked live new_live building new looked works = record {
   work = rw (looked.state, looked.work) works.work;
-  workers = rw (looked.state, looked.work) (workers_after live new_live building new live.state.build building.work looked works.workers);
+  workers =
+      subst (WorkersFollow new_live.pages new_live.side new new_live.state.build) (sym looked.work)
+      (subst (λ (s : LiveState). WorkersFollow new_live.pages new_live.side new s.build building.work) (sym looked.state)
+      (workers_after live new_live building new live.state.build building.work looked works.workers));
 }
 
 pub runs_looked :

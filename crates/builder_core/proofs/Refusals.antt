@@ -51,18 +51,17 @@ works_with live building b w run = record {
 }
 
 -- what callers see of work that goes on
-pub state_of : BuildingValue → WorkValue → WorkState
+abbrev pub state_of : BuildingValue → WorkValue → WorkState
 state_of building w = record { workers = map worker_state (take w.workers building.workers); indexes = index_state w.tree ∷ []; spoiled = None }
 
 pub state_is : (building : BuildingValue) (w : WorkValue) → building.work ≡ Some w → w.spoiled ≡ None → work_state building.workers building.work ≡ state_of building w
-unfolding state_of
 state_is building w is fine = rw (is, fine) refl
 
 module _
     (live : LiveValue) (building : BuildingValue) (b : BuildState) (w : WorkValue) (run : IsRunning live building b w) (fine : w.spoiled ≡ None)
     (put : ArePut live.state.heap.schema live.state.heap.log b (all_sent live.pages)) (workers_there : b.workers ≤ length building.workers)
     (pages_there : b.workers ≤ length live.pages) where
-  work : WorkState
+  abbrev work : WorkState
   work = work_state building.workers building.work
 
   -- each worker of the build has a ring
