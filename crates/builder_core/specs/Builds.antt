@@ -1,5 +1,5 @@
 -- What a table and the workers of its build keep between events, and how the two go together.
-use Rattle.std.specs.Prelude.{◌≡◌, ℕ, ◌+◌, ◌-◌, ◌==◌, ◌<◌, ◌≤◌, List, [], ◌∷◌, length, map, take, is_some, vec_len, vec_capacity, Vec, true, Option, Some, None}
+use Rattle.std.specs.Prelude.{◌≡◌, ℕ, ◌+◌, ◌-◌, ◌==◌, ◌<◌, ◌≤◌, List, [], ◌∷◌, ◌++◌, length, map, take, is_some, vec_len, vec_capacity, Vec, true, Option, Some, None}
 use Rattle.std.specs.declared.alloc.Global.{Global}
 use Rattle.std.specs.FinMap.{keys}
 use Rattle.std.specs.List.{slice_get}
@@ -182,6 +182,16 @@ pub record HasLooked (live : LiveValue) (building : BuildingValue) (new_live : L
   pub rings : AreLooked live.pages building.workers new_live.pages new_building.workers
   pub other_side : new_building.side ≡ building.side
   pub work : new_building.work ≡ building.work
+
+-- both ends of a worker's ring are at hand, and so many copies wait in it
+pub record SeesRing (worker count : ℕ) (live : LiveValue) (building : BuildingValue) : Type 0 where
+  pub it : WorkerValue
+  pub there : slice_get building.workers worker ≡ Some it
+  pub end : PutEnd Copied
+  pub ring : slice_get live.pages worker ≡ Some end
+  pub in_order : it.end.received ++ it.end.known ≡ end.sent
+  pub seen : count ≡ length it.end.known
+  pub free : 4 ≤ end.free + count
 
 -- a build runs on that table, and this is its work
 pub record IsRunning (live : LiveValue) (building : BuildingValue) (b : BuildState) (work : WorkValue) : Type 0 where

@@ -3,7 +3,7 @@ ghost use Rattle.std.specs.Prelude.{◌≡◌, ◌++◌, ◌<◌, ◌≤◌, ◌
 ghost use Rattle.side_file.specs.Ends.{PutEnd};
 ghost use Rattle.building.specs.WorkerValue.{WorkerValue};
 ghost use Rattle.building.specs.declared.copied.Copied.{Copied};
-ghost use Rattle.builder_core.specs.Builds.{core_state, cause_of, put_refusal, HasLooked, MayWork, MayLoad, WorksOn};
+ghost use Rattle.builder_core.specs.Builds.{core_state, cause_of, put_refusal, HasLooked, SeesRing, MayWork, MayLoad, WorksOn};
 ghost use Rattle.builder_core.specs.Rings.{all_sent, AreQuiet, IsLoud};
 ghost use Rattle.builder_core.specs.Steps.{Digests, Seals, Loads, spoiled_by};
 ghost use Rattle.builder_core.specs.declared.event.Event.{Event};
@@ -18,10 +18,7 @@ impl<T: Table> Live<T> {
     fn look(&mut self, worker: usize, building: &mut Building<T>) -> usize
         requires { worker < 16 }
         ensures looked { HasLooked self.old building.old self.new building.new }
-        ensures seen { IfSome (slice_get building.new.workers worker) (λ w. result ≡ length w.end.known) }
-        ensures in_order { (end : PutEnd Copied) (w : WorkerValue) → slice_get self.new.pages worker ≡ Some end → slice_get building.new.workers worker ≡ Some w
-            → w.end.received ++ w.end.known ≡ end.sent }
-        ensures free { (end : PutEnd Copied) → slice_get self.new.pages worker ≡ Some end → 4 ≤ end.free + result }
+        ensures sees { SeesRing worker result self.new building.new }
     {
         waiting(&mut self.pages, &mut building.workers, worker)
     }
