@@ -5,6 +5,7 @@ use Rattle.std.specs.List.{slice_get}
 use Rattle.std.proofs.lemmas.List.{map-set}
 use Rattle.std.proofs.Math.Seq.{take-set-lt}
 use Rattle.std.proofs.lemmas.Option.{same_Some}
+use Rattle.keybytes.specs.declared.fault.Fault.TheVariants.{Memory}
 use Rattle.keybytes.specs.declared.pair.Pair.{Pair}
 use Rattle.building.specs.Copies.{images_of}
 use Rattle.building.specs.ImagePairs.{HavePairs}
@@ -14,14 +15,16 @@ use Rattle.building.specs.WorkerValue.{WorkerValue}
 use Rattle.building.specs.declared.copied.Copied.{Copied}
 use Rattle.building.proofs.Digests.{can_digest, digested_all}
 use Rattle.building.proofs.Taking.{digested_taking, sealed_taking, next_count}
-use Rattle.builder_core.specs.Builds.{LiveValue, BuildingValue, WorkValue, IsRunning, WorksOn, worker_state}
+use Rattle.builder_core.specs.Builds.{LiveValue, BuildingValue, WorkValue, IsRunning, IsWorkOn, WorksOn, worker_state}
 use Rattle.builder_core.specs.CoreState.{BuildState, WorkerState, scanning_of}
-use Rattle.builder_core.specs.Rings.{all_sent, ArePut}
+use Rattle.builder_core.specs.Rings.{all_sent, ArePut, HasPut, PagesFollow}
 use Rattle.builder_core.specs.Scanning.{pairs_at_scan}
 use Rattle.builder_core.specs.Workers.{put_to}
+use Rattle.builder_core.specs.Working.{IsSpoiled}
 use Rattle.builder_core.proofs.AtWork.{taking_set, holding_set}
 use Rattle.builder_core.proofs.CopyPairs.{copies_pairs}
 use Rattle.builder_core.proofs.Refusals.{works_with}
+use Rattle.builder_core.proofs.Works.{spoiled_work_on}
 
 -- one worker's state among those of all
 pub states_set :
@@ -79,3 +82,29 @@ module _
         (λ s is. subst (λ (x : List Copied). IsTaking b.number w.spec x (after_seal (after_digest n made it))) (same_sent s is)
         (sealed_taking b.number w.spec sent (after_digest n made it) (digested_taking b.number w.spec sent it taking n in_order made have)))
         (λ none. digested_all w.spec n made it (run.at_work.holding fine none k it less at) have)
+
+-- what was put for the running build
+pub put_of :
+    (live : LiveValue) (b : BuildState) → live.state.build ≡ Some b
+    → PagesFollow live.state.heap.schema live.state.heap.log live.state.builds live.state.build (all_sent live.pages)
+    → ArePut live.state.heap.schema live.state.heap.log b (all_sent live.pages)
+put_of live b is follow =
+    let has : HasPut live.state.heap.schema live.state.heap.log live.state.builds b (all_sent live.pages) =
+    subst (λ (o : Option BuildState). PagesFollow live.state.heap.schema live.state.heap.log live.state.builds o (all_sent live.pages)) is follow in
+    has.put
+
+-- the build is spoiled, and stands so
+pub spoiled_works :
+    (live : LiveValue) (building new : BuildingValue) (b : BuildState) (w : WorkValue) → IsRunning live building b w → IsSpoiled building new → WorksOn live new
+spoiled_works live building new b w run spoiled =
+    let other : BuildingValue = record building { workers = spoiled.workers; work = Some (record spoiled.work { spoiled = Some Memory }) } in
+    let same : w ≡ spoiled.work = same_Some w spoiled.work (sym run.work_is ∙ spoiled.runs) in
+    let on : IsWorkOn live.state.heap.schema live.state.heap.log b spoiled.work = subst (IsWorkOn live.state.heap.schema live.state.heap.log b) same run.on in
+    subst (WorksOn live) (sym spoiled.left)
+    (works_with live other b (record spoiled.work { spoiled = Some Memory }) (record {
+      build_is = run.build_is;
+      work_is = refl;
+      follows = run.follows;
+      on = spoiled_work_on live.state.heap.schema live.state.heap.log b spoiled.work Memory on;
+      at_work = record { drained = run.at_work.drained; taking = λ f. absurd (cc); holding = λ f. absurd (cc) };
+    }))

@@ -1,9 +1,32 @@
-use Rattle.builder_core.proofs.Looked.{works_looked}
-use Rattle.builder_core.proofs.Takes.{digested_works}
+use Rattle.std.proofs.Common.{◌≡◌, ◌∙◌, ◌≤◌, length, ap, sym, subst, arith}
+use Rattle.side_file.specs.Ends.{PutEnd}
+use Rattle.building.specs.declared.copied.Copied.{Copied}
+use Rattle.builder_core.specs.Builds.{LiveValue, BuildingValue}
+use Rattle.builder_core.specs.Rings.{all_sent, PagesFollow}
+use Rattle.builder_core.proofs.Looked.{works_looked, runs_looked}
+use Rattle.builder_core.proofs.Places.{map_at}
+use Rattle.builder_core.proofs.Takes.{can_take, put_of}
 use Rattle.builder_core.proofs.live.Live.digest.Goals as goal
 
 pub returns-then-look-eq0-clause-works : goal.returns-then-look-eq0-clause-works
 returns-then-look-eq0-clause-works g c = works_looked _ _ _ _ c.look.ensures.looked c.requires.works
 
 pub digest-requires : goal.digest-requires
-digest-requires g c = ?
+digest-requires g c =
+    let may = c.requires.runs in
+    let live : LiveValue = c.look.new.self in
+    let building : BuildingValue = c.look.new.building in
+    let run = runs_looked c.args.self.now live c.args.building.now building may.build may.work c.look.ensures.looked may.runs in
+    let sees = c.look.ensures.sees in
+    let follow = subst (λ (l : LiveValue). PagesFollow l.state.heap.schema l.state.heap.log l.state.builds l.state.build (all_sent l.pages)) c.self.view_is c.self.invariant.3 in
+    let there = map_at (λ (end : PutEnd Copied). end.sent) live.pages c.args.worker sees.end sees.ring in
+    record {
+      work = may.work;
+      runs = run.work_is;
+      columns = run.on.columns ∙ sym (c.schema.ensures ∙ ap (λ (l : LiveValue). l.state.heap.schema) c.self.view_is);
+      it = sees.it;
+      there = sees.there;
+      seen = omega (arith, sees.seen, c.if-look-eq0.false);
+      can = can_take live building may.build may.work run may.fine (put_of live may.build run.build_is follow) c.args.worker sees.end.sent sees.it may.there there sees.there
+          sees.in_order 1;
+    }
