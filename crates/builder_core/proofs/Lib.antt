@@ -28,6 +28,7 @@ pub mod Starts
 pub mod SwitchIn
 pub mod Switching
 pub mod TableBuilds
+pub mod Taken
 pub mod Takes
 pub mod Told
 pub mod Waits

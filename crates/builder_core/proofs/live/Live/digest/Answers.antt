@@ -6,6 +6,7 @@ use Rattle.builder_core.specs.Rings.{all_sent, PagesFollow}
 use Rattle.builder_core.proofs.Looked.{works_looked, runs_looked}
 use Rattle.builder_core.proofs.Places.{map_at}
 use Rattle.builder_core.proofs.Takes.{can_take, put_of}
+use Rattle.builder_core.proofs.Taken.{digests}
 use Rattle.builder_core.proofs.live.Live.digest.Goals as goal
 
 pub returns-then-look-eq0-clause-works : goal.returns-then-look-eq0-clause-works

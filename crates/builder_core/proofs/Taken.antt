@@ -1,0 +1,65 @@
+-- What a worker's digest leaves, as callers see it.
+use Rattle.std.proofs.Common.{◌≡◌, ℕ, ◌+◌, ◌<◌, ◌≤◌, List, [], ◌∷◌, ◌++◌, length, map, take, set, Option, Some, None, Result, Ok, Err, OnErr, IfOk, refl, sym, ap, ◌∙◌, subst, arith}
+use Rattle.std.specs.Prelude.{min}
+use Rattle.std.specs.List.{slice_get}
+use Rattle.std.proofs.lemmas.Option.{same_Some}
+use Rattle.keybytes.specs.declared.fault.Fault.{Fault}
+use Rattle.building.specs.ImagePairs.{HavePairs}
+use Rattle.building.specs.Work.{next_images, after_digest}
+use Rattle.building.specs.WorkerValue.{WorkerValue}
+use Rattle.building.specs.declared.copied.Copied.{Copied}
+use Rattle.building.proofs.Taking.{next_count}
+use Rattle.builder_core.specs.Builds.{LiveValue, BuildingValue, WorkValue, IsRunning, WorksOn, worker_state, work_state, core_state, index_state}
+use Rattle.builder_core.specs.CoreState.{BuildState, CoreState, WorkerState, WorkState}
+use Rattle.builder_core.specs.Rings.{all_sent, ArePut}
+use Rattle.builder_core.specs.Steps.{OnBuild, Digests, next_copies, after_digest as digested}
+use Rattle.builder_core.specs.Workers.{waiting, worker_at}
+use Rattle.builder_core.specs.Working.{HasTaken, one_copy}
+use Rattle.builder_core.proofs.Refusals.{state_of, state_is, waiting_is, worker_there}
+use Rattle.builder_core.proofs.Takes.{digested_works, states_set}
+
+module _
+    (live : LiveValue) (building new : BuildingValue) (b : BuildState) (w : WorkValue) (run : IsRunning live building b w) (fine : w.spoiled ≡ None)
+    (put : ArePut live.state.heap.schema live.state.heap.log b (all_sent live.pages)) (workers_there : b.workers ≤ length building.workers)
+    (pages_there : b.workers ≤ length live.pages) (k : ℕ) (sent : List Copied) (it : WorkerValue) (less : k < b.workers)
+    (there : slice_get (all_sent live.pages) k ≡ Some sent) (at : slice_get building.workers k ≡ Some it)
+    (in_order : it.end.received ++ it.end.known ≡ sent) (some : 1 ≤ length it.end.known) (images : ℕ)
+    (taken : HasTaken k one_copy (λ v. v) building images new) where
+  same_it : taken.it ≡ it
+  same_it = same_Some taken.it it (sym taken.there ∙ at)
+
+  same_work : taken.work ≡ w
+  same_work = same_Some taken.work w (sym taken.runs ∙ run.work_is)
+
+  have : HavePairs w.spec (next_images 1 it) taken.made
+  have =
+      subst (λ (v : WorkValue). HavePairs v.spec (next_images 1 it) taken.made) same_work
+      (subst (λ (v : WorkerValue). HavePairs taken.work.spec (next_images 1 v) taken.made) same_it taken.have)
+
+  left : new ≡ record building { workers = set building.workers k (after_digest 1 taken.made it) }
+  left = taken.left ∙ ap (λ (v : WorkerValue). record building { workers = set building.workers k (after_digest 1 taken.made v) }) same_it
+
+  pub taken_works : WorksOn live new
+  taken_works =
+      subst (WorksOn live) (sym left)
+      (digested_works live building b w run fine put k sent it less there at in_order 1 taken.made have)
+
+  one : length (next_images 1 it) ≡ 1
+  one = next_count b.number w.spec sent it (run.at_work.taking fine k sent it less there at) 1 in_order some
+
+  abbrev before : WorkState
+  before = work_state building.workers building.work
+
+  waits_one : next_copies b before k ≡ 1
+  waits_one =
+      let waits = waiting_is live building b w run fine put workers_there pages_there k sent it less there at it.end.known in_order in
+      omega (arith, waits, some)
+
+  pub digests : Digests k (core_state live building) images (core_state live new)
+  digests =
+      let it_was = worker_there live building b w run fine put workers_there pages_there k less it at in
+      let x : WorkerValue = after_digest 1 taken.made it in
+      let worker : worker_state x ≡ record (worker_at before k) { taken = (worker_at before k).taken + next_copies b before k } =
+      ap (λ n. record { taken = it.taken + n; sealed = it.sealed }) (one ∙ sym waits_one)
+      ∙ sym (ap (λ (s : WorkerState). record s { taken = s.taken + next_copies b before k }) it_was) in
+      ?
