@@ -55,11 +55,35 @@ module _
       let waits = waiting_is live building b w run fine put workers_there pages_there k sent it less there at it.end.known in_order in
       omega (arith, waits, some)
 
+  -- the worker's state, and that of all
+  abbrev next_state : WorkerState
+  next_state = record (worker_at before k) { taken = (worker_at before k).taken + next_copies b before k }
+
+  worker_is : worker_state (after_digest 1 taken.made it) ≡ next_state
+  worker_is =
+      ap (λ (n : ℕ). counted n) (one ∙ sym waits_one)
+      ∙ sym (ap (λ (s : WorkerState). record s { taken = s.taken + next_copies b before k })
+      (worker_there live building b w run fine put workers_there pages_there k less it at)) where
+        counted : ℕ → WorkerState
+        counted n = record { taken = it.taken + n; sealed = it.sealed }
+
+  abbrev changed : BuildingValue
+  changed = record building { workers = set building.workers k (after_digest 1 taken.made it) }
+
+  abbrev with_states : List WorkerState → WorkState
+  with_states states = record { workers = states; indexes = index_state w.tree ∷ []; spoiled = None }
+
+  work_is : work_state changed.workers building.work ≡ digested b before k
+  work_is =
+      state_is changed w run.work_is fine
+      ∙ ap with_states (states_set w.workers k building.workers (after_digest 1 taken.made it) (omega (arith, less, run.on.workers)))
+      ∙ ap (λ (s : WorkerState). with_states (set (map worker_state (take w.workers building.workers)) k s)) worker_is
+      ∙ sym (ap (λ (s : WorkState). record s { workers = set s.workers k next_state }) (state_is building w run.work_is fine))
+
   pub digests : Digests k (core_state live building) images (core_state live new)
   digests =
-      let it_was = worker_there live building b w run fine put workers_there pages_there k less it at in
-      let x : WorkerValue = after_digest 1 taken.made it in
-      let worker : worker_state x ≡ record (worker_at before k) { taken = (worker_at before k).taken + next_copies b before k } =
-      ap (λ n. record { taken = it.taken + n; sealed = it.sealed }) (one ∙ sym waits_one)
-      ∙ sym (ap (λ (s : WorkerState). record s { taken = s.taken + next_copies b before k }) it_was) in
-      ?
+      subst (λ (o : Option BuildState). OnBuild o (λ x. (images ≡ next_copies x before k) × (core_state live new ≡ record { live = live.state; work = digested x before k })))
+      (sym run.build_is) (
+        taken.counted ∙ ap (λ (v : WorkerValue). length (next_images 1 v)) same_it ∙ one ∙ sym waits_one,
+        ap (core_state live) left ∙ ap (λ (s : WorkState). record { live = live.state; work = s }) work_is,
+      )
