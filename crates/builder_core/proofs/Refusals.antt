@@ -59,14 +59,9 @@ state_is building w is fine = rw (is, fine) refl
 
 module _
     (live : LiveValue) (building : BuildingValue) (b : BuildState) (w : WorkValue) (run : IsRunning live building b w) (fine : w.spoiled ≡ None)
-    (put : ArePut live.state.heap.schema live.state.heap.log b (all_sent live.pages)) (workers_there : b.workers ≤ length building.workers)
-    (pages_there : b.workers ≤ length live.pages) where
+    (put : ArePut live.state.heap.schema live.state.heap.log b (all_sent live.pages)) where
   abbrev work : WorkState
   work = work_state building.workers building.work
-
-  -- each worker of the build has a ring
-  pub sent_there : (k : ℕ) → k < b.workers → (sent : List Copied) × (slice_get (all_sent live.pages) k ≡ Some sent)
-  sent_there k less = (_, slice_get-get_or (all_sent live.pages) k [] (omega (arith, less, pages_there, length-map live.pages (λ end. end.sent))))
 
   pub worker_there : (k : ℕ) → k < b.workers → (worker : WorkerValue) → slice_get building.workers k ≡ Some worker → worker_at work k ≡ worker_state worker
   worker_there k less worker at =

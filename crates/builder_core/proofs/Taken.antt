@@ -4,24 +4,25 @@ use Rattle.std.specs.Prelude.{min}
 use Rattle.std.specs.List.{slice_get}
 use Rattle.std.proofs.lemmas.Option.{same_Some}
 use Rattle.keybytes.specs.declared.fault.Fault.{Fault}
+use Rattle.side_file.specs.Ends.{PutEnd}
 use Rattle.building.specs.ImagePairs.{HavePairs}
 use Rattle.building.specs.Work.{next_images, after_digest}
 use Rattle.building.specs.WorkerValue.{WorkerValue}
 use Rattle.building.specs.declared.copied.Copied.{Copied}
 use Rattle.building.proofs.Taking.{next_count}
-use Rattle.builder_core.specs.Builds.{LiveValue, BuildingValue, WorkValue, IsRunning, WorksOn, worker_state, work_state, core_state, index_state}
+use Rattle.builder_core.specs.Builds.{LiveValue, BuildingValue, WorkValue, IsRunning, SeesRing, WorksOn, worker_state, work_state, core_state, index_state}
 use Rattle.builder_core.specs.CoreState.{BuildState, CoreState, WorkerState, WorkState}
 use Rattle.builder_core.specs.Rings.{all_sent, ArePut}
 use Rattle.builder_core.specs.Steps.{OnBuild, Digests, next_copies, after_digest as digested}
 use Rattle.builder_core.specs.Workers.{waiting, worker_at}
-use Rattle.builder_core.specs.Working.{HasTaken, one_copy}
+use Rattle.builder_core.specs.Working.{HasTaken, IsSpoiled, one_copy}
 use Rattle.builder_core.proofs.Refusals.{state_of, state_is, waiting_is, worker_there}
-use Rattle.builder_core.proofs.Takes.{digested_works, states_set}
+use Rattle.builder_core.proofs.Takes.{digested_works, spoiled_works, states_set}
+use Rattle.builder_core.proofs.Places.{map_at}
 
 module _
     (live : LiveValue) (building new : BuildingValue) (b : BuildState) (w : WorkValue) (run : IsRunning live building b w) (fine : w.spoiled ≡ None)
-    (put : ArePut live.state.heap.schema live.state.heap.log b (all_sent live.pages)) (workers_there : b.workers ≤ length building.workers)
-    (pages_there : b.workers ≤ length live.pages) (k : ℕ) (sent : List Copied) (it : WorkerValue) (less : k < b.workers)
+    (put : ArePut live.state.heap.schema live.state.heap.log b (all_sent live.pages)) (k : ℕ) (sent : List Copied) (it : WorkerValue) (less : k < b.workers)
     (there : slice_get (all_sent live.pages) k ≡ Some sent) (at : slice_get building.workers k ≡ Some it)
     (in_order : it.end.received ++ it.end.known ≡ sent) (some : 1 ≤ length it.end.known) (images : ℕ)
     (taken : HasTaken k one_copy (λ v. v) building images new) where
@@ -52,7 +53,7 @@ module _
 
   waits_one : next_copies b before k ≡ 1
   waits_one =
-      let waits = waiting_is live building b w run fine put workers_there pages_there k sent it less there at it.end.known in_order in
+      let waits = waiting_is live building b w run fine put k sent it less there at it.end.known in_order in
       omega (arith, waits, some)
 
   -- the worker's state, and that of all
@@ -63,7 +64,7 @@ module _
   worker_is =
       ap (λ (n : ℕ). counted n) (one ∙ sym waits_one)
       ∙ sym (ap (λ (s : WorkerState). record s { taken = s.taken + next_copies b before k })
-      (worker_there live building b w run fine put workers_there pages_there k less it at)) where
+      (worker_there live building b w run fine put k less it at)) where
         counted : ℕ → WorkerState
         counted n = record { taken = it.taken + n; sealed = it.sealed }
 
@@ -87,3 +88,24 @@ module _
         taken.counted ∙ ap (λ (v : WorkerValue). length (next_images 1 v)) same_it ∙ one ∙ sym waits_one,
         ap (core_state live) left ∙ ap (λ (s : WorkState). record { live = live.state; work = s }) work_is,
       )
+
+-- whatever the digest answered, all goes on
+pub works_after :
+    (live : LiveValue) (building new : BuildingValue) (b : BuildState) (w : WorkValue) (run : IsRunning live building b w) (fine : w.spoiled ≡ None)
+    (put : ArePut live.state.heap.schema live.state.heap.log b (all_sent live.pages)) (k : ℕ) (less : k < b.workers) (answer : Result ℕ Fault) (count : ℕ)
+    (sees : SeesRing k count live building) → 1 ≤ count → IfOk answer (λ images. HasTaken k one_copy (λ v. v) building images new)
+    → OnErr answer (IsSpoiled building new) → WorksOn live new
+works_after live building new b w run fine put k less (Ok images) count sees some taken spoiled =
+    taken_works live building new b w run fine put k sees.end.sent sees.it less (map_at (λ (end : PutEnd Copied). end.sent) live.pages k sees.end sees.ring) sees.there
+    sees.in_order (omega (arith, some, sees.seen)) images taken
+works_after live building new b w run fine put k less (Err fault) count sees some taken spoiled = spoiled_works live building new b w run spoiled
+
+pub digests_after :
+    (live : LiveValue) (building new : BuildingValue) (b : BuildState) (w : WorkValue) (run : IsRunning live building b w) (fine : w.spoiled ≡ None)
+    (put : ArePut live.state.heap.schema live.state.heap.log b (all_sent live.pages)) (k : ℕ) (less : k < b.workers) (answer : Result ℕ Fault) (count : ℕ)
+    (sees : SeesRing k count live building) → 1 ≤ count → IfOk answer (λ images. HasTaken k one_copy (λ v. v) building images new)
+    → IfOk answer (λ images. Digests k (core_state live building) images (core_state live new))
+digests_after live building new b w run fine put k less (Ok images) count sees some taken =
+    digests live building new b w run fine put k sees.end.sent sees.it less (map_at (λ (end : PutEnd Copied). end.sent) live.pages k sees.end sees.ring) sees.there
+    sees.in_order (omega (arith, some, sees.seen)) images taken
+digests_after live building new b w run fine put k less (Err fault) count sees some taken = tt
