@@ -2,6 +2,7 @@
 use Rattle.std.proofs.Common.{◌≡◌, ℕ, ◌+◌, ◌<◌, ◌≤◌, List, [], ◌∷◌, ◌++◌, length, map, take, set, Option, Some, None, Result, Ok, Err, OnErr, IfOk, refl, sym, ap, ◌∙◌, subst, arith}
 use Rattle.std.specs.Prelude.{min}
 use Rattle.std.specs.List.{slice_get}
+use Rattle.std.proofs.lemmas.List.{set-get_or}
 use Rattle.std.proofs.lemmas.Option.{same_Some}
 use Rattle.keybytes.specs.declared.fault.Fault.{Fault}
 use Rattle.side_file.specs.Ends.{PutEnd}
@@ -109,3 +110,22 @@ digests_after live building new b w run fine put k less (Ok images) count sees s
     digests live building new b w run fine put k sees.end.sent sees.it less (map_at (λ (end : PutEnd Copied). end.sent) live.pages k sees.end sees.ring) sees.there
     sees.in_order (omega (arith, some, sees.seen)) images taken
 digests_after live building new b w run fine put k less (Err fault) count sees some taken = tt
+
+-- where no copy waits it takes none
+pub digests_none :
+    (live : LiveValue) (building : BuildingValue) (b : BuildState) (w : WorkValue) (run : IsRunning live building b w) (fine : w.spoiled ≡ None)
+    (put : ArePut live.state.heap.schema live.state.heap.log b (all_sent live.pages)) (k : ℕ) (less : k < b.workers) (count : ℕ)
+    (sees : SeesRing k count live building) → count ≡ 0 → Digests k (core_state live building) 0 (core_state live building)
+digests_none live building b w run fine put k less count sees none =
+    let before : WorkState = work_state building.workers building.work in
+    let there = map_at (λ (end : PutEnd Copied). end.sent) live.pages k sees.end sees.ring in
+    let waits = waiting_is live building b w run fine put k sees.end.sent sees.it less there sees.there sees.it.end.known sees.in_order in
+    let nothing : next_copies b before k ≡ 0 = omega (arith, waits, sees.seen, none) in
+    let old : WorkerState = worker_at before k in
+    let same : record old { taken = old.taken + next_copies b before k } ≡ old =
+    ap (λ (n : ℕ). record old { taken = n }) (omega (arith, nothing)) in
+    let state : before ≡ digested b before k =
+    sym (ap (λ (s : WorkerState). record before { workers = set before.workers k s }) same
+    ∙ ap (λ ws. record before { workers = ws }) (set-get_or before.workers k (record { taken = 0; sealed = 0 }))) in
+    subst (λ (o : Option BuildState). OnBuild o (λ x. (0 ≡ next_copies x before k) × (core_state live building ≡ record { live = live.state; work = digested x before k })))
+    (sym run.build_is) (sym nothing, ap (λ (s : WorkState). record { live = live.state; work = s }) state)

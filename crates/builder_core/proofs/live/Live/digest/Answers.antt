@@ -9,7 +9,7 @@ use Rattle.builder_core.specs.Rings.{all_sent, PagesFollow}
 use Rattle.builder_core.proofs.Looked.{works_looked, state_looked, runs_looked}
 use Rattle.builder_core.proofs.Places.{map_at}
 use Rattle.builder_core.proofs.Takes.{can_take, put_of}
-use Rattle.builder_core.proofs.Taken.{works_after, digests_after}
+use Rattle.builder_core.proofs.Taken.{works_after, digests_after, digests_none}
 use Rattle.builder_core.proofs.live.Live.digest.Goals as goal
 
 pub returns-then-look-eq0-clause-works : goal.returns-then-look-eq0-clause-works
@@ -56,3 +56,12 @@ returns-clause-digested g c =
     (state_looked c.args.self.now live c.args.building.now building c.look.ensures.looked)
     (digests_after live building c.digest.new.self may.build may.work run may.fine (put_of live may.build run.build_is follow) c.args.worker may.there c.digest.result c.look.result
     c.look.ensures.sees (omega (arith, c.if-look-eq0.false)) c.digest.ensures.taken)
+
+pub returns-then-look-eq0-clause-digested : goal.returns-then-look-eq0-clause-digested
+returns-then-look-eq0-clause-digested g c =
+    let may = c.requires.runs in
+    let live : LiveValue = c.look.new.self in
+    let building : BuildingValue = c.look.new.building in
+    let run = runs_looked c.args.self.now live c.args.building.now building may.build may.work c.look.ensures.looked may.runs in
+    subst (λ (s : CoreState). Digests c.args.worker s 0 (core_state live building)) (state_looked c.args.self.now live c.args.building.now building c.look.ensures.looked)
+    (digests_none live building may.build may.work run may.fine ? c.args.worker may.there c.look.result c.look.ensures.sees c.if-look-eq0.true)
