@@ -4,7 +4,7 @@ ghost use Rattle.side_file.specs.Ends.{PutEnd};
 ghost use Rattle.building.specs.WorkerValue.{WorkerValue};
 ghost use Rattle.building.specs.declared.copied.Copied.{Copied};
 ghost use Rattle.builder_core.specs.Builds.{core_state, cause_of, put_refusal, HasLooked, SeesRing, MayWork, MayLoad, WorksOn};
-ghost use Rattle.builder_core.specs.Rings.{all_sent, AreQuiet, IsLoud};
+ghost use Rattle.builder_core.specs.Rings.{all_sent, AreQuiet, IsLoud, PagesFollow};
 ghost use Rattle.builder_core.specs.Steps.{Digests, Seals, Loads, spoiled_by};
 ghost use Rattle.builder_core.specs.declared.event.Event.{Event};
 
@@ -19,6 +19,7 @@ impl<T: Table> Live<T> {
         requires { worker < 16 }
         ensures looked { HasLooked self.old building.old self.new building.new }
         ensures sees { SeesRing worker result self.new building.new }
+        ensures put { PagesFollow self.new.state.heap.schema self.new.state.heap.log self.new.state.builds self.new.state.build (all_sent self.new.pages) }
     {
         waiting(&mut self.pages, &mut building.workers, worker)
     }

@@ -64,4 +64,4 @@ returns-then-look-eq0-clause-digested g c =
     let building : BuildingValue = c.look.new.building in
     let run = runs_looked c.args.self.now live c.args.building.now building may.build may.work c.look.ensures.looked may.runs in
     subst (λ (s : CoreState). Digests c.args.worker s 0 (core_state live building)) (state_looked c.args.self.now live c.args.building.now building c.look.ensures.looked)
-    (digests_none live building may.build may.work run may.fine ? c.args.worker may.there c.look.result c.look.ensures.sees c.if-look-eq0.true)
+    (digests_none live building may.build may.work run may.fine (put_of live may.build run.build_is c.look.ensures.put) c.args.worker may.there c.look.result c.look.ensures.sees c.if-look-eq0.true)
