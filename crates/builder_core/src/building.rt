@@ -26,7 +26,13 @@ impl Model for Work {
 
     ghost Value = { WorkValue };
 
-    ghost view = { λ work. record { spec = work.spec; worker = work.worker; tree = option_map (λ pairs. pairs.items) work.tree; room = room_in work.tree; spoiled = work.spoiled } };
+    ghost view = { λ work. record {
+      spec = work.spec;
+      worker = work.worker;
+      tree = option_map (λ pairs. pairs.items) work.tree;
+      room = room_in work.tree;
+      spoiled = work.spoiled;
+    } };
 }
 
 impl Work {

@@ -10,3 +10,4 @@ pub mod RowExamples
 pub mod RowFacts
 pub mod SameRids
 pub mod Spelling
+pub mod Writes

@@ -7,3 +7,4 @@ pub mod Pairs
 pub mod Rids
 pub mod Rows
 pub mod Schemas
+pub mod Writes

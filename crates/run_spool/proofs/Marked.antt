@@ -5,7 +5,8 @@ use Rattle.keybytes.specs.declared.rid.Rid.{Rid}
 use Rattle.keybytes.specs.declared.fault.Fault.{Fault}
 use Rattle.keybytes.specs.declared.pair.Pair.{Pair}
 use Rattle.run_spool.specs.declared.marks.Marks.{Marks}
-use Rattle.run_spool.specs.Bytes.{pair_bytes, pair_size, first_length, first_pair, read_pairs, IsPair, Stored, overwritten}
+use Rattle.keybytes.specs.Writes.{overwritten}
+use Rattle.run_spool.specs.Bytes.{pair_bytes, pair_size, first_length, first_pair, read_pairs, IsPair, Stored}
 use Rattle.run_spool.specs.Pages.{pairs_at, IsPage, IsPairAt}
 use Rattle.run_spool.proofs.Stores.{length_read, stored_read, stored_size, count_le, push, step_at}
 

@@ -7,8 +7,10 @@ use Rattle.byteorder.specs.Endian.{big_bytes, big_number}
 use Rattle.byteorder.specs.Numbers.{big_number-reads_back}
 use Rattle.keybytes.specs.declared.rid.Rid.{Rid}
 use Rattle.keybytes.specs.declared.pair.Pair.{Pair}
-use Rattle.run_spool.specs.Bytes.{pair_bytes, pair_size, first_length, first_pair, read_pairs, IsPair, Stored, overwritten}
-use Rattle.run_spool.proofs.Writes.{length-overwritten, drop-overwritten, overwritten-thrice}
+use Rattle.keybytes.specs.Writes.{overwritten}
+use Rattle.run_spool.specs.Bytes.{pair_bytes, pair_size, first_length, first_pair, read_pairs, IsPair, Stored}
+use Rattle.keybytes.proofs.Writes.{length-overwritten, drop-overwritten}
+use Rattle.run_spool.proofs.Writes.{overwritten-thrice}
 
 -- the bytes of a row's place
 rid_bytes : Rid → List ℕ

@@ -39,7 +39,3 @@ pub record Stored (bytes : List ℕ) (at end : ℕ) (pairs : List Pair) : Type 0
   pub within : end ≤ 4096
   pub are : drop at bytes ≡ flat_map pair_bytes pairs ++ drop end bytes
   pub each : All IsPair pairs
-
--- an area with bytes over those that stand at a place
-abbrev pub overwritten : ℕ → List ℕ → List ℕ → List ℕ
-overwritten at new bytes = take at bytes ++ (new ++ drop (at + length new) bytes)

@@ -14,7 +14,8 @@ use Rattle.byteorder.specs.Endian.{big_bytes, big_number}
 use Rattle.byteorder.specs.Numbers.{big_from-take, big_number-reads_back}
 use Rattle.slotted_page.specs.Slot.{free}
 use Rattle.slotted_page.specs.Entry.{slot_of, entry_reserve, IsPlaced}
-use Rattle.slotted_page.specs.Image.{overwritten, number_at, three, entry_bytes, head_bytes, entry_from, first_entry, read_entries, image_entries, slots_in}
+use Rattle.keybytes.specs.Writes.{overwritten}
+use Rattle.slotted_page.specs.Image.{number_at, three, entry_bytes, head_bytes, entry_from, first_entry, read_entries, image_entries, slots_in}
 use Rattle.slotted_page.specs.Image.{KeepsFormat}
 use Rattle.slotted_page.specs.declared.entry.Entry.{Entry}
 use Rattle.slotted_page.specs.declared.entry.Entry.TheVariants.{Free, Held, Row}

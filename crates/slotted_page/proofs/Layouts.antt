@@ -10,10 +10,11 @@ use Rattle.std.proofs.lemmas.Slice.{drop-append-drop}
 use Rattle.slotted_page.specs.Slot.{Slot, free, held, row, reserve_of, total_reserve}
 use Rattle.slotted_page.specs.Page.{taken_bytes}
 use Rattle.slotted_page.specs.Entry.{slot_of, slots_of, length_of, entry_reserve, IsPlaced}
-use Rattle.slotted_page.specs.Image.{overwritten, number_at, entry_bytes, head_bytes, image_entries, slots_in, KeepsFormat}
+use Rattle.keybytes.specs.Writes.{overwritten}
+use Rattle.slotted_page.specs.Image.{number_at, entry_bytes, head_bytes, image_entries, slots_in, KeepsFormat}
 use Rattle.slotted_page.specs.declared.entry.Entry.{Entry}
 use Rattle.slotted_page.specs.declared.entry.Entry.TheVariants.{Free, Held, Row}
-use Rattle.slotted_page.proofs.Writes.{length-overwritten, take-overwritten, drop-overwritten, range-overwritten}
+use Rattle.keybytes.proofs.Writes.{length-overwritten, take-overwritten, drop-overwritten, range-overwritten}
 use Rattle.slotted_page.proofs.Packing.{Stacked, same_drop, slots_same, all_lower, stacked_within, placed_from_stacked}
 use Rattle.slotted_page.proofs.Overlaps.{AllApart, apart_from_pairs, pairs_from_apart, apart_push, apart_store, apart_from_stacked}
 use Rattle.slotted_page.proofs.Images.{IsHead, head_written, head_same, length_entry, read_back, entries_front, entries_set, entries_push, entries_count}

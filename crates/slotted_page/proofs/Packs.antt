@@ -5,10 +5,11 @@ use Rattle.std.specs.List.{flat_map, sum_by}
 use Rattle.std.proofs.lemmas.List.{length-set, get_or-take, drop_all, drop_more, take-take}
 use Rattle.std.proofs.lemmas.List.Sums.{sum_by-drop_more}
 use Rattle.slotted_page.specs.Entry.{slot_of, slots_of, length_of}
-use Rattle.slotted_page.specs.Image.{overwritten, number_at, entry_bytes, head_bytes, image_entries, slots_in, KeepsFormat}
+use Rattle.keybytes.specs.Writes.{overwritten}
+use Rattle.slotted_page.specs.Image.{number_at, entry_bytes, head_bytes, image_entries, slots_in, KeepsFormat}
 use Rattle.slotted_page.specs.declared.entry.Entry.{Entry}
 use Rattle.slotted_page.specs.declared.entry.Entry.TheVariants.{Free, Held, Row}
-use Rattle.slotted_page.proofs.Writes.{length-overwritten, take-overwritten, drop-overwritten, range-overwritten}
+use Rattle.keybytes.proofs.Writes.{length-overwritten, take-overwritten, drop-overwritten, range-overwritten}
 use Rattle.slotted_page.proofs.Packing.{Stacked, PacksRow, rows_step, stacked_step, lengths_step, lengths_tail, bytes_step, front_less, same_drop, all_lower}
 use Rattle.slotted_page.proofs.Images.{length_entry, entries_front, entries_set, entries_count, slots_count}
 use Rattle.slotted_page.proofs.Layouts.{Laid, laid_format, laid_packed, slots_laid, slots_packed, lengths_le}

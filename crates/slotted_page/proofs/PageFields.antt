@@ -8,11 +8,12 @@ use Rattle.std.proofs.lemmas.List.Edits.{length-between}
 use Rattle.slotted_page.specs.Slot.{IsSoundSlot, Slot, free, row, reserve_of, total_reserve, put}
 use Rattle.slotted_page.specs.Page.{PageValue, slot_at, reserve_at, CanReserve, IsSoundPage}
 use Rattle.slotted_page.specs.Entry.{slot_of, slots_of, entry_reserve, IsPlaced}
-use Rattle.slotted_page.specs.Image.{overwritten, number_at, entry_bytes, image_entries, slots_in}
+use Rattle.keybytes.specs.Writes.{overwritten}
+use Rattle.slotted_page.specs.Image.{number_at, entry_bytes, image_entries, slots_in}
 use Rattle.slotted_page.specs.Fields.{IsPage}
 use Rattle.slotted_page.specs.declared.entry.Entry.{Entry}
 use Rattle.slotted_page.specs.declared.entry.Entry.TheVariants.{Free, Held, Row}
-use Rattle.slotted_page.proofs.Writes.{length-overwritten, take-overwritten, drop-overwritten, range-overwritten}
+use Rattle.keybytes.proofs.Writes.{length-overwritten, take-overwritten, drop-overwritten, range-overwritten}
 use Rattle.slotted_page.proofs.Overlaps.{Within, apart_set, SameBut, over_same}
 use Rattle.slotted_page.proofs.Packing.{placed_at}
 use Rattle.slotted_page.proofs.Images.{slots_count, entries_count, slot_of_image}

@@ -8,10 +8,6 @@ use Rattle.slotted_page.specs.Entry.{slots_of, IsPlaced, Apart}
 use Rattle.slotted_page.specs.declared.entry.Entry.{Entry}
 use Rattle.slotted_page.specs.declared.entry.Entry.TheVariants.{Free, Held, Row}
 
--- an image with bytes over those that stand at a place
-abbrev pub overwritten : ℕ → List ℕ → List ℕ → List ℕ
-overwritten at bytes image = take at image ++ (bytes ++ drop (at + length bytes) image)
-
 -- the number in two bytes of an image
 abbrev pub number_at : List ℕ → ℕ → ℕ
 number_at image i = big_number 2 (drop i image)

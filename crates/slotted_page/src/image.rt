@@ -7,7 +7,8 @@
 
 ghost use Rattle.std.specs.Prelude.{◌≡◌, ◌+◌, ◌*◌, ◌<◌, ◌≤◌, ◌++◌, length, drop, get_or, position, IfSome, MatchOption};
 ghost use Rattle.slotted_page.specs.Slot.{free, is_free, bytes_of, IsRowSize};
-ghost use Rattle.slotted_page.specs.Image.{overwritten, number_at, entry_bytes, head_bytes, image_entries, slots_in, KeepsFormat};
+ghost use Rattle.keybytes.specs.Writes.{overwritten};
+ghost use Rattle.slotted_page.specs.Image.{number_at, entry_bytes, head_bytes, image_entries, slots_in, KeepsFormat};
 
 use crate::entry::Entry;
 use byteorder::{BigEndian, ByteOrder};

@@ -1,6 +1,7 @@
 use Rattle.std.proofs.Common.{ap, ◌∙◌, ℕ, ◌≡◌, ◌+◌, ◌-◌, ◌≤◌, ◌∷◌, ◌++◌, [], List, length, arith}
 use Rattle.keybytes.specs.declared.pair.Pair.{Pair}
-use Rattle.run_spool.specs.Bytes.{pair_bytes, pair_size, overwritten}
+use Rattle.keybytes.specs.Writes.{overwritten}
+use Rattle.run_spool.specs.Bytes.{pair_bytes, pair_size}
 use Rattle.run_spool.specs.Pages.{PageValue, pairs_at, with_pair}
 use Rattle.run_spool.proofs.Marked.{pushed, count_small}
 use Rattle.run_spool.proofs.page.PairPage.push.Goals as goal
