@@ -10,14 +10,17 @@ use Rattle.heap_table.specs.HeapValue.{HeapValue}
 use Rattle.heap_table.specs.Pages.{KeepsRows}
 use Rattle.heap_table.specs.TablePairs.{pairs_at_rest}
 use Rattle.heap_table.proofs.TablePairs.{pairs_kept}
-use Rattle.builder_core.specs.Builds.{BuildFollows}
+use Rattle.building.specs.declared.copied.Copied.{Copied}
+use Rattle.builder_core.specs.Builds.{WorkValue, BuildFollows, IsWorkOf}
+use Rattle.builder_core.specs.Rings.{PagesFollow}
 use Rattle.builder_core.specs.CoreState.{BuildState, ReadyValue, FollowTable}
 use Rattle.heap_log.specs.declared.record.LogRec.TheVariants.{Commit}
 use Rattle.side_file.specs.SideFileValue.{SideFileValue}
 use Rattle.builder_core.specs.SideFiles.{SideFollows}
 use Rattle.builder_core.proofs.EntrySteps.{commit_entries}
 use Rattle.builder_core.proofs.SideKept.{side_plain}
-use Rattle.builder_core.proofs.TableBuilds.{build_kept}
+use Rattle.builder_core.proofs.Puts.{pages_kept}
+use Rattle.builder_core.proofs.TableBuilds.{build_kept, work_kept}
 
 -- a change that keeps the rows keeps the ready indexes
 pub follow_kept : (old new : List LogRec) (ready : List ReadyValue) → KeepsRows old new → FollowTable old ready → FollowTable new ready
@@ -48,6 +51,24 @@ pub commit_follows :
 commit_follows old new txn build (inl done) is =
     subst (λ (h : HeapState). BuildFollows h.schema h.log build) (sym done) (build_kept old.schema old.log (Commit txn) build is)
 commit_follows old new txn build (inr refused) is = subst (λ (h : HeapState). BuildFollows h.schema h.log build) (sym refused) is
+
+-- its work is its own
+pub commit_works :
+    (old new : HeapState) (txn : ℕ) (build : Option BuildState) (work : Option WorkValue) → (new ≡ after_commit old txn) ⊎ (new ≡ old)
+    → BuildFollows old.schema old.log build → IsWorkOf old.schema old.log build work → IsWorkOf new.schema new.log build work
+commit_works old new txn build work (inl done) is works =
+    subst (λ (h : HeapState). IsWorkOf h.schema h.log build work) (sym done) (work_kept old.schema old.log (Commit txn) build work is works)
+commit_works old new txn build work (inr refused) is works = subst (λ (h : HeapState). IsWorkOf h.schema h.log build work) (sym refused) works
+
+-- the rings were sent its pages
+pub commit_pages :
+    (old new : HeapState) (txn builds : ℕ) (build : Option BuildState) (all : List (List Copied)) → (new ≡ after_commit old txn) ⊎ (new ≡ old)
+    → BuildFollows old.schema old.log build → PagesFollow old.schema old.log builds build all → PagesFollow new.schema new.log builds build all
+commit_pages old new txn builds build all (inl done) is put =
+    subst (λ (h : HeapState). PagesFollow h.schema h.log builds build all) (sym done)
+    (pages_kept old.schema old.log (Commit txn) builds build all is put)
+commit_pages old new txn builds build all (inr refused) is put =
+    subst (λ (h : HeapState). PagesFollow h.schema h.log builds build all) (sym refused) put
 
 -- and the side-file is its own
 pub commit_side :

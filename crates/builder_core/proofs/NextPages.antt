@@ -15,7 +15,7 @@ use Rattle.builder_core.specs.declared.scan.Scan.{Scan}
 use Rattle.builder_core.proofs.ScanSteps.{scanned_last}
 
 -- the first number that passes stands behind those that don't
-first_left :
+pub first_left :
     (test : ℕ → Bool) (first count n : ℕ) → ((k : ℕ) → k < n → test (first + k) ≡ false) → n < count → test (first + n) ≡ true
     → first_that test (range_with_len first count) ≡ Some (first + n)
 first_left test first zero n fail less pass = absurd (omega arith)
@@ -27,7 +27,7 @@ first_left test first (suc count) (suc n) fail less pass =
     ∙ first_left test (first + 1) count n (λ k low. let same : first + 1 + k ≡ first + suc k = omega arith in ap test same ∙ fail (suc k) (omega arith)) (omega arith) (ap test next ∙ pass)
     ∙ ap (λ n. Some n) next
 
-none_left : (test : ℕ → Bool) (first count : ℕ) → ((k : ℕ) → k < count → test (first + k) ≡ false) → first_that test (range_with_len first count) ≡ None
+pub none_left : (test : ℕ → Bool) (first count : ℕ) → ((k : ℕ) → k < count → test (first + k) ≡ false) → first_that test (range_with_len first count) ≡ None
 none_left test first zero fail = refl
 none_left test first (suc count) fail =
     cond-false (test first) (Some first) (first_that test (range_with_len (first + 1) count)) (ap test (sym (add-zero first)) ∙ fail 0 (omega arith))

@@ -23,6 +23,7 @@ use Rattle.heap_table.specs.Ready.{IsReady, IsLawful, IsLawfulChange, after_chan
 use Rattle.side_file.specs.Entries.{entry_of}
 use Rattle.side_file.specs.SideFileValue.{SideFileValue}
 use Rattle.visibility.specs.SideEntries.{SideEntry, changes}
+use Rattle.building.specs.declared.copied.Copied.{Copied}
 use Rattle.builder_core.specs.Builds.{WorkValue, IsBuildOf, IsWorkOf, BuildFollows}
 use Rattle.builder_core.specs.CoreState.{BuildState, scanning_of}
 use Rattle.builder_core.specs.Scanning.{Scanning, is_visible}
@@ -30,6 +31,8 @@ use Rattle.builder_core.specs.SideEntries.{entries_of, side_entries}
 use Rattle.builder_core.specs.SideFiles.{sees, noted, HasEntries, SideFollows}
 use Rattle.builder_core.proofs.EntrySteps.{entries_where, more_entries}
 use Rattle.builder_core.proofs.ScanSteps.{visible_now, more_scanned}
+use Rattle.builder_core.specs.Rings.{PagesFollow}
+use Rattle.builder_core.proofs.Puts.{pages_kept}
 use Rattle.builder_core.proofs.TableBuilds.{build_kept, work_kept, scanned_for, columns_for}
 use Rattle.builder_core.proofs.SideKeys.{noted_keys}
 
@@ -99,6 +102,13 @@ module _ (h : HeapValue) (ready : Ready) (is : IsReady h ready) (change : IsLawf
   works_on build work is_of works =
       subst (λ k. IsWorkOf k (after_ready h.state ready).log build work) (sym schema_is)
       (subst (λ l. IsWorkOf h.state.schema l build work) (sym grows) (work_kept h.state.schema log (rec_ready ready) build work is_of works))
+
+  pub pages_on :
+      (builds : ℕ) (build : Option BuildState) (all : List (List Copied)) → BuildFollows h.state.schema log build
+      → PagesFollow h.state.schema log builds build all → PagesFollow (after_ready h.state ready).schema (after_ready h.state ready).log builds build all
+  pages_on builds build all is_of put =
+      subst (λ k. PagesFollow k (after_ready h.state ready).log builds build all) (sym schema_is)
+      (subst (λ l. PagesFollow h.state.schema l builds build all) (sym grows) (pages_kept h.state.schema log (rec_ready ready) builds build all is_of put))
 
   side_on :
       (b : BuildState) (old new : SideFileValue) → IsBuildOf h.state.schema log b → HasEntries log b old → new.fed ≡ old.fed

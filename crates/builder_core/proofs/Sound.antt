@@ -1,10 +1,10 @@
 -- A build of one index is sound.
-use Rattle.std.proofs.Common.{◌≡◌, ℕ, ◌+◌, ◌≤◌, true, List, [], ◌∷◌, ◌++◌, length, length-append, drop, take-append-drop, Option, Some, None, refl, sym, ap, subst, inl, inr, arith}
+use Rattle.std.proofs.Common.{◌≡◌, ℕ, ◌+◌, ◌<◌, ◌≤◌, true, List, [], ◌∷◌, ◌++◌, length, length-append, drop, take-append-drop, Option, Some, None, refl, sym, ap, subst, inl, inr, arith}
 use Rattle.std.specs.Prelude.{nat_le, nat_eq, IfSome}
 use Rattle.std.specs.Cmp.Lexicographic.{pointwise}
 use Rattle.std.specs.List.{All, AllByRecursion}
 use Rattle.std.proofs.lemmas.Bool.{cases_Bool, cond-true, cond-false, or_cases, or_left, or_right, le-leb, leb-true, false≢true}
-use Rattle.std.proofs.lemmas.List.Elements.{All-from_recursion}
+use Rattle.std.proofs.lemmas.List.Elements.{All-from_recursion, All-weaker}
 use Rattle.keybytes.specs.Keys.{KeySpecValue}
 use Rattle.keybytes.specs.declared.kind.Kind.{Kind}
 use Rattle.keybytes.specs.declared.pair.Pair.{Pair}
@@ -16,9 +16,11 @@ use Rattle.heap_log.specs.declared.record.LogRec.{LogRec}
 use Rattle.heap_table.specs.TablePairs.{pair_at}
 use Rattle.heap_table.proofs.PairsAtRest.{all_append}
 use Rattle.heap_table.proofs.TablePairs.{own_pair}
+use Rattle.building.specs.declared.copied.Copied.{Copied}
 use Rattle.builder_core.specs.Builds.{IsBuildOf, BuildFollows}
 use Rattle.builder_core.specs.CoreState.{BuildState, scanning_of}
-use Rattle.builder_core.specs.Invariant.{BuildIsSound, EntriesHaveEffect, VisiblePairsAreCaughtUp}
+use Rattle.builder_core.specs.Invariant.{BuildIsSound, EachPageOnce, EntriesHaveEffect, VisiblePairsAreCaughtUp}
+use Rattle.builder_core.specs.Rings.{PagesFollow}
 use Rattle.visibility.specs.Applied.{entry_rid}
 use Rattle.builder_core.specs.Scanning.{Scanning, is_by, is_visible, scanned_at}
 use Rattle.visibility.specs.SideEntries.{SideEntry, delete, insert, changes}
@@ -90,10 +92,21 @@ build_sound kinds log b is = record {
   caught_up = one_all (λ spec. VisiblePairsAreCaughtUp (scanning_of b spec) log) b.specs is.spec is.one_index (leaves_visible (scanning_of b is.spec) log is.scanned);
   effect = one_all (λ spec. EntriesHaveEffect (scanning_of b spec) log) b.specs is.spec is.one_index
       (record { visible = entries_visible (scanning_of b is.spec) log; effect = entries_have_effect (scanning_of b is.spec) log is.scanned });
-  once = is.scanned.once;
 }
 
 -- so is the one that runs, if any
 pub runs_sound : (kinds : List Kind) (log : List LogRec) (build : Option BuildState) → BuildFollows kinds log build → IfSome build (λ b. BuildIsSound b log)
 runs_sound kinds log None follows = tt
 runs_sound kinds log (Some b) follows = build_sound kinds log b follows
+
+-- the rings were sent its pages, each once
+pub runs_once :
+    (kinds : List Kind) (log : List LogRec) (builds : ℕ) (build : Option BuildState) (all : List (List Copied)) → BuildFollows kinds log build
+    → PagesFollow kinds log builds build all → length all ≡ 16 → IfSome build (λ b. EachPageOnce kinds log b all)
+runs_once kinds log builds None all follows put sixteen = tt
+runs_once kinds log builds (Some b) all follows put sixteen = record {
+  once = follows.scanned.once;
+  ringed = All-weaker (λ scan. scan.worker < b.workers) (λ scan. scan.worker < length all)
+      (λ scan less. omega (arith, less, follows.few_workers, sixteen)) b.scans follows.for_workers;
+  sent = put.put;
+}

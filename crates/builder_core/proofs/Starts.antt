@@ -1,8 +1,10 @@
 -- When a build starts.
-use Rattle.std.proofs.Common.{◌≡◌, ℕ, Bool, true, false, List, [], ◌∷◌, Some, None, refl, sym, ap, ◌∙◌}
-use Rattle.std.specs.Prelude.{◌&&◌, ◌||◌, ◌==◌, not, nat_lt, length, is_some, if◌then◌else◌}
-use Rattle.std.specs.List.{list_any, list_all}
-use Rattle.std.proofs.lemmas.Bool.{and_parts, and_from, eqb-true, false≢true, false_from_ne_true}
+use Rattle.std.proofs.Common.{◌≡◌, ℕ, zero, suc, ◌≤◌, Bool, true, false, List, [], ◌∷◌, Some, None, refl, sym, ap, ap₂, ◌∙◌, arith}
+use Rattle.std.specs.Prelude.{◌&&◌, ◌||◌, ◌==◌, not, nat_lt, nat_le, length, map, take, replicate, is_some, if◌then◌else◌}
+use Rattle.std.specs.List.{All, list_any, list_all}
+use Rattle.std.proofs.lemmas.List.{length-map}
+use Rattle.std.proofs.lemmas.List.Elements.{All-head, All-tail, All-nil, All-cons}
+use Rattle.std.proofs.lemmas.Bool.{and_parts, and_from, leb-true, false≢true, false_from_ne_true}
 use Rattle.keybytes.specs.Keys.{KeySpecValue}
 use Rattle.keybytes.specs.declared.kind.Kind.{Kind}
 use Rattle.keybytes.specs.declared.kind.Kind.TheVariants.{Int, Text, Flag}
@@ -12,13 +14,17 @@ use Rattle.heap_table.specs.Pages.{pages_written}
 use Rattle.builder_core.specs.declared.dealing.Dealing.{Dealing}
 use Rattle.builder_core.specs.declared.dealing.Dealing.TheVariants.{Ends, Even}
 use Rattle.builder_core.specs.declared.plan.Plan.{Plan}
-use Rattle.builder_core.specs.Builds.{work_state}
+use Rattle.side_file.specs.Ends.{PutEnd}
+use Rattle.building.specs.WorkerValue.{WorkerValue}
+use Rattle.building.specs.declared.copied.Copied.{Copied}
+use Rattle.builder_core.specs.Builds.{work_state, worker_state}
+use Rattle.builder_core.specs.Rings.{at_rest_on}
 use Rattle.builder_core.specs.CoreState.{LiveState}
 use Rattle.scan_range.specs.Cuts.{are_cuts}
 use Rattle.scan_range.proofs.EvenEnds.{even_are_cuts, even_fit}
 use Rattle.builder_core.specs.Ranges.{dealt_ends, dealing_refusal}
 use Rattle.builder_core.specs.Steps.{same_kind, same_kinds, counts_fit, start_refusal, fresh_work}
-use Rattle.builder_core.proofs.Working.{fresh}
+use Rattle.builder_core.proofs.Works.{fresh}
 
 same_kind-true : (a b : Kind) → same_kind a b ≡ true → a ≡ b
 same_kind-true Int Int e = refl
@@ -96,18 +102,39 @@ pub dealt_are_cuts : (pages : ℕ) (dealing : Dealing) → dealing_refusal pages
 dealt_are_cuts pages (Ends ends) e = fit_cuts (are_cuts pages ends.items) e
 dealt_are_cuts pages (Even ranges) e = let fit = even_fit ranges e in even_are_cuts pages ranges fit.0 fit.1
 
--- a plan whose counts fit has one worker
-pub one_worker : (live : LiveState) (plan : Plan) → counts_fit live plan ≡ true → plan.workers ≡ 1
-one_worker live plan e =
-    let workers : Bool = plan.workers == 1 in
+-- a plan whose counts fit has no more than 16 workers
+pub few_workers : (live : LiveState) (plan : Plan) → counts_fit live plan ≡ true → plan.workers ≤ 16
+few_workers live plan e =
+    let some : Bool = nat_le 1 plan.workers in
+    let few : Bool = nat_le plan.workers 16 in
     let specs : Bool = length plan.specs.items == 1 in
     let plain : Bool = not (list_any (λ spec. spec.unique) plan.specs.items) in
     let room : Bool = nat_lt (length live.ready) 32 in
-    let first = and_parts (workers && specs && plain && room) (nat_lt live.builds 18446744073709551615) e in
-    let second = and_parts (workers && specs && plain) room first.0 in
-    let third = and_parts (workers && specs) plain second.0 in
-    eqb-true plan.workers 1 (and_parts workers specs third.0).0
+    let first = and_parts (some && few && specs && plain && room) (nat_lt live.builds 18446744073709551615) e in
+    let second = and_parts (some && few && specs && plain) room first.0 in
+    let third = and_parts (some && few && specs) plain second.0 in
+    let fourth = and_parts (some && few) specs third.0 in
+    leb-true plan.workers 16 (and_parts some few fourth.0).1
 
--- its work is that of one worker on one index
-pub fresh_is : (plan : Plan) (spec : KeySpecValue) → plan.workers ≡ 1 → plan.specs.items ≡ spec ∷ [] → work_state (Some (fresh spec)) ≡ fresh_work plan
-fresh_is plan spec workers one = sym (rw (workers, one) refl)
+-- a list of one element, repeated
+repeated : {X Y : Type 0} (f : X → Y) (n : ℕ) (xs : List X) (y : Y) → n ≤ length xs → All (λ x. f x ≡ y) xs → map f (take n xs) ≡ replicate n y
+repeated f zero xs y few all = refl
+repeated f (suc n) [] y few all = absurd (omega (arith, few))
+repeated f (suc n) (x ∷ xs) y few all =
+    ap₂ ◌∷◌ (All-head (λ x. f x ≡ y) x xs all) (repeated f n xs y (omega (arith, few)) (All-tail (λ x. f x ≡ y) x xs all))
+
+abbrev IsFirst : WorkerValue → Type 0
+IsFirst worker = worker_state worker ≡ record { taken = 0; sealed = 0 }
+
+at_first : (build : ℕ) (pages : List (PutEnd Copied)) → All IsFirst (map (at_rest_on build) pages)
+at_first build [] = All-nil IsFirst
+at_first build (end ∷ ends) = All-cons IsFirst (at_rest_on build end) (map (at_rest_on build) ends) refl (at_first build ends)
+
+-- its work is that of so many workers on one index
+pub fresh_is :
+    (plan : Plan) (spec : KeySpecValue) (build : ℕ) (pages : List (PutEnd Copied)) → plan.workers ≤ length pages → plan.specs.items ≡ spec ∷ []
+    → work_state (map (at_rest_on build) pages) (Some (fresh spec plan.workers)) ≡ fresh_work plan
+fresh_is plan spec build pages few one =
+    let states : map worker_state (take plan.workers (map (at_rest_on build) pages)) ≡ replicate plan.workers (record { taken = 0; sealed = 0 }) =
+    repeated worker_state plan.workers (map (at_rest_on build) pages) (record { taken = 0; sealed = 0 }) (omega (arith, few, length-map pages (at_rest_on build))) (at_first build pages) in
+    rw (one, states) refl

@@ -1,20 +1,19 @@
 -- What each event leaves of the build that a table knows, and what its switch makes ready.
-use Rattle.std.proofs.Common.{◌≡◌, ℕ, ◌<◌, ◌≤◌, true, List, [], ◌∷◌, ◌++◌, length, take, drop, Option, Some, None, refl, sym, ap, ◌∙◌, arith, subst}
+use Rattle.std.proofs.Common.{◌≡◌, ℕ, ◌<◌, ◌≤◌, true, List, [], ◌∷◌, ◌++◌, length, Option, Some, None, refl, sym, ap, ◌∙◌, arith, subst}
 use Rattle.std.specs.Prelude.{is_some}
 use Rattle.std.specs.FinMap.{keys, contains_key-keys}
 use Rattle.std.specs.FinSet.{FinSet}
 use Rattle.std.specs.List.{All}
-use Rattle.std.proofs.lemmas.List.Elements.{All-nil, All-push, All-drop, All-take, All-weaker}
+use Rattle.std.proofs.lemmas.List.Elements.{All-nil, All-push, All-weaker}
 use Rattle.keybytes.specs.Keys.{KeySpecValue}
 use Rattle.keybytes.specs.Pairs.{pair_cmp, set_of}
 use Rattle.keybytes.proofs.PairSets.{contains-set_of, same_members}
 use Rattle.keybytes.specs.declared.kind.Kind.{Kind}
 use Rattle.keybytes.specs.declared.pair.Pair.{Pair}
 use Rattle.heap_log.specs.declared.record.LogRec.{LogRec}
-use Rattle.heap_table.specs.Images.{ImageValue, IsImage}
 use Rattle.heap_table.specs.Pages.{pages_written}
 use Rattle.heap_table.specs.TablePairs.{pairs_at_rest}
-use Rattle.builder_core.specs.Builds.{WorkValue, IsBuildOf, IsWorkOn, IsWorkOf, BuildFollows, after_put, build_over}
+use Rattle.builder_core.specs.Builds.{WorkValue, IsBuildOf, IsWorkOn, IsWorkOf, BuildFollows, build_over}
 use Rattle.builder_core.specs.CoreState.{BuildState, scanning_of}
 use Rattle.scan_range.specs.Cuts.{are_cuts}
 use Rattle.builder_core.specs.Ranges.{next_page}
@@ -22,28 +21,27 @@ use Rattle.builder_core.specs.Scanning.{Scanning, IsScanned, IsScanOf, AllScanne
 use Rattle.visibility.specs.SideEntries.{SideEntry}
 use Rattle.visibility.specs.Applied.{apply_entries}
 use Rattle.builder_core.specs.SideEntries.{side_entries}
-use Rattle.builder_core.proofs.Copies.{copies_kept}
 use Rattle.builder_core.proofs.EntrySteps.{opened_entries, more_entries, same_entries, commit_entries}
 use Rattle.builder_core.proofs.ScanSteps.{opened_scanned, more_scanned, pairs_kept, scan_now, scan_scanned, pages_grow}
 use Rattle.builder_core.proofs.NextPages.{some_of, next_below, next_unscanned, no_page, all_copied}
 use Rattle.builder_core.proofs.RangeScans.{few_scans}
 use Rattle.builder_core.proofs.Seen.{scan_at}
 use Rattle.builder_core.proofs.SideFollows.{leaves_index}
-use Rattle.builder_core.proofs.Working.{put_work}
+use Rattle.builder_core.proofs.Works.{scanned_work_on}
 
 -- a build of that index starts over those ranges
 pub started_build :
-    (kinds : List Kind) (log : List LogRec) (number : ℕ) (spec : KeySpecValue) (ends : List ℕ) → spec.kinds ≡ kinds → pages_written log ≤ 65536
-    → are_cuts (pages_written log) ends ≡ true
-    → IsBuildOf kinds log (build_over number spec 1 (length log) (record { pages = pages_written log; ends = ends }) [])
-started_build kinds log number spec ends columns limit cuts = record {
+    (kinds : List Kind) (log : List LogRec) (number : ℕ) (spec : KeySpecValue) (workers : ℕ) (ends : List ℕ) → spec.kinds ≡ kinds → pages_written log ≤ 65536
+    → are_cuts (pages_written log) ends ≡ true → workers ≤ 16
+    → IsBuildOf kinds log (build_over number spec workers (length log) (record { pages = pages_written log; ends = ends }) [])
+started_build kinds log number spec workers ends columns limit cuts few = record {
   spec = spec;
   one_index = refl;
-  one_worker = refl;
+  few_workers = few;
   columns = columns;
   limit = limit;
   cuts = cuts;
-  for_workers = All-nil (λ scan. scan.worker < 1);
+  for_workers = All-nil (λ scan. scan.worker < workers);
   scanned = opened_scanned spec log;
 }
 
@@ -54,7 +52,7 @@ pub scanned_build :
 scanned_build kinds log b range worker page is next for = record {
   spec = is.spec;
   one_index = is.one_index;
-  one_worker = is.one_worker;
+  few_workers = is.few_workers;
   columns = is.columns;
   limit = is.limit;
   cuts = is.cuts;
@@ -73,7 +71,7 @@ build_grown : (kinds : List Kind) (log : List LogRec) (rec : LogRec) (b : BuildS
 build_grown kinds log rec b is = record {
   spec = is.spec;
   one_index = is.one_index;
-  one_worker = is.one_worker;
+  few_workers = is.few_workers;
   columns = is.columns;
   limit = is.limit;
   cuts = is.cuts;
@@ -91,20 +89,16 @@ work_grown :
 work_grown kinds log rec b work build is = record {
   specs = is.specs;
   columns = is.columns;
-  put = is.put;
-  few = is.few;
+  workers = is.workers;
   all = is.all;
-  sound = λ e. let s = is.sound e in record {
-    copies = copies_kept kinds here log rec (drop work.worker.taken b.scans) work.worker.ring (All-drop (IsScanOf here log) work.worker.taken b.scans scans) s.copies;
-    made = λ t. s.made t ∙ sym (pairs_kept here log rec (take work.worker.taken b.scans) (All-take (IsScanOf here log) work.worker.taken b.scans scans));
-    loaded = λ pairs t. s.loaded pairs t ∙ sym (ap (λ ps. keys (set_of ps)) (pairs_kept here log rec b.scans scans));
-  };
+  loaded = λ pairs t. is.loaded pairs t ∙ sym (ap (λ ps. keys (set_of ps)) (pairs_kept here log rec b.scans scans));
 } where
   here : Scanning
   here = scanning_of b work.spec
 
   scans : All (IsScanOf here log) b.scans
-  scans = All-weaker (IsScanOf (scanning_of b build.spec) log) (IsScanOf here log) (λ scan it. record { page = it.page; opened = it.opened; within = it.within }) b.scans build.scanned.scans
+  scans = All-weaker (IsScanOf (scanning_of b build.spec) log) (IsScanOf here log)
+      (λ scan it. record { page = it.page; opened = it.opened; within = it.within }) b.scans build.scanned.scans
 
 pub work_kept :
     (kinds : List Kind) (log : List LogRec) (rec : LogRec) (build : Option BuildState) (work : Option WorkValue) → BuildFollows kinds log build → IsWorkOf kinds log build work
@@ -134,14 +128,14 @@ set_of-keys s = same_members (set_of (keys s)) s (λ q. contains-set_of (keys s)
 -- once the side-file is applied to the scanned pairs, they are the pairs at rest
 pub switched_pairs :
     (kinds : List Kind) (log : List LogRec) (b : BuildState) (work : WorkValue) (before after : List Pair) → IsBuildOf kinds log b → IsWorkOn kinds log b work
-    → work.spoiled ≡ None → work.tree ≡ Some before → after ≡ keys (set_of after)
+    → work.tree ≡ Some before → after ≡ keys (set_of after)
     → set_of after ≡ apply_entries (side_entries (scanning_of b work.spec) log) (set_of before) → after ≡ pairs_at_rest work.spec log
-switched_pairs kinds log b work before after build is fine loaded ordered applied =
+switched_pairs kinds log b work before after build is loaded ordered applied =
     let here : Scanning = scanning_of b work.spec in
     let whole : AllScanned here = all_copied b (is.all (ap is_some loaded)) build.cuts in
     ordered
     ∙ ap keys (applied
-    ∙ ap (λ ps. apply_entries (side_entries here log) (set_of ps)) ((is.sound fine).loaded before loaded)
+    ∙ ap (λ ps. apply_entries (side_entries here log) (set_of ps)) (is.loaded before loaded)
     ∙ ap (apply_entries (side_entries here log)) (set_of-keys (set_of (scanned_pairs here log)))
     ∙ leaves_index here log (scanned_for kinds log b build work.spec is.specs) whole)
 
@@ -162,11 +156,18 @@ scanned_next kinds log b range worker page records is next for now =
     subst (λ r. IsBuildOf kinds log (record b { scans = b.scans ++ record { worker = worker; page = page; records = r } ∷ [] }))
     (sym now) (scanned_build kinds log b range worker page is next for)
 
--- and its copy waits
-pub put_next :
-    (kinds : List Kind) (log : List LogRec) (b : BuildState) (work : WorkValue) (range worker page records : ℕ) (image : ImageValue)
-    → IsWorkOn kinds log b work → next_page b range ≡ Some page → records ≡ length log → length work.worker.ring < 4 → IsImage kinds log page image
-    → IsWorkOn kinds log (record b { scans = b.scans ++ record { worker = worker; page = page; records = records } ∷ [] }) (record work { worker = after_put work.worker image })
-put_next kinds log b work range worker page records image is next now room copy =
-    subst (λ r. IsWorkOn kinds log (record b { scans = b.scans ++ record { worker = worker; page = page; records = r } ∷ [] }) (record work { worker = after_put work.worker image }))
-    (sym now) (put_work kinds log b work worker page image is (λ none. no_page b none range page next) room copy)
+-- and its work stands
+pub work_next :
+    (kinds : List Kind) (log : List LogRec) (b : BuildState) (work : WorkValue) (range worker page records : ℕ) → IsWorkOn kinds log b work
+    → next_page b range ≡ Some page → records ≡ length log
+    → IsWorkOn kinds log (record b { scans = b.scans ++ record { worker = worker; page = page; records = records } ∷ [] }) work
+work_next kinds log b work range worker page records is next now =
+    subst (λ r. IsWorkOn kinds log (record b { scans = b.scans ++ record { worker = worker; page = page; records = r } ∷ [] }) work)
+    (sym now) (scanned_work_on kinds log b work worker page is (λ none. no_page b none range page next))
+
+pub work_of_next :
+    (kinds : List Kind) (log : List LogRec) (b : BuildState) (work : Option WorkValue) (range worker page records : ℕ) → IsWorkOf kinds log (Some b) work
+    → next_page b range ≡ Some page → records ≡ length log
+    → IsWorkOf kinds log (Some (record b { scans = b.scans ++ record { worker = worker; page = page; records = records } ∷ [] })) work
+work_of_next kinds log b None range worker page records is next now = is
+work_of_next kinds log b (Some w) range worker page records is next now = work_next kinds log b w range worker page records is next now

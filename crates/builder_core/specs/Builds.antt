@@ -1,79 +1,105 @@
 -- What a table and the workers of its build keep between events, and how the two go together.
-use Rattle.std.specs.Prelude.{◌≡◌, ℕ, ◌+◌, ◌≤◌, List, [], ◌∷◌, ◌++◌, length, take, drop, flat_map, is_some, vec_len, vec_capacity, ◌-◌, Vec, true, ◌<◌, IfSome, Option, Some, None}
+use Rattle.std.specs.Prelude.{◌≡◌, ℕ, ◌+◌, ◌-◌, ◌==◌, ◌<◌, ◌≤◌, List, [], ◌∷◌, ◌++◌, length, map, take, is_some, vec_len, vec_capacity, Vec, true, Option, Some, None}
 use Rattle.std.specs.declared.alloc.Global.{Global}
 use Rattle.std.specs.FinMap.{keys}
-use Rattle.std.specs.List.{All}
+use Rattle.std.specs.List.{slice_get}
+use Rattle.keybytes.specs.Faults.{first_cause}
 use Rattle.keybytes.specs.Keys.{KeySpecValue}
 use Rattle.keybytes.specs.Pairs.{set_of}
 use Rattle.keybytes.specs.declared.fault.Fault.{Fault}
+use Rattle.keybytes.specs.declared.fault.Fault.TheVariants.{RingFull}
 use Rattle.keybytes.specs.declared.kind.Kind.{Kind}
 use Rattle.keybytes.specs.declared.pair.Pair.{Pair}
 use Rattle.heap_log.specs.declared.record.LogRec.{LogRec}
-use Rattle.heap_table.specs.Images.{ImageValue}
+use Rattle.heap_table.specs.HeapState.{HeapState}
 use Rattle.scan_range.specs.Cuts.{CutsValue, are_cuts}
 use Rattle.scan_range.specs.Ranges.{RangesValue, is_passed}
-use Rattle.builder_core.specs.CoreState.{BuildState, LiveState, WorkerState, IndexState, WorkState, CoreState, scanning_of, idle}
-use Rattle.builder_core.specs.ImagePairs.{HavePairs}
+use Rattle.side_file.specs.Ends.{PutEnd, RingId}
+use Rattle.side_file.specs.declared.entry.Entry.{Entry}
+use Rattle.building.specs.TakeEnd.{TakeEnd}
+use Rattle.building.specs.WorkerValue.{WorkerValue}
+use Rattle.building.specs.declared.copied.Copied.{Copied}
+use Rattle.builder_core.specs.CoreState.{BuildState, LiveState, WorkerState, IndexState, WorkState, CoreState, scanning_of, live_with_heap, idle, spoiled_work}
 use Rattle.builder_core.specs.Ranges.{next_page, open_range}
-use Rattle.builder_core.specs.Scanning.{IsScanned, AreCopies, ReadOnce, scanned_at, pairs_at_scan, scanned_pairs}
-use Rattle.builder_core.specs.Steps.{refusal}
+use Rattle.builder_core.specs.Rings.{all_sent, AreForWorkers, AreLooked, AreTaking, AreHolding, AreQuiet}
+use Rattle.builder_core.specs.Scanning.{IsScanned, ReadOnce, scanned_at, scanned_pairs}
+use Rattle.builder_core.specs.SideFiles.{IsDrained}
+use Rattle.builder_core.specs.Steps.{refusal, cause_if, build_cause, counts_refusal, range_refusal}
 use Rattle.builder_core.specs.declared.event.Event.{Event}
 use Rattle.builder_core.specs.declared.scan.Scan.{Scan}
 
--- a worker: the copies that wait for it, the pairs of those that it took, and how many these were
-pub record WorkerValue : Type 0 where
-  pub ring : List ImageValue
-  pub pairs : List Pair
-  pub taken : ℕ
+-- a table with the ends of its rings that put
+pub record LiveValue : Type 0 where
+  pub state : LiveState
+  -- the ends that put copies of pages, one for each worker that a build may have
+  pub pages : List (PutEnd Copied)
+  -- the end that puts entries of the side-file
+  pub side : PutEnd Entry
 
--- the work of a build of one index by one worker
+-- the same with that heap
+abbrev pub value_with_heap : LiveValue → HeapState → LiveValue
+value_with_heap live heap = record live { state = live_with_heap live.state heap }
+
+-- the work of a build of one index
 pub record WorkValue : Type 0 where
   pub spec : KeySpecValue
-  pub worker : WorkerValue
+  -- how many of the workers it has
+  pub workers : ℕ
   -- the index's pairs, once they are in order
   pub tree : Option (List Pair)
   -- how many more pairs find room beside them
   pub room : ℕ
   pub spoiled : Option Fault
 
+-- a heap, and the rings for the builds of its indexes
+pub record PartsValue : Type 0 where
+  pub heap : HeapState
+  pub pages : List RingId
+  pub side : List RingId
+
+-- the ends of a table's rings that take: those of the page rings are the workers'
+pub record EndsValue : Type 0 where
+  pub workers : List WorkerValue
+  pub side : TakeEnd Entry
+
+-- what stands beside a table: the workers, the other end of the side-file's ring, and the work of the build that runs
+pub record BuildingValue : Type 0 where
+  pub workers : List WorkerValue
+  pub side : TakeEnd Entry
+  pub work : Option WorkValue
+
 -- how many more pairs find room in a list, if there is one
 abbrev pub room_in : Option (Vec Pair Global) → ℕ
 room_in None = 0
 room_in (Some pairs) = vec_capacity pairs - vec_len pairs
 
--- a worker seals whatever it took
 abbrev pub worker_state : WorkerValue → WorkerState
-worker_state worker = record { taken = worker.taken; sealed = worker.taken }
+worker_state worker = record { taken = worker.taken; sealed = worker.sealed }
 
 abbrev pub index_state : Option (List Pair) → IndexState
 index_state tree = record { loaded = is_some tree; applied = 0 }
 
+-- what callers see of work that goes on, or is spoiled
+abbrev pub state_unless : Option Fault → List WorkerValue → WorkValue → WorkState
+state_unless None workers work = record { workers = map worker_state (take work.workers workers); indexes = index_state work.tree ∷ []; spoiled = None }
+state_unless (Some fault) workers work = spoiled_work fault
+
 -- what callers see of the work
-abbrev pub work_state : Option WorkValue → WorkState
-work_state None = idle
-work_state (Some work) = record { workers = worker_state work.worker ∷ []; indexes = index_state work.tree ∷ []; spoiled = work.spoiled }
+abbrev pub work_state : List WorkerValue → Option WorkValue → WorkState
+work_state workers None = idle
+work_state workers (Some work) = state_unless work.spoiled workers work
 
--- what callers see of a table and the work of its build
-abbrev pub core_state : LiveState → Option WorkValue → CoreState
-core_state live work = record { live = live; work = work_state work }
+-- what callers see of a table and of what stands beside it
+abbrev pub core_state : LiveValue → BuildingValue → CoreState
+core_state live building = record { live = live.state; work = work_state building.workers building.work }
 
--- why an event is refused of a table and the work of its build
-abbrev pub cause_of : LiveState → Option WorkValue → Event → Option Fault
-cause_of live work event = refusal (core_state live work) event
+-- why an event is refused of a table and of what stands beside it
+abbrev pub cause_of : LiveValue → BuildingValue → Event → Option Fault
+cause_of live building event = refusal (core_state live building) event
 
--- a worker with one copy more
-abbrev pub after_put : WorkerValue → ImageValue → WorkerValue
-after_put worker image = record worker { ring = worker.ring ++ image ∷ [] }
-
--- its pairs are the index's, in order
+-- these pairs are the index's, in order
 abbrev pub after_sort : WorkValue → List Pair → ℕ → WorkValue
-after_sort work pairs room = record work { worker = record work.worker { pairs = [] }; tree = Some pairs; room = room }
-
--- a worker took all copies, and has their pairs
-pub record HasSealed (spec : KeySpecValue) (old new : WorkerValue) : Type 0 where
-  pub ring : new.ring ≡ []
-  pub taken : new.taken ≡ old.taken + length old.ring
-  pub pairs : (made : List Pair) → HavePairs spec old.ring made → new.pairs ≡ old.pairs ++ made
+after_sort work pairs room = record work { tree = Some pairs; room = room }
 
 -- a build of one index by so many workers, over the ranges that are cut so
 abbrev pub build_over : ℕ → KeySpecValue → ℕ → ℕ → CutsValue → List Scan → BuildState
@@ -88,10 +114,6 @@ build_over number spec workers opened cuts scans = record {
   fed = 0 ∷ [];
 }
 
--- each page was copied for one of so many workers
-abbrev pub AreForWorkers : ℕ → List Scan → Type 0
-AreForWorkers workers scans = All (λ scan. scan.worker < workers) scans
-
 -- the scans of a build by so many workers whose ranges are so far
 pub record AreScansOf (ranges : RangesValue) (workers : ℕ) (scans : List Scan) : Type 0 where
   pub limit : ranges.pages ≤ 65536
@@ -102,11 +124,11 @@ pub record AreScansOf (ranges : RangesValue) (workers : ℕ) (scans : List Scan)
   pub passed : (page : ℕ) → is_passed ranges page ≡ is_some (scanned_at scans page)
   pub for_workers : AreForWorkers workers scans
 
--- a build of one index by one worker, on the table with that log
+-- a build of one index, on the table with that log
 pub record IsBuildOf (kinds : List Kind) (log : List LogRec) (b : BuildState) : Type 0 where
   pub spec : KeySpecValue
   pub one_index : b.specs ≡ spec ∷ []
-  pub one_worker : b.workers ≡ 1
+  pub few_workers : b.workers ≤ 16
   pub columns : spec.kinds ≡ kinds
   pub limit : b.pages ≤ 65536
   -- its ranges are cuts of its pages
@@ -119,23 +141,15 @@ abbrev pub BuildFollows : List Kind → List LogRec → Option BuildState → Ty
 BuildFollows kinds log None = Unit {0}
 BuildFollows kinds log (Some b) = IsBuildOf kinds log b
 
--- the work of a build that isn't spoiled: the pairs of the first scans are made, and the copies of the others wait
-pub record IsSound (kinds : List Kind) (log : List LogRec) (b : BuildState) (work : WorkValue) : Type 0 where
-  pub copies : AreCopies kinds log (drop work.worker.taken b.scans) work.worker.ring
-  pub made : work.tree ≡ None → work.worker.pairs ≡ flat_map (pairs_at_scan (scanning_of b work.spec) log) (take work.worker.taken b.scans)
-  -- in order they are the index's
-  pub loaded : (pairs : List Pair) → work.tree ≡ Some pairs → pairs ≡ keys (set_of (scanned_pairs (scanning_of b work.spec) log))
-
 -- it is the work of that build
 pub record IsWorkOn (kinds : List Kind) (log : List LogRec) (b : BuildState) (work : WorkValue) : Type 0 where
   pub specs : b.specs ≡ work.spec ∷ []
   pub columns : work.spec.kinds ≡ kinds
-  -- each scan's copy was taken or waits
-  pub put : work.worker.taken + length work.worker.ring ≡ length b.scans
-  pub few : length work.worker.ring ≤ 4
+  pub workers : work.workers ≡ b.workers
   -- its pairs are in order only once no page is left to copy
   pub all : is_some work.tree ≡ true → open_range b ≡ None
-  pub sound : work.spoiled ≡ None → IsSound kinds log b work
+  -- in order they are the index's
+  pub loaded : (pairs : List Pair) → work.tree ≡ Some pairs → pairs ≡ keys (set_of (scanned_pairs (scanning_of b work.spec) log))
 
 -- there is work exactly where a build runs, and it is that build's
 abbrev pub IsWorkOf : List Kind → List LogRec → Option BuildState → Option WorkValue → Type 0
@@ -144,35 +158,80 @@ IsWorkOf kinds log None (Some work) = ⊥
 IsWorkOf kinds log (Some b) None = ⊥
 IsWorkOf kinds log (Some b) (Some work) = IsWorkOn kinds log b work
 
--- the same of a table
-abbrev pub WorksOn : LiveState → Option WorkValue → Type 0
-WorksOn live work = IsWorkOf live.heap.schema live.heap.log live.build work
+-- the workers of the build are at work on what their rings were sent, unless it is spoiled
+pub record AreAtWork (b : BuildState) (pages : List (PutEnd Copied)) (side : PutEnd Entry) (building : BuildingValue) (work : WorkValue) : Type 0 where
+  -- nothing is in the side-file's ring
+  pub drained : IsDrained side building.side.ring building.side.received
+  pub taking : work.spoiled ≡ None → AreTaking b.number work.spec b.workers (all_sent pages) building.workers
+  pub holding : work.spoiled ≡ None → work.tree ≡ None → AreHolding work.spec b.workers building.workers
 
--- that page comes next in the range, and its copy can be put to the one worker
-pub record MayScan (live : LiveState) (work : Option WorkValue) (range worker page : ℕ) : Type 0 where
-  pub there : IfSome live.build (λ b. worker < b.workers)
-  pub next : IfSome live.build (λ b. next_page b range ≡ Some page)
-  pub room : IfSome work (λ w. length w.worker.ring < 4)
+abbrev pub WorkersFollow : List (PutEnd Copied) → PutEnd Entry → BuildingValue → Option BuildState → Option WorkValue → Type 0
+WorkersFollow pages side building None work = Unit {0}
+WorkersFollow pages side building (Some b) None = Unit {0}
+WorkersFollow pages side building (Some b) (Some work) = AreAtWork b pages side building work
+
+-- what stands beside a table goes with it
+pub record WorksOn (live : LiveValue) (building : BuildingValue) : Type 0 where
+  pub work : IsWorkOf live.state.heap.schema live.state.heap.log live.state.build building.work
+  pub workers : WorkersFollow live.pages live.side building live.state.build building.work
+
+-- both ends of the rings were looked at, and nothing else changed
+pub record HasLooked (live : LiveValue) (building : BuildingValue) (new_live : LiveValue) (new_building : BuildingValue) : Type 0 where
+  pub state : new_live.state ≡ live.state
+  pub side : new_live.side ≡ live.side
+  pub rings : AreLooked live.pages building.workers new_live.pages new_building.workers
+  pub other_side : new_building.side ≡ building.side
+  pub work : new_building.work ≡ building.work
+
+-- both ends of a worker's ring are at hand, and so many copies wait in it
+pub record SeesRing (worker count : ℕ) (live : LiveValue) (building : BuildingValue) : Type 0 where
+  pub it : WorkerValue
+  pub there : slice_get building.workers worker ≡ Some it
+  pub end : PutEnd Copied
+  pub ring : slice_get live.pages worker ≡ Some end
+  pub in_order : it.end.received ++ it.end.known ≡ end.sent
+  pub seen : count ≡ length it.end.known
+  pub free : 4 ≤ end.free + count
 
 -- a build runs on that table, and this is its work
-pub record IsRunning (live : LiveState) (work : Option WorkValue) : Type 0 where
-  pub build : BuildState
-  pub made : WorkValue
-  pub build_is : live.build ≡ Some build
-  pub work_is : work ≡ Some made
-  pub follows : IsBuildOf live.heap.schema live.heap.log build
-  pub works : IsWorkOn live.heap.schema live.heap.log build made
+pub record IsRunning (live : LiveValue) (building : BuildingValue) (b : BuildState) (work : WorkValue) : Type 0 where
+  pub build_is : live.state.build ≡ Some b
+  pub work_is : building.work ≡ Some work
+  pub follows : IsBuildOf live.state.heap.schema live.state.heap.log b
+  pub on : IsWorkOn live.state.heap.schema live.state.heap.log b work
+  pub at_work : AreAtWork b live.pages live.side building work
 
--- the worker may seal
-pub record MaySeal (live : LiveState) (work : Option WorkValue) (worker : ℕ) : Type 0 where
-  pub only : worker ≡ 0
-  pub runs : IsRunning live work
-  pub fine : runs.made.spoiled ≡ None
+-- how many places of a ring are known to be free
+abbrev pub free_places : Option (PutEnd Copied) → ℕ
+free_places None = 0
+free_places (Some end) = end.free
+
+-- why the end that puts copies for the worker takes none
+abbrev pub full_refusal : List (PutEnd Copied) → ℕ → Option Fault
+full_refusal pages worker = cause_if (free_places (slice_get pages worker) == 0) RingFull
+
+-- why the range gives no further page for the worker
+abbrev pub page_refusal : LiveState → ℕ → ℕ → Option Fault
+page_refusal live range worker = build_cause live.build (λ b. first_cause (counts_refusal b range worker) (range_refusal (next_page b range)))
+
+-- why no page of the range is copied into the worker's ring
+abbrev pub put_refusal : LiveValue → ℕ → ℕ → Option Fault
+put_refusal live range worker = first_cause (page_refusal live.state range worker) (full_refusal live.pages worker)
+
+-- a worker of the build may make pairs
+pub record MayWork (live : LiveValue) (building : BuildingValue) (worker : ℕ) : Type 0 where
+  pub build : BuildState
+  pub work : WorkValue
+  pub runs : IsRunning live building build work
+  pub fine : work.spoiled ≡ None
+  pub there : worker < build.workers
 
 -- the pairs of the index may be put in order
-pub record MayLoad (live : LiveState) (work : Option WorkValue) (index : ℕ) : Type 0 where
+pub record MayLoad (live : LiveValue) (building : BuildingValue) (index : ℕ) : Type 0 where
+  pub build : BuildState
+  pub work : WorkValue
+  pub runs : IsRunning live building build work
+  pub fine : work.spoiled ≡ None
   pub only : index ≡ 0
-  pub runs : IsRunning live work
-  pub fine : runs.made.spoiled ≡ None
-  pub all : open_range runs.build ≡ None
-  pub none : length runs.made.worker.ring ≡ 0
+  pub all : open_range build ≡ None
+  pub quiet : AreQuiet build.workers (all_sent live.pages) building.workers

@@ -1,6 +1,6 @@
 -- A table, its ready indexes and the build that runs, as callers see them, in two halves: what a lock has to keep, and what the
 -- workers of the build do beside it.
-use Rattle.std.specs.Prelude.{◌≡◌, ℕ, zero, suc, Bool, List, [], Option, None}
+use Rattle.std.specs.Prelude.{◌≡◌, ℕ, zero, suc, Bool, List, [], Option, None, Some}
 use Rattle.std.specs.List.{All}
 use Rattle.keybytes.specs.Keys.{KeySpecValue}
 use Rattle.keybytes.specs.Pairs.{HaveKeysOf, AreInColumnOrder}
@@ -71,6 +71,10 @@ pub record WorkState : Type 0 where
 -- no build is at work
 abbrev pub idle : WorkState
 idle = record { workers = []; indexes = []; spoiled = None }
+
+-- the build can't go on for that fault, and what its workers did doesn't count any more
+abbrev pub spoiled_work : Fault → WorkState
+spoiled_work fault = record { workers = []; indexes = []; spoiled = Some fault }
 
 pub record CoreState : Type 0 where
   pub live : LiveState

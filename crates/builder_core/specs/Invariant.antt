@@ -2,8 +2,11 @@
 use Rattle.std.specs.Prelude.{◌≡◌, true, List, length}
 use Rattle.std.specs.List.{All}
 use Rattle.keybytes.specs.Pairs.{set_of}
+use Rattle.keybytes.specs.declared.kind.Kind.{Kind}
 use Rattle.heap_log.specs.declared.record.LogRec.{LogRec}
+use Rattle.building.specs.declared.copied.Copied.{Copied}
 use Rattle.builder_core.specs.CoreState.{BuildState, scanning_of}
+use Rattle.builder_core.specs.Rings.{AreForWorkers, ArePut}
 use Rattle.builder_core.specs.Scanning.{Scanning, ReadOnce, is_visible, scanned_pairs}
 use Rattle.builder_core.specs.SideEntries.{side_entries, visible_pairs}
 use Rattle.visibility.specs.Applied.{entry_rid, apply_entries, HaveEffect}
@@ -17,12 +20,15 @@ pub record EntriesHaveEffect (b : Scanning) (log : List LogRec) : Type 0 where
   pub visible : All (λ entry. is_visible b (length log) (entry_rid entry) ≡ true) (side_entries b log)
   pub effect : HaveEffect (side_entries b log) (set_of (scanned_pairs b log))
 
--- no page is copied twice
-abbrev pub EachPageOnce : BuildState → Type 0
-EachPageOnce b = ReadOnce b.scans
-
 -- the build is sound, for each of its indexes
 pub record BuildIsSound (b : BuildState) (log : List LogRec) : Type 0 where
   pub caught_up : All (λ spec. VisiblePairsAreCaughtUp (scanning_of b spec) log) b.specs
   pub effect : All (λ spec. EntriesHaveEffect (scanning_of b spec) log) b.specs
-  pub once : EachPageOnce b
+
+-- the copies that the rings were sent for the build are those of the scanned pages, each once
+pub record EachPageOnce (kinds : List Kind) (log : List LogRec) (b : BuildState) (all : List (List Copied)) : Type 0 where
+  -- no page is scanned twice, and each is scanned for a worker that has a ring
+  pub once : ReadOnce b.scans
+  pub ringed : AreForWorkers (length all) b.scans
+  -- a worker's ring was sent one copy for each page scanned for it, as the page was then, in order, and no other
+  pub sent : ArePut kinds log b all

@@ -1,11 +1,12 @@
 pub mod Builds
 pub mod CoreState
 pub mod Headline
-pub mod ImagePairs
 pub mod Invariant
 pub mod Ranges
+pub mod Rings
 pub mod Scanning
 pub mod SideEntries
 pub mod SideFiles
 pub mod Steps
 pub mod Workers
+pub mod Working

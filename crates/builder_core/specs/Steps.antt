@@ -1,5 +1,5 @@
 -- What each event does and why it is refused; one step, and a run of events.
-use Rattle.std.specs.Prelude.{◌≡◌, ℕ, ◌+◌, Bool, true, false, ◌&&◌, ◌||◌, not, ◌==◌, nat_lt, nat_le, if◌then◌else◌, is_some, is_none, List, [], ◌∷◌, ◌++◌, ◌⊎◌, length, map, replicate, get_or, set, Option, Some, None, Result}
+use Rattle.std.specs.Prelude.{◌≡◌, ℕ, ◌+◌, Bool, true, false, ◌&&◌, ◌||◌, not, ◌==◌, nat_lt, nat_le, min, if◌then◌else◌, is_some, is_none, List, [], ◌∷◌, ◌++◌, ◌⊎◌, length, map, replicate, get_or, set, Option, Some, None, Result}
 use Rattle.std.specs.List.{list_any, list_all, range_with_len, slice_get}
 use Rattle.std.specs.Option.{option_map}
 use Rattle.keybytes.specs.Answered.{Refused as RefusedBy, AnsweredInWant}
@@ -18,13 +18,13 @@ use Rattle.heap_table.specs.Pages.{pages_written}
 use Rattle.heap_table.specs.TablePairs.{pairs_at_rest}
 use Rattle.builder_core.specs.declared.plan.Plan.{Plan}
 use Rattle.builder_core.specs.declared.event.Event.{Event}
-use Rattle.builder_core.specs.declared.event.Event.TheVariants.{Begin, Insert, Update, Delete, Undo, Commit, Start, Scan, Seal, Load, Switch, Abandon}
+use Rattle.builder_core.specs.declared.event.Event.TheVariants.{Begin, Insert, Update, Delete, Undo, Commit, Start, Scan, Digest, Seal, Load, Switch, Abandon}
 use Rattle.builder_core.specs.declared.reply.Reply.{Reply}
-use Rattle.builder_core.specs.declared.reply.Reply.TheVariants.{Begun, Written, Undone, Committed, Started, Scanned, Sealed, Loaded, Switched, Abandoned, Refused}
-use Rattle.builder_core.specs.CoreState.{ReadyValue, BuildState, LiveState, IndexState, WorkState, CoreState, scanning_of, live_with_heap, with_live, opening, idle}
+use Rattle.builder_core.specs.declared.reply.Reply.TheVariants.{Begun, Written, Undone, Committed, Started, Scanned, Digested, Sealed, Loaded, Switched, Abandoned, Refused}
+use Rattle.builder_core.specs.CoreState.{ReadyValue, BuildState, LiveState, IndexState, WorkState, CoreState, scanning_of, live_with_heap, with_live, opening, idle, spoiled_work}
 use Rattle.builder_core.specs.Ranges.{dealt_ends, dealing_refusal, next_page, open_range}
 use Rattle.builder_core.specs.Scanning.{scanned_pairs}
-use Rattle.builder_core.specs.Workers.{put_to, waiting, loud_worker, unloaded_index, all_unapplied}
+use Rattle.builder_core.specs.Workers.{put_to, worker_at, waiting, loud_worker, unloaded_index, all_unapplied}
 
 -- the cause where the test holds
 abbrev pub cause_if : Bool → Fault → Option Fault
@@ -69,10 +69,14 @@ same_kinds [] (b ∷ bs) = false
 same_kinds (a ∷ rest) [] = false
 same_kinds (a ∷ rest) (b ∷ bs) = same_kind a b && same_kinds rest bs
 
--- one worker, one index that isn't unique, room for it among the ready ones, and a number for the build
+-- the most workers of a build
+abbrev pub workers_most : ℕ
+workers_most = 16
+
+-- 1 to 16 workers, one index that isn't unique, room for it among the ready ones, and a number for the build
 abbrev pub counts_fit : LiveState → Plan → Bool
 counts_fit live plan =
-    (plan.workers == 1) && (length plan.specs.items == 1) && not (list_any (λ spec. spec.unique) plan.specs.items)
+    nat_le 1 plan.workers && nat_le plan.workers workers_most && (length plan.specs.items == 1) && not (list_any (λ spec. spec.unique) plan.specs.items)
     && nat_lt (length live.ready) 32 && nat_lt live.builds 18446744073709551615
 
 -- why a plan starts no build
@@ -113,7 +117,7 @@ Starts plan s pages new =
       work = fresh_work plan;
     })
 
--- Scan, Seal, Load and Switch.
+-- Scan, Digest, Seal, Load, Switch and Abandon.
 
 -- why the running build refuses an event; that none runs is a reason too
 abbrev pub build_cause : Option BuildState → (BuildState → Option Fault) → Option Fault
@@ -148,13 +152,27 @@ after_scan live b worker page = record live {
 }
 
 -- the lowest page of the range that is left is copied for the worker; answered with its number
-abbrev pub Scans : ℕ → ℕ → CoreState → ℕ → CoreState → Type 0
-Scans range worker s page new =
-    OnBuild s.live.build (λ b. (next_page b range ≡ Some page) × (new ≡ with_live s (after_scan s.live b worker page)))
+abbrev pub Scans : ℕ → ℕ → LiveState → ℕ → LiveState → Type 0
+Scans range worker live page new = OnBuild live.build (λ b. (next_page b range ≡ Some page) × (new ≡ after_scan live b worker page))
 
 -- why a worker makes no pairs
-abbrev pub seal_refusal : BuildState → WorkState → ℕ → Option Fault
-seal_refusal b work worker = first_cause (cause_if (nat_le b.workers worker) BadCount) work.spoiled
+abbrev pub worker_refusal : BuildState → WorkState → ℕ → Option Fault
+worker_refusal b work worker = first_cause (cause_if (nat_le b.workers worker) BadCount) work.spoiled
+
+-- how many copies a worker takes at once: one, if one waits
+abbrev pub next_copies : BuildState → WorkState → ℕ → ℕ
+next_copies b work worker = min 1 (waiting b work worker)
+
+-- the worker took the next copy, if one waited
+abbrev pub after_digest : BuildState → WorkState → ℕ → WorkState
+after_digest b work worker =
+    let old = worker_at work worker in
+    record work { workers = set work.workers worker (record old { taken = old.taken + next_copies b work worker }) }
+
+-- answered with the number of copies that it took
+abbrev pub Digests : ℕ → CoreState → ℕ → CoreState → Type 0
+Digests worker s images new =
+    OnBuild s.live.build (λ b. (images ≡ next_copies b s.work worker) × (new ≡ record s { work = after_digest b s.work worker }))
 
 -- the worker took all that was put to it, and sealed
 abbrev pub after_seal : BuildState → WorkState → ℕ → WorkState
@@ -249,7 +267,8 @@ refusal s (Undo txn) = unless_indexed s.live (undo_refusal s.live.heap txn)
 refusal s (Commit txn) = txn_refusal s.live.heap txn
 refusal s (Start plan) = start_refusal s.live plan
 refusal s (Scan range worker) = build_cause s.live.build (λ b. scan_refusal b s.work range worker)
-refusal s (Seal worker) = build_cause s.live.build (λ b. seal_refusal b s.work worker)
+refusal s (Digest worker) = build_cause s.live.build (λ b. worker_refusal b s.work worker)
+refusal s (Seal worker) = build_cause s.live.build (λ b. worker_refusal b s.work worker)
 refusal s (Load index) = build_cause s.live.build (λ b. load_refusal b s index)
 refusal s Switch = build_cause s.live.build (λ b. switch_refusal b s.live.heap.log s.work)
 refusal s Abandon = build_cause s.live.build (λ b. None)
@@ -267,7 +286,8 @@ Does s (Delete txn rid) reply new = Tells (λ w. Written w.0 w.1) (OnLive (OnHea
 Does s (Undo txn) reply new = Tells (λ undone. Undone undone.number undone.left) (OnLive (OnHeap (Undoes txn))) s reply new
 Does s (Commit txn) reply new = Tells Committed (OnLive (OnHeap (Commits txn))) s reply new
 Does s (Start plan) reply new = Tells Started (Starts plan) s reply new
-Does s (Scan range worker) reply new = Tells Scanned (Scans range worker) s reply new
+Does s (Scan range worker) reply new = Tells Scanned (OnLive (Scans range worker)) s reply new
+Does s (Digest worker) reply new = Tells Digested (Digests worker) s reply new
 Does s (Seal worker) reply new = Tells Sealed (Seals worker) s reply new
 Does s (Load index) reply new = Tells Loaded (Loads index) s reply new
 Does s Switch reply new = Tells (λ told. Switched told.0 told.1) Switches s reply new
@@ -275,7 +295,7 @@ Does s Abandon reply new = (reply ≡ Abandoned) × Abandons s new
 
 -- the build can't go on for that fault
 abbrev pub spoiled_by : Fault → CoreState → CoreState
-spoiled_by fault s = record s { work = record s.work { spoiled = Some fault } }
+spoiled_by fault s = record s { work = spoiled_work fault }
 
 -- what want of memory leaves: it changes nothing, but spoils a build whose worker was at work
 abbrev pub AfterMemory : Event → CoreState → CoreState → Type 0
@@ -287,6 +307,7 @@ AfterMemory (Undo txn) s new = new ≡ s
 AfterMemory (Commit txn) s new = new ≡ s
 AfterMemory (Start plan) s new = new ≡ s
 AfterMemory (Scan range worker) s new = new ≡ s
+AfterMemory (Digest worker) s new = new ≡ spoiled_by Memory s
 AfterMemory (Seal worker) s new = new ≡ spoiled_by Memory s
 AfterMemory (Load index) s new = new ≡ spoiled_by Memory s
 AfterMemory Switch s new = new ≡ s

@@ -1,5 +1,5 @@
 //! A change of a row, done together with what it means for the index of the running build.
-ghost use Rattle.std.specs.Prelude.{◌≡◌, ◌+◌, ◌++◌, ◌∷◌, ◌≤◌, [], length, map, Some, None, ℕ, true, IsSome, IfSome, IfOk, IfErr, OnOk, OnErr, Option};
+ghost use Rattle.std.specs.Prelude.{◌≡◌, ◌+◌, ◌++◌, ◌∷◌, ◌≤◌, List, [], length, map, Some, None, ℕ, true, IsSome, IfSome, IfOk, IfErr, OnOk, OnErr, Option};
 ghost use Rattle.std.specs.Option.{option_map};
 ghost use Rattle.keybytes.specs.Cells.{fits};
 ghost use Rattle.keybytes.specs.Keys.{KeySpecValue, key_of};
@@ -9,6 +9,8 @@ ghost use Rattle.heap_table.specs.Ready.{IsReady, after_ready, answer_of};
 ghost use Rattle.visibility.specs.SideEntries.{entries_of_change};
 ghost use Rattle.side_file.specs.Entries.{entry_of};
 ghost use Rattle.builder_core.specs.Builds.{WorkValue, BuildFollows, IsWorkOf};
+ghost use Rattle.building.specs.declared.copied.Copied.{Copied};
+ghost use Rattle.builder_core.specs.Rings.{PagesFollow};
 ghost use Rattle.builder_core.specs.SideFiles.{noted, SideFollows};
 
 use crate::table_scan::TableScan;
@@ -105,6 +107,8 @@ fn perform(
     ensures performed { OnOk result (heap.new.state ≡ after_ready heap.old.state ready) }
     ensures answer { IfOk result (λ done. done ≡ answer_of heap.new.state ready.txn ready.rid ready.undone) }
     ensures follows { BuildFollows heap.new.state.schema heap.new.state.log build.now }
+    ensures put { (builds : ℕ) (all : List (List Copied)) → PagesFollow heap.old.state.schema heap.old.state.log builds build.now all
+        → PagesFollow heap.new.state.schema heap.new.state.log builds build.now all }
     ensures works { (work : Option WorkValue) → IsWorkOf heap.old.state.schema heap.old.state.log build.now work
         → IsWorkOf heap.new.state.schema heap.new.state.log build.now work }
     ensures noted { SideFollows heap.new.state.log build.now side.new }
@@ -132,6 +136,8 @@ pub fn write(
     ensures number { IfOk result (λ written. written.0 ≡ length heap.new.state.log) }
     ensures rid { IfOk result (λ written. written.1 ≡ ready.rid) }
     ensures follows { BuildFollows heap.new.state.schema heap.new.state.log build.now }
+    ensures put { (builds : ℕ) (all : List (List Copied)) → PagesFollow heap.old.state.schema heap.old.state.log builds build.now all
+        → PagesFollow heap.new.state.schema heap.new.state.log builds build.now all }
     ensures works { (work : Option WorkValue) → IsWorkOf heap.old.state.schema heap.old.state.log build.now work
         → IsWorkOf heap.new.state.schema heap.new.state.log build.now work }
     ensures noted { SideFollows heap.new.state.log build.now side.new }
@@ -160,6 +166,8 @@ pub fn undo(
     ensures number { IfOk result (λ undone. undone.number ≡ length heap.new.state.log) }
     ensures left { IfOk result (λ undone. undone.left ≡ standing_count heap.new.state.log ready.txn) }
     ensures follows { BuildFollows heap.new.state.schema heap.new.state.log build.now }
+    ensures put { (builds : ℕ) (all : List (List Copied)) → PagesFollow heap.old.state.schema heap.old.state.log builds build.now all
+        → PagesFollow heap.new.state.schema heap.new.state.log builds build.now all }
     ensures works { (work : Option WorkValue) → IsWorkOf heap.old.state.schema heap.old.state.log build.now work
         → IsWorkOf heap.new.state.schema heap.new.state.log build.now work }
     ensures noted { SideFollows heap.new.state.log build.now side.new }

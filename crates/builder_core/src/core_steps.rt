@@ -10,7 +10,7 @@ ghost use Rattle.std.specs.VecDeque.Iter.{deque_iter_rest};
 ghost use Rattle.builder_core.specs.SideFiles.{AreEntriesLeft, HaveEntryKeys, side_refusal};
 ghost use Rattle.builder_core.specs.Steps.{Step, Answers, OnBuild};
 
-use crate::{Building, Event, Live, Pair, Plan, ReadyIndex, Reply};
+use crate::{Building, Ends, Event, Live, Pair, Plan, ReadyIndex, Reply, Table};
 use heap_table::{PageImage, Undone};
 use keybytes::{Fault, KeySpec, Rid, Row, Schema};
 use side_file::Entry;
@@ -20,12 +20,12 @@ use std::marker::Model;
 /// A table with its ready indexes, and the work of the index build that may be running. Each ready index has the pairs of the
 /// rows that stand.
 #[derive(Drop)]
-pub struct Core {
-    live: Live,
-    building: Building,
+pub struct Core<T: Table> {
+    live: Live<T>,
+    building: Building<T>,
 }
 
-impl Model for Core {
+impl<T: Table> Model for Core<T> {
     ghost use Rattle.builder_core.specs.CoreState.{CoreState};
     ghost use Rattle.builder_core.specs.Builds.{core_state, WorksOn};
 
@@ -36,26 +36,26 @@ impl Model for Core {
     ghost invariant = { λ core. WorksOn core.live core.building };
 }
 
-impl Core {
+impl<T: Table> Core<T> {
     /// The table, with no build running: one that runs in it is abandoned.
-    pub fn new(live: Live) -> Core
-        ensures { result ≡ opening live }
+    pub fn new(live: Live<T>, ends: Ends<T>) -> Core<T>
+        ensures { result ≡ opening live.state }
     {
         let mut live = live;
         live.give_up();
         Core {
             live,
-            building: Building::new(),
+            building: Building::new(ends),
         }
     }
 
-    /// Gives the table and its ready indexes back; a running build is abandoned.
-    pub fn into_live(self) -> Live
-        ensures { result ≡ abandoned self.live }
+    /// Gives the table with its ready indexes back, and the ends of its rings; a running build is abandoned.
+    pub fn into_live(self) -> (Live<T>, Ends<T>)
+        ensures { result.0.state ≡ abandoned self.live }
     {
-        let Core { mut live, .. } = self;
+        let Core { mut live, building } = self;
         live.give_up();
-        live
+        (live, building.into_ends())
     }
 
     /// The columns of the table.
@@ -184,6 +184,7 @@ impl Core {
             Event::Commit { txn } => self.commit(*txn),
             Event::Start { plan } => self.start(plan),
             Event::Scan { range, worker } => self.scan(*range, *worker),
+            Event::Digest { worker } => self.digest(*worker),
             Event::Seal { worker } => self.seal(*worker),
             Event::Load { index } => self.load(*index),
             Event::Switch => self.switch(),
@@ -258,39 +259,35 @@ impl Core {
     fn scan(&mut self, range: usize, worker: usize) -> Result<Reply, Fault>
         ensures { Answers self.old (Event.Scan range worker) result self.new }
     {
-        self.live.check_scan(range, worker, &self.building)?;
+        self.live.check_scan(range, worker, &mut self.building)?;
         let image = PageImage::new(self.live.allocator())?;
-        match self
-            .live
-            .scan_step(range, worker, image, &mut self.building)
-        {
+        match self.live.scan_step(range, worker, image) {
             Ok(page) => Ok(Reply::Scanned { page }),
-            Err((_, fault)) => Err(fault),
+            Err(_) => unreachable!(),
         }
+    }
+
+    fn digest(&mut self, worker: usize) -> Result<Reply, Fault>
+        ensures { Answers self.old (Event.Digest worker) result self.new }
+    {
+        self.live.check_worker(worker, &self.building)?;
+        let images = self.live.digest(worker, &mut self.building)?;
+        Ok(Reply::Digested { images })
     }
 
     fn seal(&mut self, worker: usize) -> Result<Reply, Fault>
         ensures { Answers self.old (Event.Seal worker) result self.new }
     {
-        self.live.check_seal(worker, &self.building)?;
-        let schema = self.live.heap().schema();
-        let building = &mut self.building;
-        let Some(work) = &mut building.work else {
-            unreachable!()
-        };
-        let images = work.seal(schema)?;
+        self.live.check_worker(worker, &self.building)?;
+        let images = self.live.seal(worker, &mut self.building)?;
         Ok(Reply::Sealed { images })
     }
 
     fn load(&mut self, index: usize) -> Result<Reply, Fault>
         ensures { Answers self.old (Event.Load index) result self.new }
     {
-        self.live.check_load(index, &self.building)?;
-        let building = &mut self.building;
-        let Some(work) = &mut building.work else {
-            unreachable!()
-        };
-        let pairs = work.load();
+        self.live.check_load(index, &mut self.building)?;
+        let pairs = self.live.load(&mut self.building)?;
         Ok(Reply::Loaded { pairs })
     }
 
@@ -304,7 +301,8 @@ impl Core {
     fn abandon(&mut self) -> Result<Reply, Fault>
         ensures { Answers self.old Event.Abandon result self.new }
     {
-        self.live.abandon(&mut self.building)?;
+        self.live.abandon()?;
+        self.building.give_up();
         Ok(Reply::Abandoned)
     }
 }

@@ -5,8 +5,8 @@ use keybytes::{Rid, Row};
 ///
 /// Behind what each event does stand the faults that refuse it: where several have their cause, the first is answered. A row is
 /// changed only while no index is ready, for now. [`Fault::Memory`] is answered only where none of
-/// them has its cause. In a seal or a load it spoils the build: a scan, a seal, a load and a switch are then refused so, right
-/// behind [`Fault::NoBuild`] and [`Fault::BadCount`].
+/// them has its cause. In a digest, a seal or a load it spoils the build: a scan, a digest, a seal, a load and a switch are then
+/// refused so, right behind [`Fault::NoBuild`] and [`Fault::BadCount`].
 #[derive(Debug, Drop)]
 pub enum Event {
     /// A transaction begins. [`Fault::TooManyTxns`].
@@ -25,7 +25,7 @@ pub enum Event {
     Undo { txn: u64 },
     /// The transaction ends, and keeps its writes. [`Fault::NoSuchTxn`], [`Fault::TxnEnding`].
     Commit { txn: u64 },
-    /// An index build starts, of one index that isn't unique, by one worker over 1 to 256 ranges. [`Fault::BuildRunning`];
+    /// An index build starts, of one index that isn't unique, by 1 to 16 workers over 1 to 256 ranges. [`Fault::BuildRunning`];
     /// [`Fault::BadCount`] for other counts and where 32 indexes are ready; [`Fault::BadColumn`] for an index of other
     /// columns than the table's; [`Fault::BadRanges`] for other numbers of ranges, ends that go down, or a last one that isn't
     /// the number of pages.
@@ -33,10 +33,13 @@ pub enum Event {
     /// The next page of the range is copied for the worker. [`Fault::NoBuild`]; [`Fault::BadCount`] for a range or a worker
     /// that isn't there; [`Fault::RangeDone`]; [`Fault::RingFull`] while four copies wait.
     Scan { range: usize, worker: usize },
-    /// The worker makes the pairs of the copies that wait for it. [`Fault::NoBuild`], [`Fault::BadCount`].
+    /// The worker makes the pairs of the next copy that waits for it, if one does. [`Fault::NoBuild`], [`Fault::BadCount`].
+    Digest { worker: usize },
+    /// The worker makes the pairs of all copies that wait for it, and closes its run of pairs. [`Fault::NoBuild`],
+    /// [`Fault::BadCount`].
     Seal { worker: usize },
     /// The pairs of the index are put in order. [`Fault::NoBuild`], [`Fault::BadCount`]; [`Fault::NotScanned`] with the
-    /// lowest range that has a page left; [`Fault::NotSealed`] while a copy waits.
+    /// lowest range that has a page left; [`Fault::NotSealed`] with the lowest worker for which a copy waits or whose run is open.
     Load { index: usize },
     /// The indexes of the build become ready, and the build ends. [`Fault::NoBuild`], [`Fault::NotScanned`],
     /// [`Fault::NotLoaded`]; [`Fault::Behind`] while more than 1,024 entries of the side-file are left to apply.

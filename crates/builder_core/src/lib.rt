@@ -6,33 +6,41 @@
 //! of `specs/Steps.antt`; a refused event changes nothing, unless memory ran out in the midst of a build's work, which
 //! spoils that build.
 //!
-//! [`Live`] is a table with its ready indexes, and [`Core`] is that with the build that may be running: [`Core::step`]
-//! answers one event, and [`run_events`] a list of them. [`at_rest`] makes the pairs of a table that nobody writes.
+//! [`Parts`] are a heap with the rings for all its builds, and [`Parts::open`] gives them the name of a [`Table`]: [`Live`] is then
+//! the table with its ready indexes, and [`Ends`] are the ends of the rings that stand beside it. [`Core`] is both, with the build
+//! that may be running: [`Core::step`] answers one event, and [`run_events`] a list of them. [`at_rest`] makes the pairs of a table that nobody writes.
 #![tactic(auto)]
 
-mod building;
+mod beside;
 mod changes;
 mod core_steps;
 mod dealing;
+mod ends;
 mod event;
 mod live;
 mod live_builds;
+mod live_workers;
 mod live_writes;
+mod parts;
 mod plan;
 mod ready_index;
 mod reply;
 mod rest;
+mod rings;
 mod run;
 mod scan;
+mod table;
 mod table_scan;
-mod worker;
+mod work;
 
-pub use building::Building;
+pub use beside::Building;
 pub use core_steps::Core;
 pub use dealing::Dealing;
+pub use ends::Ends;
 pub use event::Event;
 pub use keybytes::Pair;
 pub use live::Live;
+pub use parts::{Parts, WORKERS_MAX};
 pub use plan::Plan;
 pub use ready_index::ReadyIndex;
 pub use reply::Reply;
@@ -40,3 +48,4 @@ pub use rest::at_rest;
 pub use run::run_events;
 pub use scan::Scan;
 pub use side_file::{Entry, Op};
+pub use table::Table;

@@ -1,25 +1,28 @@
 //! The steps of a build that touch the table.
-ghost use Rattle.std.specs.Prelude.{◌≡◌, ◌<◌, ◌+◌, ◌∷◌, [], List, length, Some, None, IfOk, IfErr, OnOk, OnErr, MatchOption, MatchResult, if◌then◌else◌, true, false, vec_len, vec_capacity, ◌==◌, is_some, IsSome, IfSome, ◌≤◌, ◌-◌, ℕ};
+ghost use Rattle.std.specs.Prelude.{◌≡◌, ◌<◌, ◌+◌, ◌∷◌, [], List, length, Some, None, IfOk, IfErr, OnOk, OnErr, IsOk, MatchOption, MatchResult};
+ghost use Rattle.std.specs.Prelude.{true, false, vec_len, vec_capacity, ◌==◌, is_some, IsSome, IfSome, ◌≤◌, ◌-◌, ℕ};
 ghost use Rattle.rtrb.specs.Ring.{received};
-ghost use Rattle.keybytes.specs.Pairs.{AreOrdered, set_of};
+ghost use Rattle.keybytes.specs.Answered.{Answered};
+ghost use Rattle.keybytes.specs.Pairs.{set_of};
 ghost use Rattle.visibility.specs.Applied.{apply_entries};
 ghost use Rattle.side_file.specs.Ends.{ring_take};
 ghost use Rattle.catch_up.specs.Built.{told_to};
-ghost use Rattle.builder_core.specs.SideFiles.{IsDrained};
-ghost use Rattle.builder_core.specs.CoreState.{opening};
-ghost use Rattle.keybytes.specs.Answered.{Answered};
 ghost use Rattle.heap_log.specs.declared.outcome.Outcome.{Outcome};
-ghost use Rattle.builder_core.specs.declared.event.Event.{Event};
 ghost use Rattle.heap_table.specs.HeapState.{after_switch};
 ghost use Rattle.heap_table.specs.Pages.{pages_written, KeepsRows};
-ghost use Rattle.builder_core.specs.Builds.{WorkValue, core_state, cause_of, MayScan, MaySeal, MayLoad, WorksOn};
-ghost use Rattle.builder_core.specs.Ranges.{dealing_refusal, dealt_ends};
-ghost use Rattle.builder_core.specs.Steps.{Starts, Scans, Switches, start_refusal, counts_fit};
+ghost use Rattle.builder_core.specs.Builds.{WorkValue, BuildingValue, core_state, cause_of, put_refusal, page_refusal, MayWork, MayLoad, WorksOn};
+ghost use Rattle.builder_core.specs.CoreState.{abandoned};
+ghost use Rattle.builder_core.specs.Ranges.{dealing_refusal, dealt_ends, next_page};
+ghost use Rattle.builder_core.specs.SideFiles.{IsDrained};
+ghost use Rattle.builder_core.specs.Steps.{Starts, Scans, Digests, Seals, Loads, Switches, OnBuild, spoiled_by, start_refusal, counts_fit};
+ghost use Rattle.builder_core.specs.declared.event.Event.{Event};
 
-use crate::building::Work;
+use crate::parts::WORKERS_MAX;
+use crate::rings::restart_all;
 use crate::table_scan::TableScan;
-use crate::worker::RING_MAX;
-use crate::{Building, Dealing, Live, Pair, Plan, ReadyIndex};
+use crate::work::Work;
+use crate::{Building, Dealing, Live, Pair, Plan, ReadyIndex, Table};
+use building::Copied;
 use catch_up::{Built, catch_up};
 use heap_log::{Outcome, Verdicts};
 use heap_table::{Heap, PageImage};
@@ -69,12 +72,12 @@ fn dealt_cuts(alloc: Global, dealing: &Dealing, pages: u32) -> Result<Cuts, Faul
     }
 }
 
-impl Live {
-    /// A build of the plan's indexes starts, whose work stands beside the table; answered with the number of pages that it
-    /// reads. [`Fault::BuildRunning`], [`Fault::BadCount`], [`Fault::BadColumn`], [`Fault::BadRanges`].
-    pub fn start(&mut self, plan: &Plan, building: &mut Building) -> Result<u32, Fault>
+impl<T: Table> Live<T> {
+    /// A build of the plan's indexes starts, and every ring is emptied; answered with the number of pages that it reads.
+    /// [`Fault::BuildRunning`], [`Fault::BadCount`], [`Fault::BadColumn`], [`Fault::BadRanges`].
+    pub fn start(&mut self, plan: &Plan, building: &mut Building<T>) -> Result<u32, Fault>
         requires { WorksOn self.old building.old }
-        ensures started { Answered (start_refusal self.old plan.now) (Starts plan.now)
+        ensures started { Answered (start_refusal self.old.state plan.now) (Starts plan.now)
             (core_state self.old building.old) result (core_state self.new building.new) }
         ensures works { WorksOn self.new building.new }
         ensures unchanged { OnErr result ((self.new ≡ self.old) × (building.new ≡ building.old)) }
@@ -82,7 +85,7 @@ impl Live {
         let spec = self.check_plan(plan)?;
         let pages = self.heap.pages();
         let cuts = dealt_cuts(self.alloc, &plan.dealing, pages)?;
-        let work = Work::new(self.alloc, spec.clone()?)?;
+        let work = Work::new(spec.clone()?, plan.workers);
         let number = self.builds + 1;
         let build = TableScan::new(
             self.alloc,
@@ -92,9 +95,10 @@ impl Live {
             self.heap.records(),
             cuts,
         )?;
+        restart_all(&mut self.pages, &mut building.workers, number);
+        empty_side(&mut self.side, &mut building.side_end);
         self.builds = number;
         self.build = Some(build);
-        self.side.reset();
         building.work = Some(work);
         Ok(pages)
     }
@@ -102,13 +106,13 @@ impl Live {
     /// The one specification of a plan that a build can be started by.
     fn check_plan<'p>(&self, plan: &'p Plan) -> Result<&'p KeySpec, Fault>
         ensures spec { IfOk result (λ spec. plan.now.specs.items ≡ spec.now ∷ []) }
-        ensures columns { IfOk result (λ spec. spec.now.kinds ≡ self.now.heap.schema) }
-        ensures free { OnOk result (self.now.build ≡ None) }
-        ensures number { OnOk result (self.now.builds < 18446744073709551615) }
-        ensures counts { OnOk result (counts_fit self.now plan.now ≡ true) }
-        ensures ranges { OnOk result (dealing_refusal (pages_written self.now.heap.log) plan.now.dealing ≡ None) }
-        ensures accepted { OnOk result (start_refusal self.now plan.now ≡ None) }
-        ensures refused { IfErr result (λ fault. start_refusal self.now plan.now ≡ Some fault) }
+        ensures columns { IfOk result (λ spec. spec.now.kinds ≡ self.now.state.heap.schema) }
+        ensures free { OnOk result (self.now.state.build ≡ None) }
+        ensures number { OnOk result (self.now.state.builds < 18446744073709551615) }
+        ensures counts { OnOk result (counts_fit self.now.state plan.now ≡ true) }
+        ensures ranges { OnOk result (dealing_refusal (pages_written self.now.state.heap.log) plan.now.dealing ≡ None) }
+        ensures accepted { OnOk result (start_refusal self.now.state plan.now ≡ None) }
+        ensures refused { IfErr result (λ fault. start_refusal self.now.state plan.now ≡ Some fault) }
     {
         if self.build.is_some() {
             return Err(Fault::BuildRunning);
@@ -124,119 +128,69 @@ impl Live {
         Ok(spec)
     }
 
-    /// Whether a plan has one worker and its index isn't unique, and there is room for one index and one build more.
+    /// Whether a plan has 1 to 16 workers and its index isn't unique, and there is room for one index and one build more.
     fn counts_fit(&self, plan: &Plan, spec: &KeySpec) -> bool
         requires { plan.now.specs.items ≡ spec.now ∷ [] }
-        ensures { result ≡ counts_fit self.now plan.now }
+        ensures { result ≡ counts_fit self.now.state plan.now }
     {
-        plan.workers == 1
+        plan.workers >= 1
+            && plan.workers <= WORKERS_MAX
             && !spec.unique()
             && self.ready.len() < READY_MAX
             && self.builds < u64::MAX
     }
 
-    /// Why a page of the range would not be copied for the worker, and else which page it is. Takes no memory.
-    pub fn check_scan(&self, range: usize, worker: usize, building: &Building) -> Result<u32, Fault>
-        requires { WorksOn self.now building.now }
-        ensures accepted { OnOk result (cause_of self.now building.now (Event.Scan range worker) ≡ None) }
-        ensures page { IfOk result (λ page. MayScan self.now building.now range worker page) }
-        ensures refused { IfErr result (λ fault. cause_of self.now building.now (Event.Scan range worker) ≡ Some fault) }
+    /// The lowest page of the range that is left to be copied for the worker.
+    fn next_page(&self, range: usize, worker: usize) -> Result<u32, Fault>
+        ensures page { IfOk result (λ page. OnBuild self.now.state.build (λ b. (next_page b range ≡ Some page) × (worker < b.workers))) }
+        ensures accepted { OnOk result (page_refusal self.now.state range worker ≡ None) }
+        ensures refused { IfErr result (λ fault. page_refusal self.now.state range worker ≡ Some fault) }
     {
-        let (Some(build), Some(work)) = (self.build(), building.work()) else {
-            return Err(Fault::NoBuild);
-        };
+        let build = self.build().ok_or(Fault::NoBuild)?;
         if range >= build.ranges() || worker >= build.workers() {
             return Err(Fault::BadCount);
         }
-        work.check()?;
-        let page = build.next_page(range).ok_or(Fault::RangeDone)?;
-        if work.waiting() >= RING_MAX {
-            return Err(Fault::RingFull);
-        }
-        Ok(page)
+        build.next_page(range).ok_or(Fault::RangeDone)
     }
 
-    /// Copies the lowest page of the range that is left into the buffer that is handed in, and puts it to the worker, in one
-    /// step that takes no memory; answered with the page's number. Counts as a visit. Where it is refused the buffer is
-    /// handed back: [`Fault::NoBuild`], [`Fault::BadCount`], the fault of a spoiled build, [`Fault::RangeDone`],
-    /// [`Fault::RingFull`].
+    /// Copies the lowest page of the range that is left into the buffer that is handed in, and puts it into the worker's ring, in
+    /// one step that takes no memory; answered with the page's number. Counts as a visit. Where it is refused the buffer is
+    /// handed back: [`Fault::NoBuild`], [`Fault::BadCount`], [`Fault::RangeDone`], and [`Fault::RingFull`] where this end of the
+    /// ring knows no free place.
     pub fn scan_step(
         &mut self,
         range: usize,
         worker: usize,
         image: PageImage,
-        building: &mut Building,
     ) -> Result<u32, (PageImage, Fault)>
-        requires { WorksOn self.old building.old }
-        ensures scanned { IfOk result (λ page. Scans range worker (core_state self.old building.old) page (core_state self.new building.new)) }
-        ensures accepted { OnOk result (cause_of self.old building.old (Event.Scan range worker) ≡ None) }
-        ensures works { WorksOn self.new building.new }
-        ensures unchanged { OnErr result ((self.new ≡ self.old) × (building.new ≡ building.old)) }
-        ensures refused { IfErr result (λ back. cause_of self.old building.old (Event.Scan range worker) ≡ Some back.1) }
+        ensures scanned { IfOk result (λ page. Scans range worker self.old.state page self.new.state) }
+        ensures works { (building : BuildingValue) → WorksOn self.old building → WorksOn self.new building }
+        ensures succeeds { put_refusal self.old range worker ≡ None → IsOk result }
+        ensures unchanged { OnErr result (self.new.state ≡ self.old.state) }
+        ensures refused { IfErr result (λ back. put_refusal self.new range worker ≡ Some back.1) }
         ensures handed_back { IfErr result (λ back. back.0 ≡ image) }
     {
-        let page = match self.check_scan(range, worker, building) {
+        let page = match self.next_page(range, worker) {
             Ok(page) => page,
             Err(fault) => return Err((image, fault)),
         };
+        if !self.pages[worker].has_room() {
+            return Err((image, Fault::RingFull));
+        }
         let mut image = image;
         self.heap.copy_page(page, &mut image);
         let records = self.heap.records();
-        let Some(build) = &mut self.build else {
+        let Some(scan) = &mut self.build else {
             unreachable!()
         };
-        build.note(range, worker, page, records);
-        let Some(work) = &mut building.work else {
-            unreachable!()
-        };
-        work.put(image);
+        scan.note(range, worker, page, records);
+        let build = scan.number();
+        self.pages[worker].put(Copied { build, image });
         Ok(page)
     }
 
-    /// Why the worker would not seal. Takes no memory.
-    pub fn check_seal(&self, worker: usize, building: &Building) -> Result<(), Fault>
-        requires { WorksOn self.now building.now }
-        ensures accepted { MatchResult result
-            (λ _. cause_of self.now building.now (Event.Seal worker) ≡ None)
-            (λ fault. cause_of self.now building.now (Event.Seal worker) ≡ Some fault) }
-        ensures runs { OnOk result (MaySeal self.now building.now worker) }
-    {
-        let (Some(_build), Some(work)) = (self.build(), building.work()) else {
-            return Err(Fault::NoBuild);
-        };
-        if worker != 0 {
-            return Err(Fault::BadCount);
-        }
-        work.check()?;
-        Ok(())
-    }
-
-    /// Why the pairs of the index would not be put in order. Takes no memory.
-    pub fn check_load(&self, index: usize, building: &Building) -> Result<(), Fault>
-        requires { WorksOn self.now building.now }
-        ensures accepted { MatchResult result
-            (λ _. cause_of self.now building.now (Event.Load index) ≡ None)
-            (λ fault. cause_of self.now building.now (Event.Load index) ≡ Some fault) }
-        ensures runs { OnOk result (MayLoad self.now building.now index) }
-    {
-        let (Some(build), Some(work)) = (self.build(), building.work()) else {
-            return Err(Fault::NoBuild);
-        };
-        if index != 0 {
-            return Err(Fault::BadCount);
-        }
-        work.check()?;
-        if let Some(range) = build.first_open() {
-            return Err(Fault::NotScanned(range));
-        }
-        if work.waiting() > 0 {
-            return Err(Fault::NotSealed(0));
-        }
-        Ok(())
-    }
-
     /// Why the indexes of the build would not become ready. Takes no memory.
-    fn check_switch(&self, building: &Building) -> Result<(), Fault>
+    fn check_switch(&self, building: &Building<T>) -> Result<(), Fault>
         requires { WorksOn self.now building.now }
         ensures { MatchResult result
             (λ _. cause_of self.now building.now Event.Switch ≡ None)
@@ -259,27 +213,24 @@ impl Live {
         Ok(())
     }
 
-    /// Gives the build up, and with it all its work. [`Fault::NoBuild`]. Takes no memory.
-    pub fn abandon(&mut self, building: &mut Building) -> Result<(), Fault>
-        requires { WorksOn self.old building.old }
-        ensures abandoned { OnOk result (core_state self.new building.new ≡ opening self.old) }
-        ensures works { WorksOn self.new building.new }
-        ensures accepted { OnOk result (IsSome self.old.build) }
-        ensures refused { IfErr result (λ fault. (fault ≡ Fault.NoBuild) × (self.old.build ≡ None)) }
-        ensures unchanged { OnErr result ((self.new ≡ self.old) × (building.new ≡ building.old)) }
+    /// Gives the build up. [`Fault::NoBuild`]. Takes no memory.
+    pub fn abandon(&mut self) -> Result<(), Fault>
+        ensures abandoned { OnOk result (self.new ≡ record self.old { state = abandoned self.old.state }) }
+        ensures accepted { OnOk result (IsSome self.old.state.build) }
+        ensures refused { IfErr result (λ fault. (fault ≡ Fault.NoBuild) × (self.old.state.build ≡ None)) }
+        ensures unchanged { OnErr result (self.new ≡ self.old) }
     {
         if self.build.is_none() {
             return Err(Fault::NoBuild);
         }
         self.give_up();
-        building.work = None;
         Ok(())
     }
 
     /// Makes the indexes of the build ready and ends it; answered with the number of the log record, and what became of each
     /// index. [`Fault::NoBuild`], the fault of a spoiled build, [`Fault::NotScanned`], [`Fault::NotLoaded`],
     /// [`Fault::Behind`].
-    pub fn switch_in(&mut self, building: &mut Building) -> Result<(usize, Verdicts), Fault>
+    pub fn switch_in(&mut self, building: &mut Building<T>) -> Result<(usize, Verdicts), Fault>
         requires { WorksOn self.old building.old }
         ensures switched { Answered (cause_of self.old building.old Event.Switch) Switches
             (core_state self.old building.old) result (core_state self.new building.new) }
@@ -296,13 +247,32 @@ impl Live {
         let Some(pairs) = work.into_pairs() else {
             unreachable!()
         };
-        let pairs = caught_up(build.number(), pairs, &mut self.side, &mut self.side_end);
+        let pairs = caught_up(
+            build.number(),
+            pairs,
+            &mut self.side,
+            &mut building.side_end,
+        );
         let spec = build.into_spec();
         // It tells that its columns make a key, whose bytes are then in the columns' order.
         let _columns = spec.columns();
         self.ready.push_reserved(ReadyIndex::new(spec, pairs));
         Ok(noted)
     }
+}
+
+/// Drops all entries, those in the ring too.
+fn empty_side(side: &mut SideFile, end: &mut Consumer<Entry>)
+    requires { side.old.end.ring ≡ ring_take end.old }
+    ensures left { side.new.left ≡ [] }
+    ensures fed { side.new.fed ≡ [] }
+    ensures ring { side.new.end.ring ≡ side.old.end.ring }
+    ensures drained { IsDrained side.new.end (ring_take end.new) (received end.new) }
+{
+    for _ in 0..side.beside(end) {
+        end.pop_known();
+    }
+    side.reset();
 }
 
 /// Notes in the log that one more index is ready, and makes room for it.

@@ -17,6 +17,8 @@ pub enum Reply {
     Started { pages: u32 },
     /// With the number of the page, from 0.
     Scanned { page: u32 },
+    /// With the number of copies that the worker took: 0 or 1.
+    Digested { images: usize },
     /// With the number of copies that the worker took.
     Sealed { images: usize },
     /// With the number of pairs that were put in order: 0 where they were in order already.

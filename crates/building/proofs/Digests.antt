@@ -1,6 +1,7 @@
 -- Digests of a worker, one after another.
-use Rattle.std.proofs.Common.{◌≡◌, ℕ, ◌+◌, ◌≤◌, ◌==◌, true, List, [], ◌∷◌, ◌++◌, length, take, drop, append_assoc, refl, sym, ap, ap₂, ◌∙◌, subst, arith, length-append}
+use Rattle.std.proofs.Common.{◌≡◌, ℕ, ◌+◌, ◌*◌, ◌/◌, ◌%◌, ◌≤◌, ◌==◌, true, List, [], ◌∷◌, ◌++◌, length, take, drop, append_assoc, refl, sym, ap, ap₂, ◌∙◌, subst, arith, length-append}
 use Rattle.std.proofs.lemmas.List.{length-take, drop-drop, take-append-drop}
+use Rattle.std.proofs.Math.Nat.{mod-add-div', add-mul-mod_self_right}
 use Rattle.std.proofs.Math.Seq.{take-add}
 use Rattle.std.proofs.lemmas.Bool.Decides.{nat_tests}
 use Rattle.keybytes.specs.Keys.{KeySpecValue}
@@ -54,6 +55,26 @@ can_next spec n m k worker next all build end can =
     let next_parts = have_split spec this behind parts.1 parts.3 in
     (next_parts.0, next_parts.2)
 
+-- whole runs don't count in an open run
+pub whole_runs : (begun made : ℕ) → (begun + made % 4096) % 4096 ≡ (begun + made) % 4096
+whole_runs begun made =
+    let whole : made % 4096 + made / 4096 * 4096 ≡ made = mod-add-div' made 4096 in
+    let apart : begun + made ≡ (begun + made % 4096) + made / 4096 * 4096 = omega (arith, whole) in
+    sym (ap (λ n. n % 4096) apart ∙ add-mul-mod_self_right (begun + made % 4096) (made / 4096) 4096)
+
+-- an open run goes on
+pub open_more : (a b : ℕ) → (a % 4096 + b) % 4096 ≡ (a + b) % 4096
+open_more a b =
+    let turn : a % 4096 + b ≡ b + a % 4096 = omega arith in
+    let all : b + a ≡ a + b = omega arith in
+    ap (λ n. n % 4096) turn ∙ (whole_runs b a ∙ ap (λ n. n % 4096) all)
+
+-- what an open run has after more pairs, and then after more still
+runs_more : (begun a b : ℕ) → ((begun + a) % 4096 + b) % 4096 ≡ (begun + (a + b)) % 4096
+runs_more begun a b =
+    let all : (begun + a) + b ≡ begun + (a + b) = omega arith in
+    open_more (begun + a) b ∙ ap (λ n. n % 4096) all
+
 worker_of : ℕ → TakeEnd Copied → List Pair → ℕ → ℕ → ℕ → WorkerValue
 worker_of build end pairs taken sealed open_pairs = record { build = build; end = end; pairs = pairs; taken = taken; sealed = sealed; open_pairs = open_pairs }
 
@@ -86,8 +107,9 @@ digest_more spec n m made worker have =
     let parts = have_split spec here behind made (subst (λ (xs : ImageList). HavePairs spec xs made) images have) in
     let taken : (worker.taken + length here) + length behind ≡ worker.taken + length (next_images (n + m) worker) =
     omega (arith, ap length images, length-append here behind) in
-    let open_pairs : (worker.open_pairs + length parts.0) + length parts.1 ≡ worker.open_pairs + length made =
-    omega (arith, ap length parts.4, length-append parts.0 parts.1) in (
+    let both : length parts.0 + length parts.1 ≡ length made = omega (arith, ap length parts.4, length-append parts.0 parts.1) in
+    let open_pairs : ((worker.open_pairs + length parts.0) % 4096 + length parts.1) % 4096 ≡ (worker.open_pairs + length made) % 4096 =
+    runs_more worker.open_pairs (length parts.0) (length parts.1) ∙ ap (λ n. (worker.open_pairs + n) % 4096) both in (
       parts.0,
       parts.1,
       parts.2,

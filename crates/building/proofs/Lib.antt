@@ -2,6 +2,7 @@ pub mod CopyPairs
 pub mod Digests
 pub mod Gathers
 pub mod ManyPairs
-pub mod SamePairs
 pub mod PageCopies
 pub mod Rings
+pub mod SamePairs
+pub mod Taking

@@ -1,5 +1,5 @@
 -- What the calls of a worker leave.
-use Rattle.std.specs.Prelude.{ℕ, ◌+◌, ◌≤◌, List, [], ◌++◌, length, take}
+use Rattle.std.specs.Prelude.{ℕ, ◌+◌, ◌%◌, ◌≤◌, ◌<◌, List, [], ◌++◌, length, take}
 use Rattle.keybytes.specs.Keys.{KeySpecValue}
 use Rattle.keybytes.specs.declared.pair.Pair.{Pair}
 use Rattle.heap_table.specs.Images.{ImageValue}
@@ -16,7 +16,7 @@ at_start build end = record { build = build; end = end; pairs = []; taken = 0; s
 -- what every worker keeps
 pub record IsWorker (worker : WorkerValue) : Type 0 where
   pub sealed_was_taken : worker.sealed ≤ worker.taken
-  pub open_ones : worker.open_pairs ≤ length worker.pairs
+  pub open_run : worker.open_pairs < 4096
 
 -- its end of the ring has seen these
 abbrev pub knowing : List Copied → WorkerValue → WorkerValue
@@ -34,7 +34,8 @@ after_digest n made worker = record {
   pairs = worker.pairs ++ made;
   taken = worker.taken + length (next_images n worker);
   sealed = worker.sealed;
-  open_pairs = worker.open_pairs + length made;
+  -- a run is closed once it has 4,096 pairs
+  open_pairs = (worker.open_pairs + length made) % 4096;
 }
 
 -- all that is taken is sealed
@@ -47,4 +48,4 @@ CanDigest spec n worker = (made : List Pair) × HavePairs spec (next_images n wo
 
 -- it holds no pairs
 abbrev pub emptied : WorkerValue → WorkerValue
-emptied worker = record worker { pairs = []; open_pairs = 0 }
+emptied worker = record worker { pairs = [] }

@@ -5,7 +5,7 @@ use Rattle.building.specs.declared.copied.Copied.{Copied}
 use Rattle.building.specs.TakeEnd.{TakeEnd}
 
 -- the number of its build, its end of its ring, the pairs that it holds, how many copies of its build it took, how many of these
--- when it last sealed, and how many pairs it made since
+-- when it last sealed, and how many pairs its open run has
 pub record WorkerValue : Type 0 where
   pub build : ℕ
   pub end : TakeEnd Copied

@@ -1,4 +1,4 @@
-ghost use Rattle.std.specs.Prelude.{◌≡◌, ◌≤◌, ◌<◌, ◌+◌, ◌%◌, ◌==◌, ◌++◌, [], ℕ, List, not, length, vec_len, vec_capacity};
+ghost use Rattle.std.specs.Prelude.{◌≡◌, ◌≤◌, ◌<◌, ◌+◌, ◌==◌, ◌++◌, [], ℕ, List, not, length, vec_len, vec_capacity};
 ghost use Rattle.std.specs.Prelude.{IfErr, IfOk, OnOk, OnErr, IsOk};
 ghost use Rattle.keybytes.specs.declared.pair.Pair.{Pair};
 ghost use Rattle.side_file.specs.Ends.{ring_take};
@@ -26,8 +26,8 @@ pub struct Worker {
     taken: usize,
     /// How many were taken when it last sealed.
     sealed: usize,
-    /// How many pairs there were then.
-    run_start: usize,
+    /// How many pairs its open run has.
+    open_pairs: usize,
 }
 
 impl Model for Worker {
@@ -35,7 +35,7 @@ impl Model for Worker {
 
     ghost Value = { WorkerValue };
 
-    ghost use Rattle.std.specs.Prelude.{◌≤◌, ◌-◌, length};
+    ghost use Rattle.std.specs.Prelude.{◌≤◌, ◌<◌};
     ghost use Rattle.building.specs.TakeEnd.{take_end};
 
     ghost view = { λ worker. record {
@@ -44,10 +44,10 @@ impl Model for Worker {
       pairs = worker.pairs.items;
       taken = worker.taken;
       sealed = worker.sealed;
-      open_pairs = length worker.pairs.items - worker.run_start;
+      open_pairs = worker.open_pairs;
     } };
 
-    ghost invariant = { λ worker. (worker.sealed ≤ worker.taken) × (worker.run_start ≤ length worker.pairs.items) };
+    ghost invariant = { λ worker. (worker.sealed ≤ worker.taken) × (worker.open_pairs < 4096) };
 }
 
 impl Worker {
@@ -61,7 +61,7 @@ impl Worker {
             pairs: Vec::new(alloc),
             taken: 0,
             sealed: 0,
-            run_start: 0,
+            open_pairs: 0,
         }
     }
 
@@ -100,11 +100,11 @@ impl Worker {
         self.pairs.len()
     }
 
-    /// Whether a run of pairs is begun that only a seal closes. A run closes by itself whenever it has 4,096 pairs.
+    /// Whether a run of pairs is begun that only a seal closes. A run closes by itself once it has 4,096 pairs.
     pub fn has_open_run(&self) -> bool
-        ensures { result ≡ not (self.now.open_pairs % 4096 == 0) }
+        ensures { result ≡ not (self.now.open_pairs == 0) }
     {
-        (self.pairs.len() - self.run_start) % RUN_PAIRS != 0
+        self.open_pairs != 0
     }
 
     /// Empties its ring and begins a build. Takes no memory.
@@ -118,7 +118,7 @@ impl Worker {
         self.pairs.clear();
         self.taken = 0;
         self.sealed = 0;
-        self.run_start = 0;
+        self.open_pairs = 0;
     }
 
     /// How many copies are in its ring, with the other end at hand. Both ends then know all that there is to know of the ring.
@@ -153,7 +153,10 @@ impl Worker {
         if self.taken == usize::MAX {
             return Err(Fault::Memory);
         }
+        let before = self.pairs.len();
         add_pairs(&mut self.pairs, &copied.image, schema, spec)?;
+        let made = self.pairs.len() - before;
+        self.open_pairs = (self.open_pairs + made % RUN_PAIRS) % RUN_PAIRS;
         self.taken += 1;
         Ok(1)
     }
@@ -176,7 +179,7 @@ impl Worker {
             images += self.digest(schema, spec)?;
         }
         self.sealed = self.taken;
-        self.run_start = self.pairs.len();
+        self.open_pairs = 0;
         Ok(images)
     }
 
@@ -190,7 +193,6 @@ impl Worker {
         ensures unchanged { OnErr result (self.new ≡ self.old) }
     {
         self.pairs.reserve(more)?;
-        self.run_start = 0;
         Ok(replace(&mut self.pairs, Vec::new(alloc)))
     }
 
@@ -201,7 +203,6 @@ impl Worker {
         ensures room { vec_capacity pairs.old ≤ vec_capacity pairs.new }
         ensures left { self.new ≡ emptied self.old }
     {
-        self.run_start = 0;
         if pairs.append(&mut self.pairs).is_err() {
             unreachable!()
         }

@@ -8,7 +8,7 @@ use Rattle.builder_core.proofs.Switching.{each_switch}
 use Rattle.builder_core.proofs.run.run_events.Goals as goal
 
 pub loop-event-preserved : goal.loop-event-preserved
-loop-event-preserved c =
+loop-event-preserved g c =
     let events : List Event = c.args.events.now in
     let i = c.loop-event.event-index in
     let more : take (i + 1) events ≡ take i events ++ c.event-item.result ∷ [] =
@@ -21,7 +21,7 @@ loop-event-preserved c =
     }
 
 pub returns-clause-headline : goal.returns-clause-headline
-returns-clause-headline c =
+returns-clause-headline g c =
     let events : List Event = c.args.events.now in
     let start = opening c.args.live in
     let all : take c.loop-event.event-index events ≡ events = take_all c.loop-event.event-index events c.loop-event-test.false in

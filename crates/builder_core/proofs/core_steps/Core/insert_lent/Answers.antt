@@ -5,4 +5,4 @@ use Rattle.builder_core.specs.declared.event.Event.TheVariants.{Insert}
 use Rattle.builder_core.proofs.core_steps.Core.insert_lent.Goals as goal
 
 pub returns : goal.returns
-returns c = subst (λ (row : List Cell). Answers c.args.self.now (Insert c.args.txn row) c.insert.result c.insert.new.self) c.in_ok-clone.ensures.same c.insert.ensures
+returns g c = subst (λ (row : List Cell). Answers c.args.self.now (Insert c.args.txn row) c.insert.result c.insert.new.self) c.in_ok-clone.ensures.same c.insert.ensures

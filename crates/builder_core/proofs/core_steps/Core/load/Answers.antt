@@ -12,7 +12,7 @@ tree_cases None = inr refl
 tree_cases (Some pairs) = inl refl
 
 pub invariant_of-self-2 : goal.invariant_of-self-2
-invariant_of-self-2 c =
+invariant_of-self-2 g c =
     let live : LiveState = c.self.inside.live in
     let may : MayLoad live c.self.inside.building c.args.index = c.in_ok-check_load.ensures.runs in
     let w : WorkValue = c.in-Some.work in

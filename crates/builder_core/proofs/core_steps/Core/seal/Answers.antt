@@ -22,7 +22,7 @@ works_after live work b w new (Err fault) run fine sealed kept spoiled waits =
     subst (λ (x : WorkValue). WorksOn live (Some x)) (sym spoiled) (spoiled_works live work b w run fine new.worker waits.0 waits.1)
 
 pub seal-requires-clause-copies : goal.seal-requires-clause-copies
-seal-requires-clause-copies c =
+seal-requires-clause-copies g c =
     let live : LiveState = c.self.inside.live in
     let may : MaySeal live c.self.inside.building c.args.worker = c.in_ok-check_seal.ensures.runs in
     let w : WorkValue = c.in-Some.work in
@@ -31,7 +31,7 @@ seal-requires-clause-copies c =
     ring_pairs live.heap.schema live.heap.log may.runs.build w run.works (fine_with live c.self.inside.building may.runs w is may.fine)
 
 pub seal-requires-clause-room : goal.seal-requires-clause-room
-seal-requires-clause-room c =
+seal-requires-clause-room g c =
     let live : LiveState = c.self.inside.live in
     let may : MaySeal live c.self.inside.building c.args.worker = c.in_ok-check_seal.ensures.runs in
     let w : WorkValue = c.in-Some.work in
@@ -40,7 +40,7 @@ seal-requires-clause-room c =
     omega (arith, run.works.put, scans_within live.heap.schema live.heap.log may.runs.build run.follows, run.follows.limit)
 
 pub invariant_of-self-2 : goal.invariant_of-self-2
-invariant_of-self-2 c =
+invariant_of-self-2 g c =
     let live : LiveState = c.self.inside.live in
     let may : MaySeal live c.self.inside.building c.args.worker = c.in_ok-check_seal.ensures.runs in
     let w : WorkValue = c.in-Some.work in
@@ -50,7 +50,7 @@ invariant_of-self-2 c =
     c.seal.ensures.sealed c.seal.ensures.kept c.seal.ensures.spoiled c.seal.ensures.waits
 
 pub returns : goal.returns
-returns c =
+returns g c =
     let live : LiveState = c.self.inside.live in
     let may : MaySeal live c.self.inside.building c.args.worker = c.in_ok-check_seal.ensures.runs in
     let w : WorkValue = c.in-Some.work in

@@ -5,7 +5,7 @@ use Rattle.builder_core.specs.Steps.{Switches, build_cause, switch_refusal}
 use Rattle.builder_core.proofs.core_steps.Core.switch.Goals as goal
 
 pub returns : goal.returns
-returns c = (
+returns g c = (
   subst (λ (s : CoreState). build_cause s.live.build (λ b. switch_refusal b s.live.heap.log s.work) ≡ None) c.self.view_is c.in_ok-number.ensures.switched.0,
   (
     (c.in_ok-number.number, c.in_ok-number.verdicts),

@@ -11,7 +11,7 @@ use Rattle.builder_core.proofs.Starts.{kinds_differ, kinds_agree, bad_column, ba
 use Rattle.builder_core.proofs.live.Live.check_plan.Goals as goal
 
 pub returns-then-not-is_of-clause-refused : goal.returns-then-not-is_of-clause-refused
-returns-then-not-is_of-clause-refused c =
+returns-then-not-is_of-clause-refused g c =
     let live : LiveState = c.args.self.now in
     let spec : KeySpecValue = c.in_ok-spec.spec.now in
     let one : c.args.plan.now.specs.items ≡ spec ∷ [] = search rules in
@@ -21,7 +21,7 @@ returns-then-not-is_of-clause-refused c =
     bad_column live c.args.plan.now spec one still counts (kinds_differ spec.kinds live.heap.schema (λ e. false≢true (c.if-not-is_of.ensures.1 (e ∙ sym schema))))
 
 pub returns-in_err-check_dealing-clause-refused : goal.returns-in_err-check_dealing-clause-refused
-returns-in_err-check_dealing-clause-refused c =
+returns-in_err-check_dealing-clause-refused g c =
     let live : LiveState = c.args.self.now in
     let spec : KeySpecValue = c.in_ok-spec.spec.now in
     let one : c.args.plan.now.specs.items ≡ spec ∷ [] = search rules in
@@ -34,7 +34,7 @@ returns-in_err-check_dealing-clause-refused c =
     rw (told.1, told.2) (bad_ranges live c.args.plan.now spec one still counts _ (kinds_agree spec.kinds live.heap.schema (c.if-not-is_of.ensures.0 refl ∙ schema)) cause)
 
 pub returns-clause-accepted : goal.returns-clause-accepted
-returns-clause-accepted c =
+returns-clause-accepted g c =
     let live : LiveState = c.args.self.now in
     let spec : KeySpecValue = c.in_ok-spec.spec.now in
     let one : c.args.plan.now.specs.items ≡ spec ∷ [] = search rules in

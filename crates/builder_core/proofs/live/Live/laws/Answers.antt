@@ -1,12 +1,24 @@
-use Rattle.std.proofs.Common.{subst}
+use Rattle.std.proofs.Common.{◌≡◌, ◌∙◌, length, subst}
+use Rattle.std.proofs.lemmas.List.{length-map}
+use Rattle.side_file.specs.Ends.{PutEnd}
+use Rattle.building.specs.declared.copied.Copied.{Copied}
 use Rattle.std.specs.Prelude.{IfSome}
-use Rattle.builder_core.specs.CoreState.{LiveState}
-use Rattle.builder_core.specs.Invariant.{BuildIsSound}
-use Rattle.builder_core.proofs.Sound.{runs_sound}
+use Rattle.builder_core.specs.Builds.{LiveValue}
+use Rattle.builder_core.specs.Invariant.{BuildIsSound, EachPageOnce}
+use Rattle.builder_core.specs.Rings.{all_sent}
+use Rattle.builder_core.proofs.Sound.{runs_sound, runs_once}
 use Rattle.builder_core.proofs.live.Live.laws.Goals as goal
 
 pub returns-clause-build : goal.returns-clause-build
-returns-clause-build c =
+returns-clause-build g c =
     let inside = c.self.inside in
-    subst (λ (l : LiveState). IfSome l.build (λ b. BuildIsSound b l.heap.log)) c.self.view_is
+    subst (λ (l : LiveValue). IfSome l.state.build (λ b. BuildIsSound b l.state.heap.log)) c.self.view_is
     (runs_sound inside.heap.state.schema inside.heap.state.log inside.build c.self.invariant.1)
+
+pub returns-clause-pages : goal.returns-clause-pages
+returns-clause-pages g c =
+    let inside = c.self.inside in
+    let all = all_sent inside.pages.items in
+    let sixteen : length all ≡ 16 = length-map inside.pages.items (λ (end : PutEnd Copied). end.sent) ∙ c.self.invariant.5.sixteen in
+    subst (λ (l : LiveValue). IfSome l.state.build (λ b. EachPageOnce l.state.heap.schema l.state.heap.log b (all_sent l.pages))) c.self.view_is
+    (runs_once inside.heap.state.schema inside.heap.state.log inside.builds inside.build all c.self.invariant.1 c.self.invariant.3 sixteen)

@@ -1,69 +1,185 @@
-use Rattle.std.proofs.Common.{◌≡◌, ◌∙◌, ◌<◌, ◌++◌, ◌∷◌, [], ℕ, length, Option, Some, None, ap, sym, subst}
-use Rattle.std.specs.Prelude.{IfSome}
+use Rattle.std.proofs.Common.{◌≡◌, ◌∙◌, ◌<◌, ◌≤◌, ◌++◌, ◌∷◌, [], ℕ, List, length, set, get_or, Option, Some, None, inl, inr, refl, ap, sym, subst, arith}
+use Rattle.std.specs.Prelude.{slice_get}
+use Rattle.std.proofs.lemmas.Bool.{cases_lt, false≢true}
+use Rattle.std.proofs.lemmas.Option.{slice_get-get_or}
 use Rattle.keybytes.specs.declared.fault.Fault.{Fault}
-use Rattle.keybytes.specs.declared.fault.Fault.TheVariants.{NoBuild}
+use Rattle.keybytes.specs.declared.fault.Fault.TheVariants.{RingFull}
 use Rattle.heap_table.specs.HeapState.{HeapState}
 use Rattle.heap_table.specs.Pages.{pages_written}
-use Rattle.builder_core.specs.Builds.{WorkValue, IsBuildOf, IsWorkOn, IsWorkOf, BuildFollows, WorksOn, MayScan, work_state}
+use Rattle.side_file.specs.Ends.{PutEnd}
+use Rattle.building.specs.declared.copied.Copied.{Copied}
+use Rattle.builder_core.specs.Builds.{LiveValue, BuildFollows, IsBuildOf, IsWorkOf, WorkersFollow, WorksOn, full_refusal, put_refusal}
 use Rattle.builder_core.specs.CoreState.{BuildState, LiveState, FollowTable}
+use Rattle.builder_core.specs.Rings.{all_sent, AreOfBuilds, HasPut, PagesFollow}
 use Rattle.builder_core.specs.Ranges.{next_page}
 use Rattle.builder_core.specs.SideFiles.{HasEntries, SideFollows}
-use Rattle.builder_core.specs.Steps.{build_cause, scan_refusal}
+use Rattle.builder_core.specs.Steps.{OnBuild}
+use Rattle.builder_core.proofs.Places.{here_set, map_at}
 use Rattle.builder_core.proofs.SideKept.{side_next}
-use Rattle.builder_core.proofs.TableBuilds.{next_written, scanned_next, put_next}
+use Rattle.builder_core.proofs.TableBuilds.{scanned_next, work_of_next}
+use Rattle.builder_core.proofs.OneRing.{put_ends_set, sent_looked, sent_put, workers_looked, workers_put, builds_put, put_next, written_twice, full_at, put_full, next_below, worker_below}
 use Rattle.builder_core.proofs.live.Live.scan_step.Goals as goal
 
--- nothing is scanned unless a build runs
-below :
-    (live : LiveState) (build : Option BuildState) (cause : BuildState → Option Fault) (range page : ℕ) → build_cause build cause ≡ None
-    → IfSome build (λ b. next_page b range ≡ Some page) → BuildFollows live.heap.schema live.heap.log build → page < pages_written live.heap.log
-below live None cause range page free next follows = absurd (let bad : Some NoBuild ≡ None = free in cc)
-below live (Some b) cause range page free next follows = next_written live.heap.schema live.heap.log b range page follows next
+pub invariant_of-self : goal.invariant_of-self
+invariant_of-self g c =
+    let inside = c.self.inside in
+    let heap = inside.heap.state in
+    let old : PutEnd Copied = c.index_mut.result.now in
+    let new : PutEnd Copied = c.has_room.new.self in
+    let same = sent_looked inside.pages.items c.args.worker new old c.index_mut.ensures.value c.has_room.ensures.looked.sent in (
+      c.self.invariant.0,
+      c.self.invariant.1,
+      c.self.invariant.2,
+      subst (PagesFollow heap.schema heap.log inside.builds inside.build) (sym same) c.self.invariant.3,
+      subst (AreOfBuilds inside.builds) (sym same) c.self.invariant.4,
+      put_ends_set g.T.Table.pages g.T.Table.side inside.pages.items inside.side.end c.args.worker new old c.self.invariant.5 c.index_mut.ensures.value
+          c.has_room.ensures.looked.ring,
+    )
+
+pub returns-then-not-has_room-clause-works : goal.returns-then-not-has_room-clause-works
+returns-then-not-has_room-clause-works g c = λ building works.
+    let inside = c.self.inside in
+    let before = subst (λ (l : LiveValue). WorksOn l building) (sym c.self.view_is) works in
+    let same = sent_looked inside.pages.items c.args.worker c.has_room.new.self c.index_mut.result.now c.index_mut.ensures.value c.has_room.ensures.looked.sent in
+    record {
+      work = before.work;
+      workers = workers_looked inside.pages.items (set inside.pages.items c.args.worker c.has_room.new.self) inside.side.end building inside.build building.work same
+          before.workers;
+    }
+
+none_free : (free : ℕ) → (0 < free → ⊥) → free ≡ 0
+none_free free none = elim (cases_lt 0 free) [
+  | inl some ↦ absurd (none some)
+  | inr all ↦ omega (arith, all)
+]
+
+pub returns-then-not-has_room-clause-succeeds : goal.returns-then-not-has_room-clause-succeeds
+returns-then-not-has_room-clause-succeeds g c = λ free.
+    let live : LiveValue = c.args.self.now in
+    let pages : List (PutEnd Copied) = c.self.inside.pages.items in
+    let old : PutEnd Copied = c.index_mut.result.now in
+    let follows : BuildFollows live.state.heap.schema live.state.heap.log live.state.build =
+    subst (λ (l : LiveValue). BuildFollows l.state.heap.schema l.state.heap.log l.state.build) c.self.view_is c.self.invariant.1 in
+    let below = worker_below live.state live.state.build c.args.range c.args.worker c.in-Ok.page c.in-Ok.ensures.page follows in
+    let less : c.args.worker < length pages = omega (arith, below, c.self.invariant.5.sixteen) in
+    let there = slice_get-get_or pages c.args.worker old less ∙ ap (λ (end : PutEnd Copied). Some end) (sym c.index_mut.ensures.value) in
+    let none : old.free ≡ 0 = let new = none_free c.has_room.new.self.free (λ some. false≢true (c.if-not-has_room.ensures.value.1 some)) in omega (arith, new, c.has_room.ensures.looked.free) in
+    let full : full_refusal live.pages c.args.worker ≡ Some RingFull =
+    ap (λ (l : LiveValue). full_refusal l.pages c.args.worker) (sym c.self.view_is) ∙ full_at pages c.args.worker old there none in
+    absurd (let bad : Some RingFull ≡ None = sym (put_full live c.args.range c.args.worker c.in-Ok.ensures.accepted full) ∙ free in cc)
+
+pub returns-then-not-has_room-clause-refused : goal.returns-then-not-has_room-clause-refused
+returns-then-not-has_room-clause-refused g c =
+    let pages : List (PutEnd Copied) = c.self.inside.pages.items in
+    let new : PutEnd Copied = c.has_room.new.self in
+    let live : LiveValue = c.args.self.now in
+    let follows : BuildFollows live.state.heap.schema live.state.heap.log live.state.build =
+    subst (λ (l : LiveValue). BuildFollows l.state.heap.schema l.state.heap.log l.state.build) c.self.view_is c.self.invariant.1 in
+    let below = worker_below live.state live.state.build c.args.range c.args.worker c.in-Ok.page c.in-Ok.ensures.page follows in
+    let less : c.args.worker < length pages = omega (arith, below, c.self.invariant.5.sixteen) in
+    let none : new.free ≡ 0 = none_free new.free (λ some. false≢true (c.if-not-has_room.ensures.value.1 some)) in
+    let full : full_refusal (set pages c.args.worker new) c.args.worker ≡ Some RingFull =
+    full_at (set pages c.args.worker new) c.args.worker new (here_set pages c.args.worker new less) none in
+    subst (λ (l : LiveValue). put_refusal (record l { pages = set pages c.args.worker new }) c.args.range c.args.worker ≡ Some RingFull) (sym c.self.view_is)
+    (put_full (record live { pages = set pages c.args.worker new }) c.args.range c.args.worker c.in-Ok.ensures.accepted full)
 
 pub copy_page-requires : goal.copy_page-requires
-copy_page-requires c =
-    let may = c.in-Ok.ensures.page in
-    let live : LiveState = c.args.self.now in
+copy_page-requires g c =
+    let live : LiveState = c.args.self.now.state in
     let follows : BuildFollows live.heap.schema live.heap.log live.build =
-    subst (λ (l : LiveState). BuildFollows l.heap.schema l.heap.log l.build) c.self.view_is c.self.invariant.1 in
-    let less = below live live.build (λ b. scan_refusal b (work_state c.args.building.now) c.args.range c.args.worker) c.args.range c.in-Ok.page c.in-Ok.ensures.accepted may.next follows in
-    subst (λ (l : LiveState). c.in-Ok.page < pages_written l.heap.log) (sym c.self.view_is) less
+    subst (λ (l : LiveValue). BuildFollows l.state.heap.schema l.state.heap.log l.state.build) c.self.view_is c.self.invariant.1 in
+    subst (λ (l : LiveValue). c.in-Ok.page < pages_written l.state.heap.log) (sym c.self.view_is)
+    (next_below live live.build c.args.range c.args.worker c.in-Ok.page c.in-Ok.ensures.page follows)
 
-pub invariant_of-self : goal.invariant_of-self
-invariant_of-self c =
-    let old : HeapState = c.self.inside.heap.state in
-    let b : BuildState = c.in-Some.build in
-    let may : MayScan c.args.self.now c.args.building.now c.args.range c.args.worker c.in-Ok.page = c.in-Ok.ensures.page in
-    let here : c.args.self.now.build ≡ Some b = sym (ap (λ (l : LiveState). l.build) c.self.view_is) ∙ c.in-Some.is in
-    let next : next_page b c.args.range ≡ Some c.in-Ok.page = subst (λ (o : Option BuildState). IfSome o (λ x. next_page x c.args.range ≡ Some c.in-Ok.page)) here may.next in
-    let follows : IsBuildOf old.schema old.log b = subst (BuildFollows old.schema old.log) c.in-Some.is c.self.invariant.1 in
-    let now : c.records-records.result ≡ length old.log = c.records-records.ensures ∙ ap (λ (h : HeapState). length h.log) c.copy_page.ensures.visited in
-    let has : HasEntries old.log b c.self.inside.side = subst (λ o. SideFollows old.log o c.self.inside.side) c.in-Some.is c.self.invariant.2 in
-    let for : c.args.worker < b.workers = subst (λ (o : Option BuildState). IfSome o (λ x. c.args.worker < x.workers)) here may.there in
-    let more = scanned_next old.schema old.log b c.args.range c.args.worker c.in-Ok.page c.records-records.result follows next for now in (
-      subst (λ (h : HeapState). FollowTable h.log c.self.inside.ready.items) (sym c.copy_page.ensures.visited) c.self.invariant.0,
-      subst (λ (h : HeapState). IsBuildOf h.schema h.log c.note.new.self) (sym c.copy_page.ensures.visited) (subst (IsBuildOf old.schema old.log) (sym c.note.ensures.noted) more),
-      subst (λ (h : HeapState). HasEntries h.log c.note.new.self c.self.inside.side) (sym c.copy_page.ensures.visited)
-          (subst (λ b. HasEntries old.log b c.self.inside.side) (sym c.note.ensures.noted)
-          (side_next old.log b c.self.inside.side c.args.range c.args.worker c.in-Ok.page c.records-records.result next now has)),
-      c.self.invariant.3,
+pub invariant_of-self-2 : goal.invariant_of-self-2
+invariant_of-self-2 g c =
+    let inside = c.self.inside in
+    let heap : HeapState = inside.heap.state in
+    let live : LiveValue = c.args.self.now in
+    let b : BuildState = c.in-Some.scan in
+    let pages : List (PutEnd Copied) = inside.pages.items in
+    let old : PutEnd Copied = c.index_mut.result.now in
+    let looked : PutEnd Copied = c.has_room.new.self in
+    let new : PutEnd Copied = c.put.new.self in
+    let at : PutEnd Copied = c.index_mut-2.result.now in
+    let image = c.copy_page.new.image in
+    let copied : Copied = record { build = c.number-build.result; image = image } in
+    let here : live.state.build ≡ Some b = sym (ap (λ (l : LiveValue). l.state.build) c.self.view_is) ∙ c.in-Some.is in
+    let next = subst (λ (o : Option BuildState). OnBuild o (λ x. (next_page x c.args.range ≡ Some c.in-Ok.page) × (c.args.worker < x.workers))) here c.in-Ok.ensures.page in
+    let follows : IsBuildOf heap.schema heap.log b = subst (BuildFollows heap.schema heap.log) c.in-Some.is c.self.invariant.1 in
+    let put : HasPut heap.schema heap.log inside.builds b (all_sent pages) =
+    subst (λ (o : Option BuildState). PagesFollow heap.schema heap.log inside.builds o (all_sent pages)) c.in-Some.is c.self.invariant.3 in
+    let has : HasEntries heap.log b inside.side = subst (λ o. SideFollows heap.log o inside.side) c.in-Some.is c.self.invariant.2 in
+    let now : c.records-records.result ≡ length heap.log = c.records-records.ensures ∙ ap (λ (h : HeapState). length h.log) c.copy_page.ensures.visited in
+    let more = scanned_next heap.schema heap.log b c.args.range c.args.worker c.in-Ok.page c.records-records.result follows next.0 next.1 now in
+    let less : c.args.worker < length pages = omega (arith, next.1, follows.few_workers, c.self.invariant.5.sixteen) in
+    let there : slice_get pages c.args.worker ≡ Some old =
+    slice_get-get_or pages c.args.worker old less ∙ ap (λ (end : PutEnd Copied). Some end) (sym c.index_mut.ensures.value) in
+    let sent_there = map_at (λ (end : PutEnd Copied). end.sent) pages c.args.worker old there in
+    let first = sent_looked pages c.args.worker looked old c.index_mut.ensures.value c.has_room.ensures.looked.sent in
+    let same : at ≡ looked = written_twice pages c.args.worker looked at less c.index_mut-2.ensures.value in
+    let sent : new.sent ≡ old.sent ++ copied ∷ [] =
+    c.put.ensures.sent ∙ ap (λ (end : PutEnd Copied). end.sent ++ copied ∷ []) same ∙ ap (λ (s : List Copied). s ++ copied ∷ []) c.has_room.ensures.looked.sent in
+    let all : all_sent (set (set pages c.args.worker looked) c.args.worker new) ≡ set (all_sent pages) c.args.worker (old.sent ++ copied ∷ []) =
+    sent_put (set pages c.args.worker looked) c.args.worker new ∙ ap (λ (ss : List (List Copied)). set ss c.args.worker new.sent) first
+    ∙ ap (set (all_sent pages) c.args.worker) sent in
+    let number : c.number-build.result ≡ b.number = c.number-build.ensures ∙ ap (λ (x : BuildState). x.number) c.note.ensures.noted in
+    let ring : new.ring ≡ at.ring = c.put.ensures.ring in
+    let copied_build : BuildState =
+    record b { scans = b.scans ++ record { worker = c.args.worker; page = c.in-Ok.page; records = c.records-records.result } ∷ [] } in (
+      subst (λ (h : HeapState). FollowTable h.log inside.ready.items) (sym c.copy_page.ensures.visited) c.self.invariant.0,
+      subst (λ (h : HeapState). IsBuildOf h.schema h.log c.note.new.self) (sym c.copy_page.ensures.visited) (subst (IsBuildOf heap.schema heap.log) (sym c.note.ensures.noted) more),
+      subst (λ (h : HeapState). HasEntries h.log c.note.new.self inside.side) (sym c.copy_page.ensures.visited)
+          (subst (λ x. HasEntries heap.log x inside.side) (sym c.note.ensures.noted)
+          (side_next heap.log b inside.side c.args.range c.args.worker c.in-Ok.page c.records-records.result next.0 now has)),
+      subst (λ (h : HeapState). HasPut h.schema h.log inside.builds c.note.new.self (all_sent (set (set pages c.args.worker looked) c.args.worker new))) (sym c.copy_page.ensures.visited)
+          (subst (λ (x : BuildState). HasPut heap.schema heap.log inside.builds x (all_sent (set (set pages c.args.worker looked) c.args.worker new))) (sym c.note.ensures.noted)
+          (subst (λ (ss : List (List Copied)). HasPut heap.schema heap.log inside.builds copied_build ss) (sym all)
+          (put_next heap.schema heap.log inside.builds b (all_sent pages) c.args.worker c.in-Ok.page c.records-records.result c.number-build.result old.sent image put sent_there now number
+          c.copy_page.ensures.copy))),
+      subst (AreOfBuilds inside.builds) (sym all)
+          (builds_put inside.builds (all_sent pages) c.args.worker old.sent copied sent_there (omega (arith, number, put.number)) c.self.invariant.4),
+      put_ends_set g.T.Table.pages g.T.Table.side (set pages c.args.worker looked) inside.side.end c.args.worker new at
+          (put_ends_set g.T.Table.pages g.T.Table.side pages inside.side.end c.args.worker looked old c.self.invariant.5 c.index_mut.ensures.value c.has_room.ensures.looked.ring)
+          c.index_mut-2.ensures.value ring,
     )
 
 pub returns-clause-works : goal.returns-clause-works
-returns-clause-works c =
-    let old : HeapState = c.self.inside.heap.state in
-    let b : BuildState = c.in-Some.build in
-    let w : WorkValue = c.in-Some-work.work in
-    let may : MayScan c.args.self.now c.args.building.now c.args.range c.args.worker c.in-Ok.page = c.in-Ok.ensures.page in
-    let here : c.args.self.now.build ≡ Some b = sym (ap (λ (l : LiveState). l.build) c.self.view_is) ∙ c.in-Some.is in
-    let there : c.args.building.now ≡ Some w = sym c.building.view_is ∙ c.in-Some-work.is in
-    let next : next_page b c.args.range ≡ Some c.in-Ok.page = subst (λ (o : Option BuildState). IfSome o (λ x. next_page x c.args.range ≡ Some c.in-Ok.page)) here may.next in
-    let room : length w.worker.ring < 4 = subst (λ (o : Option WorkValue). IfSome o (λ x. length x.worker.ring < 4)) there may.room in
-    let works : IsWorkOn old.schema old.log b w =
-    subst (λ (o : Option BuildState). IsWorkOf old.schema old.log o (Some w)) c.in-Some.is
-    (subst (IsWorkOf old.schema old.log c.self.inside.build) there (subst (λ (l : LiveState). WorksOn l c.args.building.now) (sym c.self.view_is) c.requires)) in
-    let now : c.records-records.result ≡ length old.log = c.records-records.ensures ∙ ap (λ (h : HeapState). length h.log) c.copy_page.ensures.visited in
-    let more = put_next old.schema old.log b w c.args.range c.args.worker c.in-Ok.page c.records-records.result c.copy_page.new.image works next now room c.copy_page.ensures.copy in
-    subst (λ (h : HeapState). IsWorkOn h.schema h.log c.note.new.self c.put.new.self) (sym c.copy_page.ensures.visited)
-    (subst (λ (x : BuildState). IsWorkOn old.schema old.log x c.put.new.self) (sym c.note.ensures.noted)
-    (subst (IsWorkOn old.schema old.log (record b { scans = b.scans ++ record { worker = c.args.worker; page = c.in-Ok.page; records = c.records-records.result } ∷ [] })) (sym c.put.ensures) more))
+returns-clause-works g c = λ building works.
+    let inside = c.self.inside in
+    let heap : HeapState = inside.heap.state in
+    let live : LiveValue = c.args.self.now in
+    let b : BuildState = c.in-Some.scan in
+    let pages : List (PutEnd Copied) = inside.pages.items in
+    let old : PutEnd Copied = c.index_mut.result.now in
+    let looked : PutEnd Copied = c.has_room.new.self in
+    let new : PutEnd Copied = c.put.new.self in
+    let at : PutEnd Copied = c.index_mut-2.result.now in
+    let copied : Copied = record { build = c.number-build.result; image = c.copy_page.new.image } in
+    let here : live.state.build ≡ Some b = sym (ap (λ (l : LiveValue). l.state.build) c.self.view_is) ∙ c.in-Some.is in
+    let next = subst (λ (o : Option BuildState). OnBuild o (λ x. (next_page x c.args.range ≡ Some c.in-Ok.page) × (c.args.worker < x.workers))) here c.in-Ok.ensures.page in
+    let follows : IsBuildOf heap.schema heap.log b = subst (BuildFollows heap.schema heap.log) c.in-Some.is c.self.invariant.1 in
+    let before = subst (λ (l : LiveValue). WorksOn l building) (sym c.self.view_is) works in
+    let now : c.records-records.result ≡ length heap.log = c.records-records.ensures ∙ ap (λ (h : HeapState). length h.log) c.copy_page.ensures.visited in
+    let less : c.args.worker < length pages = omega (arith, next.1, follows.few_workers, c.self.invariant.5.sixteen) in
+    let there : slice_get pages c.args.worker ≡ Some old =
+    slice_get-get_or pages c.args.worker old less ∙ ap (λ (end : PutEnd Copied). Some end) (sym c.index_mut.ensures.value) in
+    let sent_there = map_at (λ (end : PutEnd Copied). end.sent) pages c.args.worker old there in
+    let first = sent_looked pages c.args.worker looked old c.index_mut.ensures.value c.has_room.ensures.looked.sent in
+    let same : at ≡ looked = written_twice pages c.args.worker looked at less c.index_mut-2.ensures.value in
+    let sent : new.sent ≡ old.sent ++ copied ∷ [] =
+    c.put.ensures.sent ∙ ap (λ (end : PutEnd Copied). end.sent ++ copied ∷ []) same ∙ ap (λ (s : List Copied). s ++ copied ∷ []) c.has_room.ensures.looked.sent in
+    let all : all_sent (set (set pages c.args.worker looked) c.args.worker new) ≡ set (all_sent pages) c.args.worker (old.sent ++ copied ∷ []) =
+    sent_put (set pages c.args.worker looked) c.args.worker new ∙ ap (λ (ss : List (List Copied)). set ss c.args.worker new.sent) first
+    ∙ ap (set (all_sent pages) c.args.worker) sent in
+    let number : c.number-build.result ≡ b.number = c.number-build.ensures ∙ ap (λ (x : BuildState). x.number) c.note.ensures.noted in
+    record {
+      work = subst (λ (h : HeapState). IsWorkOf h.schema h.log (Some c.note.new.self) building.work) (sym c.copy_page.ensures.visited)
+          (subst (λ (x : BuildState). IsWorkOf heap.schema heap.log (Some x) building.work) (sym c.note.ensures.noted)
+          (work_of_next heap.schema heap.log b building.work c.args.range c.args.worker c.in-Ok.page c.records-records.result
+          (subst (λ (o : Option BuildState). IsWorkOf heap.schema heap.log o building.work) c.in-Some.is before.work) next.0 now));
+      workers = workers_put pages inside.side.end building b c.note.new.self building.work c.args.worker old.sent copied
+          (set (set pages c.args.worker looked) c.args.worker new)
+          (subst (λ (o : Option BuildState). WorkersFollow pages inside.side.end building o building.work) c.in-Some.is before.workers) sent_there all number
+          (ap (λ (x : BuildState). x.number) c.note.ensures.noted) (ap (λ (x : BuildState). x.workers) c.note.ensures.noted);
+    }

@@ -22,7 +22,7 @@ use Rattle.visibility.specs.Applied.{apply_entries}
 use Rattle.builder_core.proofs.live.Live.switch_in.Goals as goal
 
 pub caught_up-pairs-requires-clause-ordered : goal.caught_up-pairs-requires-clause-ordered
-caught_up-pairs-requires-clause-ordered c =
+caught_up-pairs-requires-clause-ordered g c =
     let live : LiveState = c.args.self.now in
     let work : Option WorkValue = c.make_room.new.work in
     let b : BuildState = c.in-Some-Some.build in
@@ -34,7 +34,7 @@ caught_up-pairs-requires-clause-ordered c =
     loaded_ordered live work b w s.run s.free s.run.follows.spec s.run.follows.one_index c.in-Some.pairs.items c.in-Some.ensures.pairs
 
 pub new-requires : goal.new-requires
-new-requires c =
+new-requires g c =
     let live : LiveState = c.args.self.now in
     let work : Option WorkValue = c.make_room.new.work in
     let b : BuildState = c.in-Some-Some.build in
@@ -58,7 +58,7 @@ new-requires c =
     }
 
 pub invariant_of-self-2 : goal.invariant_of-self-2
-invariant_of-self-2 c =
+invariant_of-self-2 g c =
     let heap : HeapState = c.self.inside.heap.state in
     let live : LiveState = c.args.self.now in
     let work : Option WorkValue = c.make_room.new.work in
@@ -86,7 +86,7 @@ invariant_of-self-2 c =
     )
 
 pub returns-clause-switched : goal.returns-clause-switched
-returns-clause-switched c =
+returns-clause-switched g c =
     let live : LiveState = c.args.self.now in
     let work : Option WorkValue = c.make_room.new.work in
     let b : BuildState = c.in-Some-Some.build in

@@ -1,0 +1,55 @@
+-- A table and what stands beside it, where their rings were looked at.
+use Rattle.std.proofs.Common.{◌≡◌, ℕ, List, [], ◌∷◌, map, Option, Some, None, refl, sym, ap, ◌∙◌, subst}
+use Rattle.building.specs.WorkerValue.{WorkerValue}
+use Rattle.building.specs.Work.{knowing}
+use Rattle.builder_core.specs.Builds.{LiveValue, BuildingValue, WorkValue, HasLooked, IsRunning, IsWorkOf, WorkersFollow, WorksOn, work_state, core_state, worker_state, state_unless, index_state}
+use Rattle.builder_core.specs.CoreState.{BuildState, LiveState, WorkState}
+use Rattle.builder_core.proofs.AtWork.{outline, outlines_looked, states_same, taking_same, holding_looked}
+use Rattle.builder_core.proofs.OneRing.{workers_looked}
+
+-- callers see no difference
+states_looked : (old new : List WorkerValue) (work : Option WorkValue) → map (knowing []) new ≡ map (knowing []) old → work_state new work ≡ work_state old work
+states_looked old new None same = refl
+states_looked old new (Some w) same = by_fault w.spoiled where
+  by_fault : (o : Option _) → state_unless o new w ≡ state_unless o old w
+  by_fault (Some fault) = refl
+  by_fault None = ap (λ ws. record { workers = ws; indexes = index_state w.tree ∷ []; spoiled = None }) (states_same w.workers old new (outlines_looked old new same))
+
+pub state_looked : (live new_live : LiveValue) (building new : BuildingValue) → HasLooked live building new_live new → core_state new_live new ≡ core_state live building
+state_looked live new_live building new looked =
+    ap (λ s. record { live = s; work = work_state new.workers new.work }) looked.state
+    ∙ ap (λ (w : Option WorkValue). record { live = live.state; work = work_state new.workers w }) looked.work
+    ∙ ap (λ (w : WorkState). record { live = live.state; work = w }) (states_looked building.workers new.workers building.work looked.rings.same)
+
+-- and all goes on
+workers_after :
+    (live new_live : LiveValue) (building new : BuildingValue) (build : Option BuildState) (work : Option WorkValue) → HasLooked live building new_live new
+    → WorkersFollow live.pages live.side building build work → WorkersFollow new_live.pages new_live.side new build work
+workers_after live new_live building new None work looked follow = tt
+workers_after live new_live building new (Some b) None looked follow = tt
+workers_after live new_live building new (Some b) (Some w) looked follow = record {
+  drained = rw (looked.side, looked.other_side) follow.drained;
+  taking = λ fine. rw looked.rings.sent (taking_same b.number w.spec b.workers _ building.workers new.workers
+      (outlines_looked building.workers new.workers looked.rings.same) (follow.taking fine));
+  holding = λ fine none. holding_looked w.spec b.workers building.workers new.workers looked.rings.same (follow.holding fine none);
+}
+
+pub works_looked : (live new_live : LiveValue) (building new : BuildingValue) → HasLooked live building new_live new → WorksOn live building → WorksOn new_live new
+works_looked live new_live building new looked works = record {
+  work = rw (looked.state, looked.work) works.work;
+  workers =
+      subst (WorkersFollow new_live.pages new_live.side new new_live.state.build) (sym looked.work)
+      (subst (λ (s : LiveState). WorkersFollow new_live.pages new_live.side new s.build building.work) (sym looked.state)
+      (workers_after live new_live building new live.state.build building.work looked works.workers));
+}
+
+pub runs_looked :
+    (live new_live : LiveValue) (building new : BuildingValue) (b : BuildState) (w : WorkValue) → HasLooked live building new_live new
+    → IsRunning live building b w → IsRunning new_live new b w
+runs_looked live new_live building new b w looked run = record {
+  build_is = rw looked.state run.build_is;
+  work_is = looked.work ∙ run.work_is;
+  follows = rw looked.state run.follows;
+  on = rw looked.state run.on;
+  at_work = workers_after live new_live building new (Some b) (Some w) looked run.at_work;
+}

@@ -1,0 +1,54 @@
+-- What looking at both ends of the rings leaves.
+use Rattle.std.proofs.Common.{◌≡◌, ℕ, ◌+◌, ◌<◌, ◌++◌, List, [], length, map, Some, refl, sym, ap, ◌∙◌, subst, inl, inr, arith}
+use Rattle.std.specs.List.{slice_get}
+use Rattle.std.proofs.lemmas.Bool.{cases_lt}
+use Rattle.side_file.specs.Ends.{PutEnd, RingId}
+use Rattle.building.specs.Work.{knowing}
+use Rattle.building.specs.WorkerValue.{WorkerValue}
+use Rattle.building.specs.declared.copied.Copied.{Copied}
+use Rattle.builder_core.specs.Rings.{put_rings, take_rings, all_sent, AreLooked, AreQuiet, IsQuiet, IsLoud}
+use Rattle.builder_core.proofs.Places.{at_map, same_at, mapped}
+
+pub looked_again :
+    (p : List (PutEnd Copied)) (w : List WorkerValue) (p' : List (PutEnd Copied)) (w' : List WorkerValue) (p'' : List (PutEnd Copied)) (w'' : List WorkerValue)
+    → AreLooked p w p' w' → AreLooked p' w' p'' w'' → AreLooked p w p'' w''
+looked_again p w p' w' p'' w'' first then = record {
+  rings = then.rings ∙ first.rings;
+  sent = then.sent ∙ first.sent;
+  same = then.same ∙ first.same;
+}
+
+-- the ends that take are of the rings that they were of
+pub takes_looked : (old new : List WorkerValue) → map (knowing []) new ≡ map (knowing []) old → take_rings new ≡ take_rings old
+takes_looked old new same =
+    let ring : WorkerValue → RingId = λ w. w.end.ring in
+    sym (mapped (knowing []) ring new) ∙ ap (map ring) same ∙ mapped (knowing []) ring old
+
+pub rings_looked :
+    (p : List (PutEnd Copied)) (w : List WorkerValue) (p' : List (PutEnd Copied)) (w' : List WorkerValue) → AreLooked p w p' w' → put_rings p ≡ take_rings w
+    → put_rings p' ≡ take_rings w'
+rings_looked p w p' w' looked same = looked.rings ∙ same ∙ sym (takes_looked w w' looked.same)
+
+-- who was quiet is
+pub quiet_looked :
+    (p : List (PutEnd Copied)) (w : List WorkerValue) (p' : List (PutEnd Copied)) (w' : List WorkerValue) (count : ℕ) → AreLooked p w p' w'
+    → AreQuiet count (all_sent p) w → AreQuiet count (all_sent p') w'
+quiet_looked p w p' w' count looked quiet k sent worker less there at =
+    let it = same_at (knowing []) w w' k worker (sym looked.same) at in
+    let was : IsQuiet sent it.0 = quiet k sent it.0 less (sym (ap (λ (l : List (List Copied)). slice_get l k) looked.sent) ∙ there) it.1 in
+    record {
+      taken = sym (ap (λ (v : WorkerValue). v.end.received) it.2) ∙ was.taken;
+      closed = sym (ap (λ (v : WorkerValue). v.open_pairs) it.2) ∙ was.closed;
+    }
+
+-- one more is quiet
+pub quiet_more :
+    (count : ℕ) (all : List (List Copied)) (workers : List WorkerValue) → AreQuiet count all workers
+    → ((sent : List Copied) (worker : WorkerValue) → slice_get all count ≡ Some sent → slice_get workers count ≡ Some worker → IsQuiet sent worker)
+    → AreQuiet (count + 1) all workers
+quiet_more count all workers quiet next k sent worker less there at = elim (cases_lt k count) [
+  | inl below ↦ quiet k sent worker below there at
+  | inr last ↦
+      let same : k ≡ count = omega (arith, less, last) in
+      next sent worker (sym (ap (slice_get all) same) ∙ there) (sym (ap (slice_get workers) same) ∙ at)
+]

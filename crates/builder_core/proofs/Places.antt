@@ -1,0 +1,74 @@
+-- What stands in a place of a list.
+use Rattle.std.proofs.Common.{◌≡◌, ℕ, zero, suc, ◌<◌, ◌⊎◌, List, [], ◌∷◌, length, map, set, get_or, Option, Some, None, refl, sym, ap, ◌∙◌, subst, inl, inr, arith}
+use Rattle.std.specs.List.{All, slice_get}
+use Rattle.std.specs.Option.{option_map}
+use Rattle.std.proofs.Math.Seq.{map-set_same}
+use Rattle.std.proofs.lemmas.List.{get_or-map, get_or-set_same, length-map, length-set}
+use Rattle.std.proofs.lemmas.List.Elements.{All-head, All-tail}
+use Rattle.std.proofs.lemmas.Option.{same_Some, slice_get-map, slice_get-get_or}
+
+-- where one place was written, each has what was written, or what it had
+pub at_set :
+    {X : Type 0} (xs : List X) (i : ℕ) (y : X) (k : ℕ) (x : X) → slice_get (set xs i y) k ≡ Some x
+    → ((k ≡ i) × (x ≡ y)) ⊎ ((k ≡ i → ⊥) × (slice_get xs k ≡ Some x))
+at_set [] i y k x at = absurd (cc)
+at_set (z ∷ zs) zero y zero x at = inl (refl, sym (same_Some y x at))
+at_set (z ∷ zs) zero y (suc k) x at = inr (λ same. omega (arith, same), at)
+at_set (z ∷ zs) (suc i) y zero x at = inr (λ same. omega (arith, same), at)
+at_set (z ∷ zs) (suc i) y (suc k) x at = elim (at_set zs i y k x at) [
+  | inl it ↦ inl (ap suc it.0, it.1)
+  | inr it ↦ inr (λ same. it.0 (omega (arith, same)), it.1)
+]
+
+-- what holds of all holds in each place
+pub all_at : {X : Type 0} (P : X → Type 0) (xs : List X) (k : ℕ) (x : X) → All P xs → slice_get xs k ≡ Some x → P x
+all_at P [] k x all at = absurd (cc)
+all_at P (y ∷ ys) zero x all at = subst P (same_Some y x at) (All-head P y ys all)
+all_at P (y ∷ ys) (suc k) x all at = all_at P ys k x (All-tail P y ys all) at
+
+some_map : {X Y : Type 0} (f : X → Y) (o : Option X) (y : Y) → option_map f o ≡ Some y → (x : X) × (o ≡ Some x) × (f x ≡ y)
+some_map f None y is = absurd (cc)
+some_map f (Some x) y is = (x, refl, same_Some (f x) y is)
+
+-- a place of a mapped list
+pub at_map : {X Y : Type 0} (f : X → Y) (xs : List X) (k : ℕ) (y : Y) → slice_get (map f xs) k ≡ Some y → (x : X) × (slice_get xs k ≡ Some x) × (f x ≡ y)
+at_map f xs k y at = some_map f (slice_get xs k) y (sym (slice_get-map f xs k) ∙ at)
+
+pub map_at : {X Y : Type 0} (f : X → Y) (xs : List X) (k : ℕ) (x : X) → slice_get xs k ≡ Some x → slice_get (map f xs) k ≡ Some (f x)
+map_at f xs k x at = slice_get-map f xs k ∙ ap (option_map f) at
+
+-- a place of two lists that f can't tell apart
+pub same_at :
+    {X Y : Type 0} (f : X → Y) (xs ys : List X) (k : ℕ) (y : X) → map f xs ≡ map f ys → slice_get ys k ≡ Some y
+    → (x : X) × (slice_get xs k ≡ Some x) × (f x ≡ f y)
+same_at f xs ys k y same at = at_map f xs k (f y) (ap (λ (l : List _). slice_get l k) same ∙ map_at f ys k y at)
+
+-- what f gives at a place stays, where it is the same of what is written there
+pub kept : {X Y : Type 0} (f : X → Y) (xs : List X) (ys : List Y) (i : ℕ) (y d : X) → map f xs ≡ ys → f y ≡ f (get_or xs i d) → map f (set xs i y) ≡ ys
+kept f xs ys i y d same e = map-set_same f xs i y d e ∙ same
+
+-- where two lists have the same by f and by g, so has each place
+pub both_at :
+    {X Y Z : Type 0} (f : X → Z) (g : Y → Z) (xs : List X) (ys : List Y) (i : ℕ) (x : X) (y : Y) → map f xs ≡ map g ys → i < length xs → i < length ys
+    → f (get_or xs i x) ≡ g (get_or ys i y)
+both_at f g xs ys i x y same less below =
+    sym (get_or-map f xs i x (f x) less) ∙ ap (λ (l : List _). get_or l i (f x)) same ∙ get_or-map g ys i y (f x) below
+
+-- two lists that are the same by f and by g are as long
+pub as_long : {X Y Z : Type 0} (f : X → Z) (g : Y → Z) (xs : List X) (ys : List Y) → map f xs ≡ map g ys → length xs ≡ length ys
+as_long f g xs ys same = sym (length-map xs f) ∙ ap length same ∙ length-map ys g
+
+-- the place that was written
+pub here_set : {X : Type 0} (xs : List X) (i : ℕ) (y : X) → i < length xs → slice_get (set xs i y) i ≡ Some y
+here_set xs i y less =
+    slice_get-get_or (set xs i y) i y (omega (arith, less, length-set xs i y)) ∙ ap Some (get_or-set_same xs i y y less)
+
+pub mapped : {X Y Z : Type 0} (f : X → Y) (g : Y → Z) (xs : List X) → map g (map f xs) ≡ map (λ x. g (f x)) xs
+mapped f g [] = refl
+mapped f g (x ∷ xs) = ap (λ ys. g (f x) ∷ ys) (mapped f g xs)
+
+-- each place of a list has something
+pub there_is : {X : Type 0} (xs : List X) (i : ℕ) → i < length xs → (x : X) × (slice_get xs i ≡ Some x)
+there_is [] i less = absurd (omega (arith, less))
+there_is (x ∷ xs) zero less = (x, refl)
+there_is (x ∷ xs) (suc i) less = there_is xs i (omega (arith, less))

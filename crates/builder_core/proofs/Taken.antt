@@ -1,0 +1,131 @@
+-- What a worker's digest leaves, as callers see it.
+use Rattle.std.proofs.Common.{◌≡◌, ℕ, ◌+◌, ◌<◌, ◌≤◌, List, [], ◌∷◌, ◌++◌, length, map, take, set, Option, Some, None, Result, Ok, Err, OnErr, IfOk, refl, sym, ap, ◌∙◌, subst, arith}
+use Rattle.std.specs.Prelude.{min}
+use Rattle.std.specs.List.{slice_get}
+use Rattle.std.proofs.lemmas.List.{set-get_or}
+use Rattle.std.proofs.lemmas.Option.{same_Some}
+use Rattle.keybytes.specs.declared.fault.Fault.{Fault}
+use Rattle.side_file.specs.Ends.{PutEnd}
+use Rattle.building.specs.ImagePairs.{HavePairs}
+use Rattle.building.specs.Work.{next_images, after_digest}
+use Rattle.building.specs.WorkerValue.{WorkerValue}
+use Rattle.building.specs.declared.copied.Copied.{Copied}
+use Rattle.building.proofs.Taking.{next_count}
+use Rattle.builder_core.specs.Builds.{LiveValue, BuildingValue, WorkValue, IsRunning, SeesRing, WorksOn, worker_state, work_state, core_state, index_state}
+use Rattle.builder_core.specs.CoreState.{BuildState, CoreState, WorkerState, WorkState}
+use Rattle.builder_core.specs.Rings.{all_sent, ArePut}
+use Rattle.builder_core.specs.Steps.{OnBuild, Digests, next_copies, after_digest as digested}
+use Rattle.builder_core.specs.Workers.{waiting, worker_at}
+use Rattle.builder_core.specs.Working.{HasTaken, IsSpoiled, one_copy}
+use Rattle.builder_core.proofs.Refusals.{state_of, state_is, waiting_is, worker_there}
+use Rattle.builder_core.proofs.Takes.{digested_works, spoiled_works, states_set}
+use Rattle.builder_core.proofs.Places.{map_at}
+
+module _
+    (live : LiveValue) (building new : BuildingValue) (b : BuildState) (w : WorkValue) (run : IsRunning live building b w) (fine : w.spoiled ≡ None)
+    (put : ArePut live.state.heap.schema live.state.heap.log b (all_sent live.pages)) (k : ℕ) (sent : List Copied) (it : WorkerValue) (less : k < b.workers)
+    (there : slice_get (all_sent live.pages) k ≡ Some sent) (at : slice_get building.workers k ≡ Some it)
+    (in_order : it.end.received ++ it.end.known ≡ sent) (some : 1 ≤ length it.end.known) (images : ℕ)
+    (taken : HasTaken k one_copy (λ v. v) building images new) where
+  same_it : taken.it ≡ it
+  same_it = same_Some taken.it it (sym taken.there ∙ at)
+
+  same_work : taken.work ≡ w
+  same_work = same_Some taken.work w (sym taken.runs ∙ run.work_is)
+
+  have : HavePairs w.spec (next_images 1 it) taken.made
+  have =
+      subst (λ (v : WorkValue). HavePairs v.spec (next_images 1 it) taken.made) same_work
+      (subst (λ (v : WorkerValue). HavePairs taken.work.spec (next_images 1 v) taken.made) same_it taken.have)
+
+  left : new ≡ record building { workers = set building.workers k (after_digest 1 taken.made it) }
+  left = taken.left ∙ ap (λ (v : WorkerValue). record building { workers = set building.workers k (after_digest 1 taken.made v) }) same_it
+
+  pub taken_works : WorksOn live new
+  taken_works =
+      subst (WorksOn live) (sym left)
+      (digested_works live building b w run fine put k sent it less there at in_order 1 taken.made have)
+
+  one : length (next_images 1 it) ≡ 1
+  one = next_count b.number w.spec sent it (run.at_work.taking fine k sent it less there at) 1 in_order some
+
+  abbrev before : WorkState
+  before = work_state building.workers building.work
+
+  waits_one : next_copies b before k ≡ 1
+  waits_one =
+      let waits = waiting_is live building b w run fine put k sent it less there at it.end.known in_order in
+      omega (arith, waits, some)
+
+  -- the worker's state, and that of all
+  abbrev next_state : WorkerState
+  next_state = record (worker_at before k) { taken = (worker_at before k).taken + next_copies b before k }
+
+  worker_is : worker_state (after_digest 1 taken.made it) ≡ next_state
+  worker_is =
+      ap (λ (n : ℕ). counted n) (one ∙ sym waits_one)
+      ∙ sym (ap (λ (s : WorkerState). record s { taken = s.taken + next_copies b before k })
+      (worker_there live building b w run fine put k less it at)) where
+        counted : ℕ → WorkerState
+        counted n = record { taken = it.taken + n; sealed = it.sealed }
+
+  abbrev changed : BuildingValue
+  changed = record building { workers = set building.workers k (after_digest 1 taken.made it) }
+
+  abbrev with_states : List WorkerState → WorkState
+  with_states states = record { workers = states; indexes = index_state w.tree ∷ []; spoiled = None }
+
+  work_is : work_state changed.workers building.work ≡ digested b before k
+  work_is =
+      state_is changed w run.work_is fine
+      ∙ ap with_states (states_set w.workers k building.workers (after_digest 1 taken.made it) (omega (arith, less, run.on.workers)))
+      ∙ ap (λ (s : WorkerState). with_states (set (map worker_state (take w.workers building.workers)) k s)) worker_is
+      ∙ sym (ap (λ (s : WorkState). record s { workers = set s.workers k next_state }) (state_is building w run.work_is fine))
+
+  pub digests : Digests k (core_state live building) images (core_state live new)
+  digests =
+      subst (λ (o : Option BuildState). OnBuild o (λ x. (images ≡ next_copies x before k) × (core_state live new ≡ record { live = live.state; work = digested x before k })))
+      (sym run.build_is) (
+        taken.counted ∙ ap (λ (v : WorkerValue). length (next_images 1 v)) same_it ∙ one ∙ sym waits_one,
+        ap (core_state live) left ∙ ap (λ (s : WorkState). record { live = live.state; work = s }) work_is,
+      )
+
+-- whatever the digest answered, all goes on
+pub works_after :
+    (live : LiveValue) (building new : BuildingValue) (b : BuildState) (w : WorkValue) (run : IsRunning live building b w) (fine : w.spoiled ≡ None)
+    (put : ArePut live.state.heap.schema live.state.heap.log b (all_sent live.pages)) (k : ℕ) (less : k < b.workers) (answer : Result ℕ Fault) (count : ℕ)
+    (sees : SeesRing k count live building) → 1 ≤ count → IfOk answer (λ images. HasTaken k one_copy (λ v. v) building images new)
+    → OnErr answer (IsSpoiled building new) → WorksOn live new
+works_after live building new b w run fine put k less (Ok images) count sees some taken spoiled =
+    taken_works live building new b w run fine put k sees.end.sent sees.it less (map_at (λ (end : PutEnd Copied). end.sent) live.pages k sees.end sees.ring) sees.there
+    sees.in_order (omega (arith, some, sees.seen)) images taken
+works_after live building new b w run fine put k less (Err fault) count sees some taken spoiled = spoiled_works live building new b w run spoiled
+
+pub digests_after :
+    (live : LiveValue) (building new : BuildingValue) (b : BuildState) (w : WorkValue) (run : IsRunning live building b w) (fine : w.spoiled ≡ None)
+    (put : ArePut live.state.heap.schema live.state.heap.log b (all_sent live.pages)) (k : ℕ) (less : k < b.workers) (answer : Result ℕ Fault) (count : ℕ)
+    (sees : SeesRing k count live building) → 1 ≤ count → IfOk answer (λ images. HasTaken k one_copy (λ v. v) building images new)
+    → IfOk answer (λ images. Digests k (core_state live building) images (core_state live new))
+digests_after live building new b w run fine put k less (Ok images) count sees some taken =
+    digests live building new b w run fine put k sees.end.sent sees.it less (map_at (λ (end : PutEnd Copied). end.sent) live.pages k sees.end sees.ring) sees.there
+    sees.in_order (omega (arith, some, sees.seen)) images taken
+digests_after live building new b w run fine put k less (Err fault) count sees some taken = tt
+
+-- where no copy waits it takes none
+pub digests_none :
+    (live : LiveValue) (building : BuildingValue) (b : BuildState) (w : WorkValue) (run : IsRunning live building b w) (fine : w.spoiled ≡ None)
+    (put : ArePut live.state.heap.schema live.state.heap.log b (all_sent live.pages)) (k : ℕ) (less : k < b.workers) (count : ℕ)
+    (sees : SeesRing k count live building) → count ≡ 0 → Digests k (core_state live building) 0 (core_state live building)
+digests_none live building b w run fine put k less count sees none =
+    let before : WorkState = work_state building.workers building.work in
+    let there = map_at (λ (end : PutEnd Copied). end.sent) live.pages k sees.end sees.ring in
+    let waits = waiting_is live building b w run fine put k sees.end.sent sees.it less there sees.there sees.it.end.known sees.in_order in
+    let nothing : next_copies b before k ≡ 0 = omega (arith, waits, sees.seen, none) in
+    let old : WorkerState = worker_at before k in
+    let same : record old { taken = old.taken + next_copies b before k } ≡ old =
+    ap (λ (n : ℕ). record old { taken = n }) (omega (arith, nothing)) in
+    let state : before ≡ digested b before k =
+    sym (ap (λ (s : WorkerState). record before { workers = set before.workers k s }) same
+    ∙ ap (λ ws. record before { workers = ws }) (set-get_or before.workers k (record { taken = 0; sealed = 0 }))) in
+    subst (λ (o : Option BuildState). OnBuild o (λ x. (0 ≡ next_copies x before k) × (core_state live building ≡ record { live = live.state; work = digested x before k })))
+    (sym run.build_is) (sym nothing, ap (λ (s : WorkState). record { live = live.state; work = s }) state)

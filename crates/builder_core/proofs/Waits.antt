@@ -1,0 +1,130 @@
+-- What waits for a worker, and what it has not sealed, by what its ring was sent.
+use Rattle.std.proofs.Common.{◌≡◌, ℕ, zero, suc, ◌+◌, ◌-◌, ◌%◌, ◌<◌, ◌≤◌, ◌==◌, Bool, true, false, List, [], ◌∷◌, ◌++◌, length, map, take, take_all, drop, get_or, Some, None, refl, sym, ap, ap₂, ◌∙◌, subst, arith, length-append}
+use Rattle.std.specs.Prelude.{◌&&◌, flat_map}
+use Rattle.std.specs.List.{slice_get, list_all}
+use Rattle.std.proofs.lemmas.Bool.{and_parts, and_from, eq-eqb, eqb-true}
+use Rattle.std.proofs.lemmas.List.{append_cancel_left, take-append-le, nil_from_length, append-nil}
+use Rattle.std.proofs.lemmas.Option.{same_Some}
+use Rattle.keybytes.specs.Keys.{KeySpecValue}
+use Rattle.keybytes.specs.declared.kind.Kind.{Kind}
+use Rattle.keybytes.specs.declared.pair.Pair.{Pair}
+use Rattle.heap_log.specs.declared.record.LogRec.{LogRec}
+use Rattle.heap_table.specs.Images.{ImageValue}
+use Rattle.building.specs.Copies.{images_of}
+use Rattle.building.specs.ImagePairs.{HavePairs}
+use Rattle.building.specs.Taking.{IsTaking, HoldsPairs, received_images}
+use Rattle.building.specs.WorkerValue.{WorkerValue}
+use Rattle.building.specs.declared.copied.Copied.{Copied}
+use Rattle.building.proofs.ManyPairs.{images-append}
+use Rattle.building.proofs.SamePairs.{have_same}
+use Rattle.building.proofs.Taking.{own_images, sent_count}
+use Rattle.builder_core.specs.Builds.{worker_state}
+use Rattle.builder_core.specs.CoreState.{BuildState, WorkerState, scanning_of}
+use Rattle.builder_core.specs.Rings.{IsQuiet}
+use Rattle.builder_core.specs.Scanning.{AreCopies, pairs_at_scan}
+use Rattle.builder_core.specs.Workers.{put_to, unsealed_pairs, fill_runs, is_quiet}
+use Rattle.builder_core.specs.declared.scan.Scan.{Scan}
+use Rattle.builder_core.proofs.Copies.{copies_count}
+use Rattle.builder_core.proofs.CopyPairs.{copies_pairs}
+
+-- the first copies, and the others
+copies_take : (kinds : List Kind) (log : List LogRec) (n : ℕ) (scans : List Scan) (images : List ImageValue) → AreCopies kinds log scans images → AreCopies kinds log (take n scans) (take n images)
+copies_take kinds log zero scans images copies = tt
+copies_take kinds log (suc n) [] [] copies = tt
+copies_take kinds log (suc n) [] (i ∷ is) copies = absurd copies
+copies_take kinds log (suc n) (s ∷ ss) [] copies = absurd copies
+copies_take kinds log (suc n) (s ∷ ss) (i ∷ is) copies = (copies.0, copies_take kinds log n ss is copies.1)
+
+copies_drop : (kinds : List Kind) (log : List LogRec) (n : ℕ) (scans : List Scan) (images : List ImageValue) → AreCopies kinds log scans images → AreCopies kinds log (drop n scans) (drop n images)
+copies_drop kinds log zero scans images copies = copies
+copies_drop kinds log (suc n) [] [] copies = tt
+copies_drop kinds log (suc n) [] (i ∷ is) copies = absurd copies
+copies_drop kinds log (suc n) (s ∷ ss) [] copies = absurd copies
+copies_drop kinds log (suc n) (s ∷ ss) (i ∷ is) copies = copies_drop kinds log n ss is copies.1
+
+and_true : (b : Bool) → (b && true) ≡ b
+and_true true = refl
+and_true false = refl
+
+-- the state of a worker among those of all
+pub state_at :
+    (count k : ℕ) (workers : List WorkerValue) (worker : WorkerValue) (other : WorkerState) → k < count → slice_get workers k ≡ Some worker
+    → get_or (map worker_state (take count workers)) k other ≡ worker_state worker
+state_at count k [] worker other less at = absurd (cc)
+state_at zero k (w ∷ ws) worker other less at = absurd (omega (arith, less))
+state_at (suc count) zero (w ∷ ws) worker other less at = ap worker_state (same_Some w worker at)
+state_at (suc count) (suc k) (w ∷ ws) worker other less at = state_at count k ws worker other (omega (arith, less)) at
+
+module _
+    (kinds : List Kind) (log : List LogRec) (b : BuildState) (spec : KeySpecValue) (k : ℕ) (sent : List Copied) (worker : WorkerValue)
+    (columns : spec.kinds ≡ kinds) (copies : AreCopies kinds log (put_to b k) (images_of b.number sent)) (taking : IsTaking b.number spec sent worker) where
+  -- the images that it received, and the others
+  parts : images_of b.number sent ≡ received_images worker ++ images_of b.number taking.rest
+  parts =
+      ap (images_of b.number) (sym taking.in_order) ∙ images-append b.number worker.end.received taking.rest
+      ∙ ap (λ n. images_of n worker.end.received ++ images_of b.number taking.rest) (sym taking.of_build)
+
+  counted : length (put_to b k) ≡ worker.taken + length (images_of b.number taking.rest)
+  counted =
+      let count = copies_count kinds log (put_to b k) (images_of b.number sent) copies in
+      omega (arith, count, ap length parts, length-append (received_images worker) (images_of b.number taking.rest), taking.taken)
+
+  first_images : take worker.taken (images_of b.number sent) ≡ received_images worker
+  first_images =
+      ap (take worker.taken) parts
+      ∙ ap (λ n. take n (received_images worker ++ images_of b.number taking.rest)) taking.taken
+      ∙ take-append-le (length (received_images worker)) (received_images worker) (images_of b.number taking.rest) (omega arith)
+      ∙ take_all (length (received_images worker)) (received_images worker) (omega arith)
+
+  -- copies of the first scans for it
+  pub received_copies : AreCopies kinds log (take worker.taken (put_to b k)) (received_images worker)
+  received_copies =
+      subst (AreCopies kinds log (take worker.taken (put_to b k))) first_images
+      (copies_take kinds log worker.taken (put_to b k) (images_of b.number sent) copies)
+
+  -- what waits is what it sees in its ring
+  pub waits : (known : List Copied) → worker.end.received ++ known ≡ sent → length (put_to b k) - worker.taken ≡ length known
+  waits known in_order =
+      let count = copies_count kinds log (put_to b k) (images_of b.number sent) copies in
+      let all = sent_count b.number spec sent worker taking known in_order in
+      omega (arith, count, all)
+
+  -- the pairs that it holds
+  pub held_pairs : HoldsPairs spec worker → worker.pairs ≡ flat_map (pairs_at_scan (scanning_of b spec) log) (take worker.taken (put_to b k))
+  held_pairs held =
+      have_same spec (received_images worker) worker.pairs _ held
+      (copies_pairs (scanning_of b spec) kinds log (take worker.taken (put_to b k)) (received_images worker) columns received_copies)
+
+  unsealed : taking.last ≡ unsealed_pairs b log k (worker_state worker) spec
+  unsealed =
+      have_same spec (drop worker.sealed (received_images worker)) taking.last _ taking.since_seal
+      (copies_pairs (scanning_of b spec) kinds log (drop worker.sealed (take worker.taken (put_to b k))) (drop worker.sealed (received_images worker)) columns
+      (copies_drop kinds log worker.sealed (take worker.taken (put_to b k)) (received_images worker) received_copies))
+
+  runs : worker.open_pairs ≡ length (unsealed_pairs b log k (worker_state worker) spec) % 4096
+  runs = taking.open_run ∙ ap (λ (ps : List Pair). length ps % 4096) unsealed
+
+  only_spec : b.specs ≡ spec ∷ [] → list_all (λ s. fill_runs (unsealed_pairs b log k (worker_state worker) s)) b.specs ≡ fill_runs (unsealed_pairs b log k (worker_state worker) spec)
+  only_spec one = ap (list_all (λ s. fill_runs (unsealed_pairs b log k (worker_state worker) s))) one ∙ and_true (fill_runs (unsealed_pairs b log k (worker_state worker) spec))
+
+  -- a worker that took all, and whose run is closed, is quiet
+  pub quiet_is : b.specs ≡ spec ∷ [] → IsQuiet sent worker → is_quiet b log k (worker_state worker) ≡ true
+  quiet_is one quiet =
+      let none : taking.rest ≡ [] = append_cancel_left worker.end.received taking.rest [] (taking.in_order ∙ sym quiet.taken ∙ sym (append-nil worker.end.received)) in
+      let all : worker.taken ≡ length (put_to b k) = let rest = ap (λ (cs : List Copied). length (images_of b.number cs)) none in omega (arith, counted, rest) in
+      let closed : (length (unsealed_pairs b log k (worker_state worker) spec) % 4096 == 0) ≡ true =
+      eq-eqb (length (unsealed_pairs b log k (worker_state worker) spec) % 4096) 0 (sym runs ∙ quiet.closed) in
+      and_from (worker.taken == length (put_to b k)) (list_all (λ s. fill_runs (unsealed_pairs b log k (worker_state worker) s)) b.specs)
+      (eq-eqb worker.taken (length (put_to b k)) all) (only_spec one ∙ closed)
+
+  -- and only such a one
+  pub is_quiet-quiet : b.specs ≡ spec ∷ [] → is_quiet b log k (worker_state worker) ≡ true → IsQuiet sent worker
+  is_quiet-quiet one is =
+      let both = and_parts (worker.taken == length (put_to b k)) (list_all (λ s. fill_runs (unsealed_pairs b log k (worker_state worker) s)) b.specs) is in
+      let all : worker.taken ≡ length (put_to b k) = eqb-true worker.taken (length (put_to b k)) both.0 in
+      let own = own_images b.number taking.rest taking.own in
+      let none : taking.rest ≡ [] = nil_from_length taking.rest (omega (arith, all, counted, own)) in
+      record {
+        taken = sym (append-nil worker.end.received) ∙ ap (λ cs. worker.end.received ++ cs) (sym none) ∙ taking.in_order;
+        closed = runs ∙ eqb-true (length (unsealed_pairs b log k (worker_state worker) spec) % 4096) 0 (sym (only_spec one) ∙ both.1);
+      }

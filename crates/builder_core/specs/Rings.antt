@@ -1,0 +1,99 @@
+-- The rings between a table and the workers of its build: what was put for whom, and what each worker has of it.
+use Rattle.std.specs.Prelude.{◌≡◌, ℕ, ◌<◌, ◌≤◌, List, [], ◌∷◌, length, map, Option, Some, None}
+use Rattle.std.specs.List.{All, slice_get}
+use Rattle.keybytes.specs.Keys.{KeySpecValue}
+use Rattle.keybytes.specs.declared.kind.Kind.{Kind}
+use Rattle.heap_log.specs.declared.record.LogRec.{LogRec}
+use Rattle.side_file.specs.Ends.{PutEnd, RingId}
+use Rattle.side_file.specs.declared.entry.Entry.{Entry}
+use Rattle.building.specs.Copies.{images_of}
+use Rattle.building.specs.TakeEnd.{TakeEnd}
+use Rattle.building.specs.Taking.{IsTaking, HoldsPairs}
+use Rattle.building.specs.Work.{knowing, at_start}
+use Rattle.building.specs.WorkerValue.{WorkerValue}
+use Rattle.building.specs.declared.copied.Copied.{Copied}
+use Rattle.builder_core.specs.CoreState.{BuildState}
+use Rattle.builder_core.specs.Scanning.{AreCopies}
+use Rattle.builder_core.specs.Workers.{put_to}
+use Rattle.builder_core.specs.declared.scan.Scan.{Scan}
+
+-- which rings these ends that put, or these workers, have
+abbrev pub put_rings : List (PutEnd Copied) → List RingId
+put_rings pages = map (λ end. end.ring) pages
+
+abbrev pub take_rings : List WorkerValue → List RingId
+take_rings workers = map (λ worker. worker.end.ring) workers
+
+-- all that each of the rings was sent
+abbrev pub all_sent : List (PutEnd Copied) → List (List Copied)
+all_sent pages = map (λ end. end.sent) pages
+
+-- the ends that put are those of a table with these rings
+pub record ArePutEnds (page_rings side_ring : List RingId) (pages : List (PutEnd Copied)) (side : PutEnd Entry) : Type 0 where
+  pub pages_are : put_rings pages ≡ page_rings
+  pub side_is : side.ring ∷ [] ≡ side_ring
+  pub sixteen : length pages ≡ 16
+
+-- and so are the ends that take
+pub record AreTakeEnds (page_rings side_ring : List RingId) (workers : List WorkerValue) (side : TakeEnd Entry) : Type 0 where
+  pub workers_are : take_rings workers ≡ page_rings
+  pub side_is : side.ring ∷ [] ≡ side_ring
+  pub sixteen : length workers ≡ 16
+
+-- each page was copied for one of so many workers
+abbrev pub AreForWorkers : ℕ → List Scan → Type 0
+AreForWorkers workers scans = All (λ scan. scan.worker < workers) scans
+
+-- each ring was sent one copy for each scan for its worker, in order, and no other copy of that build
+abbrev pub ArePut : List Kind → List LogRec → BuildState → List (List Copied) → Type 0
+ArePut kinds log b all =
+    (k : ℕ) (sent : List Copied) → slice_get all k ≡ Some sent → AreCopies kinds log (put_to b k) (images_of b.number sent)
+
+-- no copy is of a build with a greater number
+abbrev pub AreOfBuilds : ℕ → List (List Copied) → Type 0
+AreOfBuilds builds all = All (λ sent. All (λ copied. copied.build ≤ builds) sent) all
+
+-- what the rings were sent for the running build, if one runs
+pub record HasPut (kinds : List Kind) (log : List LogRec) (builds : ℕ) (b : BuildState) (all : List (List Copied)) : Type 0 where
+  pub number : b.number ≤ builds
+  pub put : ArePut kinds log b all
+
+abbrev pub PagesFollow : List Kind → List LogRec → ℕ → Option BuildState → List (List Copied) → Type 0
+PagesFollow kinds log builds None all = Unit {0}
+PagesFollow kinds log builds (Some b) all = HasPut kinds log builds b all
+
+-- so many of the workers take what their rings were sent for that build
+abbrev pub AreTaking : ℕ → KeySpecValue → ℕ → List (List Copied) → List WorkerValue → Type 0
+AreTaking build spec count all workers =
+    (k : ℕ) (sent : List Copied) (worker : WorkerValue) → k < count → slice_get all k ≡ Some sent → slice_get workers k ≡ Some worker
+    → IsTaking build spec sent worker
+
+-- and hold the pairs of the copies that they took
+abbrev pub AreHolding : KeySpecValue → ℕ → List WorkerValue → Type 0
+AreHolding spec count workers = (k : ℕ) (worker : WorkerValue) → k < count → slice_get workers k ≡ Some worker → HoldsPairs spec worker
+
+-- both ends of the rings were looked at, and nothing was put or taken
+pub record AreLooked (pages : List (PutEnd Copied)) (workers : List WorkerValue) (new_pages : List (PutEnd Copied)) (new_workers : List WorkerValue) : Type 0 where
+  pub rings : put_rings new_pages ≡ put_rings pages
+  pub sent : all_sent new_pages ≡ all_sent pages
+  pub same : map (knowing []) new_workers ≡ map (knowing []) workers
+
+-- a worker that begins a build, and has taken all that its ring was sent before
+abbrev pub at_rest_on : ℕ → PutEnd Copied → WorkerValue
+at_rest_on build end = at_start build (record { ring = end.ring; received = end.sent; known = [] })
+
+-- a worker took all that its ring was sent, and has no run open
+pub record IsQuiet (sent : List Copied) (worker : WorkerValue) : Type 0 where
+  pub taken : worker.end.received ≡ sent
+  pub closed : worker.open_pairs ≡ 0
+
+-- so are the first of so many
+abbrev pub AreQuiet : ℕ → List (List Copied) → List WorkerValue → Type 0
+AreQuiet count all workers =
+    (k : ℕ) (sent : List Copied) (worker : WorkerValue) → k < count → slice_get all k ≡ Some sent → slice_get workers k ≡ Some worker
+    → IsQuiet sent worker
+
+-- the worker of that number isn't
+abbrev pub IsLoud : ℕ → List (List Copied) → List WorkerValue → Type 0
+IsLoud k all workers =
+    (sent : List Copied) (worker : WorkerValue) → slice_get all k ≡ Some sent → slice_get workers k ≡ Some worker → IsQuiet sent worker → ⊥

@@ -1,0 +1,26 @@
+use crate::Table;
+use building::Worker;
+use rtrb::Consumer;
+use side_file::Entry;
+use std::marker::{Model, PhantomData};
+
+/// The ends of a table's rings that take, each of the page rings' in the hands of a worker.
+#[derive(Drop)]
+pub struct Ends<T: Table> {
+    pub(crate) workers: Vec<Worker>,
+    pub(crate) side_end: Consumer<Entry>,
+    pub(crate) of: PhantomData<T>,
+}
+
+impl<T: Table> Model for Ends<T> {
+    ghost use Rattle.builder_core.specs.Builds.{EndsValue};
+
+    ghost Value = { EndsValue };
+
+    ghost use Rattle.building.specs.TakeEnd.{take_end};
+    ghost use Rattle.builder_core.specs.Rings.{AreTakeEnds};
+
+    ghost view = { λ ends. record { workers = ends.workers.items; side = take_end ends.side_end } };
+
+    ghost invariant = { λ ends. AreTakeEnds T.pages T.side ends.workers.items (take_end ends.side_end) };
+}

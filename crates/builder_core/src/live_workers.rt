@@ -1,0 +1,156 @@
+//! The steps of a build in which its workers have a part, with both ends of their rings at hand.
+ghost use Rattle.std.specs.Prelude.{◌≡◌, ◌++◌, ◌<◌, ◌≤◌, ◌+◌, length, slice_get, Some, None, IfSome, IfOk, IfErr, OnOk, OnErr, MatchOption, MatchResult};
+ghost use Rattle.side_file.specs.Ends.{PutEnd};
+ghost use Rattle.building.specs.WorkerValue.{WorkerValue};
+ghost use Rattle.building.specs.declared.copied.Copied.{Copied};
+ghost use Rattle.builder_core.specs.Builds.{core_state, cause_of, put_refusal, HasLooked, SeesRing, MayWork, MayLoad, WorksOn};
+ghost use Rattle.builder_core.specs.Rings.{all_sent, AreQuiet, IsLoud, PagesFollow};
+ghost use Rattle.builder_core.specs.Steps.{Digests, Seals, Loads, spoiled_by};
+ghost use Rattle.builder_core.specs.declared.event.Event.{Event};
+
+use crate::rings::{first_loud, waiting};
+use crate::{Building, Live, Table};
+use building::RING_IMAGES;
+use keybytes::Fault;
+
+impl<T: Table> Live<T> {
+    /// How many copies wait for a worker.
+    fn look(&mut self, worker: usize, building: &mut Building<T>) -> usize
+        requires { worker < 16 }
+        ensures looked { HasLooked self.old building.old self.new building.new }
+        ensures sees { SeesRing worker result self.new building.new }
+        ensures put { PagesFollow self.new.state.heap.schema self.new.state.heap.log self.new.state.builds self.new.state.build (all_sent self.new.pages) }
+    {
+        waiting(&mut self.pages, &mut building.workers, worker)
+    }
+
+    /// The lowest of so many workers for which a copy waits, or whose run is open.
+    fn look_for_loud(&mut self, count: usize, building: &mut Building<T>) -> Option<usize>
+        requires { count ≤ 16 }
+        ensures looked { HasLooked self.old building.old self.new building.new }
+        ensures loud { MatchOption result
+            (AreQuiet count (all_sent self.new.pages) building.new.workers)
+            (λ k. (k < count) × AreQuiet k (all_sent self.new.pages) building.new.workers × IsLoud k (all_sent self.new.pages) building.new.workers) }
+    {
+        first_loud(&mut self.pages, &mut building.workers, count)
+    }
+
+    /// Why a page of the range would not be copied for the worker, with both ends of the worker's ring at hand. Takes no memory.
+    pub fn check_scan(
+        &mut self,
+        range: usize,
+        worker: usize,
+        building: &mut Building<T>,
+    ) -> Result<(), Fault>
+        requires { WorksOn self.old building.old }
+        ensures accepted { OnOk result (cause_of self.old building.old (Event.Scan range worker) ≡ None) }
+        ensures refused { IfErr result (λ fault. cause_of self.old building.old (Event.Scan range worker) ≡ Some fault) }
+        ensures state { core_state self.new building.new ≡ core_state self.old building.old }
+        ensures works { WorksOn self.new building.new }
+        ensures room { OnOk result (put_refusal self.new range worker ≡ None) }
+    {
+        let (Some(build), Some(work)) = (self.build(), building.work()) else {
+            return Err(Fault::NoBuild);
+        };
+        if range >= build.ranges() || worker >= build.workers() {
+            return Err(Fault::BadCount);
+        }
+        work.check()?;
+        if build.next_page(range).is_none() {
+            return Err(Fault::RangeDone);
+        }
+        if self.look(worker, building) >= RING_IMAGES {
+            return Err(Fault::RingFull);
+        }
+        Ok(())
+    }
+
+    /// Why the worker would make no pairs. Takes no memory.
+    pub fn check_worker(&self, worker: usize, building: &Building<T>) -> Result<(), Fault>
+        requires { WorksOn self.now building.now }
+        ensures accepted { MatchResult result
+            (λ _. cause_of self.now building.now (Event.Seal worker) ≡ None)
+            (λ fault. cause_of self.now building.now (Event.Seal worker) ≡ Some fault) }
+        ensures runs { OnOk result (MayWork self.now building.now worker) }
+    {
+        let (Some(build), Some(work)) = (self.build(), building.work()) else {
+            return Err(Fault::NoBuild);
+        };
+        if worker >= build.workers() {
+            return Err(Fault::BadCount);
+        }
+        work.check()
+    }
+
+    /// Lets the worker take the next copy, if one waits, and answers how many it took. Want of memory spoils the build.
+    pub(crate) fn digest(
+        &mut self,
+        worker: usize,
+        building: &mut Building<T>,
+    ) -> Result<usize, Fault>
+        requires works { WorksOn self.old building.old }
+        requires runs { MayWork self.old building.old worker }
+        ensures digested { IfOk result (λ images. Digests worker (core_state self.old building.old) images (core_state self.new building.new)) }
+        ensures spoiled { OnErr result (core_state self.new building.new ≡ spoiled_by Fault.Memory (core_state self.old building.old)) }
+        ensures works { WorksOn self.new building.new }
+        ensures memory { IfErr result (λ fault. fault ≡ Fault.Memory) }
+    {
+        if self.look(worker, building) == 0 {
+            return Ok(0);
+        }
+        building.digest(worker, self.heap.schema())
+    }
+
+    /// Lets the worker take all copies that wait and close its run, and answers how many it took. Want of memory spoils the build.
+    pub(crate) fn seal(&mut self, worker: usize, building: &mut Building<T>) -> Result<usize, Fault>
+        requires works { WorksOn self.old building.old }
+        requires runs { MayWork self.old building.old worker }
+        ensures sealed { IfOk result (λ images. Seals worker (core_state self.old building.old) images (core_state self.new building.new)) }
+        ensures spoiled { OnErr result (core_state self.new building.new ≡ spoiled_by Fault.Memory (core_state self.old building.old)) }
+        ensures works { WorksOn self.new building.new }
+        ensures memory { IfErr result (λ fault. fault ≡ Fault.Memory) }
+    {
+        self.look(worker, building);
+        building.seal(worker, self.heap.schema())
+    }
+
+    /// Why the pairs of the index would not be put in order, with both ends of the rings at hand. Takes no memory.
+    pub fn check_load(&mut self, index: usize, building: &mut Building<T>) -> Result<(), Fault>
+        requires { WorksOn self.old building.old }
+        ensures accepted { OnOk result (cause_of self.old building.old (Event.Load index) ≡ None) }
+        ensures refused { IfErr result (λ fault. cause_of self.old building.old (Event.Load index) ≡ Some fault) }
+        ensures state { core_state self.new building.new ≡ core_state self.old building.old }
+        ensures works { WorksOn self.new building.new }
+        ensures runs { OnOk result (MayLoad self.new building.new index) }
+    {
+        let (Some(build), Some(work)) = (self.build(), building.work()) else {
+            return Err(Fault::NoBuild);
+        };
+        if index != 0 {
+            return Err(Fault::BadCount);
+        }
+        work.check()?;
+        if let Some(range) = build.first_open() {
+            return Err(Fault::NotScanned(range));
+        }
+        let count = build.workers();
+        match self.look_for_loud(count, building) {
+            Some(worker) => Err(Fault::NotSealed(worker)),
+            None => Ok(()),
+        }
+    }
+
+    /// Puts the pairs in order that the workers made, and answers how many there are; 0 where they are in order already. Want of
+    /// memory spoils the build.
+    pub(crate) fn load(&self, building: &mut Building<T>) -> Result<usize, Fault>
+        requires works { WorksOn self.now building.old }
+        requires runs { MayLoad self.now building.old 0 }
+        ensures loaded { IfOk result (λ pairs. Loads 0 (core_state self.now building.old) pairs (core_state self.now building.new)) }
+        ensures spoiled { OnErr result (core_state self.now building.new ≡ spoiled_by Fault.Memory (core_state self.now building.old)) }
+        ensures works { WorksOn self.now building.new }
+        ensures memory { IfErr result (λ fault. fault ≡ Fault.Memory) }
+    {
+        self.heap.laws();
+        building.load(self.alloc)
+    }
+}

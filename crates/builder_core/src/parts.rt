@@ -1,0 +1,107 @@
+ghost use Rattle.std.specs.Prelude.{◌≡◌, [], None, length, IfOk, IfErr};
+ghost use Rattle.builder_core.specs.Rings.{put_rings, take_rings, all_sent, AreOfBuilds};
+
+use crate::{Ends, Live, Table};
+use building::{PagePutter, Worker, page_ring};
+use heap_table::Heap;
+use keybytes::Fault;
+use rtrb::Consumer;
+use side_file::{Entry, SideFile};
+use std::alloc::Global;
+use std::marker::{Model, PhantomData};
+
+/// The most workers of a build, and so the number of rings for copies of pages.
+pub const WORKERS_MAX: usize = 16;
+
+/// A heap with the rings of all builds of its indexes, before the table has a name.
+#[derive(Drop)]
+pub struct Parts {
+    alloc: Global,
+    heap: Heap,
+    pages: Vec<PagePutter>,
+    workers: Vec<Worker>,
+    side: SideFile,
+    side_end: Consumer<Entry>,
+}
+
+impl Model for Parts {
+    ghost use Rattle.builder_core.specs.Builds.{PartsValue};
+
+    ghost Value = { PartsValue };
+
+    ghost use Rattle.std.specs.Prelude.{[], ◌∷◌};
+    ghost use Rattle.building.specs.TakeEnd.{take_end};
+    ghost use Rattle.builder_core.specs.Rings.{put_rings, all_sent, ArePutEnds, AreTakeEnds, AreOfBuilds};
+
+    ghost view = { λ parts. record { heap = parts.heap.state; pages = put_rings parts.pages.items; side = parts.side.end.ring ∷ [] } };
+
+    ghost invariant = { λ parts. ArePutEnds (put_rings parts.pages.items) (parts.side.end.ring ∷ []) parts.pages.items parts.side.end
+        × AreTakeEnds (put_rings parts.pages.items) (parts.side.end.ring ∷ []) parts.workers.items (take_end parts.side_end)
+        × AreOfBuilds 0 (all_sent parts.pages.items) };
+}
+
+impl Parts {
+    /// The rings for a heap, once for all its builds: four copies of pages for each of 16 workers, and 256 entries. Where memory
+    /// runs out the heap is handed back.
+    pub fn new(alloc: Global, heap: Heap) -> Result<Parts, (Heap, Fault)>
+        ensures ok { IfOk result (λ parts. parts.heap ≡ heap.state) }
+        ensures handed_back { IfErr result (λ back. back.0 ≡ heap) }
+        ensures memory { IfErr result (λ back. back.1 ≡ Fault.Memory) }
+    {
+        let (pages, workers) = match page_rings(alloc) {
+            Ok(rings) => rings,
+            Err(fault) => return Err((heap, fault)),
+        };
+        let (side, side_end) = match SideFile::new(alloc) {
+            Ok(ends) => ends,
+            Err(fault) => return Err((heap, fault)),
+        };
+        Ok(Parts {
+            alloc,
+            heap,
+            pages,
+            workers,
+            side,
+            side_end,
+        })
+    }
+
+    /// The table under its name, with no index and no build, and the other ends of its rings.
+    pub fn open<T: Table>(self) -> (Live<T>, Ends<T>)
+        requires pages { self.pages ≡ T.pages }
+        requires side { self.side ≡ T.side }
+        ensures live { result.0.state ≡ record { heap = self.heap; ready = []; builds = 0; build = None } }
+    {
+        let Parts {
+            alloc,
+            heap,
+            pages,
+            workers,
+            side,
+            side_end,
+        } = self;
+        let ends = Ends {
+            workers,
+            side_end,
+            of: PhantomData,
+        };
+        (Live::with_ends(alloc, heap, pages, side), ends)
+    }
+}
+
+/// New rings for copies of pages, each with the worker that takes them.
+fn page_rings(alloc: Global) -> Result<(Vec<PagePutter>, Vec<Worker>), Fault>
+    ensures rings { IfOk result (λ rings. put_rings rings.0.items ≡ take_rings rings.1.items) }
+    ensures sixteen { IfOk result (λ rings. length rings.0.items ≡ 16) }
+    ensures unused { IfOk result (λ rings. AreOfBuilds 0 (all_sent rings.0.items)) }
+    ensures memory { IfErr result (λ fault. fault ≡ Fault.Memory) }
+{
+    let mut pages = Vec::with_capacity(alloc, WORKERS_MAX)?;
+    let mut workers = Vec::with_capacity(alloc, WORKERS_MAX)?;
+    for _ in 0..WORKERS_MAX {
+        let (putter, end) = page_ring(alloc)?;
+        pages.push_reserved(putter);
+        workers.push_reserved(Worker::new(alloc, end));
+    }
+    Ok((pages, workers))
+}

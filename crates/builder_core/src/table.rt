@@ -1,0 +1,22 @@
+use std::marker::Brand;
+
+/// Names one table, as a type: the rings between it and what stands beside it. So ends of rings that were carried elsewhere are
+/// known to be its own when they come back.
+pub trait Table {
+    ghost use Rattle.std.specs.Prelude.{List};
+    ghost use Rattle.side_file.specs.Ends.{RingId};
+
+    /// The rings that copies of pages go through, one for each worker.
+    ghost pages: { List RingId };
+
+    /// The ring that the side-file's entries go through.
+    ghost side: { List RingId };
+}
+
+impl Table for Brand {
+    ghost use Rattle.std.specs.Prelude.{[]};
+
+    ghost pages = { [] };
+
+    ghost side = { [] };
+}

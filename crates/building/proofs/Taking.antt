@@ -1,0 +1,153 @@
+-- A worker goes on taking what was put for its build.
+use Rattle.std.proofs.Common.{◌≡◌, ℕ, ◌+◌, ◌%◌, ◌==◌, ◌<◌, ◌≤◌, Bool, true, List, [], ◌∷◌, ◌++◌, length, take, drop, append_assoc, append-nil, refl, sym, ap, ◌∙◌, subst, arith, length-append, take-append-drop}
+use Rattle.std.specs.Prelude.{map}
+use Rattle.std.specs.List.{All}
+use Rattle.std.proofs.lemmas.Bool.Decides.{nat_tests}
+use Rattle.std.proofs.lemmas.List.{append_cancel_left, drop-append-le, length-take}
+use Rattle.std.proofs.Math.ListN.{drop_of_length-le}
+use Rattle.std.proofs.lemmas.List.Elements.{All-head, All-tail, All-push, All-take, All-drop, All-nil}
+use Rattle.keybytes.specs.Keys.{KeySpecValue}
+use Rattle.keybytes.specs.declared.pair.Pair.{Pair}
+use Rattle.heap_table.specs.Images.{ImageValue}
+use Rattle.building.specs.declared.copied.Copied.{Copied}
+use Rattle.building.specs.Copies.{images_of}
+use Rattle.building.specs.ImagePairs.{HavePairs}
+use Rattle.building.specs.TakeEnd.{TakeEnd, after_taking}
+use Rattle.building.specs.Taking.{IsTaking, HoldsPairs, received_images}
+use Rattle.building.specs.Work.{at_start, knowing, next_images, after_digest, after_seal}
+use Rattle.building.specs.WorkerValue.{WorkerValue}
+use Rattle.building.proofs.ManyPairs.{have_append, images-append, images_none}
+use Rattle.building.proofs.Digests.{open_more}
+
+abbrev IsOwn : ℕ → Copied → Type 0
+IsOwn build copied = copied.build ≡ build
+
+-- copies of one build have an image each
+pub own_images : (build : ℕ) (copies : List Copied) → All (λ copied. copied.build ≡ build) copies → length (images_of build copies) ≡ length copies
+own_images build [] own = refl
+own_images build (copied ∷ copies) own =
+    let first : copied.build ≡ build = All-head (IsOwn build) copied copies own in
+    let is : (copied.build == build) ≡ true = grind (arith, nat_tests) in
+    let rest = own_images build copies (All-tail (IsOwn build) copied copies own) in
+    rw is (omega (arith, rest))
+
+module _ (build : ℕ) (spec : KeySpecValue) (sent : List Copied) (worker : WorkerValue) (taking : IsTaking build spec sent worker) where
+  -- what it sees in the ring is what it hasn't taken
+  pub sees_rest : (known : List Copied) → worker.end.received ++ known ≡ sent → known ≡ taking.rest
+  sees_rest known in_order = append_cancel_left worker.end.received known taking.rest (in_order ∙ sym taking.in_order)
+
+  -- and these copies are of its build
+  pub sees_own : (known : List Copied) → worker.end.received ++ known ≡ sent → All (λ copied. copied.build ≡ build) known
+  sees_own known in_order = subst (λ (copies : List Copied). All (IsOwn build) copies) (sym (sees_rest known in_order)) taking.own
+
+  -- looking at the ring changes nothing of this
+  pub looked_taking : (known : List Copied) → IsTaking build spec sent (knowing known worker)
+  looked_taking known = record {
+    of_build = taking.of_build;
+    rest = taking.rest;
+    in_order = taking.in_order;
+    own = taking.own;
+    taken = taking.taken;
+    sealed_was_taken = taking.sealed_was_taken;
+    last = taking.last;
+    since_seal = taking.since_seal;
+    open_run = taking.open_run;
+  }
+
+  -- one copy more is put
+  pub put_taking : (copied : Copied) → copied.build ≡ build → IsTaking build spec (sent ++ copied ∷ []) worker
+  put_taking copied is = record {
+    of_build = taking.of_build;
+    rest = taking.rest ++ copied ∷ [];
+    in_order = sym (append_assoc worker.end.received taking.rest (copied ∷ [])) ∙ ap (λ copies. copies ++ copied ∷ []) taking.in_order;
+    own = All-push (IsOwn build) taking.rest copied taking.own is;
+    taken = taking.taken;
+    sealed_was_taken = taking.sealed_was_taken;
+    last = taking.last;
+    since_seal = taking.since_seal;
+    open_run = taking.open_run;
+  }
+
+  -- what it took is sealed
+  pub sealed_taking : IsTaking build spec sent (after_seal worker)
+  sealed_taking = let none : drop worker.taken (received_images worker) ≡ [] = drop_of_length-le (received_images worker) (omega (arith, taking.taken)) in record {
+    of_build = taking.of_build;
+    rest = taking.rest;
+    in_order = taking.in_order;
+    own = taking.own;
+    taken = taking.taken;
+    sealed_was_taken = omega arith;
+    last = [];
+    since_seal = subst (λ (images : List ImageValue). HavePairs spec images []) (sym none) refl;
+    open_run = refl;
+  }
+
+  -- how many images of its build were put
+  pub sent_count : (known : List Copied) → worker.end.received ++ known ≡ sent → length (images_of build sent) ≡ worker.taken + length known
+  sent_count known in_order =
+      let all = ap (images_of build) (sym in_order) ∙ images-append build worker.end.received known in
+      let own = own_images build known (sees_own known in_order) in
+      let received : length (images_of build worker.end.received) ≡ length (received_images worker) =
+      ap (λ n. length (images_of n worker.end.received)) (sym taking.of_build) in
+      omega (arith, ap length all, length-append (images_of build worker.end.received) (images_of build known), own, received, taking.taken)
+
+  module _ (n : ℕ) (in_order : worker.end.received ++ worker.end.known ≡ sent) where
+    -- it has an image of its build for each copy that it sees
+    pub next_count : n ≤ length worker.end.known → length (next_images n worker) ≡ n
+    next_count few =
+        let own = All-take (IsOwn build) n worker.end.known (sees_own worker.end.known in_order) in
+        let count = own_images build (take n worker.end.known) own in
+        let taken = length-take n worker.end.known in
+        let here : length (next_images n worker) ≡ length (images_of build (take n worker.end.known)) =
+        ap (λ b. length (images_of b (take n worker.end.known))) taking.of_build in
+        omega (arith, count, taken, here, few)
+
+    -- it takes the next copies
+    pub digested_taking : (made : List Pair) → HavePairs spec (next_images n worker) made → IsTaking build spec sent (after_digest n made worker)
+    digested_taking made have =
+        let images : received_images (after_digest n made worker) ≡ received_images worker ++ next_images n worker =
+        images-append worker.build worker.end.received (take n worker.end.known) in
+        let count = length-append (received_images worker) (next_images n worker) in
+        let within : worker.sealed ≤ length (received_images worker) = omega (arith, taking.taken, taking.sealed_was_taken) in
+        let later : drop worker.sealed (received_images (after_digest n made worker)) ≡ drop worker.sealed (received_images worker) ++ next_images n worker =
+        ap (drop worker.sealed) images ∙ drop-append-le worker.sealed (received_images worker) (next_images n worker) within in
+        record {
+          of_build = taking.of_build;
+          rest = drop n worker.end.known;
+          in_order = append_assoc worker.end.received (take n worker.end.known) (drop n worker.end.known)
+              ∙ (ap (λ copies. worker.end.received ++ copies) (take-append-drop n worker.end.known) ∙ in_order);
+          own = All-drop (IsOwn build) n worker.end.known (sees_own worker.end.known in_order);
+          taken = omega (arith, taking.taken, ap length images, count);
+          sealed_was_taken = omega (arith, taking.sealed_was_taken);
+          last = taking.last ++ made;
+          since_seal = subst (λ (xs : List ImageValue). HavePairs spec xs (taking.last ++ made)) (sym later)
+              (have_append spec (drop worker.sealed (received_images worker)) (next_images n worker) taking.last made taking.since_seal have);
+          open_run = ap (λ k. (k + length made) % 4096) taking.open_run ∙ open_more (length taking.last) (length made)
+              ∙ ap (λ k. k % 4096) (sym (length-append taking.last made));
+        }
+
+-- a build begins, of which nothing was put
+pub start_taking :
+    (build : ℕ) (spec : KeySpecValue) (end : TakeEnd Copied) → All (λ copied. copied.build < build) end.received → IsTaking build spec end.received (at_start build end)
+start_taking build spec end before =
+    let none : images_of build end.received ≡ [] = images_none build end.received before in
+    record {
+      of_build = refl;
+      rest = [];
+      in_order = append-nil end.received;
+      own = All-nil (IsOwn build);
+      taken = sym (ap length none);
+      sealed_was_taken = omega arith;
+      last = [];
+      since_seal = subst (λ (images : List ImageValue). HavePairs spec images []) (sym none) refl;
+      open_run = refl;
+    }
+
+pub start_holds : (build : ℕ) (spec : KeySpecValue) (end : TakeEnd Copied) → All (λ copied. copied.build < build) end.received → HoldsPairs spec (at_start build end)
+start_holds build spec end before = subst (λ (images : List ImageValue). HavePairs spec images []) (sym (images_none build end.received before)) refl
+
+-- the image of one copy, of that build or of another
+pub own_image_of : (build : ℕ) (copied : Copied) → copied.build ≡ build → images_of build (copied ∷ []) ≡ copied.image ∷ []
+own_image_of build copied is =
+    let own : (copied.build == build) ≡ true = grind (arith, nat_tests) in
+    rw own refl
