@@ -24,7 +24,7 @@ use Rattle.builder_core.specs.SideEntries.{side_entries}
 use Rattle.builder_core.specs.SideFiles.{HasEntries}
 use Rattle.catch_up.specs.Built.{told_to}
 use Rattle.catch_up.proofs.Telling.{told_entries}
-use Rattle.keybytes.specs.Pairs.{set_of}
+use Rattle.keybytes.specs.Pairs.{AreOrdered, set_of}
 use Rattle.side_file.specs.SideFileValue.{SideFileValue}
 use Rattle.std.specs.FinMap.{keys}
 use Rattle.visibility.specs.Applied.{apply_entries}

@@ -3,7 +3,7 @@ ghost use Rattle.std.specs.Prelude.{◌≡◌, ◌<◌, ◌+◌, ◌∷◌, [], 
 ghost use Rattle.std.specs.Prelude.{true, false, vec_len, vec_capacity, ◌==◌, is_some, IsSome, IfSome, ◌≤◌, ◌-◌, ℕ};
 ghost use Rattle.rtrb.specs.Ring.{received};
 ghost use Rattle.keybytes.specs.Answered.{Answered};
-ghost use Rattle.keybytes.specs.Pairs.{set_of};
+ghost use Rattle.keybytes.specs.Pairs.{AreOrdered, set_of};
 ghost use Rattle.visibility.specs.Applied.{apply_entries};
 ghost use Rattle.side_file.specs.Ends.{ring_take};
 ghost use Rattle.catch_up.specs.Built.{told_to};
