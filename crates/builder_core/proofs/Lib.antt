@@ -17,6 +17,7 @@ pub mod Puts
 pub mod RangeScans
 pub mod Refusals
 pub mod Runs
+pub mod ScanCauses
 pub mod ScanExamples
 pub mod ScanSteps
 pub mod Seen
