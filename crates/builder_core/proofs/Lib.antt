@@ -20,6 +20,7 @@ pub mod Runs
 pub mod ScanCauses
 pub mod ScanExamples
 pub mod ScanSteps
+pub mod Sealed
 pub mod Seen
 pub mod SideFollows
 pub mod SideKept

@@ -1,0 +1,109 @@
+-- What a worker's seal leaves, as callers see it.
+use Rattle.std.proofs.Common.{◌≡◌, ℕ, ◌+◌, ◌-◌, ◌<◌, ◌≤◌, List, [], ◌∷◌, ◌++◌, length, map, take, set, Option, Some, None, Result, Ok, Err, OnErr, IfOk, refl, sym, ap, ◌∙◌, subst, arith}
+use Rattle.std.specs.List.{slice_get}
+use Rattle.std.proofs.lemmas.Option.{same_Some}
+use Rattle.keybytes.specs.declared.fault.Fault.{Fault}
+use Rattle.side_file.specs.Ends.{PutEnd}
+use Rattle.building.specs.Copies.{images_of}
+use Rattle.building.specs.ImagePairs.{HavePairs}
+use Rattle.building.specs.Work.{next_images, after_digest, after_seal}
+use Rattle.building.specs.WorkerValue.{WorkerValue}
+use Rattle.building.specs.declared.copied.Copied.{Copied}
+use Rattle.building.proofs.Taking.{next_count, sent_count}
+use Rattle.builder_core.specs.Builds.{LiveValue, BuildingValue, WorkValue, IsRunning, SeesRing, WorksOn, worker_state, work_state, core_state, index_state}
+use Rattle.builder_core.specs.CoreState.{BuildState, CoreState, WorkerState, WorkState}
+use Rattle.builder_core.specs.Rings.{all_sent, ArePut}
+use Rattle.builder_core.specs.Steps.{OnBuild, Seals, after_seal as sealed}
+use Rattle.builder_core.specs.Workers.{put_to, waiting, worker_at}
+use Rattle.builder_core.specs.Working.{HasTaken, IsSpoiled, all_copies}
+use Rattle.builder_core.proofs.Copies.{copies_count}
+use Rattle.builder_core.proofs.Refusals.{state_of, state_is, waiting_is}
+use Rattle.builder_core.proofs.Takes.{sealed_works, spoiled_works, states_set}
+use Rattle.builder_core.proofs.Places.{map_at}
+
+module _
+    (live : LiveValue) (building new : BuildingValue) (b : BuildState) (w : WorkValue) (run : IsRunning live building b w) (fine : w.spoiled ≡ None)
+    (put : ArePut live.state.heap.schema live.state.heap.log b (all_sent live.pages)) (k : ℕ) (sent : List Copied) (it : WorkerValue) (less : k < b.workers)
+    (there : slice_get (all_sent live.pages) k ≡ Some sent) (at : slice_get building.workers k ≡ Some it)
+    (in_order : it.end.received ++ it.end.known ≡ sent) (images : ℕ) (taken : HasTaken k all_copies after_seal building images new) where
+  same_it : taken.it ≡ it
+  same_it = same_Some taken.it it (sym taken.there ∙ at)
+
+  same_work : taken.work ≡ w
+  same_work = same_Some taken.work w (sym taken.runs ∙ run.work_is)
+
+  have : HavePairs w.spec (next_images (all_copies it) it) taken.made
+  have =
+      subst (λ (v : WorkValue). HavePairs v.spec (next_images (all_copies it) it) taken.made) same_work
+      (subst (λ (v : WorkerValue). HavePairs taken.work.spec (next_images (all_copies v) v) taken.made) same_it taken.have)
+
+  abbrev last : WorkerValue
+  last = after_seal (after_digest (all_copies it) taken.made it)
+
+  left : new ≡ record building { workers = set building.workers k last }
+  left = taken.left ∙ ap (λ (v : WorkerValue). record building { workers = set building.workers k (after_seal (after_digest (all_copies v) taken.made v)) }) same_it
+
+  pub sealed_on : WorksOn live new
+  sealed_on =
+      subst (WorksOn live) (sym left)
+      (sealed_works live building b w run fine put k sent it less there at in_order (all_copies it) taken.made have)
+
+  -- it took all that waited
+  all : length (next_images (all_copies it) it) ≡ length it.end.known
+  all = next_count b.number w.spec sent it (run.at_work.taking fine k sent it less there at) (all_copies it) in_order (omega arith)
+
+  abbrev before : WorkState
+  before = work_state building.workers building.work
+
+  waits : waiting b before k ≡ length it.end.known
+  waits = waiting_is live building b w run fine put k sent it less there at it.end.known in_order
+
+  -- and so all that was put to it
+  taken_all : it.taken + length (next_images (all_copies it) it) ≡ length (put_to b k)
+  taken_all =
+      let copies = copies_count live.state.heap.schema live.state.heap.log (put_to b k) (images_of b.number sent) (put k sent there) in
+      let count = sent_count b.number w.spec sent it (run.at_work.taking fine k sent it less there at) it.end.known in_order in
+      omega (arith, copies, count, all)
+
+  abbrev sealed_at : ℕ → WorkerState
+  sealed_at n = record { taken = n; sealed = n }
+
+  abbrev with_states : List WorkerState → WorkState
+  with_states states = record { workers = states; indexes = index_state w.tree ∷ []; spoiled = None }
+
+  abbrev changed : BuildingValue
+  changed = record building { workers = set building.workers k last }
+
+  work_is : work_state changed.workers building.work ≡ sealed b before k
+  work_is =
+      state_is changed w run.work_is fine
+      ∙ ap with_states (states_set w.workers k building.workers last (omega (arith, less, run.on.workers)))
+      ∙ ap (λ (n : ℕ). with_states (set (map worker_state (take w.workers building.workers)) k (sealed_at n))) taken_all
+      ∙ sym (ap (λ (s : WorkState). record s { workers = set s.workers k (sealed_at (length (put_to b k))) }) (state_is building w run.work_is fine))
+
+  pub seals : Seals k (core_state live building) images (core_state live new)
+  seals =
+      subst (λ (o : Option BuildState). OnBuild o (λ x. (images ≡ waiting x before k) × (core_state live new ≡ record { live = live.state; work = sealed x before k })))
+      (sym run.build_is) (
+        taken.counted ∙ ap (λ (v : WorkerValue). length (next_images (all_copies v) v)) same_it ∙ all ∙ sym waits,
+        ap (core_state live) left ∙ ap (λ (s : WorkState). record { live = live.state; work = s }) work_is,
+      )
+
+module _
+    (live : LiveValue) (building new : BuildingValue) (b : BuildState) (w : WorkValue) (run : IsRunning live building b w) (fine : w.spoiled ≡ None)
+    (put : ArePut live.state.heap.schema live.state.heap.log b (all_sent live.pages)) (k : ℕ) (less : k < b.workers) (count : ℕ)
+    (sees : SeesRing k count live building) where
+  there : slice_get (all_sent live.pages) k ≡ Some sees.end.sent
+  there = map_at (λ (end : PutEnd Copied). end.sent) live.pages k sees.end sees.ring
+
+  -- whatever the seal answered, all goes on
+  pub works_after_seal :
+      (answer : Result ℕ Fault) → IfOk answer (λ images. HasTaken k all_copies after_seal building images new) → OnErr answer (IsSpoiled building new) → WorksOn live new
+  works_after_seal (Ok images) taken spoiled = sealed_on live building new b w run fine put k sees.end.sent sees.it less there sees.there sees.in_order images taken
+  works_after_seal (Err fault) taken spoiled = spoiled_works live building new b w run spoiled
+
+  pub seals_after :
+      (answer : Result ℕ Fault) → IfOk answer (λ images. HasTaken k all_copies after_seal building images new)
+      → IfOk answer (λ images. Seals k (core_state live building) images (core_state live new))
+  seals_after (Ok images) taken = seals live building new b w run fine put k sees.end.sent sees.it less there sees.there sees.in_order images taken
+  seals_after (Err fault) taken = tt

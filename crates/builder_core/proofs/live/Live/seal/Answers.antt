@@ -1,0 +1,53 @@
+use Rattle.std.proofs.Common.{◌≡◌, ◌∙◌, ◌≤◌, length, ap, sym, subst, arith}
+use Rattle.std.specs.Prelude.{IfOk}
+use Rattle.side_file.specs.Ends.{PutEnd}
+use Rattle.building.specs.declared.copied.Copied.{Copied}
+use Rattle.builder_core.specs.Builds.{LiveValue, BuildingValue, core_state}
+use Rattle.builder_core.specs.CoreState.{CoreState}
+use Rattle.builder_core.specs.Steps.{Seals}
+use Rattle.builder_core.specs.Rings.{all_sent, PagesFollow}
+use Rattle.builder_core.specs.Working.{all_copies}
+use Rattle.builder_core.proofs.Looked.{state_looked, runs_looked}
+use Rattle.builder_core.proofs.Places.{map_at}
+use Rattle.builder_core.proofs.Sealed.{works_after_seal, seals_after}
+use Rattle.builder_core.proofs.Takes.{can_take, put_of}
+use Rattle.builder_core.proofs.live.Live.seal.Goals as goal
+
+pub seal-requires : goal.seal-requires
+seal-requires g c =
+    let may = c.requires.runs in
+    let live : LiveValue = c.look.new.self in
+    let building : BuildingValue = c.look.new.building in
+    let run = runs_looked c.args.self.now live c.args.building.now building may.build may.work c.look.ensures.looked may.runs in
+    let sees = c.look.ensures.sees in
+    let there = map_at (λ (end : PutEnd Copied). end.sent) live.pages c.args.worker sees.end sees.ring in
+    record {
+      work = may.work;
+      runs = run.work_is;
+      columns = run.on.columns ∙ sym (c.schema.ensures ∙ ap (λ (l : LiveValue). l.state.heap.schema) c.self.view_is);
+      it = sees.it;
+      there = sees.there;
+      seen = omega arith;
+      can = can_take live building may.build may.work run may.fine (put_of live may.build run.build_is c.look.ensures.put) c.args.worker sees.end.sent sees.it may.there there
+          sees.there sees.in_order (all_copies sees.it);
+    }
+
+pub returns-clause-works : goal.returns-clause-works
+returns-clause-works g c =
+    let may = c.requires.runs in
+    let live : LiveValue = c.look.new.self in
+    let building : BuildingValue = c.look.new.building in
+    let run = runs_looked c.args.self.now live c.args.building.now building may.build may.work c.look.ensures.looked may.runs in
+    works_after_seal live building c.seal.new.self may.build may.work run may.fine (put_of live may.build run.build_is c.look.ensures.put) c.args.worker may.there c.look.result
+    c.look.ensures.sees c.seal.result c.seal.ensures.taken c.seal.ensures.spoiled
+
+pub returns-clause-sealed : goal.returns-clause-sealed
+returns-clause-sealed g c =
+    let may = c.requires.runs in
+    let live : LiveValue = c.look.new.self in
+    let building : BuildingValue = c.look.new.building in
+    let run = runs_looked c.args.self.now live c.args.building.now building may.build may.work c.look.ensures.looked may.runs in
+    subst (λ (s : CoreState). IfOk c.seal.result (λ images. Seals c.args.worker s images (core_state live c.seal.new.self)))
+    (state_looked c.args.self.now live c.args.building.now building c.look.ensures.looked)
+    (seals_after live building c.seal.new.self may.build may.work run may.fine (put_of live may.build run.build_is c.look.ensures.put) c.args.worker may.there c.look.result
+    c.look.ensures.sees c.seal.result c.seal.ensures.taken)
