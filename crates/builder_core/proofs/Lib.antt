@@ -26,6 +26,7 @@ pub mod SideFollows
 pub mod SideKept
 pub mod SideKeys
 pub mod Sound
+pub mod Started
 pub mod Starts
 pub mod SwitchIn
 pub mod Switching

@@ -1,0 +1,118 @@
+use Rattle.std.proofs.Common.{◌≡◌, ◌∙◌, ◌+◌, ◌∷◌, [], ◌≤◌, ℕ, List, length, Some, None, refl, ap, sym, subst, arith}
+use Rattle.std.specs.Prelude.{map}
+use Rattle.keybytes.specs.Keys.{KeySpecValue}
+use Rattle.heap_table.specs.Pages.{pages_written}
+use Rattle.scan_range.specs.Cuts.{CutsValue}
+use Rattle.side_file.specs.Ends.{PutEnd}
+use Rattle.side_file.specs.SideFileValue.{SideFileValue}
+use Rattle.building.specs.TakeEnd.{take_end}
+use Rattle.building.specs.WorkerValue.{WorkerValue}
+use Rattle.building.specs.declared.copied.Copied.{Copied}
+use Rattle.builder_core.specs.Builds.{LiveValue, BuildingValue, WorkValue, IsBuildOf, core_state, work_state, build_over}
+use Rattle.builder_core.specs.Ranges.{dealing_refusal, dealt_ends}
+use Rattle.builder_core.specs.CoreState.{BuildState, LiveState, WorkState, CoreState}
+use Rattle.builder_core.specs.Rings.{all_sent, AreOfBuilds, HasPut, ArePutEnds, at_rest_on}
+use Rattle.builder_core.specs.Steps.{started, fresh_work}
+use Rattle.builder_core.proofs.Puts.{pages_started, builds_more}
+use Rattle.builder_core.proofs.SideKept.{side_opened}
+use Rattle.builder_core.proofs.Started.{build_on, build_is_on, started_follows, put_ends_started, take_ends_started, started_works}
+use Rattle.builder_core.proofs.Starts.{dealt_are_cuts, few_workers, fresh_is}
+use Rattle.builder_core.proofs.TableBuilds.{started_build}
+use Rattle.builder_core.proofs.Works.{fresh}
+use Rattle.builder_core.proofs.live.Live.start.Goals as goal
+
+abbrev opened : ℕ → KeySpecValue → ℕ → ℕ → CutsValue → BuildState
+opened number spec workers records cuts = build_over number spec workers records cuts []
+
+pub invariant_of-self : goal.invariant_of-self
+invariant_of-self g c =
+    let inside = c.self.inside in
+    let heap = inside.heap.state in
+    let plan = c.args.plan.now in
+    let spec : KeySpecValue = c.in_ok-clone-2.field-0 in
+    let build : BuildState = c.in_ok-build.build in
+    let columns : spec.kinds ≡ heap.schema =
+    ap (λ (s : KeySpecValue). s.kinds) c.in_ok-clone-2.ensures.same ∙ c.in_ok-spec.ensures.columns ∙ sym (ap (λ (l : LiveValue). l.state.heap.schema) c.self.view_is) in
+    let fit : dealing_refusal (pages_written heap.log) plan.dealing ≡ None =
+    ap (λ (l : LiveValue). dealing_refusal (pages_written l.state.heap.log) plan.dealing) c.self.view_is ∙ c.in_ok-spec.ensures.ranges in
+    let is : build ≡ build_on (inside.builds + 1) spec plan.workers heap.log plan.dealing =
+    build_is_on heap.schema heap.log build (inside.builds + 1) spec plan.workers c.records.result c.pages-pages.result c.in_ok-cuts.cuts plan.dealing c.in_ok-build.ensures.ok
+    c.records.ensures c.in_ok-cuts.ensures.ok c.pages-pages.ensures.pages in
+    let before = subst (AreOfBuilds inside.builds) (sym c.restart_all.ensures.sent) c.self.invariant.4 in (
+      c.self.invariant.0,
+      started_follows heap.schema heap.log build (inside.builds + 1) spec plan.workers c.records.result c.pages-pages.result c.in_ok-cuts.cuts plan.dealing
+          c.in_ok-build.ensures.ok c.records.ensures c.in_ok-cuts.ensures.ok c.pages-pages.ensures.pages columns c.pages-pages.ensures.limit fit
+          (few_workers c.args.self.now.state plan c.in_ok-spec.ensures.counts),
+      side_opened heap.log build c.empty_side.new.side (ap (λ (b : BuildState). b.opened) is) (ap (λ (b : BuildState). b.pages) is) (ap (λ (b : BuildState). b.scans) is)
+          (ap (λ (b : BuildState). b.fed) is) c.empty_side.ensures.left c.empty_side.ensures.fed,
+      pages_started heap.schema heap.log inside.builds build (all_sent c.restart_all.new.pages.items) (ap (λ (b : BuildState). b.number) is)
+          (ap (λ (b : BuildState). b.scans) is) before,
+      builds_more inside.builds (all_sent c.restart_all.new.pages.items) before,
+      put_ends_started g.T.Table.pages g.T.Table.side inside.pages.items c.restart_all.new.pages.items inside.side.end c.empty_side.new.side.end c.self.invariant.5
+          c.restart_all.ensures.rings c.empty_side.ensures.ring,
+    )
+
+pub invariant_of-building : goal.invariant_of-building
+invariant_of-building g c =
+    let inside = c.self.inside in
+    take_ends_started g.T.Table.pages g.T.Table.side (inside.builds + 1) c.restart_all.new.pages.items c.empty_side.new.side.end c.restart_all.new.workers.items
+    (take_end c.empty_side.new.end)
+    (put_ends_started g.T.Table.pages g.T.Table.side inside.pages.items c.restart_all.new.pages.items inside.side.end c.empty_side.new.side.end c.self.invariant.5
+    c.restart_all.ensures.rings c.empty_side.ensures.ring)
+    c.restart_all.ensures.workers c.empty_side.ensures.drained.same_ring
+
+pub returns-clause-works : goal.returns-clause-works
+returns-clause-works g c =
+    let inside = c.self.inside in
+    let heap = inside.heap.state in
+    let plan = c.args.plan.now in
+    let spec : KeySpecValue = c.in_ok-spec.spec.now in
+    let columns : spec.kinds ≡ heap.schema = c.in_ok-spec.ensures.columns ∙ sym (ap (λ (l : LiveValue). l.state.heap.schema) c.self.view_is) in
+    let fit : dealing_refusal (pages_written heap.log) plan.dealing ≡ None =
+    ap (λ (l : LiveValue). dealing_refusal (pages_written l.state.heap.log) plan.dealing) c.self.view_is ∙ c.in_ok-spec.ensures.ranges in
+    let build : c.in_ok-build.build ≡ opened (inside.builds + 1) spec plan.workers c.records.result c.in_ok-cuts.cuts =
+    c.in_ok-build.ensures.ok ∙ ap (λ s. opened (inside.builds + 1) s plan.workers c.records.result c.in_ok-cuts.cuts) c.in_ok-clone-2.ensures.same in
+    let work : c.new-work.result ≡ fresh spec plan.workers = c.new-work.ensures ∙ ap (λ s. fresh s plan.workers) c.in_ok-clone.ensures.same in
+    started_works _ _ c.in_ok-build.build c.new-work.result inside.builds spec plan.workers c.records.result c.in_ok-cuts.cuts refl refl build work
+    (started_follows heap.schema heap.log c.in_ok-build.build (inside.builds + 1) spec plan.workers c.records.result c.pages-pages.result c.in_ok-cuts.cuts plan.dealing build
+    c.records.ensures c.in_ok-cuts.ensures.ok c.pages-pages.ensures.pages columns c.pages-pages.ensures.limit fit
+    (few_workers c.args.self.now.state plan c.in_ok-spec.ensures.counts))
+    columns (subst (AreOfBuilds inside.builds) (sym c.restart_all.ensures.sent) c.self.invariant.4) c.restart_all.ensures.workers c.empty_side.ensures.drained
+
+pub returns-clause-started : goal.returns-clause-started
+returns-clause-started g c =
+    let live : LiveState = c.args.self.now.state in
+    let plan = c.args.plan.now in
+    let inside = c.self.inside in
+    let spec : KeySpecValue = c.in_ok-spec.spec.now in
+    let one : plan.specs.items ≡ spec ∷ [] = c.in_ok-spec.ensures.spec in
+    let pages : c.pages-pages.result ≡ pages_written live.heap.log = c.pages-pages.ensures.pages ∙ ap (λ (l : LiveValue). pages_written l.state.heap.log) c.self.view_is in
+    let log : c.records.result ≡ length live.heap.log = c.records.ensures ∙ ap (λ (l : LiveValue). length l.state.heap.log) c.self.view_is in
+    let cuts_of : ℕ → CutsValue = λ n. record { pages = n; ends = dealt_ends n plan.dealing } in
+    let build : c.in_ok-build.build ≡ started live plan =
+    c.in_ok-build.ensures.ok
+    ∙ ap (λ s. opened (inside.builds + 1) s plan.workers c.records.result c.in_ok-cuts.cuts) c.in_ok-clone-2.ensures.same
+    ∙ ap (λ n. opened (n + 1) spec plan.workers c.records.result c.in_ok-cuts.cuts) (ap (λ (l : LiveValue). l.state.builds) c.self.view_is)
+    ∙ ap (λ n. opened (live.builds + 1) spec plan.workers n c.in_ok-cuts.cuts) log
+    ∙ ap (opened (live.builds + 1) spec plan.workers (length live.heap.log)) (c.in_ok-cuts.ensures.ok ∙ ap cuts_of pages)
+    ∙ ap (λ (specs : List KeySpecValue). record (opened (live.builds + 1) spec plan.workers (length live.heap.log) (cuts_of (pages_written live.heap.log))) { specs = specs }) (sym one)
+    ∙ ap (λ (fed : List ℕ). record (started live plan) { fed = fed }) (sym (ap (map (λ s. 0)) one)) in
+    let new_pages : List (PutEnd Copied) = c.restart_all.new.pages.items in
+    let ends : ArePutEnds g.T.Table.pages g.T.Table.side new_pages c.empty_side.new.side.end =
+    put_ends_started g.T.Table.pages g.T.Table.side inside.pages.items new_pages inside.side.end c.empty_side.new.side.end c.self.invariant.5
+    c.restart_all.ensures.rings c.empty_side.ensures.ring in
+    let few : plan.workers ≤ length new_pages = let most = few_workers live plan c.in_ok-spec.ensures.counts in omega (arith, most, ends.sixteen) in
+    let work : work_state c.restart_all.new.workers.items (Some c.new-work.result) ≡ fresh_work plan =
+    ap (λ (ws : List WorkerValue). work_state ws (Some c.new-work.result)) c.restart_all.ensures.workers
+    ∙ ap (λ (w : WorkValue). work_state (map (at_rest_on (inside.builds + 1)) new_pages) (Some w)) (c.new-work.ensures ∙ ap (λ s. fresh s plan.workers) c.in_ok-clone.ensures.same)
+    ∙ fresh_is plan spec (inside.builds + 1) new_pages few one in
+    let Whole : LiveState → BuildState → WorkState → CoreState = λ l b w. record { live = record l { builds = l.builds + 1; build = Some b }; work = w } in
+    let old_work : WorkState = work_state c.restart_all.new.workers.items (Some c.new-work.result) in (
+      c.in_ok-spec.ensures.accepted,
+      (
+        pages,
+        ap (λ (l : LiveValue). Whole l.state c.in_ok-build.build old_work) c.self.view_is
+            ∙ ap (λ b. Whole live b old_work) build
+            ∙ ap (Whole live (started live plan)) work,
+      ),
+    )
