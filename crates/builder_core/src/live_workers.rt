@@ -150,7 +150,7 @@ impl<T: Table> Live<T> {
         ensures works { WorksOn self.now building.new }
         ensures memory { IfErr result (λ fault. fault ≡ Fault.Memory) }
     {
-        self.heap.laws();
+        let _workers = &building.workers;
         building.load(self.alloc)
     }
 }
