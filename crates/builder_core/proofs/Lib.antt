@@ -5,12 +5,15 @@ pub mod Distinct
 pub mod EntrySteps
 pub mod Examples
 pub mod Following
+pub mod LoadCauses
+pub mod Loaded
 pub mod Looked
 pub mod Looks
 pub mod Making
 pub mod NextPages
 pub mod OneRing
 pub mod OneWorker
+pub mod Partition
 pub mod Performed
 pub mod Places
 pub mod Puts

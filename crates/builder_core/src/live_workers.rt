@@ -31,6 +31,9 @@ impl<T: Table> Live<T> {
         ensures loud { MatchOption result
             (AreQuiet count (all_sent self.new.pages) building.new.workers)
             (λ k. (k < count) × AreQuiet k (all_sent self.new.pages) building.new.workers × IsLoud k (all_sent self.new.pages) building.new.workers) }
+        ensures put { PagesFollow self.new.state.heap.schema self.new.state.heap.log self.new.state.builds self.new.state.build (all_sent self.new.pages) }
+        ensures pages { length self.new.pages ≡ 16 }
+        ensures workers { length building.new.workers ≡ 16 }
     {
         first_loud(&mut self.pages, &mut building.workers, count)
     }
@@ -150,7 +153,7 @@ impl<T: Table> Live<T> {
         ensures works { WorksOn self.now building.new }
         ensures memory { IfErr result (λ fault. fault ≡ Fault.Memory) }
     {
-        self.heap.laws();
+        let _workers = &building.workers;
         building.load(self.alloc)
     }
 }

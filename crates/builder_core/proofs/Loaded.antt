@@ -1,0 +1,168 @@
+-- What a load leaves, as callers see it.
+use Rattle.std.proofs.Common.{◌≡◌, ℕ, ◌+◌, ◌-◌, ◌<◌, ◌≤◌, true, List, [], ◌∷◌, ◌++◌, length, map, take, take_all, set, Option, Some, None, Result, Ok, Err, IfOk, OnErr, if◌then◌else◌, refl, sym, ap, ◌∙◌, subst, arith}
+use Rattle.std.specs.Prelude.{is_some, flat_map, IsPermutation}
+use Rattle.std.specs.List.{slice_get}
+use Rattle.std.proofs.lemmas.Bool.{false≢true}
+use Rattle.std.proofs.lemmas.List.{append-nil}
+use Rattle.std.proofs.lemmas.List.Sorted.{IsPermutation-trans, IsPermutation-sym, length_permutation}
+use Rattle.std.proofs.lemmas.Option.{same_Some}
+use Rattle.keybytes.specs.Keys.{KeySpecValue}
+use Rattle.keybytes.specs.declared.fault.Fault.{Fault}
+use Rattle.keybytes.specs.declared.pair.Pair.{Pair}
+use Rattle.heap_log.specs.declared.record.LogRec.{LogRec}
+use Rattle.side_file.specs.Ends.{PutEnd}
+use Rattle.building.specs.WorkerValue.{WorkerValue}
+use Rattle.building.specs.declared.copied.Copied.{Copied}
+use Rattle.builder_core.specs.Builds.{LiveValue, BuildingValue, WorkValue, IsRunning, WorksOn, worker_state, work_state, core_state, index_state, after_sort}
+use Rattle.builder_core.specs.CoreState.{BuildState, CoreState, WorkerState, IndexState, WorkState, scanning_of}
+use Rattle.builder_core.specs.Ranges.{open_range}
+use Rattle.builder_core.specs.Rings.{all_sent, ArePut, AreQuiet}
+use Rattle.builder_core.specs.Scanning.{Scanning, pairs_at_scan, scanned_pairs}
+use Rattle.builder_core.specs.Steps.{OnBuild, Loads, index_at, pairs_copied, after_load}
+use Rattle.builder_core.specs.Workers.{put_to}
+use Rattle.builder_core.specs.Working.{HasLoaded, HasSorted, IsSpoiled, all_emptied}
+use Rattle.builder_core.specs.declared.scan.Scan.{Scan}
+use Rattle.builder_core.proofs.AtWork.{states_same, taking_same, outlines_emptied}
+use Rattle.builder_core.proofs.Partition.{parts_together}
+use Rattle.builder_core.proofs.Places.{there_is, map_at}
+use Rattle.builder_core.proofs.Refusals.{state_of, state_is, works_with}
+use Rattle.builder_core.proofs.Takes.{spoiled_works}
+use Rattle.builder_core.proofs.Waits.{waits, held_pairs}
+use Rattle.builder_core.proofs.Works.{sorted_work_on}
+
+-- the pairs of an index in order have their number, and it applied no entry
+loaded_index : (tree : Option (List Pair)) → is_some tree ≡ true → index_state tree ≡ record { loaded = true; applied = 0 }
+loaded_index None some = absurd (false≢true some)
+loaded_index (Some pairs) some = refl
+
+module _
+    (live : LiveValue) (building : BuildingValue) (b : BuildState) (w : WorkValue) (run : IsRunning live building b w) (fine : w.spoiled ≡ None)
+    (put : ArePut live.state.heap.schema live.state.heap.log b (all_sent live.pages)) (rings : length live.pages ≡ 16) (sixteen : length building.workers ≡ 16)
+    (quiet : AreQuiet b.workers (all_sent live.pages) building.workers) (all : open_range b ≡ None) where
+  abbrev before : WorkState
+  before = work_state building.workers building.work
+
+  abbrev scanned : List Pair
+  scanned = scanned_pairs (scanning_of b w.spec) live.state.heap.log
+
+  -- a quiet worker holds the pairs of all pages that were copied for it
+  own_pairs :
+      w.tree ≡ None → (k : ℕ) (it : WorkerValue) → k < b.workers → slice_get building.workers k ≡ Some it
+      → it.pairs ≡ flat_map (pairs_at_scan (scanning_of b w.spec) live.state.heap.log) (put_to b k)
+  own_pairs none k it less at =
+      let end = there_is live.pages k (omega (arith, less, run.follows.few_workers, rings)) in
+      let sent : List Copied = end.0.sent in
+      let there : slice_get (all_sent live.pages) k ≡ Some sent = map_at (λ (e : PutEnd Copied). e.sent) live.pages k end.0 end.1 in
+      let taking = run.at_work.taking fine k sent it less there at in
+      let taken : it.end.received ++ [] ≡ sent = append-nil it.end.received ∙ (quiet k sent it less there at).taken in
+      let rest = waits live.state.heap.schema live.state.heap.log b w.spec k sent it run.on.columns (put k sent there) taking [] taken in
+      held_pairs live.state.heap.schema live.state.heap.log b w.spec k sent it run.on.columns (put k sent there) taking (run.at_work.holding fine none k it less at)
+      ∙ ap (flat_map (pairs_at_scan (scanning_of b w.spec) live.state.heap.log)) (take_all it.taken (put_to b k) (omega (arith, rest)))
+
+  -- all together hold those of all pages
+  together : w.tree ≡ None → IsPermutation (flat_map (λ (v : WorkerValue). v.pairs) (take w.workers building.workers)) scanned
+  together none =
+      subst (λ (n : ℕ). IsPermutation (flat_map (λ (v : WorkerValue). v.pairs) (take n building.workers)) scanned) (sym run.on.workers)
+      (parts_together (λ (v : WorkerValue). v.pairs) (λ (s : Scan). s.worker) (pairs_at_scan (scanning_of b w.spec) live.state.heap.log) b.scans building.workers b.workers
+      (omega (arith, run.follows.few_workers, sixteen)) run.follows.for_workers (own_pairs none))
+
+  module _ (new : BuildingValue) (count : ℕ) (none : w.tree ≡ None) (done : HasSorted w building count new) where
+    abbrev made : List Pair
+    made = flat_map (λ (v : WorkerValue). v.pairs) (take w.workers building.workers)
+
+    abbrev sorted : WorkValue
+    sorted = after_sort w done.pairs done.room
+
+    abbrev left : BuildingValue
+    left = record building { workers = all_emptied w.workers building.workers; work = Some sorted }
+
+    sorted_works : WorksOn live new
+    sorted_works =
+        subst (WorksOn live) (sym done.left)
+        (works_with live left b sorted (record {
+          build_is = run.build_is;
+          work_is = refl;
+          follows = run.follows;
+          on = sorted_work_on live.state.heap.schema live.state.heap.log b w made done.pairs done.room run.follows run.on all (together none) done.moved done.sorted;
+          at_work = record {
+            drained = run.at_work.drained;
+            taking = λ f. taking_same b.number w.spec b.workers (all_sent live.pages) building.workers (all_emptied w.workers building.workers)
+                (outlines_emptied w.workers building.workers) (run.at_work.taking fine);
+            holding = λ f no_tree. absurd (cc);
+          };
+        }))
+
+    counted : count ≡ length scanned
+    counted =
+        done.counted ∙ length_permutation scanned done.pairs
+        (IsPermutation-trans scanned made done.pairs (IsPermutation-sym made scanned (together none)) done.moved)
+
+    abbrev with_states : List WorkerState → WorkState
+    with_states states = record { workers = states; indexes = record { loaded = true; applied = 0 } ∷ []; spoiled = None }
+
+    state_left : work_state left.workers left.work ≡ after_load before 0
+    state_left =
+        state_is left sorted refl fine
+        ∙ ap with_states (states_same w.workers building.workers (all_emptied w.workers building.workers) (outlines_emptied w.workers building.workers))
+        ∙ sym (ap (λ (s : WorkState). after_load s 0) (state_is building w run.work_is fine))
+
+    answer_is : count ≡ (if (index_at before 0).loaded then 0 else pairs_copied b live.state.heap.log (slice_get b.specs 0))
+    answer_is =
+        counted
+        ∙ ap (λ (specs : List KeySpecValue). pairs_copied b live.state.heap.log (slice_get specs 0)) (sym run.on.specs)
+        ∙ ap (λ (o : Option (List Pair)). if is_some o then 0 else pairs_copied b live.state.heap.log (slice_get b.specs 0)) (sym none)
+        ∙ ap (λ (s : WorkState). if (index_at s 0).loaded then 0 else pairs_copied b live.state.heap.log (slice_get b.specs 0)) (sym (state_is building w run.work_is fine))
+
+    sorted_loads : Loads 0 (core_state live building) count (core_state live new)
+    sorted_loads =
+        subst (λ (o : Option BuildState). OnBuild o (λ x. (count ≡ (if (index_at before 0).loaded then 0 else pairs_copied x live.state.heap.log (slice_get x.specs 0)))
+        × (core_state live new ≡ record { live = live.state; work = after_load before 0 })))
+        (sym run.build_is) (
+          answer_is,
+          ap (core_state live) done.left ∙ ap (λ (s : WorkState). record { live = live.state; work = s }) state_left,
+        )
+
+  -- where they are in order already nothing changes
+  again_loads : is_some w.tree ≡ true → (count : ℕ) → count ≡ 0 → Loads 0 (core_state live building) count (core_state live building)
+  again_loads some count is =
+      let state : before ≡ after_load before 0 =
+      state_is building w run.work_is fine
+      ∙ ap (λ (i : IndexState). record (state_of building w) { indexes = i ∷ [] }) (loaded_index w.tree some ∙ sym (ap (λ (i : IndexState). record i { loaded = true }) (loaded_index w.tree some)))
+      ∙ sym (ap (λ (s : WorkState). after_load s 0) (state_is building w run.work_is fine)) in
+      let loaded : (index_at before 0).loaded ≡ true = ap (λ (s : WorkState). (index_at s 0).loaded) (state_is building w run.work_is fine) ∙ some in
+      subst (λ (o : Option BuildState). OnBuild o (λ x. (count ≡ (if (index_at before 0).loaded then 0 else pairs_copied x live.state.heap.log (slice_get x.specs 0)))
+      × (core_state live building ≡ record { live = live.state; work = after_load before 0 })))
+      (sym run.build_is)
+      (rw loaded is, ap (λ (s : WorkState). record { live = live.state; work = s }) state)
+
+  module _ (new : BuildingValue) (count : ℕ) (done : HasLoaded building count new) where
+    same : done.work ≡ w
+    same = same_Some done.work w (sym done.runs ∙ run.work_is)
+
+    first : w.tree ≡ None → HasSorted w building count new
+    first = subst (λ (v : WorkValue). v.tree ≡ None → HasSorted v building count new) same done.first
+
+    again : is_some w.tree ≡ true → (count ≡ 0) × (new ≡ building)
+    again = subst (λ (v : WorkValue). is_some v.tree ≡ true → (count ≡ 0) × (new ≡ building)) same done.again
+
+    loaded_works : (o : Option (List Pair)) → w.tree ≡ o → WorksOn live new
+    loaded_works None is = sorted_works new count is (first is)
+    loaded_works (Some pairs) is = subst (WorksOn live) (sym (again (ap is_some is)).1) (works_with live building b w run)
+
+    loaded_loads : (o : Option (List Pair)) → w.tree ≡ o → Loads 0 (core_state live building) count (core_state live new)
+    loaded_loads None is = sorted_loads new count is (first is)
+    loaded_loads (Some pairs) is =
+        let done_before = again (ap is_some is) in
+        subst (λ (n : BuildingValue). Loads 0 (core_state live building) count (core_state live n)) (sym done_before.1) (again_loads (ap is_some is) count done_before.0)
+
+  -- whatever the load answered, all goes on
+  pub works_after_load :
+      (new : BuildingValue) (answer : Result ℕ Fault) → IfOk answer (λ count. HasLoaded building count new) → OnErr answer (IsSpoiled building new) → WorksOn live new
+  works_after_load new (Ok count) done spoiled = loaded_works new count done w.tree refl
+  works_after_load new (Err fault) done spoiled = spoiled_works live building new b w run spoiled
+
+  pub loads_after :
+      (new : BuildingValue) (answer : Result ℕ Fault) → IfOk answer (λ count. HasLoaded building count new)
+      → IfOk answer (λ count. Loads 0 (core_state live building) count (core_state live new))
+  loads_after new (Ok count) done = loaded_loads new count done w.tree refl
+  loads_after new (Err fault) done = tt

@@ -1,0 +1,76 @@
+use Rattle.std.proofs.Common.{rules, ◌≡◌, ◌<◌, length, None, Option, Some, List, ℕ, ap, sym, ◌∙◌, subst, arith}
+use Rattle.keybytes.specs.declared.fault.Fault.TheVariants.{NotSealed}
+use Rattle.builder_core.specs.Builds.{LiveValue, BuildingValue, WorkValue, core_state}
+use Rattle.builder_core.specs.CoreState.{BuildState, CoreState}
+use Rattle.builder_core.specs.Ranges.{open_range}
+use Rattle.builder_core.specs.Rings.{all_sent, AreQuiet}
+use Rattle.builder_core.specs.Steps.{build_cause, load_refusal}
+use Rattle.builder_core.proofs.LoadCauses.{load_free, load_loud}
+use Rattle.builder_core.proofs.Looked.{works_looked, state_looked, runs_looked}
+use Rattle.builder_core.proofs.Refusals.{running}
+use Rattle.builder_core.proofs.Takes.{put_of}
+use Rattle.builder_core.proofs.live.Live.check_load.Goals as goal
+
+pub returns-in-Some-look_for_loud-clause-refused : goal.returns-in-Some-look_for_loud-clause-refused
+returns-in-Some-look_for_loud-clause-refused g c =
+    let old : LiveValue = c.args.self.now in
+    let live : LiveValue = c.look_for_loud.new.self in
+    let before : BuildingValue = c.args.building.now in
+    let building : BuildingValue = c.look_for_loud.new.building in
+    let b : BuildState = c.in-Some-Some.build.now in
+    let w : WorkValue = c.in-Some-Some.work.now in
+    let looked = c.look_for_loud.ensures.looked in
+    let run = runs_looked old live before building b w looked (running old before b w c.in-Some-Some.ensures.build c.in-Some-Some.ensures' c.build.ensures.follows c.requires) in
+    let all : open_range b ≡ None = search rules in
+    let loud = c.in-Some-look_for_loud.ensures.loud in
+    let worker : ℕ = c.in-Some-look_for_loud.worker in
+    let cause = load_loud live building b w run c.in_ok-check.ensures (put_of live b run.build_is c.look_for_loud.ensures.put) c.look_for_loud.ensures.pages
+        c.look_for_loud.ensures.workers worker all (omega (arith, loud.0, c.workers-count.ensures)) loud.1 loud.2 in
+    rw c.if-index-ne0.false (subst (λ (s : CoreState). build_cause s.live.build (λ x. load_refusal x s 0) ≡ Some (NotSealed worker)) (state_looked old live before building looked) cause)
+
+pub returns-in-Some-look_for_loud-clause-state : goal.returns-in-Some-look_for_loud-clause-state
+returns-in-Some-look_for_loud-clause-state g c = state_looked _ _ _ _ c.look_for_loud.ensures.looked
+
+pub returns-in-Some-look_for_loud-clause-works : goal.returns-in-Some-look_for_loud-clause-works
+returns-in-Some-look_for_loud-clause-works g c = works_looked _ _ _ _ c.look_for_loud.ensures.looked c.requires
+
+pub returns-in-None-clause-accepted : goal.returns-in-None-clause-accepted
+returns-in-None-clause-accepted g c =
+    let old : LiveValue = c.args.self.now in
+    let live : LiveValue = c.look_for_loud.new.self in
+    let before : BuildingValue = c.args.building.now in
+    let building : BuildingValue = c.look_for_loud.new.building in
+    let b : BuildState = c.in-Some-Some.build.now in
+    let w : WorkValue = c.in-Some-Some.work.now in
+    let looked = c.look_for_loud.ensures.looked in
+    let run = runs_looked old live before building b w looked (running old before b w c.in-Some-Some.ensures.build c.in-Some-Some.ensures' c.build.ensures.follows c.requires) in
+    let all : open_range b ≡ None = search rules in
+    let quiet = subst (λ (n : ℕ). AreQuiet n (all_sent live.pages) building.workers) c.workers-count.ensures c.in-None.ensures.loud in
+    let cause = load_free live building b w run c.in_ok-check.ensures (put_of live b run.build_is c.look_for_loud.ensures.put) c.look_for_loud.ensures.pages
+        c.look_for_loud.ensures.workers all quiet in
+    rw c.if-index-ne0.false (subst (λ (s : CoreState). build_cause s.live.build (λ x. load_refusal x s 0) ≡ None) (state_looked old live before building looked) cause)
+
+pub returns-in-None-clause-state : goal.returns-in-None-clause-state
+returns-in-None-clause-state g c = state_looked _ _ _ _ c.look_for_loud.ensures.looked
+
+pub returns-in-None-clause-works : goal.returns-in-None-clause-works
+returns-in-None-clause-works g c = works_looked _ _ _ _ c.look_for_loud.ensures.looked c.requires
+
+pub returns-in-None-clause-runs : goal.returns-in-None-clause-runs
+returns-in-None-clause-runs g c =
+    let old : LiveValue = c.args.self.now in
+    let live : LiveValue = c.look_for_loud.new.self in
+    let before : BuildingValue = c.args.building.now in
+    let building : BuildingValue = c.look_for_loud.new.building in
+    let b : BuildState = c.in-Some-Some.build.now in
+    let w : WorkValue = c.in-Some-Some.work.now in
+    let looked = c.look_for_loud.ensures.looked in
+    record {
+      build = b;
+      work = w;
+      runs = runs_looked old live before building b w looked (running old before b w c.in-Some-Some.ensures.build c.in-Some-Some.ensures' c.build.ensures.follows c.requires);
+      fine = c.in_ok-check.ensures;
+      only = c.if-index-ne0.false;
+      all = search rules;
+      quiet = subst (λ (n : ℕ). AreQuiet n (all_sent live.pages) building.workers) c.workers-count.ensures c.in-None.ensures.loud;
+    }
