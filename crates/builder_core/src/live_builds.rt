@@ -325,6 +325,7 @@ fn caught_up(
     ensures ordered { AreOrdered result.items }
     ensures applied { set_of result.items ≡ apply_entries (told_to number side.old.left) (set_of pairs.items) }
     ensures drained { IsDrained side.new.end (ring_take side_end.new) (received side_end.new) }
+    ensures ring { side.new.end.ring ≡ side.old.end.ring }
 {
     let mut built = Built::new(number, pairs);
     catch_up(&mut built, side, side_end);

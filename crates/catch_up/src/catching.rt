@@ -56,6 +56,7 @@ pub fn catch_up(built: &mut Built, side: &mut SideFile, ring: &mut Consumer<Entr
     ensures none_left { side.new.left ≡ [] }
     ensures all { all_appended side.new ≡ all_appended side.old }
     ensures ends { side.new.end.ring ≡ ring_take ring.new }
+    ensures same { side.new.end.ring ≡ side.old.end.ring }
     ensures drained { received ring.new ≡ side.new.end.sent }
 {
     side.laws();

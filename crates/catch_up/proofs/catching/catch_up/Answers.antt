@@ -33,6 +33,7 @@ loop-built-preserved-then-in_ring-gt0 c =
     let grows = goes_on first now known (received c.apply_known.new.ring) inv.begins done in
     record {
       ends = search rules;
+      same = search rules;
       capacity = search rules;
       whole = search rules;
       all = search rules;

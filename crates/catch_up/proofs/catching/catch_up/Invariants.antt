@@ -10,6 +10,7 @@ use Rattle.catch_up.proofs.catching.catch_up.Given as goal
 abbrev pub invariant-loop-built : goal.invariant-loop-built
 invariant-loop-built l = record {
   ends : l.side.end.ring ≡ ring_take l.ring;
+  same : l.side.end.ring ≡ l.initial.side.end.ring;
   capacity : l.side.end.capacity ≡ 256;
   whole : l.side.end.sent ++ l.side.left ≡ l.initial.side.end.sent ++ l.initial.side.left;
   all : all_appended l.side ≡ all_appended l.initial.side;
