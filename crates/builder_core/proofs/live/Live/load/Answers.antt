@@ -1,6 +1,5 @@
 use Rattle.std.proofs.Common.{◌≡◌, ◌≤◌, length, Option, IfSome, ap, sym, ◌∙◌, subst, arith}
 use Rattle.builder_core.specs.Builds.{LiveValue, BuildingValue, WorkValue}
-use Rattle.builder_core.specs.Rings.{all_sent, PagesFollow}
 use Rattle.builder_core.proofs.Loaded.{put_inside, works_after_load, loads_after}
 use Rattle.builder_core.proofs.live.Live.load.Goals as goal
 
