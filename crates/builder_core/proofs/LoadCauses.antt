@@ -1,5 +1,5 @@
 -- Why the pairs of an index are not put in order.
-use Rattle.std.proofs.Common.{◌≡◌, ℕ, zero-add, ◌+◌, ◌<◌, ◌≤◌, Bool, true, false, List, [], ◌∷◌, length, map, take, Option, Some, None, sym, ap, ◌∙◌, arith, inl, inr}
+use Rattle.std.proofs.Common.{◌≡◌, ℕ, zero-add, ◌+◌, ◌<◌, ◌≤◌, Bool, true, false, List, [], ◌∷◌, length, take, Option, Some, None, sym, ap, ◌∙◌, arith, inl, inr}
 use Rattle.std.specs.Prelude.{nat_le, not}
 use Rattle.std.specs.List.{slice_get, range_with_len}
 use Rattle.std.specs.Option.{option_map}
@@ -79,7 +79,8 @@ module _
 
     none_loud : AreQuiet b.workers (all_sent live.pages) building.workers → loud_worker b live.state.heap.log work ≡ None
     none_loud quiet =
-        ap (λ (n : ℕ). first_that is_loud (range_with_len 0 n)) count_is ∙ none_left is_loud 0 b.workers (λ k less. not_loud k b.workers less (omega arith) quiet)
+        ap (λ (n : ℕ). first_that is_loud (range_with_len 0 n)) count_is
+        ∙ none_left is_loud 0 b.workers (λ k less. not_loud k b.workers less (omega arith) quiet)
 
     first_loud :
         (k : ℕ) → k < b.workers → AreQuiet k (all_sent live.pages) building.workers → IsLoud k (all_sent live.pages) building.workers
@@ -96,7 +97,8 @@ module _
     load_cause loud all is =
         ap (λ (o : Option BuildState). build_cause o (λ x. load_refusal x (core_state live building) 0)) run.build_is
         ∙ ap (λ (specs : List KeySpecValue). load_with specs work.spoiled (open_range b) (loud_worker b live.state.heap.log work)) run.on.specs
-        ∙ ap (λ (s : WorkState). load_with (w.spec ∷ []) s.spoiled (open_range b) (loud_worker b live.state.heap.log work)) (state_is building w run.work_is fine)
+        ∙ ap (λ (s : WorkState). load_with (w.spec ∷ []) s.spoiled (open_range b) (loud_worker b live.state.heap.log work))
+        (state_is building w run.work_is fine)
         ∙ ap (λ (o : Option ℕ). load_with (w.spec ∷ []) None o (loud_worker b live.state.heap.log work)) all
         ∙ ap (load_with (w.spec ∷ []) None None) is
 

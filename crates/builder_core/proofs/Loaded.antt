@@ -1,5 +1,5 @@
 -- What a load leaves, as callers see it.
-use Rattle.std.proofs.Common.{◌≡◌, ℕ, ◌+◌, ◌-◌, ◌<◌, ◌≤◌, true, List, [], ◌∷◌, ◌++◌, length, map, take, take_all, set, Option, Some, None, Result, Ok, Err, IfOk, OnErr, if◌then◌else◌, refl, sym, ap, ◌∙◌, subst, arith}
+use Rattle.std.proofs.Common.{◌≡◌, ℕ, ◌<◌, true, List, [], ◌∷◌, ◌++◌, length, take, take_all, Option, Some, None, Result, Ok, Err, IfOk, OnErr, if◌then◌else◌, refl, sym, ap, ◌∙◌, subst, arith}
 use Rattle.std.specs.Prelude.{is_some, flat_map, IsPermutation}
 use Rattle.std.specs.List.{slice_get}
 use Rattle.std.proofs.lemmas.Bool.{false≢true}
@@ -9,15 +9,14 @@ use Rattle.std.proofs.lemmas.Option.{same_Some}
 use Rattle.keybytes.specs.Keys.{KeySpecValue}
 use Rattle.keybytes.specs.declared.fault.Fault.{Fault}
 use Rattle.keybytes.specs.declared.pair.Pair.{Pair}
-use Rattle.heap_log.specs.declared.record.LogRec.{LogRec}
 use Rattle.side_file.specs.Ends.{PutEnd}
 use Rattle.building.specs.WorkerValue.{WorkerValue}
 use Rattle.building.specs.declared.copied.Copied.{Copied}
-use Rattle.builder_core.specs.Builds.{LiveValue, BuildingValue, WorkValue, IsRunning, WorksOn, worker_state, work_state, core_state, index_state, after_sort}
-use Rattle.builder_core.specs.CoreState.{BuildState, CoreState, WorkerState, IndexState, WorkState, scanning_of}
+use Rattle.builder_core.specs.Builds.{LiveValue, BuildingValue, WorkValue, IsRunning, WorksOn, work_state, core_state, index_state, after_sort}
+use Rattle.builder_core.specs.CoreState.{BuildState, WorkerState, IndexState, WorkState, scanning_of}
 use Rattle.builder_core.specs.Ranges.{open_range}
-use Rattle.builder_core.specs.Rings.{all_sent, ArePut, AreQuiet}
-use Rattle.builder_core.specs.Scanning.{Scanning, pairs_at_scan, scanned_pairs}
+use Rattle.builder_core.specs.Rings.{all_sent, ArePut, AreQuiet, PagesFollow}
+use Rattle.builder_core.specs.Scanning.{pairs_at_scan, scanned_pairs}
 use Rattle.builder_core.specs.Steps.{OnBuild, Loads, index_at, pairs_copied, after_load}
 use Rattle.builder_core.specs.Workers.{put_to}
 use Rattle.builder_core.specs.Working.{HasLoaded, HasSorted, IsSpoiled, all_emptied}
@@ -26,14 +25,23 @@ use Rattle.builder_core.proofs.AtWork.{states_same, taking_same, outlines_emptie
 use Rattle.builder_core.proofs.Partition.{parts_together}
 use Rattle.builder_core.proofs.Places.{there_is, map_at}
 use Rattle.builder_core.proofs.Refusals.{state_of, state_is, works_with}
-use Rattle.builder_core.proofs.Takes.{spoiled_works}
+use Rattle.builder_core.proofs.Takes.{spoiled_works, put_of}
 use Rattle.builder_core.proofs.Waits.{waits, held_pairs}
 use Rattle.builder_core.proofs.Works.{sorted_work_on}
 
--- the pairs of an index in order have their number, and it applied no entry
+-- an index whose pairs are in order is loaded, and applied no entry
 loaded_index : (tree : Option (List Pair)) → is_some tree ≡ true → index_state tree ≡ record { loaded = true; applied = 0 }
 loaded_index None some = absurd (false≢true some)
 loaded_index (Some pairs) some = refl
+
+-- what was put for the running build, told of a table from within
+pub put_inside :
+    (inside live : LiveValue) (b : BuildState) → inside ≡ live → live.state.build ≡ Some b
+    → PagesFollow inside.state.heap.schema inside.state.heap.log inside.state.builds inside.state.build (all_sent inside.pages)
+    → ArePut live.state.heap.schema live.state.heap.log b (all_sent live.pages)
+put_inside inside live b same is follow =
+    put_of live b is
+    (subst (λ (l : LiveValue). PagesFollow l.state.heap.schema l.state.heap.log l.state.builds l.state.build (all_sent l.pages)) same follow)
 
 module _
     (live : LiveValue) (building : BuildingValue) (b : BuildState) (w : WorkValue) (run : IsRunning live building b w) (fine : w.spoiled ≡ None)
@@ -44,6 +52,10 @@ module _
 
   abbrev scanned : List Pair
   scanned = scanned_pairs (scanning_of b w.spec) live.state.heap.log
+
+  -- what a load of that build answers
+  abbrev load_answer : BuildState → ℕ
+  load_answer x = if (index_at before 0).loaded then 0 else pairs_copied x live.state.heap.log (slice_get x.specs 0)
 
   -- a quiet worker holds the pairs of all pages that were copied for it
   own_pairs :
@@ -56,15 +68,16 @@ module _
       let taking = run.at_work.taking fine k sent it less there at in
       let taken : it.end.received ++ [] ≡ sent = append-nil it.end.received ∙ (quiet k sent it less there at).taken in
       let rest = waits live.state.heap.schema live.state.heap.log b w.spec k sent it run.on.columns (put k sent there) taking [] taken in
-      held_pairs live.state.heap.schema live.state.heap.log b w.spec k sent it run.on.columns (put k sent there) taking (run.at_work.holding fine none k it less at)
+      held_pairs live.state.heap.schema live.state.heap.log b w.spec k sent it run.on.columns (put k sent there) taking
+      (run.at_work.holding fine none k it less at)
       ∙ ap (flat_map (pairs_at_scan (scanning_of b w.spec) live.state.heap.log)) (take_all it.taken (put_to b k) (omega (arith, rest)))
 
   -- all together hold those of all pages
   together : w.tree ≡ None → IsPermutation (flat_map (λ (v : WorkerValue). v.pairs) (take w.workers building.workers)) scanned
   together none =
       subst (λ (n : ℕ). IsPermutation (flat_map (λ (v : WorkerValue). v.pairs) (take n building.workers)) scanned) (sym run.on.workers)
-      (parts_together (λ (v : WorkerValue). v.pairs) (λ (s : Scan). s.worker) (pairs_at_scan (scanning_of b w.spec) live.state.heap.log) b.scans building.workers b.workers
-      (omega (arith, run.follows.few_workers, sixteen)) run.follows.for_workers (own_pairs none))
+      (parts_together (λ (v : WorkerValue). v.pairs) (λ (s : Scan). s.worker) (pairs_at_scan (scanning_of b w.spec) live.state.heap.log) b.scans
+      building.workers b.workers (omega (arith, run.follows.few_workers, sixteen)) run.follows.for_workers (own_pairs none))
 
   module _ (new : BuildingValue) (count : ℕ) (none : w.tree ≡ None) (done : HasSorted w building count new) where
     abbrev made : List Pair
@@ -83,7 +96,8 @@ module _
           build_is = run.build_is;
           work_is = refl;
           follows = run.follows;
-          on = sorted_work_on live.state.heap.schema live.state.heap.log b w made done.pairs done.room run.follows run.on all (together none) done.moved done.sorted;
+          on = sorted_work_on live.state.heap.schema live.state.heap.log b w made done.pairs done.room run.follows run.on all (together none)
+              done.moved done.sorted;
           at_work = record {
             drained = run.at_work.drained;
             taking = λ f. taking_same b.number w.spec b.workers (all_sent live.pages) building.workers (all_emptied w.workers building.workers)
@@ -106,16 +120,17 @@ module _
         ∙ ap with_states (states_same w.workers building.workers (all_emptied w.workers building.workers) (outlines_emptied w.workers building.workers))
         ∙ sym (ap (λ (s : WorkState). after_load s 0) (state_is building w run.work_is fine))
 
-    answer_is : count ≡ (if (index_at before 0).loaded then 0 else pairs_copied b live.state.heap.log (slice_get b.specs 0))
+    answer_is : count ≡ load_answer b
     answer_is =
         counted
         ∙ ap (λ (specs : List KeySpecValue). pairs_copied b live.state.heap.log (slice_get specs 0)) (sym run.on.specs)
         ∙ ap (λ (o : Option (List Pair)). if is_some o then 0 else pairs_copied b live.state.heap.log (slice_get b.specs 0)) (sym none)
-        ∙ ap (λ (s : WorkState). if (index_at s 0).loaded then 0 else pairs_copied b live.state.heap.log (slice_get b.specs 0)) (sym (state_is building w run.work_is fine))
+        ∙ ap (λ (s : WorkState). if (index_at s 0).loaded then 0 else pairs_copied b live.state.heap.log (slice_get b.specs 0))
+        (sym (state_is building w run.work_is fine))
 
     sorted_loads : Loads 0 (core_state live building) count (core_state live new)
     sorted_loads =
-        subst (λ (o : Option BuildState). OnBuild o (λ x. (count ≡ (if (index_at before 0).loaded then 0 else pairs_copied x live.state.heap.log (slice_get x.specs 0)))
+        subst (λ (o : Option BuildState). OnBuild o (λ x. (count ≡ load_answer x)
         × (core_state live new ≡ record { live = live.state; work = after_load before 0 })))
         (sym run.build_is) (
           answer_is,
@@ -125,12 +140,15 @@ module _
   -- where they are in order already nothing changes
   again_loads : is_some w.tree ≡ true → (count : ℕ) → count ≡ 0 → Loads 0 (core_state live building) count (core_state live building)
   again_loads some count is =
+      let index = loaded_index w.tree some in
+      let kept : index_state w.tree ≡ record (index_state w.tree) { loaded = true } =
+      index ∙ sym (ap (λ (i : IndexState). record i { loaded = true }) index) in
       let state : before ≡ after_load before 0 =
       state_is building w run.work_is fine
-      ∙ ap (λ (i : IndexState). record (state_of building w) { indexes = i ∷ [] }) (loaded_index w.tree some ∙ sym (ap (λ (i : IndexState). record i { loaded = true }) (loaded_index w.tree some)))
+      ∙ ap (λ (i : IndexState). record (state_of building w) { indexes = i ∷ [] }) kept
       ∙ sym (ap (λ (s : WorkState). after_load s 0) (state_is building w run.work_is fine)) in
       let loaded : (index_at before 0).loaded ≡ true = ap (λ (s : WorkState). (index_at s 0).loaded) (state_is building w run.work_is fine) ∙ some in
-      subst (λ (o : Option BuildState). OnBuild o (λ x. (count ≡ (if (index_at before 0).loaded then 0 else pairs_copied x live.state.heap.log (slice_get x.specs 0)))
+      subst (λ (o : Option BuildState). OnBuild o (λ x. (count ≡ load_answer x)
       × (core_state live building ≡ record { live = live.state; work = after_load before 0 })))
       (sym run.build_is)
       (rw loaded is, ap (λ (s : WorkState). record { live = live.state; work = s }) state)
@@ -153,11 +171,13 @@ module _
     loaded_loads None is = sorted_loads new count is (first is)
     loaded_loads (Some pairs) is =
         let done_before = again (ap is_some is) in
-        subst (λ (n : BuildingValue). Loads 0 (core_state live building) count (core_state live n)) (sym done_before.1) (again_loads (ap is_some is) count done_before.0)
+        subst (λ (n : BuildingValue). Loads 0 (core_state live building) count (core_state live n)) (sym done_before.1)
+        (again_loads (ap is_some is) count done_before.0)
 
   -- whatever the load answered, all goes on
   pub works_after_load :
-      (new : BuildingValue) (answer : Result ℕ Fault) → IfOk answer (λ count. HasLoaded building count new) → OnErr answer (IsSpoiled building new) → WorksOn live new
+      (new : BuildingValue) (answer : Result ℕ Fault) → IfOk answer (λ count. HasLoaded building count new) → OnErr answer (IsSpoiled building new)
+      → WorksOn live new
   works_after_load new (Ok count) done spoiled = loaded_works new count done w.tree refl
   works_after_load new (Err fault) done spoiled = spoiled_works live building new b w run spoiled
 

@@ -1,12 +1,12 @@
 -- What is made of a list in parts, one for each of so many numbers, is made of the whole.
-use Rattle.std.proofs.Common.{◌≡◌, ℕ, zero, suc, ◌+◌, ◌<◌, ◌≤◌, ◌==◌, Bool, true, false, cond, List, [], ◌∷◌, ◌++◌, length, take, filter, get_or, Option, Some, None, refl, sym, ap, ◌∙◌, subst, inl, inr, arith}
+use Rattle.std.proofs.Common.{◌≡◌, ℕ, zero, suc, ◌+◌, ◌<◌, ◌≤◌, ◌==◌, Bool, true, false, cond, List, [], ◌∷◌, ◌++◌, length, take, filter, Some, refl, sym, ap, ◌∙◌, subst, inl, inr, arith}
 use Rattle.std.specs.Prelude.{◌||◌, ◌&&◌, nat_lt, flat_map, IsPermutation}
 use Rattle.std.specs.List.{All, slice_get}
 use Rattle.std.proofs.lemmas.Bool.{cases_lt, lt-ltb, le-ltb, eq-eqb, ne_eqb}
 use Rattle.std.proofs.lemmas.List.{append_assoc, append-nil, take_more}
 use Rattle.std.proofs.lemmas.List.Concat.{flat_map-append}
 use Rattle.std.proofs.lemmas.List.Elements.{All-head, All-tail}
-use Rattle.std.proofs.lemmas.List.Sorted.{IsPermutation-refl, IsPermutation-trans, IsPermutation-append, IsPermutation-append_left, IsPermutation-append_right, IsPermutation-append_comm}
+use Rattle.std.proofs.lemmas.List.Sorted.{IsPermutation-refl, IsPermutation-trans, IsPermutation-append_left, IsPermutation-append_right, IsPermutation-append_comm}
 use Rattle.std.proofs.lemmas.Option.{get_or_from_slice_get}
 use Rattle.builder_core.proofs.Places.{there_is}
 
@@ -37,7 +37,8 @@ module _ {X Y : Type 0} (f : X → List Y) where
       → IsPermutation (flat_map f (filter p xs) ++ flat_map f (filter q xs)) (flat_map f (filter r xs))
   two_parts p q r apart either [] = IsPermutation-refl []
   two_parts p q r apart either (x ∷ xs) =
-      subst (λ (t : Bool). IsPermutation (flat_map f (filter p (x ∷ xs)) ++ flat_map f (filter q (x ∷ xs))) (flat_map f (cond t (x ∷ filter r xs) (filter r xs))))
+      subst (λ (t : Bool). IsPermutation (flat_map f (filter p (x ∷ xs)) ++ flat_map f (filter q (x ∷ xs)))
+      (flat_map f (cond t (x ∷ filter r xs) (filter r xs))))
       (sym (either x))
       (one_more (p x) (q x) x (filter p xs) (filter q xs) (filter r xs) (apart x) (two_parts p q r apart either xs))
 
@@ -73,7 +74,9 @@ module _ {W X Y : Type 0} (held : W → List Y) (number : X → ℕ) (f : X → 
   abbrev pub HoldParts : ℕ → Type 0
   HoldParts count = (k : ℕ) (w : W) → k < count → slice_get all k ≡ Some w → held w ≡ flat_map f (filter (λ x. number x == k) xs)
 
-  first_parts : (count : ℕ) → count ≤ length all → HoldParts count → IsPermutation (flat_map held (take count all)) (flat_map f (filter (λ x. nat_lt (number x) count) xs))
+  first_parts :
+      (count : ℕ) → count ≤ length all → HoldParts count
+      → IsPermutation (flat_map held (take count all)) (flat_map f (filter (λ x. nat_lt (number x) count) xs))
   first_parts zero within hold = subst (λ (l : List X). IsPermutation [] (flat_map f l)) (sym (none_below number xs)) (IsPermutation-refl [])
   first_parts (suc k) within hold =
       let it = there_is all k (omega (arith, within)) in
@@ -85,7 +88,7 @@ module _ {W X Y : Type 0} (held : W → List Y) (number : X → ℕ) (f : X → 
       ap (flat_map held) last ∙ flat_map-append held (take k all) (it.0 ∷ [])
       ∙ ap (λ ys. flat_map held (take k all) ++ ys) (append-nil (held it.0) ∙ own) in
       let both = two_parts f (λ x. nat_lt (number x) k) (λ x. number x == k) (λ x. nat_lt (number x) (suc k)) (λ x. below_apart (number x) k)
-          (λ x. ap (nat_lt (number x)) next ∙ below_next (number x) k) xs in
+      (λ x. ap (nat_lt (number x)) next ∙ below_next (number x) k) xs in
       subst (λ (l : List Y). IsPermutation l (flat_map f (filter (λ x. nat_lt (number x) (suc k)) xs))) (sym made)
       (IsPermutation-trans _ _ _
       (IsPermutation-append_left (flat_map f (filter (λ x. number x == k) xs)) (flat_map held (take k all)) (flat_map f (filter (λ x. nat_lt (number x) k) xs))
@@ -93,6 +96,8 @@ module _ {W X Y : Type 0} (held : W → List Y) (number : X → ℕ) (f : X → 
       both)
 
   -- where each element has one of these numbers, together they hold what is made of all
-  pub parts_together : (count : ℕ) → count ≤ length all → All (λ x. number x < count) xs → HoldParts count → IsPermutation (flat_map held (take count all)) (flat_map f xs)
+  pub parts_together :
+      (count : ℕ) → count ≤ length all → All (λ x. number x < count) xs → HoldParts count
+      → IsPermutation (flat_map held (take count all)) (flat_map f xs)
   parts_together count within numbered hold =
       subst (λ (l : List X). IsPermutation (flat_map held (take count all)) (flat_map f l)) (all_below number count xs numbered) (first_parts count within hold)

@@ -1,6 +1,6 @@
-use Rattle.std.proofs.Common.{rules, ◌≡◌, ◌<◌, length, None, Option, Some, List, ℕ, ap, sym, ◌∙◌, subst, arith}
+use Rattle.std.proofs.Common.{rules, ◌≡◌, None, Some, ℕ, subst, arith}
 use Rattle.keybytes.specs.declared.fault.Fault.TheVariants.{NotSealed}
-use Rattle.builder_core.specs.Builds.{LiveValue, BuildingValue, WorkValue, core_state}
+use Rattle.builder_core.specs.Builds.{LiveValue, BuildingValue, WorkValue}
 use Rattle.builder_core.specs.CoreState.{BuildState, CoreState}
 use Rattle.builder_core.specs.Ranges.{open_range}
 use Rattle.builder_core.specs.Rings.{all_sent, AreQuiet}
@@ -20,13 +20,15 @@ returns-in-Some-look_for_loud-clause-refused g c =
     let b : BuildState = c.in-Some-Some.build.now in
     let w : WorkValue = c.in-Some-Some.work.now in
     let looked = c.look_for_loud.ensures.looked in
-    let run = runs_looked old live before building b w looked (running old before b w c.in-Some-Some.ensures.build c.in-Some-Some.ensures' c.build.ensures.follows c.requires) in
+    let same = state_looked old live before building looked in
+    let was = running old before b w c.in-Some-Some.ensures.build c.in-Some-Some.ensures' c.build.ensures.follows c.requires in
+    let run = runs_looked old live before building b w looked was in
     let all : open_range b ≡ None = search rules in
     let loud = c.in-Some-look_for_loud.ensures.loud in
     let worker : ℕ = c.in-Some-look_for_loud.worker in
     let cause = load_loud live building b w run c.in_ok-check.ensures (put_of live b run.build_is c.look_for_loud.ensures.put) c.look_for_loud.ensures.pages
-        c.look_for_loud.ensures.workers worker all (omega (arith, loud.0, c.workers-count.ensures)) loud.1 loud.2 in
-    rw c.if-index-ne0.false (subst (λ (s : CoreState). build_cause s.live.build (λ x. load_refusal x s 0) ≡ Some (NotSealed worker)) (state_looked old live before building looked) cause)
+    c.look_for_loud.ensures.workers worker all (omega (arith, loud.0, c.workers-count.ensures)) loud.1 loud.2 in
+    rw c.if-index-ne0.false (subst (λ (s : CoreState). build_cause s.live.build (λ x. load_refusal x s 0) ≡ Some (NotSealed worker)) same cause)
 
 pub returns-in-Some-look_for_loud-clause-state : goal.returns-in-Some-look_for_loud-clause-state
 returns-in-Some-look_for_loud-clause-state g c = state_looked _ _ _ _ c.look_for_loud.ensures.looked
@@ -43,12 +45,14 @@ returns-in-None-clause-accepted g c =
     let b : BuildState = c.in-Some-Some.build.now in
     let w : WorkValue = c.in-Some-Some.work.now in
     let looked = c.look_for_loud.ensures.looked in
-    let run = runs_looked old live before building b w looked (running old before b w c.in-Some-Some.ensures.build c.in-Some-Some.ensures' c.build.ensures.follows c.requires) in
+    let same = state_looked old live before building looked in
+    let was = running old before b w c.in-Some-Some.ensures.build c.in-Some-Some.ensures' c.build.ensures.follows c.requires in
+    let run = runs_looked old live before building b w looked was in
     let all : open_range b ≡ None = search rules in
     let quiet = subst (λ (n : ℕ). AreQuiet n (all_sent live.pages) building.workers) c.workers-count.ensures c.in-None.ensures.loud in
     let cause = load_free live building b w run c.in_ok-check.ensures (put_of live b run.build_is c.look_for_loud.ensures.put) c.look_for_loud.ensures.pages
-        c.look_for_loud.ensures.workers all quiet in
-    rw c.if-index-ne0.false (subst (λ (s : CoreState). build_cause s.live.build (λ x. load_refusal x s 0) ≡ None) (state_looked old live before building looked) cause)
+    c.look_for_loud.ensures.workers all quiet in
+    rw c.if-index-ne0.false (subst (λ (s : CoreState). build_cause s.live.build (λ x. load_refusal x s 0) ≡ None) same cause)
 
 pub returns-in-None-clause-state : goal.returns-in-None-clause-state
 returns-in-None-clause-state g c = state_looked _ _ _ _ c.look_for_loud.ensures.looked
@@ -65,10 +69,11 @@ returns-in-None-clause-runs g c =
     let b : BuildState = c.in-Some-Some.build.now in
     let w : WorkValue = c.in-Some-Some.work.now in
     let looked = c.look_for_loud.ensures.looked in
+    let was = running old before b w c.in-Some-Some.ensures.build c.in-Some-Some.ensures' c.build.ensures.follows c.requires in
     record {
       build = b;
       work = w;
-      runs = runs_looked old live before building b w looked (running old before b w c.in-Some-Some.ensures.build c.in-Some-Some.ensures' c.build.ensures.follows c.requires);
+      runs = runs_looked old live before building b w looked was;
       fine = c.in_ok-check.ensures;
       only = c.if-index-ne0.false;
       all = search rules;

@@ -1,11 +1,6 @@
-use Rattle.std.proofs.Common.{◌≡◌, ◌≤◌, ℕ, List, length, Option, IfSome, ap, sym, ◌∙◌, subst, arith}
-use Rattle.side_file.specs.Ends.{PutEnd}
-use Rattle.building.specs.WorkerValue.{WorkerValue}
-use Rattle.building.specs.declared.copied.Copied.{Copied}
+use Rattle.std.proofs.Common.{◌≡◌, ◌≤◌, length, Option, IfSome, ap, sym, ◌∙◌, subst, arith}
 use Rattle.builder_core.specs.Builds.{LiveValue, BuildingValue, WorkValue}
-use Rattle.builder_core.specs.Rings.{all_sent, PagesFollow}
-use Rattle.builder_core.proofs.Loaded.{works_after_load, loads_after}
-use Rattle.builder_core.proofs.Takes.{put_of}
+use Rattle.builder_core.proofs.Loaded.{put_inside, works_after_load, loads_after}
 use Rattle.builder_core.proofs.live.Live.load.Goals as goal
 
 pub load-requires-clause-few : goal.load-requires-clause-few
@@ -21,10 +16,10 @@ returns-clause-loaded g c =
     let may = c.requires.runs in
     let live : LiveValue = c.args.self.now in
     let building : BuildingValue = c.args.building.now in
-    let follow = subst (λ (l : LiveValue). PagesFollow l.state.heap.schema l.state.heap.log l.state.builds l.state.build (all_sent l.pages)) c.self.view_is c.self.invariant.3 in
+    let put = put_inside _ live may.build c.self.view_is may.runs.build_is c.self.invariant.3 in
     let rings : length live.pages ≡ 16 = sym (ap (λ (l : LiveValue). length l.pages) c.self.view_is) ∙ c.self.invariant.5.sixteen in
     let sixteen : length building.workers ≡ 16 = sym (ap (λ (v : BuildingValue). length v.workers) c.building.view_is) ∙ c.building.invariant.sixteen in
-    loads_after live building may.build may.work may.runs may.fine (put_of live may.build may.runs.build_is follow) rings sixteen may.quiet may.all
+    loads_after live building may.build may.work may.runs may.fine put rings sixteen may.quiet may.all
     c.load.new.self c.load.result c.load.ensures.loaded
 
 pub returns-clause-works : goal.returns-clause-works
@@ -32,8 +27,8 @@ returns-clause-works g c =
     let may = c.requires.runs in
     let live : LiveValue = c.args.self.now in
     let building : BuildingValue = c.args.building.now in
-    let follow = subst (λ (l : LiveValue). PagesFollow l.state.heap.schema l.state.heap.log l.state.builds l.state.build (all_sent l.pages)) c.self.view_is c.self.invariant.3 in
+    let put = put_inside _ live may.build c.self.view_is may.runs.build_is c.self.invariant.3 in
     let rings : length live.pages ≡ 16 = sym (ap (λ (l : LiveValue). length l.pages) c.self.view_is) ∙ c.self.invariant.5.sixteen in
     let sixteen : length building.workers ≡ 16 = sym (ap (λ (v : BuildingValue). length v.workers) c.building.view_is) ∙ c.building.invariant.sixteen in
-    works_after_load live building may.build may.work may.runs may.fine (put_of live may.build may.runs.build_is follow) rings sixteen may.quiet may.all
+    works_after_load live building may.build may.work may.runs may.fine put rings sixteen may.quiet may.all
     c.load.new.self c.load.result c.load.ensures.loaded c.load.ensures.spoiled
