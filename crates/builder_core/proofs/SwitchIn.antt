@@ -19,8 +19,8 @@ use Rattle.building.specs.declared.copied.Copied.{Copied}
 use Rattle.visibility.specs.Applied.{apply_entries}
 use Rattle.catch_up.specs.Built.{told_to}
 use Rattle.catch_up.proofs.Telling.{told_entries}
-use Rattle.builder_core.specs.Builds.{LiveValue, BuildingValue, WorkValue, WorkersFollow, WorksOn, BuildFollows, IsRunning, core_state, state_unless, work_state}
-use Rattle.builder_core.specs.CoreState.{BuildState, ReadyValue, CoreState, WorkState, idle, scanning_of}
+use Rattle.builder_core.specs.Builds.{LiveValue, BuildingValue, WorkValue, BuildFollows, WorkersFollow, WorksOn, IsRunning, state_unless, work_state, core_state}
+use Rattle.builder_core.specs.CoreState.{BuildState, LiveState, ReadyValue, CoreState, WorkState, idle, scanning_of}
 use Rattle.builder_core.specs.Scanning.{scanned_pairs}
 use Rattle.builder_core.specs.SideEntries.{side_entries}
 use Rattle.builder_core.specs.SideFiles.{HasEntries}
@@ -39,8 +39,8 @@ IsRoomy old new = (w : WorkValue) → old ≡ Some w → (room : ℕ) × (new �
 
 -- room for more pairs changes nothing that the workers do
 roomy_workers :
-    (pages : List (PutEnd Copied)) (put : PutEnd Entry) (workers : List WorkerValue) (side : TakeEnd Entry) (build : Option BuildState) (w : WorkValue) (room : ℕ)
-    → WorkersFollow pages put (with_work workers side (Some w)) build (Some w)
+    (pages : List (PutEnd Copied)) (put : PutEnd Entry) (workers : List WorkerValue) (side : TakeEnd Entry) (build : Option BuildState) (w : WorkValue)
+    (room : ℕ) → WorkersFollow pages put (with_work workers side (Some w)) build (Some w)
     → WorkersFollow pages put (with_work workers side (Some (record w { room = room }))) build (Some (record w { room = room }))
 roomy_workers pages put workers side None w room follow = tt
 roomy_workers pages put workers side (Some b) w room follow =
@@ -80,8 +80,8 @@ pub record Switching (live : LiveValue) (old new : BuildingValue) (b : BuildStat
 
 -- told of a table and of what stands beside it from within
 pub switching :
-    (inside live : LiveValue) (old : BuildingValue) (workers : List WorkerValue) (side : TakeEnd Entry) (before after : Option WorkValue) (b : BuildState) (w : WorkValue)
-    → inside ≡ live → with_work workers side before ≡ old → inside.state.build ≡ Some b → after ≡ Some w
+    (inside live : LiveValue) (old : BuildingValue) (workers : List WorkerValue) (side : TakeEnd Entry) (before after : Option WorkValue) (b : BuildState)
+    (w : WorkValue) → inside ≡ live → with_work workers side before ≡ old → inside.state.build ≡ Some b → after ≡ Some w
     → BuildFollows inside.state.heap.schema inside.state.heap.log inside.state.build → WorksOn live old
     → IsRoomy before after → (before ≡ None → after ≡ None) → Switching live old (with_work workers side after) b w
 switching inside live old workers side before after b w view_is there build_is work_is follows works same none =
@@ -130,8 +130,8 @@ module _
 
     -- what the switch leaves
     pub switches :
-        (told : ℕ × List Outcome) (heap : HeapState) (ready : List ReadyValue) (build : Option BuildState) (workers : List WorkerValue) (left : Option WorkValue)
-        → told.0 ≡ length live.state.heap.log + 1 → told.1 ≡ Ready (length live.state.ready) ∷ []
+        (told : ℕ × List Outcome) (heap : HeapState) (ready : List ReadyValue) (build : Option BuildState) (workers : List WorkerValue)
+        (left : Option WorkValue) → told.0 ≡ length live.state.heap.log + 1 → told.1 ≡ Ready (length live.state.ready) ∷ []
         → heap ≡ after_switch live.state.heap (Ready (length live.state.ready) ∷ [])
         → ready ≡ live.state.ready ++ record { spec = spec; pairs = pairs } ∷ [] → build ≡ None → left ≡ None
         → Switches (core_state live building) told
@@ -139,7 +139,8 @@ module _
     switches told heap ready build workers left number verdicts noted grown none gone =
         let Whole : HeapState → List ReadyValue → CoreState =
         λ h r. record { live = record { heap = h; ready = r; builds = live.state.builds; build = None }; work = idle } in
-        let new : CoreState = record { live = record { heap = heap; ready = ready; builds = live.state.builds; build = build }; work = work_state workers left } in
+        let table : LiveState = record { heap = heap; ready = ready; builds = live.state.builds; build = build } in
+        let new : CoreState = record { live = table; work = work_state workers left } in
         let state : new ≡ record { live = after_switch_in live.state b; work = idle } =
         rw (none, gone) (ap (λ h. Whole h ready) (noted ∙ ap (after_switch live.state.heap) verdicts_are)
         ∙ ap (Whole (after_switch live.state.heap (verdicts_on live.state b))) (grown ∙ ap (λ is. live.state.ready ++ is) indexes_are)) in

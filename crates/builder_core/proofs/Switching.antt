@@ -16,7 +16,7 @@ use Rattle.heap_table.specs.HeapState.{HeapState, after_step}
 use Rattle.heap_table.specs.TablePairs.{pairs_at_rest}
 use Rattle.heap_table.proofs.TablePairs.{pairs_kept}
 use Rattle.builder_core.specs.declared.event.Event.{Event}
-use Rattle.builder_core.specs.declared.event.Event.TheVariants.{Begin, Insert, Update, Delete, Undo, Commit, Start, Scan, Seal, Load, Switch, Abandon}
+use Rattle.builder_core.specs.declared.event.Event.TheVariants.{Begin, Insert, Update, Delete, Undo, Commit, Start, Scan, Digest, Seal, Load, Switch, Abandon}
 use Rattle.builder_core.specs.declared.reply.Reply.{Reply}
 use Rattle.builder_core.specs.declared.reply.Reply.TheVariants.{Switched, Refused}
 use Rattle.builder_core.specs.CoreState.{CoreState, LiveState, BuildState, ReadyValue}
@@ -56,7 +56,9 @@ done_goes_on s (Undo txn) reply new does =
     same_log s new _ does.2.0.0.2 (undo_goes_on s.live.heap txn (newest_standing s.live.heap.log txn))
 done_goes_on s (Commit txn) reply new does = same_log s new _ does.2.0.0.1 (_, refl)
 done_goes_on s (Start plan) reply new does = keeps_log s new _ does.2.1 refl
-done_goes_on s (Scan range worker) reply new does = let on = on_build s.live.build _ does.2 in keeps_log s new _ on.1.1 refl
+done_goes_on s (Scan range worker) reply new does =
+    let on = on_build s.live.build _ does.2.0 in goes_same s.live.heap.log new.live.heap.log (ap (λ (live : LiveState). live.heap.log) on.1.1)
+done_goes_on s (Digest worker) reply new does = let on = on_build s.live.build _ does.2 in keeps_log s new _ on.1.1 refl
 done_goes_on s (Seal worker) reply new does = let on = on_build s.live.build _ does.2 in keeps_log s new _ on.1.1 refl
 done_goes_on s (Load index) reply new does = let on = on_build s.live.build _ does.2 in keeps_log s new _ on.1.1 refl
 done_goes_on s Switch reply new does =
@@ -72,6 +74,7 @@ memory_keeps s (Undo txn) new is = ap (λ (t : CoreState). t.live.heap.log) is
 memory_keeps s (Commit txn) new is = ap (λ (t : CoreState). t.live.heap.log) is
 memory_keeps s (Start plan) new is = ap (λ (t : CoreState). t.live.heap.log) is
 memory_keeps s (Scan range worker) new is = ap (λ (t : CoreState). t.live.heap.log) is
+memory_keeps s (Digest worker) new is = ap (λ (t : CoreState). t.live.heap.log) is
 memory_keeps s (Seal worker) new is = ap (λ (t : CoreState). t.live.heap.log) is
 memory_keeps s (Load index) new is = ap (λ (t : CoreState). t.live.heap.log) is
 memory_keeps s Switch new is = ap (λ (t : CoreState). t.live.heap.log) is
@@ -110,6 +113,7 @@ does_switch s (Undo txn) number verdicts new does = absurd (let bad = does.1 in 
 does_switch s (Commit txn) number verdicts new does = absurd (let bad = does.1 in cc)
 does_switch s (Start plan) number verdicts new does = absurd (let bad = does.1 in cc)
 does_switch s (Scan range worker) number verdicts new does = absurd (let bad = does.1 in cc)
+does_switch s (Digest worker) number verdicts new does = absurd (let bad = does.1 in cc)
 does_switch s (Seal worker) number verdicts new does = absurd (let bad = does.1 in cc)
 does_switch s (Load index) number verdicts new does = absurd (let bad = does.1 in cc)
 does_switch s Switch number verdicts new does =

@@ -1,4 +1,4 @@
-use Rattle.std.proofs.Common.{rules, ◌≡◌, ◌∙◌, ◌+◌, ◌++◌, ◌∷◌, [], ℕ, List, length, Option, None, ap, sym, subst}
+use Rattle.std.proofs.Common.{rules, ◌≡◌, ◌∙◌, ◌+◌, ◌++◌, ◌∷◌, [], ℕ, List, length, None, ap, sym, subst}
 use Rattle.keybytes.proofs.ColumnOrder.{column_order}
 use Rattle.keybytes.specs.Keys.{KeySpecValue}
 use Rattle.keybytes.specs.Pairs.{set_of, HaveKeysOf, AreInColumnOrder}
@@ -15,7 +15,7 @@ use Rattle.catch_up.specs.Built.{told_to}
 use Rattle.visibility.specs.Applied.{apply_entries}
 use Rattle.building.specs.TakeEnd.{take_end}
 use Rattle.builder_core.specs.Builds.{LiveValue, BuildingValue, WorkValue, IsWorkOf, WorksOn, core_state, cause_of, work_state}
-use Rattle.builder_core.specs.CoreState.{BuildState, LiveState, ReadyValue, CoreState}
+use Rattle.builder_core.specs.CoreState.{BuildState, ReadyValue, CoreState}
 use Rattle.builder_core.specs.SideFiles.{HasEntries}
 use Rattle.builder_core.specs.Steps.{Switches}
 use Rattle.builder_core.specs.declared.event.Event.{Event}
@@ -168,5 +168,6 @@ returns-clause-switched g c =
     } in (
       free,
       subst (λ (old : CoreState). Switches old c.in_ok-noted.noted (Left c.self.inside.builds)) s.same
-          (subst (λ (n : ℕ). Switches (core_state live building) c.in_ok-noted.noted (Left n)) (sym (ap (λ (l : LiveValue). l.state.builds) c.self.view_is)) done),
+          (subst (λ (n : ℕ). Switches (core_state live building) c.in_ok-noted.noted (Left n))
+          (sym (ap (λ (l : LiveValue). l.state.builds) c.self.view_is)) done),
     )
