@@ -6,7 +6,7 @@ use Rattle.builder_core.proofs.run.run_events.Given as goal
 
 abbrev pub invariant-loop-event : goal.invariant-loop-event
 invariant-loop-event g l = record {
-  run : Run (opening l.fn.live) (take l.event-index l.events) l.replies.items l.core;
+  run : Run (opening l.fn.live.state) (take l.event-index l.events) l.replies.items l.core;
   room : length l.events ≤ vec_capacity l.replies;
   count : length l.replies.items ≡ l.event-index;
 }
