@@ -5,7 +5,6 @@
 #![tactic(auto)]
 
 mod answer;
-mod engine;
 mod entry_line;
 mod labels;
 mod listing;
@@ -16,6 +15,7 @@ mod parts;
 mod plan;
 mod report;
 mod run;
+mod session;
 mod status;
 mod txn;
 

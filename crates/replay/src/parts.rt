@@ -1,7 +1,7 @@
 //! What a script's table is made of.
 ghost use Rattle.std.specs.Prelude.{◌≡◌, None, OnOk, IfOk, IfErr};
 ghost use Rattle.keybytes.specs.Faults.{RefusedFor};
-ghost use Rattle.replay.specs.Engines.{empty_heap_of};
+ghost use Rattle.replay.specs.Sessions.{empty_heap_of};
 ghost use Rattle.replay.specs.Limits.{table_refusal};
 
 use builder_core::Parts;

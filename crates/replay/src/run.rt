@@ -1,15 +1,15 @@
 //! A script, run from its first command to its last in one thread.
 ghost use Rattle.std.specs.Prelude.{◌≡◌, ◌≤◌, IfSome, OnOk, IfOk};
-ghost use Rattle.replay.specs.Engines.{EndsWith, ExitsWith, RunsAll, RunsNext, RunsOn};
+ghost use Rattle.replay.specs.Sessions.{state_of, EndsWith, ExitsWith, RunsAll, RunsNext, RunsOn};
 
 use crate::answer::Answer;
-use crate::engine::Engine;
 use crate::output::Output;
 use crate::output_failed::OutputFailed;
 use crate::parts::table_parts;
 use crate::report::refuse;
+use crate::session::Session;
 use crate::status::Status;
-use builder_core::{Parts, Table};
+use builder_core::{Core, Parts, Table};
 use keybytes::Fault;
 use script::{NumberedCommand, Script};
 use std::alloc::Global;
@@ -92,31 +92,34 @@ fn answer_table<T: Table, W: Write + Drop>(
 {
     output.print(number, &Answer::Done)?;
     let (live, ends) = parts.open::<T>();
-    let mut engine = Engine::new(alloc, live, ends);
-    answer_all(&mut engine, commands, output)?;
-    Ok(engine.status())
+    let mut core = Core::new(live, ends);
+    let mut session = Session::new(alloc);
+    answer_all(&mut session, &mut core, commands, output)?;
+    Ok(session.status())
 }
 
 fn answer_all<T: Table, W: Write + Drop>(
-    engine: &mut Engine<T>,
+    session: &mut Session,
+    core: &mut Core<T>,
     commands: Vec<NumberedCommand>,
     output: &mut Output<W>,
 ) -> Result<(), OutputFailed>
-    ensures { OnOk result (RunsAll engine.old commands.items engine.new) }
+    ensures { OnOk result (RunsAll (state_of core.old session.old) commands.items (state_of core.new session.new)) }
 {
     for command in commands {
-        answer_next(engine, command, output)?;
+        answer_next(session, core, command, output)?;
     }
     Ok(())
 }
 
 fn answer_next<T: Table, W: Write + Drop>(
-    engine: &mut Engine<T>,
+    session: &mut Session,
+    core: &mut Core<T>,
     command: NumberedCommand,
     output: &mut Output<W>,
 ) -> Result<(), OutputFailed>
-    ensures { RunsNext engine.old command engine.new }
+    ensures { RunsNext (state_of core.old session.old) command (state_of core.new session.new) }
 {
-    let answer = engine.run(command.command);
+    let answer = session.run(core, command.command);
     output.print(command.number, &answer)
 }

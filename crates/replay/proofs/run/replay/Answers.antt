@@ -2,7 +2,7 @@ use denote.Enum.Declared.{tag_of}
 use Rattle.std.proofs.Common.{◌≡◌, ℕ, List, Option, Some, None, IfSome, inr, refl}
 use Rattle.script.specs.Scripts.{SpellsScript}
 use Rattle.script.specs.declared.script.Script.{Script}
-use Rattle.replay.specs.Engines.{EndsWith, ExitsWith, number_of}
+use Rattle.replay.specs.Sessions.{EndsWith, ExitsWith, number_of}
 use Rattle.replay.specs.contracts.status.Status.{the_type}
 use Rattle.replay.specs.declared.status.Status.{Status}
 use Rattle.replay.specs.declared.status.Status.TheVariants.{Done, IndexRefused, Failed}

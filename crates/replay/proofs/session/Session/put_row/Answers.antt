@@ -2,11 +2,11 @@ use Rattle.std.proofs.Common.{Option, inl, inr, refl, subst, sym}
 use Rattle.keybytes.specs.declared.fault.Fault.{Fault}
 use Rattle.replay.specs.Answers.{AddsRow, Unless}
 use Rattle.replay.specs.declared.answer.Answer.TheVariants.{Refused, Row}
-use Rattle.replay.proofs.engine.Engine.put_row.Goals as goal
+use Rattle.replay.proofs.session.Session.put_row.Goals as goal
 
 pub returns-in-Ok : goal.returns-in-Ok
-returns-in-Ok c =
-    let core = c.args.self.now.core in
+returns-in-Ok g c =
+    let core = c.args.core.now in
     let left = c.put.new.core in
     let puts = rw c.in_ok-row.ensures.ok at c.in-Ok.ensures.ok in
     record {
@@ -17,8 +17,8 @@ returns-in-Ok c =
     }
 
 pub returns-in-Err : goal.returns-in-Err
-returns-in-Err c =
-    let core = c.args.self.now.core in
+returns-in-Err g c =
+    let core = c.args.core.now in
     let left = c.take_back.new.core in
     let given = Refused c.in-Err.fault in
     let failed = rw c.in_ok-row.ensures.ok at c.in-Err.ensures.refused in

@@ -17,8 +17,8 @@ use Rattle.replay.specs.Labels.{NamesNone, Renames}
 use Rattle.replay.specs.Limits.{is_refusal, table_refusal}
 use Rattle.replay.specs.declared.answer.Answer.{Answer}
 use Rattle.replay.specs.declared.answer.Answer.TheVariants as answer
-use Rattle.replay.specs.declared.engine.Engine.{Engine}
 use Rattle.replay.specs.declared.labels.Labels.{Labels}
+use Rattle.replay.specs.declared.session.Session.{Session}
 use Rattle.replay.specs.declared.status.Status.{Status}
 use Rattle.replay.specs.declared.status.Status.TheVariants.{Done, IndexRefused, Failed}
 
@@ -30,11 +30,20 @@ empty_heap_of table = empty_heap table.kinds.items table.slot_limit pages_most
 abbrev pub bare_table : HeapState → LiveState
 bare_table heap = record { heap = heap; ready = []; builds = 0; build = None }
 
--- nothing has happened on the table yet
-pub record IsNew (live : LiveState) (engine : Engine) : Type 0 where
-  pub core : engine.core ≡ opening live
-  pub labels : NamesNone engine.labels
-  pub status : engine.status ≡ Done
+-- a table, the transactions on it that a script has named, and how the script has gone so far
+pub record ScriptState : Type 0 where
+  pub core : CoreState
+  pub labels : Labels
+  pub status : Status
+
+-- the same of a table and a session on it
+abbrev pub state_of : CoreState → Session → ScriptState
+state_of core session = record { core = core; labels = session.labels; status = session.status }
+
+-- nothing has happened yet
+pub record IsNew (session : Session) : Type 0 where
+  pub labels : NamesNone session.labels
+  pub status : session.status ≡ Done
 
 -- a begin leaves the label with the transaction that has begun, or with none where it is refused
 abbrev pub NamesBegun : Labels → List ℕ → Answer → Labels → Type 0
@@ -78,30 +87,30 @@ status_after status answer.Abandoned = status
 status_after status (answer.Refused fault) = status
 
 -- the command is run and answered
-pub record Runs (old : Engine) (command : Command) (given : Answer) (new : Engine) : Type 0 where
+pub record Runs (old : ScriptState) (command : Command) (given : Answer) (new : ScriptState) : Type 0 where
   pub core : CarriesOut old.labels command old.core given new.core
   pub labels : NotesCommand old.labels command given new.labels
   pub status : new.status ≡ status_after old.status given
 
 -- the command is run, and answered as the result says
-abbrev pub Answers : Engine → Command → Result Answer Fault → Engine → Type 0
+abbrev pub Answers : ScriptState → Command → Result Answer Fault → ScriptState → Type 0
 Answers old command result new = Runs old command (answer_of result) new
 
 -- the next command of a script is run
-abbrev pub RunsNext : Engine → NumberedCommand → Engine → Type 0
+abbrev pub RunsNext : ScriptState → NumberedCommand → ScriptState → Type 0
 RunsNext old next new = (given : Answer) × Runs old next.command given new
 
 -- the commands are run one after the other
-abbrev pub RunsAll : Engine → List NumberedCommand → Engine → Type 0
+abbrev pub RunsAll : ScriptState → List NumberedCommand → ScriptState → Type 0
 RunsAll old [] new = new ≡ old
-RunsAll old (first ∷ rest) new = (mid : Engine) × RunsNext old first mid × RunsAll mid rest new
+RunsAll old (first ∷ rest) new = (mid : ScriptState) × RunsNext old first mid × RunsAll mid rest new
 
 -- commands run on a table of that heap, on which nothing has happened, end with that status
 pub record RunsOn (heap : HeapState) (commands : List NumberedCommand) (status : Status) : Type 0 where
-  pub begun : Engine
-  pub end : Engine
-  pub new : IsNew (bare_table heap) begun
-  pub run : RunsAll begun commands end
+  pub begun : Session
+  pub end : ScriptState
+  pub new : IsNew begun
+  pub run : RunsAll (state_of (opening (bare_table heap)) begun) commands end
   pub ended : status ≡ end.status
 
 -- commands run on a table of their own end with that status; a refused table fails, and no command is run

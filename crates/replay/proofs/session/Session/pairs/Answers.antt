@@ -3,13 +3,13 @@ use Rattle.builder_core.specs.CoreState.{ReadyValue}
 use Rattle.replay.specs.Listings.{ListsReady}
 use Rattle.replay.specs.declared.answer.Answer.TheVariants.{Pairs}
 use Rattle.replay.proofs.KeyedPairs.{keyed_by, listed_by}
-use Rattle.replay.proofs.engine.Engine.pairs.Goals as goal
+use Rattle.replay.proofs.session.Session.pairs.Goals as goal
 
 pub pair_lines-requires : goal.pair_lines-requires
-pair_lines-requires c = keyed_by _ _ _ _ c.spec.ensures c.pairs.ensures.pairs c.pairs.ensures.keys
+pair_lines-requires g c = keyed_by _ _ _ _ c.spec.ensures c.pairs.ensures.pairs c.pairs.ensures.keys
 
 pub returns : goal.returns
-returns c =
+returns g c =
     let index = c.in_ok-index.index.now in
     let lines = c.in_ok-lines.lines in
     let listed = listed_by index.spec _ index.pairs _ lines.items c.spec.ensures c.pairs.ensures.pairs c.in_ok-lines.ensures.lists in

@@ -4,11 +4,11 @@ use Rattle.heap_table.specs.TablePairs.{pairs_at_rest}
 use Rattle.replay.specs.Listings.{key_spec_of}
 use Rattle.replay.proofs.KeyedPairs.{listed_by}
 use Rattle.replay.proofs.SpecLists.{is_named}
-use Rattle.replay.proofs.engine.Engine.rest.Goals as goal
+use Rattle.replay.proofs.session.Session.rest.Goals as goal
 
 pub returns : goal.returns
-returns c =
-    let core = c.args.self.now.core in
+returns g c =
+    let core = c.args.core.now in
     let asked = key_spec_of core.live.heap.schema c.args.spec in
     let made = c.in_ok-spec.spec in
     let named = is_named core.live.heap.schema c.args.spec made c.in_ok-spec.ensures.table c.in_ok-spec.ensures.columns c.in_ok-spec.ensures.unique in

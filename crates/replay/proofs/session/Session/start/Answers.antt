@@ -5,7 +5,7 @@ use Rattle.keybytes.specs.declared.fault.Fault.TheVariants.{BadCount, BuildRunni
 use Rattle.builder_core.specs.Steps.{cause_if}
 use Rattle.replay.specs.Answers.{StartsBuild, Unless, answer_of}
 use Rattle.replay.specs.Limits.{is_in_limits}
-use Rattle.replay.proofs.engine.Engine.start.Goals as goal
+use Rattle.replay.proofs.session.Session.start.Goals as goal
 
 -- no build runs, and the counts are in their limits
 no_refusal : (building fits : Bool) → building ≡ false → fits ≡ true → first_cause (cause_if building BuildRunning) (cause_if (not fits) BadCount) ≡ None
@@ -14,17 +14,17 @@ no_refusal false false no_build in_limits = cc
 no_refusal true fits no_build in_limits = cc
 
 pub returns : goal.returns
-returns c =
-    let core = c.args.self.now.core in
+returns g c =
+    let core = c.args.core.now in
     let start = c.args.start in
     let given = answer_of c.step.result in
     let no_build : is_some core.live.build ≡ false = sym c.is_building.ensures ∙ c.if-is_building.false in
     let in_limits : is_in_limits start.workers (vec_len start.specs) start.quota ≡ true = sym c.is_in_limits.ensures ∙ c.if-not-is_in_limits.false in
     record {
-      core = subst (λ (cause : Option Fault). Unless cause (StartsBuild start) core given c.step.new.self.core) (sym (no_refusal _ _ no_build in_limits)) (inl (
+      core = subst (λ (cause : Option Fault). Unless cause (StartsBuild start) core given c.step.new.core) (sym (no_refusal _ _ no_build in_limits)) (inl (
         record { specs = c.in_ok-key_specs.field-0; workers = start.workers; dealing = c.dealing_of.result; tries = 1; keep_pairs = false },
         record { specs = c.in_ok-key_specs.ensures.ok; workers = refl; dealing = c.dealing_of.ensures },
-        c.step.ensures.core,
+        c.step.ensures,
       ));
       labels = search rules;
       status = search rules;

@@ -1,13 +1,13 @@
 use Rattle.std.proofs.Common.{refl}
 use Rattle.std.specs.VecDeque.Iter.{deque_iter_rest}
 use Rattle.replay.proofs.KeyedPairs.{entry_keys}
-use Rattle.replay.proofs.engine.Engine.side_lines.Goals as goal
+use Rattle.replay.proofs.session.Session.side_lines.Goals as goal
 
 pub entry_lines-requires : goal.entry_lines-requires
-entry_lines-requires c = entry_keys c.args.self.now.core.live.build c.args.index c.in_ok-spec.spec.now (deque_iter_rest c.in_ok-entries.entries) c.in_ok-entries.ensures.keys c.in_ok-spec.ensures.spec
+entry_lines-requires g c = entry_keys c.args.core.now.live.build c.args.index c.in_ok-spec.spec.now (deque_iter_rest c.in_ok-entries.entries) c.in_ok-entries.ensures.keys c.in_ok-spec.ensures.spec
 
 pub returns-clause-lists : goal.returns-clause-lists
-returns-clause-lists c = (
+returns-clause-lists g c = (
   c.in_ok-spec.spec.now,
   deque_iter_rest c.in_ok-entries.entries,
   c.in_ok-spec.ensures.spec,
