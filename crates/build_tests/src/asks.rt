@@ -1,6 +1,6 @@
 //! What is asked of a table and its index build, and the numbers in the answers.
 
-use builder_core::{Core, Dealing, Event, Plan, Reply};
+use builder_core::{Core, Dealing, Event, Plan, Reply, Table};
 use keybytes::{Cell, Fault, KeySpec, Kind, Rid, Row, Schema};
 use std::alloc::Global;
 
@@ -33,20 +33,28 @@ pub enum Ask {
     Start(&'static [u32]),
     /// Over so many even ranges.
     StartEven(usize),
+    /// By so many workers, over so many even ranges.
+    StartBy(usize, usize),
     /// The next page of the first range.
     Scan,
     /// The next page of that range.
     ScanIn(usize),
+    /// The next page of that range, for that worker.
+    ScanFor(usize, usize),
+    /// By that worker.
+    Digest(usize),
     Seal,
+    /// By that worker.
+    SealBy(usize),
     Load,
     Switch,
     Abandon,
 }
 
-fn start(alloc: Global, dealing: Dealing) -> Result<Event, Fault> {
+fn start(alloc: Global, workers: usize, dealing: Dealing) -> Result<Event, Fault> {
     let plan = Plan {
         specs: vec![in alloc; spec(alloc)?]?,
-        workers: 1,
+        workers,
         dealing,
         tries: 3,
         keep_pairs: false,
@@ -54,8 +62,8 @@ fn start(alloc: Global, dealing: Dealing) -> Result<Event, Fault> {
     Ok(Event::Start { plan })
 }
 
-fn scan(range: usize) -> Event {
-    Event::Scan { range, worker: 0 }
+fn scan(range: usize, worker: usize) -> Event {
+    Event::Scan { range, worker }
 }
 
 /// A change of a row.
@@ -81,11 +89,15 @@ pub fn event(alloc: Global, ask: Ask) -> Result<Event, Fault> {
         Ask::Begin => Ok(Event::Begin),
         Ask::Undo(txn) => Ok(Event::Undo { txn }),
         Ask::Commit(txn) => Ok(Event::Commit { txn }),
-        Ask::Start(ends) => start(alloc, Dealing::Ends(ends.to_vec(alloc)?)),
-        Ask::StartEven(ranges) => start(alloc, Dealing::Even(ranges)),
-        Ask::Scan => Ok(scan(0)),
-        Ask::ScanIn(range) => Ok(scan(range)),
+        Ask::Start(ends) => start(alloc, 1, Dealing::Ends(ends.to_vec(alloc)?)),
+        Ask::StartEven(ranges) => start(alloc, 1, Dealing::Even(ranges)),
+        Ask::StartBy(workers, ranges) => start(alloc, workers, Dealing::Even(ranges)),
+        Ask::Scan => Ok(scan(0, 0)),
+        Ask::ScanIn(range) => Ok(scan(range, 0)),
+        Ask::ScanFor(range, worker) => Ok(scan(range, worker)),
+        Ask::Digest(worker) => Ok(Event::Digest { worker }),
         Ask::Seal => Ok(Event::Seal { worker: 0 }),
+        Ask::SealBy(worker) => Ok(Event::Seal { worker }),
         Ask::Load => Ok(Event::Load { index: 0 }),
         Ask::Switch => Ok(Event::Switch),
         Ask::Abandon => Ok(Event::Abandon),
@@ -102,7 +114,7 @@ pub fn numbers_in(reply: &Reply) -> Result<(usize, usize), Fault> {
         Reply::Committed { number } => Ok((*number, 0)),
         Reply::Started { pages } => Ok((*pages as usize, 0)),
         Reply::Scanned { page } => Ok((*page as usize, 0)),
-        Reply::Sealed { images } => Ok((*images, 0)),
+        Reply::Digested { images } | Reply::Sealed { images } => Ok((*images, 0)),
         Reply::Loaded { pairs } => Ok((*pairs, 0)),
         Reply::Switched { number, .. } => Ok((*number, 0)),
         Reply::Abandoned => Ok((0, 0)),
@@ -110,6 +122,10 @@ pub fn numbers_in(reply: &Reply) -> Result<(usize, usize), Fault> {
     }
 }
 
-pub fn answer(core: &mut Core, alloc: Global, ask: Ask) -> Result<(usize, usize), Fault> {
+pub fn answer<T: Table>(
+    core: &mut Core<T>,
+    alloc: Global,
+    ask: Ask,
+) -> Result<(usize, usize), Fault> {
     numbers_in(&core.step(event(alloc, ask)?))
 }

@@ -1,14 +1,20 @@
 //! What a table and its index build answer, one event after another.
+ghost use Rattle.std.specs.Prelude.{◌≡◌};
 
 use crate::asks::{Ask, FIRST, answer, event, number_row, numbers_in, schema, spec};
-use builder_core::{Core, Event, Live, Pair, at_rest, run_events};
+use builder_core::{Core, Event, Pair, Parts, Reply, Table, at_rest, run_events};
 use heap_table::Heap;
 use keybytes::{Cell, Fault, KeySpec, Rid};
 use std::alloc::Global;
+use std::marker::Brand;
 use std::test::Fail;
 
 /// An event that is asked for once more where memory ran out.
-fn answer_again(core: &mut Core, alloc: Global, ask: Ask) -> Result<(usize, usize), Fault> {
+fn answer_again<T: Table>(
+    core: &mut Core<T>,
+    alloc: Global,
+    ask: Ask,
+) -> Result<(usize, usize), Fault> {
     match answer(core, alloc, ask) {
         Err(Fault::Memory) => answer(core, alloc, ask),
         told => told,
@@ -47,7 +53,7 @@ fn are_entries(pairs: &[Pair]) -> bool {
 }
 
 /// Whether the pairs that an index would have now are those of the three rows.
-fn are_at_rest(core: &mut Core, spec: &KeySpec) -> Result<bool, Fault> {
+fn are_at_rest<T: Table>(core: &mut Core<T>, spec: &KeySpec) -> Result<bool, Fault> {
     if !spec.is_of(core.schema()) {
         return Err(Fault::BadColumn);
     }
@@ -55,12 +61,12 @@ fn are_at_rest(core: &mut Core, spec: &KeySpec) -> Result<bool, Fault> {
 }
 
 /// Whether the first index is on the table's column, and has the pairs of the three rows.
-fn are_ready(core: &Core) -> Result<bool, Fault> {
+fn are_ready<T: Table>(core: &Core<T>) -> Result<bool, Fault> {
     let index = core.ready(0)?;
     Ok(are_entries(index.pairs()) && index.spec().columns() == &[0][..])
 }
 
-fn number_at(core: &mut Core, rid: Rid) -> Result<Option<i64>, Fault> {
+fn number_at<T: Table>(core: &mut Core<T>, rid: Rid) -> Result<Option<i64>, Fault> {
     match core.get(rid)?.cells() {
         [Cell::Int(number)] => Ok(Some(*number)),
         _ => Ok(None),
@@ -77,7 +83,7 @@ pub enum Call {
     Building(bool),
 }
 
-fn begins(core: &mut Core, alloc: Global, count: usize) -> Result<bool, Fault> {
+fn begins<T: Table>(core: &mut Core<T>, alloc: Global, count: usize) -> Result<bool, Fault> {
     for number in 1..=count {
         if answer(core, alloc, Ask::Begin)? != (number, 0) {
             return Ok(false);
@@ -87,7 +93,7 @@ fn begins(core: &mut Core, alloc: Global, count: usize) -> Result<bool, Fault> {
 }
 
 /// Whether it is answered so. Want of memory is passed on where a second event of the same kind doesn't help.
-fn is_answered(core: &mut Core, alloc: Global, call: &Call) -> Result<bool, Fault> {
+fn is_answered<T: Table>(core: &mut Core<T>, alloc: Global, call: &Call) -> Result<bool, Fault> {
     match call {
         Call::Event(ask, answer) => {
             let told = answer_again(core, alloc, *ask);
@@ -105,7 +111,11 @@ fn is_answered(core: &mut Core, alloc: Global, call: &Call) -> Result<bool, Faul
 }
 
 /// The number of the first call that is answered otherwise.
-fn first_other(core: &mut Core, alloc: Global, calls: &[Call]) -> Result<Option<usize>, Fault> {
+fn first_other<T: Table>(
+    core: &mut Core<T>,
+    alloc: Global,
+    calls: &[Call],
+) -> Result<Option<usize>, Fault> {
     for (number, call) in calls.iter().enumerate() {
         if !is_answered(core, alloc, call)? {
             return Ok(Some(number));
@@ -115,20 +125,41 @@ fn first_other(core: &mut Core, alloc: Global, calls: &[Call]) -> Result<Option<
 }
 
 /// An empty table, of two slots a page.
-fn two_slots(alloc: Global) -> Result<Live, Fault> {
-    match Live::new(alloc, Heap::new(alloc, schema(alloc)?, 2, 8)?) {
-        Ok(live) => Ok(live),
+fn two_slots(alloc: Global) -> Result<Parts, Fault> {
+    match Parts::new(alloc, Heap::new(alloc, schema(alloc)?, 2, 8)?) {
+        Ok(parts) => Ok(parts),
         Err((_, fault)) => Err(fault),
+    }
+}
+
+/// The table under its name.
+fn core_of<T: Table>(parts: Parts) -> Core<T>
+    requires pages { parts.pages ≡ T.pages }
+    requires side { parts.side ≡ T.side }
+{
+    let (live, ends) = parts.open::<T>();
+    Core::new(live, ends)
+}
+
+fn differing_on<T: Table>(
+    alloc: Global,
+    parts: Parts,
+    before: &[Call],
+    calls: &[Call],
+) -> Result<Option<usize>, Fault>
+    requires pages { parts.pages ≡ T.pages }
+    requires side { parts.side ≡ T.side }
+{
+    let mut core = core_of::<T>(parts);
+    match first_other(&mut core, alloc, before)? {
+        None => first_other(&mut core, alloc, calls),
+        other => Ok(other),
     }
 }
 
 /// The first other answer among those calls behind others of an empty table.
 pub fn differing(alloc: Global, before: &[Call], calls: &[Call]) -> Result<Option<usize>, Fault> {
-    let mut core = Core::new(two_slots(alloc)?);
-    match first_other(&mut core, alloc, before)? {
-        None => first_other(&mut core, alloc, calls),
-        other => Ok(other),
-    }
+    differing_on::<Brand>(alloc, two_slots(alloc)?, before, calls)
 }
 
 /// Three transactions insert the rows 5, 3 and 5, two of them on page 0.
@@ -299,31 +330,42 @@ fn events(alloc: Global, calls: &[Call]) -> Result<Vec<Event>, Fault> {
     Ok(events)
 }
 
-/// How many replies a list of events has, and how many indexes are ready behind it.
-fn run(alloc: Global, events: &[Event]) -> Result<(usize, usize), Fault> {
-    let (live, replies) = run_events(alloc, two_slots(alloc)?, events);
-    let replies = replies?;
-    Ok((replies.len(), live.ready().len()))
+/// What a list of events is answered, and how many indexes are ready behind it.
+fn run_on<T: Table>(
+    alloc: Global,
+    parts: Parts,
+    events: &[Event],
+) -> Result<(Vec<Reply>, usize), Fault>
+    requires pages { parts.pages ≡ T.pages }
+    requires side { parts.side ≡ T.side }
+{
+    let (live, ends) = parts.open::<T>();
+    let (live, _ends, replies) = run_events(alloc, live, ends, events);
+    Ok((replies?, live.ready().len()))
+}
+
+fn run(alloc: Global, events: &[Event]) -> Result<(Vec<Reply>, usize), Fault> {
+    run_on::<Brand>(alloc, two_slots(alloc)?, events)
 }
 
 #[test]
 fn a_list_of_events(rt: HostRuntime) -> Result<(), Fail> {
-    let events = events(rt.alloc(), &ROWS)?;
-    assert!(rt; run(rt.alloc(), &events) == Ok((9, 0)));
-    assert!(rt;
-        Core::new(two_slots(rt.alloc())?)
-            .into_live()
-            .ready()
-            .is_empty()
-    );
+    let (replies, ready) = run(rt.alloc(), &events(rt.alloc(), &ROWS)?)?;
+    assert!(rt; replies.len() == 9 && ready == 0);
     Ok(())
 }
 
-/// Whether a list of events, whose rows are lent, is answered as the same events one by one, whose rows are handed over.
-fn are_same(alloc: Global, calls: &[Call]) -> Result<bool, Fault> {
-    let (_live, replies) = run_events(alloc, two_slots(alloc)?, &events(alloc, calls)?);
-    let replies = replies?;
-    let mut core = Core::new(two_slots(alloc)?);
+/// Whether the same events, one by one, are answered so.
+fn are_answered_on<T: Table>(
+    alloc: Global,
+    parts: Parts,
+    calls: &[Call],
+    replies: &[Reply],
+) -> Result<bool, Fault>
+    requires pages { parts.pages ≡ T.pages }
+    requires side { parts.side ≡ T.side }
+{
+    let mut core = core_of::<T>(parts);
     let mut lent = replies.iter();
     for call in calls {
         if let Call::Event(ask, _) = call {
@@ -334,6 +376,12 @@ fn are_same(alloc: Global, calls: &[Call]) -> Result<bool, Fault> {
         }
     }
     Ok(lent.next().is_none())
+}
+
+/// Whether a list of events, whose rows are lent, is answered as the same events one by one, whose rows are handed over.
+fn are_same(alloc: Global, calls: &[Call]) -> Result<bool, Fault> {
+    let (replies, _) = run(alloc, &events(alloc, calls)?)?;
+    are_answered_on::<Brand>(alloc, two_slots(alloc)?, calls, &replies)
 }
 
 #[test]

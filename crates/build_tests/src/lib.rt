@@ -7,3 +7,5 @@ mod asks;
 mod builds;
 #[cfg(test)]
 mod ranges;
+#[cfg(test)]
+mod workers;

@@ -5,7 +5,7 @@ use crate::builds::{Call, differing};
 use keybytes::Fault;
 
 /// A transaction inserts seven rows, two a page.
-const FOUR_PAGES: [Call; 9] = [
+pub const FOUR_PAGES: [Call; 9] = [
     Call::Event(Ask::Begin, Ok((1, 0))),
     Call::Event(Ask::Insert(1, 7), Ok((1, 0))),
     Call::Event(Ask::Insert(1, 1), Ok((2, 0))),
