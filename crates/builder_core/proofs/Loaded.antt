@@ -1,5 +1,5 @@
 -- What a load leaves, as callers see it.
-use Rattle.std.proofs.Common.{◌≡◌, ℕ, ◌<◌, true, List, [], ◌∷◌, ◌++◌, length, take, take_all, Option, Some, None, Result, Ok, Err, IfOk, OnErr, if◌then◌else◌, refl, sym, ap, ◌∙◌, subst, arith}
+use Rattle.std.proofs.Common.{◌≡◌, ℕ, ◌<◌, true, List, [], ◌∷◌, ◌++◌, length, take, take_all, Option, Some, None, Result, Ok, Err, IfOk, IfSome, OnErr, false, if◌then◌else◌, refl, sym, ap, ◌∙◌, subst, arith}
 use Rattle.std.specs.Prelude.{is_some, flat_map, IsPermutation}
 use Rattle.std.specs.List.{slice_get}
 use Rattle.std.proofs.lemmas.Bool.{false≢true}
@@ -186,3 +186,11 @@ module _
       → IfOk answer (λ count. Loads 0 (core_state live building) count (core_state live new))
   loads_after new (Ok count) done = loaded_loads new count done w.tree refl
   loads_after new (Err fault) done = tt
+
+  -- memory is wanted only where they aren't in order yet
+  pub wanted_first :
+      (answer : Result ℕ Fault) → OnErr answer (IfSome building.work (λ work. work.tree ≡ None)) → OnErr answer ((index_at before 0).loaded ≡ false)
+  wanted_first (Ok count) none = tt
+  wanted_first (Err fault) none =
+      let empty : w.tree ≡ None = subst (λ (o : Option WorkValue). IfSome o (λ work. work.tree ≡ None)) run.work_is none in
+      ap (λ (s : WorkState). (index_at s 0).loaded) (state_is building w run.work_is fine) ∙ ap is_some empty

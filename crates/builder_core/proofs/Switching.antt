@@ -74,9 +74,9 @@ memory_keeps s (Undo txn) new is = ap (λ (t : CoreState). t.live.heap.log) is
 memory_keeps s (Commit txn) new is = ap (λ (t : CoreState). t.live.heap.log) is
 memory_keeps s (Start plan) new is = ap (λ (t : CoreState). t.live.heap.log) is
 memory_keeps s (Scan range worker) new is = ap (λ (t : CoreState). t.live.heap.log) is
-memory_keeps s (Digest worker) new is = ap (λ (t : CoreState). t.live.heap.log) is
+memory_keeps s (Digest worker) new is = ap (λ (t : CoreState). t.live.heap.log) is.1
 memory_keeps s (Seal worker) new is = ap (λ (t : CoreState). t.live.heap.log) is
-memory_keeps s (Load index) new is = ap (λ (t : CoreState). t.live.heap.log) is
+memory_keeps s (Load index) new is = ap (λ (t : CoreState). t.live.heap.log) is.1
 memory_keeps s Switch new is = ap (λ (t : CoreState). t.live.heap.log) is
 memory_keeps s Abandon new never = absurd never
 
@@ -97,14 +97,15 @@ run_goes_on s (event ∷ events) (reply ∷ replies) end run =
     goes_on s.live.heap.log run.0.live.heap.log end.live.heap.log (step_goes_on s event reply run.0 run.1) (run_goes_on run.0 events replies end run.2)
 
 -- what a switch did that decided
-pub record Switched_in (s : CoreState) (number : ℕ) (verdicts : List Outcome) (new : CoreState) : Type 0 where
+pub record Switched_in (s : CoreState) (event : Event) (number : ℕ) (verdicts : List Outcome) (new : CoreState) : Type 0 where
+  pub asked : event ≡ Switch
   pub build : BuildState
   pub running : s.live.build ≡ Some build
   pub number_is : number ≡ length s.live.heap.log + 1
   pub verdicts_are : verdicts ≡ verdicts_on s.live build
   pub new_is : new.live ≡ after_switch_in s.live build
 
-does_switch : (s : CoreState) (event : Event) (number : ℕ) (verdicts : List Outcome) (new : CoreState) → Does s event (Switched number verdicts) new → Switched_in s number verdicts new
+does_switch : (s : CoreState) (event : Event) (number : ℕ) (verdicts : List Outcome) (new : CoreState) → Does s event (Switched number verdicts) new → Switched_in s event number verdicts new
 does_switch s Begin number verdicts new does = absurd (let bad = does.1 in cc)
 does_switch s (Insert txn row) number verdicts new does = absurd (let bad = does.1 in cc)
 does_switch s (Update txn rid row) number verdicts new does = absurd (let bad = does.1 in cc)
@@ -123,6 +124,7 @@ does_switch s Switch number verdicts new does =
     let number_told : number ≡ told.0 = cc in
     let verdicts_told : verdicts ≡ told.1 = cc in
     record {
+      asked = refl;
       build = on.0;
       running = on.2;
       number_is = number_told ∙ on.1.0;
@@ -131,7 +133,7 @@ does_switch s Switch number verdicts new does =
     }
 does_switch s Abandon number verdicts new does = absurd (let bad = does.0 in cc)
 
-switches : (s : CoreState) (event : Event) (number : ℕ) (verdicts : List Outcome) (new : CoreState) → Step s event (Switched number verdicts) new → Switched_in s number verdicts new
+switches : (s : CoreState) (event : Event) (number : ℕ) (verdicts : List Outcome) (new : CoreState) → Step s event (Switched number verdicts) new → Switched_in s event number verdicts new
 switches s event number verdicts new (inl refused) = absurd (let bad : Switched number verdicts ≡ Refused refused.0 = refused.1 in cc)
 switches s event number verdicts new (inr done) = does_switch s event number verdicts new done.1
 
@@ -165,7 +167,7 @@ behind (index ∷ ready) more i =
     let next : suc (length ready) + i ≡ suc (length ready + i) = omega arith in
     ap (slice_get (index ∷ ready ++ more)) next ∙ behind ready more i
 
-module _ (s : CoreState) (number : ℕ) (verdicts : List Outcome) (new end : CoreState) (switch : Switched_in s number verdicts new) (goes : GoesOn new.live.heap.log end.live.heap.log) where
+module _ (s : CoreState) (event : Event) (number : ℕ) (verdicts : List Outcome) (new end : CoreState) (switch : Switched_in s event number verdicts new) (goes : GoesOn new.live.heap.log end.live.heap.log) where
   abbrev noted : LogRec
   noted = logged.Switch (verdicts_on s.live switch.build)
 
@@ -213,13 +215,13 @@ each_switch start end (event ∷ events) (reply ∷ replies) run zero number ver
       found = start;
       left = run.0;
       before = refl;
-      decided = (run.0, run.1, refl);
+      decided = subst (λ (e : Event). Step start e (Switched number verdicts) run.0) switch.asked step;
       after = run.2;
-      beginning = beginning_is start number verdicts run.0 end switch goes;
+      beginning = beginning_is start event number verdicts run.0 end switch goes;
       build = switch.build;
       running = switch.running;
-      each = each_is start number verdicts run.0 end switch goes;
-      ready = ready_is start number verdicts run.0 end switch goes;
+      each = each_is start event number verdicts run.0 end switch goes;
+      ready = ready_is start event number verdicts run.0 end switch goes;
     }
 each_switch start end (event ∷ events) (reply ∷ replies) run (suc place) number verdicts at =
     let rest = each_switch run.0 end events replies run.2 place number verdicts at in
@@ -227,7 +229,7 @@ each_switch start end (event ∷ events) (reply ∷ replies) run (suc place) num
       found = rest.found;
       left = rest.left;
       before = (run.0, run.1, rest.before);
-      decided = (run.0, run.1, rest.decided);
+      decided = rest.decided;
       after = rest.after;
       beginning = rest.beginning;
       build = rest.build;

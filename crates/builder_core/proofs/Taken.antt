@@ -14,7 +14,7 @@ use Rattle.building.proofs.Taking.{next_count}
 use Rattle.builder_core.specs.Builds.{LiveValue, BuildingValue, WorkValue, IsRunning, SeesRing, WorksOn, worker_state, work_state, core_state, index_state}
 use Rattle.builder_core.specs.CoreState.{BuildState, CoreState, WorkerState, WorkState}
 use Rattle.builder_core.specs.Rings.{all_sent, ArePut}
-use Rattle.builder_core.specs.Steps.{OnBuild, Digests, next_copies, after_digest as digested}
+use Rattle.builder_core.specs.Steps.{OnBuild, Waits, Digests, next_copies, after_digest as digested}
 use Rattle.builder_core.specs.Workers.{waiting, worker_at}
 use Rattle.builder_core.specs.Working.{HasTaken, IsSpoiled, one_copy}
 use Rattle.builder_core.proofs.Refusals.{state_of, state_is, waiting_is, worker_there}
@@ -129,3 +129,18 @@ digests_none live building b w run fine put k less count sees none =
     ∙ ap (λ ws. record before { workers = ws }) (set-get_or before.workers k (record { taken = 0; sealed = 0 }))) in
     subst (λ (o : Option BuildState). OnBuild o (λ x. (0 ≡ next_copies x before k) × (core_state live building ≡ record { live = live.state; work = digested x before k })))
     (sym run.build_is) (sym nothing, ap (λ (s : WorkState). record { live = live.state; work = s }) state)
+
+-- where the ring has a copy, callers see that one waits
+pub waits_some :
+    (live : LiveValue) (building : BuildingValue) (b : BuildState) (w : WorkValue) (run : IsRunning live building b w) (fine : w.spoiled ≡ None)
+    (put : ArePut live.state.heap.schema live.state.heap.log b (all_sent live.pages)) (k : ℕ) (less : k < b.workers) (count : ℕ)
+    (sees : SeesRing k count live building) → 0 < count → Waits k (core_state live building)
+waits_some live building b w run fine put k less count sees some =
+    let there = map_at (λ (end : PutEnd Copied). end.sent) live.pages k sees.end sees.ring in
+    let waits = waiting_is live building b w run fine put k sees.end.sent sees.it less there sees.there sees.it.end.known sees.in_order in
+    subst (λ (o : Option BuildState). OnBuild o (λ x. 0 < waiting x (work_state building.workers building.work) k)) (sym run.build_is)
+    (omega (arith, waits, sees.seen, some))
+
+pub on_err : {T E : Type 0} (r : Result T E) (P : Type 0) → P → OnErr r P
+on_err (Ok x) P p = tt
+on_err (Err e) P p = p

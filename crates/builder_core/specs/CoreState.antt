@@ -37,7 +37,7 @@ pub record BuildState : Type 0 where
   pub workers : ℕ
   -- the pages that were copied since, in that order
   pub scans : List Scan
-  -- how many entries of each index's side-file were handed on to its list of pairs: none before the switch, as yet
+  -- how many entries of each index's side-file went into its ring: none before the switch, as yet
   pub fed : List ℕ
 
 -- what a build has read of the table, for one of its indexes
@@ -51,7 +51,7 @@ pub record LiveState : Type 0 where
   pub builds : ℕ
   pub build : Option BuildState
 
--- a worker: how many of the copies that were put to it it took, and how many these were when it last sealed
+-- a worker: how many it took of the copies that were put for it, and how many these were when it last sealed
 pub record WorkerState : Type 0 where
   pub taken : ℕ
   pub sealed : ℕ

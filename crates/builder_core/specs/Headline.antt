@@ -11,7 +11,8 @@ use Rattle.builder_core.specs.declared.event.Event.{Event}
 use Rattle.builder_core.specs.declared.reply.Reply.{Reply}
 use Rattle.builder_core.specs.declared.reply.Reply.TheVariants.{Switched}
 use Rattle.builder_core.specs.CoreState.{CoreState, LiveState, BuildState, ReadyValue, opening, abandoned}
-use Rattle.builder_core.specs.Steps.{Run}
+use Rattle.builder_core.specs.Steps.{Step, Run}
+use Rattle.builder_core.specs.declared.event.Event.TheVariants.{Switch}
 
 -- the index that a switch made ready under that number is of that specification, and has the pairs at rest of the rows of that log
 pub record HasPairsAtRest (log : List LogRec) (ready : List ReadyValue) (spec : KeySpecValue) (number : ℕ) : Type 0 where
@@ -27,7 +28,8 @@ pub record SwitchesIn (start end : CoreState) (events : List Event) (replies : L
   pub found : CoreState
   pub left : CoreState
   pub before : Run start (take place events) (take place replies) found
-  pub decided : Run start (take (suc place) events) (take (suc place) replies) left
+  -- the step from the one to the other is that switch
+  pub decided : Step found Switch (Switched number verdicts) left
   pub after : Run left (drop (suc place) events) (drop (suc place) replies) end
   -- its log is the beginning of the final one that ends with the switch
   pub beginning : left.live.heap.log ≡ first_records number end.live.heap.log

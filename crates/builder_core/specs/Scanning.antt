@@ -66,7 +66,7 @@ pub record IsScanned (b : Scanning) (log : List LogRec) : Type 0 where
 abbrev pub opened_scanning : KeySpecValue → List LogRec → Scanning
 opened_scanning spec log = record { spec = spec; opened = length log; pages = pages_written log; scans = [] }
 
--- the build with one page more, read by that worker now
+-- the build with one page more, read for that worker now
 abbrev pub with_scan : Scanning → ℕ → ℕ → List LogRec → Scanning
 with_scan b worker page log = record b { scans = b.scans ++ record { worker = worker; page = page; records = length log } ∷ [] }
 

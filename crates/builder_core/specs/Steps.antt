@@ -1,5 +1,5 @@
 -- What each event does and why it is refused; one step, and a run of events.
-use Rattle.std.specs.Prelude.{◌≡◌, ℕ, ◌+◌, Bool, true, false, ◌&&◌, ◌||◌, not, ◌==◌, nat_lt, nat_le, min, if◌then◌else◌, is_some, is_none, List, [], ◌∷◌, ◌++◌, ◌⊎◌, length, map, replicate, get_or, set, Option, Some, None, Result}
+use Rattle.std.specs.Prelude.{◌≡◌, ℕ, ◌+◌, ◌<◌, Bool, true, false, ◌&&◌, ◌||◌, not, ◌==◌, nat_lt, nat_le, min, if◌then◌else◌, is_some, is_none, List, [], ◌∷◌, ◌++◌, ◌⊎◌, length, map, replicate, get_or, set, Option, Some, None, Result}
 use Rattle.std.specs.List.{list_any, list_all, range_with_len, slice_get}
 use Rattle.std.specs.Option.{option_map}
 use Rattle.keybytes.specs.Answered.{Refused as RefusedBy, AnsweredInWant}
@@ -144,7 +144,7 @@ scan_refusal b work range worker =
     (first_cause work.spoiled
     (first_cause (range_refusal (next_page b range)) (cause_if (nat_le 4 (waiting b work worker)) RingFull)))
 
--- one page more is copied, by that worker
+-- one page more is copied, for that worker
 abbrev pub after_scan : LiveState → BuildState → ℕ → ℕ → LiveState
 after_scan live b worker page = record live {
   heap = after_visit live.heap;
@@ -162,6 +162,10 @@ worker_refusal b work worker = first_cause (cause_if (nat_le b.workers worker) B
 -- how many copies a worker takes at once: one, if one waits
 abbrev pub next_copies : BuildState → WorkState → ℕ → ℕ
 next_copies b work worker = min 1 (waiting b work worker)
+
+-- a copy waits for the worker
+abbrev pub Waits : ℕ → CoreState → Type 0
+Waits worker s = OnBuild s.live.build (λ b. 0 < waiting b s.work worker)
 
 -- the worker took the next copy, if one waited
 abbrev pub after_digest : BuildState → WorkState → ℕ → WorkState
@@ -297,7 +301,7 @@ Does s Abandon reply new = (reply ≡ Abandoned) × Abandons s new
 abbrev pub spoiled_by : Fault → CoreState → CoreState
 spoiled_by fault s = record s { work = spoiled_work fault }
 
--- what want of memory leaves: it changes nothing, but spoils a build whose worker was at work
+-- what want of memory leaves: it changes nothing, but spoils a build whose pairs were being made or put in order
 abbrev pub AfterMemory : Event → CoreState → CoreState → Type 0
 AfterMemory Begin s new = new ≡ s
 AfterMemory (Insert txn row) s new = new ≡ s
@@ -307,9 +311,9 @@ AfterMemory (Undo txn) s new = new ≡ s
 AfterMemory (Commit txn) s new = new ≡ s
 AfterMemory (Start plan) s new = new ≡ s
 AfterMemory (Scan range worker) s new = new ≡ s
-AfterMemory (Digest worker) s new = new ≡ spoiled_by Memory s
+AfterMemory (Digest worker) s new = Waits worker s × (new ≡ spoiled_by Memory s)
 AfterMemory (Seal worker) s new = new ≡ spoiled_by Memory s
-AfterMemory (Load index) s new = new ≡ spoiled_by Memory s
+AfterMemory (Load index) s new = ((index_at s.work index).loaded ≡ false) × (new ≡ spoiled_by Memory s)
 AfterMemory Switch s new = new ≡ s
 -- to give a build up takes no memory
 AfterMemory Abandon s new = ⊥

@@ -123,6 +123,7 @@ impl<T: Table> Building<T> {
         requires runs { IsSome self.old.work }
         requires few { IfSome self.old.work (λ work. work.workers ≤ length self.old.workers) }
         ensures loaded { IfOk result (λ count. HasLoaded self.old count self.new) }
+        ensures first { OnErr result (IfSome self.old.work (λ work. work.tree ≡ None)) }
         ensures spoiled { OnErr result (IsSpoiled self.old self.new) }
         ensures memory { IfErr result (λ fault. fault ≡ Fault.Memory) }
     {
@@ -145,7 +146,7 @@ impl<T: Table> Building<T> {
     }
 
     /// Gives the work of the build up. Takes no memory.
-    pub(crate) fn give_up(&mut self)
+    pub fn give_up(&mut self)
         ensures { self.new ≡ record self.old { work = None } }
     {
         self.work = None;

@@ -9,6 +9,8 @@ ghost use Rattle.builder_core.specs.CoreState.{opening, abandoned, after_visits,
 ghost use Rattle.std.specs.VecDeque.Iter.{deque_iter_rest};
 ghost use Rattle.builder_core.specs.SideFiles.{AreEntriesLeft, HaveEntryKeys, side_refusal};
 ghost use Rattle.builder_core.specs.Steps.{Step, Answers, OnBuild};
+ghost use Rattle.std.specs.Prelude.{IfSome};
+ghost use Rattle.builder_core.specs.Invariant.{BuildIsSound};
 
 use crate::{Building, Ends, Event, Live, Pair, Plan, ReadyIndex, Reply, Table};
 use heap_table::{PageImage, Undone};
@@ -119,7 +121,7 @@ impl<T: Table> Core<T> {
         self.live.spec(index)
     }
 
-    /// The entries of an index's side-file that were not applied yet, in order. [`Fault::NoBuild`] where no build runs,
+    /// The entries of an index's side-file that were not fed yet, in order. [`Fault::NoBuild`] where no build runs,
     /// [`Fault::BadCount`] where the build has no such index.
     pub fn side(&self, index: usize) -> Result<Iter<'_, Entry>, Fault>
         ensures ok { IfOk result (λ entries. AreEntriesLeft self.now.live.heap.log self.now.live.build index (deque_iter_rest entries)) }
@@ -130,10 +132,12 @@ impl<T: Table> Core<T> {
         self.live.side(index)
     }
 
-    /// Does one event. A refused one changes nothing, but for want of memory in a seal or a load, which spoils the build.
+    /// Does one event. A refused one changes nothing, but for want of memory in a digest, a seal or a load, which
+    /// spoils the build.
     pub fn step(&mut self, event: Event) -> Reply
         ensures step { Step self.old event result self.new }
         ensures ready { ReadyFollowTable self.new.live }
+        ensures sound { IfSome self.new.live.build (λ b. BuildIsSound b self.new.live.heap.log) }
     {
         let answer = self.attempt_own(event);
         self.reply(answer)
@@ -143,6 +147,7 @@ impl<T: Table> Core<T> {
     pub(crate) fn answer(&mut self, event: &Event) -> Reply
         ensures step { Step self.old event.now result self.new }
         ensures ready { ReadyFollowTable self.new.live }
+        ensures sound { IfSome self.new.live.build (λ b. BuildIsSound b self.new.live.heap.log) }
     {
         let answer = self.attempt(event);
         self.reply(answer)
@@ -152,8 +157,10 @@ impl<T: Table> Core<T> {
     fn reply(&self, answer: Result<Reply, Fault>) -> Reply
         ensures reply { MatchResult answer (λ reply. result ≡ reply) (λ fault. result ≡ Reply.Refused fault) }
         ensures ready { ReadyFollowTable self.now.live }
+        ensures sound { IfSome self.now.live.build (λ b. BuildIsSound b self.now.live.heap.log) }
     {
         let _follow = self.live.ready();
+        self.live.laws();
         match answer {
             Ok(reply) => reply,
             Err(fault) => Reply::Refused { fault },

@@ -122,7 +122,7 @@ impl<T: Table> Live<T> {
         self.build.as_ref()
     }
 
-    /// The entries of an index's side-file that were not applied yet, in order. [`Fault::NoBuild`] where no build runs,
+    /// The entries of an index's side-file that were not fed yet, in order. [`Fault::NoBuild`] where no build runs,
     /// [`Fault::BadCount`] where the build has no such index.
     pub fn side(&self, index: usize) -> Result<Iter<'_, Entry>, Fault>
         ensures ok { IfOk result (λ entries. AreEntriesLeft self.now.state.heap.log self.now.state.build index (deque_iter_rest entries)) }

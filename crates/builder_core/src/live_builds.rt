@@ -1,6 +1,10 @@
 //! The steps of a build that touch the table.
 ghost use Rattle.std.specs.Prelude.{◌≡◌, ◌<◌, ◌+◌, ◌∷◌, [], List, length, Some, None, IfOk, IfErr, OnOk, OnErr, IsOk, MatchOption, MatchResult};
 ghost use Rattle.std.specs.Prelude.{true, false, vec_len, vec_capacity, ◌==◌, is_some, IsSome, IfSome, ◌≤◌, ◌-◌, ℕ};
+ghost use Rattle.std.specs.Prelude.{slice_get, map};
+ghost use Rattle.builder_core.specs.Rings.{at_rest_on};
+ghost use Rattle.side_file.specs.Ends.{PutEnd};
+ghost use Rattle.building.specs.declared.copied.Copied.{Copied};
 ghost use Rattle.rtrb.specs.Ring.{received};
 ghost use Rattle.keybytes.specs.Answered.{Answered};
 ghost use Rattle.keybytes.specs.Pairs.{AreOrdered, set_of};
@@ -76,10 +80,11 @@ impl<T: Table> Live<T> {
     /// A build of the plan's indexes starts, and every ring is emptied; answered with the number of pages that it reads.
     /// [`Fault::BuildRunning`], [`Fault::BadCount`], [`Fault::BadColumn`], [`Fault::BadRanges`].
     pub fn start(&mut self, plan: &Plan, building: &mut Building<T>) -> Result<u32, Fault>
-        requires { WorksOn self.old building.old }
         ensures started { Answered (start_refusal self.old.state plan.now) (Starts plan.now)
             (core_state self.old building.old) result (core_state self.new building.new) }
-        ensures works { WorksOn self.new building.new }
+        ensures works { OnOk result (WorksOn self.new building.new) }
+        ensures emptied { OnOk result (building.new.workers ≡ map (at_rest_on self.new.state.builds) self.new.pages) }
+        ensures kept { WorksOn self.old building.old → WorksOn self.new building.new }
         ensures unchanged { OnErr result ((self.new ≡ self.old) × (building.new ≡ building.old)) }
     {
         let spec = self.check_plan(plan)?;
@@ -164,8 +169,11 @@ impl<T: Table> Live<T> {
         image: PageImage,
     ) -> Result<u32, (PageImage, Fault)>
         ensures scanned { IfOk result (λ page. Scans range worker self.old.state page self.new.state) }
+        ensures accepted { OnOk result (page_refusal self.old.state range worker ≡ None) }
         ensures works { (building : BuildingValue) → WorksOn self.old building → WorksOn self.new building }
         ensures succeeds { put_refusal self.old range worker ≡ None → IsOk result }
+        ensures first { (end : PutEnd Copied) → slice_get self.old.pages worker ≡ Some end → length end.sent < 4
+            → page_refusal self.old.state range worker ≡ None → IsOk result }
         ensures unchanged { OnErr result (self.new.state ≡ self.old.state) }
         ensures refused { IfErr result (λ back. put_refusal self.new range worker ≡ Some back.1) }
         ensures handed_back { IfErr result (λ back. back.0 ≡ image) }
@@ -216,6 +224,7 @@ impl<T: Table> Live<T> {
     /// Gives the build up. [`Fault::NoBuild`]. Takes no memory.
     pub fn abandon(&mut self) -> Result<(), Fault>
         ensures abandoned { OnOk result (self.new ≡ record self.old { state = abandoned self.old.state }) }
+        ensures works { OnOk result ((building : BuildingValue) → WorksOn self.new (record building { work = None })) }
         ensures accepted { OnOk result (IsSome self.old.state.build) }
         ensures refused { IfErr result (λ fault. (fault ≡ Fault.NoBuild) × (self.old.state.build ≡ None)) }
         ensures unchanged { OnErr result (self.new ≡ self.old) }

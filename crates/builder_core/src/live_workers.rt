@@ -1,11 +1,11 @@
 //! The steps of a build in which its workers have a part, with both ends of their rings at hand.
-ghost use Rattle.std.specs.Prelude.{◌≡◌, ◌++◌, ◌<◌, ◌≤◌, ◌+◌, length, slice_get, Some, None, IfSome, IfOk, IfErr, OnOk, OnErr, MatchOption, MatchResult};
+ghost use Rattle.std.specs.Prelude.{◌≡◌, ◌++◌, ◌<◌, ◌≤◌, ◌+◌, length, slice_get, false, Some, None, IfSome, IfOk, IfErr, OnOk, OnErr, MatchOption, MatchResult};
 ghost use Rattle.side_file.specs.Ends.{PutEnd};
 ghost use Rattle.building.specs.WorkerValue.{WorkerValue};
 ghost use Rattle.building.specs.declared.copied.Copied.{Copied};
 ghost use Rattle.builder_core.specs.Builds.{core_state, cause_of, put_refusal, HasLooked, SeesRing, MayWork, MayLoad, WorksOn};
 ghost use Rattle.builder_core.specs.Rings.{all_sent, AreQuiet, IsLoud, PagesFollow};
-ghost use Rattle.builder_core.specs.Steps.{Digests, Seals, Loads, spoiled_by};
+ghost use Rattle.builder_core.specs.Steps.{Waits, Digests, Seals, Loads, index_at, spoiled_by};
 ghost use Rattle.builder_core.specs.declared.event.Event.{Event};
 
 use crate::rings::{first_loud, waiting};
@@ -39,7 +39,7 @@ impl<T: Table> Live<T> {
     }
 
     /// Why a page of the range would not be copied for the worker, with both ends of the worker's ring at hand. Takes no memory.
-    pub fn check_scan(
+    pub(crate) fn check_scan(
         &mut self,
         range: usize,
         worker: usize,
@@ -69,11 +69,14 @@ impl<T: Table> Live<T> {
     }
 
     /// Why the worker would make no pairs. Takes no memory.
-    pub fn check_worker(&self, worker: usize, building: &Building<T>) -> Result<(), Fault>
+    pub(crate) fn check_worker(&self, worker: usize, building: &Building<T>) -> Result<(), Fault>
         requires { WorksOn self.now building.now }
-        ensures accepted { MatchResult result
+        ensures seal { MatchResult result
             (λ _. cause_of self.now building.now (Event.Seal worker) ≡ None)
             (λ fault. cause_of self.now building.now (Event.Seal worker) ≡ Some fault) }
+        ensures digest { MatchResult result
+            (λ _. cause_of self.now building.now (Event.Digest worker) ≡ None)
+            (λ fault. cause_of self.now building.now (Event.Digest worker) ≡ Some fault) }
         ensures runs { OnOk result (MayWork self.now building.now worker) }
     {
         let (Some(build), Some(work)) = (self.build(), building.work()) else {
@@ -93,6 +96,7 @@ impl<T: Table> Live<T> {
     ) -> Result<usize, Fault>
         requires works { WorksOn self.old building.old }
         requires runs { MayWork self.old building.old worker }
+        ensures waits { OnErr result (Waits worker (core_state self.old building.old)) }
         ensures digested { IfOk result (λ images. Digests worker (core_state self.old building.old) images (core_state self.new building.new)) }
         ensures spoiled { OnErr result (core_state self.new building.new ≡ spoiled_by Fault.Memory (core_state self.old building.old)) }
         ensures works { WorksOn self.new building.new }
@@ -118,7 +122,7 @@ impl<T: Table> Live<T> {
     }
 
     /// Why the pairs of the index would not be put in order, with both ends of the rings at hand. Takes no memory.
-    pub fn check_load(&mut self, index: usize, building: &mut Building<T>) -> Result<(), Fault>
+    pub(crate) fn check_load(&mut self, index: usize, building: &mut Building<T>) -> Result<(), Fault>
         requires { WorksOn self.old building.old }
         ensures accepted { OnOk result (cause_of self.old building.old (Event.Load index) ≡ None) }
         ensures refused { IfErr result (λ fault. cause_of self.old building.old (Event.Load index) ≡ Some fault) }
@@ -148,6 +152,7 @@ impl<T: Table> Live<T> {
     pub(crate) fn load(&self, building: &mut Building<T>) -> Result<usize, Fault>
         requires works { WorksOn self.now building.old }
         requires runs { MayLoad self.now building.old 0 }
+        ensures first { OnErr result ((index_at (core_state self.now building.old).work 0).loaded ≡ false) }
         ensures loaded { IfOk result (λ pairs. Loads 0 (core_state self.now building.old) pairs (core_state self.now building.new)) }
         ensures spoiled { OnErr result (core_state self.now building.new ≡ spoiled_by Fault.Memory (core_state self.now building.old)) }
         ensures works { WorksOn self.now building.new }

@@ -1,7 +1,7 @@
 /// A page that a build copied, and when: how long the table's log was then tells which changes the copy shows.
 #[derive(Debug, Clone, Copy)]
 pub struct Scan {
-    /// The worker that copied it.
+    /// The worker that it was copied for.
     pub worker: usize,
     /// Its number.
     pub page: u32,

@@ -4,12 +4,12 @@ use Rattle.side_file.specs.Ends.{PutEnd}
 use Rattle.building.specs.declared.copied.Copied.{Copied}
 use Rattle.builder_core.specs.Builds.{LiveValue, BuildingValue, core_state}
 use Rattle.builder_core.specs.CoreState.{CoreState}
-use Rattle.builder_core.specs.Steps.{Digests}
+use Rattle.builder_core.specs.Steps.{Waits, Digests}
 use Rattle.builder_core.specs.Rings.{all_sent, PagesFollow}
 use Rattle.builder_core.proofs.Looked.{works_looked, state_looked, runs_looked}
 use Rattle.builder_core.proofs.Places.{map_at}
 use Rattle.builder_core.proofs.Takes.{can_take, put_of}
-use Rattle.builder_core.proofs.Taken.{works_after, digests_after, digests_none}
+use Rattle.builder_core.proofs.Taken.{works_after, digests_after, digests_none, waits_some, on_err}
 use Rattle.builder_core.proofs.live.Live.digest.Goals as goal
 
 pub returns-then-look-eq0-clause-works : goal.returns-then-look-eq0-clause-works
@@ -65,3 +65,14 @@ returns-then-look-eq0-clause-digested g c =
     let run = runs_looked c.args.self.now live c.args.building.now building may.build may.work c.look.ensures.looked may.runs in
     subst (λ (s : CoreState). Digests c.args.worker s 0 (core_state live building)) (state_looked c.args.self.now live c.args.building.now building c.look.ensures.looked)
     (digests_none live building may.build may.work run may.fine (put_of live may.build run.build_is c.look.ensures.put) c.args.worker may.there c.look.result c.look.ensures.sees c.if-look-eq0.true)
+
+pub returns-clause-waits : goal.returns-clause-waits
+returns-clause-waits g c =
+    let may = c.requires.runs in
+    let live : LiveValue = c.look.new.self in
+    let building : BuildingValue = c.look.new.building in
+    let run = runs_looked c.args.self.now live c.args.building.now building may.build may.work c.look.ensures.looked may.runs in
+    let follow = subst (λ (l : LiveValue). PagesFollow l.state.heap.schema l.state.heap.log l.state.builds l.state.build (all_sent l.pages)) c.self.view_is c.self.invariant.3 in
+    on_err c.digest.result _ (subst (Waits c.args.worker) (state_looked c.args.self.now live c.args.building.now building c.look.ensures.looked)
+    (waits_some live building may.build may.work run may.fine (put_of live may.build run.build_is follow) c.args.worker may.there c.look.result
+    c.look.ensures.sees (omega (arith, c.if-look-eq0.false))))

@@ -1,6 +1,6 @@
 use Rattle.std.proofs.Common.{◌≡◌, ◌≤◌, length, Option, IfSome, ap, sym, ◌∙◌, subst, arith}
 use Rattle.builder_core.specs.Builds.{LiveValue, BuildingValue, WorkValue}
-use Rattle.builder_core.proofs.Loaded.{put_inside, works_after_load, loads_after}
+use Rattle.builder_core.proofs.Loaded.{put_inside, works_after_load, loads_after, wanted_first}
 use Rattle.builder_core.proofs.live.Live.load.Goals as goal
 
 pub load-requires-clause-few : goal.load-requires-clause-few
@@ -32,3 +32,13 @@ returns-clause-works g c =
     let sixteen : length building.workers ≡ 16 = sym (ap (λ (v : BuildingValue). length v.workers) c.building.view_is) ∙ c.building.invariant.sixteen in
     works_after_load live building may.build may.work may.runs may.fine put rings sixteen may.quiet may.all
     c.load.new.self c.load.result c.load.ensures.loaded c.load.ensures.spoiled
+
+pub returns-clause-first : goal.returns-clause-first
+returns-clause-first g c =
+    let may = c.requires.runs in
+    let live : LiveValue = c.args.self.now in
+    let building : BuildingValue = c.args.building.now in
+    let put = put_inside _ live may.build c.self.view_is may.runs.build_is c.self.invariant.3 in
+    let rings : length live.pages ≡ 16 = sym (ap (λ (l : LiveValue). length l.pages) c.self.view_is) ∙ c.self.invariant.5.sixteen in
+    let sixteen : length building.workers ≡ 16 = sym (ap (λ (v : BuildingValue). length v.workers) c.building.view_is) ∙ c.building.invariant.sixteen in
+    wanted_first live building may.build may.work may.runs may.fine put rings sixteen may.quiet may.all c.load.result c.load.ensures.first

@@ -114,3 +114,6 @@ returns-clause-started g c =
             ∙ ap (Whole live (started live plan)) work,
       ),
     )
+
+pub returns-clause-kept : goal.returns-clause-kept
+returns-clause-kept g c = λ works. returns-clause-works g c
