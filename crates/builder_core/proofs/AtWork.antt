@@ -1,5 +1,6 @@
 -- The workers of a build, as their rings are looked at and as they take what was put.
-use Rattle.std.proofs.Common.{◌≡◌, ℕ, zero, suc, ◌+◌, ◌-◌, ◌<◌, ◌≤◌, ◌==◌, true, List, [], ◌∷◌, ◌++◌, length, map, take, drop, set, Some, None, refl, sym, ap, ◌∙◌, subst, inl, inr, arith, get_or}
+use Rattle.std.proofs.Common.{◌≡◌, ℕ, zero, suc, ◌+◌, ◌-◌, ◌<◌, ◌≤◌, ◌==◌, true, List, [], ◌∷◌, ◌++◌, length, map, take, drop, set, Some, None, refl, sym}
+use Rattle.std.proofs.Common.{ap, ◌∙◌, subst, inl, inr, arith, get_or}
 use Rattle.std.specs.List.{All, slice_get}
 use Rattle.std.proofs.lemmas.List.{map-append, map-set, take-map, take-append-drop}
 use Rattle.std.proofs.lemmas.List.Elements.{All-weaker}
@@ -13,7 +14,7 @@ use Rattle.building.specs.declared.copied.Copied.{Copied}
 use Rattle.building.proofs.Taking.{looked_taking, start_taking, start_holds}
 use Rattle.builder_core.specs.Builds.{worker_state}
 use Rattle.builder_core.specs.CoreState.{WorkerState}
-use Rattle.builder_core.specs.Rings.{all_sent, at_rest_on, AreOfBuilds, AreTaking, AreHolding}
+use Rattle.builder_core.specs.Rings.{all_sent, begun_on, AreOfBuilds, AreTaking, AreHolding}
 use Rattle.builder_core.specs.Working.{all_emptied}
 use Rattle.builder_core.proofs.Places.{at_set, all_at, at_map, map_at, same_at, mapped}
 
@@ -117,10 +118,10 @@ taking_put build spec count all workers i new taking own k sent worker less ther
 -- a build begins
 module _
     (builds : ℕ) (spec : KeySpecValue) (pages : List (PutEnd Copied)) (before : AreOfBuilds builds (all_sent pages)) where
-  pub started_taking : (count : ℕ) → AreTaking (builds + 1) spec count (all_sent pages) (map (at_rest_on (builds + 1)) pages)
+  pub started_taking : (count : ℕ) → AreTaking (builds + 1) spec count (all_sent pages) (map (begun_on (builds + 1)) pages)
   started_taking count k sent worker less there at =
       let end = at_map (λ (e : PutEnd Copied). e.sent) pages k sent there in
-      let it = at_map (at_rest_on (builds + 1)) pages k worker at in
+      let it = at_map (begun_on (builds + 1)) pages k worker at in
       let same : it.0 ≡ end.0 = same_Some it.0 end.0 (sym it.1 ∙ end.1) in
       let old = all_at (λ (xs : List Copied). All (λ copied. copied.build ≤ builds) xs) (all_sent pages) k sent before there in
       let first : All (λ copied. copied.build < builds + 1) it.0.sent =
@@ -130,9 +131,9 @@ module _
       (subst (IsTaking (builds + 1) spec it.0.sent) it.2
       (start_taking (builds + 1) spec (record { ring = it.0.ring; received = it.0.sent; known = [] }) first))
 
-  pub started_holding : (count : ℕ) → AreHolding spec count (map (at_rest_on (builds + 1)) pages)
+  pub started_holding : (count : ℕ) → AreHolding spec count (map (begun_on (builds + 1)) pages)
   started_holding count k worker less at =
-      let it = at_map (at_rest_on (builds + 1)) pages k worker at in
+      let it = at_map (begun_on (builds + 1)) pages k worker at in
       let there = map_at (λ (e : PutEnd Copied). e.sent) pages k it.0 it.1 in
       let old = all_at (λ (xs : List Copied). All (λ copied. copied.build ≤ builds) xs) (all_sent pages) k it.0.sent before there in
       subst (HoldsPairs spec) it.2

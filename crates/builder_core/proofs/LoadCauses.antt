@@ -1,5 +1,6 @@
 -- Why the pairs of an index are not put in order.
-use Rattle.std.proofs.Common.{◌≡◌, ℕ, zero-add, ◌+◌, ◌<◌, ◌≤◌, Bool, true, false, List, [], ◌∷◌, length, take, Option, Some, None, sym, ap, ◌∙◌, arith, inl, inr}
+use Rattle.std.proofs.Common.{◌≡◌, ℕ, zero-add, ◌+◌, ◌<◌, ◌≤◌, Bool, true, false, List, [], ◌∷◌, length, take, Option, Some, None, sym, ap, ◌∙◌, arith, inl}
+use Rattle.std.proofs.Common.{inr}
 use Rattle.std.specs.Prelude.{nat_le, not}
 use Rattle.std.specs.List.{slice_get, range_with_len}
 use Rattle.std.specs.Option.{option_map}
@@ -15,7 +16,7 @@ use Rattle.building.specs.declared.copied.Copied.{Copied}
 use Rattle.builder_core.specs.Builds.{LiveValue, BuildingValue, WorkValue, work_state, core_state, worker_state, IsRunning}
 use Rattle.builder_core.specs.CoreState.{BuildState, WorkState}
 use Rattle.builder_core.specs.Ranges.{first_that, open_range}
-use Rattle.builder_core.specs.Rings.{all_sent, ArePut, AreQuiet, IsLoud, IsQuiet}
+use Rattle.builder_core.specs.Rings.{all_sent, ArePut, AreDone, IsUnfinished, IsDone}
 use Rattle.builder_core.specs.Steps.{cause_if, build_cause, load_refusal}
 use Rattle.builder_core.specs.Workers.{is_quiet, worker_at, loud_worker}
 use Rattle.builder_core.proofs.NextPages.{first_left, none_left}
@@ -37,13 +38,13 @@ module _
   module _ (k : ℕ) (sent : List Copied) (worker : WorkerValue) (less : k < b.workers) (there : slice_get (all_sent live.pages) k ≡ Some sent)
       (at : slice_get building.workers k ≡ Some worker) where
     -- whether it is quiet is what callers see
-    quiet_at : IsQuiet sent worker → is_quiet b live.state.heap.log k (worker_at work k) ≡ true
+    quiet_at : IsDone sent worker → is_quiet b live.state.heap.log k (worker_at work k) ≡ true
     quiet_at quiet =
         ap (is_quiet b live.state.heap.log k) (worker_there live building b w run fine put k less worker at)
         ∙ quiet_is live.state.heap.schema live.state.heap.log b w.spec k sent worker run.on.columns (put k sent there)
         (run.at_work.taking fine k sent worker less there at) run.on.specs quiet
 
-    quiet_there : is_quiet b live.state.heap.log k (worker_at work k) ≡ true → IsQuiet sent worker
+    quiet_there : is_quiet b live.state.heap.log k (worker_at work k) ≡ true → IsDone sent worker
     quiet_there is =
         is_quiet-quiet live.state.heap.schema live.state.heap.log b w.spec k sent worker run.on.columns (put k sent there)
         (run.at_work.taking fine k sent worker less there at) run.on.specs
@@ -60,14 +61,14 @@ module _
     is_loud k = not (is_quiet b live.state.heap.log k (worker_at work k))
 
     -- a worker that is quiet is not loud
-    not_loud : (k count : ℕ) → k < count → count ≤ b.workers → AreQuiet count (all_sent live.pages) building.workers → is_loud (0 + k) ≡ false
+    not_loud : (k count : ℕ) → k < count → count ≤ b.workers → AreDone count (all_sent live.pages) building.workers → is_loud (0 + k) ≡ false
     not_loud k count less within quiet =
         let end = there_is live.pages k (omega (arith, less, within, run.follows.few_workers, rings)) in
         let it = there_is building.workers k (omega (arith, less, within, run.follows.few_workers, sixteen)) in
         let there = map_at (λ (e : PutEnd Copied). e.sent) live.pages k end.0 end.1 in
         ap is_loud (zero-add k) ∙ ap not (quiet_at k end.0.sent it.0 (omega (arith, less, within)) there it.1 (quiet k end.0.sent it.0 less there it.1))
 
-    loud_there : (k : ℕ) → k < b.workers → IsLoud k (all_sent live.pages) building.workers → is_loud (0 + k) ≡ true
+    loud_there : (k : ℕ) → k < b.workers → IsUnfinished k (all_sent live.pages) building.workers → is_loud (0 + k) ≡ true
     loud_there k less loud =
         let end = there_is live.pages k (omega (arith, less, run.follows.few_workers, rings)) in
         let it = there_is building.workers k (omega (arith, less, run.follows.few_workers, sixteen)) in
@@ -77,13 +78,13 @@ module _
           | inr not_quiet ↦ ap not not_quiet
         ]
 
-    none_loud : AreQuiet b.workers (all_sent live.pages) building.workers → loud_worker b live.state.heap.log work ≡ None
+    none_loud : AreDone b.workers (all_sent live.pages) building.workers → loud_worker b live.state.heap.log work ≡ None
     none_loud quiet =
         ap (λ (n : ℕ). first_that is_loud (range_with_len 0 n)) count_is
         ∙ none_left is_loud 0 b.workers (λ k less. not_loud k b.workers less (omega arith) quiet)
 
     first_loud :
-        (k : ℕ) → k < b.workers → AreQuiet k (all_sent live.pages) building.workers → IsLoud k (all_sent live.pages) building.workers
+        (k : ℕ) → k < b.workers → AreDone k (all_sent live.pages) building.workers → IsUnfinished k (all_sent live.pages) building.workers
         → loud_worker b live.state.heap.log work ≡ Some k
     first_loud k less quiet loud =
         ap (λ (n : ℕ). first_that is_loud (range_with_len 0 n)) count_is
@@ -104,12 +105,12 @@ module _
 
     -- where all are quiet nothing is against it
     pub load_free :
-        open_range b ≡ None → AreQuiet b.workers (all_sent live.pages) building.workers
+        open_range b ≡ None → AreDone b.workers (all_sent live.pages) building.workers
         → build_cause live.state.build (λ x. load_refusal x (core_state live building) 0) ≡ None
     load_free all quiet = load_cause None all (none_loud quiet)
 
     -- the first that isn't is the cause
     pub load_loud :
-        (k : ℕ) → open_range b ≡ None → k < b.workers → AreQuiet k (all_sent live.pages) building.workers → IsLoud k (all_sent live.pages) building.workers
+        (k : ℕ) → open_range b ≡ None → k < b.workers → AreDone k (all_sent live.pages) building.workers → IsUnfinished k (all_sent live.pages) building.workers
         → build_cause live.state.build (λ x. load_refusal x (core_state live building) 0) ≡ Some (NotSealed k)
     load_loud k all less quiet loud = load_cause (Some k) all (first_loud k less quiet loud)

@@ -1,5 +1,6 @@
 -- What a load leaves, as callers see it.
-use Rattle.std.proofs.Common.{◌≡◌, ℕ, ◌<◌, true, List, [], ◌∷◌, ◌++◌, length, take, take_all, Option, Some, None, Result, Ok, Err, IfOk, IfSome, OnErr, false, if◌then◌else◌, refl, sym, ap, ◌∙◌, subst, arith}
+use Rattle.std.proofs.Common.{◌≡◌, ℕ, ◌<◌, true, List, [], ◌∷◌, ◌++◌, length, take, take_all, Option, Some, None, Result, Ok, Err, IfOk, IfSome, OnErr}
+use Rattle.std.proofs.Common.{false, if◌then◌else◌, refl, sym, ap, ◌∙◌, subst, arith}
 use Rattle.std.specs.Prelude.{is_some, flat_map, IsPermutation}
 use Rattle.std.specs.List.{slice_get}
 use Rattle.std.proofs.lemmas.Bool.{false≢true}
@@ -15,7 +16,7 @@ use Rattle.building.specs.declared.copied.Copied.{Copied}
 use Rattle.builder_core.specs.Builds.{LiveValue, BuildingValue, WorkValue, IsRunning, WorksOn, work_state, core_state, index_state, after_sort}
 use Rattle.builder_core.specs.CoreState.{BuildState, WorkerState, IndexState, WorkState, scanning_of}
 use Rattle.builder_core.specs.Ranges.{open_range}
-use Rattle.builder_core.specs.Rings.{all_sent, ArePut, AreQuiet, PagesFollow}
+use Rattle.builder_core.specs.Rings.{all_sent, ArePut, AreDone, PagesFollow}
 use Rattle.builder_core.specs.Scanning.{pairs_at_scan, scanned_pairs}
 use Rattle.builder_core.specs.Steps.{OnBuild, Loads, index_at, pairs_copied, after_load}
 use Rattle.builder_core.specs.Workers.{put_to}
@@ -46,7 +47,7 @@ put_inside inside live b same is follow =
 module _
     (live : LiveValue) (building : BuildingValue) (b : BuildState) (w : WorkValue) (run : IsRunning live building b w) (fine : w.spoiled ≡ None)
     (put : ArePut live.state.heap.schema live.state.heap.log b (all_sent live.pages)) (rings : length live.pages ≡ 16) (sixteen : length building.workers ≡ 16)
-    (quiet : AreQuiet b.workers (all_sent live.pages) building.workers) (all : open_range b ≡ None) where
+    (quiet : AreDone b.workers (all_sent live.pages) building.workers) (all : open_range b ≡ None) where
   abbrev before : WorkState
   before = work_state building.workers building.work
 

@@ -2,7 +2,8 @@
 use Rattle.std.proofs.Common.{◌≡◌, ℕ, List, [], ◌∷◌, map, Option, Some, None, refl, sym, ap, ◌∙◌, subst}
 use Rattle.building.specs.WorkerValue.{WorkerValue}
 use Rattle.building.specs.Work.{knowing}
-use Rattle.builder_core.specs.Builds.{LiveValue, BuildingValue, WorkValue, HasLooked, IsRunning, IsWorkOf, WorkersFollow, WorksOn, work_state, core_state, worker_state, state_unless, index_state}
+use Rattle.builder_core.specs.Builds.{LiveValue, BuildingValue, WorkValue, HasLooked, IsRunning, IsWorkOf, WorkersFollow, WorksOn, work_state, core_state}
+use Rattle.builder_core.specs.Builds.{worker_state, state_unless, index_state}
 use Rattle.builder_core.specs.CoreState.{BuildState, LiveState, WorkState}
 use Rattle.builder_core.proofs.AtWork.{outline, outlines_looked, states_same, taking_same, holding_looked}
 use Rattle.builder_core.proofs.OneRing.{workers_looked}

@@ -6,7 +6,7 @@ use Rattle.side_file.specs.Ends.{PutEnd, RingId}
 use Rattle.building.specs.Work.{knowing}
 use Rattle.building.specs.WorkerValue.{WorkerValue}
 use Rattle.building.specs.declared.copied.Copied.{Copied}
-use Rattle.builder_core.specs.Rings.{put_rings, take_rings, all_sent, AreLooked, AreQuiet, IsQuiet, IsLoud}
+use Rattle.builder_core.specs.Rings.{put_rings, take_rings, all_sent, AreLooked, AreDone, IsDone, IsUnfinished}
 use Rattle.builder_core.proofs.Places.{at_map, same_at, mapped}
 
 pub looked_again :
@@ -32,10 +32,10 @@ rings_looked p w p' w' looked same = looked.rings ∙ same ∙ sym (takes_looked
 -- who was quiet is
 pub quiet_looked :
     (p : List (PutEnd Copied)) (w : List WorkerValue) (p' : List (PutEnd Copied)) (w' : List WorkerValue) (count : ℕ) → AreLooked p w p' w'
-    → AreQuiet count (all_sent p) w → AreQuiet count (all_sent p') w'
+    → AreDone count (all_sent p) w → AreDone count (all_sent p') w'
 quiet_looked p w p' w' count looked quiet k sent worker less there at =
     let it = same_at (knowing []) w w' k worker (sym looked.same) at in
-    let was : IsQuiet sent it.0 = quiet k sent it.0 less (sym (ap (λ (l : List (List Copied)). slice_get l k) looked.sent) ∙ there) it.1 in
+    let was : IsDone sent it.0 = quiet k sent it.0 less (sym (ap (λ (l : List (List Copied)). slice_get l k) looked.sent) ∙ there) it.1 in
     record {
       taken = sym (ap (λ (v : WorkerValue). v.end.received) it.2) ∙ was.taken;
       closed = sym (ap (λ (v : WorkerValue). v.open_pairs) it.2) ∙ was.closed;
@@ -43,9 +43,9 @@ quiet_looked p w p' w' count looked quiet k sent worker less there at =
 
 -- one more is quiet
 pub quiet_more :
-    (count : ℕ) (all : List (List Copied)) (workers : List WorkerValue) → AreQuiet count all workers
-    → ((sent : List Copied) (worker : WorkerValue) → slice_get all count ≡ Some sent → slice_get workers count ≡ Some worker → IsQuiet sent worker)
-    → AreQuiet (count + 1) all workers
+    (count : ℕ) (all : List (List Copied)) (workers : List WorkerValue) → AreDone count all workers
+    → ((sent : List Copied) (worker : WorkerValue) → slice_get all count ≡ Some sent → slice_get workers count ≡ Some worker → IsDone sent worker)
+    → AreDone (count + 1) all workers
 quiet_more count all workers quiet next k sent worker less there at = elim (cases_lt k count) [
   | inl below ↦ quiet k sent worker below there at
   | inr last ↦

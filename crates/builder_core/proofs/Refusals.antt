@@ -1,5 +1,6 @@
 -- Why a step of a build of one index is refused, in the order of the causes.
-use Rattle.std.proofs.Common.{◌≡◌, ℕ, zero-add, ◌+◌, ◌-◌, ◌<◌, ◌≤◌, Bool, true, false, List, [], ◌∷◌, ◌++◌, length, map, take, Option, Some, None, refl, sym, ap, ◌∙◌, arith, subst}
+use Rattle.std.proofs.Common.{◌≡◌, ℕ, zero-add, ◌+◌, ◌-◌, ◌<◌, ◌≤◌, Bool, true, false, List, [], ◌∷◌, ◌++◌, length, map, take, Option, Some, None, refl}
+use Rattle.std.proofs.Common.{sym, ap, ◌∙◌, arith, subst}
 use Rattle.std.specs.Prelude.{◌||◌, nat_le, not}
 use Rattle.std.specs.List.{slice_get, range_with_len}
 use Rattle.std.proofs.lemmas.Bool.{le-leb, lt-leb, cases_Bool}
@@ -10,10 +11,11 @@ use Rattle.keybytes.specs.declared.fault.Fault.{Fault}
 use Rattle.keybytes.specs.declared.fault.Fault.TheVariants.{RingFull, NotSealed}
 use Rattle.building.specs.WorkerValue.{WorkerValue}
 use Rattle.building.specs.declared.copied.Copied.{Copied}
-use Rattle.builder_core.specs.Builds.{LiveValue, BuildingValue, WorkValue, work_state, core_state, worker_state, index_state, IsBuildOf, IsWorkOf, BuildFollows, WorkersFollow, WorksOn, IsRunning}
+use Rattle.builder_core.specs.Builds.{LiveValue, BuildingValue, WorkValue, work_state, core_state, worker_state, index_state, IsBuildOf, IsWorkOf}
+use Rattle.builder_core.specs.Builds.{BuildFollows, WorkersFollow, WorksOn, IsRunning}
 use Rattle.builder_core.specs.CoreState.{BuildState, LiveState, WorkState, scanning_of}
 use Rattle.builder_core.specs.Ranges.{next_page, open_range}
-use Rattle.builder_core.specs.Rings.{all_sent, ArePut, AreQuiet, IsLoud}
+use Rattle.builder_core.specs.Rings.{all_sent, ArePut, AreDone, IsUnfinished}
 use Rattle.builder_core.specs.Steps.{build_cause, scan_refusal, load_refusal}
 use Rattle.builder_core.specs.Workers.{put_to, waiting, is_quiet, worker_at, loud_worker}
 use Rattle.builder_core.proofs.NextPages.{first_left, none_left}

@@ -1,5 +1,6 @@
 -- What each step of a build does to what it has read: its start, a record more, a page more.
-use Rattle.std.proofs.Common.{◌≡◌, ℕ, zero, suc, ◌<◌, ◌≤◌, false, List, [], ◌∷◌, ◌++◌, length, take, append-nil, Option, Some, None, refl, sym, ap, ◌∙◌, inl, inr, arith, take_all}
+use Rattle.std.proofs.Common.{◌≡◌, ℕ, zero, suc, ◌<◌, ◌≤◌, false, List, [], ◌∷◌, ◌++◌, length, take, append-nil, Option, Some, None, refl, sym, ap, ◌∙◌}
+use Rattle.std.proofs.Common.{inl, inr, arith, take_all}
 use Rattle.std.specs.Prelude.{is_some, ◌||◌, ◌==◌, nat_le, flat_map}
 use Rattle.std.specs.List.{All}
 use Rattle.std.proofs.lemmas.Bool.{cases_Bool, cond-true, cond-false, false_from_ne_true, eq-eqb, ne_eqb, eqb-true, eqb-false, le-leb, lt-leb}
@@ -12,7 +13,8 @@ use Rattle.heap_log.specs.declared.record.LogRec.{LogRec}
 use Rattle.heap_log.proofs.Records.{length-added}
 use Rattle.heap_table.specs.Pages.{pages_written}
 use Rattle.heap_table.specs.TablePairs.{pairs_on}
-use Rattle.builder_core.specs.Scanning.{Scanning, scanned_at, is_by, is_visible, pairs_at_scan, scanned_pairs, IsScanOf, ReadOnce, IsScanned, opened_scanning, with_scan}
+use Rattle.builder_core.specs.Scanning.{Scanning, scanned_at, is_by, is_visible, pairs_at_scan, scanned_pairs, IsScanOf, ReadOnce, IsScanned}
+use Rattle.builder_core.specs.Scanning.{opened_scanning, with_scan}
 use Rattle.builder_core.specs.declared.scan.Scan.{Scan}
 use Rattle.builder_core.proofs.Seen.{IsScanAt, scan_at}
 

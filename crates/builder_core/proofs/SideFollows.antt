@@ -1,6 +1,7 @@
 -- The theorems on the side-file: applied to the pairs that were read, it leaves the pairs of the rows that stand where the
 -- build sees them, and each of its entries has effect.
-use Rattle.std.proofs.Common.{◌≡◌, ℕ, ◌≤◌, Bool, true, false, cond, List, [], ◌∷◌, ◌++◌, length, take, drop, append_assoc, append-nil, Option, Some, None, refl, sym, ap, ◌∙◌, subst, inl, inr, take_all, take-append-drop}
+use Rattle.std.proofs.Common.{◌≡◌, ℕ, ◌≤◌, Bool, true, false, cond, List, [], ◌∷◌, ◌++◌, length, take, drop, append_assoc, append-nil, Option, Some, None}
+use Rattle.std.proofs.Common.{refl, sym, ap, ◌∙◌, subst, inl, inr, take_all, take-append-drop}
 use Rattle.std.specs.Prelude.{nat_le, filter_map}
 use Rattle.std.specs.FinSet.{FinSet}
 use Rattle.std.specs.FinMap.{contains_key}

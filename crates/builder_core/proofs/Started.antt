@@ -14,7 +14,7 @@ use Rattle.building.specs.declared.copied.Copied.{Copied}
 use Rattle.builder_core.specs.Builds.{LiveValue, BuildingValue, WorkValue, IsBuildOf, IsWorkOn, WorksOn, build_over}
 use Rattle.builder_core.specs.CoreState.{BuildState}
 use Rattle.builder_core.specs.Ranges.{dealing_refusal, dealt_ends}
-use Rattle.builder_core.specs.Rings.{all_sent, put_rings, take_rings, at_rest_on, AreOfBuilds, ArePutEnds, AreTakeEnds}
+use Rattle.builder_core.specs.Rings.{all_sent, put_rings, take_rings, begun_on, AreOfBuilds, ArePutEnds, AreTakeEnds}
 use Rattle.builder_core.specs.SideFiles.{IsDrained}
 use Rattle.builder_core.specs.declared.dealing.Dealing.{Dealing}
 use Rattle.builder_core.proofs.AtWork.{started_taking, started_holding}
@@ -37,11 +37,11 @@ put_ends_started page_rings side_ring pages new side new_side are rings ring = r
 -- and so are those that take
 pub take_ends_started :
     (page_rings side_ring : List RingId) (build : ℕ) (pages : List (PutEnd Copied)) (side : PutEnd Entry) (workers : List WorkerValue) (end : TakeEnd Entry)
-    → ArePutEnds page_rings side_ring pages side → workers ≡ map (at_rest_on build) pages → side.ring ≡ end.ring → AreTakeEnds page_rings side_ring workers end
+    → ArePutEnds page_rings side_ring pages side → workers ≡ map (begun_on build) pages → side.ring ≡ end.ring → AreTakeEnds page_rings side_ring workers end
 take_ends_started page_rings side_ring build pages side workers end are is ring = record {
-  workers_are = ap take_rings is ∙ mapped (at_rest_on build) (λ (w : WorkerValue). w.end.ring) pages ∙ are.pages_are;
+  workers_are = ap take_rings is ∙ mapped (begun_on build) (λ (w : WorkerValue). w.end.ring) pages ∙ are.pages_are;
   side_is = ap (λ r. r ∷ []) (sym ring) ∙ are.side_is;
-  sixteen = ap length is ∙ length-map pages (at_rest_on build) ∙ are.sixteen;
+  sixteen = ap length is ∙ length-map pages (begun_on build) ∙ are.sixteen;
 }
 
 -- a build over the pages of that log
@@ -70,7 +70,7 @@ pub started_works :
     (live : LiveValue) (building : BuildingValue) (b : BuildState) (w : WorkValue) (builds : ℕ) (spec : KeySpecValue) (workers opened : ℕ) (cuts : CutsValue)
     → live.state.build ≡ Some b → building.work ≡ Some w → b ≡ build_over (builds + 1) spec workers opened cuts [] → w ≡ fresh spec workers
     → IsBuildOf live.state.heap.schema live.state.heap.log b → spec.kinds ≡ live.state.heap.schema → AreOfBuilds builds (all_sent live.pages)
-    → building.workers ≡ map (at_rest_on (builds + 1)) live.pages → IsDrained live.side building.side.ring building.side.received → WorksOn live building
+    → building.workers ≡ map (begun_on (builds + 1)) live.pages → IsDrained live.side building.side.ring building.side.received → WorksOn live building
 started_works live building b w builds spec workers opened cuts build_is work_is b_is w_is follows columns before workers_is drained =
     let new : BuildState = build_over (builds + 1) spec workers opened cuts [] in
     works_with live building b w (record {

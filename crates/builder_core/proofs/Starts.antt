@@ -18,7 +18,7 @@ use Rattle.side_file.specs.Ends.{PutEnd}
 use Rattle.building.specs.WorkerValue.{WorkerValue}
 use Rattle.building.specs.declared.copied.Copied.{Copied}
 use Rattle.builder_core.specs.Builds.{work_state, worker_state}
-use Rattle.builder_core.specs.Rings.{at_rest_on}
+use Rattle.builder_core.specs.Rings.{begun_on}
 use Rattle.builder_core.specs.CoreState.{LiveState}
 use Rattle.scan_range.specs.Cuts.{are_cuts}
 use Rattle.scan_range.proofs.EvenEnds.{even_are_cuts, even_fit}
@@ -126,15 +126,15 @@ repeated f (suc n) (x ∷ xs) y few all =
 abbrev IsFirst : WorkerValue → Type 0
 IsFirst worker = worker_state worker ≡ record { taken = 0; sealed = 0 }
 
-at_first : (build : ℕ) (pages : List (PutEnd Copied)) → All IsFirst (map (at_rest_on build) pages)
+at_first : (build : ℕ) (pages : List (PutEnd Copied)) → All IsFirst (map (begun_on build) pages)
 at_first build [] = All-nil IsFirst
-at_first build (end ∷ ends) = All-cons IsFirst (at_rest_on build end) (map (at_rest_on build) ends) refl (at_first build ends)
+at_first build (end ∷ ends) = All-cons IsFirst (begun_on build end) (map (begun_on build) ends) refl (at_first build ends)
 
 -- its work is that of so many workers on one index
 pub fresh_is :
     (plan : Plan) (spec : KeySpecValue) (build : ℕ) (pages : List (PutEnd Copied)) → plan.workers ≤ length pages → plan.specs.items ≡ spec ∷ []
-    → work_state (map (at_rest_on build) pages) (Some (fresh spec plan.workers)) ≡ fresh_work plan
+    → work_state (map (begun_on build) pages) (Some (fresh spec plan.workers)) ≡ fresh_work plan
 fresh_is plan spec build pages few one =
-    let states : map worker_state (take plan.workers (map (at_rest_on build) pages)) ≡ replicate plan.workers (record { taken = 0; sealed = 0 }) =
-    repeated worker_state plan.workers (map (at_rest_on build) pages) (record { taken = 0; sealed = 0 }) (omega (arith, few, length-map pages (at_rest_on build))) (at_first build pages) in
+    let states : map worker_state (take plan.workers (map (begun_on build) pages)) ≡ replicate plan.workers (record { taken = 0; sealed = 0 }) =
+    repeated worker_state plan.workers (map (begun_on build) pages) (record { taken = 0; sealed = 0 }) (omega (arith, few, length-map pages (begun_on build))) (at_first build pages) in
     rw (one, states) refl

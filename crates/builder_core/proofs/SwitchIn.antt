@@ -19,7 +19,8 @@ use Rattle.building.specs.declared.copied.Copied.{Copied}
 use Rattle.visibility.specs.Applied.{apply_entries}
 use Rattle.catch_up.specs.Built.{told_to}
 use Rattle.catch_up.proofs.Telling.{told_entries}
-use Rattle.builder_core.specs.Builds.{LiveValue, BuildingValue, WorkValue, BuildFollows, WorkersFollow, WorksOn, IsRunning, state_unless, work_state, core_state}
+use Rattle.builder_core.specs.Builds.{LiveValue, BuildingValue, WorkValue, BuildFollows, WorkersFollow, WorksOn, IsRunning, state_unless, work_state}
+use Rattle.builder_core.specs.Builds.{core_state}
 use Rattle.builder_core.specs.CoreState.{BuildState, LiveState, ReadyValue, CoreState, WorkState, idle, scanning_of}
 use Rattle.builder_core.specs.Scanning.{scanned_pairs}
 use Rattle.builder_core.specs.SideEntries.{side_entries}
@@ -135,7 +136,7 @@ module _
         → heap ≡ after_switch live.state.heap (Ready (length live.state.ready) ∷ [])
         → ready ≡ live.state.ready ++ record { spec = spec; pairs = pairs } ∷ [] → build ≡ None → left ≡ None
         → Switches (core_state live building) told
-          (record { live = record { heap = heap; ready = ready; builds = live.state.builds; build = build }; work = work_state workers left })
+        (record { live = record { heap = heap; ready = ready; builds = live.state.builds; build = build }; work = work_state workers left })
     switches told heap ready build workers left number verdicts noted grown none gone =
         let Whole : HeapState → List ReadyValue → CoreState =
         λ h r. record { live = record { heap = h; ready = r; builds = live.state.builds; build = None }; work = idle } in

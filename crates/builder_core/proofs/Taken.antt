@@ -1,5 +1,6 @@
 -- What a worker's digest leaves, as callers see it.
-use Rattle.std.proofs.Common.{◌≡◌, ℕ, ◌+◌, ◌<◌, ◌≤◌, List, [], ◌∷◌, ◌++◌, length, map, take, set, Option, Some, None, Result, Ok, Err, OnErr, IfOk, refl, sym, ap, ◌∙◌, subst, arith}
+use Rattle.std.proofs.Common.{◌≡◌, ℕ, ◌+◌, ◌<◌, ◌≤◌, List, [], ◌∷◌, ◌++◌, length, map, take, set, Option, Some, None, Result, Ok, Err, OnErr, IfOk, refl}
+use Rattle.std.proofs.Common.{sym, ap, ◌∙◌, subst, arith}
 use Rattle.std.specs.Prelude.{min}
 use Rattle.std.specs.List.{slice_get}
 use Rattle.std.proofs.lemmas.List.{set-get_or}

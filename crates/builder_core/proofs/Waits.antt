@@ -1,5 +1,6 @@
 -- What waits for a worker, and what it has not sealed, by what its ring was sent.
-use Rattle.std.proofs.Common.{◌≡◌, ℕ, zero, suc, ◌+◌, ◌-◌, ◌%◌, ◌<◌, ◌≤◌, ◌==◌, Bool, true, false, List, [], ◌∷◌, ◌++◌, length, map, take, take_all, drop, get_or, Some, None, refl, sym, ap, ap₂, ◌∙◌, subst, arith, length-append}
+use Rattle.std.proofs.Common.{◌≡◌, ℕ, zero, suc, ◌+◌, ◌-◌, ◌%◌, ◌<◌, ◌≤◌, ◌==◌, Bool, true, false, List, [], ◌∷◌, ◌++◌, length, map, take, take_all, drop}
+use Rattle.std.proofs.Common.{get_or, Some, None, refl, sym, ap, ap₂, ◌∙◌, subst, arith, length-append}
 use Rattle.std.specs.Prelude.{◌&&◌, flat_map}
 use Rattle.std.specs.List.{slice_get, list_all}
 use Rattle.std.proofs.lemmas.Bool.{and_parts, and_from, eq-eqb, eqb-true}
@@ -20,7 +21,7 @@ use Rattle.building.proofs.SamePairs.{have_same}
 use Rattle.building.proofs.Taking.{own_images, sent_count}
 use Rattle.builder_core.specs.Builds.{worker_state}
 use Rattle.builder_core.specs.CoreState.{BuildState, WorkerState, scanning_of}
-use Rattle.builder_core.specs.Rings.{IsQuiet}
+use Rattle.builder_core.specs.Rings.{IsDone}
 use Rattle.builder_core.specs.Scanning.{AreCopies, pairs_at_scan}
 use Rattle.builder_core.specs.Workers.{put_to, unsealed_pairs, fill_runs, is_quiet}
 use Rattle.builder_core.specs.declared.scan.Scan.{Scan}
@@ -108,7 +109,7 @@ module _
   only_spec one = ap (list_all (λ s. fill_runs (unsealed_pairs b log k (worker_state worker) s))) one ∙ and_true (fill_runs (unsealed_pairs b log k (worker_state worker) spec))
 
   -- a worker that took all, and whose run is closed, is quiet
-  pub quiet_is : b.specs ≡ spec ∷ [] → IsQuiet sent worker → is_quiet b log k (worker_state worker) ≡ true
+  pub quiet_is : b.specs ≡ spec ∷ [] → IsDone sent worker → is_quiet b log k (worker_state worker) ≡ true
   quiet_is one quiet =
       let none : taking.rest ≡ [] = append_cancel_left worker.end.received taking.rest [] (taking.in_order ∙ sym quiet.taken ∙ sym (append-nil worker.end.received)) in
       let all : worker.taken ≡ length (put_to b k) = let rest = ap (λ (cs : List Copied). length (images_of b.number cs)) none in omega (arith, counted, rest) in
@@ -118,7 +119,7 @@ module _
       (eq-eqb worker.taken (length (put_to b k)) all) (only_spec one ∙ closed)
 
   -- and only such a one
-  pub is_quiet-quiet : b.specs ≡ spec ∷ [] → is_quiet b log k (worker_state worker) ≡ true → IsQuiet sent worker
+  pub is_quiet-quiet : b.specs ≡ spec ∷ [] → is_quiet b log k (worker_state worker) ≡ true → IsDone sent worker
   is_quiet-quiet one is =
       let both = and_parts (worker.taken == length (put_to b k)) (list_all (λ s. fill_runs (unsealed_pairs b log k (worker_state worker) s)) b.specs) is in
       let all : worker.taken ≡ length (put_to b k) = eqb-true worker.taken (length (put_to b k)) both.0 in

@@ -1,5 +1,6 @@
 -- What a table and the workers of its build keep between events, and how the two go together.
-use Rattle.std.specs.Prelude.{◌≡◌, ℕ, ◌+◌, ◌-◌, ◌==◌, ◌<◌, ◌≤◌, List, [], ◌∷◌, ◌++◌, length, map, take, is_some, vec_len, vec_capacity, Vec, true, Option, Some, None}
+use Rattle.std.specs.Prelude.{◌≡◌, ℕ, ◌+◌, ◌-◌, ◌==◌, ◌<◌, ◌≤◌, List, [], ◌∷◌, ◌++◌, length, map, take, is_some, vec_len, vec_capacity, Vec, true, Option}
+use Rattle.std.specs.Prelude.{Some, None}
 use Rattle.std.specs.declared.alloc.Global.{Global}
 use Rattle.std.specs.FinMap.{keys}
 use Rattle.std.specs.List.{slice_get}
@@ -21,7 +22,7 @@ use Rattle.building.specs.WorkerValue.{WorkerValue}
 use Rattle.building.specs.declared.copied.Copied.{Copied}
 use Rattle.builder_core.specs.CoreState.{BuildState, LiveState, WorkerState, IndexState, WorkState, CoreState, scanning_of, live_with_heap, idle, spoiled_work}
 use Rattle.builder_core.specs.Ranges.{next_page, open_range}
-use Rattle.builder_core.specs.Rings.{all_sent, AreForWorkers, AreLooked, AreTaking, AreHolding, AreQuiet}
+use Rattle.builder_core.specs.Rings.{all_sent, AreForWorkers, AreLooked, AreTaking, AreHolding, AreDone}
 use Rattle.builder_core.specs.Scanning.{IsScanned, ReadOnce, scanned_at, scanned_pairs}
 use Rattle.builder_core.specs.SideFiles.{IsDrained}
 use Rattle.builder_core.specs.Steps.{refusal, cause_if, build_cause, counts_refusal, range_refusal}
@@ -73,9 +74,11 @@ abbrev pub room_in : Option (Vec Pair Global) → ℕ
 room_in None = 0
 room_in (Some pairs) = vec_capacity pairs - vec_len pairs
 
+-- what callers see of a worker
 abbrev pub worker_state : WorkerValue → WorkerState
 worker_state worker = record { taken = worker.taken; sealed = worker.sealed }
 
+-- and of the index
 abbrev pub index_state : Option (List Pair) → IndexState
 index_state tree = record { loaded = is_some tree; applied = 0 }
 
@@ -165,12 +168,13 @@ pub record AreAtWork (b : BuildState) (pages : List (PutEnd Copied)) (side : Put
   pub taking : work.spoiled ≡ None → AreTaking b.number work.spec b.workers (all_sent pages) building.workers
   pub holding : work.spoiled ≡ None → work.tree ≡ None → AreHolding work.spec b.workers building.workers
 
+-- the same for the build that runs, if one does
 abbrev pub WorkersFollow : List (PutEnd Copied) → PutEnd Entry → BuildingValue → Option BuildState → Option WorkValue → Type 0
 WorkersFollow pages side building None work = Unit {0}
 WorkersFollow pages side building (Some b) None = Unit {0}
 WorkersFollow pages side building (Some b) (Some work) = AreAtWork b pages side building work
 
--- what stands beside a table goes with it
+-- work stands beside a table exactly where a build runs on it, and is that build's, and its workers follow their rings
 pub record WorksOn (live : LiveValue) (building : BuildingValue) : Type 0 where
   pub work : IsWorkOf live.state.heap.schema live.state.heap.log live.state.build building.work
   pub workers : WorkersFollow live.pages live.side building live.state.build building.work
@@ -234,4 +238,4 @@ pub record MayLoad (live : LiveValue) (building : BuildingValue) (index : ℕ) :
   pub fine : work.spoiled ≡ None
   pub only : index ≡ 0
   pub all : open_range build ≡ None
-  pub quiet : AreQuiet build.workers (all_sent live.pages) building.workers
+  pub quiet : AreDone build.workers (all_sent live.pages) building.workers

@@ -76,17 +76,20 @@ idle = record { workers = []; indexes = []; spoiled = None }
 abbrev pub spoiled_work : Fault → WorkState
 spoiled_work fault = record { workers = []; indexes = []; spoiled = Some fault }
 
+-- a table, and the work on its build
 pub record CoreState : Type 0 where
   pub live : LiveState
   pub work : WorkState
 
--- the same with that table
+-- the same with that heap
 abbrev pub live_with_heap : LiveState → HeapState → LiveState
 live_with_heap live heap = record live { heap = heap }
 
+-- the same with that table
 abbrev pub with_live : CoreState → LiveState → CoreState
 with_live s live = record s { live = live }
 
+-- the same with that heap
 abbrev pub with_heap : CoreState → HeapState → CoreState
 with_heap s heap = with_live s (live_with_heap s.live heap)
 

@@ -17,10 +17,11 @@ use Rattle.builder_core.specs.Scanning.{AreCopies}
 use Rattle.builder_core.specs.Workers.{put_to}
 use Rattle.builder_core.specs.declared.scan.Scan.{Scan}
 
--- which rings these ends that put, or these workers, have
+-- which rings these ends put into
 abbrev pub put_rings : List (PutEnd Copied) → List RingId
 put_rings pages = map (λ end. end.ring) pages
 
+-- which rings these workers take from
 abbrev pub take_rings : List WorkerValue → List RingId
 take_rings workers = map (λ worker. worker.end.ring) workers
 
@@ -58,6 +59,7 @@ pub record HasPut (kinds : List Kind) (log : List LogRec) (builds : ℕ) (b : Bu
   pub number : b.number ≤ builds
   pub put : ArePut kinds log b all
 
+-- the same for the build that runs, if one does
 abbrev pub PagesFollow : List Kind → List LogRec → ℕ → Option BuildState → List (List Copied) → Type 0
 PagesFollow kinds log builds None all = Unit {0}
 PagesFollow kinds log builds (Some b) all = HasPut kinds log builds b all
@@ -73,27 +75,29 @@ abbrev pub AreHolding : KeySpecValue → ℕ → List WorkerValue → Type 0
 AreHolding spec count workers = (k : ℕ) (worker : WorkerValue) → k < count → slice_get workers k ≡ Some worker → HoldsPairs spec worker
 
 -- both ends of the rings were looked at, and nothing was put or taken
-pub record AreLooked (pages : List (PutEnd Copied)) (workers : List WorkerValue) (new_pages : List (PutEnd Copied)) (new_workers : List WorkerValue) : Type 0 where
+pub record AreLooked
+    (pages : List (PutEnd Copied)) (workers : List WorkerValue) (new_pages : List (PutEnd Copied)) (new_workers : List WorkerValue)
+    : Type 0 where
   pub rings : put_rings new_pages ≡ put_rings pages
   pub sent : all_sent new_pages ≡ all_sent pages
   pub same : map (knowing []) new_workers ≡ map (knowing []) workers
 
 -- a worker that begins a build, and has taken all that its ring was sent before
-abbrev pub at_rest_on : ℕ → PutEnd Copied → WorkerValue
-at_rest_on build end = at_start build (record { ring = end.ring; received = end.sent; known = [] })
+abbrev pub begun_on : ℕ → PutEnd Copied → WorkerValue
+begun_on build end = at_start build (record { ring = end.ring; received = end.sent; known = [] })
 
 -- a worker took all that its ring was sent, and has no run open
-pub record IsQuiet (sent : List Copied) (worker : WorkerValue) : Type 0 where
+pub record IsDone (sent : List Copied) (worker : WorkerValue) : Type 0 where
   pub taken : worker.end.received ≡ sent
   pub closed : worker.open_pairs ≡ 0
 
--- so are the first of so many
-abbrev pub AreQuiet : ℕ → List (List Copied) → List WorkerValue → Type 0
-AreQuiet count all workers =
+-- the first so many workers are
+abbrev pub AreDone : ℕ → List (List Copied) → List WorkerValue → Type 0
+AreDone count all workers =
     (k : ℕ) (sent : List Copied) (worker : WorkerValue) → k < count → slice_get all k ≡ Some sent → slice_get workers k ≡ Some worker
-    → IsQuiet sent worker
+    → IsDone sent worker
 
--- the worker of that number isn't
-abbrev pub IsLoud : ℕ → List (List Copied) → List WorkerValue → Type 0
-IsLoud k all workers =
-    (sent : List Copied) (worker : WorkerValue) → slice_get all k ≡ Some sent → slice_get workers k ≡ Some worker → IsQuiet sent worker → ⊥
+-- the worker of that number isn't done
+abbrev pub IsUnfinished : ℕ → List (List Copied) → List WorkerValue → Type 0
+IsUnfinished k all workers =
+    (sent : List Copied) (worker : WorkerValue) → slice_get all k ≡ Some sent → slice_get workers k ≡ Some worker → IsDone sent worker → ⊥

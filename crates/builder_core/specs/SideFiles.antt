@@ -17,7 +17,8 @@ use Rattle.builder_core.specs.CoreState.{BuildState, scanning_of}
 use Rattle.builder_core.specs.Scanning.{scanned_at}
 use Rattle.builder_core.specs.SideEntries.{side_entries}
 
--- whether the build has to hear of a change at the RID by now: its page is newer than the build, or was copied
+-- whether the build has to hear of a change at the RID by now: its page is newer than the build, or was copied. It is `is_visible`,
+-- with the log as it is now
 abbrev pub sees : BuildState → Rid → Bool
 sees b rid = nat_le b.pages rid.page || is_some (scanned_at b.scans rid.page)
 

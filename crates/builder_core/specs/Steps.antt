@@ -1,5 +1,6 @@
 -- What each event does and why it is refused; one step, and a run of events.
-use Rattle.std.specs.Prelude.{◌≡◌, ℕ, ◌+◌, ◌<◌, Bool, true, false, ◌&&◌, ◌||◌, not, ◌==◌, nat_lt, nat_le, min, if◌then◌else◌, is_some, is_none, List, [], ◌∷◌, ◌++◌, ◌⊎◌, length, map, replicate, get_or, set, Option, Some, None, Result}
+use Rattle.std.specs.Prelude.{◌≡◌, ℕ, ◌+◌, ◌<◌, Bool, true, false, ◌&&◌, ◌||◌, not, ◌==◌, nat_lt, nat_le, min, if◌then◌else◌, is_some, is_none, List, []}
+use Rattle.std.specs.Prelude.{◌∷◌, ◌++◌, ◌⊎◌, length, map, replicate, get_or, set, Option, Some, None, Result}
 use Rattle.std.specs.List.{list_any, list_all, range_with_len, slice_get}
 use Rattle.std.specs.Option.{option_map}
 use Rattle.keybytes.specs.Answered.{Refused as RefusedBy, AnsweredInWant}
@@ -8,20 +9,24 @@ use Rattle.keybytes.specs.Keys.{KeySpecValue}
 use Rattle.keybytes.specs.declared.kind.Kind.{Kind}
 use Rattle.keybytes.specs.declared.kind.Kind.TheVariants.{Int, Text, Flag}
 use Rattle.keybytes.specs.declared.fault.Fault.{Fault}
-use Rattle.keybytes.specs.declared.fault.Fault.TheVariants.{BuildRunning, NoBuild, BadCount, BadColumn, RangeDone, RingFull, NotScanned, NotSealed, NotLoaded, Behind, Memory}
+use Rattle.keybytes.specs.declared.fault.Fault.TheVariants.{BuildRunning, NoBuild, BadCount, BadColumn, RangeDone, RingFull, NotScanned, NotSealed}
+use Rattle.keybytes.specs.declared.fault.Fault.TheVariants.{NotLoaded, Behind, Memory}
 use Rattle.heap_log.specs.declared.outcome.Outcome.{Outcome}
 use Rattle.heap_log.specs.declared.outcome.Outcome.TheVariants.{Ready}
 use Rattle.heap_log.specs.declared.record.LogRec.{LogRec}
 use Rattle.heap_table.specs.Calls.{Begins, Inserts, Updates, Deletes, Undoes, Commits}
-use Rattle.heap_table.specs.HeapState.{HeapState, begin_refusal, txn_refusal, insert_refusal, update_refusal, delete_refusal, undo_refusal, after_switch, after_visit}
+use Rattle.heap_table.specs.HeapState.{HeapState, begin_refusal, txn_refusal, insert_refusal, update_refusal, delete_refusal, undo_refusal, after_switch}
+use Rattle.heap_table.specs.HeapState.{after_visit}
 use Rattle.heap_table.specs.Pages.{pages_written}
 use Rattle.heap_table.specs.TablePairs.{pairs_at_rest}
 use Rattle.builder_core.specs.declared.plan.Plan.{Plan}
 use Rattle.builder_core.specs.declared.event.Event.{Event}
 use Rattle.builder_core.specs.declared.event.Event.TheVariants.{Begin, Insert, Update, Delete, Undo, Commit, Start, Scan, Digest, Seal, Load, Switch, Abandon}
 use Rattle.builder_core.specs.declared.reply.Reply.{Reply}
-use Rattle.builder_core.specs.declared.reply.Reply.TheVariants.{Begun, Written, Undone, Committed, Started, Scanned, Digested, Sealed, Loaded, Switched, Abandoned, Refused}
-use Rattle.builder_core.specs.CoreState.{ReadyValue, BuildState, LiveState, IndexState, WorkState, CoreState, scanning_of, live_with_heap, with_live, opening, idle, spoiled_work}
+use Rattle.builder_core.specs.declared.reply.Reply.TheVariants.{Begun, Written, Undone, Committed, Started, Scanned, Digested, Sealed, Loaded, Switched}
+use Rattle.builder_core.specs.declared.reply.Reply.TheVariants.{Abandoned, Refused}
+use Rattle.builder_core.specs.CoreState.{ReadyValue, BuildState, LiveState, IndexState, WorkState, CoreState, scanning_of, live_with_heap, with_live}
+use Rattle.builder_core.specs.CoreState.{opening, idle, spoiled_work}
 use Rattle.builder_core.specs.Ranges.{dealt_ends, dealing_refusal, next_page, open_range}
 use Rattle.builder_core.specs.Scanning.{scanned_pairs}
 use Rattle.builder_core.specs.Workers.{put_to, worker_at, waiting, loud_worker, unloaded_index, all_unapplied}
@@ -32,7 +37,7 @@ cause_if test fault = if test then Some fault else None
 
 -- Writes, undos and commits.
 
--- a call of the table within it
+-- a call of the heap, as a step of the table with its indexes
 abbrev pub OnHeap : {R : Type 0} → (HeapState → R → HeapState → Type 0) → LiveState → R → LiveState → Type 0
 OnHeap Does live answer new = Does live.heap answer new.heap × (new ≡ live_with_heap live new.heap)
 
@@ -195,6 +200,7 @@ load_refusal b s index =
     (first_cause s.work.spoiled
     (first_cause (option_map NotScanned (open_range b)) (option_map NotSealed (loud_worker b s.live.heap.log s.work))))
 
+-- an index of the build
 abbrev pub index_at : WorkState → ℕ → IndexState
 index_at work index = get_or work.indexes index (record { loaded = false; applied = 0 })
 
@@ -233,6 +239,7 @@ switch_refusal b log work =
 abbrev pub ready_from : ℕ → ℕ → List Outcome
 ready_from number count = map Ready (range_with_len number count)
 
+-- what becomes of each index of the build
 abbrev pub verdicts_on : LiveState → BuildState → List Outcome
 verdicts_on live b = ready_from (length live.ready) (length b.specs)
 

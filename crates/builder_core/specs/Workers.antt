@@ -14,6 +14,7 @@ use Rattle.builder_core.specs.declared.scan.Scan.{Scan}
 abbrev pub put_to : BuildState → ℕ → List Scan
 put_to b worker = filter (λ scan. scan.worker == worker) b.scans
 
+-- a worker of the build
 abbrev pub worker_at : WorkState → ℕ → WorkerState
 worker_at work worker = get_or work.workers worker (record { taken = 0; sealed = 0 })
 

@@ -20,9 +20,9 @@ pub record CanTake (kinds : List Kind) (worker : ℕ) (count : WorkerValue → �
   pub seen : count it ≤ length it.end.known
   pub can : CanDigest work.spec (count it) it
 
--- it took these, made their pairs, and did what else it does then; answered with the number of images of its build
+-- the worker took these copies and made their pairs; at a seal it then closed its run. Answered with how many were of its build
 pub record HasTaken
-    (worker : ℕ) (count : WorkerValue → ℕ) (then : WorkerValue → WorkerValue) (old : BuildingValue) (images : ℕ) (new : BuildingValue)
+    (worker : ℕ) (count : WorkerValue → ℕ) (closing : WorkerValue → WorkerValue) (old : BuildingValue) (images : ℕ) (new : BuildingValue)
     : Type 0 where
   pub work : WorkValue
   pub runs : old.work ≡ Some work
@@ -31,12 +31,13 @@ pub record HasTaken
   pub made : List Pair
   pub have : HavePairs work.spec (next_images (count it) it) made
   pub counted : images ≡ length (next_images (count it) it)
-  pub left : new ≡ record old { workers = set old.workers worker (then (after_digest (count it) made it)) }
+  pub left : new ≡ record old { workers = set old.workers worker (closing (after_digest (count it) made it)) }
 
 -- the copies that a worker takes at a digest, and at a seal
 abbrev pub one_copy : WorkerValue → ℕ
 one_copy worker = 1
 
+-- all that it sees
 abbrev pub all_copies : WorkerValue → ℕ
 all_copies worker = length worker.end.known
 
@@ -60,7 +61,7 @@ pub record HasSorted (work : WorkValue) (old : BuildingValue) (count : ℕ) (new
   pub counted : count ≡ length pairs
   pub left : new ≡ record old { workers = all_emptied work.workers old.workers; work = Some (after_sort work pairs room) }
 
--- or were so before
+-- a load: the pairs are put in order, or were so before
 pub record HasLoaded (old : BuildingValue) (count : ℕ) (new : BuildingValue) : Type 0 where
   pub work : WorkValue
   pub runs : old.work ≡ Some work

@@ -2,7 +2,7 @@
 ghost use Rattle.std.specs.Prelude.{◌≡◌, ◌<◌, ◌+◌, ◌∷◌, [], List, length, Some, None, IfOk, IfErr, OnOk, OnErr, IsOk, MatchOption, MatchResult};
 ghost use Rattle.std.specs.Prelude.{true, false, vec_len, vec_capacity, ◌==◌, is_some, IsSome, IfSome, ◌≤◌, ◌-◌, ℕ};
 ghost use Rattle.std.specs.Prelude.{slice_get, map};
-ghost use Rattle.builder_core.specs.Rings.{at_rest_on};
+ghost use Rattle.builder_core.specs.Rings.{begun_on};
 ghost use Rattle.side_file.specs.Ends.{PutEnd};
 ghost use Rattle.building.specs.declared.copied.Copied.{Copied};
 ghost use Rattle.rtrb.specs.Ring.{received};
@@ -83,7 +83,7 @@ impl<T: Table> Live<T> {
         ensures started { Answered (start_refusal self.old.state plan.now) (Starts plan.now)
             (core_state self.old building.old) result (core_state self.new building.new) }
         ensures works { OnOk result (WorksOn self.new building.new) }
-        ensures emptied { OnOk result (building.new.workers ≡ map (at_rest_on self.new.state.builds) self.new.pages) }
+        ensures emptied { OnOk result (building.new.workers ≡ map (begun_on self.new.state.builds) self.new.pages) }
         ensures kept { WorksOn self.old building.old → WorksOn self.new building.new }
         ensures unchanged { OnErr result ((self.new ≡ self.old) × (building.new ≡ building.old)) }
     {

@@ -4,7 +4,7 @@ ghost use Rattle.side_file.specs.Ends.{PutEnd};
 ghost use Rattle.building.specs.WorkerValue.{WorkerValue};
 ghost use Rattle.building.specs.declared.copied.Copied.{Copied};
 ghost use Rattle.builder_core.specs.Builds.{core_state, cause_of, put_refusal, HasLooked, SeesRing, MayWork, MayLoad, WorksOn};
-ghost use Rattle.builder_core.specs.Rings.{all_sent, AreQuiet, IsLoud, PagesFollow};
+ghost use Rattle.builder_core.specs.Rings.{all_sent, AreDone, IsUnfinished, PagesFollow};
 ghost use Rattle.builder_core.specs.Steps.{Waits, Digests, Seals, Loads, index_at, spoiled_by};
 ghost use Rattle.builder_core.specs.declared.event.Event.{Event};
 
@@ -29,8 +29,8 @@ impl<T: Table> Live<T> {
         requires { count ≤ 16 }
         ensures looked { HasLooked self.old building.old self.new building.new }
         ensures loud { MatchOption result
-            (AreQuiet count (all_sent self.new.pages) building.new.workers)
-            (λ k. (k < count) × AreQuiet k (all_sent self.new.pages) building.new.workers × IsLoud k (all_sent self.new.pages) building.new.workers) }
+            (AreDone count (all_sent self.new.pages) building.new.workers)
+            (λ k. (k < count) × AreDone k (all_sent self.new.pages) building.new.workers × IsUnfinished k (all_sent self.new.pages) building.new.workers) }
         ensures put { PagesFollow self.new.state.heap.schema self.new.state.heap.log self.new.state.builds self.new.state.build (all_sent self.new.pages) }
         ensures pages { length self.new.pages ≡ 16 }
         ensures workers { length building.new.workers ≡ 16 }
@@ -122,7 +122,11 @@ impl<T: Table> Live<T> {
     }
 
     /// Why the pairs of the index would not be put in order, with both ends of the rings at hand. Takes no memory.
-    pub(crate) fn check_load(&mut self, index: usize, building: &mut Building<T>) -> Result<(), Fault>
+    pub(crate) fn check_load(
+        &mut self,
+        index: usize,
+        building: &mut Building<T>,
+    ) -> Result<(), Fault>
         requires { WorksOn self.old building.old }
         ensures accepted { OnOk result (cause_of self.old building.old (Event.Load index) ≡ None) }
         ensures refused { IfErr result (λ fault. cause_of self.old building.old (Event.Load index) ≡ Some fault) }

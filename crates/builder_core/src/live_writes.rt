@@ -54,7 +54,8 @@ impl<T: Table> Live<T> {
     /// The transaction inserts a row; answered with the record's number and the RID. A running build that sees the RID hears
     /// of it by its side-file. [`Fault::BuildRunning`] while an index is ready; then as [`heap_table::Heap::insert`].
     pub fn insert(&mut self, txn: u64, row: Row) -> Result<(usize, Rid), Fault>
-        ensures inserted { Answered (unless_indexed self.old.state (insert_refusal self.old.state.heap txn row)) (OnHeap (Inserts txn row)) self.old.state result self.new.state }
+        ensures inserted { Answered (unless_indexed self.old.state (insert_refusal self.old.state.heap txn row)) (OnHeap (Inserts txn row))
+            self.old.state result self.new.state }
         ensures works { (building : BuildingValue) → WorksOn self.old building → WorksOn self.new building }
     {
         self.check_unindexed()?;
@@ -65,7 +66,8 @@ impl<T: Table> Live<T> {
     /// The transaction gives a RID another row. [`Fault::BuildRunning`] as for an insert; then as
     /// [`heap_table::Heap::update`].
     pub fn update(&mut self, txn: u64, rid: Rid, row: Row) -> Result<(usize, Rid), Fault>
-        ensures updated { Answered (unless_indexed self.old.state (update_refusal self.old.state.heap txn rid row)) (OnHeap (Updates txn rid row)) self.old.state result self.new.state }
+        ensures updated { Answered (unless_indexed self.old.state (update_refusal self.old.state.heap txn rid row)) (OnHeap (Updates txn rid row))
+            self.old.state result self.new.state }
         ensures works { (building : BuildingValue) → WorksOn self.old building → WorksOn self.new building }
     {
         self.check_unindexed()?;
@@ -76,7 +78,8 @@ impl<T: Table> Live<T> {
     /// The transaction takes the row at a RID away. [`Fault::BuildRunning`] as for an insert; then as
     /// [`heap_table::Heap::delete`].
     pub fn delete(&mut self, txn: u64, rid: Rid) -> Result<(usize, Rid), Fault>
-        ensures deleted { Answered (unless_indexed self.old.state (delete_refusal self.old.state.heap txn rid)) (OnHeap (Deletes txn rid)) self.old.state result self.new.state }
+        ensures deleted { Answered (unless_indexed self.old.state (delete_refusal self.old.state.heap txn rid)) (OnHeap (Deletes txn rid))
+            self.old.state result self.new.state }
         ensures works { (building : BuildingValue) → WorksOn self.old building → WorksOn self.new building }
     {
         self.check_unindexed()?;
@@ -87,7 +90,8 @@ impl<T: Table> Live<T> {
     /// The transaction's newest standing write is undone: a change like any other, of which the running build hears if it sees
     /// the RID by now. [`Fault::BuildRunning`] as for an insert; then as [`heap_table::Heap::undo_step`].
     pub fn undo(&mut self, txn: u64) -> Result<Undone, Fault>
-        ensures undone { Answered (unless_indexed self.old.state (undo_refusal self.old.state.heap txn)) (OnHeap (Undoes txn)) self.old.state result self.new.state }
+        ensures undone { Answered (unless_indexed self.old.state (undo_refusal self.old.state.heap txn)) (OnHeap (Undoes txn))
+            self.old.state result self.new.state }
         ensures works { (building : BuildingValue) → WorksOn self.old building → WorksOn self.new building }
     {
         self.check_unindexed()?;

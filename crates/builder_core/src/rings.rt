@@ -1,10 +1,11 @@
 //! Both ends of the rings that copies of pages go through, at hand.
-ghost use Rattle.std.specs.Prelude.{◌≡◌, ◌++◌, ◌<◌, ◌≤◌, ◌+◌, List, map, length, slice_get, true, false, take, flat_map, Some, IfSome, IfOk, IfErr, OnOk, OnErr, MatchOption, IsPermutation};
+ghost use Rattle.std.specs.Prelude.{◌≡◌, ◌++◌, ◌<◌, ◌≤◌, ◌+◌, List, map, length, slice_get, true, false, take, flat_map, Some, IfSome, IfOk, IfErr, OnOk};
+ghost use Rattle.std.specs.Prelude.{OnErr, MatchOption, IsPermutation};
 ghost use Rattle.heap_table.proofs.PairsAtRest.{InOrder};
 ghost use Rattle.side_file.specs.Ends.{PutEnd};
 ghost use Rattle.building.specs.WorkerValue.{WorkerValue};
 ghost use Rattle.building.specs.declared.copied.Copied.{Copied};
-ghost use Rattle.builder_core.specs.Rings.{put_rings, take_rings, all_sent, at_rest_on, AreLooked, AreQuiet, IsLoud, IsQuiet};
+ghost use Rattle.builder_core.specs.Rings.{put_rings, take_rings, all_sent, begun_on, AreLooked, AreDone, IsUnfinished, IsDone};
 ghost use Rattle.builder_core.specs.Working.{all_emptied};
 
 use building::{PagePutter, Worker, gather};
@@ -16,7 +17,7 @@ pub fn restart_all(pages: &mut Vec<PagePutter>, workers: &mut Vec<Worker>, build
     requires { put_rings pages.old.items ≡ take_rings workers.old.items }
     ensures rings { put_rings pages.new.items ≡ put_rings pages.old.items }
     ensures sent { all_sent pages.new.items ≡ all_sent pages.old.items }
-    ensures workers { workers.new.items ≡ map (at_rest_on build) pages.new.items }
+    ensures workers { workers.new.items ≡ map (begun_on build) pages.new.items }
 {
     for k in 0..pages.len() {
         workers[k].restart(&mut pages[k], build);
@@ -41,9 +42,9 @@ fn is_loud(pages: &mut Vec<PagePutter>, workers: &mut Vec<Worker>, worker: usize
     requires rings { put_rings pages.old.items ≡ take_rings workers.old.items }
     requires there { worker < length pages.old.items }
     ensures looked { AreLooked pages.old.items workers.old.items pages.new.items workers.new.items }
-    ensures loud { result ≡ true → IsLoud worker (all_sent pages.new.items) workers.new.items }
+    ensures loud { result ≡ true → IsUnfinished worker (all_sent pages.new.items) workers.new.items }
     ensures quiet { result ≡ false → (sent : List Copied) (w : WorkerValue) → slice_get (all_sent pages.new.items) worker ≡ Some sent
-        → slice_get workers.new.items worker ≡ Some w → IsQuiet sent w }
+        → slice_get workers.new.items worker ≡ Some w → IsDone sent w }
 {
     waiting(pages, workers, worker) > 0 || workers[worker].has_open_run()
 }
@@ -58,8 +59,8 @@ pub fn first_loud(
     requires there { count ≤ length pages.old.items }
     ensures looked { AreLooked pages.old.items workers.old.items pages.new.items workers.new.items }
     ensures loud { MatchOption result
-        (AreQuiet count (all_sent pages.new.items) workers.new.items)
-        (λ k. (k < count) × AreQuiet k (all_sent pages.new.items) workers.new.items × IsLoud k (all_sent pages.new.items) workers.new.items) }
+        (AreDone count (all_sent pages.new.items) workers.new.items)
+        (λ k. (k < count) × AreDone k (all_sent pages.new.items) workers.new.items × IsUnfinished k (all_sent pages.new.items) workers.new.items) }
 {
     for worker in 0..count {
         if is_loud(pages, workers, worker) {

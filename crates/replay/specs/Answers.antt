@@ -17,7 +17,8 @@ use Rattle.builder_core.specs.declared.plan.Plan.{Plan}
 use Rattle.builder_core.specs.declared.reply.Reply.{Reply}
 use Rattle.builder_core.specs.declared.reply.Reply.TheVariants as reply
 use Rattle.script.specs.declared.command.Command.{Command}
-use Rattle.script.specs.declared.command.Command.TheVariants.{Row, Begin, Insert, Update, Delete, Undo, Commit, Get, Start as StartCommand, Scan, Digest, Seal, Load, Switch, Abandon, Side, Pairs, Rest}
+use Rattle.script.specs.declared.command.Command.TheVariants.{Row, Begin, Insert, Update, Delete, Undo, Commit, Get, Start as StartCommand, Scan, Digest}
+use Rattle.script.specs.declared.command.Command.TheVariants.{Seal, Load, Switch, Abandon, Side, Pairs, Rest}
 use Rattle.script.specs.declared.start.Start.{Start}
 use Rattle.replay.specs.Labels.{named}
 use Rattle.replay.specs.Listings.{ListsIndex, ListsRest, ListsSide}

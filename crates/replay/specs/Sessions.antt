@@ -7,7 +7,8 @@ use Rattle.heap_table.specs.HeapState.{HeapState, empty_heap}
 use Rattle.heap_table.specs.Limits.{pages_most}
 use Rattle.builder_core.specs.CoreState.{CoreState, LiveState, opening}
 use Rattle.script.specs.declared.command.Command.{Command}
-use Rattle.script.specs.declared.command.Command.TheVariants.{Row, Begin, Insert, Update, Delete, Undo, Commit, Get, Start as StartCommand, Scan, Digest, Seal, Load, Switch, Abandon, Side, Pairs, Rest}
+use Rattle.script.specs.declared.command.Command.TheVariants.{Row, Begin, Insert, Update, Delete, Undo, Commit, Get, Start as StartCommand, Scan, Digest}
+use Rattle.script.specs.declared.command.Command.TheVariants.{Seal, Load, Switch, Abandon, Side, Pairs, Rest}
 use Rattle.script.specs.declared.numbered_command.NumberedCommand.{NumberedCommand}
 use Rattle.script.specs.Scripts.{SpellsScript}
 use Rattle.script.specs.declared.script.Script.{Script}

@@ -1,7 +1,7 @@
 use Rattle.std.proofs.Common.{◌≡◌, ℕ, refl, arith, subst}
 use Rattle.side_file.specs.Ends.{PutEnd}
 use Rattle.building.specs.declared.copied.Copied.{Copied}
-use Rattle.builder_core.specs.Rings.{all_sent, AreQuiet}
+use Rattle.builder_core.specs.Rings.{all_sent, AreDone}
 use Rattle.builder_core.proofs.Looks.{looked_again, rings_looked, quiet_looked, quiet_more}
 use Rattle.builder_core.proofs.Places.{as_long}
 use Rattle.builder_core.proofs.rings.first_loud.Goals as goal
@@ -47,4 +47,4 @@ loop-worker-preserved c = record {
 pub returns-clause-loud : goal.returns-clause-loud
 returns-clause-loud c =
     let all : c.loop-worker.worker ≡ c.args.count = omega (arith, c.loop-worker-test.false) in
-    subst (λ (n : ℕ). AreQuiet n (all_sent c.loop-worker.pages.items) c.loop-worker.workers.items) all c.loop-worker.invariant.quiet
+    subst (λ (n : ℕ). AreDone n (all_sent c.loop-worker.pages.items) c.loop-worker.workers.items) all c.loop-worker.invariant.quiet

@@ -4,7 +4,7 @@ use Rattle.side_file.specs.Ends.{PutEnd, RingId}
 use Rattle.building.specs.Work.{at_start}
 use Rattle.building.specs.WorkerValue.{WorkerValue}
 use Rattle.building.specs.declared.copied.Copied.{Copied}
-use Rattle.builder_core.specs.Rings.{at_rest_on}
+use Rattle.builder_core.specs.Rings.{begun_on}
 use Rattle.builder_core.proofs.Places.{kept, both_at, as_long}
 use Rattle.builder_core.proofs.rings.restart_all.Goals as goal
 
@@ -37,8 +37,8 @@ loop-k-preserved c =
     ∙ sym (both_at (λ (end : PutEnd Copied). end.ring) (λ (w : WorkerValue). w.end.ring) pages workers c.loop-k.k old worker same less (omega (arith, long, less)))
     ∙ sym (ap (λ (end : PutEnd Copied). end.ring) c.index_mut-in-loop-k.ensures.value) in
     let Begun : RingId → WorkerValue = λ ring. at_start c.args.build (record { ring = ring; received = old.sent; known = [] }) in
-    let begun : c.restart.new.self ≡ at_rest_on c.args.build new =
-    c.restart.ensures.worker ∙ ap Begun here ∙ sym (ap (at_rest_on c.args.build) c.restart.ensures.putter) in
+    let begun : c.restart.new.self ≡ begun_on c.args.build new =
+    c.restart.ensures.worker ∙ ap Begun here ∙ sym (ap (begun_on c.args.build) c.restart.ensures.putter) in
     let put : new ≡ record (get_or pages c.loop-k.k old) { free = 4 } =
     c.restart.ensures.putter ∙ ap (λ (end : PutEnd Copied). record end { free = 4 }) c.index_mut-in-loop-k.ensures.value in
     record {
@@ -49,9 +49,9 @@ loop-k-preserved c =
       so_far =
           take_more_set workers c.loop-k.k c.restart.new.self (omega (arith, long, less))
           ∙ ap (λ ws. ws ++ c.restart.new.self ∷ []) c.loop-k.invariant.so_far
-          ∙ ap (λ (w : WorkerValue). map (at_rest_on c.args.build) (take c.loop-k.k pages) ++ w ∷ []) begun
-          ∙ sym (map-append (at_rest_on c.args.build) (take c.loop-k.k pages) (new ∷ []))
-          ∙ ap (map (at_rest_on c.args.build)) (sym (take_more_set pages c.loop-k.k new less));
+          ∙ ap (λ (w : WorkerValue). map (begun_on c.args.build) (take c.loop-k.k pages) ++ w ∷ []) begun
+          ∙ sym (map-append (begun_on c.args.build) (take c.loop-k.k pages) (new ∷ []))
+          ∙ ap (map (begun_on c.args.build)) (sym (take_more_set pages c.loop-k.k new less));
     }
 
 pub returns-clause-workers : goal.returns-clause-workers
@@ -63,4 +63,4 @@ returns-clause-workers c =
     let kept = as_long (λ (end : PutEnd Copied). end.ring) (λ (end : PutEnd Copied). end.ring) pages c.args.pages.now.items c.loop-k.invariant.put_ones in
     sym (take_all c.loop-k.k workers (omega (arith, long, kept)))
     ∙ c.loop-k.invariant.so_far
-    ∙ ap (map (at_rest_on c.args.build)) (take_all c.loop-k.k pages (omega (arith, kept)))
+    ∙ ap (map (begun_on c.args.build)) (take_all c.loop-k.k pages (omega (arith, kept)))

@@ -1,5 +1,5 @@
 use Rattle.std.proofs.Common.{◌≡◌, map, take}
-use Rattle.builder_core.specs.Rings.{put_rings, take_rings, all_sent, at_rest_on}
+use Rattle.builder_core.specs.Rings.{put_rings, take_rings, all_sent, begun_on}
 use Rattle.builder_core.proofs.rings.restart_all.Given as goal
 
 abbrev pub invariant-loop-k : goal.invariant-loop-k
@@ -7,5 +7,5 @@ invariant-loop-k l = record {
   put_ones : put_rings l.pages.items ≡ put_rings l.initial.pages.items;
   sent : all_sent l.pages.items ≡ all_sent l.initial.pages.items;
   take_ones : take_rings l.workers.items ≡ put_rings l.initial.pages.items;
-  so_far : take l.k l.workers.items ≡ map (at_rest_on l.build) (take l.k l.pages.items);
+  so_far : take l.k l.workers.items ≡ map (begun_on l.build) (take l.k l.pages.items);
 }

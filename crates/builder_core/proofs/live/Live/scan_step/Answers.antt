@@ -16,7 +16,8 @@ use Rattle.builder_core.specs.Steps.{OnBuild}
 use Rattle.builder_core.proofs.Places.{here_set, map_at}
 use Rattle.builder_core.proofs.SideKept.{side_next}
 use Rattle.builder_core.proofs.TableBuilds.{scanned_next, work_of_next}
-use Rattle.builder_core.proofs.OneRing.{put_ends_set, sent_looked, sent_put, workers_looked, workers_put, builds_put, put_next, written_twice, full_at, put_full, next_below, worker_below}
+use Rattle.builder_core.proofs.OneRing.{put_ends_set, sent_looked, sent_put, workers_looked, workers_put, builds_put, put_next, written_twice, full_at}
+use Rattle.builder_core.proofs.OneRing.{put_full, next_below, worker_below}
 use Rattle.builder_core.proofs.live.Live.scan_step.Goals as goal
 
 pub invariant_of-self : goal.invariant_of-self

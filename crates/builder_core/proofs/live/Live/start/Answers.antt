@@ -10,7 +10,7 @@ use Rattle.building.specs.declared.copied.Copied.{Copied}
 use Rattle.builder_core.specs.Builds.{LiveValue, WorkValue, work_state, build_over}
 use Rattle.builder_core.specs.Ranges.{dealing_refusal, dealt_ends}
 use Rattle.builder_core.specs.CoreState.{BuildState, LiveState, WorkState, CoreState}
-use Rattle.builder_core.specs.Rings.{all_sent, AreOfBuilds, ArePutEnds, at_rest_on}
+use Rattle.builder_core.specs.Rings.{all_sent, AreOfBuilds, ArePutEnds, begun_on}
 use Rattle.builder_core.specs.Steps.{started, fresh_work}
 use Rattle.builder_core.proofs.Puts.{pages_started, builds_more}
 use Rattle.builder_core.proofs.SideKept.{side_opened}
@@ -102,7 +102,7 @@ returns-clause-started g c =
     let few : plan.workers ≤ length new_pages = let most = few_workers live plan c.in_ok-spec.ensures.counts in omega (arith, most, ends.sixteen) in
     let work : work_state c.restart_all.new.workers.items (Some c.new-work.result) ≡ fresh_work plan =
     ap (λ (ws : List WorkerValue). work_state ws (Some c.new-work.result)) c.restart_all.ensures.workers
-    ∙ ap (λ (w : WorkValue). work_state (map (at_rest_on (inside.builds + 1)) new_pages) (Some w)) (c.new-work.ensures ∙ ap (λ s. fresh s plan.workers) c.in_ok-clone.ensures.same)
+    ∙ ap (λ (w : WorkValue). work_state (map (begun_on (inside.builds + 1)) new_pages) (Some w)) (c.new-work.ensures ∙ ap (λ s. fresh s plan.workers) c.in_ok-clone.ensures.same)
     ∙ fresh_is plan spec (inside.builds + 1) new_pages few one in
     let Whole : LiveState → BuildState → WorkState → CoreState = λ l b w. record { live = record l { builds = l.builds + 1; build = Some b }; work = w } in
     let old_work : WorkState = work_state c.restart_all.new.workers.items (Some c.new-work.result) in (
