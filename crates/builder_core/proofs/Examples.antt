@@ -15,12 +15,12 @@ use Rattle.heap_log.specs.declared.record.LogRec.TheVariants as logged
 use Rattle.heap_table.specs.Pages.{rid_at}
 use Rattle.keybytes.specs.declared.pair.Pair.{Pair}
 use Rattle.builder_core.specs.declared.dealing.Dealing.TheVariants.{Even}
-use Rattle.builder_core.specs.declared.event.Event.TheVariants.{Scan, Seal, Load, Switch}
+use Rattle.builder_core.specs.declared.event.Event.TheVariants.{Scan, Digest, Seal, Load, Switch}
 use Rattle.builder_core.specs.declared.reply.Reply.{Reply}
-use Rattle.builder_core.specs.declared.reply.Reply.TheVariants.{Scanned, Sealed, Loaded, Switched}
+use Rattle.builder_core.specs.declared.reply.Reply.TheVariants.{Scanned, Digested, Sealed, Loaded, Switched}
 use Rattle.keybytes.specs.Pairs.{pair_cmp}
 use Rattle.heap_table.specs.TablePairs.{pairs_at_rest}
-use Rattle.builder_core.specs.CoreState.{BuildState, WorkerState, WorkState, CoreState, scanning_of}
+use Rattle.builder_core.specs.CoreState.{BuildState, WorkerState, WorkState, CoreState, scanning_of, spoiled_work}
 use Rattle.builder_core.specs.Scanning.{scanned_pairs}
 use Rattle.scan_range.specs.Cuts.{range_pages, cuts_refusal}
 use Rattle.builder_core.specs.Ranges.{dealt_ends, dealing_refusal, next_page, open_range}
@@ -119,66 +119,102 @@ the_build pages ends workers scans = record {
 abbrev worker_with : ℕ → ℕ → WorkerState
 worker_with taken sealed = record { taken = taken; sealed = sealed }
 
-abbrev work_of : List WorkerState → Bool → Option Fault → WorkState
-work_of workers loaded spoiled = record { workers = workers; indexes = record { loaded = loaded; applied = 0 } ∷ []; spoiled = spoiled }
+abbrev work_of : List WorkerState → Bool → WorkState
+work_of workers loaded = record { workers = workers; indexes = record { loaded = loaded; applied = 0 } ∷ []; spoiled = None }
 
 -- these rows while one worker builds over one range, and took so many copies
-abbrev while_built : ℕ → List Copied → ℕ → Bool → Option Fault → CoreState
-while_built pages scans taken loaded spoiled = record {
+abbrev while_built : ℕ → List Copied → ℕ → Bool → CoreState
+while_built pages scans taken loaded = record {
   live = record {
     heap = record { schema = Int ∷ []; slot_limit = 2; page_limit = 8; log = three_rows; active = []; begun = 3; visits = 0 };
     ready = [];
     builds = 1;
     build = Some (the_build pages (pages ∷ []) 1 scans);
   };
-  work = work_of (worker_with taken taken ∷ []) loaded spoiled;
+  work = work_of (worker_with taken taken ∷ []) loaded;
 }
 
 abbrev both_pages : List Copied
 both_pages = copied 0 0 ∷ copied 0 1 ∷ []
 
 abbrev before_a_scan : CoreState
-before_a_scan = while_built 2 (copied 0 0 ∷ []) 0 false None
+before_a_scan = while_built 2 (copied 0 0 ∷ []) 0 false
 
 next_scan : (new : CoreState) (reply : Reply) → Does before_a_scan (Scan 0 0) reply new → reply ≡ Scanned 1
-next_scan new reply does = does.1 ∙ ap Scanned (sym (same_Some 1 does.0 does.2.0))
+next_scan new reply does = does.1 ∙ ap Scanned (sym (same_Some 1 does.0 does.2.0.0))
 
 load_before_a_scan : refusal before_a_scan (Load 0) ≡ Some (NotScanned 0)
 load_before_a_scan = refl
 
-no_page_left : refusal (while_built 2 both_pages 0 false None) (Scan 0 0) ≡ Some RangeDone
+no_page_left : refusal (while_built 2 both_pages 0 false) (Scan 0 0) ≡ Some RangeDone
 no_page_left = refl
 
-four_wait : refusal (while_built 5 (copied 0 0 ∷ copied 0 1 ∷ copied 0 2 ∷ copied 0 3 ∷ []) 0 false None) (Scan 0 0) ≡ Some RingFull
+four_wait : refusal (while_built 5 (copied 0 0 ∷ copied 0 1 ∷ copied 0 2 ∷ copied 0 3 ∷ []) 0 false) (Scan 0 0) ≡ Some RingFull
 four_wait = refl
 
-seal_takes_all : Does (while_built 2 both_pages 0 false None) (Seal 0) (Sealed 2) (while_built 2 both_pages 2 false None)
+seal_takes_all : Does (while_built 2 both_pages 0 false) (Seal 0) (Sealed 2) (while_built 2 both_pages 2 false)
 seal_takes_all = (2, refl, (refl, refl))
 
-load_before_a_seal : refusal (while_built 2 both_pages 0 false None) (Load 0) ≡ Some (NotSealed 0)
+load_before_a_seal : refusal (while_built 2 both_pages 0 false) (Load 0) ≡ Some (NotSealed 0)
 load_before_a_seal = refl
 
-first_load : Does (while_built 2 both_pages 2 false None) (Load 0) (Loaded 3) (while_built 2 both_pages 2 true None)
+first_load : Does (while_built 2 both_pages 2 false) (Load 0) (Loaded 3) (while_built 2 both_pages 2 true)
 first_load = (3, refl, (refl, refl))
 
-second_load : Does (while_built 2 both_pages 2 true None) (Load 0) (Loaded 0) (while_built 2 both_pages 2 true None)
+second_load : Does (while_built 2 both_pages 2 true) (Load 0) (Loaded 0) (while_built 2 both_pages 2 true)
 second_load = (0, refl, (refl, refl))
 
-switch_before_a_load : refusal (while_built 2 both_pages 2 false None) Switch ≡ Some (NotLoaded 0)
+switch_before_a_load : refusal (while_built 2 both_pages 2 false) Switch ≡ Some (NotLoaded 0)
 switch_before_a_load = refl
 
-switched : (new : CoreState) (reply : Reply) → Does (while_built 2 both_pages 2 true None) Switch reply new → reply ≡ Switched 7 (Ready 0 ∷ [])
+switched : (new : CoreState) (reply : Reply) → Does (while_built 2 both_pages 2 true) Switch reply new → reply ≡ Switched 7 (Ready 0 ∷ [])
 switched new reply does = does.1 ∙ ap (λ number. Switched number does.0.1) does.2.0 ∙ ap (Switched 7) does.2.1
 
 -- a seal that wants memory spoils the build, which from then on answers so after the counts
-spoils : AfterMemory (Seal 0) before_a_scan (while_built 2 (copied 0 0 ∷ []) 0 false (Some Memory))
+abbrev spoiled_build : CoreState
+spoiled_build = record before_a_scan { work = spoiled_work Memory }
+
+spoils : AfterMemory (Seal 0) before_a_scan spoiled_build
 spoils = refl
 
-spoiled_scan : refusal (while_built 2 (copied 0 0 ∷ []) 0 false (Some Memory)) (Scan 0 0) ≡ Some Memory
+spoiled_scan : refusal spoiled_build (Scan 0 0) ≡ Some Memory
 spoiled_scan = refl
 
-spoiled_count : refusal (while_built 2 (copied 0 0 ∷ []) 0 false (Some Memory)) (Scan 0 1) ≡ Some BadCount
+spoiled_count : refusal spoiled_build (Scan 0 1) ≡ Some BadCount
 spoiled_count = refl
+
+-- the same with that build
+abbrev with_build : CoreState → BuildState → CoreState
+with_build s b = record s { live = record s.live { build = Some b } }
+
+-- two workers, for each of whom one page was copied: the first took its copy and sealed, the second took so many
+abbrev two_copied : List Copied
+two_copied = copied 0 0 ∷ copied 1 1 ∷ []
+
+abbrev built_by_two : ℕ → ℕ → CoreState
+built_by_two taken sealed = record (with_build before_a_scan (the_build 2 (2 ∷ []) 2 two_copied)) {
+  work = work_of (worker_with 1 1 ∷ worker_with taken sealed ∷ []) false;
+}
+
+-- a digest takes one copy, and none where none waits
+digest_takes_one : Does (built_by_two 0 0) (Digest 1) (Digested 1) (built_by_two 1 0)
+digest_takes_one = (1, refl, (refl, refl))
+
+digest_takes_none : Does (built_by_two 1 0) (Digest 1) (Digested 0) (built_by_two 1 0)
+digest_takes_none = (0, refl, (refl, refl))
+
+-- a load waits for the second worker's copy, and for its seal
+load_before_a_digest : refusal (built_by_two 0 0) (Load 0) ≡ Some (NotSealed 1)
+load_before_a_digest = refl
+
+load_before_its_seal : refusal (built_by_two 1 0) (Load 0) ≡ Some (NotSealed 1)
+load_before_its_seal = refl
+
+load_of_both : Does (built_by_two 1 1) (Load 0) (Loaded 3) (record (built_by_two 1 1) { work = work_of (worker_with 1 1 ∷ worker_with 1 1 ∷ []) true })
+load_of_both = (3, refl, (refl, refl))
+
+no_third_worker : refusal (built_by_two 1 1) (Digest 2) ≡ Some BadCount
+no_third_worker = refl
 
 -- five pages in two ranges
 even_ends : dealt_ends 5 (Even 2) ≡ 2 ∷ 5 ∷ []
@@ -204,9 +240,7 @@ short_of_the_end = refl
 
 -- four pages in ranges that end there, by one worker who took no copy
 abbrev over_ranges : List ℕ → List Copied → CoreState
-over_ranges ends scans = with_build (while_built 4 scans 0 false None) (the_build 4 ends 1 scans) where
-  with_build : CoreState → BuildState → CoreState
-  with_build s b = record s { live = record s.live { build = Some b } }
+over_ranges ends scans = with_build (while_built 4 scans 0 false) (the_build 4 ends 1 scans)
 
 -- a range is done while the other is open
 done_beside_open : refusal (over_ranges (2 ∷ 4 ∷ []) both_pages) (Scan 0 0) ≡ Some RangeDone
@@ -245,7 +279,7 @@ of_two = the_build 2 (1 ∷ 2 ∷ []) 2 (copied 1 0 ∷ [])
 
 -- worker 1 took so many copies, and sealed so many of these; worker 0 has none
 abbrev by_two : ℕ → ℕ → WorkState
-by_two taken sealed = work_of (worker_with 0 0 ∷ worker_with taken sealed ∷ []) false None
+by_two taken sealed = work_of (worker_with 0 0 ∷ worker_with taken sealed ∷ []) false
 
 first_range_done : next_page of_two 0 ≡ None
 first_range_done = refl
@@ -290,7 +324,7 @@ of_nothing = record (the_build 0 (0 ∷ 0 ∷ 0 ∷ []) 4 []) { opened = 0 }
 nothing_left : open_range of_nothing ≡ None
 nothing_left = refl
 
-nobody_loud : loud_worker of_nothing [] (work_of (replicate 4 (worker_with 0 0)) false None) ≡ None
+nobody_loud : loud_worker of_nothing [] (work_of (replicate 4 (worker_with 0 0)) false) ≡ None
 nobody_loud = refl
 
 nothing_copied : scanned_pairs (scanning_of of_nothing on_number) [] ≡ []
@@ -300,19 +334,19 @@ nothing_copied = refl
 abbrev four_copied : List Copied
 four_copied = copied 0 0 ∷ copied 0 1 ∷ copied 0 2 ∷ copied 0 3 ∷ []
 
-room_again : refusal (while_built 5 four_copied 1 false None) (Scan 0 0) ≡ None
+room_again : refusal (while_built 5 four_copied 1 false) (Scan 0 0) ≡ None
 room_again = refl
 
-fifth_waits : loud_worker (the_build 5 (5 ∷ []) 1 (four_copied ++ copied 0 4 ∷ [])) three_rows (work_of (worker_with 1 0 ∷ []) false None) ≡ Some 0
+fifth_waits : loud_worker (the_build 5 (5 ∷ []) 1 (four_copied ++ copied 0 4 ∷ [])) three_rows (work_of (worker_with 1 0 ∷ []) false) ≡ Some 0
 fifth_waits = refl
 
 -- that no page is left is asked before whether the ring is full
-done_before_full : refusal (while_built 4 four_copied 0 false None) (Scan 0 0) ≡ Some RangeDone
+done_before_full : refusal (while_built 4 four_copied 0 false) (Scan 0 0) ≡ Some RangeDone
 done_before_full = refl
 
 -- a load asks for its number, then for the fault, then for the pages, then for the copies
-load_counts_first : refusal (while_built 2 (copied 0 0 ∷ []) 0 false (Some Memory)) (Load 1) ≡ Some BadCount
+load_counts_first : refusal spoiled_build (Load 1) ≡ Some BadCount
 load_counts_first = refl
 
-load_fault_next : refusal (while_built 2 (copied 0 0 ∷ []) 0 false (Some Memory)) (Load 0) ≡ Some Memory
+load_fault_next : refusal spoiled_build (Load 0) ≡ Some Memory
 load_fault_next = refl

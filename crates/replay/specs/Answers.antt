@@ -17,7 +17,7 @@ use Rattle.builder_core.specs.declared.plan.Plan.{Plan}
 use Rattle.builder_core.specs.declared.reply.Reply.{Reply}
 use Rattle.builder_core.specs.declared.reply.Reply.TheVariants as reply
 use Rattle.script.specs.declared.command.Command.{Command}
-use Rattle.script.specs.declared.command.Command.TheVariants.{Row, Begin, Insert, Update, Delete, Undo, Commit, Get, Start as StartCommand, Scan, Seal, Load, Switch, Abandon, Side, Pairs, Rest}
+use Rattle.script.specs.declared.command.Command.TheVariants.{Row, Begin, Insert, Update, Delete, Undo, Commit, Get, Start as StartCommand, Scan, Digest, Seal, Load, Switch, Abandon, Side, Pairs, Rest}
 use Rattle.script.specs.declared.start.Start.{Start}
 use Rattle.replay.specs.Labels.{named}
 use Rattle.replay.specs.Listings.{ListsIndex, ListsRest, ListsSide}
@@ -34,6 +34,7 @@ answer_to (reply.Undone number left) = answer.Undone number left
 answer_to (reply.Committed number) = answer.Number number
 answer_to (reply.Started pages) = answer.Number pages
 answer_to (reply.Scanned page) = answer.Number page
+answer_to (reply.Digested images) = answer.Number images
 answer_to (reply.Sealed images) = answer.Number images
 answer_to (reply.Loaded pairs) = answer.Number pairs
 answer_to (reply.Switched number verdicts) = answer.Switched number verdicts
@@ -125,6 +126,7 @@ CarriesOut labels (Commit label) old given new = OnTxn (named labels label) (λ 
 CarriesOut labels (Get rid) old given new = GivesRow rid old given new
 CarriesOut labels (StartCommand start) old given new = Unless (planning_refusal old start) (StartsBuild start) old given new
 CarriesOut labels (Scan range worker) old given new = Happens (event.Scan range worker) old given new
+CarriesOut labels (Digest worker) old given new = Happens (event.Digest worker) old given new
 CarriesOut labels (Seal worker) old given new = Happens (event.Seal worker) old given new
 CarriesOut labels (Load index) old given new = Happens (event.Load index) old given new
 CarriesOut labels Switch old given new = Happens event.Switch old given new

@@ -3,11 +3,11 @@ use Rattle.std.specs.Prelude.{◌≡◌, ℕ, List, [], ◌∷◌, None, Some, R
 use Rattle.std.specs.List.{list_any}
 use Rattle.keybytes.specs.Faults.{RefusedFor}
 use Rattle.keybytes.specs.declared.fault.Fault.{Fault}
-use Rattle.heap_table.specs.HeapState.{empty_heap}
+use Rattle.heap_table.specs.HeapState.{HeapState, empty_heap}
 use Rattle.heap_table.specs.Limits.{pages_most}
-use Rattle.builder_core.specs.CoreState.{CoreState, opening}
+use Rattle.builder_core.specs.CoreState.{CoreState, LiveState, opening}
 use Rattle.script.specs.declared.command.Command.{Command}
-use Rattle.script.specs.declared.command.Command.TheVariants.{Row, Begin, Insert, Update, Delete, Undo, Commit, Get, Start as StartCommand, Scan, Seal, Load, Switch, Abandon, Side, Pairs, Rest}
+use Rattle.script.specs.declared.command.Command.TheVariants.{Row, Begin, Insert, Update, Delete, Undo, Commit, Get, Start as StartCommand, Scan, Digest, Seal, Load, Switch, Abandon, Side, Pairs, Rest}
 use Rattle.script.specs.declared.numbered_command.NumberedCommand.{NumberedCommand}
 use Rattle.script.specs.Scripts.{SpellsScript}
 use Rattle.script.specs.declared.script.Script.{Script}
@@ -22,13 +22,17 @@ use Rattle.replay.specs.declared.labels.Labels.{Labels}
 use Rattle.replay.specs.declared.status.Status.{Status}
 use Rattle.replay.specs.declared.status.Status.TheVariants.{Done, IndexRefused, Failed}
 
--- an empty table of as many pages as may be: no transaction was begun on it, no row given out, and it has no index and no build
-abbrev pub empty_table : Table → CoreState
-empty_table table = opening (record { heap = empty_heap table.kinds.items table.slot_limit pages_most; ready = []; builds = 0; build = None })
+-- an empty heap of as many pages as may be: no transaction was begun on it, and no row given out
+abbrev pub empty_heap_of : Table → HeapState
+empty_heap_of table = empty_heap table.kinds.items table.slot_limit pages_most
+
+-- the table with that heap, no index and no build
+abbrev pub bare_table : HeapState → LiveState
+bare_table heap = record { heap = heap; ready = []; builds = 0; build = None }
 
 -- nothing has happened on the table yet
-pub record IsNew (table : Table) (engine : Engine) : Type 0 where
-  pub core : engine.core ≡ empty_table table
+pub record IsNew (live : LiveState) (engine : Engine) : Type 0 where
+  pub core : engine.core ≡ opening live
   pub labels : NamesNone engine.labels
   pub status : engine.status ≡ Done
 
@@ -50,6 +54,7 @@ NotesCommand old (Commit label) given new = new ≡ old
 NotesCommand old (Get rid) given new = new ≡ old
 NotesCommand old (StartCommand start) given new = new ≡ old
 NotesCommand old (Scan range worker) given new = new ≡ old
+NotesCommand old (Digest worker) given new = new ≡ old
 NotesCommand old (Seal worker) given new = new ≡ old
 NotesCommand old (Load index) given new = new ≡ old
 NotesCommand old Switch given new = new ≡ old
@@ -91,11 +96,18 @@ abbrev pub RunsAll : Engine → List NumberedCommand → Engine → Type 0
 RunsAll old [] new = new ≡ old
 RunsAll old (first ∷ rest) new = (mid : Engine) × RunsNext old first mid × RunsAll mid rest new
 
+-- commands run on a table of that heap, on which nothing has happened, end with that status
+pub record RunsOn (heap : HeapState) (commands : List NumberedCommand) (status : Status) : Type 0 where
+  pub begun : Engine
+  pub end : Engine
+  pub new : IsNew (bare_table heap) begun
+  pub run : RunsAll begun commands end
+  pub ended : status ≡ end.status
+
 -- commands run on a table of their own end with that status; a refused table fails, and no command is run
 abbrev pub EndsWith : Table → List NumberedCommand → Status → Type 0
 EndsWith table commands status =
-    ((fault : Fault) × RefusedFor (table_refusal table) fault × (status ≡ Failed))
-    ⊎ ((begun : Engine) × (end : Engine) × IsNew table begun × RunsAll begun commands end × (status ≡ end.status))
+    ((fault : Fault) × RefusedFor (table_refusal table) fault × (status ≡ Failed)) ⊎ RunsOn (empty_heap_of table) commands status
 
 -- a status as a number
 abbrev pub number_of : Status → ℕ

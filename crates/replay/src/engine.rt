@@ -5,7 +5,7 @@ ghost use Rattle.keybytes.specs.Faults.{RefusedFor};
 ghost use Rattle.keybytes.specs.Keys.{key_columns_refusal};
 ghost use Rattle.replay.specs.Answers.{Happens, answer_of};
 ghost use Rattle.replay.specs.Engines.{Answers, IsNew, Runs};
-ghost use Rattle.replay.specs.Limits.{is_refusal, table_refusal};
+ghost use Rattle.replay.specs.Limits.{is_refusal};
 ghost use Rattle.builder_core.specs.SideFiles.{side_refusal};
 ghost use Rattle.replay.specs.declared.answer.Answer.{Answer};
 ghost use Rattle.replay.specs.Listings.{key_spec_of, ListsLeft};
@@ -18,40 +18,32 @@ use crate::listing::{entry_lines, pair_lines};
 use crate::plan::{dealing_of, is_in_limits};
 use crate::status::Status;
 use crate::txn::{begin, put, take_back};
-use builder_core::{Core, Event, Live, Plan, Reply};
+use builder_core::{Core, Ends, Event, Live, Plan, Reply, Table};
 use heap_log::{Outcome, Verdicts};
-use heap_table::{Heap, PAGES_MAX, SLOTS_MAX};
-use keybytes::{Cell, Fault, KeySpec, Rid, Row, Schema};
-use script::{Command, Label, Spec, Start, Table};
+use keybytes::{Cell, Fault, KeySpec, Rid, Row};
+use script::{Command, Label, Spec, Start};
 use std::alloc::Global;
 
 /// A table, the transactions on it that a script has named, and its build if one runs.
 #[derive(Drop)]
-pub struct Engine {
+pub struct Engine<T: Table> {
     alloc: Global,
-    core: Core,
+    core: Core<T>,
     labels: Labels,
     status: Status,
 }
 
-impl Engine {
-    /// An empty table. Its slot limit is looked at before its columns.
-    pub fn new(alloc: Global, table: Table) -> Result<Engine, Fault>
-        ensures accepted { OnOk result (table_refusal table ≡ None) }
-        ensures refused { IfErr result (RefusedFor (table_refusal table)) }
-        ensures empty { IfOk result (IsNew table) }
+impl<T: Table> Engine<T> {
+    /// Nothing has happened on the table yet. A build that runs in it is abandoned.
+    pub fn new(alloc: Global, live: Live<T>, ends: Ends<T>) -> Engine<T>
+        ensures { IsNew live.state result }
     {
-        if table.slot_limit == 0 || table.slot_limit > u32::from(SLOTS_MAX) {
-            return Err(Fault::BadCount);
-        }
-        let schema = Schema::new(table.kinds)?;
-        let heap = Heap::new(alloc, schema, table.slot_limit as u8, PAGES_MAX)?;
-        Ok(Engine {
+        Engine {
             alloc,
-            core: Core::new(live_on(alloc, heap)?),
+            core: Core::new(live, ends),
             labels: Labels::new(alloc),
             status: Status::Done,
-        })
+        }
     }
 
     /// How the script has gone so far.
@@ -85,6 +77,7 @@ impl Engine {
             Command::Get { rid } => self.get(rid),
             Command::Start(start) => self.start(start),
             Command::Scan { range, worker } => self.step(Event::Scan { range, worker }),
+            Command::Digest { worker } => self.step(Event::Digest { worker }),
             Command::Seal { worker } => self.step(Event::Seal { worker }),
             Command::Load { index } => self.step(Event::Load { index }),
             Command::Switch => self.switch(),
@@ -109,6 +102,7 @@ impl Engine {
                 number: u64::from(count),
             },
             Reply::Committed { number: count }
+            | Reply::Digested { images: count }
             | Reply::Sealed { images: count }
             | Reply::Loaded { pairs: count } => Answer::Number {
                 number: count as u64,
@@ -277,17 +271,6 @@ impl Engine {
         ensures refused { IfErr result (RefusedFor (key_columns_refusal self.now.core.live.heap.schema spec.columns.items)) }
     {
         KeySpec::new(self.alloc, self.core.schema(), spec.columns, spec.unique)
-    }
-}
-
-/// The table with no index and no build.
-fn live_on(alloc: Global, heap: Heap) -> Result<Live, Fault>
-    ensures ok { IfOk result (λ live. live ≡ record { heap = heap.state; ready = []; builds = 0; build = None }) }
-    ensures memory { IfErr result (λ fault. fault ≡ Fault.Memory) }
-{
-    match Live::new(alloc, heap) {
-        Ok(live) => Ok(live),
-        Err((_, fault)) => Err(fault),
     }
 }
 

@@ -12,6 +12,7 @@ mod listing;
 mod output;
 mod output_failed;
 mod pair_line;
+mod parts;
 mod plan;
 mod report;
 mod run;

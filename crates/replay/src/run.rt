@@ -1,17 +1,20 @@
 //! A script, run from its first command to its last in one thread.
 ghost use Rattle.std.specs.Prelude.{◌≡◌, ◌≤◌, IfSome, OnOk, IfOk};
-ghost use Rattle.replay.specs.Engines.{EndsWith, ExitsWith, RunsAll, RunsNext};
+ghost use Rattle.replay.specs.Engines.{EndsWith, ExitsWith, RunsAll, RunsNext, RunsOn};
 
 use crate::answer::Answer;
 use crate::engine::Engine;
 use crate::output::Output;
 use crate::output_failed::OutputFailed;
+use crate::parts::table_parts;
 use crate::report::refuse;
 use crate::status::Status;
+use builder_core::{Parts, Table};
 use keybytes::Fault;
 use script::{NumberedCommand, Script};
 use std::alloc::Global;
 use std::io::{Read, Write};
+use std::marker::Brand;
 
 /// Runs the script that the reader gives, and prints the answers to `out`. A script that can't be run is named on
 /// `err`, and then nothing is printed to `out`. Answers the exit status.
@@ -57,8 +60,8 @@ fn answer<W: Write + Drop>(
         table,
         commands,
     } = script;
-    match Engine::new(alloc, table) {
-        Ok(mut engine) => answer_table(&mut engine, table_number, commands, output),
+    match table_parts(alloc, table) {
+        Ok(parts) => answer_table::<Brand, W>(alloc, parts, table_number, commands, output),
         Err(fault) => refuse_table(table_number, fault, output),
     }
 }
@@ -75,23 +78,27 @@ fn refuse_table<W: Write + Drop>(
     Ok(Status::Failed)
 }
 
-/// Answers that the table is made, and then the commands.
-fn answer_table<W: Write + Drop>(
-    engine: &mut Engine,
+/// Gives the table a name, answers that it is made, and then the commands.
+fn answer_table<T: Table, W: Write + Drop>(
+    alloc: Global,
+    parts: Parts,
     number: usize,
     commands: Vec<NumberedCommand>,
     output: &mut Output<W>,
 ) -> Result<Status, OutputFailed>
-    ensures run { OnOk result (RunsAll engine.old commands.items engine.new) }
-    ensures status { IfOk result (λ status. status ≡ engine.new.status) }
+    requires pages { parts.pages ≡ T.pages }
+    requires side { parts.side ≡ T.side }
+    ensures { IfOk result (RunsOn parts.heap commands.items) }
 {
     output.print(number, &Answer::Done)?;
-    answer_all(engine, commands, output)?;
+    let (live, ends) = parts.open::<T>();
+    let mut engine = Engine::new(alloc, live, ends);
+    answer_all(&mut engine, commands, output)?;
     Ok(engine.status())
 }
 
-fn answer_all<W: Write + Drop>(
-    engine: &mut Engine,
+fn answer_all<T: Table, W: Write + Drop>(
+    engine: &mut Engine<T>,
     commands: Vec<NumberedCommand>,
     output: &mut Output<W>,
 ) -> Result<(), OutputFailed>
@@ -103,8 +110,8 @@ fn answer_all<W: Write + Drop>(
     Ok(())
 }
 
-fn answer_next<W: Write + Drop>(
-    engine: &mut Engine,
+fn answer_next<T: Table, W: Write + Drop>(
+    engine: &mut Engine<T>,
     command: NumberedCommand,
     output: &mut Output<W>,
 ) -> Result<(), OutputFailed>

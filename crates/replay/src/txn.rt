@@ -3,11 +3,11 @@ ghost use Rattle.std.specs.Prelude.{ℕ, OnOk, IfOk, IfErr};
 ghost use Rattle.builder_core.specs.Steps.{Step};
 ghost use Rattle.replay.specs.Answers.{FailsToPut, PutsRow, TakesBack};
 
-use builder_core::{Core, Event, Reply};
+use builder_core::{Core, Event, Reply, Table};
 use keybytes::{Fault, Rid, Row};
 
 /// Begins a transaction, and answers its number.
-pub fn begin(core: &mut Core) -> Result<u64, Fault>
+pub fn begin<T: Table>(core: &mut Core<T>) -> Result<u64, Fault>
     ensures ok { IfOk result (λ txn. Step core.old Event.Begin (Reply.Begun txn) core.new) }
     ensures refused { IfErr result (λ fault. Step core.old Event.Begin (Reply.Refused fault) core.new) }
 {
@@ -19,7 +19,7 @@ pub fn begin(core: &mut Core) -> Result<u64, Fault>
 }
 
 /// Inserts a row, and answers where it stands.
-pub fn insert(core: &mut Core, txn: u64, row: Row) -> Result<Rid, Fault>
+pub fn insert<T: Table>(core: &mut Core<T>, txn: u64, row: Row) -> Result<Rid, Fault>
     ensures ok { IfOk result (λ rid. (number : ℕ) × Step core.old (Event.Insert txn row) (Reply.Written number rid) core.new) }
     ensures refused { IfErr result (λ fault. Step core.old (Event.Insert txn row) (Reply.Refused fault) core.new) }
 {
@@ -31,7 +31,7 @@ pub fn insert(core: &mut Core, txn: u64, row: Row) -> Result<Rid, Fault>
 }
 
 /// Commits a transaction.
-pub fn commit(core: &mut Core, txn: u64) -> Result<(), Fault>
+pub fn commit<T: Table>(core: &mut Core<T>, txn: u64) -> Result<(), Fault>
     ensures ok { OnOk result ((number : ℕ) × Step core.old (Event.Commit txn) (Reply.Committed number) core.new) }
     ensures refused { IfErr result (λ fault. Step core.old (Event.Commit txn) (Reply.Refused fault) core.new) }
 {
@@ -43,7 +43,7 @@ pub fn commit(core: &mut Core, txn: u64) -> Result<(), Fault>
 }
 
 /// Inserts a row and commits, and answers where the row stands.
-pub fn put(core: &mut Core, txn: u64, row: Row) -> Result<Rid, Fault>
+pub fn put<T: Table>(core: &mut Core<T>, txn: u64, row: Row) -> Result<Rid, Fault>
     ensures ok { IfOk result (λ rid. PutsRow row txn core.old rid core.new) }
     ensures refused { IfErr result (λ fault. FailsToPut row txn core.old fault core.new) }
 {
@@ -54,7 +54,7 @@ pub fn put(core: &mut Core, txn: u64, row: Row) -> Result<Rid, Fault>
 
 /// Undoes the transaction's writes until it has ended. Where an undo is refused, because a build runs, an index is ready
 /// or memory is wanting, the transaction stays open.
-pub fn take_back(core: &mut Core, txn: u64)
+pub fn take_back<T: Table>(core: &mut Core<T>, txn: u64)
     ensures { (more : ℕ) × TakesBack more core.old txn core.new }
 {
     match core.step(Event::Undo { txn }) {

@@ -6,7 +6,7 @@ use Rattle.script.specs.Fields.{SpellEach, SpellsCell, SpellsKind, SpellsNumber,
 use Rattle.script.specs.Lines.{SpellLine, SpellParts, SpellTable, SpellsLabel, name_of}
 use Rattle.script.specs.Shapes.{Fit, HasShape, IsRemark, IsSpelled, parts_of, repeated_of, written}
 use Rattle.script.specs.declared.command.Command.{Command}
-use Rattle.script.specs.declared.command.Command.TheVariants.{Row, Begin, Insert, Update, Delete, Undo, Commit, Get, Start as StartCommand, Scan, Seal}
+use Rattle.script.specs.declared.command.Command.TheVariants.{Row, Begin, Insert, Update, Delete, Undo, Commit, Get, Start as StartCommand, Scan, Digest, Seal}
 use Rattle.script.specs.declared.command.Command.TheVariants.{Load, Switch, Abandon, Side, Pairs, Rest}
 use Rattle.script.specs.declared.command_name.CommandName.{CommandName}
 use Rattle.script.specs.declared.command_name.CommandName.TheVariants as name
@@ -90,6 +90,7 @@ command_fits (f ∷ g ∷ h ∷ fs) (StartCommand start) spelled =
     let specs = each_fits SpellsSpec part.Spec spec_part fs start.specs.items spelled.1.1.1 in
     ((start.workers, spelled.0), ((start.quota, spelled.1.0), ((start.dealing, spelled.1.1.0), specs)))
 command_fits fields (Scan range worker) spelled = two_fit SpellsNumber part.Number number_part fields range worker spelled
+command_fits fields (Digest worker) spelled = one_fits SpellsNumber part.Number number_part fields worker spelled
 command_fits fields (Seal worker) spelled = one_fits SpellsNumber part.Number number_part fields worker spelled
 command_fits fields (Load index) spelled = one_fits SpellsNumber part.Number number_part fields index spelled
 command_fits [] Switch spelled = tt
@@ -123,6 +124,7 @@ named text =
     else if bytes_eq text (codes "get") then name.Get
     else if bytes_eq text (codes "start") then name.Start
     else if bytes_eq text (codes "scan") then name.Scan
+    else if bytes_eq text (codes "digest") then name.Digest
     else if bytes_eq text (codes "seal") then name.Seal
     else if bytes_eq text (codes "load") then name.Load
     else if bytes_eq text (codes "switch") then name.Switch
@@ -144,6 +146,7 @@ named_written name.Commit = refl
 named_written name.Get = refl
 named_written name.Start = refl
 named_written name.Scan = refl
+named_written name.Digest = refl
 named_written name.Seal = refl
 named_written name.Load = refl
 named_written name.Switch = refl
@@ -169,6 +172,7 @@ begins_plain name.Commit = refl
 begins_plain name.Get = refl
 begins_plain name.Start = refl
 begins_plain name.Scan = refl
+begins_plain name.Digest = refl
 begins_plain name.Seal = refl
 begins_plain name.Load = refl
 begins_plain name.Switch = refl
@@ -193,6 +197,7 @@ not_table (Commit label) is = cc
 not_table (Get rid) is = cc
 not_table (StartCommand start) is = cc
 not_table (Scan range worker) is = cc
+not_table (Digest worker) is = cc
 not_table (Seal worker) is = cc
 not_table (Load index) is = cc
 not_table Switch is = cc

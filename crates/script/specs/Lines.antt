@@ -8,7 +8,7 @@ use Rattle.script.specs.Shapes.{IsRemark, written}
 use Rattle.script.specs.declared.line.Line.{Line}
 use Rattle.script.specs.declared.line.Line.TheVariants.{PassedOver, Table as TableLine, Command as CommandLine}
 use Rattle.script.specs.declared.command.Command.{Command}
-use Rattle.script.specs.declared.command.Command.TheVariants.{Row, Begin, Insert, Update, Delete, Undo, Commit, Get, Start as StartCommand, Scan, Seal}
+use Rattle.script.specs.declared.command.Command.TheVariants.{Row, Begin, Insert, Update, Delete, Undo, Commit, Get, Start as StartCommand, Scan, Digest, Seal}
 use Rattle.script.specs.declared.command.Command.TheVariants.{Load, Switch, Abandon, Side, Pairs, Rest}
 use Rattle.script.specs.declared.command_name.CommandName.{CommandName}
 use Rattle.script.specs.declared.command_name.CommandName.TheVariants as name
@@ -61,6 +61,7 @@ name_of (Commit label) = name.Commit
 name_of (Get rid) = name.Get
 name_of (StartCommand start) = name.Start
 name_of (Scan range worker) = name.Scan
+name_of (Digest worker) = name.Digest
 name_of (Seal worker) = name.Seal
 name_of (Load index) = name.Load
 name_of Switch = name.Switch
@@ -81,6 +82,7 @@ SpellParts fields (Commit label) = AllZip SpellsLabel fields (label ∷ [])
 SpellParts fields (Get rid) = AllZip SpellsRid fields (rid ∷ [])
 SpellParts fields (StartCommand start) = SpellStart fields start
 SpellParts fields (Scan range worker) = AllZip SpellsNumber fields (range ∷ worker ∷ [])
+SpellParts fields (Digest worker) = AllZip SpellsNumber fields (worker ∷ [])
 SpellParts fields (Seal worker) = AllZip SpellsNumber fields (worker ∷ [])
 SpellParts fields (Load index) = AllZip SpellsNumber fields (index ∷ [])
 SpellParts fields Switch = fields ≡ []

@@ -6,7 +6,7 @@ use Rattle.keybytes.specs.declared.kind.Kind.{Kind}
 use Rattle.keybytes.specs.declared.rid.Rid.{Rid}
 use Rattle.script.specs.Fields.{is_label, SpellsCell, SpellsDealing, SpellsKind, SpellsNumber, SpellsRid, SpellsSpec}
 use Rattle.script.specs.declared.command_name.CommandName.{CommandName}
-use Rattle.script.specs.declared.command_name.CommandName.TheVariants.{Table, Row, Begin, Insert, Update, Delete, Undo, Commit, Get, Start, Scan, Seal}
+use Rattle.script.specs.declared.command_name.CommandName.TheVariants.{Table, Row, Begin, Insert, Update, Delete, Undo, Commit, Get, Start, Scan, Digest, Seal}
 use Rattle.script.specs.declared.command_name.CommandName.TheVariants.{Load, Switch, Abandon, Side, Pairs, Rest}
 use Rattle.script.specs.declared.dealing.Dealing.{Dealing}
 use Rattle.script.specs.declared.part.Part.{Part}
@@ -26,6 +26,7 @@ written Commit = codes "commit"
 written Get = codes "get"
 written Start = codes "start"
 written Scan = codes "scan"
+written Digest = codes "digest"
 written Seal = codes "seal"
 written Load = codes "load"
 written Switch = codes "switch"
@@ -47,6 +48,7 @@ parts_of Commit = part.Label ∷ []
 parts_of Get = part.Rid ∷ []
 parts_of Start = part.Number ∷ part.Number ∷ part.Dealing ∷ part.Spec ∷ []
 parts_of Scan = part.Number ∷ part.Number ∷ []
+parts_of Digest = part.Number ∷ []
 parts_of Seal = part.Number ∷ []
 parts_of Load = part.Number ∷ []
 parts_of Switch = []
@@ -68,6 +70,7 @@ repeated_of Undo = None
 repeated_of Commit = None
 repeated_of Get = None
 repeated_of Scan = None
+repeated_of Digest = None
 repeated_of Seal = None
 repeated_of Load = None
 repeated_of Switch = None

@@ -42,6 +42,10 @@ pub enum Command {
         range: usize,
         worker: usize,
     },
+    /// Lets the worker take one of the copies that wait for it.
+    Digest {
+        worker: usize,
+    },
     Seal {
         worker: usize,
     },

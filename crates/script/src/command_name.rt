@@ -18,6 +18,7 @@ pub enum CommandName {
     Get,
     Start,
     Scan,
+    Digest,
     Seal,
     Load,
     Switch,
@@ -44,6 +45,7 @@ impl CommandName {
             "get" => CommandName::Get,
             "start" => CommandName::Start,
             "scan" => CommandName::Scan,
+            "digest" => CommandName::Digest,
             "seal" => CommandName::Seal,
             "load" => CommandName::Load,
             "switch" => CommandName::Switch,
@@ -69,9 +71,11 @@ impl CommandName {
             CommandName::Get => &[Part::Rid],
             CommandName::Start => &[Part::Number, Part::Number, Part::Dealing, Part::Spec],
             CommandName::Scan => &[Part::Number, Part::Number],
-            CommandName::Seal | CommandName::Load | CommandName::Side | CommandName::Pairs => &[
-                Part::Number,
-            ],
+            CommandName::Digest
+            | CommandName::Seal
+            | CommandName::Load
+            | CommandName::Side
+            | CommandName::Pairs => &[Part::Number],
             CommandName::Switch | CommandName::Abandon => &[],
             CommandName::Rest => &[Part::Spec],
         }
@@ -113,6 +117,7 @@ impl CommandName {
             CommandName::Get => "get,RID",
             CommandName::Start => "start,W,Q,DEALING,SPEC,..",
             CommandName::Scan => "scan,R,W",
+            CommandName::Digest => "digest,W",
             CommandName::Seal => "seal,W",
             CommandName::Load => "load,I",
             CommandName::Switch => "switch",

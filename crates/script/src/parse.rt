@@ -120,6 +120,9 @@ fn named(alloc: Global, name: CommandName, fields: &[&str]) -> Result<Line, Reco
             let (range, worker) = two_counts(fields)?;
             Command::Scan { range, worker }
         }
+        CommandName::Digest => Command::Digest {
+            worker: only_count(fields)?,
+        },
         CommandName::Seal => Command::Seal {
             worker: only_count(fields)?,
         },

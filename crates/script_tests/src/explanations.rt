@@ -4,7 +4,7 @@ use script::Script;
 use std::test::Fail;
 
 /// Bad scripts, each with what is said of it.
-const EXPLAINED: [(&[u8], &str); 26] = [
+const EXPLAINED: [(&[u8], &str); 27] = [
     (
         b"table,2,int\nrow,x\n",
         "record 2 is bad: field 2, \"x\", is no cell (~, a number, =text, true or false)",
@@ -56,7 +56,7 @@ const EXPLAINED: [(&[u8], &str); 26] = [
     (
         b"table,2,int\nfly\n",
         "record 2 is bad: field 1, \"fly\", is no command (table, row, begin, insert, update, delete, undo, commit, get, start, \
-            scan, seal, load, switch, abandon, side, pairs or rest)",
+            scan, digest, seal, load, switch, abandon, side, pairs or rest)",
     ),
     (
         b"table,2,int\nupdate,A,0.0\n",
@@ -105,6 +105,10 @@ const EXPLAINED: [(&[u8], &str); 26] = [
     (
         b"table,2,int\ndelete,A,0.65536\n",
         "record 2 is bad: field 3, \"0.65536\", is no RID (a page and a slot, as 12.3)",
+    ),
+    (
+        b"table,2,int\ndigest\n",
+        "record 2 is bad: it has too few fields (digest,W)",
     ),
     (
         b"table,2,int\nseal,-1\nfly\n",

@@ -4,7 +4,7 @@ use script::{Script, ScriptError};
 use std::test::Fail;
 
 /// Records that are taken, each behind a record `table`.
-const TAKEN: [&str; 28] = [
+const TAKEN: [&str; 29] = [
     "row,0,007,-5,-0,9223372036854775807,-9223372036854775808",
     "row,~,=,=~,=a b,true,false",
     "row,\"=a,b\"",
@@ -22,6 +22,7 @@ const TAKEN: [&str; 28] = [
     "start,4294967295,0,0;4294967295;1,u:0;0,n:7",
     "start,1,4,even:3,n:0",
     "scan,0,0",
+    "digest,0",
     "seal,00000000000000000001",
     "load,0",
     "switch",
@@ -36,7 +37,7 @@ const TAKEN: [&str; 28] = [
 ];
 
 /// Records that are bad, each behind a record `table`.
-const BAD: [&str; 91] = [
+const BAD: [&str; 94] = [
     "\"\"",
     ",row",
     " row,1",
@@ -120,6 +121,9 @@ const BAD: [&str; 91] = [
     "scan,0",
     "scan,0,0,0",
     "scan,a,0",
+    "digest",
+    "digest,",
+    "digest,0,0",
     "seal",
     "seal,-1",
     "load,1.0",

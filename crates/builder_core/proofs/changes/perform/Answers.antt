@@ -1,7 +1,6 @@
-use Rattle.std.proofs.Common.{◌≡◌, sym, subst}
+use Rattle.std.proofs.Common.{sym, subst}
 use Rattle.heap_table.specs.HeapState.{HeapState}
 use Rattle.heap_table.specs.Pages.{SetsRow}
-use Rattle.heap_table.specs.Ready.{after_ready}
 use Rattle.builder_core.specs.Builds.{IsWorkOf}
 use Rattle.builder_core.specs.Rings.{PagesFollow}
 use Rattle.builder_core.specs.SideFiles.{SideFollows}

@@ -1,4 +1,4 @@
-use Rattle.std.proofs.Common.{◌≡◌, ◌≤◌, length, vec_len, vec_capacity}
+use Rattle.std.proofs.Common.{◌≡◌, ◌≤◌, length, vec_capacity}
 use Rattle.builder_core.specs.Rings.{put_rings, take_rings, all_sent, AreOfBuilds}
 use Rattle.builder_core.proofs.parts.page_rings.Given as goal
 

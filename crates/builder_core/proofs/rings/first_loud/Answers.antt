@@ -1,4 +1,4 @@
-use Rattle.std.proofs.Common.{◌≡◌, ◌∙◌, ◌+◌, ◌<◌, ◌≤◌, ℕ, length, refl, sym, ap, arith, subst}
+use Rattle.std.proofs.Common.{◌≡◌, ℕ, refl, arith, subst}
 use Rattle.side_file.specs.Ends.{PutEnd}
 use Rattle.building.specs.declared.copied.Copied.{Copied}
 use Rattle.builder_core.specs.Rings.{all_sent, AreQuiet}

@@ -1,4 +1,3 @@
-use Rattle.std.proofs.Common.{◌≡◌}
 use Rattle.builder_core.specs.Rings.{all_sent, AreLooked, AreQuiet}
 use Rattle.builder_core.proofs.rings.first_loud.Given as goal
 

@@ -1,5 +1,5 @@
-use Rattle.std.proofs.Common.{◌≡◌, ◌∙◌, ◌+◌, ◌<◌, ◌++◌, ◌==◌, true, false, [], List, length, Some, refl, sym, ap, subst, arith}
-use Rattle.std.specs.Prelude.{not, slice_get, IfSome}
+use Rattle.std.proofs.Common.{◌≡◌, ◌∙◌, ◌++◌, ◌==◌, true, false, [], length, sym, ap, subst, arith}
+use Rattle.std.specs.Prelude.{not, IfSome}
 use Rattle.std.proofs.lemmas.Bool.{eq-eqb, eqb-true, false≢true, not-false}
 use Rattle.std.proofs.lemmas.List.{append_cancel_left, append-nil, nil_from_length}
 use Rattle.std.proofs.lemmas.Option.{get_or_from_slice_get}

@@ -1,11 +1,10 @@
-use Rattle.std.proofs.Common.{◌≡◌, ◌∙◌, ◌+◌, ◌<◌, ◌++◌, ◌∷◌, [], List, length, map, take, set, take_all, refl, sym, ap, arith, get_or}
-use Rattle.std.proofs.lemmas.List.{map-append, take_more_set, length-map}
+use Rattle.std.proofs.Common.{◌≡◌, ◌∙◌, ◌<◌, ◌++◌, ◌∷◌, [], List, length, map, take, take_all, sym, ap, arith, get_or}
+use Rattle.std.proofs.lemmas.List.{map-append, take_more_set}
 use Rattle.side_file.specs.Ends.{PutEnd, RingId}
-use Rattle.building.specs.TakeEnd.{TakeEnd}
 use Rattle.building.specs.Work.{at_start}
 use Rattle.building.specs.WorkerValue.{WorkerValue}
 use Rattle.building.specs.declared.copied.Copied.{Copied}
-use Rattle.builder_core.specs.Rings.{put_rings, take_rings, at_rest_on}
+use Rattle.builder_core.specs.Rings.{at_rest_on}
 use Rattle.builder_core.proofs.Places.{kept, both_at, as_long}
 use Rattle.builder_core.proofs.rings.restart_all.Goals as goal
 

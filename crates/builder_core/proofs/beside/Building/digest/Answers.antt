@@ -2,11 +2,11 @@ use Rattle.std.proofs.Common.{◌≡◌, ◌∙◌, set, get_or, length, Some, s
 use Rattle.keybytes.specs.Keys.{KeySpecValue}
 use Rattle.building.specs.ImagePairs.{HavePairs}
 use Rattle.building.specs.TakeEnd.{TakeEnd}
-use Rattle.building.specs.Work.{next_images, after_digest, after_seal}
+use Rattle.building.specs.Work.{next_images, after_digest}
 use Rattle.building.specs.WorkerValue.{WorkerValue}
 use Rattle.building.specs.declared.copied.Copied.{Copied}
 use Rattle.builder_core.specs.Builds.{BuildingValue, WorkValue}
-use Rattle.builder_core.specs.Working.{one_copy, all_copies}
+use Rattle.builder_core.specs.Working.{one_copy}
 use Rattle.builder_core.proofs.OneWorker.{ends_set, worker_is, left_set, left_spoiled, the_work}
 use Rattle.builder_core.proofs.beside.Building.digest.Goals as goal
 

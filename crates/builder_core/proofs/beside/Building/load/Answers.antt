@@ -1,5 +1,5 @@
-use Rattle.std.proofs.Common.{◌≡◌, ◌∙◌, ℕ, List, length, take, false, true, Some, sym, ap, subst, arith, vec_len}
-use Rattle.std.specs.Prelude.{flat_map, is_some, IsPermutation}
+use Rattle.std.proofs.Common.{◌∙◌, ℕ, List, take, Some, sym, ap, subst, arith}
+use Rattle.std.specs.Prelude.{flat_map, IsPermutation}
 use Rattle.std.proofs.lemmas.Bool.{false≢true}
 use Rattle.building.specs.WorkerValue.{WorkerValue}
 use Rattle.builder_core.specs.Builds.{BuildingValue, WorkValue, room_in}

@@ -1,4 +1,4 @@
-use Rattle.std.proofs.Common.{◌≡◌, ◌∙◌, true, ℕ, ◌<◌, ◌≤◌, false, length, Some, None, ap, sym, subst, arith}
+use Rattle.std.proofs.Common.{◌≡◌, ◌∙◌, true, ap, sym, arith}
 use Rattle.std.specs.Prelude.{is_some}
 use Rattle.builder_core.specs.Builds.{LiveValue, WorkValue, IsRunning}
 use Rattle.builder_core.specs.CoreState.{BuildState}

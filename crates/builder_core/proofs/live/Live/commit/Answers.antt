@@ -1,4 +1,4 @@
-use Rattle.std.proofs.Common.{◌≡◌, ◌∙◌, ap, sym, subst}
+use Rattle.std.proofs.Common.{sym, subst}
 use Rattle.heap_table.specs.HeapState.{HeapState}
 use Rattle.builder_core.specs.Builds.{LiveValue, WorksOn}
 use Rattle.builder_core.specs.Rings.{all_sent}

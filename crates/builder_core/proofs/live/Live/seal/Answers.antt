@@ -1,11 +1,10 @@
-use Rattle.std.proofs.Common.{◌≡◌, ◌∙◌, ◌≤◌, length, ap, sym, subst, arith}
+use Rattle.std.proofs.Common.{◌∙◌, ap, sym, subst, arith}
 use Rattle.std.specs.Prelude.{IfOk}
 use Rattle.side_file.specs.Ends.{PutEnd}
 use Rattle.building.specs.declared.copied.Copied.{Copied}
 use Rattle.builder_core.specs.Builds.{LiveValue, BuildingValue, core_state}
 use Rattle.builder_core.specs.CoreState.{CoreState}
 use Rattle.builder_core.specs.Steps.{Seals}
-use Rattle.builder_core.specs.Rings.{all_sent, PagesFollow}
 use Rattle.builder_core.specs.Working.{all_copies}
 use Rattle.builder_core.proofs.Looked.{state_looked, runs_looked}
 use Rattle.builder_core.proofs.Places.{map_at}

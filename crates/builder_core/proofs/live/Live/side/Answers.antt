@@ -1,4 +1,4 @@
-use Rattle.std.proofs.Common.{◌≡◌, ◌∙◌, List, ap, sym, subst}
+use Rattle.std.proofs.Common.{◌∙◌, List, ap, sym, subst}
 use Rattle.std.specs.Prelude.{not}
 use Rattle.std.specs.VecDeque.Iter.{deque_iter_rest}
 use Rattle.side_file.specs.declared.entry.Entry.{Entry}

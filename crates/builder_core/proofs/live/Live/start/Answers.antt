@@ -4,20 +4,18 @@ use Rattle.keybytes.specs.Keys.{KeySpecValue}
 use Rattle.heap_table.specs.Pages.{pages_written}
 use Rattle.scan_range.specs.Cuts.{CutsValue}
 use Rattle.side_file.specs.Ends.{PutEnd}
-use Rattle.side_file.specs.SideFileValue.{SideFileValue}
 use Rattle.building.specs.TakeEnd.{take_end}
 use Rattle.building.specs.WorkerValue.{WorkerValue}
 use Rattle.building.specs.declared.copied.Copied.{Copied}
-use Rattle.builder_core.specs.Builds.{LiveValue, BuildingValue, WorkValue, IsBuildOf, core_state, work_state, build_over}
+use Rattle.builder_core.specs.Builds.{LiveValue, WorkValue, work_state, build_over}
 use Rattle.builder_core.specs.Ranges.{dealing_refusal, dealt_ends}
 use Rattle.builder_core.specs.CoreState.{BuildState, LiveState, WorkState, CoreState}
-use Rattle.builder_core.specs.Rings.{all_sent, AreOfBuilds, HasPut, ArePutEnds, at_rest_on}
+use Rattle.builder_core.specs.Rings.{all_sent, AreOfBuilds, ArePutEnds, at_rest_on}
 use Rattle.builder_core.specs.Steps.{started, fresh_work}
 use Rattle.builder_core.proofs.Puts.{pages_started, builds_more}
 use Rattle.builder_core.proofs.SideKept.{side_opened}
 use Rattle.builder_core.proofs.Started.{build_on, build_is_on, started_follows, put_ends_started, take_ends_started, started_works}
-use Rattle.builder_core.proofs.Starts.{dealt_are_cuts, few_workers, fresh_is}
-use Rattle.builder_core.proofs.TableBuilds.{started_build}
+use Rattle.builder_core.proofs.Starts.{few_workers, fresh_is}
 use Rattle.builder_core.proofs.Works.{fresh}
 use Rattle.builder_core.proofs.live.Live.start.Goals as goal
 

@@ -1,4 +1,4 @@
-use Rattle.std.proofs.Common.{◌≡◌, ◌∙◌, ◌∷◌, [], length, refl, sym, ap}
+use Rattle.std.proofs.Common.{◌∙◌, ◌∷◌, [], refl, sym, ap}
 use Rattle.side_file.specs.Ends.{PutEnd, RingId}
 use Rattle.building.specs.WorkerValue.{WorkerValue}
 use Rattle.building.specs.declared.copied.Copied.{Copied}
