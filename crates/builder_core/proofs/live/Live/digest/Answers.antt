@@ -5,7 +5,6 @@ use Rattle.building.specs.declared.copied.Copied.{Copied}
 use Rattle.builder_core.specs.Builds.{LiveValue, BuildingValue, core_state}
 use Rattle.builder_core.specs.CoreState.{CoreState}
 use Rattle.builder_core.specs.Steps.{Waits, Digests}
-use Rattle.builder_core.specs.Rings.{all_sent, PagesFollow}
 use Rattle.builder_core.proofs.Looked.{works_looked, state_looked, runs_looked}
 use Rattle.builder_core.proofs.Places.{map_at}
 use Rattle.builder_core.proofs.Takes.{can_take, put_of}
@@ -22,7 +21,6 @@ digest-requires g c =
     let building : BuildingValue = c.look.new.building in
     let run = runs_looked c.args.self.now live c.args.building.now building may.build may.work c.look.ensures.looked may.runs in
     let sees = c.look.ensures.sees in
-    let follow = subst (λ (l : LiveValue). PagesFollow l.state.heap.schema l.state.heap.log l.state.builds l.state.build (all_sent l.pages)) c.self.view_is c.self.invariant.3 in
     let there = map_at (λ (end : PutEnd Copied). end.sent) live.pages c.args.worker sees.end sees.ring in
     record {
       work = may.work;
@@ -31,7 +29,7 @@ digest-requires g c =
       it = sees.it;
       there = sees.there;
       seen = omega (arith, sees.seen, c.if-look-eq0.false);
-      can = can_take live building may.build may.work run may.fine (put_of live may.build run.build_is follow) c.args.worker sees.end.sent sees.it may.there there sees.there
+      can = can_take live building may.build may.work run may.fine (put_of live may.build run.build_is c.look.ensures.put) c.args.worker sees.end.sent sees.it may.there there sees.there
           sees.in_order 1;
     }
 
@@ -41,8 +39,7 @@ returns-clause-works g c =
     let live : LiveValue = c.look.new.self in
     let building : BuildingValue = c.look.new.building in
     let run = runs_looked c.args.self.now live c.args.building.now building may.build may.work c.look.ensures.looked may.runs in
-    let follow = subst (λ (l : LiveValue). PagesFollow l.state.heap.schema l.state.heap.log l.state.builds l.state.build (all_sent l.pages)) c.self.view_is c.self.invariant.3 in
-    works_after live building c.digest.new.self may.build may.work run may.fine (put_of live may.build run.build_is follow) c.args.worker may.there c.digest.result c.look.result
+    works_after live building c.digest.new.self may.build may.work run may.fine (put_of live may.build run.build_is c.look.ensures.put) c.args.worker may.there c.digest.result c.look.result
     c.look.ensures.sees (omega (arith, c.if-look-eq0.false)) c.digest.ensures.taken c.digest.ensures.spoiled
 
 pub returns-clause-digested : goal.returns-clause-digested
@@ -51,10 +48,9 @@ returns-clause-digested g c =
     let live : LiveValue = c.look.new.self in
     let building : BuildingValue = c.look.new.building in
     let run = runs_looked c.args.self.now live c.args.building.now building may.build may.work c.look.ensures.looked may.runs in
-    let follow = subst (λ (l : LiveValue). PagesFollow l.state.heap.schema l.state.heap.log l.state.builds l.state.build (all_sent l.pages)) c.self.view_is c.self.invariant.3 in
     subst (λ (s : CoreState). IfOk c.digest.result (λ images. Digests c.args.worker s images (core_state live c.digest.new.self)))
     (state_looked c.args.self.now live c.args.building.now building c.look.ensures.looked)
-    (digests_after live building c.digest.new.self may.build may.work run may.fine (put_of live may.build run.build_is follow) c.args.worker may.there c.digest.result c.look.result
+    (digests_after live building c.digest.new.self may.build may.work run may.fine (put_of live may.build run.build_is c.look.ensures.put) c.args.worker may.there c.digest.result c.look.result
     c.look.ensures.sees (omega (arith, c.if-look-eq0.false)) c.digest.ensures.taken)
 
 pub returns-then-look-eq0-clause-digested : goal.returns-then-look-eq0-clause-digested
@@ -72,7 +68,6 @@ returns-clause-waits g c =
     let live : LiveValue = c.look.new.self in
     let building : BuildingValue = c.look.new.building in
     let run = runs_looked c.args.self.now live c.args.building.now building may.build may.work c.look.ensures.looked may.runs in
-    let follow = subst (λ (l : LiveValue). PagesFollow l.state.heap.schema l.state.heap.log l.state.builds l.state.build (all_sent l.pages)) c.self.view_is c.self.invariant.3 in
     on_err c.digest.result _ (subst (Waits c.args.worker) (state_looked c.args.self.now live c.args.building.now building c.look.ensures.looked)
-    (waits_some live building may.build may.work run may.fine (put_of live may.build run.build_is follow) c.args.worker may.there c.look.result
+    (waits_some live building may.build may.work run may.fine (put_of live may.build run.build_is c.look.ensures.put) c.args.worker may.there c.look.result
     c.look.ensures.sees (omega (arith, c.if-look-eq0.false))))
