@@ -1,19 +1,18 @@
 -- The workers of a build, as their rings are looked at and as they take what was put.
-use Rattle.std.proofs.Common.{◌≡◌, ℕ, zero, suc, ◌+◌, ◌-◌, ◌<◌, ◌≤◌, ◌==◌, true, List, [], ◌∷◌, ◌++◌, length, map, take, drop, set, Some, None, refl, sym}
-use Rattle.std.proofs.Common.{ap, ◌∙◌, subst, inl, inr, arith, get_or}
+use Rattle.std.proofs.Common.{◌≡◌, ℕ, ◌+◌, ◌<◌, ◌≤◌, List, [], ◌++◌, map, take, drop, set, Some, sym}
+use Rattle.std.proofs.Common.{ap, ◌∙◌, subst, inl, inr, arith}
 use Rattle.std.specs.List.{All, slice_get}
-use Rattle.std.proofs.lemmas.List.{map-append, map-set, take-map, take-append-drop}
+use Rattle.std.proofs.lemmas.List.{map-append, take-map, take-append-drop}
 use Rattle.std.proofs.lemmas.List.Elements.{All-weaker}
 use Rattle.std.proofs.lemmas.Option.{same_Some}
 use Rattle.keybytes.specs.Keys.{KeySpecValue}
 use Rattle.side_file.specs.Ends.{PutEnd}
 use Rattle.building.specs.Taking.{IsTaking, HoldsPairs}
-use Rattle.building.specs.Work.{knowing, emptied, at_start}
+use Rattle.building.specs.Work.{knowing, emptied}
 use Rattle.building.specs.WorkerValue.{WorkerValue}
 use Rattle.building.specs.declared.copied.Copied.{Copied}
-use Rattle.building.proofs.Taking.{looked_taking, start_taking, start_holds}
+use Rattle.building.proofs.Taking.{start_taking, start_holds}
 use Rattle.builder_core.specs.Builds.{worker_state}
-use Rattle.builder_core.specs.CoreState.{WorkerState}
 use Rattle.builder_core.specs.Rings.{all_sent, begun_on, AreOfBuilds, AreTaking, AreHolding}
 use Rattle.builder_core.specs.Working.{all_emptied}
 use Rattle.builder_core.proofs.Places.{at_set, all_at, at_map, map_at, same_at, mapped}

@@ -1,12 +1,11 @@
 -- A table and what stands beside it, where their rings were looked at.
-use Rattle.std.proofs.Common.{◌≡◌, ℕ, List, [], ◌∷◌, map, Option, Some, None, refl, sym, ap, ◌∙◌, subst}
+use Rattle.std.proofs.Common.{◌≡◌, List, [], ◌∷◌, map, Option, Some, None, refl, sym, ap, ◌∙◌, subst}
 use Rattle.building.specs.WorkerValue.{WorkerValue}
 use Rattle.building.specs.Work.{knowing}
-use Rattle.builder_core.specs.Builds.{LiveValue, BuildingValue, WorkValue, HasLooked, IsRunning, IsWorkOf, WorkersFollow, WorksOn, work_state, core_state}
-use Rattle.builder_core.specs.Builds.{worker_state, state_unless, index_state}
+use Rattle.builder_core.specs.Builds.{LiveValue, BuildingValue, WorkValue, HasLooked, IsRunning, WorkersFollow, WorksOn, work_state, core_state}
+use Rattle.builder_core.specs.Builds.{state_unless, index_state}
 use Rattle.builder_core.specs.CoreState.{BuildState, LiveState, WorkState}
-use Rattle.builder_core.proofs.AtWork.{outline, outlines_looked, states_same, taking_same, holding_looked}
-use Rattle.builder_core.proofs.OneRing.{workers_looked}
+use Rattle.builder_core.proofs.AtWork.{outlines_looked, states_same, taking_same, holding_looked}
 
 -- callers see no difference
 states_looked : (old new : List WorkerValue) (work : Option WorkValue) → map (knowing []) new ≡ map (knowing []) old → work_state new work ≡ work_state old work

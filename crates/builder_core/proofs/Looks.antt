@@ -1,13 +1,13 @@
 -- What looking at both ends of the rings leaves.
-use Rattle.std.proofs.Common.{◌≡◌, ℕ, ◌+◌, ◌<◌, ◌++◌, List, [], length, map, Some, refl, sym, ap, ◌∙◌, subst, inl, inr, arith}
+use Rattle.std.proofs.Common.{◌≡◌, ℕ, ◌+◌, List, [], map, Some, sym, ap, ◌∙◌, inl, inr, arith}
 use Rattle.std.specs.List.{slice_get}
 use Rattle.std.proofs.lemmas.Bool.{cases_lt}
 use Rattle.side_file.specs.Ends.{PutEnd, RingId}
 use Rattle.building.specs.Work.{knowing}
 use Rattle.building.specs.WorkerValue.{WorkerValue}
 use Rattle.building.specs.declared.copied.Copied.{Copied}
-use Rattle.builder_core.specs.Rings.{put_rings, take_rings, all_sent, AreLooked, AreDone, IsDone, IsUnfinished}
-use Rattle.builder_core.proofs.Places.{at_map, same_at, mapped}
+use Rattle.builder_core.specs.Rings.{put_rings, take_rings, all_sent, AreLooked, AreDone, IsDone}
+use Rattle.builder_core.proofs.Places.{same_at, mapped}
 
 pub looked_again :
     (p : List (PutEnd Copied)) (w : List WorkerValue) (p' : List (PutEnd Copied)) (w' : List WorkerValue) (p'' : List (PutEnd Copied)) (w'' : List WorkerValue)

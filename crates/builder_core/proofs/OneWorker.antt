@@ -1,5 +1,5 @@
 -- What stands beside a table, where one worker changes.
-use Rattle.std.proofs.Common.{◌≡◌, ℕ, List, length, map, set, get_or, length-set, [], Option, Some, sym, ap, ◌∙◌}
+use Rattle.std.proofs.Common.{◌≡◌, ℕ, List, map, set, get_or, length-set, [], Option, Some, sym, ap, ◌∙◌}
 use Rattle.std.specs.List.{slice_get}
 use Rattle.std.proofs.lemmas.Option.{get_or_from_slice_get, same_Some}
 use Rattle.keybytes.specs.declared.fault.Fault.{Fault}

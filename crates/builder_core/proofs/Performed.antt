@@ -1,6 +1,6 @@
 -- A change that was made ready and is performed adds its entries.
 use Rattle.std.proofs.Common.{◌≡◌, ℕ, cond, List, [], ◌∷◌, ◌++◌, length, map, Option, Some, None, refl, sym, ap, ◌∙◌, subst}
-use Rattle.std.specs.Prelude.{IsSome, IfSome, if◌then◌else◌}
+use Rattle.std.specs.Prelude.{IsSome, IfSome}
 use Rattle.std.specs.List.{All}
 use Rattle.std.proofs.lemmas.Bool.{false≢true}
 use Rattle.std.proofs.lemmas.List.{map-append}
@@ -28,9 +28,9 @@ use Rattle.builder_core.specs.Builds.{WorkValue, IsBuildOf, IsWorkOf, BuildFollo
 use Rattle.builder_core.specs.CoreState.{BuildState, scanning_of}
 use Rattle.builder_core.specs.Scanning.{Scanning, is_visible}
 use Rattle.builder_core.specs.SideEntries.{entries_of, side_entries}
-use Rattle.builder_core.specs.SideFiles.{sees, noted, HasEntries, SideFollows}
+use Rattle.builder_core.specs.SideFiles.{noted, HasEntries, SideFollows}
 use Rattle.builder_core.proofs.EntrySteps.{entries_where, more_entries}
-use Rattle.builder_core.proofs.ScanSteps.{visible_now, more_scanned}
+use Rattle.builder_core.proofs.ScanSteps.{visible_now}
 use Rattle.builder_core.specs.Rings.{PagesFollow}
 use Rattle.builder_core.proofs.Puts.{pages_kept}
 use Rattle.builder_core.proofs.TableBuilds.{build_kept, work_kept, scanned_for, columns_for}

@@ -1,25 +1,15 @@
 -- Why a step of a build of one index is refused, in the order of the causes.
-use Rattle.std.proofs.Common.{◌≡◌, ℕ, zero-add, ◌+◌, ◌-◌, ◌<◌, ◌≤◌, Bool, true, false, List, [], ◌∷◌, ◌++◌, length, map, take, Option, Some, None, refl}
+use Rattle.std.proofs.Common.{◌≡◌, ℕ, ◌-◌, ◌<◌, List, [], ◌∷◌, ◌++◌, length, map, take, Option, Some, None, refl}
 use Rattle.std.proofs.Common.{sym, ap, ◌∙◌, arith, subst}
-use Rattle.std.specs.Prelude.{◌||◌, nat_le, not}
-use Rattle.std.specs.List.{slice_get, range_with_len}
-use Rattle.std.proofs.lemmas.Bool.{le-leb, lt-leb, cases_Bool}
-use Rattle.std.proofs.lemmas.List.{length-map, length-take}
-use Rattle.std.proofs.lemmas.Option.{slice_get-get_or}
-use Rattle.keybytes.specs.Keys.{KeySpecValue}
-use Rattle.keybytes.specs.declared.fault.Fault.{Fault}
-use Rattle.keybytes.specs.declared.fault.Fault.TheVariants.{RingFull, NotSealed}
+use Rattle.std.specs.List.{slice_get}
 use Rattle.building.specs.WorkerValue.{WorkerValue}
 use Rattle.building.specs.declared.copied.Copied.{Copied}
-use Rattle.builder_core.specs.Builds.{LiveValue, BuildingValue, WorkValue, work_state, core_state, worker_state, index_state, IsBuildOf, IsWorkOf}
+use Rattle.builder_core.specs.Builds.{LiveValue, BuildingValue, WorkValue, work_state, worker_state, index_state, IsWorkOf}
 use Rattle.builder_core.specs.Builds.{BuildFollows, WorkersFollow, WorksOn, IsRunning}
-use Rattle.builder_core.specs.CoreState.{BuildState, LiveState, WorkState, scanning_of}
-use Rattle.builder_core.specs.Ranges.{next_page, open_range}
-use Rattle.builder_core.specs.Rings.{all_sent, ArePut, AreDone, IsUnfinished}
-use Rattle.builder_core.specs.Steps.{build_cause, scan_refusal, load_refusal}
-use Rattle.builder_core.specs.Workers.{put_to, waiting, is_quiet, worker_at, loud_worker}
-use Rattle.builder_core.proofs.NextPages.{first_left, none_left}
-use Rattle.builder_core.proofs.Waits.{state_at, waits, quiet_is, is_quiet-quiet}
+use Rattle.builder_core.specs.CoreState.{BuildState, WorkState}
+use Rattle.builder_core.specs.Rings.{all_sent, ArePut}
+use Rattle.builder_core.specs.Workers.{put_to, waiting, worker_at}
+use Rattle.builder_core.proofs.Waits.{state_at, waits}
 
 pub running :
     (live : LiveValue) (building : BuildingValue) (b : BuildState) (w : WorkValue) → live.state.build ≡ Some b → building.work ≡ Some w

@@ -1,6 +1,6 @@
 -- What a worker's seal leaves, as callers see it.
-use Rattle.std.proofs.Common.{◌≡◌, ℕ, ◌+◌, ◌-◌, ◌<◌, ◌≤◌, List, [], ◌∷◌, ◌++◌, length, map, take, set, Option, Some, None, Result, Ok, Err, OnErr, IfOk}
-use Rattle.std.proofs.Common.{refl, sym, ap, ◌∙◌, subst, arith}
+use Rattle.std.proofs.Common.{◌≡◌, ℕ, ◌+◌, ◌<◌, List, [], ◌∷◌, ◌++◌, length, map, take, set, Option, Some, None, Result, Ok, Err, OnErr, IfOk}
+use Rattle.std.proofs.Common.{sym, ap, ◌∙◌, subst, arith}
 use Rattle.std.specs.List.{slice_get}
 use Rattle.std.proofs.lemmas.Option.{same_Some}
 use Rattle.keybytes.specs.declared.fault.Fault.{Fault}
@@ -12,13 +12,13 @@ use Rattle.building.specs.WorkerValue.{WorkerValue}
 use Rattle.building.specs.declared.copied.Copied.{Copied}
 use Rattle.building.proofs.Taking.{next_count, sent_count}
 use Rattle.builder_core.specs.Builds.{LiveValue, BuildingValue, WorkValue, IsRunning, SeesRing, WorksOn, worker_state, work_state, core_state, index_state}
-use Rattle.builder_core.specs.CoreState.{BuildState, CoreState, WorkerState, WorkState}
+use Rattle.builder_core.specs.CoreState.{BuildState, WorkerState, WorkState}
 use Rattle.builder_core.specs.Rings.{all_sent, ArePut}
 use Rattle.builder_core.specs.Steps.{OnBuild, Seals, after_seal as sealed}
-use Rattle.builder_core.specs.Workers.{put_to, waiting, worker_at}
+use Rattle.builder_core.specs.Workers.{put_to, waiting}
 use Rattle.builder_core.specs.Working.{HasTaken, IsSpoiled, all_copies}
 use Rattle.builder_core.proofs.Copies.{copies_count}
-use Rattle.builder_core.proofs.Refusals.{state_of, state_is, waiting_is}
+use Rattle.builder_core.proofs.Refusals.{state_is, waiting_is}
 use Rattle.builder_core.proofs.Takes.{sealed_works, spoiled_works, states_set}
 use Rattle.builder_core.proofs.Places.{map_at}
 

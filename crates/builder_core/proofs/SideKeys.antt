@@ -1,13 +1,12 @@
 -- The keys of a side-file's entries are those of rows.
-use Rattle.std.proofs.Common.{◌≡◌, ℕ, Bool, true, false, cond, List, [], ◌∷◌, ◌++◌, map, Option, Some, None, refl, sym, ap, ◌∙◌, subst, inl, inr}
+use Rattle.std.proofs.Common.{ℕ, Bool, List, [], ◌∷◌, map, Option, Some, None, refl, sym, subst, inl, inr}
 use Rattle.std.specs.Prelude.{nat_eq, IfSome}
-use Rattle.std.specs.List.{All, AllByRecursion}
+use Rattle.std.specs.List.{AllByRecursion}
 use Rattle.std.specs.Cmp.Lexicographic.{pointwise}
 use Rattle.std.proofs.lemmas.Bool.{cases_Bool, cond-true, cond-false}
-use Rattle.keybytes.specs.Keys.{KeySpecValue, key_of, IsKeyOf, IsRowOf}
+use Rattle.keybytes.specs.Keys.{KeySpecValue, key_of, IsKeyOf}
 use Rattle.keybytes.specs.Pairs.{pair_with}
 use Rattle.keybytes.specs.declared.cell.Cell.{Cell}
-use Rattle.keybytes.specs.declared.kind.Kind.{Kind}
 use Rattle.keybytes.specs.declared.rid.Rid.{Rid}
 use Rattle.heap_table.specs.Kept.{IsTableRow}
 use Rattle.side_file.specs.Entries.{entry_of}

@@ -1,5 +1,5 @@
 -- What the start of a build leaves.
-use Rattle.std.proofs.Common.{◌≡◌, ℕ, ◌+◌, ◌≤◌, List, [], ◌∷◌, length, map, Option, Some, None, refl, sym, ap, ◌∙◌, subst}
+use Rattle.std.proofs.Common.{◌≡◌, ℕ, ◌+◌, ◌≤◌, List, [], ◌∷◌, length, map, Some, None, refl, sym, ap, ◌∙◌, subst}
 use Rattle.std.proofs.lemmas.List.{length-map}
 use Rattle.keybytes.specs.Keys.{KeySpecValue}
 use Rattle.keybytes.specs.declared.kind.Kind.{Kind}
@@ -11,7 +11,7 @@ use Rattle.side_file.specs.declared.entry.Entry.{Entry}
 use Rattle.building.specs.TakeEnd.{TakeEnd}
 use Rattle.building.specs.WorkerValue.{WorkerValue}
 use Rattle.building.specs.declared.copied.Copied.{Copied}
-use Rattle.builder_core.specs.Builds.{LiveValue, BuildingValue, WorkValue, IsBuildOf, IsWorkOn, WorksOn, build_over}
+use Rattle.builder_core.specs.Builds.{LiveValue, BuildingValue, WorkValue, IsBuildOf, WorksOn, build_over}
 use Rattle.builder_core.specs.CoreState.{BuildState}
 use Rattle.builder_core.specs.Ranges.{dealing_refusal, dealt_ends}
 use Rattle.builder_core.specs.Rings.{all_sent, put_rings, take_rings, begun_on, AreOfBuilds, ArePutEnds, AreTakeEnds}

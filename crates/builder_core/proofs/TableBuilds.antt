@@ -18,10 +18,8 @@ use Rattle.builder_core.specs.CoreState.{BuildState, scanning_of}
 use Rattle.scan_range.specs.Cuts.{are_cuts}
 use Rattle.builder_core.specs.Ranges.{next_page}
 use Rattle.builder_core.specs.Scanning.{Scanning, IsScanned, IsScanOf, AllScanned, scanned_at, scanned_pairs}
-use Rattle.visibility.specs.SideEntries.{SideEntry}
 use Rattle.visibility.specs.Applied.{apply_entries}
 use Rattle.builder_core.specs.SideEntries.{side_entries}
-use Rattle.builder_core.proofs.EntrySteps.{opened_entries, more_entries, same_entries, commit_entries}
 use Rattle.builder_core.proofs.ScanSteps.{opened_scanned, more_scanned, pairs_kept, scan_now, scan_scanned, pages_grow}
 use Rattle.builder_core.proofs.NextPages.{some_of, next_below, next_unscanned, no_page, all_copied}
 use Rattle.builder_core.proofs.RangeScans.{few_scans}

@@ -1,7 +1,6 @@
 -- What a worker's digest leaves, as callers see it.
-use Rattle.std.proofs.Common.{◌≡◌, ℕ, ◌+◌, ◌<◌, ◌≤◌, List, [], ◌∷◌, ◌++◌, length, map, take, set, Option, Some, None, Result, Ok, Err, OnErr, IfOk, refl}
+use Rattle.std.proofs.Common.{◌≡◌, ℕ, ◌+◌, ◌<◌, ◌≤◌, List, [], ◌∷◌, ◌++◌, length, map, take, set, Option, Some, None, Result, Ok, Err, OnErr, IfOk}
 use Rattle.std.proofs.Common.{sym, ap, ◌∙◌, subst, arith}
-use Rattle.std.specs.Prelude.{min}
 use Rattle.std.specs.List.{slice_get}
 use Rattle.std.proofs.lemmas.List.{set-get_or}
 use Rattle.std.proofs.lemmas.Option.{same_Some}
@@ -13,12 +12,12 @@ use Rattle.building.specs.WorkerValue.{WorkerValue}
 use Rattle.building.specs.declared.copied.Copied.{Copied}
 use Rattle.building.proofs.Taking.{next_count}
 use Rattle.builder_core.specs.Builds.{LiveValue, BuildingValue, WorkValue, IsRunning, SeesRing, WorksOn, worker_state, work_state, core_state, index_state}
-use Rattle.builder_core.specs.CoreState.{BuildState, CoreState, WorkerState, WorkState}
+use Rattle.builder_core.specs.CoreState.{BuildState, WorkerState, WorkState}
 use Rattle.builder_core.specs.Rings.{all_sent, ArePut}
 use Rattle.builder_core.specs.Steps.{OnBuild, Waits, Digests, next_copies, after_digest as digested}
 use Rattle.builder_core.specs.Workers.{waiting, worker_at}
 use Rattle.builder_core.specs.Working.{HasTaken, IsSpoiled, one_copy}
-use Rattle.builder_core.proofs.Refusals.{state_of, state_is, waiting_is, worker_there}
+use Rattle.builder_core.proofs.Refusals.{state_is, waiting_is, worker_there}
 use Rattle.builder_core.proofs.Takes.{digested_works, spoiled_works, states_set}
 use Rattle.builder_core.proofs.Places.{map_at}
 

@@ -1,7 +1,7 @@
 -- A worker of a running build takes copies.
-use Rattle.std.proofs.Common.{◌≡◌, ℕ, ◌+◌, ◌<◌, ◌≤◌, true, List, [], ◌∷◌, ◌++◌, length, map, take, set, get_or, Option, Some, None, refl, sym, ap, ◌∙◌}
-use Rattle.std.proofs.Common.{subst, arith}
-use Rattle.std.specs.Prelude.{flat_map, min}
+use Rattle.std.proofs.Common.{◌≡◌, ℕ, ◌<◌, List, ◌++◌, map, take, set, Option, Some, None, refl, sym, ap, ◌∙◌}
+use Rattle.std.proofs.Common.{subst}
+use Rattle.std.specs.Prelude.{flat_map}
 use Rattle.std.specs.List.{slice_get}
 use Rattle.std.proofs.lemmas.List.{map-set}
 use Rattle.std.proofs.Math.Seq.{take-set-lt}
@@ -15,9 +15,9 @@ use Rattle.building.specs.Work.{next_images, after_digest, after_seal, CanDigest
 use Rattle.building.specs.WorkerValue.{WorkerValue}
 use Rattle.building.specs.declared.copied.Copied.{Copied}
 use Rattle.building.proofs.Digests.{can_digest, digested_all}
-use Rattle.building.proofs.Taking.{digested_taking, sealed_taking, next_count}
+use Rattle.building.proofs.Taking.{digested_taking, sealed_taking}
 use Rattle.builder_core.specs.Builds.{LiveValue, BuildingValue, WorkValue, IsRunning, IsWorkOn, WorksOn, worker_state}
-use Rattle.builder_core.specs.CoreState.{BuildState, WorkerState, scanning_of}
+use Rattle.builder_core.specs.CoreState.{BuildState, scanning_of}
 use Rattle.builder_core.specs.Rings.{all_sent, ArePut, HasPut, PagesFollow}
 use Rattle.builder_core.specs.Scanning.{pairs_at_scan}
 use Rattle.builder_core.specs.Workers.{put_to}

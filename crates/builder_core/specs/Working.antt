@@ -1,5 +1,5 @@
 -- What the workers of a build do, and what that leaves beside the table.
-use Rattle.std.specs.Prelude.{◌≡◌, ℕ, ◌<◌, ◌≤◌, List, ◌++◌, length, map, take, drop, set, flat_map, is_some, true, Some, None, Option, IsPermutation}
+use Rattle.std.specs.Prelude.{◌≡◌, ℕ, ◌≤◌, List, ◌++◌, length, map, take, drop, set, flat_map, is_some, true, Some, None, IsPermutation}
 use Rattle.std.specs.List.{slice_get}
 use Rattle.keybytes.specs.declared.fault.Fault.TheVariants.{Memory}
 use Rattle.keybytes.specs.declared.kind.Kind.{Kind}
