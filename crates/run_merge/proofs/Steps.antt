@@ -1,19 +1,21 @@
 -- The lanes of a merge: how they start, what the first head says of all pairs, and what one step leaves.
-use Rattle.std.proofs.Common.{◌≡◌, ◌≢◌, ℕ, zero, suc, ◌+◌, ◌<◌, ◌==◌, ◌||◌, Bool, true, false, List, [], ◌∷◌, ◌++◌, All, length, get_or, set, drop, take, map, refl, sym, ap, ◌∙◌, subst, arith, inl, inr}
-use Rattle.std.specs.Prelude.{Option, Some, None, MatchOption, slice_get, count_by}
+use Rattle.std.proofs.Common.{◌≡◌, ◌≢◌, ℕ, zero, suc, ◌+◌, ◌<◌, ◌==◌, ◌||◌, Bool, true, false, List, [], ◌∷◌, ◌++◌, All, length, get_or, set, drop, take, refl, sym, ap, ◌∙◌, subst, arith, inl, inr}
+use Rattle.std.specs.Prelude.{Option, Some, None, slice_get, count_by}
 use Rattle.std.specs.List.{list_any}
 use Rattle.std.specs.List.Sorted.{IsSorted, IsPermutation}
 use Rattle.std.proofs.lemmas.Bool.{cases_eq, cases_lt, lt-ltb, le-ltb, eqb-true, false≢true, false_from_ne_true}
 use Rattle.std.proofs.lemmas.Bool.Decides.{nat_tests}
 use Rattle.std.proofs.lemmas.List.Folds.{list_any_at}
-use Rattle.std.proofs.lemmas.List.{get_or-set_other, get_or-set_same, length-set, get_or-drop, get_or_push, get_or_append_left, length_push, length-drop, nil_from_length, map-set}
-use Rattle.std.proofs.lemmas.List.Elements.{All-append, All-get_or, All-set, All-nil, All-cons}
+use Rattle.std.proofs.lemmas.List.{get_or-set_other, get_or-set_same, length-set, get_or-drop, get_or_push, get_or_append_left, length_push, length-drop, nil_from_length}
+use Rattle.std.proofs.lemmas.List.Elements.{All-append, All-get_or, All-set, All-nil}
 use Rattle.std.proofs.lemmas.List.Sorted.{IsPermutation-refl, IsPermutation-append_left, IsPermutation-append_right, IsPermutation-trans, IsPermutation-middle, sorted_far}
 use Rattle.std.proofs.lemmas.List.Sums.{count_by_more_no, count_by_more_yes}
 use Rattle.std.proofs.lemmas.Option.{slice_get-get_or, slice_get_past}
 use Rattle.keybytes.specs.Pairs.{pair_cmp}
 use Rattle.run_merge.specs.Leading.{is_before, is_ahead, MayLead, HeadsValue, AllDone, IsFirst}
-use Rattle.run_merge.specs.Merging.{AreSorted, flat, has_pair, IsLeast, Gives, head_of, IsMerge, IsStart}
+use Rattle.run_spool.specs.Spools.{AreSorted, all_pairs}
+
+use Rattle.run_merge.specs.Merging.{has_pair, IsLeast, Gives, head_of, IsMerge, IsStart}
 use Rattle.keybytes.specs.declared.pair.Pair.{Pair}
 use Rattle.run_merge.proofs.Order.{before_order}
 
@@ -134,17 +136,17 @@ pub ways_more : (runs : List (List Pair)) (i : ℕ) → i < length runs → 0 < 
 ways_more runs i lt some = count_by_more_yes has_pair runs i [] lt (lt-ltb 0 (length (get_or runs i [])) some)
 
 -- what holds of the pairs of each run
-all_flat : (P : Pair → Type 0) (runs : List (List Pair)) → ((i : ℕ) → i < length runs → All P (get_or runs i [])) → All P (flat runs)
+all_flat : (P : Pair → Type 0) (runs : List (List Pair)) → ((i : ℕ) → i < length runs → All P (get_or runs i [])) → All P (all_pairs runs)
 all_flat P [] each = All-nil P
 all_flat P (run ∷ runs) each =
-    All-append P run (flat runs) (each 0 (omega arith)) (all_flat P runs (λ i lt. each (suc i) (omega (arith, lt))))
+    All-append P run (all_pairs runs) (each 0 (omega arith)) (all_flat P runs (λ i lt. each (suc i) (omega (arith, lt))))
 
-none_flat : (runs : List (List Pair)) → ((i : ℕ) → i < length runs → length (get_or runs i []) ≡ 0) → flat runs ≡ []
+none_flat : (runs : List (List Pair)) → ((i : ℕ) → i < length runs → length (get_or runs i []) ≡ 0) → all_pairs runs ≡ []
 none_flat [] each = refl
 none_flat (run ∷ runs) each =
     let first : run ≡ [] = nil_from_length run (each 0 (omega arith)) in
-    let rest : flat runs ≡ [] = none_flat runs (λ i lt. each (suc i) (omega (arith, lt))) in
-    ap (λ (xs : List Pair). xs ++ flat runs) first ∙ rest
+    let rest : all_pairs runs ≡ [] = none_flat runs (λ i lt. each (suc i) (omega (arith, lt))) in
+    ap (λ (xs : List Pair). xs ++ all_pairs runs) first ∙ rest
 
 -- the head of a run with a pair
 head_there : (run : List Pair) → 0 < length run → (x : Pair) × (head_of run ≡ Some x) × IsPermutation run (x ∷ drop 1 run)
@@ -152,7 +154,7 @@ head_there [] some = absurd (omega (arith, some))
 head_there (x ∷ run) some = (x, refl, IsPermutation-refl (x ∷ run))
 
 -- where no head is left there is no pair
-pub none_left : (runs : List (List Pair)) (lanes : List ℕ) (heads : List (Option Pair)) → IsMerge runs lanes heads → AllDone heads → flat runs ≡ []
+pub none_left : (runs : List (List Pair)) (lanes : List ℕ) (heads : List (Option Pair)) → IsMerge runs lanes heads → AllDone heads → all_pairs runs ≡ []
 none_left runs lanes heads m done =
     none_flat runs (λ i in'.
     elim (cases_lt 0 (length (get_or runs i []))) [
@@ -170,7 +172,7 @@ led_by x y a b is-x is-y h = subst (λ (v : Option Pair). is_ahead (Some a) v �
 
 -- the first head is the least of all pairs
 pub least_first : (runs : List (List Pair)) (lanes : List ℕ) (heads : List (Option Pair)) → IsMerge runs lanes heads → (lane : ℕ)
-    → ((other : ℕ) → MayLead heads lane other) → (x : Pair) → get_or heads lane None ≡ Some x → IsLeast (flat runs) x
+    → ((other : ℕ) → MayLead heads lane other) → (x : Pair) → get_or heads lane None ≡ Some x → IsLeast (all_pairs runs) x
 least_first runs lanes heads m lane leads x is =
     all_flat (λ other. is_before other x ≡ false) runs (λ i in' k d lt.
     let run = get_or runs i [] in
@@ -183,13 +185,13 @@ least_first runs lanes heads m lane leads x is =
     before_order.chain (get_or run k d) (get_or run 0 d) x (sorted_far is_before before_order run up 0 k d (omega arith) lt) first)
 
 -- one pair out of one run
-perm_at : (runs : List (List Pair)) (i : ℕ) (rest : List Pair) (x : Pair) → i < length runs → IsPermutation (get_or runs i []) (x ∷ rest) → IsPermutation (flat runs) (x ∷ flat (set runs i rest))
+perm_at : (runs : List (List Pair)) (i : ℕ) (rest : List Pair) (x : Pair) → i < length runs → IsPermutation (get_or runs i []) (x ∷ rest) → IsPermutation (all_pairs runs) (x ∷ all_pairs (set runs i rest))
 perm_at [] i rest x lt p = absurd (omega (arith, lt))
-perm_at (run ∷ runs) zero rest x lt p = IsPermutation-append_left (flat runs) run (x ∷ rest) p
+perm_at (run ∷ runs) zero rest x lt p = IsPermutation-append_left (all_pairs runs) run (x ∷ rest) p
 perm_at (run ∷ runs) (suc i) rest x lt p =
     IsPermutation-trans _ _ _
-    (IsPermutation-append_right run (flat runs) (x ∷ flat (set runs i rest)) (perm_at runs i rest x (omega (arith, lt)) p))
-    (IsPermutation-middle run x (flat (set runs i rest)))
+    (IsPermutation-append_right run (all_pairs runs) (x ∷ all_pairs (set runs i rest)) (perm_at runs i rest x (omega (arith, lt)) p))
+    (IsPermutation-middle run x (all_pairs (set runs i rest)))
 
 -- the head that is given first has a run with a pair
 pub first_has : (runs : List (List Pair)) (lanes : List ℕ) (heads : List (Option Pair)) → IsMerge runs lanes heads → (value : HeadsValue) → value.heads ≡ heads

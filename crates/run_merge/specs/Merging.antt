@@ -1,20 +1,12 @@
 -- Runs that are merged, the heads that are kept of them, and what a step of the merge gives.
 use Rattle.std.specs.Prelude.{◌≡◌, ℕ, ◌<◌, ◌==◌, nat_lt, Bool, true, false, List, [], ◌∷◌, All, length, get_or, slice_get, Option, Some, None, IsPermutation}
 use Rattle.std.specs.List.{flat_map, list_any}
-use Rattle.std.specs.List.Sorted.{IsSorted}
 use Rattle.spool_ledger.specs.Accounts.{Stake}
-use Rattle.keybytes.specs.Pairs.{pair_cmp}
 use Rattle.keybytes.specs.declared.pair.Pair.{Pair}
+use Rattle.run_spool.specs.Spools.{AreSorted, all_pairs}
 use Rattle.run_merge.specs.Leading.{is_before}
 
--- each run is in order of key, then RID
-abbrev pub AreSorted : List (List Pair) → Type 0
-AreSorted runs = All (λ run. IsSorted pair_cmp run) runs
-
--- the pairs of all runs
-abbrev pub flat : List (List Pair) → List Pair
-flat runs = flat_map (λ run. run) runs
-
+-- the run has a pair
 abbrev pub has_pair : List Pair → Bool
 has_pair run = nat_lt 0 (length run)
 
@@ -25,8 +17,8 @@ IsLeast pairs pair = All (λ other. is_before other pair ≡ false) pairs
 -- what a step gives of the runs, and the runs that it leaves: the least of all pairs, which one run then has once less; or none,
 -- where no run has a pair
 abbrev pub Gives : List (List Pair) → Option Pair → List (List Pair) → Type 0
-Gives old None new = (flat old ≡ []) × (new ≡ old)
-Gives old (Some pair) new = IsLeast (flat old) pair × IsPermutation (flat old) (pair ∷ flat new)
+Gives old None new = (all_pairs old ≡ []) × (new ≡ old)
+Gives old (Some pair) new = IsLeast (all_pairs old) pair × IsPermutation (all_pairs old) (pair ∷ all_pairs new)
 
 -- what callers see of a merge: of each spool the pairs that are left in each closed run, the open run and the stake; how many
 -- runs had a pair as the merge began, and how many comparisons of two pairs were made

@@ -1,5 +1,6 @@
 ghost use Rattle.std.specs.Prelude.{◌≡◌, ◌≤◌, ◌+◌, ◌-◌, ◌^◌, ℕ, IfOk, IfErr, OnErr, length, map, count_by};
-ghost use Rattle.run_merge.specs.Merging.{AreSorted, has_pair, all_runs, Gives, IsMerge};
+ghost use Rattle.run_spool.specs.Spools.{AreSorted};
+ghost use Rattle.run_merge.specs.Merging.{has_pair, all_runs, Gives, IsMerge};
 
 use crate::heads::Heads;
 use crate::spool_runs::{advance, head, run_count};

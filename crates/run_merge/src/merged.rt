@@ -1,7 +1,8 @@
 ghost use Rattle.std.specs.Prelude.{◌≡◌, ◌≤◌, ◌-◌, ◌+◌, ◌^◌, [], ℕ, IfOk, IfErr, OnErr, IsPermutation, map, count_by, vec_len};
 ghost use Rattle.std.specs.List.Sorted.{IsSorted};
 ghost use Rattle.keybytes.specs.Pairs.{pair_cmp};
-ghost use Rattle.run_merge.specs.Merging.{AreSorted, has_pair, flat, Gives, all_runs};
+ghost use Rattle.run_spool.specs.Spools.{AreSorted, all_pairs};
+ghost use Rattle.run_merge.specs.Merging.{has_pair, Gives, all_runs};
 
 use crate::lanes::Lanes;
 use keybytes::{Fault, Pair};
@@ -73,8 +74,8 @@ impl<S: Spool> Merged<S> {
     /// All pairs that are left. After an `Err` those that were taken are lost.
     pub fn rest(&mut self, alloc: Global) -> Result<Vec<Pair>, Fault>
         ensures sorted { IfOk result (λ pairs. IsSorted pair_cmp pairs.items) }
-        ensures all { IfOk result (λ pairs. IsPermutation (flat (all_runs self.old.runs)) pairs.items) }
-        ensures freed { IfOk result (λ _. flat (all_runs self.new.runs) ≡ []) }
+        ensures all { IfOk result (λ pairs. IsPermutation (all_pairs (all_runs self.old.runs)) pairs.items) }
+        ensures freed { IfOk result (λ _. all_pairs (all_runs self.new.runs) ≡ []) }
         ensures open_runs { self.new.open_runs ≡ self.old.open_runs }
         ensures stakes { self.new.stakes ≡ self.old.stakes }
         ensures memory { IfErr result (λ fault. fault ≡ Fault.Memory) }

@@ -1,5 +1,5 @@
-use Rattle.std.proofs.Common.{◌≡◌, ◌<◌, ◌∙◌, ap, sym, subst, List, length, set, drop, map, get_or, []}
-use Rattle.std.specs.Prelude.{IfOk, OnOk, OnErr, slice_get}
+use Rattle.std.proofs.Common.{◌≡◌, ◌<◌, ◌∙◌, ap, sym, subst, List, length, set, drop, map}
+use Rattle.std.specs.Prelude.{IfOk, slice_get}
 use Rattle.run_merge.specs.Merging.{all_runs}
 use Rattle.std.proofs.Math.Seq.{map-set_same}
 use Rattle.std.proofs.lemmas.Result.{on_ok_weaker, on_err_weaker}

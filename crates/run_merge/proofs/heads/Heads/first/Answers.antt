@@ -1,10 +1,7 @@
-use Rattle.std.proofs.Common.{rules, refl, ◌≡◌, ℕ, ◌<◌, ◌∙◌, sym, ap, subst, arith, length, get_or, true, false, List}
-use Rattle.std.specs.Prelude.{Option}
+use Rattle.std.proofs.Common.{rules, refl, ◌≡◌, ℕ, ◌<◌, ◌∙◌, sym, ap, subst, arith, length, get_or, true, false}
 use Rattle.std.specs.Option.{is_some}
 use Rattle.std.proofs.lemmas.List.{get_or_read}
-use Rattle.keybytes.specs.declared.pair.Pair.{Pair}
 use Rattle.run_merge.specs.Leading.{HeadsValue, AllDone, IsFirst}
-use Rattle.run_merge.specs.Losers.{IsLost}
 use Rattle.run_merge.proofs.Replays.{all_done, root_is_first}
 use Rattle.run_merge.proofs.heads.Heads.first.Goals as goal
 

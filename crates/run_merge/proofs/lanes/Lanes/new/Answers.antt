@@ -1,8 +1,8 @@
-use Rattle.std.proofs.Common.{◌≡◌, ◌+◌, ◌<◌, ◌∙◌, refl, ap, sym, subst, arith, length, get_or, List, [], map}
-use Rattle.std.specs.Prelude.{Option, Some, None}
+use Rattle.std.proofs.Common.{◌≡◌, ◌+◌, ◌<◌, ◌∙◌, refl, ap, sym, arith, length, get_or, List, [], map}
+use Rattle.std.specs.Prelude.{Some}
 use Rattle.std.proofs.lemmas.List.{length_push}
 use Rattle.keybytes.specs.declared.pair.Pair.{Pair}
-use Rattle.run_merge.specs.Merging.{all_runs, head_of, IsMerge}
+use Rattle.run_merge.specs.Merging.{all_runs, head_of}
 use Rattle.run_merge.proofs.Numbers.{together}
 use Rattle.run_merge.proofs.Steps.{start_none, start_same, start_more, start_ends, ways_same, ways_more, head_some, head_none}
 use Rattle.run_merge.proofs.lanes.Lanes.new.Goals as goal

@@ -1,4 +1,4 @@
-use Rattle.std.proofs.Common.{◌≡◌, ℕ, ◌<◌, ◌∙◌, refl, ap, sym, arith, length, get_or, set, drop, subst, List, [], map}
+use Rattle.std.proofs.Common.{ℕ, ◌<◌, ◌∙◌, refl, ap, sym, arith, length, get_or, set, drop, subst, List, [], map}
 use Rattle.std.specs.Prelude.{Option, None}
 use Rattle.std.proofs.lemmas.List.{get_or_read}
 use Rattle.keybytes.specs.declared.pair.Pair.{Pair}
