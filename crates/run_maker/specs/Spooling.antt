@@ -1,5 +1,5 @@
 -- Pairs that are sorted and spooled.
-use Rattle.std.specs.Prelude.{◌≡◌, ℕ, ◌+◌, ◌%◌, List, ◌++◌, All, length, get_or, IsPermutation}
+use Rattle.std.specs.Prelude.{◌≡◌, ◌+◌, ◌%◌, List, ◌++◌, length, IsPermutation}
 use Rattle.std.specs.List.Sorted.{IsSorted}
 use Rattle.keybytes.specs.Pairs.{pair_cmp}
 use Rattle.keybytes.specs.declared.pair.Pair.{Pair}

@@ -69,13 +69,7 @@ impl Maker {
         ensures specs { self.new.specs ≡ self.old.specs }
         ensures fault { IfErr result (λ fault. (fault ≡ Fault.NoPage) ⊎ (fault ≡ Fault.Memory)) }
     {
-        add_image(
-            &image,
-            &self.schema,
-            &self.specs,
-            &mut self.begun,
-            spools,
-        )
+        add_image(&image, &self.schema, &self.specs, &mut self.begun, spools)
     }
 
     /// Spools what is in no run yet.

@@ -14,7 +14,6 @@ use Rattle.std.proofs.lemmas.Option.{slice_get-get_or, slice_get_past}
 use Rattle.keybytes.specs.Pairs.{pair_cmp}
 use Rattle.run_merge.specs.Leading.{is_before, is_ahead, MayLead, HeadsValue, AllDone, IsFirst}
 use Rattle.run_spool.specs.Spools.{AreSorted, all_pairs}
-
 use Rattle.run_merge.specs.Merging.{has_pair, IsLeast, Gives, head_of, IsMerge, IsStart}
 use Rattle.keybytes.specs.declared.pair.Pair.{Pair}
 use Rattle.run_merge.proofs.Order.{before_order}

@@ -1,4 +1,4 @@
-use Rattle.std.proofs.Common.{false, refl, ◌≡◌, ◌<◌, ◌+◌, ◌∙◌, ◌++◌, [], ℕ, List, length, get_or, map, sym, ap, subst, arith}
+use Rattle.std.proofs.Common.{false, refl, ◌≡◌, ◌+◌, ◌∙◌, ◌++◌, [], List, length, get_or, map, sym, ap, subst, arith}
 use Rattle.std.specs.Option.{option_to_list}
 use Rattle.keybytes.specs.Keys.{KeySpecValue}
 use Rattle.keybytes.specs.declared.kind.Kind.{Kind}

@@ -1,4 +1,4 @@
-use Rattle.std.proofs.Common.{◌≡◌, ℕ, List, All, Some, length, map}
+use Rattle.std.proofs.Common.{◌≡◌, All, Some, length, map}
 use Rattle.std.specs.Option.{option_to_list}
 use Rattle.keybytes.specs.Pairs.{pair_with}
 use Rattle.run_spool.specs.Spools.{AreSorted}

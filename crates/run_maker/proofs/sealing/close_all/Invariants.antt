@@ -1,5 +1,4 @@
-use Rattle.std.proofs.Common.{◌≡◌, [], ℕ, List, All, length, map}
-use Rattle.keybytes.specs.declared.pair.Pair.{Pair}
+use Rattle.std.proofs.Common.{◌≡◌, [], All, length, map}
 use Rattle.run_spool.specs.Spools.{AreSorted}
 use Rattle.run_maker.specs.Spooling.{Spooled}
 use Rattle.run_maker.specs.Making.{AreReady, Reached}

@@ -1,4 +1,4 @@
-use Rattle.std.proofs.Common.{rules, ◌≡◌, ◌<◌, All, [], List, subst, sym, ◌∙◌, ap, length, get_or, take, arith}
+use Rattle.std.proofs.Common.{rules, ◌≡◌, ◌<◌, All, [], List, subst, sym, ◌∙◌, ap, length, get_or, arith}
 use Rattle.std.proofs.lemmas.List.{take_all}
 use Rattle.std.proofs.lemmas.List.Elements.{All-more}
 use Rattle.keybytes.specs.declared.pair.Pair.{Pair}

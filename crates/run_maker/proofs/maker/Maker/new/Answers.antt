@@ -1,4 +1,4 @@
-use Rattle.std.proofs.Common.{false, ◌≡◌, ◌<◌, ◌∙◌, ◌++◌, ◌∷◌, [], List, ap, ap₂, sym, map, take, length, get_or, arith}
+use Rattle.std.proofs.Common.{false, ◌<◌, ◌∙◌, ◌++◌, ◌∷◌, [], List, ap, ap₂, sym, map, take, length, get_or, arith}
 use Rattle.std.proofs.lemmas.List.{take_more, map-append}
 use Rattle.keybytes.specs.Keys.{KeySpecValue}
 use Rattle.keybytes.specs.declared.pair.Pair.{Pair}

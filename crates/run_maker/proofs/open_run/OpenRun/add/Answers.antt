@@ -1,6 +1,5 @@
-use Rattle.std.proofs.Common.{◌≡◌, ◌∷◌, ◌++◌, ◌<◌, ◌+◌, ◌∙◌, [], List, arith, length, ap, sym, subst}
+use Rattle.std.proofs.Common.{◌≡◌, ◌∷◌, ◌++◌, ◌∙◌, [], List, arith, length, ap, sym, subst}
 use Rattle.std.proofs.lemmas.List.{length_push}
-use Rattle.std.proofs.lemmas.Result.{on_ok_weaker}
 use Rattle.keybytes.specs.declared.pair.Pair.{Pair}
 use Rattle.run_maker.specs.Spooling.{Adds}
 use Rattle.run_maker.proofs.Spoolings.{spooled_adds, both_ok}

@@ -3,7 +3,6 @@ use Rattle.std.specs.Prelude.{Option}
 use Rattle.std.proofs.lemmas.List.Sorted.{length_permutation, IsPermutation-pop_more}
 use Rattle.keybytes.specs.declared.pair.Pair.{Pair}
 use Rattle.run_spool.specs.Spools.{all_pairs}
-
 use Rattle.run_merge.specs.Merging.{all_runs, Gives}
 use Rattle.run_merge.proofs.InOrder.{before_more, order_more}
 use Rattle.run_merge.proofs.merged.Merged.rest.Goals as goal

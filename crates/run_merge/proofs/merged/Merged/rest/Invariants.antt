@@ -2,7 +2,6 @@ use Rattle.std.proofs.Common.{◌≡◌, ◌++◌, All, length}
 use Rattle.std.specs.List.Sorted.{IsSorted, IsPermutation}
 use Rattle.keybytes.specs.Pairs.{pair_cmp}
 use Rattle.run_spool.specs.Spools.{all_pairs}
-
 use Rattle.run_merge.specs.Merging.{all_runs, IsLeast}
 use Rattle.run_merge.proofs.merged.Merged.rest.Given as goal
 
