@@ -31,11 +31,11 @@ fn fill<S: Spool>(
     alloc: Global,
     heap: &mut Heap,
     seals: bool,
-    spools: &mut Vec<S>,
+    spools: &mut [S],
 ) -> Result<(), Fault>
-    requires ready { AreReady (map S.runs spools.old.items) (map S.open_run spools.old.items) }
-    requires sorted { All AreSorted (map S.runs spools.old.items) }
-    ensures { OnOk result (AreSorted (all_runs (map S.runs spools.new.items))) }
+    requires ready { AreReady (map S.runs spools.old) (map S.open_run spools.old) }
+    requires sorted { All AreSorted (map S.runs spools.old) }
+    ensures { OnOk result (AreSorted (all_runs (map S.runs spools.new))) }
 {
     let mut maker = maker(alloc, heap, spools.len())?;
     take_pages(heap, seals, &mut maker, spools)?;
@@ -81,17 +81,27 @@ const TWICE: [(u32, u16); 10] = [
     (0, 0),
 ];
 
+/// Whether there are two spools, and each has that many pages.
+fn two_lease<S: Spool>(spools: &[S], pages: usize) -> bool {
+    for spool in spools {
+        if spool.leased() != pages {
+            return false;
+        }
+    }
+    spools.len() == 2
+}
+
 /// Merges two spools with the same pairs, three runs each.
 fn merges_two(alloc: Global) -> Result<bool, Fault> {
     let mut heap = table(alloc, 5, 2)?;
     let mut spools = vec![in alloc; plain_spool(alloc, 3)?, plain_spool(alloc, 3)?]?;
-    fill(alloc, &mut heap, true, &mut spools)?;
-    let runs = spools[0].run_count() == 3 && spools[0].leased() == 3;
+    fill(alloc, &mut heap, true, spools.as_mut_slice())?;
+    let runs = two_lease(&spools, 3);
     match merge(alloc, spools) {
         Ok(mut merged) => {
             let told = gives_all(alloc, &mut merged);
             let spools = merged.into_spools();
-            Ok(told? && runs && spools[0].leased() == 0 && spools[1].leased() == 0)
+            Ok(told? && runs && two_lease(&spools, 0))
         }
         Err((_, fault)) => Err(fault),
     }
@@ -112,7 +122,7 @@ fn full_page(alloc: Global, rows: u32) -> Result<Vec<PlainSpool>, Fault>
 {
     let mut heap = table(alloc, rows, 255)?;
     let mut spools = vec![in alloc; plain_spool(alloc, 1)?]?;
-    fill(alloc, &mut heap, false, &mut spools)?;
+    fill(alloc, &mut heap, false, spools.as_mut_slice())?;
     Ok(spools)
 }
 
@@ -140,17 +150,23 @@ fn a_page_is_leased_until_its_last_pair_is_given(rt: HostRuntime) -> Result<(), 
     Ok(())
 }
 
-/// How many pairs the runs of a table of 4,097 rows have before and after the seal, and whether a run was open then.
+/// Whether the first spool has that many runs.
+fn has_runs<S: Spool>(spools: &[S], count: usize) -> bool {
+    match spools.first() {
+        Some(spool) => spool.run_count() == count,
+        None => false,
+    }
+}
+
+/// Whether a table of 4,097 rows makes one run, and a second one with the seal.
 fn runs_of_many(alloc: Global) -> Result<bool, Fault> {
     let mut heap = table(alloc, 4097, 255)?;
     let mut spools = vec![in alloc; plain_spool(alloc, 40)?]?;
     let mut maker = maker(alloc, &heap, 1)?;
-    take_pages(&mut heap, false, &mut maker, &mut spools)?;
-    let spool = &spools[0];
-    let one = spool.run_count() == 1 && maker.has_open_run();
-    maker.seal(&mut spools)?;
-    let spool = &spools[0];
-    Ok(one && spool.run_count() == 2 && !maker.has_open_run())
+    take_pages(&mut heap, false, &mut maker, spools.as_mut_slice())?;
+    let one = has_runs(&spools, 1) && maker.has_open_run();
+    maker.seal(spools.as_mut_slice())?;
+    Ok(one && has_runs(&spools, 2) && !maker.has_open_run())
 }
 
 #[test]
