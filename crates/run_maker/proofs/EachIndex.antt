@@ -36,9 +36,11 @@ reached_none made old = record {
 }
 
 -- of one index more
-pub reached_more : (made : ℕ → List (List Pair) → List Pair → List (List Pair) → List Pair → Type 0) (count : ℕ) (old : Holdings) (runs : List (List (List Pair))) (begun : List (List Pair))
+pub reached_more : (made : ℕ → List (List Pair) → List Pair → List (List Pair) → List Pair → Type 0) (count : ℕ) (old : Holdings)
+    (runs : List (List (List Pair))) (begun : List (List Pair))
     → Reached made count old (record { runs = runs; begun = begun }) → count < length runs → count < length begun → (r : List (List Pair)) (b : List Pair)
-    → made count (get_or runs count []) (get_or begun count []) r b → Reached made (count + 1) old (record { runs = set runs count r; begun = set begun count b })
+    → made count (get_or runs count []) (get_or begun count []) r b
+    → Reached made (count + 1) old (record { runs = set runs count r; begun = set begun count b })
 reached_more made count old runs begun was in-runs in-begun r b here =
     let new-runs : get_or (set runs count r) count [] ≡ r = get_or-set_same runs count r [] in-runs in
     let new-begun : get_or (set begun count b) count [] ≡ b = get_or-set_same begun count b [] in-begun in
@@ -48,7 +50,8 @@ reached_more made count old runs begun was in-runs in-begun r b here =
       done = λ i lt.
           elim (cases_eq i count) [
             | inl e ↦
-                let At : ℕ → Type 0 = λ i. made i (get_or old.runs i []) (get_or old.begun i []) (get_or (set runs count r) i []) (get_or (set begun count b) i []) in
+                let At : ℕ → Type 0 =
+                λ i. made i (get_or old.runs i []) (get_or old.begun i []) (get_or (set runs count r) i []) (get_or (set begun count b) i []) in
                 subst At (sym e) after
             | inr ne ↦
                 rw (get_or-set_other runs count i r [] ne, get_or-set_other begun count i b [] ne) (was.done i (omega (arith, lt, ne)))

@@ -30,7 +30,8 @@ all_closed runs (first ∷ run) =
     flat_map-append (λ (r : List Pair). r) runs ((first ∷ run) ∷ []) ∙ ap (λ (r : List Pair). all_pairs runs ++ r) (append-nil (first ∷ run))
 
 -- the pair that makes a run full
-pub spooled_adds : (old new : List (List Pair)) (begun : List Pair) (pair : Pair) (pairs : List Pair) → pairs ≡ begun ++ pair ∷ [] → length pairs ≡ 4096 → Spooled pairs old new
+pub spooled_adds : (old new : List (List Pair)) (begun : List Pair) (pair : Pair) (pairs : List Pair) → pairs ≡ begun ++ pair ∷ [] → length pairs ≡ 4096
+    → Spooled pairs old new
     → Adds (pair ∷ []) old begun new []
 spooled_adds old new begun pair pairs is full s =
     let whole : all_pairs new ++ [] ≡ all_pairs old ++ s.run = append-nil (all_pairs new) ∙ (ap all_pairs s.closed ∙ all_closed old s.run) in
@@ -43,7 +44,8 @@ spooled_adds old new begun pair pairs is full s =
     }
 
 -- a pair that doesn't
-pub begun_adds : (runs : List (List Pair)) (begun : List Pair) (pair : Pair) (pairs : List Pair) → pairs ≡ begun ++ pair ∷ [] → Adds (pair ∷ []) runs begun runs pairs
+pub begun_adds : (runs : List (List Pair)) (begun : List Pair) (pair : Pair) (pairs : List Pair) → pairs ≡ begun ++ pair ∷ []
+    → Adds (pair ∷ []) runs begun runs pairs
 begun_adds runs begun pair pairs is =
     let held : (all_pairs runs ++ begun) ++ pair ∷ [] ≡ all_pairs runs ++ pairs =
     append_assoc (all_pairs runs) begun (pair ∷ []) ∙ ap (λ (ps : List Pair). all_pairs runs ++ ps) (sym is) in
@@ -59,7 +61,8 @@ adds_none runs begun = record {
 }
 
 -- pairs, and then more
-pub adds_more : (made more : List Pair) (runs0 : List (List Pair)) (begun0 : List Pair) (runs1 : List (List Pair)) (begun1 : List Pair) (runs2 : List (List Pair)) (begun2 : List Pair)
+pub adds_more : (made more : List Pair) (runs0 : List (List Pair)) (begun0 : List Pair) (runs1 : List (List Pair)) (begun1 : List Pair)
+    (runs2 : List (List Pair)) (begun2 : List Pair)
     → Adds made runs0 begun0 runs1 begun1 → Adds more runs1 begun1 runs2 begun2 → Adds (made ++ more) runs0 begun0 runs2 begun2
 adds_more made more runs0 begun0 runs1 begun1 runs2 begun2 first then =
     let start = all_pairs runs0 ++ begun0 in

@@ -1,5 +1,6 @@
 -- The ways in a tree of games, and what a change of one head leaves as it is.
-use Rattle.std.proofs.Common.{false, ◌≡◌, ◌≢◌, ℕ, zero, suc, ◌+◌, ◌-◌, ◌*◌, ◌/◌, ◌^◌, ◌≤◌, ◌<◌, List, length, get_or, set, refl, sym, ap, ◌∙◌, subst, arith, inl, inr}
+use Rattle.std.proofs.Common.{false, ◌≡◌, ◌≢◌, ℕ, zero, suc, ◌+◌, ◌-◌, ◌*◌, ◌/◌, ◌^◌, ◌≤◌}
+use Rattle.std.proofs.Common.{◌<◌, List, length, get_or, set, refl, sym, ap, ◌∙◌, subst, arith, inl, inr}
 use Rattle.std.specs.Prelude.{Option, None}
 use Rattle.std.proofs.lemmas.Bool.{cases_eq, cases_lt}
 use Rattle.std.proofs.lemmas.List.{get_or-set_other, length-set, get_or_past, get_or_default}
@@ -84,7 +85,8 @@ unnamed_here : (heads : List (Option Pair)) (nodes : List ℕ) (leaf : ℕ) → 
 unnamed_here heads nodes leaf won inside n some lt apart (zero, is) = omega (arith, lt, is)
 unnamed_here heads nodes leaf won inside n some lt apart (suc k, is) = apart (k, is)
 
-leads_still : (heads : List (Option Pair)) (leaf : ℕ) (head : Option Pair) (i j : ℕ) → i ≢ leaf → j ≢ leaf → MayLead heads i j → MayLead (set heads leaf head) i j
+leads_still : (heads : List (Option Pair)) (leaf : ℕ) (head : Option Pair) (i j : ℕ) → i ≢ leaf → j ≢ leaf → MayLead heads i j
+    → MayLead (set heads leaf head) i j
 leads_still heads leaf head i j ne nf h = rw (get_or-set_other heads leaf i head None ne, get_or-set_other heads leaf j head None nf) h
 
 -- another head leaves what is not above its leaf as it was
@@ -92,9 +94,12 @@ pub still_played : (heads : List (Option Pair)) (nodes : List ℕ) (leaf : ℕ) 
     → (n : ℕ) → 0 < n → n < length heads → (IsAbove n (length heads + leaf) → ⊥) → IsPlayed (set heads leaf head) nodes n
 still_played heads nodes leaf head won inside n some lt apart =
     let was = won.played n some lt in
-    let here : get_or nodes n 0 ≢ leaf = λ is. unnamed_here heads nodes leaf won inside n some lt apart (way heads nodes leaf won inside (2 * length heads) n some (omega (arith, lt)) (omega arith) is) in
+    let here : get_or nodes n 0 ≢ leaf =
+    λ is. unnamed_here heads nodes leaf won inside n some lt apart
+    (way heads nodes leaf won inside (2 * length heads) n some (omega (arith, lt)) (omega arith) is) in
     let left : get_or nodes (2 * n) 0 ≢ leaf = unnamed heads nodes leaf won inside n (2 * n) (omega (arith, some)) (omega (arith, lt)) apart (omega arith) in
-    let right : get_or nodes (2 * n + 1) 0 ≢ leaf = unnamed heads nodes leaf won inside n (2 * n + 1) (omega (arith, some)) (omega (arith, lt)) apart (omega arith) in
+    let right : get_or nodes (2 * n + 1) 0 ≢ leaf =
+    unnamed heads nodes leaf won inside n (2 * n + 1) (omega (arith, some)) (omega (arith, lt)) apart (omega arith) in
     record {
       one = was.one;
       leads_left = leads_still heads leaf head (get_or nodes n 0) (get_or nodes (2 * n) 0) here left was.leads_left;
@@ -168,7 +173,8 @@ pub all_more : (heads : List (Option Pair)) (old new : List ℕ) (node next : �
 all_more heads old new node next is positive done here kept n some le lt =
     elim (cases_eq n next) [
       | inl e ↦ subst (λ (i : ℕ). IsPlayed heads new i) (sym e) here
-      | inr ne ↦ kept n some ne (λ e. let bad : ⊥ = omega (arith, e, le, some) in bad) (λ e. let bad : ⊥ = omega (arith, e, le) in bad) (done n some (omega (arith, is, le, ne)) lt)
+      | inr ne ↦ kept n some ne (λ e. let bad : ⊥ = omega (arith, e, le, some) in bad) (λ e. let bad : ⊥ = omega (arith, e, le) in bad)
+          (done n some (omega (arith, is, le, ne)) lt)
     ]
 
 -- a number is below two to that power
@@ -214,7 +220,8 @@ within node made leaf count d some le lt fits =
     ]
 
 -- the same, of lists that are those
-pub still_others : (heads hs : List (Option Pair)) (nodes ns : List ℕ) (leaf : ℕ) (head : Option Pair) → hs ≡ set heads leaf head → ns ≡ nodes → IsWon heads nodes → leaf < length heads
+pub still_others : (heads hs : List (Option Pair)) (nodes ns : List ℕ) (leaf : ℕ) (head : Option Pair) → hs ≡ set heads leaf head → ns ≡ nodes
+    → IsWon heads nodes → leaf < length heads
     → (n : ℕ) → 0 < n → n < length hs → (IsAbove n (length hs + leaf) → ⊥) → IsPlayed hs ns n
 still_others heads hs nodes ns leaf head is-hs is-ns won inside n some lt apart =
     let same : length hs ≡ length heads = ap length is-hs ∙ length-set heads leaf head in

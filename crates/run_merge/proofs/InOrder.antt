@@ -12,12 +12,14 @@ use Rattle.keybytes.specs.declared.pair.Pair.{Pair}
 least_left : (left rest : List Pair) (x y : Pair) → IsPermutation left (x ∷ rest) → IsLeast left y → IsLeast (x ∷ rest) y
 least_left left rest x y perm least = All-permutation (λ other. is_before other y ≡ false) left (x ∷ rest) perm least
 
-pub before_more : (done left rest : List Pair) (x : Pair) → IsPermutation left (x ∷ rest) → IsLeast left x → All (λ pair. IsLeast left pair) done → All (λ pair. IsLeast rest pair) (done ++ x ∷ [])
+pub before_more : (done left rest : List Pair) (x : Pair) → IsPermutation left (x ∷ rest) → IsLeast left x → All (λ pair. IsLeast left pair) done
+    → All (λ pair. IsLeast rest pair) (done ++ x ∷ [])
 before_more done left rest x perm least all =
     let tail : (y : Pair) → IsLeast left y → IsLeast rest y = λ y h. All-tail (λ other. is_before other y ≡ false) x rest (least_left left rest x y perm h) in
     All-push (λ pair. IsLeast rest pair) done x (λ k d lt. tail (get_or done k d) (all k d lt)) (tail x least)
 
-pub order_more : (done left rest : List Pair) (x : Pair) → IsPermutation left (x ∷ rest) → All (λ pair. IsLeast left pair) done → IsSorted pair_cmp done → IsSorted pair_cmp (done ++ x ∷ [])
+pub order_more : (done left rest : List Pair) (x : Pair) → IsPermutation left (x ∷ rest) → All (λ pair. IsLeast left pair) done → IsSorted pair_cmp done
+    → IsSorted pair_cmp (done ++ x ∷ [])
 order_more done left rest x perm all order =
     IsSortedBy-push is_before done x order (λ d some.
     let last = get_or done (length done - 1) d in

@@ -70,7 +70,8 @@ waits wins loser leaf c some lost above here other =
     ]
 
 -- another head in place of the first one
-pub replay_starts : (heads : List (Option Pair)) (nodes : List ℕ) → IsLost heads nodes → 0 < length heads → (leaf : ℕ) → leaf ≡ get_or nodes 0 0 → (head : Option Pair)
+pub replay_starts : (heads : List (Option Pair)) (nodes : List ℕ) → IsLost heads nodes → 0 < length heads → (leaf : ℕ) → leaf ≡ get_or nodes 0 0
+    → (head : Option Pair)
     → (leaf < length heads) × IsReplay (set heads leaf head) nodes (length heads + leaf) leaf
 replay_starts heads nodes lost some leaf is head =
     let wins = lost.wins in
@@ -104,7 +105,8 @@ replay_starts heads nodes lost some leaf is head =
     )
 
 -- the last game is played
-pub replay_ends : (heads : List (Option Pair)) (nodes : List ℕ) (node winner : ℕ) → node ≡ 1 → IsReplay heads nodes node winner → IsLost heads (set nodes 0 winner)
+pub replay_ends : (heads : List (Option Pair)) (nodes : List ℕ) (node winner : ℕ) → node ≡ 1 → IsReplay heads nodes node winner
+    → IsLost heads (set nodes 0 winner)
 replay_ends heads nodes node winner root r = record {
   wins = r.wins;
   won = record {
@@ -136,7 +138,8 @@ turned_lost won lost a b (inl h) = inr h
 turned_lost won lost a b (inr h) = inl h
 
 -- what the game at the next node up leaves there
-at_next : (heads : List (Option Pair)) (wins : List ℕ) (node winner other won lost : ℕ) → 1 < node → node < length wins → get_or wins node 0 ≡ winner → other ≡ get_or wins (beside node) 0
+at_next : (heads : List (Option Pair)) (wins : List ℕ) (node winner other won lost : ℕ) → 1 < node → node < length wins → get_or wins node 0 ≡ winner
+    → other ≡ get_or wins (beside node) 0
     → IsWinner heads won winner other → ((won ≡ winner) × (lost ≡ other)) ⊎ ((won ≡ other) × (lost ≡ winner))
     → IsPlayed heads (set wins (node / 2) won) (node / 2) × IsLoser (set wins (node / 2) won) lost (node / 2)
 at_next heads wins node winner other won lost more lt here waits h l =
@@ -157,20 +160,32 @@ at_next heads wins node winner other won lost more lt here waits h l =
           let is : node ≡ 2 * q + 1 = omega (arith, odd) in
           let side : beside node ≡ 2 * q = omega (arith, is) in
           let a : get_or new (2 * q) 0 ≡ other = left ∙ (ap (λ (i : ℕ). get_or wins i 0) (sym side) ∙ sym waits) in
-          let b : get_or new (2 * q + 1) 0 ≡ winner = right ∙ (ap (λ (i : ℕ). get_or wins i 0) (sym is) ∙ here) in
-          (game_played heads new q won other winner hit a b (turned heads won winner other h), game_lost new q won lost other winner hit a b (turned_lost won lost winner other l))
+          let b : get_or new (2 * q + 1) 0 ≡ winner = right ∙ (ap (λ (i : ℕ). get_or wins i 0) (sym is) ∙ here) in (
+            game_played heads new q won other winner hit a b (turned heads won winner other h),
+            game_lost new q won lost other winner hit a b
+                (turned_lost won lost winner other l),
+          )
     ]
 
 -- a change at one node leaves the games that it takes no part in
-other_played : (heads : List (Option Pair)) (wins : List ℕ) (q won n : ℕ) → n ≢ q → 2 * n ≢ q → 2 * n + 1 ≢ q → IsPlayed heads wins n → IsPlayed heads (set wins q won) n
+other_played : (heads : List (Option Pair)) (wins : List ℕ) (q won n : ℕ) → n ≢ q → 2 * n ≢ q → 2 * n + 1 ≢ q → IsPlayed heads wins n
+    → IsPlayed heads (set wins q won) n
 other_played heads wins q won n a b d h =
     rw (get_or-set_other wins q n won 0 a, get_or-set_other wins q (2 * n) won 0 b, get_or-set_other wins q (2 * n + 1) won 0 d) h
 
-other_lost : (wins nodes : List ℕ) (q won lost n : ℕ) → n ≢ q → 2 * n ≢ q → 2 * n + 1 ≢ q → IsLoser wins (get_or nodes n 0) n → IsLoser (set wins q won) (get_or (set nodes q lost) n 0) n
+other_lost : (wins nodes : List ℕ) (q won lost n : ℕ) → n ≢ q → 2 * n ≢ q → 2 * n + 1 ≢ q → IsLoser wins (get_or nodes n 0) n
+    → IsLoser (set wins q won) (get_or (set nodes q lost) n 0) n
 other_lost wins nodes q won lost n a b d h =
-    simp (get_or-set_other wins q n won 0 a, get_or-set_other wins q (2 * n) won 0 b, get_or-set_other wins q (2 * n + 1) won 0 d, get_or-set_other nodes q n lost 0 a) h
+    simp (
+      get_or-set_other wins q n won 0 a,
+      get_or-set_other wins q (2 * n) won 0 b,
+      get_or-set_other wins q (2 * n + 1) won 0 d,
+      get_or-set_other nodes q n
+          lost 0 a,
+    ) h
 
-still_tree : (heads : List (Option Pair)) (wins : List ℕ) (q won : ℕ) → q < length heads → won < length heads → HasLeaves heads wins → HasLeaves heads (set wins q won)
+still_tree : (heads : List (Option Pair)) (wins : List ℕ) (q won : ℕ) → q < length heads → won < length heads → HasLeaves heads wins
+    → HasLeaves heads (set wins q won)
 still_tree heads wins q won low inside tree = record {
   long = length-set wins q won ∙ tree.long;
   inside = λ n lt.
@@ -229,13 +244,16 @@ replay_steps heads nodes node winner r more lt won lost inside h l =
     }
 
 -- the same, of lists that are those
-pub replay_starts_at : (heads hs : List (Option Pair)) (nodes ns : List ℕ) (leaf : ℕ) (head : Option Pair) → hs ≡ set heads leaf head → ns ≡ nodes → IsLost heads nodes → 0 < length heads
+pub replay_starts_at : (heads hs : List (Option Pair)) (nodes ns : List ℕ) (leaf : ℕ) (head : Option Pair) → hs ≡ set heads leaf head → ns ≡ nodes
+    → IsLost heads nodes → 0 < length heads
     → leaf ≡ get_or nodes 0 0 → IsReplay hs ns (length hs + leaf) leaf
 replay_starts_at heads hs nodes ns leaf head is-hs is-ns lost some is =
     let start = (replay_starts heads nodes lost some leaf is head).1 in
     let same : length heads ≡ length (set heads leaf head) = sym (length-set heads leaf head) in
-    let at-set : IsReplay (set heads leaf head) nodes (length (set heads leaf head) + leaf) leaf = subst (λ (m : ℕ). IsReplay (set heads leaf head) nodes (m + leaf) leaf) same start in
-    let by-heads : IsReplay hs nodes (length hs + leaf) leaf = subst (λ (zs : List (Option Pair)). IsReplay zs nodes (length zs + leaf) leaf) (sym is-hs) at-set in
+    let at-set : IsReplay (set heads leaf head) nodes (length (set heads leaf head) + leaf) leaf =
+    subst (λ (m : ℕ). IsReplay (set heads leaf head) nodes (m + leaf) leaf) same start in
+    let by-heads : IsReplay hs nodes (length hs + leaf) leaf =
+    subst (λ (zs : List (Option Pair)). IsReplay zs nodes (length zs + leaf) leaf) (sym is-hs) at-set in
     subst (λ (zs : List ℕ). IsReplay hs zs (length hs + leaf) leaf) (sym is-ns) by-heads
 
 pub first_inside : (heads : List (Option Pair)) (nodes : List ℕ) → IsLost heads nodes → 0 < length heads → get_or nodes 0 0 < length heads
@@ -246,7 +264,8 @@ root_leads heads nodes lost some other =
     subst (λ (i : ℕ). MayLead heads i other) (sym (lost.first some)) (first_leads heads lost.wins lost.won other)
 
 -- the one who waits at a node is one of the heads
-pub waiting_inside : (heads : List (Option Pair)) (nodes : List ℕ) (node winner : ℕ) → IsReplay heads nodes node winner → 1 < node → node < 2 * length heads → get_or nodes (node / 2) 0 < length heads
+pub waiting_inside : (heads : List (Option Pair)) (nodes : List ℕ) (node winner : ℕ) → IsReplay heads nodes node winner → 1 < node → node < 2 * length heads
+    → get_or nodes (node / 2) 0 < length heads
 waiting_inside heads nodes node winner r more lt =
     let side : beside node < length r.wins = omega (arith, more, lt, r.tree.long) in
     omega (arith, r.waiting 0 more, r.tree.inside (beside node) side)
@@ -264,7 +283,8 @@ all_done heads nodes lost some None at none = λ place.
     done (get_or heads place None) (subst (λ (x : Option Pair). is_ahead (get_or heads place None) x ≡ false) (sym at) led)
 
 -- and where it has one, that is the first
-pub root_is_first : (value : HeadsValue) (nodes : List ℕ) → IsLost value.heads nodes → 0 < length value.heads → get_or nodes 0 0 ≡ value.first → (x : Option Pair)
+pub root_is_first : (value : HeadsValue) (nodes : List ℕ) → IsLost value.heads nodes → 0 < length value.heads → get_or nodes 0 0 ≡ value.first
+    → (x : Option Pair)
     → x ≡ get_or value.heads value.first x → is_some x ≡ true → IsFirst value value.first
 root_is_first value nodes lost some root None at there = absurd (false≢true there)
 root_is_first value nodes lost some root (Some a) at there =

@@ -1,14 +1,17 @@
 -- The lanes of a merge: how they start, what the first head says of all pairs, and what one step leaves.
-use Rattle.std.proofs.Common.{◌≡◌, ◌≢◌, ℕ, zero, suc, ◌+◌, ◌<◌, ◌==◌, ◌||◌, Bool, true, false, List, [], ◌∷◌, ◌++◌, All, length, get_or, set, drop, take, refl, sym, ap, ◌∙◌, subst, arith, inl, inr}
+use Rattle.std.proofs.Common.{◌≡◌, ◌≢◌, ℕ, zero, suc, ◌+◌, ◌<◌, ◌==◌, ◌||◌, Bool, true, false, List, [], ◌∷◌}
+use Rattle.std.proofs.Common.{◌++◌, All, length, get_or, set, drop, take, refl, sym, ap, ◌∙◌, subst, arith, inl, inr}
 use Rattle.std.specs.Prelude.{Option, Some, None, slice_get, count_by}
 use Rattle.std.specs.List.{list_any}
 use Rattle.std.specs.List.Sorted.{IsSorted, IsPermutation}
 use Rattle.std.proofs.lemmas.Bool.{cases_eq, cases_lt, lt-ltb, le-ltb, eqb-true, false≢true, false_from_ne_true}
 use Rattle.std.proofs.lemmas.Bool.Decides.{nat_tests}
 use Rattle.std.proofs.lemmas.List.Folds.{list_any_at}
-use Rattle.std.proofs.lemmas.List.{get_or-set_other, get_or-set_same, length-set, get_or-drop, get_or_push, get_or_append_left, length_push, length-drop, nil_from_length}
+use Rattle.std.proofs.lemmas.List.{get_or-set_other, get_or-set_same, length-set, get_or-drop}
+use Rattle.std.proofs.lemmas.List.{get_or_push, get_or_append_left, length_push, length-drop, nil_from_length}
 use Rattle.std.proofs.lemmas.List.Elements.{All-append, All-get_or, All-set, All-nil}
-use Rattle.std.proofs.lemmas.List.Sorted.{IsPermutation-refl, IsPermutation-append_left, IsPermutation-append_right, IsPermutation-trans, IsPermutation-middle, sorted_far}
+use Rattle.std.proofs.lemmas.List.Sorted.{IsPermutation-refl, IsPermutation-append_left, IsPermutation-append_right}
+use Rattle.std.proofs.lemmas.List.Sorted.{IsPermutation-trans, IsPermutation-middle, sorted_far}
 use Rattle.std.proofs.lemmas.List.Sums.{count_by_more_no, count_by_more_yes}
 use Rattle.std.proofs.lemmas.Option.{slice_get-get_or, slice_get_past}
 use Rattle.keybytes.specs.Pairs.{pair_cmp}
@@ -29,7 +32,8 @@ start_none runs = record {
 }
 
 -- a run without a pair needs no lane
-pub start_same : (runs : List (List Pair)) (lanes : List ℕ) (heads : List (Option Pair)) (i : ℕ) → IsStart runs lanes heads i → length (get_or runs i []) ≡ 0 → IsStart runs lanes heads (i + 1)
+pub start_same : (runs : List (List Pair)) (lanes : List ℕ) (heads : List (Option Pair)) (i : ℕ) → IsStart runs lanes heads i → length (get_or runs i []) ≡ 0
+    → IsStart runs lanes heads (i + 1)
 start_same runs lanes heads i was none = record {
   long = was.long;
   inside = λ k lt. omega (arith, was.inside k lt);
@@ -43,7 +47,8 @@ start_same runs lanes heads i was none = record {
 }
 
 -- a run with a pair gets the next lane
-pub start_more : (runs : List (List Pair)) (lanes : List ℕ) (heads : List (Option Pair)) (i : ℕ) (pair : Pair) → IsStart runs lanes heads i → slice_get (get_or runs i []) 0 ≡ Some pair
+pub start_more : (runs : List (List Pair)) (lanes : List ℕ) (heads : List (Option Pair)) (i : ℕ) (pair : Pair) → IsStart runs lanes heads i
+    → slice_get (get_or runs i []) 0 ≡ Some pair
     → IsStart runs (lanes ++ i ∷ []) (heads ++ Some pair ∷ []) (i + 1)
 start_more runs lanes heads i pair was is =
     let last : get_or (lanes ++ i ∷ []) (length lanes) 0 ≡ i = get_or_push lanes i 0 (length lanes) refl in
@@ -105,7 +110,8 @@ same_number : (n : ℕ) → (n == n) ≡ true
 same_number n = grind (arith, nat_tests)
 
 -- all runs are read
-pub start_ends : (runs : List (List Pair)) (lanes : List ℕ) (heads : List (Option Pair)) (count : ℕ) → AreSorted runs → count ≡ length runs → IsStart runs lanes heads count
+pub start_ends : (runs : List (List Pair)) (lanes : List ℕ) (heads : List (Option Pair)) (count : ℕ) → AreSorted runs → count ≡ length runs
+    → IsStart runs lanes heads count
     → IsMerge runs lanes heads
 start_ends runs lanes heads count sorted all was = record {
   sorted = sorted;
@@ -128,10 +134,12 @@ head_none [] is = refl
 head_none (first ∷ run) is = absurd (cc (is))
 
 -- how many lanes there are
-pub ways_same : (runs : List (List Pair)) (i : ℕ) → i < length runs → length (get_or runs i []) ≡ 0 → count_by has_pair (take (i + 1) runs) ≡ count_by has_pair (take i runs)
+pub ways_same : (runs : List (List Pair)) (i : ℕ) → i < length runs → length (get_or runs i []) ≡ 0
+    → count_by has_pair (take (i + 1) runs) ≡ count_by has_pair (take i runs)
 ways_same runs i lt none = count_by_more_no has_pair runs i [] lt (le-ltb 0 (length (get_or runs i [])) (omega (arith, none)))
 
-pub ways_more : (runs : List (List Pair)) (i : ℕ) → i < length runs → 0 < length (get_or runs i []) → count_by has_pair (take (i + 1) runs) ≡ count_by has_pair (take i runs) + 1
+pub ways_more : (runs : List (List Pair)) (i : ℕ) → i < length runs → 0 < length (get_or runs i [])
+    → count_by has_pair (take (i + 1) runs) ≡ count_by has_pair (take i runs) + 1
 ways_more runs i lt some = count_by_more_yes has_pair runs i [] lt (lt-ltb 0 (length (get_or runs i [])) some)
 
 -- what holds of the pairs of each run
@@ -184,7 +192,8 @@ least_first runs lanes heads m lane leads x is =
     before_order.chain (get_or run k d) (get_or run 0 d) x (sorted_far is_before before_order run up 0 k d (omega arith) lt) first)
 
 -- one pair out of one run
-perm_at : (runs : List (List Pair)) (i : ℕ) (rest : List Pair) (x : Pair) → i < length runs → IsPermutation (get_or runs i []) (x ∷ rest) → IsPermutation (all_pairs runs) (x ∷ all_pairs (set runs i rest))
+perm_at : (runs : List (List Pair)) (i : ℕ) (rest : List Pair) (x : Pair) → i < length runs → IsPermutation (get_or runs i []) (x ∷ rest)
+    → IsPermutation (all_pairs runs) (x ∷ all_pairs (set runs i rest))
 perm_at [] i rest x lt p = absurd (omega (arith, lt))
 perm_at (run ∷ runs) zero rest x lt p = IsPermutation-append_left (all_pairs runs) run (x ∷ rest) p
 perm_at (run ∷ runs) (suc i) rest x lt p =
@@ -205,15 +214,19 @@ first_has runs lanes heads m value same lane first =
     ]
 
 -- what a step gives
-pub step_gives : (runs : List (List Pair)) (lanes : List ℕ) (heads : List (Option Pair)) → IsMerge runs lanes heads → (lane run : ℕ) → lane < length lanes → run ≡ get_or lanes lane 0
+pub step_gives : (runs : List (List Pair)) (lanes : List ℕ) (heads : List (Option Pair)) → IsMerge runs lanes heads → (lane run : ℕ) → lane < length lanes
+    → run ≡ get_or lanes lane 0
     → ((other : ℕ) → MayLead heads lane other) → 0 < length (get_or runs run []) → (given : Option Pair) → given ≡ get_or heads lane None
     → Gives runs given (set runs run (drop 1 (get_or runs run [])))
 step_gives runs lanes heads m lane run lt at leads some given is =
     let there = head_there (get_or runs run []) some in
     let head : get_or heads lane None ≡ Some there.0 = m.at lane lt ∙ (ap (λ (n : ℕ). head_of (get_or runs n [])) (sym at) ∙ there.1) in
     let G : Option Pair → Type 0 = λ o. Gives runs o (set runs run (drop 1 (get_or runs run []))) in
-    subst G (sym (is ∙ head))
-    (least_first runs lanes heads m lane leads there.0 head, perm_at runs run (drop 1 (get_or runs run [])) there.0 (omega (arith, m.inside lane lt, at)) there.2)
+    subst G (sym (is ∙ head)) (
+      least_first runs lanes heads m lane leads there.0 head,
+      perm_at runs run (drop 1 (get_or runs run [])) there.0 (omega (arith, m.inside lane lt, at))
+          there.2,
+    )
 
 sorted_rest : (run : List Pair) → IsSorted pair_cmp run → IsSorted pair_cmp (drop 1 run)
 sorted_rest run up = λ k d le lt.
@@ -225,7 +238,8 @@ second_is [] = refl
 second_is (x ∷ run) = refl
 
 -- what a step leaves
-pub step_leaves : (runs : List (List Pair)) (lanes : List ℕ) (heads : List (Option Pair)) → IsMerge runs lanes heads → (lane run : ℕ) → lane < length lanes → run ≡ get_or lanes lane 0
+pub step_leaves : (runs : List (List Pair)) (lanes : List ℕ) (heads : List (Option Pair)) → IsMerge runs lanes heads → (lane run : ℕ) → lane < length lanes
+    → run ≡ get_or lanes lane 0
     → (next : Option Pair) → next ≡ slice_get (get_or runs run []) 1 → IsMerge (set runs run (drop 1 (get_or runs run []))) lanes (set heads lane next)
 step_leaves runs lanes heads m lane run lt at next is =
     let rest = drop 1 (get_or runs run []) in
@@ -257,7 +271,15 @@ step_leaves runs lanes heads m lane run lt at next is =
       cover = λ i lt' some.
           let before : 0 < length (get_or runs i []) =
           elim (cases_eq i run) [
-            | inl e ↦ omega (arith, some, ap (λ (n : ℕ). length (get_or (set runs run rest) n [])) e, ap length here, length-drop 1 (get_or runs run []), ap (λ (n : ℕ). length (get_or runs n [])) e)
+            | inl e ↦ omega (
+              arith,
+              some,
+              ap (λ (n : ℕ). length (get_or (set runs run rest) n [])) e,
+              ap length here,
+              length-drop 1 (get_or runs run []),
+              ap
+                  (λ (n : ℕ). length (get_or runs n [])) e,
+            )
             | inr ne ↦ omega (arith, some, ap length (other i ne))
           ] in
           m.cover i (omega (arith, lt', long)) before;

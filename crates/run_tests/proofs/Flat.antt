@@ -11,7 +11,8 @@ use Rattle.run_merge.specs.Merging.{all_runs}
 -- where the runs of each spool are sorted all are
 pub each_sorted : (spools : List (List (List Pair))) → All AreSorted spools → AreSorted (all_runs spools)
 each_sorted [] all = All-nil (IsSorted pair_cmp)
-each_sorted (runs ∷ spools) all = All-append (IsSorted pair_cmp) runs (all_runs spools) (All-head AreSorted runs spools all) (each_sorted spools (All-tail AreSorted runs spools all))
+each_sorted (runs ∷ spools) all = All-append (IsSorted pair_cmp) runs (all_runs spools) (All-head AreSorted runs spools all)
+    (each_sorted spools (All-tail AreSorted runs spools all))
 
 -- what is written to a whole list
 pub written_back : {X : Type 0} (n : ℕ) (xs ys : List X) → length xs ≡ n → take n (xs ++ ys) ≡ xs

@@ -49,5 +49,6 @@ returns-clause-taken g c = λ i lt made has.
     let spec = spec_at c.args.specs.now i in
     let count : c.loop-slot.slot ≡ length image.slots = omega (arith, c.loop-slot-test.false, c.loop-slot.auto.slot-end, c.slots-slot-end.ensures) in
     let all : pairs_before spec image.page has.rows c.loop-slot.slot ≡ made = ap (pairs_before spec image.page has.rows) count ∙ sym has.pairs_are in
-    subst (λ (ps : List Pair). Adds ps (get_or (map g.S.Spool.runs c.args.spools.now) i []) (get_or c.args.begun.now i []) (get_or (map g.S.Spool.runs c.loop-slot.spools) i []) (get_or c.loop-slot.begun i []))
+    subst (λ (ps : List Pair). Adds ps (get_or (map g.S.Spool.runs c.args.spools.now) i []) (get_or c.args.begun.now i [])
+    (get_or (map g.S.Spool.runs c.loop-slot.spools) i []) (get_or c.loop-slot.begun i []))
     all (c.loop-slot.invariant.added i lt made has)

@@ -58,7 +58,8 @@ loop-i-preserved g c =
     λ j. Adds (option_to_list (pair_with (spec_at c.args.specs.now j) c.args.rid (Some c.args.row.now))) in
     let here : Made i (get_or (map g.S.Spool.runs spools) i []) (get_or c.loop-i.begun i []) (g.S.Spool.runs c.add_key.new.spool) c.add_key.new.begun =
     let Added : KeySpecValue → List (List Pair) → List Pair → Type 0 =
-    λ s runs begun. Adds (record { key = key_of s c.args.row.now; rid = c.args.rid } ∷ []) runs begun (g.S.Spool.runs c.add_key.new.spool) c.add_key.new.begun in
+    λ s runs begun. Adds (record { key = key_of s c.args.row.now; rid = c.args.rid } ∷ []) runs begun (g.S.Spool.runs c.add_key.new.spool)
+    c.add_key.new.begun in
     let added : Added spec (g.S.Spool.runs (get_or spools i d)) (get_or c.loop-i.begun i b) = c.in_ok-add_key.ensures.added in
     subst (λ (s : KeySpecValue). Added s (get_or (map g.S.Spool.runs spools) i []) (get_or c.loop-i.begun i [])) spec-at
     (subst (λ (r : List (List Pair)). Added spec r (get_or c.loop-i.begun i [])) (sym runs-at)
@@ -67,7 +68,8 @@ loop-i-preserved g c =
       reached = rw (map-set g.S.Spool.runs spools i c.add_key.new.spool)
           (reached_more Made i (record { runs = map g.S.Spool.runs c.args.spools.now; begun = c.args.begun.now }) (map g.S.Spool.runs spools) c.loop-i.begun
           was.reached (omega (arith, in-spools, length-map spools g.S.Spool.runs)) in-begun (g.S.Spool.runs c.add_key.new.spool) c.add_key.new.begun here);
-      ready = ready_after g.S.Spool.runs g.S.Spool.open_run spools i c.add_key.new.spool c.in_ok-add_key.ensures.none_empty c.in_ok-add_key.ensures.open_run was.ready;
+      ready = ready_after g.S.Spool.runs g.S.Spool.open_run spools i c.add_key.new.spool c.in_ok-add_key.ensures.none_empty c.in_ok-add_key.ensures.open_run
+          was.ready;
       sorted = λ all.
           holds_after AreSorted g.S.Spool.runs spools i c.add_key.new.spool
           (c.add_key.ensures.sorted (holds_at AreSorted g.S.Spool.runs spools i d in-spools (was.sorted all))) (was.sorted all);

@@ -9,12 +9,14 @@ use Rattle.run_maker.proofs.sealing.close_all.Goals as goal
 
 pub close-requires-clause-open_run : goal.close-requires-clause-open_run
 close-requires-clause-open_run g c =
-    let inside : c.loop-i.i < length c.loop-i.spools = omega (arith, c.loop-i-test.true, c.loop-i.invariant.long_spools, c.loop-i.invariant.long_begun, c.requires.spools) in
+    let inside : c.loop-i.i < length c.loop-i.spools =
+    omega (arith, c.loop-i-test.true, c.loop-i.invariant.long_spools, c.loop-i.invariant.long_begun, c.requires.spools) in
     holds_at (λ (run : List Pair). run ≡ []) g.S.Spool.open_run c.loop-i.spools c.loop-i.i c.index-spools-i.result inside c.loop-i.invariant.ready.open_none
 
 pub returns-in_err-close-clause-sorted : goal.returns-in_err-close-clause-sorted
 returns-in_err-close-clause-sorted g c = λ all.
-    let inside : c.loop-i.i < length c.loop-i.spools = omega (arith, c.loop-i-test.true, c.loop-i.invariant.long_spools, c.loop-i.invariant.long_begun, c.requires.spools) in
+    let inside : c.loop-i.i < length c.loop-i.spools =
+    omega (arith, c.loop-i-test.true, c.loop-i.invariant.long_spools, c.loop-i.invariant.long_begun, c.requires.spools) in
     let was = c.loop-i.invariant.sorted all in
     holds_after AreSorted g.S.Spool.runs c.loop-i.spools c.loop-i.i c.close.new.spool
     (c.close.ensures.sorted (holds_at AreSorted g.S.Spool.runs c.loop-i.spools c.loop-i.i c.index-spools-i.result inside was)) was
@@ -45,7 +47,8 @@ loop-i-preserved g c =
           (reached_more Made i (record { runs = map g.S.Spool.runs c.args.spools.now; begun = c.args.begun.now }) (map g.S.Spool.runs spools) begun
           was.reached (omega (arith, in-spools, length-map spools g.S.Spool.runs)) in-begun (g.S.Spool.runs c.close.new.spool) c.close.new.self
           (here, c.in_ok-close.ensures.left));
-      ready = ready_after g.S.Spool.runs g.S.Spool.open_run spools i c.close.new.spool c.in_ok-close.ensures.none_empty c.in_ok-close.ensures.open_run was.ready;
+      ready = ready_after g.S.Spool.runs g.S.Spool.open_run spools i c.close.new.spool c.in_ok-close.ensures.none_empty c.in_ok-close.ensures.open_run
+          was.ready;
       sorted = λ all.
           holds_after AreSorted g.S.Spool.runs spools i c.close.new.spool
           (c.close.ensures.sorted (holds_at AreSorted g.S.Spool.runs spools i d in-spools (was.sorted all))) (was.sorted all);
@@ -56,4 +59,5 @@ loop-i-preserved g c =
 
 pub returns-clause-none_open : goal.returns-clause-none_open
 returns-clause-none_open g c = λ k d lt.
-    get_or_default c.loop-i.begun k d [] lt ∙ (c.loop-i.invariant.reached.done k (omega (arith, lt, c.loop-i-test.false, c.loop-i.auto.i-end, c.loop-i.invariant.long_begun))).1
+    get_or_default c.loop-i.begun k d [] lt ∙ (c.loop-i.invariant.reached.done k
+    (omega (arith, lt, c.loop-i-test.false, c.loop-i.auto.i-end, c.loop-i.invariant.long_begun))).1

@@ -12,7 +12,8 @@ pub returns-clause-head : goal.returns-clause-head
 returns-clause-head g c =
     let d = c.index-spools-spool.result in
     let place = c.place-spool in
-    let at = run_at g.S.Spool.runs c.args.spools.now place.result.0 place.result.1 c.args.run d place.ensures.spool (place.ensures.run d) place.ensures.before in
+    let at =
+    run_at g.S.Spool.runs c.args.spools.now place.result.0 place.result.1 c.args.run d place.ensures.spool (place.ensures.run d) place.ensures.before in
     subst (λ (r : List Pair). IfOk c.pair_at.result (λ pair. pair ≡ slice_get r 0)) (sym at) c.pair_at.ensures.pair
 
 pub returns-clause-runs : goal.returns-clause-runs

@@ -11,6 +11,7 @@ loop-node-preserved c =
       some = λ _. some;
       inside = omega arith;
       tree = c.play-compares.ensures.tree;
-      done = all_more c.args.heads.now c.loop-node.nodes c.play-compares.new.nodes node (node - 1) next some c.loop-node.invariant.done c.play-compares.ensures.here c.play-compares.ensures.others;
+      done = all_more c.args.heads.now c.loop-node.nodes c.play-compares.new.nodes node (node - 1) next some c.loop-node.invariant.done
+          c.play-compares.ensures.here c.play-compares.ensures.others;
       compares = omega arith;
     }

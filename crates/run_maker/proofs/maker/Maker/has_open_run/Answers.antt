@@ -19,4 +19,5 @@ pub returns-clause-none : goal.returns-clause-none
 returns-clause-none c = λ _.
     let begun = c.args.self.now.begun in
     let same = c.deref-begun-items.ensures.value ∙ ap (λ (v : MakerValue). v.begun) c.self.view_is in
-    subst (All (λ (ps : List Pair). ps ≡ [])) (take_all c.loop-begun.begun-index begun (omega (arith, c.loop-begun-test.false, ap length same))) c.loop-begun.invariant
+    subst (All (λ (ps : List Pair). ps ≡ [])) (take_all c.loop-begun.begun-index begun (omega (arith, c.loop-begun-test.false, ap length same)))
+    c.loop-begun.invariant
