@@ -20,6 +20,7 @@ holds_at P f xs i d lt all = subst P (get_or-map f xs i d) (all i (f d) (omega (
 pub holds_after : {X Y : Type 0} (P : Y → Type 0) (f : X → Y) (xs : List X) (i : ℕ) (x : X) → P (f x) → All P (map f xs) → All P (map f (set xs i x))
 holds_after P f xs i x here all = subst (All P) (sym (map-set f xs i x)) (All-set P (map f xs) i (f x) here all)
 
+-- a spool that is ready in place of another
 pub ready_after : {X : Type 0} (runs : X → List (List Pair)) (open_run : X → List Pair) (xs : List X) (i : ℕ) (x : X) → NoneEmpty (runs x) → open_run x ≡ []
     → AreReady (map runs xs) (map open_run xs) → AreReady (map runs (set xs i x)) (map open_run (set xs i x))
 ready_after runs open_run xs i x none_empty none ready = record {

@@ -1,27 +1,20 @@
 -- What a run that is spooled leaves, and pairs that are held one after another.
-use Rattle.std.proofs.Common.{◌≡◌, ℕ, ◌+◌, ◌%◌, List, [], ◌∷◌, ◌++◌, length, reverse, append_assoc, append-nil, sym, ap, ◌∙◌, subst, arith}
+use Rattle.std.proofs.Common.{◌≡◌, ℕ, ◌+◌, ◌%◌, List, [], ◌∷◌, ◌++◌, length, reverse, append_assoc, append-nil, sym, ap, ◌∙◌, arith}
 use Rattle.std.specs.Prelude.{Result, Ok, Err, OnOk}
 use Rattle.std.specs.List.Sorted.{IsSorted}
 use Rattle.std.proofs.lemmas.List.{length_push, length-append, reverse-reverse}
 use Rattle.std.proofs.lemmas.List.Elements.{All-push}
-use Rattle.std.proofs.lemmas.List.Sorted.{IsPermutation-refl, IsPermutation-append_left, IsPermutation-append_right, IsPermutation-trans}
+use Rattle.std.proofs.lemmas.List.Sorted.{IsPermutation-append_left, IsPermutation-append_right, IsPermutation-trans}
 use Rattle.std.proofs.lemmas.Grind.{flat_map-append}
 use Rattle.keybytes.specs.Pairs.{pair_cmp}
 use Rattle.keybytes.specs.declared.pair.Pair.{Pair}
-use Rattle.run_spool.specs.Spools.{NoneEmpty, AreSorted, all_pairs, with_closed_run}
-use Rattle.run_spool.proofs.Closings.{closed_none_empty}
+use Rattle.run_spool.specs.Spools.{AreSorted, all_pairs, with_closed_run}
 use Rattle.run_maker.specs.Spooling.{Spooled, Adds}
-
-pub spooled_none_empty : (pairs : List Pair) (old new : List (List Pair)) → Spooled pairs old new → NoneEmpty old → NoneEmpty new
-spooled_none_empty pairs old new s some = subst NoneEmpty (sym s.closed) (closed_none_empty old s.run some)
 
 -- a run in order more
 pub closed_sorted : (runs : List (List Pair)) (run : List Pair) → IsSorted pair_cmp run → AreSorted runs → AreSorted (with_closed_run runs run)
 closed_sorted runs [] up all = all
 closed_sorted runs (first ∷ run) up all = All-push (λ r. IsSorted pair_cmp r) runs (first ∷ run) all up
-
-pub spooled_sorted : (pairs : List Pair) (old new : List (List Pair)) → Spooled pairs old new → AreSorted old → AreSorted new
-spooled_sorted pairs old new s all = subst AreSorted (sym s.closed) (closed_sorted old s.run s.sorted all)
 
 -- a run more has its pairs more
 all_closed : (runs : List (List Pair)) (run : List Pair) → all_pairs (with_closed_run runs run) ≡ all_pairs runs ++ run
@@ -42,23 +35,6 @@ spooled_adds old new begun pair pairs is full s =
       all = rw (held, whole) (IsPermutation-append_right (all_pairs old) pairs s.run s.same);
       count = sym (ap (λ (n : ℕ). n % 4096) long);
     }
-
--- a pair that doesn't
-pub begun_adds : (runs : List (List Pair)) (begun : List Pair) (pair : Pair) (pairs : List Pair) → pairs ≡ begun ++ pair ∷ []
-    → Adds (pair ∷ []) runs begun runs pairs
-begun_adds runs begun pair pairs is =
-    let held : (all_pairs runs ++ begun) ++ pair ∷ [] ≡ all_pairs runs ++ pairs =
-    append_assoc (all_pairs runs) begun (pair ∷ []) ∙ ap (λ (ps : List Pair). all_pairs runs ++ ps) (sym is) in
-    record {
-      all = rw held (IsPermutation-refl (all_pairs runs ++ pairs));
-      count = ap (λ (n : ℕ). n % 4096) (ap length is ∙ length_push begun pair);
-    }
-
-pub adds_none : (runs : List (List Pair)) (begun : List Pair) → Adds [] runs begun runs begun
-adds_none runs begun = record {
-  all = rw (append-nil (all_pairs runs ++ begun)) (IsPermutation-refl (all_pairs runs ++ begun));
-  count = ap (λ (n : ℕ). n % 4096) (let e : length begun ≡ length begun + 0 = omega arith in e);
-}
 
 -- pairs, and then more
 pub adds_more : (made more : List Pair) (runs0 : List (List Pair)) (begun0 : List Pair) (runs1 : List (List Pair)) (begun1 : List Pair)

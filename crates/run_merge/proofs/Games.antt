@@ -34,22 +34,6 @@ above_left n node e = (0, let h : n ≡ node / 2 = omega (arith, e) in h)
 pub above_right : (n node : ℕ) → 2 * n + 1 ≡ node → IsAbove n node
 above_right n node e = (0, let h : n ≡ node / 2 = omega (arith, e) in h)
 
--- once the next node up is played, all that are not above it are played
-pub played_next : (heads : List (Option Pair)) (old new : List ℕ) (node : ℕ) → (next : ℕ) → next ≡ node / 2
-    → ((n : ℕ) → 0 < n → n < length heads → (IsAbove n node → ⊥) → IsPlayed heads old n)
-    → IsPlayed heads new next
-    → ((n : ℕ) → 0 < n → (n ≡ next → ⊥) → (2 * n ≡ next → ⊥) → (2 * n + 1 ≡ next → ⊥) → IsPlayed heads old n → IsPlayed heads new n)
-    → (n : ℕ) → 0 < n → n < length heads → (IsAbove n next → ⊥) → IsPlayed heads new n
-played_next heads old new node next is others here kept n some lt apart =
-    elim (cases_eq n next) [
-      | inl e ↦ subst (λ (i : ℕ). IsPlayed heads new i) (sym e) here
-      | inr ne ↦
-          let off : n ≢ node / 2 = λ e. ne (e ∙ sym is) in
-          let down : IsAbove n (node / 2) → ⊥ = λ a. apart (subst (λ (i : ℕ). IsAbove n i) (sym is) a) in
-          kept n some ne (λ e. apart (above_left n next e)) (λ e. apart (above_right n next e))
-          (others n some lt (λ a. down (above_next n node off a)))
-    ]
-
 -- a node that names a head lies on the way from its leaf to the root
 pub way : (heads : List (Option Pair)) (nodes : List ℕ) (leaf : ℕ) → IsWon heads nodes → leaf < length heads
     → (fuel n : ℕ) → 0 < n → n < 2 * length heads → 2 * length heads ≤ n + fuel → get_or nodes n 0 ≡ leaf → (k : ℕ) × (n ≡ up k (length heads + leaf))
@@ -218,14 +202,3 @@ within node made leaf count d some le lt fits =
             omega (arith, ap (λ (i : ℕ). 2 ^ i) e, pow-add 2 d 1, low, lt, fits)
       ])
     ]
-
--- the same, of lists that are those
-pub still_others : (heads hs : List (Option Pair)) (nodes ns : List ℕ) (leaf : ℕ) (head : Option Pair) → hs ≡ set heads leaf head → ns ≡ nodes
-    → IsWon heads nodes → leaf < length heads
-    → (n : ℕ) → 0 < n → n < length hs → (IsAbove n (length hs + leaf) → ⊥) → IsPlayed hs ns n
-still_others heads hs nodes ns leaf head is-hs is-ns won inside n some lt apart =
-    let same : length hs ≡ length heads = ap length is-hs ∙ length-set heads leaf head in
-    let off : IsAbove n (length heads + leaf) → ⊥ = subst (λ (m : ℕ). IsAbove n (m + leaf) → ⊥) same apart in
-    let done = still_played heads nodes leaf head won inside n some (omega (arith, lt, same)) off in
-    let by-heads : IsPlayed hs nodes n = subst (λ (zs : List (Option Pair)). IsPlayed zs nodes n) (sym is-hs) done in
-    subst (λ (zs : List ℕ). IsPlayed hs zs n) (sym is-ns) by-heads
