@@ -11,10 +11,12 @@ use Rattle.run_merge.specs.Tournaments.{IsWinner, up, IsAbove, HasLeaves, IsPlay
 use Rattle.keybytes.specs.declared.pair.Pair.{Pair}
 use Rattle.run_merge.proofs.Order.{leads_itself, leads_chain}
 
+-- one level more
 pub up_half : (k node : ℕ) → up k node / 2 ≡ up (suc k) node
 up_half zero node = refl
 up_half (suc k) node = up_half k (node / 2)
 
+-- above 0 there is no other node
 pub up_none : (k : ℕ) → up k 0 ≡ 0
 up_none zero = refl
 up_none (suc k) = up_none k
@@ -28,9 +30,11 @@ pub above_next : (n node : ℕ) → n ≢ node / 2 → IsAbove n node → IsAbov
 above_next n node ne (zero, is) = absurd (ne is)
 above_next n node ne (suc k, is) = (k, is)
 
+-- a node is above the two below it
 pub above_left : (n node : ℕ) → 2 * n ≡ node → IsAbove n node
 above_left n node e = (0, let h : n ≡ node / 2 = omega (arith, e) in h)
 
+-- and above the one to the right
 pub above_right : (n node : ℕ) → 2 * n + 1 ≡ node → IsAbove n node
 above_right n node e = (0, let h : n ≡ node / 2 = omega (arith, e) in h)
 
@@ -64,11 +68,13 @@ unnamed heads nodes leaf won inside n c some lt apart half is =
     let found = way heads nodes leaf won inside (2 * length heads) c some lt (omega arith) is in
     apart (found.0, half ∙ (ap (λ m. m / 2) found.1 ∙ up_half found.0 (length heads + leaf)))
 
+-- nor does the node itself name the leaf, unless it is above it
 unnamed_here : (heads : List (Option Pair)) (nodes : List ℕ) (leaf : ℕ) → IsWon heads nodes → leaf < length heads → (n : ℕ) → 0 < n → n < length heads
     → (IsAbove n (length heads + leaf) → ⊥) → (found : (k : ℕ) × (n ≡ up k (length heads + leaf))) → ⊥
 unnamed_here heads nodes leaf won inside n some lt apart (zero, is) = omega (arith, lt, is)
 unnamed_here heads nodes leaf won inside n some lt apart (suc k, is) = apart (k, is)
 
+-- another head is of no matter between two others
 leads_still : (heads : List (Option Pair)) (leaf : ℕ) (head : Option Pair) (i j : ℕ) → i ≢ leaf → j ≢ leaf → MayLead heads i j
     → MayLead (set heads leaf head) i j
 leads_still heads leaf head i j ne nf h = rw (get_or-set_other heads leaf i head None ne, get_or-set_other heads leaf j head None nf) h
@@ -90,6 +96,7 @@ still_played heads nodes leaf head won inside n some lt apart =
       leads_right = leads_still heads leaf head (get_or nodes n 0) (get_or nodes (2 * n + 1) 0) here right was.leads_right;
     }
 
+-- another head leaves the leaves as they were
 pub still_leaves : (heads : List (Option Pair)) (nodes : List ℕ) (leaf : ℕ) (head : Option Pair) → HasLeaves heads nodes → HasLeaves (set heads leaf head) nodes
 still_leaves heads nodes leaf head tree =
     let same : length (set heads leaf head) ≡ length heads = length-set heads leaf head in
@@ -141,6 +148,7 @@ left_wins heads left right x y l r is-x is-y h =
     let at-y : get_or heads right None ≡ y = get_or_default heads right None y r ∙ sym is-y in
     record { one = inl refl; leads_left = leads_itself heads left; leads_right = rw (at-x, at-y) h }
 
+-- and where the right one wins
 pub right_wins : (heads : List (Option Pair)) (left right : ℕ) (x y : Option Pair) → left < length heads → right < length heads
     → x ≡ get_or heads left x → y ≡ get_or heads right y → is_ahead x y ≡ false → IsWinner heads right left right
 right_wins heads left right x y l r is-x is-y h =
@@ -184,6 +192,7 @@ way_up node made more room small le =
           rw (e, double) (omega (arith, turn, mul-le-mul_right (2 ^ made) half, le))
     ]
 
+-- games on a way are few
 pub few_made : (node made room : ℕ) → 0 < node → node * 2 ^ made ≤ room → 2 ^ made ≤ room
 few_made node made room some le =
     let once : 1 ≤ node = omega (arith, some) in

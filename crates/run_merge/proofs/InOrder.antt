@@ -9,15 +9,18 @@ use Rattle.run_merge.specs.Leading.{is_before}
 use Rattle.run_merge.specs.Merging.{IsLeast}
 use Rattle.keybytes.specs.declared.pair.Pair.{Pair}
 
+-- what no pair was before, no pair is before that is left
 least_left : (left rest : List Pair) (x y : Pair) → IsPermutation left (x ∷ rest) → IsLeast left y → IsLeast (x ∷ rest) y
 least_left left rest x y perm least = All-permutation (λ other. is_before other y ≡ false) left (x ∷ rest) perm least
 
+-- what was given and one pair more stay before all that is left
 pub before_more : (done left rest : List Pair) (x : Pair) → IsPermutation left (x ∷ rest) → IsLeast left x → All (λ pair. IsLeast left pair) done
     → All (λ pair. IsLeast rest pair) (done ++ x ∷ [])
 before_more done left rest x perm least all =
     let tail : (y : Pair) → IsLeast left y → IsLeast rest y = λ y h. All-tail (λ other. is_before other y ≡ false) x rest (least_left left rest x y perm h) in
     All-push (λ pair. IsLeast rest pair) done x (λ k d lt. tail (get_or done k d) (all k d lt)) (tail x least)
 
+-- what was given stays in order with one pair more
 pub order_more : (done left rest : List Pair) (x : Pair) → IsPermutation left (x ∷ rest) → All (λ pair. IsLeast left pair) done → IsSorted pair_cmp done
     → IsSorted pair_cmp (done ++ x ∷ [])
 order_more done left rest x perm all order =

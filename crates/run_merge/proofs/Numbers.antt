@@ -33,6 +33,7 @@ written f (x ∷ xs) (suc s) own run d y r lt in' is same =
     ap (λ (rs : List (List Pair)). f x ++ rs) rest
     ∙ (ap (λ (n : ℕ). f x ++ set (flat_map f xs) n r) (sym back) ∙ sym (set-append_right (f x) (flat_map f xs) (length (f x)) run r refl (omega (arith, e))))
 
+-- the same, as a merge tells the runs
 pub run_set : {X : Type 0} (f : X → List (List Pair)) (xs : List X) (s own run : ℕ) (d y : X) (r : List Pair) → s < length xs → own < length (f (get_or xs s d))
     → length (flat_map f (take s xs)) + own ≡ run → f y ≡ set (f (get_or xs s d)) own r → all_runs (map f (set xs s y)) ≡ set (all_runs (map f xs)) run r
 run_set f xs s own run d y r lt in' is same =

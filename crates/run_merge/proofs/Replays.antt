@@ -11,6 +11,7 @@ use Rattle.run_merge.specs.Losers.{IsLoser, IsLost, beside, IsReplay}
 use Rattle.keybytes.specs.declared.pair.Pair.{Pair}
 use Rattle.run_merge.proofs.Games.{up_half, none_above_root, above_next, above_left, above_right, way, still_played, still_leaves, first_leads}
 
+-- a way goes to lesser numbers
 up_le : (k n : ℕ) → up k n ≤ n
 up_le zero n = omega arith
 up_le (suc k) n = let h : n / 2 ≤ n = omega arith in omega (arith, up_le k (n / 2), h)
@@ -121,18 +122,22 @@ replay_ends heads nodes node winner root r = record {
       subst L (sym (get_or-set_other nodes 0 n winner 0 off)) (r.losers n pos lt (none_above_root n node pos root));
 }
 
+-- a game between those who won below
 game_played : (heads : List (Option Pair)) (wins : List ℕ) (q won a b : ℕ) → get_or wins q 0 ≡ won → get_or wins (2 * q) 0 ≡ a → get_or wins (2 * q + 1) 0 ≡ b
     → IsWinner heads won a b → IsPlayed heads wins q
 game_played heads wins q won a b wq wl wr h = rw (wq, wl, wr) h
 
+-- and its loser
 game_lost : (wins : List ℕ) (q won lost a b : ℕ) → get_or wins q 0 ≡ won → get_or wins (2 * q) 0 ≡ a → get_or wins (2 * q + 1) 0 ≡ b
     → ((won ≡ a) × (lost ≡ b)) ⊎ ((won ≡ b) × (lost ≡ a)) → IsLoser wins lost q
 game_lost wins q won lost a b wq wl wr (inl (x, y)) = inl (wq ∙ (x ∙ sym wl), y ∙ sym wr)
 game_lost wins q won lost a b wq wl wr (inr (x, y)) = inr (wq ∙ (x ∙ sym wr), y ∙ sym wl)
 
+-- the winner of a game whichever of the two comes first
 turned : (heads : List (Option Pair)) (won a b : ℕ) → IsWinner heads won a b → IsWinner heads won b a
 turned heads won a b h = record { one = elim h.one [ inl e ↦ inr e | inr e ↦ inl e ]; leads_left = h.leads_right; leads_right = h.leads_left }
 
+-- and its loser
 turned_lost : (won lost a b : ℕ) → ((won ≡ a) × (lost ≡ b)) ⊎ ((won ≡ b) × (lost ≡ a)) → ((won ≡ b) × (lost ≡ a)) ⊎ ((won ≡ a) × (lost ≡ b))
 turned_lost won lost a b (inl h) = inr h
 turned_lost won lost a b (inr h) = inl h
@@ -173,6 +178,7 @@ other_played : (heads : List (Option Pair)) (wins : List ℕ) (q won n : ℕ) �
 other_played heads wins q won n a b d h =
     rw (get_or-set_other wins q n won 0 a, get_or-set_other wins q (2 * n) won 0 b, get_or-set_other wins q (2 * n + 1) won 0 d) h
 
+-- the game at one node is of no matter to the loser at another
 other_lost : (wins nodes : List ℕ) (q won lost n : ℕ) → n ≢ q → 2 * n ≢ q → 2 * n + 1 ≢ q → IsLoser wins (get_or nodes n 0) n
     → IsLoser (set wins q won) (get_or (set nodes q lost) n 0) n
 other_lost wins nodes q won lost n a b d h =
@@ -184,6 +190,7 @@ other_lost wins nodes q won lost n a b d h =
           lost 0 a,
     ) h
 
+-- the leaves stay when a game above them is played
 still_tree : (heads : List (Option Pair)) (wins : List ℕ) (q won : ℕ) → q < length heads → won < length heads → HasLeaves heads wins
     → HasLeaves heads (set wins q won)
 still_tree heads wins q won low inside tree = record {
@@ -203,6 +210,7 @@ still_tree heads wins q won low inside tree = record {
 no_way_back : (k q : ℕ) → 0 < q → up (suc k) q ≢ q
 no_way_back k q some = let low = up_le k (q / 2) in λ e. omega (arith, low, e, some)
 
+-- the node beside one of the way is not above it
 not_beside : (k q : ℕ) → 1 < up k q → beside (up k q) ≢ q
 not_beside zero q more = λ e. omega (arith, e, more)
 not_beside (suc k) q more = let low = up_le k (q / 2) in λ e. omega (arith, low, e, more)
@@ -256,9 +264,11 @@ replay_starts_at heads hs nodes ns leaf head is-hs is-ns lost some is =
     subst (λ (zs : List (Option Pair)). IsReplay zs nodes (length zs + leaf) leaf) (sym is-hs) at-set in
     subst (λ (zs : List ℕ). IsReplay hs zs (length hs + leaf) leaf) (sym is-ns) by-heads
 
+-- node 0 names one of the heads
 pub first_inside : (heads : List (Option Pair)) (nodes : List ℕ) → IsLost heads nodes → 0 < length heads → get_or nodes 0 0 < length heads
 first_inside heads nodes lost some = omega (arith, lost.first some, lost.won.tree.inside 1 (omega (arith, some, lost.won.tree.long)))
 
+-- and that one may lead every other
 pub root_leads : (heads : List (Option Pair)) (nodes : List ℕ) → IsLost heads nodes → 0 < length heads → (other : ℕ) → MayLead heads (get_or nodes 0 0) other
 root_leads heads nodes lost some other =
     subst (λ (i : ℕ). MayLead heads i other) (sym (lost.first some)) (first_leads heads lost.wins lost.won other)
@@ -270,6 +280,7 @@ waiting_inside heads nodes node winner r more lt =
     let side : beside node < length r.wins = omega (arith, more, lt, r.tree.long) in
     omega (arith, r.waiting 0 more, r.tree.inside (beside node) side)
 
+-- what is not ahead of none is none
 done : (x : Option Pair) → is_ahead x None ≡ false → x ≡ None
 done None h = refl
 done (Some a) h = absurd (true≢false h)

@@ -106,6 +106,7 @@ lane_at i (lane ∷ lanes) e =
           (suc rest.0, omega (arith, rest.1), rest.2)
     ]
 
+-- a number is itself
 same_number : (n : ℕ) → (n == n) ≡ true
 same_number n = grind (arith, nat_tests)
 
@@ -129,6 +130,7 @@ pub head_some : (run : List Pair) (pair : Pair) → Some pair ≡ head_of run �
 head_some [] pair is = absurd (cc (is))
 head_some (first ∷ run) pair is = omega arith
 
+-- and where none is read it has no pair
 pub head_none : (run : List Pair) → None ≡ head_of run → length run ≡ 0
 head_none [] is = refl
 head_none (first ∷ run) is = absurd (cc (is))
@@ -138,6 +140,7 @@ pub ways_same : (runs : List (List Pair)) (i : ℕ) → i < length runs → leng
     → count_by has_pair (take (i + 1) runs) ≡ count_by has_pair (take i runs)
 ways_same runs i lt none = count_by_more_no has_pair runs i [] lt (le-ltb 0 (length (get_or runs i [])) (omega (arith, none)))
 
+-- a run with a pair has one
 pub ways_more : (runs : List (List Pair)) (i : ℕ) → i < length runs → 0 < length (get_or runs i [])
     → count_by has_pair (take (i + 1) runs) ≡ count_by has_pair (take i runs) + 1
 ways_more runs i lt some = count_by_more_yes has_pair runs i [] lt (lt-ltb 0 (length (get_or runs i [])) some)
@@ -148,6 +151,7 @@ all_flat P [] each = All-nil P
 all_flat P (run ∷ runs) each =
     All-append P run (all_pairs runs) (each 0 (omega arith)) (all_flat P runs (λ i lt. each (suc i) (omega (arith, lt))))
 
+-- where no run has a pair there is none
 none_flat : (runs : List (List Pair)) → ((i : ℕ) → i < length runs → length (get_or runs i []) ≡ 0) → all_pairs runs ≡ []
 none_flat [] each = refl
 none_flat (run ∷ runs) each =
@@ -174,6 +178,7 @@ none_left runs lanes heads m done =
       | inr less ↦ omega (arith, less)
     ])
 
+-- what it is that one head is not ahead of another
 led_by : (x y : Option Pair) (a b : Pair) → x ≡ Some a → y ≡ Some b → is_ahead x y ≡ false → is_before a b ≡ false
 led_by x y a b is-x is-y h = subst (λ (v : Option Pair). is_ahead (Some a) v ≡ false) is-y (subst (λ (v : Option Pair). is_ahead v y ≡ false) is-x h)
 
@@ -228,11 +233,13 @@ step_gives runs lanes heads m lane run lt at leads some given is =
           there.2,
     )
 
+-- a run without its first pair is in order
 sorted_rest : (run : List Pair) → IsSorted pair_cmp run → IsSorted pair_cmp (drop 1 run)
 sorted_rest run up = λ k d le lt.
     let e : 1 + (k + 1) ≡ 1 + k + 1 = omega arith in
     rw (get_or-drop 1 run (k + 1) d, get_or-drop 1 run k d, e) (up (1 + k) d (omega arith) (omega (arith, lt, length-drop 1 run)))
 
+-- the second pair is the head of what is left
 second_is : (run : List Pair) → slice_get run 1 ≡ head_of (drop 1 run)
 second_is [] = refl
 second_is (x ∷ run) = refl
