@@ -1,5 +1,5 @@
 //! Pairs that are made, spooled and merged.
-ghost use Rattle.std.specs.Prelude.{◌≡◌, All, IfOk, OnOk, map};
+ghost use Rattle.std.specs.Prelude.{◌≡◌, All, IfOk, OnOk, IsTrue, map};
 ghost use Rattle.spool_ledger.specs.Accounts.{new_account};
 ghost use Rattle.run_spool.specs.PlainSpools.{new_spool, runs_of};
 ghost use Rattle.run_spool.specs.Spools.{AreSorted};
@@ -43,7 +43,11 @@ fn fill<S: Spool>(
 }
 
 /// Page and slot of the pairs that are given until none is left, at most `count` of them.
-fn given<S: Spool>(alloc: Global, merged: &mut Merged<S>, count: u32) -> Result<Vec<(u32, u16)>, Fault> {
+fn given<S: Spool>(
+    alloc: Global,
+    merged: &mut Merged<S>,
+    count: u32,
+) -> Result<Vec<(u32, u16)>, Fault> {
     let mut rids = Vec::new(alloc);
     for _ in 0..count {
         let Some(pair) = merged.next()? else {
@@ -91,10 +95,25 @@ fn two_lease<S: Spool>(spools: &[S], pages: usize) -> bool {
     spools.len() == 2
 }
 
-/// Merges two spools with the same pairs, three runs each.
-fn merges_two(alloc: Global) -> Result<bool, Fault> {
+/// Whether no spool has a run, or a pair in its open run.
+fn all_empty<S: Spool>(spools: &[S]) -> bool
+    ensures ready { IsTrue result → AreReady (map S.runs spools.now) (map S.open_run spools.now) }
+    ensures sorted { IsTrue result → All AreSorted (map S.runs spools.now) }
+{
+    for spool in spools {
+        if !spool.is_empty() {
+            return false;
+        }
+    }
+    true
+}
+
+/// Fills two empty spools with the same pairs, three runs each, and merges them.
+fn merges_two<S: Spool>(alloc: Global, mut spools: Vec<S>) -> Result<bool, Fault> {
+    if !all_empty(&spools) {
+        return Ok(false);
+    }
     let mut heap = table(alloc, 5, 2)?;
-    let mut spools = vec![in alloc; plain_spool(alloc, 3)?, plain_spool(alloc, 3)?]?;
     fill(alloc, &mut heap, true, spools.as_mut_slice())?;
     let runs = two_lease(&spools, 3);
     match merge(alloc, spools) {
@@ -107,13 +126,27 @@ fn merges_two(alloc: Global) -> Result<bool, Fault> {
     }
 }
 
+fn merges_plain_ones(alloc: Global) -> Result<bool, Fault> {
+    let spools = vec![in alloc; plain_spool(alloc, 3)?, plain_spool(alloc, 3)?]?;
+    merges_two(alloc, spools)
+}
+
 #[test]
 fn merges_where_memory_may_run_out(rt: HostRuntime) {
-    let told = match merges_two(rt.alloc()) {
-        Err(Fault::Memory) => merges_two(rt.alloc()),
+    let told = match merges_plain_ones(rt.alloc()) {
+        Err(Fault::Memory) => merges_plain_ones(rt.alloc()),
         told => told,
     };
     assert!(rt; told == Ok(true));
+}
+
+#[test]
+fn merges_spools_in_boxes(rt: HostRuntime) -> Result<(), Fail> {
+    let alloc = rt.alloc();
+    let one: Box<dyn Spool + Send> = Box::new(alloc, plain_spool(alloc, 3)?)?;
+    let other: Box<dyn Spool + Send> = Box::new(alloc, plain_spool(alloc, 3)?)?;
+    assert!(rt; merges_two(alloc, vec![in alloc; one, other]?)?);
+    Ok(())
 }
 
 /// A spool of one page that has the pairs of that many rows as one run, or the fault that is met.
@@ -127,7 +160,11 @@ fn full_page(alloc: Global, rows: u32) -> Result<Vec<PlainSpool>, Fault>
 }
 
 /// Merges as many pairs, and tells how many were given and what the spool then leases.
-fn leased_after<S: Spool>(alloc: Global, spools: Vec<S>, count: u32) -> Result<(usize, usize), Fault>
+fn leased_after<S: Spool>(
+    alloc: Global,
+    spools: Vec<S>,
+    count: u32,
+) -> Result<(usize, usize), Fault>
     requires { AreSorted (all_runs (map S.runs spools.items)) }
 {
     let mut merged = merge(alloc, spools).map_err(|(_, fault)| fault)?;

@@ -1,6 +1,5 @@
 use Rattle.std.proofs.Common.{map}
 use Rattle.std.proofs.lemmas.Result.{on_ok_weaker}
-use Rattle.run_spool.specs.Spools.{AreSorted}
 use Rattle.run_tests.proofs.Flat.{each_sorted}
 use Rattle.run_tests.proofs.merging.fill.Goals as goal
 
