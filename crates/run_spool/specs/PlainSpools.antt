@@ -25,6 +25,10 @@ runs_of spool = map pairs_of spool.runs
 abbrev pub run_pages : List (List PageValue) → ℕ
 run_pages runs = sum_by length runs
 
+-- the pages that are leased: those of the closed runs and of the open one
+abbrev pub leased_pages : SpoolValue → ℕ
+leased_pages spool = run_pages spool.runs + length spool.open_run
+
 -- the last of some pages
 abbrev pub last_of : List PageValue → PageValue
 last_of run = get_or run (length run - 1) no_page

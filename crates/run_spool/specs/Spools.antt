@@ -1,6 +1,10 @@
 -- Spools of every kind.
 use Rattle.std.specs.Prelude.{[], ◌∷◌, ◌++◌, ◌<◌, List, All, length, Option, option_map, filter_map}
+use Rattle.std.specs.List.{flat_map}
+use Rattle.std.specs.List.Sorted.{IsSorted}
 use Rattle.spool_ledger.specs.Accounts.{Stake}
+use Rattle.keybytes.specs.Pairs.{pair_cmp}
+use Rattle.keybytes.specs.declared.pair.Pair.{Pair}
 
 -- the closed runs with the open one behind them, if it has anything
 abbrev pub with_closed_run : {X : Type 0} → List (List X) → List X → List (List X)
@@ -10,6 +14,14 @@ with_closed_run runs (first ∷ run) = runs ++ (first ∷ run) ∷ []
 -- no closed run is empty
 abbrev pub NoneEmpty : {X : Type 0} → List (List X) → Type 0
 NoneEmpty runs = All (λ run. 0 < length run) runs
+
+-- each run is in order of key, then RID
+abbrev pub AreSorted : List (List Pair) → Type 0
+AreSorted runs = All (λ run. IsSorted pair_cmp run) runs
+
+-- the pairs of all runs
+abbrev pub all_pairs : List (List Pair) → List Pair
+all_pairs runs = flat_map (λ run. run) runs
 
 -- the stakes that there are
 abbrev pub stakes_in : List (Option Stake) → List Stake

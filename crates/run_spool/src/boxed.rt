@@ -11,6 +11,8 @@ impl Spool for Box<dyn Spool + Send> {
 
     ghost ended = { λ spool. (Spool-box spool).ended spool.value };
 
+    ghost pages = { λ spool. (Spool-box spool).pages spool.value };
+
     ghost stake = { λ spool. (Spool-box spool).stake spool.value };
 
     fn is_empty(&self) -> bool {
@@ -39,6 +41,10 @@ impl Spool for Box<dyn Spool + Send> {
 
     fn free_front(&mut self, i: usize, n: usize) {
         (**self).free_front(i, n);
+    }
+
+    fn leased(&self) -> usize {
+        (**self).leased()
     }
 
     fn end(&mut self) {

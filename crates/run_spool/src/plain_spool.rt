@@ -3,7 +3,7 @@ ghost use Rattle.std.specs.Prelude.{length, drop, get_or, set, Some, IfOk, IfErr
 ghost use Rattle.spool_ledger.specs.Accounts.{new_account, with_free, IsWhole};
 ghost use Rattle.run_spool.specs.Pages.{IsPairAt};
 ghost use Rattle.run_spool.specs.Runs.{pairs_of};
-ghost use Rattle.run_spool.specs.PlainSpools.{new_spool, with_pushed, with_run_closed, with_freed, without_runs, IsFull, IsPlainSpool};
+ghost use Rattle.run_spool.specs.PlainSpools.{new_spool, with_pushed, with_run_closed, with_freed, without_runs, leased_pages, IsFull, IsPlainSpool};
 ghost use Rattle.run_spool.specs.Spools.{NoneEmpty};
 
 use crate::Spool;
@@ -156,6 +156,13 @@ impl PlainSpool {
         run.free_front(n, &mut self.account, &mut self.spare);
     }
 
+    /// How many of the account's pages are leased now: those with a pair that isn't freed.
+    pub fn leased(&self) -> usize
+        ensures { result ≡ leased_pages self.now }
+    {
+        self.account.quota() as usize - self.account.free()
+    }
+
     /// Gives every page back to the account, with all pairs; no run is left.
     pub fn end(&mut self)
         ensures { self.new ≡ without_runs self.old }
@@ -192,7 +199,7 @@ impl Spool for PlainSpool {
     ghost use Rattle.std.specs.Prelude.{Some, ◌≡◌, []};
     ghost use Rattle.spool_ledger.specs.Accounts.{IsWhole, stake_of};
     ghost use Rattle.run_spool.specs.Runs.{pairs_of};
-    ghost use Rattle.run_spool.specs.PlainSpools.{IsFull, runs_of};
+    ghost use Rattle.run_spool.specs.PlainSpools.{IsFull, runs_of, leased_pages};
 
     ghost runs = { runs_of };
 
@@ -201,6 +208,8 @@ impl Spool for PlainSpool {
     ghost is_full = { IsFull };
 
     ghost ended = { λ spool. (spool.runs ≡ []) × (spool.open_run ≡ []) × IsWhole spool.account };
+
+    ghost pages = { leased_pages };
 
     ghost stake = { λ spool. Some (stake_of spool.account) };
 
@@ -231,6 +240,10 @@ impl Spool for PlainSpool {
 
     fn free_front(&mut self, i: usize, n: usize) {
         PlainSpool::free_front(self, i, n)
+    }
+
+    fn leased(&self) -> usize {
+        PlainSpool::leased(self)
     }
 
     fn end(&mut self) {

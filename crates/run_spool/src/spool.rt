@@ -22,6 +22,9 @@ pub trait Spool: Drop {
     /// Every page that was leased is back.
     ghost ended: { Self → Type 0 };
 
+    /// How many pages are leased.
+    ghost pages: { Self → ℕ };
+
     /// Pool and quota of the account behind the spool, if there is one.
     ghost stake: { Self → Option Stake };
 
@@ -73,9 +76,14 @@ pub trait Spool: Drop {
         ensures open_run { open_run self.new ≡ open_run self.old }
         ensures stake { stake self.new ≡ stake self.old };
 
+    /// How many pages are leased now.
+    fn leased(&self) -> usize
+        ensures { result ≡ pages self.now };
+
     /// Gives each leased page back, with all pairs.
     fn end(&mut self)
         ensures ended { ended self.new }
+        ensures pages { pages self.new ≡ 0 }
         ensures runs { runs self.new ≡ [] }
         ensures open_run { open_run self.new ≡ [] }
         ensures stake { stake self.new ≡ stake self.old };

@@ -1,0 +1,3 @@
+pub mod CopyPairs
+pub mod EachIndex
+pub mod Spoolings

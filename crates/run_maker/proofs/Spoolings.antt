@@ -1,0 +1,60 @@
+-- What a run that is spooled leaves, and pairs that are held one after another.
+use Rattle.std.proofs.Common.{◌≡◌, ℕ, ◌+◌, ◌%◌, List, [], ◌∷◌, ◌++◌, length, reverse, append_assoc, append-nil, sym, ap, ◌∙◌, arith}
+use Rattle.std.specs.Prelude.{Result, Ok, Err, OnOk}
+use Rattle.std.specs.List.Sorted.{IsSorted}
+use Rattle.std.proofs.lemmas.List.{length_push, length-append, reverse-reverse}
+use Rattle.std.proofs.lemmas.List.Elements.{All-push}
+use Rattle.std.proofs.lemmas.List.Sorted.{IsPermutation-append_left, IsPermutation-append_right, IsPermutation-trans}
+use Rattle.std.proofs.lemmas.Grind.{flat_map-append}
+use Rattle.keybytes.specs.Pairs.{pair_cmp}
+use Rattle.keybytes.specs.declared.pair.Pair.{Pair}
+use Rattle.run_spool.specs.Spools.{AreSorted, all_pairs, with_closed_run}
+use Rattle.run_maker.specs.Spooling.{Spooled, Adds}
+
+-- a run in order more
+pub closed_sorted : (runs : List (List Pair)) (run : List Pair) → IsSorted pair_cmp run → AreSorted runs → AreSorted (with_closed_run runs run)
+closed_sorted runs [] up all = all
+closed_sorted runs (first ∷ run) up all = All-push (λ r. IsSorted pair_cmp r) runs (first ∷ run) all up
+
+-- a run more has its pairs more
+all_closed : (runs : List (List Pair)) (run : List Pair) → all_pairs (with_closed_run runs run) ≡ all_pairs runs ++ run
+all_closed runs [] = sym (append-nil (all_pairs runs))
+all_closed runs (first ∷ run) =
+    flat_map-append (λ (r : List Pair). r) runs ((first ∷ run) ∷ []) ∙ ap (λ (r : List Pair). all_pairs runs ++ r) (append-nil (first ∷ run))
+
+-- the pair that makes a run full
+pub spooled_adds : (old new : List (List Pair)) (begun : List Pair) (pair : Pair) (pairs : List Pair) → pairs ≡ begun ++ pair ∷ [] → length pairs ≡ 4096
+    → Spooled pairs old new
+    → Adds (pair ∷ []) old begun new []
+spooled_adds old new begun pair pairs is full s =
+    let whole : all_pairs new ++ [] ≡ all_pairs old ++ s.run = append-nil (all_pairs new) ∙ (ap all_pairs s.closed ∙ all_closed old s.run) in
+    let held : (all_pairs old ++ begun) ++ pair ∷ [] ≡ all_pairs old ++ pairs =
+    append_assoc (all_pairs old) begun (pair ∷ []) ∙ ap (λ (ps : List Pair). all_pairs old ++ ps) (sym is) in
+    let long : length begun + 1 ≡ 4096 = omega (arith, full, ap length is, length_push begun pair) in
+    record {
+      all = rw (held, whole) (IsPermutation-append_right (all_pairs old) pairs s.run s.same);
+      count = sym (ap (λ (n : ℕ). n % 4096) long);
+    }
+
+-- pairs, and then more
+pub adds_more : (made more : List Pair) (runs0 : List (List Pair)) (begun0 : List Pair) (runs1 : List (List Pair)) (begun1 : List Pair)
+    (runs2 : List (List Pair)) (begun2 : List Pair)
+    → Adds made runs0 begun0 runs1 begun1 → Adds more runs1 begun1 runs2 begun2 → Adds (made ++ more) runs0 begun0 runs2 begun2
+adds_more made more runs0 begun0 runs1 begun1 runs2 begun2 first then =
+    let start = all_pairs runs0 ++ begun0 in
+    let middle = all_pairs runs1 ++ begun1 in
+    record {
+      all = rw (← append_assoc start made more)
+          (IsPermutation-trans _ _ _ (IsPermutation-append_left more (start ++ made) middle first.all) then.all);
+      count = omega (arith, first.count, then.count, length-append made more);
+    }
+
+-- what is taken from the end of a list that is turned round comes in the list's order
+pub moved_all : (run sorted turned left : List Pair) → left ≡ [] → turned ≡ reverse sorted → run ++ reverse left ≡ reverse turned → run ≡ sorted
+moved_all run sorted turned left none is moved =
+    sym (append-nil run) ∙ (ap (λ (ps : List Pair). run ++ reverse ps) (sym none) ∙ (moved ∙ (ap reverse is ∙ reverse-reverse sorted)))
+
+-- what two clauses on one result say together
+pub both_ok : {T E P Q R : Type 0} (r : Result T E) → (P → Q → R) → OnOk r P → OnOk r Q → OnOk r R
+both_ok (Ok x) f p q = f p q
+both_ok (Err e) f p q = tt

@@ -1,0 +1,54 @@
+use Rattle.std.proofs.Common.{false, refl, ◌≡◌, ◌+◌, ◌∙◌, ◌++◌, [], List, length, get_or, map, sym, ap, subst, arith}
+use Rattle.std.specs.Option.{option_to_list}
+use Rattle.keybytes.specs.Keys.{KeySpecValue}
+use Rattle.keybytes.specs.declared.kind.Kind.{Kind}
+use Rattle.keybytes.specs.Pairs.{pair_with}
+use Rattle.keybytes.specs.declared.pair.Pair.{Pair}
+use Rattle.heap_table.specs.Images.{Shows, image_slot}
+use Rattle.heap_table.specs.Pages.{rid_at}
+use Rattle.run_maker.specs.Spooling.{Adds}
+use Rattle.run_maker.specs.Making.{spec_at}
+use Rattle.run_maker.proofs.CopyPairs.{pairs_before, slot_more}
+use Rattle.run_maker.proofs.Spoolings.{adds_more}
+use Rattle.run_maker.proofs.images.add_image.Goals as goal
+
+pub add_slot-requires-clause-row : goal.add_slot-requires-clause-row
+add_slot-requires-clause-row g c = (c.requires.rows.0 c.loop-slot.slot, c.requires.rows.1 c.loop-slot.slot)
+
+pub loop-slot-preserved : goal.loop-slot-preserved
+loop-slot-preserved g c =
+    let slot = c.loop-slot.slot in
+    let image = c.args.image.now in
+    let was = c.loop-slot.invariant in
+    let none : KeySpecValue = record { kinds = []; columns = []; unique = false } in
+    record {
+      added = λ i lt made has.
+          let spec = spec_at c.args.specs.now i in
+          let kinds : spec.kinds ≡ c.args.schema.now = c.requires.columns i none lt in
+          let shows : Shows c.args.schema.now (image_slot image slot) (has.rows slot) =
+          subst (λ (ks : List Kind). Shows ks (image_slot image slot) (has.rows slot)) kinds (has.shows slot) in
+          let pair = option_to_list (pair_with spec (rid_at image.page slot) (has.rows slot)) in
+          let more : pairs_before spec image.page has.rows (slot + 1) ≡ pairs_before spec image.page has.rows slot ++ pair =
+          slot_more spec image.page has.rows slot (pair_with spec (rid_at image.page slot) (has.rows slot)) refl in
+          rw more
+          (adds_more (pairs_before spec image.page has.rows slot) pair
+          (get_or (map g.S.Spool.runs c.args.spools.now) i []) (get_or c.args.begun.now i [])
+          (get_or (map g.S.Spool.runs c.loop-slot.spools) i []) (get_or c.loop-slot.begun i [])
+          (get_or (map g.S.Spool.runs c.add_slot.new.spools) i []) (get_or c.add_slot.new.begun i [])
+          (was.added i lt made has) (c.in_ok-add_slot.ensures.added (has.rows slot) shows i lt));
+      ready = c.in_ok-add_slot.ensures.ready;
+      sorted = λ all. c.add_slot.ensures.sorted (was.sorted all);
+      stakes = c.add_slot.ensures.stakes ∙ was.stakes;
+      long_spools = omega (arith, c.add_slot.auto.spools, was.long_spools);
+      long_begun = omega (arith, c.add_slot.auto.begun, was.long_begun);
+    }
+
+pub returns-clause-taken : goal.returns-clause-taken
+returns-clause-taken g c = λ i lt made has.
+    let image = c.args.image.now in
+    let spec = spec_at c.args.specs.now i in
+    let count : c.loop-slot.slot ≡ length image.slots = omega (arith, c.loop-slot-test.false, c.loop-slot.auto.slot-end, c.slots-slot-end.ensures) in
+    let all : pairs_before spec image.page has.rows c.loop-slot.slot ≡ made = ap (pairs_before spec image.page has.rows) count ∙ sym has.pairs_are in
+    subst (λ (ps : List Pair). Adds ps (get_or (map g.S.Spool.runs c.args.spools.now) i []) (get_or c.args.begun.now i [])
+    (get_or (map g.S.Spool.runs c.loop-slot.spools) i []) (get_or c.loop-slot.begun i []))
+    all (c.loop-slot.invariant.added i lt made has)

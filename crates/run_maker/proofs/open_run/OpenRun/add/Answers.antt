@@ -1,0 +1,27 @@
+use Rattle.std.proofs.Common.{◌≡◌, ◌∷◌, ◌++◌, ◌∙◌, [], List, arith, length, ap, sym, subst}
+use Rattle.std.proofs.lemmas.List.{length_push}
+use Rattle.keybytes.specs.declared.pair.Pair.{Pair}
+use Rattle.run_maker.specs.Spooling.{Adds}
+use Rattle.run_maker.proofs.Spoolings.{spooled_adds, both_ok}
+use Rattle.run_maker.proofs.open_run.OpenRun.add.Goals as goal
+
+pub returns-clause-added : goal.returns-clause-added
+returns-clause-added g c =
+    let begun = c.args.self.now in
+    let pairs = c.push.new.self.items in
+    let is : pairs ≡ begun ++ c.args.pair ∷ [] = c.in_ok-push.ensures.items ∙ ap (λ (ps : List Pair). ps ++ c.args.pair ∷ []) c.self.view_is in
+    let full : length pairs ≡ 4096 =
+    omega (
+      arith,
+      c.if-len-lt-RUN_PAIRS.false,
+      c.len.ensures,
+      c.push.new.self.ok.0,
+      ap length c.in_ok-push.ensures.items,
+      length_push
+          c.self.inside.pairs.items c.args.pair,
+      c.self.invariant,
+    ) in
+    both_ok c.spool_run.result (λ spooled left.
+    subst (λ (ps : List Pair). Adds (c.args.pair ∷ []) (g.S.Spool.runs c.args.spool.now) begun (g.S.Spool.runs c.spool_run.new.spool) ps) (sym left)
+    (spooled_adds (g.S.Spool.runs c.args.spool.now) (g.S.Spool.runs c.spool_run.new.spool) begun c.args.pair pairs is full spooled))
+    c.spool_run.ensures.spooled c.spool_run.ensures.left

@@ -1,0 +1,79 @@
+use Rattle.std.proofs.Common.{◌≡◌, ◌<◌, ◌∙◌, ◌∷◌, [], refl, ℕ, List, length, get_or, map, false, sym, subst, arith, Some}
+use Rattle.std.specs.Option.{option_to_list}
+use Rattle.std.proofs.Math.Seq.{map-set_same}
+use Rattle.std.proofs.lemmas.List.{get_or_read, get_or_default, length-map, length-set, map-set}
+use Rattle.keybytes.specs.Keys.{KeySpecValue, key_of}
+use Rattle.keybytes.specs.Pairs.{pair_with}
+use Rattle.keybytes.specs.declared.pair.Pair.{Pair}
+use Rattle.run_spool.specs.Spools.{AreSorted}
+use Rattle.run_maker.specs.Spooling.{Adds}
+use Rattle.run_maker.specs.Making.{spec_at}
+use Rattle.run_maker.proofs.EachIndex.{read_at, holds_at, holds_after, ready_after, reached_none, reached_more}
+use Rattle.run_maker.proofs.rows.add_row.Goals as goal
+
+pub add_key-requires-clause-open_run : goal.add_key-requires-clause-open_run
+add_key-requires-clause-open_run g c =
+    let inside : c.loop-i.i < length c.loop-i.spools = omega (arith, c.loop-i-test.true, c.loop-i.invariant.long_spools, c.requires.spools) in
+    holds_at (λ (run : List Pair). run ≡ []) g.S.Spool.open_run c.loop-i.spools c.loop-i.i c.index-spools-i.result inside c.loop-i.invariant.ready.open_none
+
+pub returns-in_err-add_key-clause-sorted : goal.returns-in_err-add_key-clause-sorted
+returns-in_err-add_key-clause-sorted g c = λ all.
+    let inside : c.loop-i.i < length c.loop-i.spools = omega (arith, c.loop-i-test.true, c.loop-i.invariant.long_spools, c.requires.spools) in
+    let was = c.loop-i.invariant.sorted all in
+    holds_after AreSorted g.S.Spool.runs c.loop-i.spools c.loop-i.i c.add_key.new.spool
+    (c.add_key.ensures.sorted (holds_at AreSorted g.S.Spool.runs c.loop-i.spools c.loop-i.i c.index-spools-i.result inside was)) was
+
+pub returns-in_err-add_key-clause-stakes : goal.returns-in_err-add_key-clause-stakes
+returns-in_err-add_key-clause-stakes g c =
+    map-set_same g.S.Spool.stake c.loop-i.spools c.loop-i.i c.add_key.new.spool c.index-spools-i.result c.add_key.ensures.stake ∙ c.loop-i.invariant.stakes
+
+pub loop-i-init : goal.loop-i-init
+loop-i-init g c =
+    let Made : ℕ → List (List Pair) → List Pair → List (List Pair) → List Pair → Type 0 =
+    λ j. Adds (option_to_list (pair_with (spec_at c.args.specs.now j) c.args.rid (Some c.args.row.now))) in
+    record {
+      reached = reached_none Made (record { runs = map g.S.Spool.runs c.args.spools.now; begun = c.args.begun.now });
+      ready = c.requires.ready;
+      sorted = λ all. all;
+      stakes = refl;
+      long_spools = refl;
+      long_begun = refl;
+    }
+
+pub loop-i-preserved : goal.loop-i-preserved
+loop-i-preserved g c =
+    let i = c.loop-i.i in
+    let spools = c.loop-i.spools in
+    let was = c.loop-i.invariant in
+    let d = c.index-spools-i.result in
+    let b = c.index-begun-i.result in
+    let spec = c.index-specs-i.result in
+    let none : KeySpecValue = record { kinds = []; columns = []; unique = false } in
+    let in-spools : i < length spools = omega (arith, c.loop-i-test.true, was.long_spools, c.requires.spools) in
+    let in-begun : i < length c.loop-i.begun = omega (arith, c.loop-i-test.true, was.long_begun, c.requires.begun) in
+    let spec-at : spec ≡ spec_at c.args.specs.now i = get_or_read c.args.specs.now i spec c.loop-i-test.true c.index-specs-i.is none in
+    let begun-at : get_or c.loop-i.begun i b ≡ get_or c.loop-i.begun i [] = get_or_default c.loop-i.begun i b [] in-begun in
+    let runs-at : get_or (map g.S.Spool.runs spools) i [] ≡ g.S.Spool.runs (get_or spools i d) = read_at g.S.Spool.runs spools i d [] in-spools in
+    let Made : ℕ → List (List Pair) → List Pair → List (List Pair) → List Pair → Type 0 =
+    λ j. Adds (option_to_list (pair_with (spec_at c.args.specs.now j) c.args.rid (Some c.args.row.now))) in
+    let here : Made i (get_or (map g.S.Spool.runs spools) i []) (get_or c.loop-i.begun i []) (g.S.Spool.runs c.add_key.new.spool) c.add_key.new.begun =
+    let Added : KeySpecValue → List (List Pair) → List Pair → Type 0 =
+    λ s runs begun. Adds (record { key = key_of s c.args.row.now; rid = c.args.rid } ∷ []) runs begun (g.S.Spool.runs c.add_key.new.spool)
+    c.add_key.new.begun in
+    let added : Added spec (g.S.Spool.runs (get_or spools i d)) (get_or c.loop-i.begun i b) = c.in_ok-add_key.ensures.added in
+    subst (λ (s : KeySpecValue). Added s (get_or (map g.S.Spool.runs spools) i []) (get_or c.loop-i.begun i [])) spec-at
+    (subst (λ (r : List (List Pair)). Added spec r (get_or c.loop-i.begun i [])) (sym runs-at)
+    (subst (λ (ps : List Pair). Added spec (g.S.Spool.runs (get_or spools i d)) ps) begun-at added)) in
+    record {
+      reached = rw (map-set g.S.Spool.runs spools i c.add_key.new.spool)
+          (reached_more Made i (record { runs = map g.S.Spool.runs c.args.spools.now; begun = c.args.begun.now }) (map g.S.Spool.runs spools) c.loop-i.begun
+          was.reached (omega (arith, in-spools, length-map spools g.S.Spool.runs)) in-begun (g.S.Spool.runs c.add_key.new.spool) c.add_key.new.begun here);
+      ready = ready_after g.S.Spool.runs g.S.Spool.open_run spools i c.add_key.new.spool c.in_ok-add_key.ensures.none_empty c.in_ok-add_key.ensures.open_run
+          was.ready;
+      sorted = λ all.
+          holds_after AreSorted g.S.Spool.runs spools i c.add_key.new.spool
+          (c.add_key.ensures.sorted (holds_at AreSorted g.S.Spool.runs spools i d in-spools (was.sorted all))) (was.sorted all);
+      stakes = map-set_same g.S.Spool.stake spools i c.add_key.new.spool d c.add_key.ensures.stake ∙ was.stakes;
+      long_spools = length-set spools i c.add_key.new.spool ∙ was.long_spools;
+      long_begun = length-set c.loop-i.begun i c.add_key.new.begun ∙ was.long_begun;
+    }

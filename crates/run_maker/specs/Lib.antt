@@ -1,0 +1,3 @@
+pub mod ImagePairs
+pub mod Making
+pub mod Spooling

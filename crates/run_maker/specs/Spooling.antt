@@ -1,0 +1,19 @@
+-- Pairs that are sorted and spooled.
+use Rattle.std.specs.Prelude.{◌≡◌, ◌+◌, ◌%◌, List, ◌++◌, length, IsPermutation}
+use Rattle.std.specs.List.Sorted.{IsSorted}
+use Rattle.keybytes.specs.Pairs.{pair_cmp}
+use Rattle.keybytes.specs.declared.pair.Pair.{Pair}
+use Rattle.run_spool.specs.Spools.{all_pairs, with_closed_run}
+
+-- the runs with one behind them that has the pairs in order; with no pair there is no run more
+pub record Spooled (pairs : List Pair) (old new : List (List Pair)) : Type 0 where
+  pub run : List Pair
+  pub same : IsPermutation pairs run
+  pub sorted : IsSorted pair_cmp run
+  pub closed : new ≡ with_closed_run old run
+
+-- what is held of an index, in the closed runs and in none yet, has these pairs more, as often as they are there; as soon as 4,096
+-- are in no run they are one
+pub record Adds (made : List Pair) (old_runs : List (List Pair)) (old_open : List Pair) (runs : List (List Pair)) (begun : List Pair) : Type 0 where
+  pub all : IsPermutation ((all_pairs old_runs ++ old_open) ++ made) (all_pairs runs ++ begun)
+  pub count : length begun % 4096 ≡ (length old_open + length made) % 4096

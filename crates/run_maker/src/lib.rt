@@ -1,0 +1,16 @@
+//! Sorted runs of the pairs on copies of pages.
+//!
+//! A [`Maker`] takes copies of pages, one after the other. Of each row it makes one pair for each index; as soon as an index has
+//! [`RUN_PAIRS`] of them they are sorted and spooled as a run, and [`Maker::seal`] spools what is left. A row is read once,
+//! whatever the number of indexes, and a key is written once, into the pair that keeps it.
+#![tactic(auto)]
+
+mod images;
+mod maker;
+mod open_run;
+mod rows;
+mod sealing;
+mod spooling;
+
+pub use maker::Maker;
+pub use open_run::RUN_PAIRS;

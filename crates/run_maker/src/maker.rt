@@ -1,0 +1,103 @@
+ghost use Rattle.std.specs.Prelude.{◌≡◌, ◌⊎◌, [], ℕ, All, Option, List, IfOk, IfErr, OnOk, map, length, true, false};
+ghost use Rattle.keybytes.specs.declared.cell.Cell.{Cell};
+ghost use Rattle.run_spool.specs.Spools.{AreSorted};
+ghost use Rattle.run_maker.specs.ImagePairs.{HasRows};
+ghost use Rattle.run_maker.specs.Making.{AreReady, Takes, Seals};
+
+use crate::images::add_image;
+use crate::open_run::OpenRun;
+use crate::sealing::close_all;
+use heap_table::PageImage;
+use keybytes::{Fault, KeySpec, Schema};
+use run_spool::Spool;
+use std::alloc::Global;
+use std::marker::Model;
+
+/// Makes the pairs of rows, for each index its own, and spools them in runs. Contracts see the pairs of each index that are in no
+/// run yet.
+///
+/// Each call that spools is lent the spool of each index, in the order of the indexes. After a refusal a part of the pairs is
+/// spooled, and maker and spools are fit only to be given up.
+#[derive(Drop)]
+pub struct Maker {
+    schema: Schema,
+    specs: Vec<KeySpec>,
+    begun: Vec<OpenRun>,
+}
+
+impl Model for Maker {
+    ghost use Rattle.std.specs.Prelude.{◌≡◌, All, length};
+    ghost use Rattle.run_maker.specs.Making.{MakerValue};
+
+    ghost Value = { MakerValue };
+
+    ghost view = { λ maker. record { schema = maker.schema; specs = maker.specs.items; begun = maker.begun.items } };
+
+    ghost invariant = { λ maker. All (λ spec. spec.kinds ≡ maker.schema) maker.specs.items
+        × (length maker.begun.items ≡ length maker.specs.items) };
+}
+
+impl Maker {
+    /// A maker of the pairs of those indexes, for rows of these columns.
+    pub fn new(alloc: Global, schema: Schema, specs: Vec<KeySpec>) -> Result<Maker, Fault>
+        requires { All (λ spec. spec.kinds ≡ schema) specs.items }
+        ensures made { IfOk result (λ maker. maker ≡ record { schema = schema; specs = specs.items; begun = map (λ _. []) specs.items }) }
+        ensures memory { IfErr result (λ fault. fault ≡ Fault.Memory) }
+    {
+        let mut begun = Vec::with_capacity(alloc, specs.len())?;
+        for _ in 0..specs.len() {
+            begun.push_reserved(OpenRun::new(alloc));
+        }
+        Ok(Maker {
+            schema,
+            specs,
+            begun,
+        })
+    }
+
+    /// Takes a copy of a page: makes one pair of each row and index, and spools those that make a run.
+    pub fn take<S: Spool>(&mut self, image: PageImage, spools: &mut [S]) -> Result<(), Fault>
+        requires rows { (rows : ℕ → Option (List Cell)) × HasRows self.old.schema image rows }
+        requires spools { length spools.old ≡ length self.old.specs }
+        requires ready { AreReady (map S.runs spools.old) (map S.open_run spools.old) }
+        ensures taken { OnOk result (Takes self.old.specs image
+            (record { runs = map S.runs spools.old; begun = self.old.begun }) (record { runs = map S.runs spools.new; begun = self.new.begun })) }
+        ensures ready { OnOk result (AreReady (map S.runs spools.new) (map S.open_run spools.new)) }
+        ensures sorted { All AreSorted (map S.runs spools.old) → All AreSorted (map S.runs spools.new) }
+        ensures stakes { map S.stake spools.new ≡ map S.stake spools.old }
+        ensures schema { self.new.schema ≡ self.old.schema }
+        ensures specs { self.new.specs ≡ self.old.specs }
+        ensures fault { IfErr result (λ fault. (fault ≡ Fault.NoPage) ⊎ (fault ≡ Fault.Memory)) }
+    {
+        add_image(&image, &self.schema, &self.specs, &mut self.begun, spools)
+    }
+
+    /// Spools what is in no run yet.
+    pub fn seal<S: Spool>(&mut self, spools: &mut [S]) -> Result<(), Fault>
+        requires spools { length spools.old ≡ length self.old.specs }
+        requires ready { AreReady (map S.runs spools.old) (map S.open_run spools.old) }
+        ensures sealed { OnOk result (Seals (record { runs = map S.runs spools.old; begun = self.old.begun }) (map S.runs spools.new)) }
+        ensures none_open { OnOk result (All (λ begun. begun ≡ []) self.new.begun) }
+        ensures ready { OnOk result (AreReady (map S.runs spools.new) (map S.open_run spools.new)) }
+        ensures sorted { All AreSorted (map S.runs spools.old) → All AreSorted (map S.runs spools.new) }
+        ensures stakes { map S.stake spools.new ≡ map S.stake spools.old }
+        ensures schema { self.new.schema ≡ self.old.schema }
+        ensures specs { self.new.specs ≡ self.old.specs }
+        ensures no_page { IfErr result (λ fault. fault ≡ Fault.NoPage) }
+    {
+        close_all(&mut self.begun, spools)
+    }
+
+    /// Whether some pairs are in no run yet.
+    pub fn has_open_run(&self) -> bool
+        ensures some { result ≡ true → All (λ begun. begun ≡ []) self.now.begun → ⊥ }
+        ensures none { result ≡ false → All (λ begun. begun ≡ []) self.now.begun }
+    {
+        for begun in &self.begun {
+            if !begun.is_empty() {
+                return true;
+            }
+        }
+        false
+    }
+}

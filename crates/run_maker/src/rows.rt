@@ -1,0 +1,59 @@
+//! The pairs of a row, one for each index.
+ghost use Rattle.std.specs.Prelude.{◌≡◌, ◌⊎◌, [], ◌∷◌, All, Some, IfErr, OnOk, map, length, true};
+ghost use Rattle.keybytes.specs.Cells.{fits};
+ghost use Rattle.keybytes.specs.Keys.{key_of};
+ghost use Rattle.run_spool.specs.Spools.{NoneEmpty, AreSorted};
+ghost use Rattle.run_maker.specs.Spooling.{Adds};
+ghost use Rattle.run_maker.specs.Making.{AreReady, TakesRow};
+
+use crate::open_run::OpenRun;
+use keybytes::{Fault, KeySpec, Pair, Rid, Row};
+use run_spool::Spool;
+
+// Makes the pair of a row for one index.
+fn add_key<S: Spool>(
+    spec: &KeySpec,
+    row: &Row,
+    rid: Rid,
+    begun: &mut OpenRun,
+    spool: &mut S,
+) -> Result<(), Fault>
+    requires fits { fits spec.now.kinds row.now ≡ true }
+    requires none_empty { NoneEmpty (S.runs spool.old) }
+    requires open_run { S.open_run spool.old ≡ [] }
+    ensures added { OnOk result (Adds (record { key = key_of spec.now row.now; rid = rid } ∷ []) (S.runs spool.old) begun.old
+        (S.runs spool.new) begun.new) }
+    ensures none_empty { NoneEmpty (S.runs spool.new) }
+    ensures sorted { AreSorted (S.runs spool.old) → AreSorted (S.runs spool.new) }
+    ensures open_run { OnOk result (S.open_run spool.new ≡ []) }
+    ensures stake { S.stake spool.new ≡ S.stake spool.old }
+    ensures fault { IfErr result (λ fault. (fault ≡ Fault.NoPage) ⊎ (fault ≡ Fault.Memory)) }
+{
+    let key = spec.key(row)?;
+    begun.add(Pair { key, rid }, spool)
+}
+
+/// Makes the pairs of a row.
+pub(crate) fn add_row<S: Spool>(
+    specs: &[KeySpec],
+    row: &Row,
+    rid: Rid,
+    begun: &mut [OpenRun],
+    spools: &mut [S],
+) -> Result<(), Fault>
+    requires fits { All (λ spec. fits spec.kinds row.now ≡ true) specs.now }
+    requires begun { length begun.old ≡ length specs.now }
+    requires spools { length spools.old ≡ length specs.now }
+    requires ready { AreReady (map S.runs spools.old) (map S.open_run spools.old) }
+    ensures added { OnOk result (TakesRow specs.now rid (Some row.now)
+        (record { runs = map S.runs spools.old; begun = begun.old }) (record { runs = map S.runs spools.new; begun = begun.new })) }
+    ensures ready { OnOk result (AreReady (map S.runs spools.new) (map S.open_run spools.new)) }
+    ensures sorted { All AreSorted (map S.runs spools.old) → All AreSorted (map S.runs spools.new) }
+    ensures stakes { map S.stake spools.new ≡ map S.stake spools.old }
+    ensures fault { IfErr result (λ fault. (fault ≡ Fault.NoPage) ⊎ (fault ≡ Fault.Memory)) }
+{
+    for i in 0..specs.len() {
+        add_key(&specs[i], row, rid, &mut begun[i], &mut spools[i])?;
+    }
+    Ok(())
+}

@@ -1,0 +1,33 @@
+ghost use Rattle.std.specs.Prelude.{◌≡◌, ◌<◌, ◌⊎◌, [], IfErr, OnOk, OnErr, length};
+ghost use Rattle.run_spool.specs.Spools.{NoneEmpty, AreSorted};
+ghost use Rattle.run_maker.specs.Spooling.{Spooled};
+
+use keybytes::{Fault, Pair};
+use run_spool::Spool;
+
+/// Sorts the pairs and spools them as a run. After an `Err` some of them are in the spool's open run, and the others are lost or
+/// still here.
+pub(crate) fn spool_run<S: Spool>(pairs: &mut Vec<Pair>, spool: &mut S) -> Result<(), Fault>
+    requires none_empty { NoneEmpty (S.runs spool.old) }
+    requires open_run { S.open_run spool.old ≡ [] }
+    ensures spooled { OnOk result (Spooled pairs.old.items (S.runs spool.old) (S.runs spool.new)) }
+    ensures none_empty { NoneEmpty (S.runs spool.new) }
+    ensures sorted { AreSorted (S.runs spool.old) → AreSorted (S.runs spool.new) }
+    ensures left { OnOk result (pairs.new.items ≡ []) }
+    ensures open_run { OnOk result (S.open_run spool.new ≡ []) }
+    ensures runs { OnErr result (S.runs spool.new ≡ S.runs spool.old) }
+    ensures lost { OnErr result (length pairs.new.items < length pairs.old.items) }
+    ensures stake { S.stake spool.new ≡ S.stake spool.old }
+    ensures no_page { IfErr result (λ fault. fault ≡ Fault.NoPage) }
+{
+    pairs.sort_unstable();
+    // (the first is taken from the end, so that the memory stays here)
+    pairs.reverse();
+    while let Some(pair) = pairs.pop() {
+        if let Err((_, fault)) = spool.push(pair) {
+            return Err(fault);
+        }
+    }
+    spool.end_run();
+    Ok(())
+}

@@ -1,0 +1,6 @@
+pub mod Games
+pub mod InOrder
+pub mod Numbers
+pub mod Order
+pub mod Replays
+pub mod Steps

@@ -1,0 +1,60 @@
+use Rattle.std.proofs.Common.{ℕ, ◌<◌, ◌∙◌, refl, ap, sym, arith, length, get_or, set, drop, subst, List, [], map}
+use Rattle.std.specs.Prelude.{Option, None}
+use Rattle.std.proofs.lemmas.List.{get_or_read}
+use Rattle.keybytes.specs.declared.pair.Pair.{Pair}
+use Rattle.run_merge.specs.Merging.{LanesValue, all_runs, Gives, IsMerge}
+use Rattle.run_merge.proofs.Steps.{none_left, first_has, step_gives, step_leaves}
+use Rattle.run_merge.proofs.lanes.Lanes.step.Goals as goal
+
+pub returns-in_default-clause-given : goal.returns-in_default-clause-given
+returns-in_default-clause-given g c =
+    let runs = all_runs (map g.S.Spool.runs c.args.spools.now) in
+    let merge : IsMerge runs c.self.inside.runs.items c.self.inside.heads.heads =
+    subst (λ (v : LanesValue). IsMerge runs v.runs v.heads) (sym c.self.view_is) c.requires in
+    (none_left runs c.self.inside.runs.items c.self.inside.heads.heads merge c.in_default.ensures, refl)
+
+pub advance-requires-clause-pair : goal.advance-requires-clause-pair
+advance-requires-clause-pair g c =
+    let runs = all_runs (map g.S.Spool.runs c.args.spools.now) in
+    let lanes = c.self.inside.runs.items in
+    let heads = c.self.inside.heads in
+    let first = c.in-Some.ensures in
+    let merge : IsMerge runs lanes heads.heads = subst (λ (v : LanesValue). IsMerge runs v.runs v.heads) (sym c.self.view_is) c.requires in
+    let inside : c.in-Some.lane < length lanes = omega (arith, first.inside, merge.long) in
+    let at = get_or_read lanes c.in-Some.lane c.index.result.now inside c.index.ensures 0 in
+    subst (λ (n : ℕ). 0 < length (get_or runs n [])) (sym at) (first_has runs lanes heads.heads merge heads refl c.in-Some.lane first)
+
+pub returns-in_err-next-clause-merge : goal.returns-in_err-next-clause-merge
+returns-in_err-next-clause-merge g c =
+    subst (λ (rs : List (List (List Pair))). IsMerge (all_runs rs) c.args.self.now.runs c.args.self.now.heads) (sym c.in_err-next.ensures.refused) c.requires
+
+pub returns-clause-merge : goal.returns-clause-merge
+returns-clause-merge g c =
+    let runs = all_runs (map g.S.Spool.runs c.args.spools.now) in
+    let lanes = c.self.inside.runs.items in
+    let heads = c.self.inside.heads.heads in
+    let run = c.index.result.now in
+    let first = c.in-Some.ensures in
+    let merge : IsMerge runs lanes heads = subst (λ (v : LanesValue). IsMerge runs v.runs v.heads) (sym c.self.view_is) c.requires in
+    let inside : c.in-Some.lane < length lanes = omega (arith, first.inside, merge.long) in
+    let at = get_or_read lanes c.in-Some.lane run inside c.index.ensures 0 in
+    let put = c.put.ensures.heads ∙ ap (λ (i : ℕ). set heads i c.in_ok-next.next) (sym first.is) in
+    let M : List (List Pair) → Type 0 = λ rs. IsMerge rs lanes c.put.new.self.heads in
+    let N : List (Option Pair) → Type 0 = λ hs. IsMerge (set runs run (drop 1 (get_or runs run []))) lanes hs in
+    subst M (sym c.in_ok-next.ensures.freed)
+    (subst N (sym put) (step_leaves runs lanes heads merge c.in-Some.lane run inside at c.in_ok-next.next c.in_ok-next.ensures.next))
+
+pub returns-clause-given : goal.returns-clause-given
+returns-clause-given g c =
+    let runs = all_runs (map g.S.Spool.runs c.args.spools.now) in
+    let lanes = c.self.inside.runs.items in
+    let heads = c.self.inside.heads in
+    let run = c.index.result.now in
+    let first = c.in-Some.ensures in
+    let merge : IsMerge runs lanes heads.heads = subst (λ (v : LanesValue). IsMerge runs v.runs v.heads) (sym c.self.view_is) c.requires in
+    let inside : c.in-Some.lane < length lanes = omega (arith, first.inside, merge.long) in
+    let at = get_or_read lanes c.in-Some.lane run inside c.index.ensures 0 in
+    let some = subst (λ (n : ℕ). 0 < length (get_or runs n [])) (sym at) (first_has runs lanes heads.heads merge heads refl c.in-Some.lane first) in
+    let given = c.put.ensures.given ∙ ap (λ (i : ℕ). get_or heads.heads i None) (sym first.is) in
+    let G : List (List Pair) → Type 0 = λ rs. Gives runs c.put.result rs in
+    subst G (sym c.in_ok-next.ensures.freed) (step_gives runs lanes heads.heads merge c.in-Some.lane run inside at first.leads some c.put.result given)

@@ -1,0 +1,15 @@
+use Rattle.std.proofs.Common.{◌+◌, ◌*◌, ◌^◌, ◌<◌, ◌≤◌, length}
+use Rattle.run_merge.specs.Losers.{IsReplay}
+use Rattle.run_merge.proofs.losers.replay.Given as goal
+
+abbrev pub invariant-loop-node : goal.invariant-loop-node
+invariant-loop-node l = record {
+  some : 0 < l.node;
+  inside : l.node < 2 * length l.heads;
+  way : l.node * 2 ^ l.compares ≤ length l.heads + l.leaf;
+  winner : l.winner < length l.heads;
+  replay : IsReplay l.heads l.nodes l.node l.winner;
+}
+
+abbrev pub decreases-loop-node : goal.decreases-loop-node
+decreases-loop-node l = l.node

@@ -1,0 +1,4 @@
+pub mod Leading
+pub mod Losers
+pub mod Merging
+pub mod Tournaments

@@ -1,0 +1,85 @@
+ghost use Rattle.std.specs.Prelude.{◌≡◌, ◌≤◌, ◌+◌, ◌-◌, ◌^◌, ℕ, IfOk, IfErr, OnErr, length, map, count_by};
+ghost use Rattle.run_spool.specs.Spools.{AreSorted};
+ghost use Rattle.run_merge.specs.Merging.{has_pair, all_runs, Gives, IsMerge};
+
+use crate::heads::Heads;
+use crate::spool_runs::{advance, head, run_count};
+use keybytes::{Fault, Pair};
+use run_spool::Spool;
+use std::alloc::Global;
+use std::marker::Model;
+
+/// The runs that had a pair as the merge began, and the head of each.
+#[derive(Drop)]
+pub(crate) struct Lanes {
+    runs: Vec<usize>,
+    heads: Heads,
+}
+
+impl Model for Lanes {
+    ghost use Rattle.run_merge.specs.Merging.{LanesValue};
+
+    ghost Value = { LanesValue };
+
+    ghost view = { λ lanes. record {
+      runs = lanes.runs.items;
+      heads = lanes.heads.heads;
+      first = lanes.heads.first;
+      compares = lanes.heads.compares;
+    } };
+}
+
+impl Lanes {
+    /// Reads the head of each run that has one.
+    pub(crate) fn new<S: Spool>(alloc: Global, spools: &mut [S]) -> Result<Lanes, Fault>
+        requires { AreSorted (all_runs (map S.runs spools.old)) }
+        ensures merge { IfOk result (λ lanes. IsMerge (all_runs (map S.runs spools.old)) lanes.runs lanes.heads) }
+        ensures ways { IfOk result (λ lanes. length lanes.runs ≡ count_by has_pair (all_runs (map S.runs spools.old))) }
+        ensures compares { IfOk result (λ lanes. lanes.compares ≤ length lanes.runs - 1) }
+        ensures runs { map S.runs spools.new ≡ map S.runs spools.old }
+        ensures open_runs { map S.open_run spools.new ≡ map S.open_run spools.old }
+        ensures stakes { map S.stake spools.new ≡ map S.stake spools.old }
+        ensures memory { IfErr result (λ fault. fault ≡ Fault.Memory) }
+    {
+        let mut runs = Vec::new(alloc);
+        let mut heads = Vec::new(alloc);
+        for run in 0..run_count(spools)? {
+            if let Some(pair) = head(alloc, spools, run)? {
+                runs.push(run)?;
+                heads.push(Some(pair))?;
+            }
+        }
+        Ok(Lanes {
+            runs,
+            heads: Heads::new(alloc, heads)?,
+        })
+    }
+
+    /// Gives the first of all pairs, and frees it in its run.
+    pub(crate) fn step<S: Spool>(&mut self, spools: &mut [S]) -> Result<Option<Pair>, Fault>
+        requires { IsMerge (all_runs (map S.runs spools.old)) self.old.runs self.old.heads }
+        ensures merge { IsMerge (all_runs (map S.runs spools.new)) self.new.runs self.new.heads }
+        ensures given { IfOk result (λ given. Gives (all_runs (map S.runs spools.old)) given (all_runs (map S.runs spools.new))) }
+        ensures compares { (d : ℕ) → length self.old.runs ≤ 2 ^ d → self.new.compares ≤ self.old.compares + d }
+        ensures ways { self.new.runs ≡ self.old.runs }
+        ensures refused { OnErr result (map S.runs spools.new ≡ map S.runs spools.old) }
+        ensures lanes { OnErr result (self.new ≡ self.old) }
+        ensures open_runs { map S.open_run spools.new ≡ map S.open_run spools.old }
+        ensures stakes { map S.stake spools.new ≡ map S.stake spools.old }
+        ensures memory { IfErr result (λ fault. fault ≡ Fault.Memory) }
+    {
+        let Some(lane) = self.heads.first() else {
+            return Ok(None);
+        };
+        let alloc = *self.runs.allocator();
+        let next = advance(alloc, spools, self.runs[lane])?;
+        Ok(self.heads.put(next))
+    }
+
+    /// How many comparisons of two pairs were made so far; it stays at the greatest number.
+    pub(crate) fn compares(&self) -> u64
+        ensures { result ≡ self.now.compares }
+    {
+        self.heads.compares()
+    }
+}

@@ -1,0 +1,73 @@
+//! The games of a tree of heads, played from nothing. The root is node 1, the two nodes below n are 2 n and 2 n + 1, and the
+//! second half of all are the leaves, of which the kth names the kth head. Each node above names the winner of the game between
+//! its two.
+ghost use Rattle.std.specs.Prelude.{◌≡◌, ◌<◌, ◌≤◌, ◌+◌, ◌-◌, ◌*◌, ℕ, IfOk, IfErr, length};
+ghost use Rattle.run_merge.specs.Tournaments.{IsWinner, IsPlayed, HasLeaves, IsWon};
+
+use keybytes::{Fault, Pair};
+use std::alloc::Global;
+
+// Which of two heads is given first, and how many comparisons of pairs that took.
+pub(crate) fn winner(heads: &[Option<Pair>], left: usize, right: usize) -> (usize, u64)
+    requires left { left < length heads.now }
+    requires right { right < length heads.now }
+    ensures winner { IsWinner heads.now result.0 left right }
+    ensures compares { result.1 ≤ 1 }
+{
+    match (&heads[left], &heads[right]) {
+        (Some(pair), Some(other)) => {
+            if other.cmp(pair).is_lt() {
+                (right, 1)
+            } else {
+                (left, 1)
+            }
+        }
+        (Some(_), None) => (left, 0),
+        (None, _) => (right, 0),
+    }
+}
+
+// Plays the game at a node, and tells how many comparisons of pairs that took.
+fn play(nodes: &mut [usize], heads: &[Option<Pair>], node: usize) -> u64
+    requires some { 0 < node }
+    requires node { node < length heads.now }
+    requires tree { HasLeaves heads.now nodes.old }
+    ensures tree { HasLeaves heads.now nodes.new }
+    ensures here { IsPlayed heads.now nodes.new node }
+    ensures others { (n : ℕ) → 0 < n → (n ≡ node → ⊥) → (2 * n ≡ node → ⊥) → (2 * n + 1 ≡ node → ⊥)
+        → IsPlayed heads.now nodes.old n → IsPlayed heads.now nodes.new n }
+    ensures compares { result ≤ 1 }
+{
+    let (won, compares) = winner(heads, nodes[2 * node], nodes[2 * node + 1]);
+    nodes[node] = won;
+    compares
+}
+
+// Plays all games, and tells how many comparisons of pairs they took.
+pub(crate) fn play_all(nodes: &mut [usize], heads: &[Option<Pair>]) -> u64
+    requires tree { HasLeaves heads.now nodes.old }
+    ensures won { IsWon heads.now nodes.new }
+    ensures compares { result ≤ length heads.now - 1 }
+{
+    let mut node = heads.len();
+    let mut compares = 0;
+    while node > 1 {
+        node -= 1;
+        compares += play(nodes, heads, node);
+    }
+    compares
+}
+
+// The nodes of a tree over so many heads, with no game played yet.
+pub(crate) fn leaves(alloc: Global, heads: &[Option<Pair>]) -> Result<Vec<usize>, Fault>
+    ensures tree { IfOk result (λ nodes. HasLeaves heads.now nodes.items) }
+    ensures memory { IfErr result (λ fault. fault ≡ Fault.Memory) }
+{
+    let count = heads.len();
+    let both = count.checked_mul(2).ok_or(Fault::Memory)?;
+    let mut nodes = vec![in alloc; 0; both]?;
+    for leaf in 0..count {
+        nodes[count + leaf] = leaf;
+    }
+    Ok(nodes)
+}

@@ -1,0 +1,12 @@
+use Rattle.std.proofs.Common.{◌≡◌, List, map, drop, sym, subst, arith, length}
+use Rattle.run_spool.specs.Spools.{AreSorted}
+use Rattle.run_merge.specs.Merging.{all_runs}
+use Rattle.run_tests.proofs.Flat.{written_back}
+use Rattle.run_tests.proofs.merging.merges_two.Goals as goal
+
+pub merge-requires : goal.merge-requires
+merge-requires g c =
+    let new = c.fill.new.spools in
+    let long : length new ≡ c.args.spools.len = omega (arith, c.fill.auto.spools, c.as_mut_slice.ensures.len, c.args.spools.ok.0) in
+    subst (λ (xs : List g.row.S.Denot). AreSorted (all_runs (map g.S.Spool.runs xs)))
+    (sym (written_back c.args.spools.len new (drop (length new) c.args.spools.items) long)) c.in_ok-fill.ensures
