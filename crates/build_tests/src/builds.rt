@@ -92,6 +92,17 @@ fn begins<T: Table>(core: &mut Core<T>, alloc: Global, count: usize) -> Result<b
     Ok(true)
 }
 
+/// Whether it is so; want of memory is passed on.
+fn is_unless_wanting(
+    told: Result<bool, Fault>,
+    answer: Result<bool, Fault>,
+) -> Result<bool, Fault> {
+    if told == Err(Fault::Memory) {
+        return Err(Fault::Memory);
+    }
+    Ok(told == answer)
+}
+
 /// Whether it is answered so. Want of memory is passed on where a second event of the same kind doesn't help.
 fn is_answered<T: Table>(core: &mut Core<T>, alloc: Global, call: &Call) -> Result<bool, Fault> {
     match call {
@@ -104,7 +115,7 @@ fn is_answered<T: Table>(core: &mut Core<T>, alloc: Global, call: &Call) -> Resu
         }
         Call::Begins(count) => begins(core, alloc, *count),
         Call::Get(rid, answer) => Ok(number_at(core, *rid) == *answer),
-        Call::Rest(answer) => Ok(are_at_rest(core, &spec(alloc)?) == *answer),
+        Call::Rest(answer) => is_unless_wanting(are_at_rest(core, &spec(alloc)?), *answer),
         Call::Ready(answer) => Ok(are_ready(core) == *answer),
         Call::Building(answer) => Ok(core.is_building() == *answer),
     }
