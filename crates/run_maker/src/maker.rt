@@ -1,4 +1,4 @@
-ghost use Rattle.std.specs.Prelude.{◌≡◌, ◌⊎◌, [], ℕ, All, Option, List, IfOk, IfErr, OnOk, map, length, true, false};
+ghost use Rattle.std.specs.Prelude.{◌≡◌, ◌<◌, ◌⊎◌, [], ℕ, All, Option, List, IfOk, IfErr, OnOk, map, length, true, false};
 ghost use Rattle.keybytes.specs.declared.cell.Cell.{Cell};
 ghost use Rattle.run_spool.specs.Spools.{AreSorted};
 ghost use Rattle.run_maker.specs.ImagePairs.{HasRows};
@@ -53,6 +53,15 @@ impl Maker {
             specs,
             begun,
         })
+    }
+
+    /// Does nothing: its clauses tell what every maker keeps.
+    pub fn laws(&self)
+        ensures specs { All (λ spec. spec.kinds ≡ self.now.schema) self.now.specs }
+        ensures begun { length self.now.begun ≡ length self.now.specs }
+        ensures short { All (λ begun. length begun < 4096) self.now.begun }
+    {
+        let _kept = &self.specs;
     }
 
     /// Takes a copy of a page: makes one pair of each row and index, and spools those that make a run.

@@ -1,5 +1,5 @@
 -- Spools of every kind.
-use Rattle.std.specs.Prelude.{[], ◌∷◌, ◌++◌, ◌<◌, List, All, length, Option, option_map, filter_map}
+use Rattle.std.specs.Prelude.{[], ◌∷◌, ◌++◌, ◌<◌, ◌==◌, ◌&&◌, Bool, List, All, length, Option, option_map, filter_map}
 use Rattle.std.specs.List.{flat_map}
 use Rattle.std.specs.List.Sorted.{IsSorted}
 use Rattle.spool_ledger.specs.Accounts.{Stake}
@@ -18,6 +18,10 @@ NoneEmpty runs = All (λ run. 0 < length run) runs
 -- each run is in order of key, then RID
 abbrev pub AreSorted : List (List Pair) → Type 0
 AreSorted runs = All (λ run. IsSorted pair_cmp run) runs
+
+-- whether there is no closed run, not even one whose pairs are all freed, and no pair in the open run
+abbrev pub holds_nothing : List (List Pair) → List Pair → Bool
+holds_nothing runs open_run = (length runs == 0) && (length open_run == 0)
 
 -- the pairs of all runs
 abbrev pub all_pairs : List (List Pair) → List Pair

@@ -16,6 +16,7 @@ mod area;
 mod boxed;
 mod frames;
 mod giving_up;
+mod many;
 mod marks;
 mod page;
 mod plain_spool;
@@ -23,5 +24,6 @@ mod run;
 mod spool;
 
 pub use giving_up::{give_up, give_up_all};
+pub use many::{are_empty, end_all};
 pub use plain_spool::PlainSpool;
 pub use spool::Spool;
