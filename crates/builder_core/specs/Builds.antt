@@ -1,5 +1,5 @@
 -- What a table and the workers of its build keep between events, and how the two go together.
-use Rattle.std.specs.Prelude.{◌≡◌, ℕ, ◌+◌, ◌-◌, ◌==◌, ◌<◌, ◌≤◌, List, [], ◌∷◌, ◌++◌, length, map, take, is_some, vec_len, vec_capacity, Vec, true, Option}
+use Rattle.std.specs.Prelude.{◌≡◌, ℕ, ◌+◌, ◌-◌, ◌==◌, ◌<◌, ◌≤◌, Bool, List, [], ◌∷◌, ◌++◌, length, map, take, is_some, vec_len, vec_capacity, Vec, true, Option}
 use Rattle.std.specs.Prelude.{Some, None}
 use Rattle.std.specs.declared.alloc.Global.{Global}
 use Rattle.std.specs.FinMap.{keys}
@@ -13,6 +13,7 @@ use Rattle.keybytes.specs.declared.kind.Kind.{Kind}
 use Rattle.keybytes.specs.declared.pair.Pair.{Pair}
 use Rattle.heap_log.specs.declared.record.LogRec.{LogRec}
 use Rattle.heap_table.specs.HeapState.{HeapState}
+use Rattle.run_maker.specs.Making.{MakerValue}
 use Rattle.scan_range.specs.Cuts.{CutsValue, are_cuts}
 use Rattle.scan_range.specs.Ranges.{RangesValue, is_passed}
 use Rattle.side_file.specs.Ends.{PutEnd, RingId}
@@ -22,7 +23,8 @@ use Rattle.building.specs.WorkerValue.{WorkerValue}
 use Rattle.building.specs.declared.copied.Copied.{Copied}
 use Rattle.builder_core.specs.CoreState.{BuildState, LiveState, WorkerState, IndexState, WorkState, CoreState, scanning_of, live_with_heap, idle, spoiled_work}
 use Rattle.builder_core.specs.Ranges.{next_page, open_range}
-use Rattle.builder_core.specs.Rings.{all_sent, AreForWorkers, AreLooked, AreTaking, AreHolding, AreDone}
+use Rattle.builder_core.specs.Holding.{SpoolValue, spools_state, ended_spool, AreEquipped, AreHolding, AreOpen}
+use Rattle.builder_core.specs.Rings.{all_sent, AreForWorkers, AreLooked, AreTaking, AreDone}
 use Rattle.builder_core.specs.Scanning.{IsScanned, ReadOnce, scanned_at, scanned_pairs}
 use Rattle.builder_core.specs.SideFiles.{IsDrained}
 use Rattle.builder_core.specs.Steps.{refusal, cause_if, build_cause, counts_refusal, range_refusal}
@@ -46,6 +48,8 @@ pub record WorkValue : Type 0 where
   pub spec : KeySpecValue
   -- how many of the workers it has
   pub workers : ℕ
+  -- what makes the pairs of each of them
+  pub makers : List MakerValue
   -- the index's pairs, once they are in order
   pub tree : Option (List Pair)
   -- how many more pairs find room beside them
@@ -63,10 +67,13 @@ pub record EndsValue : Type 0 where
   pub workers : List WorkerValue
   pub side : TakeEnd Entry
 
--- what stands beside a table: the workers, the other end of the side-file's ring, and the work of the build that runs
+-- what stands beside a table: the workers, the other end of the side-file's ring, the spools, whether a build was given them, and the
+-- work of the build that runs
 pub record BuildingValue : Type 0 where
   pub workers : List WorkerValue
   pub side : TakeEnd Entry
+  pub spools : List SpoolValue
+  pub given : Bool
   pub work : Option WorkValue
 
 -- how many more pairs find room in a list, if there is one
@@ -94,11 +101,19 @@ work_state workers (Some work) = state_unless work.spoiled workers work
 
 -- what callers see of a table and of what stands beside it
 abbrev pub core_state : LiveValue → BuildingValue → CoreState
-core_state live building = record { live = live.state; work = work_state building.workers building.work }
+core_state live building = record {
+  live = live.state;
+  work = work_state building.workers building.work;
+  spools = spools_state building.given building.spools;
+}
 
 -- why an event is refused of a table and of what stands beside it
 abbrev pub cause_of : LiveValue → BuildingValue → Event → Option Fault
 cause_of live building event = refusal (core_state live building) event
+
+-- the work is given up, and the spools are ended
+abbrev pub given_up : BuildingValue → BuildingValue
+given_up building = record building { spools = map ended_spool building.spools; work = None }
 
 -- these pairs are the index's, in order
 abbrev pub after_sort : WorkValue → List Pair → ℕ → WorkValue
@@ -165,8 +180,11 @@ IsWorkOf kinds log (Some b) (Some work) = IsWorkOn kinds log b work
 pub record AreAtWork (b : BuildState) (pages : List (PutEnd Copied)) (side : PutEnd Entry) (building : BuildingValue) (work : WorkValue) : Type 0 where
   -- nothing is in the side-file's ring
   pub drained : IsDrained side building.side.ring building.side.received
-  pub taking : work.spoiled ≡ None → AreTaking b.number work.spec b.workers (all_sent pages) building.workers
-  pub holding : work.spoiled ≡ None → work.tree ≡ None → AreHolding work.spec b.workers building.workers
+  pub given : building.given ≡ true
+  pub taking : work.spoiled ≡ None → AreTaking b.number b.workers (all_sent pages) building.workers
+  pub equipped : work.spoiled ≡ None → AreEquipped work.spec.kinds work.spec b.workers work.makers building.spools
+  pub opened : work.spoiled ≡ None → AreOpen work.spec b.workers building.workers work.makers
+  pub holding : work.spoiled ≡ None → work.tree ≡ None → AreHolding work.spec b.workers building.workers work.makers building.spools
 
 -- the same for the build that runs, if one does
 abbrev pub WorkersFollow : List (PutEnd Copied) → PutEnd Entry → BuildingValue → Option BuildState → Option WorkValue → Type 0
@@ -185,6 +203,8 @@ pub record HasLooked (live : LiveValue) (building : BuildingValue) (new_live : L
   pub side : new_live.side ≡ live.side
   pub rings : AreLooked live.pages building.workers new_live.pages new_building.workers
   pub other_side : new_building.side ≡ building.side
+  pub spools : new_building.spools ≡ building.spools
+  pub given : new_building.given ≡ building.given
   pub work : new_building.work ≡ building.work
 
 -- both ends of a worker's ring are at hand, and so many copies wait in it
@@ -238,4 +258,4 @@ pub record MayLoad (live : LiveValue) (building : BuildingValue) (index : ℕ) :
   pub fine : work.spoiled ≡ None
   pub only : index ≡ 0
   pub all : open_range build ≡ None
-  pub quiet : AreDone build.workers (all_sent live.pages) building.workers
+  pub quiet : AreDone build.workers (all_sent live.pages) building.workers work.makers
