@@ -1,5 +1,5 @@
 -- What a table and the workers of its build keep between events, and how the two go together.
-use Rattle.std.specs.Prelude.{◌≡◌, ℕ, ◌+◌, ◌-◌, ◌==◌, ◌<◌, ◌≤◌, Bool, List, [], ◌∷◌, ◌++◌, length, map, take, is_some, vec_len, vec_capacity, Vec, true, Option}
+use Rattle.std.specs.Prelude.{◌≡◌, ℕ, ◌+◌, ◌-◌, ◌==◌, ◌<◌, ◌≤◌, Bool, List, [], ◌∷◌, ◌++◌, length, map, take, replicate, is_some, vec_len, vec_capacity, Vec, true, Option}
 use Rattle.std.specs.Prelude.{Some, None}
 use Rattle.std.specs.declared.alloc.Global.{Global}
 use Rattle.std.specs.FinMap.{keys}
@@ -23,7 +23,7 @@ use Rattle.building.specs.WorkerValue.{WorkerValue}
 use Rattle.building.specs.declared.copied.Copied.{Copied}
 use Rattle.builder_core.specs.CoreState.{BuildState, LiveState, WorkerState, IndexState, WorkState, CoreState, scanning_of, live_with_heap, idle, spoiled_work}
 use Rattle.builder_core.specs.Ranges.{next_page, open_range}
-use Rattle.builder_core.specs.Holding.{SpoolValue, spools_state, ended_spool, AreEquipped, AreHolding, AreOpen}
+use Rattle.builder_core.specs.Holding.{SpoolValue, spools_state, ended_spool, fresh_maker, AreEquipped, AreHolding, AreOpen}
 use Rattle.builder_core.specs.Rings.{all_sent, AreForWorkers, AreLooked, AreTaking, AreDone}
 use Rattle.builder_core.specs.Scanning.{IsScanned, ReadOnce, scanned_at, scanned_pairs}
 use Rattle.builder_core.specs.SideFiles.{IsDrained}
@@ -55,6 +55,17 @@ pub record WorkValue : Type 0 where
   -- how many more pairs find room beside them
   pub room : ℕ
   pub spoiled : Option Fault
+
+-- the work of a build by so many workers, on rows of these columns, that has done nothing
+abbrev pub fresh : List Kind → KeySpecValue → ℕ → WorkValue
+fresh kinds spec workers = record {
+  spec = spec;
+  workers = workers;
+  makers = replicate workers (fresh_maker kinds spec);
+  tree = None;
+  room = 0;
+  spoiled = None;
+}
 
 -- a heap, and the rings for the builds of its indexes
 pub record PartsValue : Type 0 where

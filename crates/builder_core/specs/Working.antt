@@ -16,40 +16,55 @@ use Rattle.builder_core.specs.Builds.{BuildingValue, WorkValue, after_sort}
 use Rattle.builder_core.specs.Holding.{SpoolValue, Kit, IsFit, ended_spool}
 
 -- a worker, with its kit, can spool the pairs of so many of the copies that it sees in its ring
+pub record CanTakeAt
+    (spec : KeySpecValue) (worker : ℕ) (count : WorkerValue → ℕ) (workers : List WorkerValue) (makers : List MakerValue) (spools : List SpoolValue)
+    : Type 0 where
+  pub it : WorkerValue
+  pub there : slice_get workers worker ≡ Some it
+  pub kit : Kit
+  pub maker : slice_get makers worker ≡ Some kit.maker
+  pub spool : slice_get spools worker ≡ Some kit.spool
+  pub fit : IsFit spec.kinds spec kit
+  pub seen : count it ≤ length it.end.known
+  pub rows : HaveRows spec.kinds (next_images (count it) it)
+
+-- the worker took these copies, with that effect on its kit; at a seal it then closed its run. Answered with how many were of its build
+pub record HasTakenAt
+    (spec : KeySpecValue) (worker : ℕ) (count : WorkerValue → ℕ) (closing : WorkerValue → WorkerValue)
+    (Spools : KeySpecValue → List ImageValue → Kit → Kit → Type 0) (workers : List WorkerValue) (makers : List MakerValue) (spools : List SpoolValue)
+    (images : ℕ) (new_workers : List WorkerValue) (new_makers : List MakerValue) (new_spools : List SpoolValue)
+    : Type 0 where
+  pub it : WorkerValue
+  pub there : slice_get workers worker ≡ Some it
+  pub kit : Kit
+  pub maker : slice_get makers worker ≡ Some kit.maker
+  pub spool : slice_get spools worker ≡ Some kit.spool
+  pub counted : images ≡ length (next_images (count it) it)
+  pub after : Kit
+  pub fit : IsFit spec.kinds spec after
+  pub stake : after.spool.stake ≡ kit.spool.stake
+  pub spools_more : Spools spec (next_images (count it) it) kit after
+  pub workers_are : new_workers ≡ set workers worker (closing (after_digest (count it) it))
+  pub makers_are : new_makers ≡ set makers worker after.maker
+  pub spools_are : new_spools ≡ set spools worker after.spool
+
+-- the same of a worker of the build that runs
 pub record CanTake (worker : ℕ) (count : WorkerValue → ℕ) (building : BuildingValue) : Type 0 where
   pub work : WorkValue
   pub runs : building.work ≡ Some work
-  pub it : WorkerValue
-  pub there : slice_get building.workers worker ≡ Some it
-  pub kit : Kit
-  pub maker : slice_get work.makers worker ≡ Some kit.maker
-  pub spool : slice_get building.spools worker ≡ Some kit.spool
-  pub fit : IsFit work.spec.kinds work.spec kit
-  pub seen : count it ≤ length it.end.known
-  pub rows : HaveRows work.spec.kinds (next_images (count it) it)
+  pub can : CanTakeAt work.spec worker count building.workers work.makers building.spools
 
--- the worker took these copies, with that effect on its kit; at a seal it then closed its run. Answered with how many were of its build
 pub record HasTaken
     (worker : ℕ) (count : WorkerValue → ℕ) (closing : WorkerValue → WorkerValue) (Spools : KeySpecValue → List ImageValue → Kit → Kit → Type 0)
     (old : BuildingValue) (images : ℕ) (new : BuildingValue)
     : Type 0 where
   pub work : WorkValue
   pub runs : old.work ≡ Some work
-  pub it : WorkerValue
-  pub there : slice_get old.workers worker ≡ Some it
-  pub kit : Kit
-  pub maker : slice_get work.makers worker ≡ Some kit.maker
-  pub spool : slice_get old.spools worker ≡ Some kit.spool
-  pub counted : images ≡ length (next_images (count it) it)
-  pub after : Kit
-  pub fit : IsFit work.spec.kinds work.spec after
-  pub stake : after.spool.stake ≡ kit.spool.stake
-  pub spools : Spools work.spec (next_images (count it) it) kit after
-  pub left : new ≡ record old {
-    workers = set old.workers worker (closing (after_digest (count it) it));
-    spools = set old.spools worker after.spool;
-    work = Some (record work { makers = set work.makers worker after.maker });
-  }
+  pub workers : List WorkerValue
+  pub makers : List MakerValue
+  pub spools : List SpoolValue
+  pub taken : HasTakenAt work.spec worker count closing Spools old.workers work.makers old.spools images workers makers spools
+  pub left : new ≡ record old { workers = workers; spools = spools; work = Some (record work { makers = makers }) }
 
 -- the copies that a worker takes at a digest, and at a seal
 abbrev pub one_copy : WorkerValue → ℕ
