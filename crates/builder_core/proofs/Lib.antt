@@ -5,6 +5,7 @@ pub mod Distinct
 pub mod EntrySteps
 pub mod Examples
 pub mod Following
+pub mod Kits
 pub mod LoadCauses
 pub mod Loaded
 pub mod Looked
