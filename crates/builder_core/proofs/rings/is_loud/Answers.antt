@@ -19,14 +19,14 @@ returns-then-waiting-gt0-clause-loud c = λ is sent w maker there at made quiet.
 
 pub returns-else-waiting-gt0-clause-loud : goal.returns-else-waiting-gt0-clause-loud
 returns-else-waiting-gt0-clause-loud c = λ is sent w maker there at made quiet.
-    let here : c.index-makers-worker.result.now ≡ maker =
-    c.index-makers-worker.is ∙ get_or_from_slice_get c.args.makers.now c.args.worker maker c.index-makers-worker.result.now made in
+    let here : c.index-makers-worker.result ≡ maker =
+    c.index-makers-worker.is ∙ get_or_from_slice_get c.args.makers.now c.args.worker maker c.index-makers-worker.result made in
     c.has_open_run.ensures.some is (subst (λ (m : MakerValue). All (λ begun. begun ≡ []) m.begun) (sym here) quiet.closed)
 
 pub returns-else-waiting-gt0-clause-quiet : goal.returns-else-waiting-gt0-clause-quiet
 returns-else-waiting-gt0-clause-quiet c = λ is sent w maker there at made.
-    let here : c.index-makers-worker.result.now ≡ maker =
-    c.index-makers-worker.is ∙ get_or_from_slice_get c.args.makers.now c.args.worker maker c.index-makers-worker.result.now made in
+    let here : c.index-makers-worker.result ≡ maker =
+    c.index-makers-worker.is ∙ get_or_from_slice_get c.args.makers.now c.args.worker maker c.index-makers-worker.result made in
     let end = at_map (λ (e : PutEnd Copied). e.sent) c.waiting.new.pages.items c.args.worker sent there in
     let seen : c.waiting.result ≡ length w.end.known = subst (λ o. IfSome o (λ v. c.waiting.result ≡ length v.end.known)) at c.waiting.ensures.seen in
     let none : w.end.known ≡ [] = nil_from_length w.end.known (omega (arith, seen, c.if-waiting-gt0.false)) in
