@@ -12,6 +12,7 @@ pub mod Looked
 pub mod Looks
 pub mod Making
 pub mod NextPages
+pub mod OneKit
 pub mod OneRing
 pub mod OneWorker
 pub mod Partition
