@@ -1,5 +1,5 @@
 -- The makers and spools of a build's workers, as their rings are looked at and as they take what was put.
-use Rattle.std.proofs.Common.{◌≡◌, ℕ, zero, suc, ◌+◌, ◌<◌, ◌&&◌, Bool, true, List, [], ◌∷◌, All, map, set, replicate, length, get_or, Some, refl, sym}
+use Rattle.std.proofs.Common.{◌≡◌, ℕ, zero, suc, ◌+◌, ◌<◌, ◌&&◌, Bool, true, false, List, [], ◌∷◌, All, map, set, replicate, length, get_or, Some, refl, sym}
 use Rattle.std.proofs.Common.{ap, ap₂, ◌∙◌, subst, inl, inr, arith}
 use Rattle.std.specs.Prelude.{◌==◌, None}
 use Rattle.std.specs.List.{slice_get, list_all}
@@ -20,12 +20,12 @@ use Rattle.building.specs.WorkerValue.{WorkerValue}
 use Rattle.building.specs.declared.copied.Copied.{Copied}
 use Rattle.building.proofs.Taking.{start_holds, start_open}
 use Rattle.builder_core.specs.Builds.{WorkValue, HaveKits, fresh}
-use Rattle.builder_core.specs.Holding.{SpoolValue, Kit, IsFit, AreEquipped, AreHolding, AreOpen, begun_of, fresh_maker, ended_spool, spool_value}
+use Rattle.builder_core.specs.Holding.{SpoolValue, Kit, IsFit, AreEquipped, AreHolding, AreOpen, begun_of, fresh_maker, ended_spool, spool_value, spools_state, spools_in}
 use Rattle.spool_ledger.specs.Accounts.{Stake}
 use Rattle.std.specs.Prelude.{Option}
 use Rattle.builder_core.specs.Rings.{all_sent, begun_on, AreOfBuilds}
 use Rattle.builder_core.proofs.AtWork.{of_earlier}
-use Rattle.builder_core.proofs.Places.{at_set, set_there, set_elsewhere, same_at, at_map, replicate_at}
+use Rattle.builder_core.proofs.Places.{at_set, set_there, set_elsewhere, same_at, at_map, mapped, replicate_at}
 
 abbrev IsBegun : List Pair → Type 0
 IsBegun begun = begun ≡ []
@@ -212,3 +212,12 @@ ended_values runs open_run stake (s ∷ ss) (t ∷ ts) none shut same =
     rw (All-head (λ s. runs s ≡ []) t ts none, All-head (λ s. open_run s ≡ []) t ts shut, first) refl in
     ap₂ ◌∷◌ here
     (ended_values runs open_run stake ss ts (All-tail (λ s. runs s ≡ []) t ts none) (All-tail (λ s. open_run s ≡ []) t ts shut) rest)
+
+-- spools as they are handed in
+pub spools_handed :
+    {S : Type 0} (runs : S → List (List Pair)) (open_run : S → List Pair) (stake : S → Option Stake) (spools : List S)
+    → spools_state false (map (spool_value runs open_run stake) spools) ≡ spools_in runs open_run stake spools
+spools_handed runs open_run stake spools =
+    ap₂ (λ (stakes : List (Option Stake)) (left : List Bool). record { stakes = stakes; left = left })
+    (mapped (spool_value runs open_run stake) (λ (s : SpoolValue). s.stake) spools)
+    (mapped (spool_value runs open_run stake) (λ (s : SpoolValue). holds_nothing s.runs s.open_run) spools)

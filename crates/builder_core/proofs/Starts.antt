@@ -116,7 +116,7 @@ dealt_are_cuts pages (Even ranges) e = let fit = even_fit ranges e in even_are_c
 -- a plan whose counts fit has no more than 16 workers, and a spool for each
 pub few_workers :
     (live : LiveState) (spools : ℕ) (plan : Plan) → counts_fit live spools plan ≡ true
-    → (plan.workers ≤ 16) × (spools ≡ plan.workers * length plan.specs.items)
+    → (plan.workers ≤ 16) × (spools ≡ plan.workers * length plan.specs.items) × (1 ≤ plan.workers)
 few_workers live spools plan e =
     let some : Bool = nat_le 1 plan.workers in
     let few : Bool = nat_le plan.workers 16 in
@@ -129,7 +129,8 @@ few_workers live spools plan e =
     let third = and_parts (some && few && specs && plain) room second.0 in
     let fourth = and_parts (some && few && specs) plain third.0 in
     let fifth = and_parts (some && few) specs fourth.0 in
-    (leb-true plan.workers 16 (and_parts some few fifth.0).1, eqb-true spools (plan.workers * length plan.specs.items) first.1)
+    let sixth = and_parts some few fifth.0 in
+    (leb-true plan.workers 16 sixth.1, eqb-true spools (plan.workers * length plan.specs.items) first.1, leb-true 1 plan.workers sixth.0)
 
 -- a list of one element, repeated
 repeated : {X Y : Type 0} (f : X → Y) (n : ℕ) (xs : List X) (y : Y) → n ≤ length xs → All (λ x. f x ≡ y) xs → map f (take n xs) ≡ replicate n y

@@ -329,6 +329,7 @@ fn make_room(work: &mut Option<Work>, n: usize) -> Result<(), Fault>
     ensures room { OnOk result (IfSome work.new (λ w. n ≤ w.room)) }
     ensures same { (w : WorkValue) → work.old ≡ Some w → (room : ℕ) × (work.new ≡ Some (record w { room = room })) }
     ensures none { work.old ≡ None → work.new ≡ None }
+    ensures loaded { IfSome work.new (λ w. is_some w.tree ≡ true) }
     ensures memory { IfErr result (λ fault. fault ≡ Fault.Memory) }
 {
     match work {

@@ -5,7 +5,7 @@ use Rattle.builder_core.specs.CoreState.{opening}
 use Rattle.builder_core.specs.Holding.{spools_in}
 use Rattle.builder_core.specs.Steps.{Run}
 use Rattle.builder_core.proofs.Runs.{run_more}
-use Rattle.builder_core.proofs.Switching.{each_switch}
+use Rattle.builder_core.proofs.Switching.{each_switch, run_stakes}
 use Rattle.builder_core.proofs.run.run_events.Goals as goal
 
 pub loop-event-preserved : goal.loop-event-preserved
@@ -34,3 +34,9 @@ returns-clause-headline g c =
       left_is = c.into_live-live.ensures.live;
       switches = each_switch start c.loop-event.core events c.loop-event.replies.items run;
     }
+
+pub returns-clause-stakes : goal.returns-clause-stakes
+returns-clause-stakes g c =
+    let start = opening c.args.live.state (spools_in g.S.Spool.runs g.S.Spool.open_run g.S.Spool.stake c.args.spools.items) in
+    c.into_live-live.ensures.stakes
+    ∙ run_stakes start (take c.loop-event.event-index c.args.events.now) c.loop-event.replies.items c.loop-event.core c.loop-event.invariant.run

@@ -1,4 +1,6 @@
-use Rattle.std.proofs.Common.{rules, ◌≡◌, ◌∙◌, ◌+◌, ◌++◌, ◌∷◌, [], ℕ, List, length, map, None, ap, sym, subst}
+use Rattle.std.proofs.Common.{rules, ◌≡◌, ◌∙◌, ◌+◌, ◌++◌, ◌∷◌, [], ℕ, List, length, map, true, None, Option, IfSome, ap, sym, subst}
+use Rattle.std.specs.Prelude.{is_some}
+use Rattle.std.proofs.lemmas.Bool.{false≢true}
 use Rattle.keybytes.proofs.ColumnOrder.{column_order}
 use Rattle.keybytes.specs.Keys.{KeySpecValue}
 use Rattle.keybytes.specs.Pairs.{set_of, HaveKeysOf, AreInColumnOrder}
@@ -226,3 +228,9 @@ returns-clause-switched g c =
           (subst (λ (n : ℕ). Switches (core_state live building) c.in_ok-noted.noted (Left n))
           (sym (ap (λ (l : LiveValue). l.state.builds) c.self.view_is)) done),
     )
+
+pub unreachable-requires-in_default-into_pairs : goal.unreachable-requires-in_default-into_pairs
+unreachable-requires-in_default-into_pairs g c =
+    let some : is_some c.in-Some-Some.work.tree ≡ true =
+    subst (λ (o : Option WorkValue). IfSome o (λ w. is_some w.tree ≡ true)) (sym c.take-2.ensures.value ∙ c.in-Some-Some.is-1) c.make_room.ensures.loaded in
+    false≢true (sym (ap is_some c.in_default-into_pairs.ensures.pairs) ∙ some)
