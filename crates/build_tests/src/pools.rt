@@ -1,7 +1,8 @@
 //! Spools over the pages of a pool, and what comes back of them.
-ghost use Rattle.std.specs.Prelude.{◌≡◌, ◌≤◌, ◌++◌, ◌∷◌, [], List, Option, Some, map, IfOk, IfErr, OnOk, vec_len, vec_capacity};
-ghost use Rattle.spool_ledger.specs.Accounts.{Stake, stake_of};
-ghost use Rattle.spool_ledger.specs.Pools.{with_back};
+ghost use Rattle.std.specs.Prelude.{◌≡◌, ◌≤◌, ◌∷◌, [], Some, map, IfOk, IfErr, OnOk, vec_len, vec_capacity};
+ghost use Rattle.spool_ledger.specs.Accounts.{new_account, stake_of};
+ghost use Rattle.spool_ledger.specs.Pools.{with_out, with_back};
+ghost use Rattle.run_spool.specs.PlainSpools.{new_spool};
 ghost use Rattle.build_tests.specs.Owing.{IsOwed, pages_owed};
 
 use keybytes::{Fault, Key, Pair, Rid};
@@ -11,13 +12,16 @@ use std::alloc::Global;
 
 /// A plain spool of that many pages of the pool.
 pub fn plain_spool(alloc: Global, pool: &mut Pool, quota: u32) -> Result<PlainSpool, Fault>
-    ensures owed { IfOk result (λ spool. (stakes : List (Option Stake)) → IsOwed pool.old stakes
-        → IsOwed pool.new (stakes ++ Some (stake_of spool.account) ∷ [])) }
+    ensures made { IfOk result (λ spool. spool ≡ new_spool (new_account pool.old.number quota)) }
+    ensures out { OnOk result (pool.new ≡ with_out pool.old quota) }
 {
     let Some(account) = pool.split(alloc, &[quota])?.pop() else {
         return Err(Fault::Memory);
     };
-    PlainSpool::new(alloc, account).map_err(|(_, fault)| fault)
+    match PlainSpool::new(alloc, account) {
+        Ok(spool) => Ok(spool),
+        Err((_, fault)) => Err(fault),
+    }
 }
 
 /// As many of them as are asked for.
