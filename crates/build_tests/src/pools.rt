@@ -10,6 +10,17 @@ use run_spool::{PlainSpool, Spool, give_up_all};
 use spool_ledger::{Account, Pool};
 use std::alloc::Global;
 
+/// How many pages the pool of a test has: enough for 17 spools of [`QUOTA`] pages.
+pub const PAGES: u32 = 68;
+
+/// How many pages a spool has, where nothing else is said.
+pub const QUOTA: u32 = 4;
+
+/// The pool of a test.
+pub fn new_pool(alloc: Global) -> Result<Pool, Fault> {
+    Pool::new(alloc, 1, PAGES)
+}
+
 /// A plain spool of that many pages of the pool.
 pub fn plain_spool(alloc: Global, pool: &mut Pool, quota: u32) -> Result<PlainSpool, Fault>
     ensures made { IfOk result (λ spool. spool ≡ new_spool (new_account pool.old.number quota)) }

@@ -1,7 +1,7 @@
 //! Builds over several ranges of four pages.
 
 use crate::asks::Ask;
-use crate::builds::{Call, differing};
+use crate::calls::{Call, differing};
 use keybytes::Fault;
 
 /// A transaction inserts seven rows, two a page.

@@ -1,7 +1,7 @@
 //! Builds by several workers, over the four pages of [`FOUR_PAGES`].
 
 use crate::asks::Ask;
-use crate::builds::{Call, differing};
+use crate::calls::{Call, differing};
 use crate::ranges::FOUR_PAGES;
 use keybytes::Fault;
 
