@@ -1,6 +1,7 @@
 -- What stands in a place of a list.
 use Rattle.std.proofs.Common.{◌≡◌, ℕ, zero, suc, ◌<◌, ◌⊎◌, List, [], ◌∷◌, length, map, set, get_or, Option, Some, None, refl, sym, ap, ◌∙◌, subst, inl, inr}
 use Rattle.std.proofs.Common.{arith}
+use Rattle.std.specs.Prelude.{replicate}
 use Rattle.std.specs.List.{All, slice_get}
 use Rattle.std.specs.Option.{option_map}
 use Rattle.std.proofs.Math.Seq.{map-set_same}
@@ -20,6 +21,25 @@ at_set (z ∷ zs) (suc i) y (suc k) x at = elim (at_set zs i y k x at) [
   | inl it ↦ inl (ap suc it.0, it.1)
   | inr it ↦ inr (λ same. it.0 (omega (arith, same)), it.1)
 ]
+
+-- what was written in that place, and what stands in another
+pub set_there : {X : Type 0} (xs : List X) (i : ℕ) (y : X) (k : ℕ) (x : X) → slice_get (set xs i y) k ≡ Some x → k ≡ i → x ≡ y
+set_there xs i y k x at same = elim (at_set xs i y k x at) [
+  | inl it ↦ it.1
+  | inr it ↦ absurd (it.0 same)
+]
+
+pub set_elsewhere : {X : Type 0} (xs : List X) (i : ℕ) (y : X) (k : ℕ) (x : X) → slice_get (set xs i y) k ≡ Some x → (k ≡ i → ⊥) → slice_get xs k ≡ Some x
+set_elsewhere xs i y k x at other = elim (at_set xs i y k x at) [
+  | inl it ↦ absurd (other it.0)
+  | inr it ↦ it.1
+]
+
+-- what is the same in all places
+pub replicate_at : {X : Type 0} (n : ℕ) (y : X) (k : ℕ) (x : X) → slice_get (replicate n y) k ≡ Some x → x ≡ y
+replicate_at zero y k x at = absurd (cc)
+replicate_at (suc n) y zero x at = sym (same_Some y x at)
+replicate_at (suc n) y (suc k) x at = replicate_at n y k x at
 
 -- what holds of all holds in each place
 pub all_at : {X : Type 0} (P : X → Type 0) (xs : List X) (k : ℕ) (x : X) → All P xs → slice_get xs k ≡ Some x → P x

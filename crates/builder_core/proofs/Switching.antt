@@ -22,7 +22,7 @@ use Rattle.builder_core.specs.declared.reply.Reply.{Reply}
 use Rattle.builder_core.specs.declared.reply.Reply.TheVariants.{Switched, Refused}
 use Rattle.builder_core.specs.CoreState.{CoreState, LiveState, BuildState, ReadyValue}
 use Rattle.builder_core.specs.Headline.{HasPairsAtRest, EachSwitchIsAtRest}
-use Rattle.builder_core.specs.Steps.{Step, Run, Does, AfterMemory, OnBuild, ready_from, index_now, after_switch_in, verdicts_on}
+use Rattle.builder_core.specs.Steps.{Step, Run, Does, IsWant, AfterWant, OnBuild, ready_from, index_now, after_switch_in, verdicts_on}
 
 -- the second log is the first, and more
 abbrev pub GoesOn : List LogRec → List LogRec → Type 0
@@ -66,26 +66,26 @@ done_goes_on s Switch reply new does =
     let on = on_build s.live.build _ does.2 in same_log s new _ (ap (λ (t : CoreState). t.live.heap) on.1.2) (_, refl)
 done_goes_on s Abandon reply new does = keeps_log s new _ does.1 refl
 
-memory_keeps : (s : CoreState) (event : Event) (new : CoreState) → AfterMemory event s new → new.live.heap.log ≡ s.live.heap.log
-memory_keeps s Begin new is = ap (λ (t : CoreState). t.live.heap.log) is
-memory_keeps s (Insert txn row) new is = ap (λ (t : CoreState). t.live.heap.log) is
-memory_keeps s (Update txn rid row) new is = ap (λ (t : CoreState). t.live.heap.log) is
-memory_keeps s (Delete txn rid) new is = ap (λ (t : CoreState). t.live.heap.log) is
-memory_keeps s (Undo txn) new is = ap (λ (t : CoreState). t.live.heap.log) is
-memory_keeps s (Commit txn) new is = ap (λ (t : CoreState). t.live.heap.log) is
-memory_keeps s (Start plan) new is = ap (λ (t : CoreState). t.live.heap.log) is
-memory_keeps s (Scan range worker) new is = ap (λ (t : CoreState). t.live.heap.log) is
-memory_keeps s (Digest worker) new is = ap (λ (t : CoreState). t.live.heap.log) is.1
-memory_keeps s (Seal worker) new is = ap (λ (t : CoreState). t.live.heap.log) is
-memory_keeps s (Load index) new is = ap (λ (t : CoreState). t.live.heap.log) is.1
-memory_keeps s Switch new is = ap (λ (t : CoreState). t.live.heap.log) is
-memory_keeps s Abandon new never = absurd never
+want_keeps : (s : CoreState) (event : Event) (fault : Fault) (new : CoreState) → AfterWant event fault s new → new.live.heap.log ≡ s.live.heap.log
+want_keeps s Begin fault new is = ap (λ (t : CoreState). t.live.heap.log) is
+want_keeps s (Insert txn row) fault new is = ap (λ (t : CoreState). t.live.heap.log) is
+want_keeps s (Update txn rid row) fault new is = ap (λ (t : CoreState). t.live.heap.log) is
+want_keeps s (Delete txn rid) fault new is = ap (λ (t : CoreState). t.live.heap.log) is
+want_keeps s (Undo txn) fault new is = ap (λ (t : CoreState). t.live.heap.log) is
+want_keeps s (Commit txn) fault new is = ap (λ (t : CoreState). t.live.heap.log) is
+want_keeps s (Start plan) fault new is = ap (λ (t : CoreState). t.live.heap.log) is
+want_keeps s (Scan range worker) fault new is = ap (λ (t : CoreState). t.live.heap.log) is
+want_keeps s (Digest worker) fault new is = ap (λ (t : CoreState). t.live.heap.log) is.1
+want_keeps s (Seal worker) fault new is = ap (λ (t : CoreState). t.live.heap.log) is
+want_keeps s (Load index) fault new is = ap (λ (t : CoreState). t.live.heap.log) is.1
+want_keeps s Switch fault new is = ap (λ (t : CoreState). t.live.heap.log) is
+want_keeps s Abandon fault new never = absurd never
 
 -- a step adds to the log alone
 step_goes_on : (s : CoreState) (event : Event) (reply : Reply) (new : CoreState) → Step s event reply new → GoesOn s.live.heap.log new.live.heap.log
 step_goes_on s event reply new (inl refused) = elim refused.2 [
   | inl cause ↦ goes_same s.live.heap.log new.live.heap.log (ap (λ (t : CoreState). t.live.heap.log) cause.1)
-  | inr wants ↦ goes_same s.live.heap.log new.live.heap.log (memory_keeps s event new wants.2)
+  | inr wants ↦ goes_same s.live.heap.log new.live.heap.log (want_keeps s event refused.0 new wants.2)
 ]
 step_goes_on s event reply new (inr done) = done_goes_on s event reply new done.1
 
