@@ -91,8 +91,9 @@ impl<S: Spool, T: Table> Building<S, T> {
             workers,
             side_end,
             mut spools,
+            given: _,
+            work: _,
             of,
-            ..
         } = self;
         end_all(spools.as_mut_slice());
         let ends = Ends {
