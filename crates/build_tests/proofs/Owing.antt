@@ -14,8 +14,13 @@ pub whole_free : (accounts : List AccountValue) → All IsWhole accounts → sum
 whole_free [] whole = refl
 whole_free (account ∷ accounts) whole =
     let first : IsWhole account = All-head IsWhole account accounts whole in
-    omega (arith, sum_by-cons free_of account accounts, sum_by-cons quota_of account accounts, first,
-    whole_free accounts (All-tail IsWhole account accounts whole))
+    omega (
+      arith,
+      sum_by-cons free_of account accounts,
+      sum_by-cons quota_of account accounts,
+      first,
+      whole_free accounts (All-tail IsWhole account accounts whole),
+    )
 
 -- the quotas of accounts are those of their stakes
 pub quotas_of : (accounts : List AccountValue) → sum_by quota_of accounts ≡ sum_by pages_in (map stake_of accounts)
@@ -57,9 +62,9 @@ owed_more pool new quota stakes is owed =
     let stake : Stake = record { pool = pool.number; quota = quota } in
     let now : stakes_in (stakes ++ Some stake ∷ []) ≡ stakes_in stakes ++ stake ∷ [] = filter_map-append (λ (s : Option Stake). s) stakes (Some stake ∷ []) in
     let own : All (λ (s : Stake). s.pool ≡ pool.number) (stakes_in stakes ++ stake ∷ []) =
-        All-push (λ (s : Stake). s.pool ≡ pool.number) (stakes_in stakes) stake owed.own refl in
+    All-push (λ (s : Stake). s.pool ≡ pool.number) (stakes_in stakes) stake owed.own refl in
     let sums : pages_owed (stakes ++ Some stake ∷ []) ≡ pages_owed stakes + quota =
-        ap (λ (l : List Stake). sum_by pages_in l) now ∙ sum_by_push pages_in (stakes_in stakes) stake in
+    ap (λ (l : List Stake). sum_by pages_in l) now ∙ sum_by_push pages_in (stakes_in stakes) stake in
     let later : IsOwed (with_out pool quota) (stakes ++ Some stake ∷ []) = record {
       own = subst (λ (l : List Stake). All (λ s. s.pool ≡ pool.number) l) (sym now) own;
       out = omega (arith, sums, owed.out);

@@ -36,13 +36,13 @@ pub const BUILD: [Call; 14] = [
 
 #[test]
 fn a_build_from_its_start_to_its_switch(rt: HostRuntime) {
-    assert_eq!(rt; differing(rt.alloc(), &ROWS, &BUILD), Ok(None));
+    assert_eq!(rt; differing(rt.alloc(), &[&ROWS, &BUILD]), Ok(None));
 }
 
 /// `rt try --test --fail-alloc N` for each N shows that no allocation that fails gives a wrong answer.
 #[test]
 fn a_build_where_memory_may_run_out(rt: HostRuntime) {
-    let other = differing(rt.alloc(), &ROWS, &BUILD);
+    let other = differing(rt.alloc(), &[&ROWS, &BUILD]);
     assert!(rt; other == Ok(None) || other == Err(Fault::Memory));
 }
 
@@ -83,19 +83,19 @@ const IN_USE: [Call; 15] = [
 
 #[test]
 fn a_build_while_a_transaction_writes(rt: HostRuntime) {
-    assert_eq!(rt; differing(rt.alloc(), &ROWS, &IN_USE), Ok(None));
+    assert_eq!(rt; differing(rt.alloc(), &[&ROWS, &IN_USE]), Ok(None));
 }
 
 /// A step that was refused for want of memory is taken once more, and the pairs are the same.
 #[test]
 fn writes_while_memory_may_run_out(rt: HostRuntime) {
-    let other = differing(rt.alloc(), &ROWS, &IN_USE);
+    let other = differing(rt.alloc(), &[&ROWS, &IN_USE]);
     assert!(rt; other == Ok(None) || other == Err(Fault::Memory));
 }
 
 #[test]
 fn what_a_build_refuses(rt: HostRuntime) {
-    assert_eq!(rt; differing(rt.alloc(), &ROWS, &REFUSED), Ok(None));
+    assert_eq!(rt; differing(rt.alloc(), &[&ROWS, &REFUSED]), Ok(None));
 }
 
 const READS: [Call; 3] = [
@@ -106,7 +106,7 @@ const READS: [Call; 3] = [
 
 #[test]
 fn reads_of_a_table(rt: HostRuntime) {
-    assert_eq!(rt; differing(rt.alloc(), &ROWS, &READS), Ok(None));
+    assert_eq!(rt; differing(rt.alloc(), &[&ROWS, &READS]), Ok(None));
 }
 
 pub const TRANSACTIONS: [Call; 7] = [
@@ -121,7 +121,7 @@ pub const TRANSACTIONS: [Call; 7] = [
 
 #[test]
 fn transactions_that_are_not_open(rt: HostRuntime) {
-    assert_eq!(rt; differing(rt.alloc(), &[], &TRANSACTIONS), Ok(None));
+    assert_eq!(rt; differing(rt.alloc(), &[&TRANSACTIONS]), Ok(None));
 }
 
 /// A transaction inserts a row, changes it twice, and is undone.
@@ -140,7 +140,7 @@ pub const UNDONE: [Call; 9] = [
 /// An undo that was refused for want of memory is taken up again.
 #[test]
 fn an_undo_where_memory_may_run_out(rt: HostRuntime) {
-    let other = differing(rt.alloc(), &[], &UNDONE);
+    let other = differing(rt.alloc(), &[&UNDONE]);
     assert!(rt; other == Ok(None) || other == Err(Fault::Memory));
 }
 
@@ -159,5 +159,5 @@ pub const WRITES: [Call; 9] = [
 
 #[test]
 fn two_transactions_on_one_row(rt: HostRuntime) {
-    assert_eq!(rt; differing(rt.alloc(), &[], &WRITES), Ok(None));
+    assert_eq!(rt; differing(rt.alloc(), &[&WRITES]), Ok(None));
 }

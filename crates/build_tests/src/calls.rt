@@ -26,6 +26,8 @@ pub enum Call {
     Begins(usize),
     /// A transaction inserts so many rows.
     Rows(i64),
+    /// So many pages of the first range are copied, each taken by worker 0 before the next.
+    Pages(usize),
     Get(Rid, Result<Option<i64>, Fault>),
     Rest(Result<bool, Fault>),
     Ready(Result<bool, Fault>),
@@ -50,10 +52,7 @@ fn are_ready<S: Spool, T: Table>(stand: &Stand<S, T>) -> Result<bool, Fault> {
     Ok(are_entries(index.pairs()) && index.spec().columns() == &[0][..])
 }
 
-fn number_at<S: Spool, T: Table>(
-    stand: &mut Stand<S, T>,
-    rid: Rid,
-) -> Result<Option<i64>, Fault> {
+fn number_at<S: Spool, T: Table>(stand: &mut Stand<S, T>, rid: Rid) -> Result<Option<i64>, Fault> {
     match stand.get(rid)?.cells() {
         [Cell::Int(number)] => Ok(Some(*number)),
         _ => Ok(None),
@@ -83,6 +82,21 @@ fn inserts<S: Spool, T: Table>(
         answer(stand, alloc, Ask::Insert(txn as u64, number))?;
     }
     answer(stand, alloc, Ask::Commit(txn as u64))?;
+    Ok(true)
+}
+
+fn copies<S: Spool, T: Table>(
+    stand: &mut Stand<S, T>,
+    alloc: Global,
+    count: usize,
+) -> Result<bool, Fault> {
+    for page in 0..count {
+        let copied = answer(stand, alloc, Ask::Scan)?;
+        let taken = answer(stand, alloc, Ask::Digest(0))?;
+        if copied != (page, 0) || taken != (1, 0) {
+            return Ok(false);
+        }
+    }
     Ok(true)
 }
 
@@ -125,6 +139,7 @@ fn is_answered<S: Spool, T: Table, K: Kind<S>>(
         Call::Left(ask, answer) => is_unless_wanting(answer_again(stand, alloc, *ask), answer),
         Call::Begins(count) => begins(stand, alloc, *count),
         Call::Rows(count) => inserts(stand, alloc, *count),
+        Call::Pages(count) => copies(stand, alloc, *count),
         Call::Get(rid, answer) => Ok(number_at(stand, *rid) == *answer),
         Call::Rest(answer) => {
             let told = stand.rest(&spec(alloc)?);
@@ -197,18 +212,11 @@ fn differing_on<S: Spool, T: Table, K: Kind<S>>(
 }
 
 /// The first other answer where each start gets new spools.
-pub fn differing(alloc: Global, before: &[Call], calls: &[Call]) -> Result<Option<usize>, Fault> {
+pub fn differing(alloc: Global, lists: &[&[Call]]) -> Result<Option<usize>, Fault> {
     let parts = table(alloc, 2)?;
     let spools: Vec<PlainSpool> = Vec::new(alloc);
     let pool = new_pool(alloc)?;
-    differing_on::<PlainSpool, Brand, Quota>(
-        alloc,
-        parts,
-        pool,
-        spools,
-        &Quota(QUOTA),
-        &[before, calls],
-    )
+    differing_on::<PlainSpool, Brand, Quota>(alloc, parts, pool, spools, &Quota(QUOTA), lists)
 }
 
 /// The first other answer where no start gets other spools than these.
@@ -217,10 +225,10 @@ pub fn differing_beside<S: Spool>(
     slots: u8,
     pool: Pool,
     spools: Vec<S>,
-    calls: &[&[Call]],
+    lists: &[&[Call]],
 ) -> Result<Option<usize>, Fault>
     requires { IsOwed pool (map S.stake spools.items) }
 {
     let parts = table(alloc, slots)?;
-    differing_on::<S, Brand, Kept>(alloc, parts, pool, spools, &Kept, calls)
+    differing_on::<S, Brand, Kept>(alloc, parts, pool, spools, &Kept, lists)
 }

@@ -14,6 +14,8 @@ mod kept;
 #[cfg(test)]
 mod kind;
 #[cfg(test)]
+mod kinds;
+#[cfg(test)]
 mod list_run;
 #[cfg(test)]
 mod list_spool;
@@ -25,6 +27,10 @@ mod pools;
 mod quota;
 #[cfg(test)]
 mod ranges;
+#[cfg(test)]
+mod returned;
+#[cfg(test)]
+mod spools;
 #[cfg(test)]
 mod stand;
 #[cfg(test)]

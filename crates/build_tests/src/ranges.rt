@@ -102,7 +102,7 @@ fn in_either_order(rt: HostRuntime) {
         &BAD_RANGES,
     ];
     for calls in cases {
-        assert_eq!(rt; differing(rt.alloc(), &FOUR_PAGES, calls), Ok(None));
+        assert_eq!(rt; differing(rt.alloc(), &[&FOUR_PAGES, calls]), Ok(None));
     }
 }
 
@@ -111,7 +111,7 @@ fn in_either_order(rt: HostRuntime) {
 fn where_memory_may_run_out(rt: HostRuntime) {
     let cases: [&[Call]; 2] = [&LAST_RANGE_FIRST, &EVEN_RANGES];
     for calls in cases {
-        let other = differing(rt.alloc(), &FOUR_PAGES, calls);
+        let other = differing(rt.alloc(), &[&FOUR_PAGES, calls]);
         assert!(rt; other == Ok(None) || other == Err(Fault::Memory));
     }
 }

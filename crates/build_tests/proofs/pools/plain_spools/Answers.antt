@@ -13,8 +13,8 @@ loop-preserved c =
     let spool : SpoolValue = c.in_ok-plain_spool.field-0 in
     let pushed : c.push_reserved.new.self.items ≡ before ++ spool ∷ [] = c.push_reserved.ensures.items in
     let now : map stake c.push_reserved.new.self.items ≡ map stake before ++ Some (record { pool = c.loop.pool.number; quota = c.args.quota }) ∷ [] =
-        ap (map stake) pushed ∙ (map-append stake before (spool ∷ [])
-        ∙ ap (λ (s : SpoolValue). map stake before ++ stake s ∷ []) c.in_ok-plain_spool.ensures.made) in
+    ap (map stake) pushed ∙ (map-append stake before (spool ∷ [])
+    ∙ ap (λ (s : SpoolValue). map stake before ++ stake s ∷ []) c.in_ok-plain_spool.ensures.made) in
     let more = owed_more c.loop.pool c.plain_spool.new.pool c.args.quota (map stake before) c.in_ok-plain_spool.ensures.out c.loop.invariant.owed in
     record {
       owed = subst (IsOwed c.plain_spool.new.pool) (sym now) more;
