@@ -1,1 +1,2 @@
 mod Owing
+pub mod Stakes

@@ -1,4 +1,4 @@
-use Rattle.build_tests.proofs.builds.are_same.Given as goal
+use Rattle.build_tests.proofs.lists.are_same.Given as goal
 
 -- the table is named by its own rings
 abbrev pub ghosts-are_answered_on : goal.ghosts-are_answered_on

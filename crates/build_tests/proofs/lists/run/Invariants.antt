@@ -1,4 +1,4 @@
-use Rattle.build_tests.proofs.builds.run.Given as goal
+use Rattle.build_tests.proofs.lists.run.Given as goal
 
 -- the table is named by its own rings
 abbrev pub ghosts-run_on : goal.ghosts-run_on

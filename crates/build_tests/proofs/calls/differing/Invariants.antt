@@ -1,4 +1,4 @@
-use Rattle.build_tests.proofs.builds.differing.Given as goal
+use Rattle.build_tests.proofs.calls.differing.Given as goal
 
 -- the table is named by its own rings
 abbrev pub ghosts-differing_on : goal.ghosts-differing_on
