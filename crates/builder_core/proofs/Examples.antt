@@ -131,6 +131,7 @@ while_built pages scans taken loaded = record {
     build = Some (the_build pages (pages ∷ []) 1 scans);
   };
   work = work_of (worker_with taken taken ∷ []) loaded;
+  spools = record { stakes = None ∷ []; left = [] };
 }
 
 abbrev both_pages : List Copied
@@ -173,8 +174,34 @@ switched new reply does = does.1 ∙ ap (λ number. Switched number does.0.1) do
 abbrev spoiled_build : CoreState
 spoiled_build = record before_a_scan { work = spoiled_work Memory }
 
-spoils : AfterMemory (Seal 0) before_a_scan spoiled_build
+spoils : AfterWant (Seal 0) Memory before_a_scan spoiled_build
 spoils = refl
+
+-- and so does one that wants a page
+spoils_without_page : IsRefused before_a_scan (Seal 0) NoPage (record before_a_scan { work = spoiled_work NoPage })
+spoils_without_page = inr (refl, inl refl, refl)
+
+page_stays_wanted : refusal (record before_a_scan { work = spoiled_work NoPage }) (Load 0) ≡ Some NoPage
+page_stays_wanted = refl
+
+-- a plan of one worker starts a build beside one empty spool
+abbrev one_worker : Plan
+one_worker = record { specs = record { items = on_number ∷ []; capacity = 1 }; workers = 1; dealing = Even 1; tries = 1; keep_pairs = false }
+
+abbrev beside : List Bool → CoreState
+beside left = record (with_no_build before_a_scan) { spools = record { stakes = map (λ empty. None) left; left = left } }
+
+one_empty_spool : refusal (beside (true ∷ [])) (Start one_worker) ≡ None
+one_empty_spool = refl
+
+a_spool_with_pairs : refusal (beside (false ∷ [])) (Start one_worker) ≡ Some SpoolNotEmpty
+a_spool_with_pairs = refl
+
+no_spool_left : refusal (beside []) (Start one_worker) ≡ Some BadCount
+no_spool_left = refl
+
+a_spool_too_many : refusal (beside (true ∷ true ∷ [])) (Start one_worker) ≡ Some BadCount
+a_spool_too_many = refl
 
 spoiled_scan : refusal spoiled_build (Scan 0 0) ≡ Some Memory
 spoiled_scan = refl

@@ -1,11 +1,12 @@
 -- The makers and spools of a build's workers, as their rings are looked at and as they take what was put.
 use Rattle.std.proofs.Common.{◌≡◌, ℕ, zero, suc, ◌+◌, ◌<◌, ◌&&◌, Bool, true, List, [], ◌∷◌, All, map, set, replicate, length, get_or, Some, refl, sym}
-use Rattle.std.proofs.Common.{ap, ◌∙◌, subst, inl, inr, arith}
+use Rattle.std.proofs.Common.{ap, ap₂, ◌∙◌, subst, inl, inr, arith}
 use Rattle.std.specs.Prelude.{◌==◌, None}
 use Rattle.std.specs.List.{slice_get, list_all}
 use Rattle.std.proofs.lemmas.Bool.{and_parts, eqb-true}
-use Rattle.std.proofs.lemmas.List.{length-set, length-replicate, get_or_default, nil_from_length}
-use Rattle.std.proofs.lemmas.List.Elements.{All-nil, All-cons}
+use Rattle.std.proofs.lemmas.List.{length-map, length-set, length-replicate, get_or_default, nil_from_length}
+use Rattle.std.proofs.lemmas.Option.{same_Some}
+use Rattle.std.proofs.lemmas.List.Elements.{All-nil, All-cons, All-head, All-tail}
 use Rattle.keybytes.specs.Keys.{KeySpecValue}
 use Rattle.keybytes.specs.declared.kind.Kind.{Kind}
 use Rattle.keybytes.specs.declared.pair.Pair.{Pair}
@@ -19,7 +20,9 @@ use Rattle.building.specs.WorkerValue.{WorkerValue}
 use Rattle.building.specs.declared.copied.Copied.{Copied}
 use Rattle.building.proofs.Taking.{start_holds, start_open}
 use Rattle.builder_core.specs.Builds.{WorkValue, HaveKits, fresh}
-use Rattle.builder_core.specs.Holding.{SpoolValue, Kit, IsFit, AreEquipped, AreHolding, AreOpen, begun_of, fresh_maker, ended_spool}
+use Rattle.builder_core.specs.Holding.{SpoolValue, Kit, IsFit, AreEquipped, AreHolding, AreOpen, begun_of, fresh_maker, ended_spool, spool_value}
+use Rattle.spool_ledger.specs.Accounts.{Stake}
+use Rattle.std.specs.Prelude.{Option}
 use Rattle.builder_core.specs.Rings.{all_sent, begun_on, AreOfBuilds}
 use Rattle.builder_core.proofs.AtWork.{of_earlier}
 use Rattle.builder_core.proofs.Places.{at_set, set_there, set_elsewhere, same_at, at_map, replicate_at}
@@ -117,19 +120,15 @@ pub each_empty :
     (spools : List SpoolValue) → list_all (λ is_empty. is_empty) (map (λ (s : SpoolValue). holds_nothing s.runs s.open_run) spools) ≡ true
     → (k : ℕ) (spool : SpoolValue) → slice_get spools k ≡ Some spool → (spool.runs ≡ []) × (spool.open_run ≡ [])
 each_empty [] all k spool at = absurd (cc)
-each_empty (s ∷ ss) all k spool at =
-    let rest : Bool = list_all (λ is_empty. is_empty) (map (λ (s : SpoolValue). holds_nothing s.runs s.open_run) ss) in
-    let both = and_parts (holds_nothing s.runs s.open_run) rest all in
-    by_place k at both.0 both.1 where
-      by_place :
-          (n : ℕ) → slice_get (s ∷ ss) n ≡ Some spool → holds_nothing s.runs s.open_run ≡ true
-          → list_all (λ is_empty. is_empty) (map (λ (s : SpoolValue). holds_nothing s.runs s.open_run) ss) ≡ true → (spool.runs ≡ []) × (spool.open_run ≡ [])
-      by_place zero here first others =
-          let parts = and_parts (length s.runs == 0) (length s.open_run == 0) first in
-          let same : s ≡ spool = cc in
-          subst (λ (v : SpoolValue). (v.runs ≡ []) × (v.open_run ≡ [])) same
-          (nil_from_length s.runs (eqb-true (length s.runs) 0 parts.0), nil_from_length s.open_run (eqb-true (length s.open_run) 0 parts.1))
-      by_place (suc n) there first others = each_empty ss others n spool there
+each_empty (s ∷ ss) all zero spool at =
+    let both = and_parts (holds_nothing s.runs s.open_run) (list_all (λ is_empty. is_empty) (map (λ (s : SpoolValue). holds_nothing s.runs s.open_run) ss)) all in
+    let parts = and_parts (length s.runs == 0) (length s.open_run == 0) both.0 in
+    let same : s ≡ spool = same_Some s spool at in
+    subst (λ (v : SpoolValue). (v.runs ≡ []) × (v.open_run ≡ [])) same
+    (nil_from_length s.runs (eqb-true (length s.runs) 0 parts.0), nil_from_length s.open_run (eqb-true (length s.open_run) 0 parts.1))
+each_empty (s ∷ ss) all (suc k) spool at =
+    let both = and_parts (holds_nothing s.runs s.open_run) (list_all (λ is_empty. is_empty) (map (λ (s : SpoolValue). holds_nothing s.runs s.open_run) ss)) all in
+    each_empty ss both.1 k spool at
 
 -- a fresh maker with an empty spool is fit
 fresh_fit :
@@ -178,7 +177,7 @@ pub kits_sorted :
 kits_sorted count workers spools w sorted kits same_spec same_makers some = record {
   equipped = rw (same_spec, same_makers) (record {
     makers_many = kits.equipped.makers_many;
-    spools_many = cc;
+    spools_many = length-map spools ended_spool ∙ kits.equipped.spools_many;
     fit = λ k maker spool made lent.
         let it = at_map ended_spool spools k spool lent in
         let was = kits.equipped.fit k maker it.0 made it.1 in
@@ -197,3 +196,19 @@ kits_sorted count workers spools w sorted kits same_spec same_makers some = reco
   opened = rw (same_spec, same_makers) kits.opened;
   holding = λ none. absurd (some none);
 }
+
+-- spools of any kind that were ended
+pub ended_values :
+    {S : Type 0} (runs : S → List (List Pair)) (open_run : S → List Pair) (stake : S → Option Stake) (old new : List S) → All (λ s. runs s ≡ []) new
+    → All (λ s. open_run s ≡ []) new → map stake new ≡ map stake old
+    → map (spool_value runs open_run stake) new ≡ map ended_spool (map (spool_value runs open_run stake) old)
+ended_values runs open_run stake [] [] none shut same = refl
+ended_values runs open_run stake [] (t ∷ ts) none shut same = absurd (cc)
+ended_values runs open_run stake (s ∷ ss) [] none shut same = absurd (cc)
+ended_values runs open_run stake (s ∷ ss) (t ∷ ts) none shut same =
+    let first : stake t ≡ stake s = cc in
+    let rest : map stake ts ≡ map stake ss = cc in
+    let here : spool_value runs open_run stake t ≡ ended_spool (spool_value runs open_run stake s) =
+    rw (All-head (λ s. runs s ≡ []) t ts none, All-head (λ s. open_run s ≡ []) t ts shut, first) refl in
+    ap₂ ◌∷◌ here
+    (ended_values runs open_run stake ss ts (All-tail (λ s. runs s ≡ []) t ts none) (All-tail (λ s. open_run s ≡ []) t ts shut) rest)

@@ -15,9 +15,9 @@ use Rattle.building.specs.declared.copied.Copied.{Copied}
 use Rattle.builder_core.specs.Builds.{LiveValue, BuildingValue, WorkValue, IsRunning, WorksOn, work_state, core_state, index_state, after_sort}
 use Rattle.builder_core.specs.CoreState.{BuildState, IndexState, WorkState, SpoolsState, scanning_of}
 use Rattle.builder_core.specs.Holding.{SpoolValue, begun_of, ended_spool, spools_state}
-use Rattle.run_spool.specs.Spools.{all_pairs}
+use Rattle.run_spool.specs.Spools.{AreSorted, all_pairs}
 use Rattle.run_merge.specs.Merging.{all_runs}
-use Rattle.std.specs.Prelude.{map}
+use Rattle.std.specs.Prelude.{All, map}
 use Rattle.std.proofs.lemmas.List.Concat.{flat_map-append}
 use Rattle.builder_core.specs.Ranges.{open_range}
 use Rattle.builder_core.specs.Rings.{all_sent, ArePut, AreDone, PagesFollow}
@@ -28,7 +28,7 @@ use Rattle.builder_core.specs.Working.{HasLoaded, HasSorted, IsSpoiled}
 use Rattle.builder_core.specs.declared.scan.Scan.{Scan}
 use Rattle.builder_core.proofs.Kits.{begun_none, kits_sorted}
 use Rattle.builder_core.proofs.Partition.{parts_together}
-use Rattle.builder_core.proofs.Places.{there_is, map_at, mapped}
+use Rattle.builder_core.proofs.Places.{there_is, map_at, at_map, mapped, all_from, below}
 use Rattle.builder_core.proofs.Refusals.{state_of, state_is, works_with}
 use Rattle.builder_core.proofs.Takes.{spoiled_works, put_of}
 use Rattle.builder_core.proofs.Waits.{waits, held_pairs}
@@ -38,6 +38,18 @@ use Rattle.builder_core.proofs.Works.{sorted_work_on}
 loaded_index : (tree : Option (List Pair)) → is_some tree ≡ true → index_state tree ≡ record { loaded = true; applied = 0 }
 loaded_index None some = absurd (false≢true some)
 loaded_index (Some pairs) some = refl
+
+-- the runs of each spool of a build are in order
+pub runs_sorted :
+    (live : LiveValue) (building : BuildingValue) (b : BuildState) (w : WorkValue) → IsRunning live building b w → w.spoiled ≡ None
+    → All AreSorted (map (λ (s : SpoolValue). s.runs) building.spools)
+runs_sorted live building b w run fine =
+    let equipped = (run.at_work.kits fine).equipped in
+    all_from AreSorted (map (λ (s : SpoolValue). s.runs) building.spools) (λ k runs at.
+    let spool = at_map (λ (s : SpoolValue). s.runs) building.spools k runs at in
+    let less : k < length building.spools = below building.spools k spool.0 spool.1 in
+    let maker = there_is w.makers k (omega (arith, less, equipped.makers_many, equipped.spools_many)) in
+    subst AreSorted spool.2 (equipped.fit k maker.0 spool.0 maker.1 spool.1).sorted)
 
 -- the pairs of all runs of spools, spool by spool
 pairs_by_spool :

@@ -8,10 +8,10 @@ use Rattle.building.specs.TakeEnd.{TakeEnd}
 use Rattle.building.specs.Work.{knowing}
 use Rattle.building.specs.WorkerValue.{WorkerValue}
 use Rattle.builder_core.specs.Builds.{BuildingValue, WorkValue}
-use Rattle.builder_core.specs.Holding.{SpoolValue, spools_state}
+use Rattle.builder_core.specs.Holding.{SpoolValue, ended_spool, spools_state}
 use Rattle.builder_core.specs.Rings.{AreTakeEnds, take_rings}
 use Rattle.builder_core.proofs.Looks.{takes_looked}
-use Rattle.builder_core.proofs.Places.{kept, as_long}
+use Rattle.builder_core.proofs.Places.{kept, as_long, mapped}
 
 -- workers that take from the same rings
 pub ends_same :
@@ -40,4 +40,12 @@ same_stakes building given k old new at same =
     let there : old ≡ get_or building.spools k old = sym (get_or_from_slice_get building.spools k old old at) in
     let stakes = kept (λ (s : SpoolValue). s.stake) building.spools (map (λ (s : SpoolValue). s.stake) building.spools) k new old refl
     (same ∙ ap (λ (s : SpoolValue). s.stake) there) in
+    rw given (ap (λ all. record { stakes = all; left = [] }) stakes)
+
+-- spools that are ended, where a build was given them
+pub ended_stakes :
+    (building : BuildingValue) (ended : List SpoolValue) → building.given ≡ true → ended ≡ map ended_spool building.spools
+    → spools_state building.given ended ≡ spools_state building.given building.spools
+ended_stakes building ended given is =
+    let stakes = ap (map (λ (s : SpoolValue). s.stake)) is ∙ mapped ended_spool (λ (s : SpoolValue). s.stake) building.spools in
     rw given (ap (λ all. record { stakes = all; left = [] }) stakes)

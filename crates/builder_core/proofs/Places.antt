@@ -6,7 +6,7 @@ use Rattle.std.specs.List.{All, slice_get}
 use Rattle.std.specs.Option.{option_map}
 use Rattle.std.proofs.Math.Seq.{map-set_same}
 use Rattle.std.proofs.lemmas.List.{get_or-map, get_or-set_same, length-map, length-set}
-use Rattle.std.proofs.lemmas.List.Elements.{All-head, All-tail}
+use Rattle.std.proofs.lemmas.List.Elements.{All-head, All-tail, All-nil, All-cons}
 use Rattle.std.proofs.lemmas.Option.{same_Some, slice_get-map, slice_get-get_or}
 
 -- where one place was written, each has what was written, or what it had
@@ -93,3 +93,14 @@ pub there_is : {X : Type 0} (xs : List X) (i : ℕ) → i < length xs → (x : X
 there_is [] i less = absurd (omega (arith, less))
 there_is (x ∷ xs) zero less = (x, refl)
 there_is (x ∷ xs) (suc i) less = there_is xs i (omega (arith, less))
+
+-- and what has something is a place of it
+pub below : {X : Type 0} (xs : List X) (i : ℕ) (x : X) → slice_get xs i ≡ Some x → i < length xs
+below [] i x at = absurd (cc)
+below (y ∷ ys) zero x at = omega arith
+below (y ∷ ys) (suc i) x at = let less = below ys i x at in omega (arith, less)
+
+-- what holds in each place holds of all
+pub all_from : {X : Type 0} (P : X → Type 0) (xs : List X) → ((k : ℕ) (x : X) → slice_get xs k ≡ Some x → P x) → All P xs
+all_from P [] each = All-nil P
+all_from P (x ∷ xs) each = All-cons P x xs (each 0 x refl) (all_from P xs (λ k y at. each (suc k) y at))

@@ -1,7 +1,7 @@
 -- A worker of a running build takes copies.
-use Rattle.std.proofs.Common.{◌≡◌, ℕ, ◌<◌, List, [], ◌++◌, map, take, set, Option, Some, None, refl, sym, ap, ◌∙◌}
+use Rattle.std.proofs.Common.{◌≡◌, ℕ, ◌<◌, List, [], ◌∷◌, ◌++◌, map, take, set, Option, Some, None, refl, sym, ap, ◌∙◌}
 use Rattle.std.proofs.Common.{subst, arith}
-use Rattle.std.specs.Prelude.{flat_map, IsPermutation}
+use Rattle.std.specs.Prelude.{flat_map, IsPermutation, Result, Ok, Err, IfErr}
 use Rattle.std.specs.List.{slice_get}
 use Rattle.std.proofs.lemmas.List.{map-set}
 use Rattle.std.proofs.Math.Seq.{take-set-lt}
@@ -154,7 +154,7 @@ module _
         subst (λ (ps : List Pair). IsPermutation ((all_pairs kit.spool.runs ++ old_begun) ++ next.0) (all_pairs after.spool.runs ++ ps)) sealed.1 more in
         goes_on (after_seal (after_digest n it)) (sealed_taking b.number sent (after_digest n it) taken)
         (subst (HoldsOpen w.spec (unsealed_images (after_seal (after_digest n it)))) (sym sealed.1) (sealed_open w.spec n it taking.taken))
-        (λ none. subst (HoldsPairs w.spec (received_images it ++ next_images n it) after.spool.runs) (sym sealed.1)
+        (λ none. subst (HoldsPairs w.spec (received_images (after_seal (after_digest n it))) after.spool.runs) (sym sealed.1)
         (sealed_holds w.spec n it kit.spool.runs old_begun after.spool.runs next.0 (held_before none) next.1 all))
 
 -- what was put for the running build
@@ -194,3 +194,10 @@ spoiled_state live fault building new b w run spoiled =
     let spools : spools_state building.given spoiled.spools ≡ spools_state building.given building.spools =
     rw run.at_work.given (ap (λ stakes. record { stakes = stakes; left = [] }) spoiled.stakes) in
     ap (core_state live) spoiled.left ∙ ap (λ (s : SpoolsState). record { live = live.state; work = spoiled_work fault; spools = s }) spools
+
+-- whatever was answered, callers see it where the build is spoiled
+pub spoiled_after :
+    (live : LiveValue) (building new : BuildingValue) (b : BuildState) (w : WorkValue) → IsRunning live building b w → (answer : Result ℕ Fault)
+    → IfErr answer (λ fault. IsSpoiled fault building new) → IfErr answer (λ fault. core_state live new ≡ spoiled_by fault (core_state live building))
+spoiled_after live building new b w run (Ok count) spoiled = tt
+spoiled_after live building new b w run (Err fault) spoiled = spoiled_state live fault building new b w run spoiled

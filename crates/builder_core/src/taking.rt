@@ -29,7 +29,11 @@ pub fn digest_at<S: Spool>(
 {
     let (_, rest) = spools.as_mut_slice().split_at_mut(worker);
     let (own, _) = rest.split_at_mut(1);
-    workers[worker].digest(&mut makers[worker], own)
+    let maker = &mut makers[worker];
+    let taken = workers[worker].digest(maker, own);
+    // (what every maker keeps is then known of this one)
+    maker.laws();
+    taken
 }
 
 /// Lets a worker take all copies that it has seen, and close its run.
@@ -50,5 +54,9 @@ pub fn seal_at<S: Spool>(
 {
     let (_, rest) = spools.as_mut_slice().split_at_mut(worker);
     let (own, _) = rest.split_at_mut(1);
-    workers[worker].seal(&mut makers[worker], own)
+    let maker = &mut makers[worker];
+    let taken = workers[worker].seal(maker, own);
+    // (what every maker keeps is then known of this one)
+    maker.laws();
+    taken
 }

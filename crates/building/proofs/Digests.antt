@@ -1,6 +1,6 @@
 -- Digests of a worker, one after another.
-use Rattle.std.proofs.Common.{◌≡◌, ℕ, ◌+◌, ◌*◌, ◌/◌, ◌%◌, ◌≤◌, ◌==◌, true, false, List, [], ◌∷◌, ◌++◌, length, take, drop, append_assoc, refl, sym, ap, ap₂, ◌∙◌}
-use Rattle.std.proofs.Common.{◌≢◌, subst, arith, length-append}
+use Rattle.std.proofs.Common.{◌≡◌, ℕ, ◌+◌, ◌*◌, ◌/◌, ◌%◌, ◌≤◌, ◌==◌, true, false, List, [], ◌∷◌, ◌++◌, length, take, drop, append_assoc, refl, sym}
+use Rattle.std.proofs.Common.{◌≢◌, ap, ap₂, ◌∙◌, subst, arith, length-append}
 use Rattle.std.proofs.lemmas.List.{length-take, drop-drop, take-append-drop}
 use Rattle.std.proofs.Math.Nat.{mod-add-div', add-mul-mod_self_right}
 use Rattle.std.proofs.Math.Seq.{take-add}

@@ -18,7 +18,7 @@ use Rattle.building.specs.declared.copied.Copied.{Copied}
 use Rattle.building.specs.Copies.{images_of}
 use Rattle.building.specs.Holding.{HoldsPairs, HoldsOpen}
 use Rattle.building.specs.ImagePairs.{HavePairs}
-use Rattle.building.specs.TakeEnd.{TakeEnd, after_taking}
+use Rattle.building.specs.TakeEnd.{TakeEnd}
 use Rattle.building.specs.Taking.{IsTaking, received_images, unsealed_images}
 use Rattle.building.specs.Work.{at_start, knowing, next_images, after_digest, after_seal}
 use Rattle.building.specs.WorkerValue.{WorkerValue}

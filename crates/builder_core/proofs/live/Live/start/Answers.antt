@@ -40,7 +40,7 @@ invariant_of-self g c =
       c.self.invariant.0,
       started_follows heap.schema heap.log build (inside.builds + 1) spec plan.workers c.records.result c.pages-pages.result c.in_ok-cuts.cuts plan.dealing
           c.in_ok-build.ensures.ok c.records.ensures c.in_ok-cuts.ensures.ok c.pages-pages.ensures.pages columns c.pages-pages.ensures.limit fit
-          (few_workers c.args.self.now.state plan c.in_ok-spec.ensures.counts),
+          (few_workers c.args.self.now.state _ plan c.in_ok-spec.ensures.counts).0,
       side_opened heap.log build c.empty_side.new.side (ap (λ (b : BuildState). b.opened) is) (ap (λ (b : BuildState). b.pages) is) (ap (λ (b : BuildState). b.scans) is)
           (ap (λ (b : BuildState). b.fed) is) c.empty_side.ensures.left c.empty_side.ensures.fed,
       pages_started heap.schema heap.log inside.builds build (all_sent c.restart_all.new.pages.items) (ap (λ (b : BuildState). b.number) is)
@@ -70,11 +70,14 @@ returns-clause-works g c =
     ap (λ (l : LiveValue). dealing_refusal (pages_written l.state.heap.log) plan.dealing) c.self.view_is ∙ c.in_ok-spec.ensures.ranges in
     let build : c.in_ok-build.build ≡ opened (inside.builds + 1) spec plan.workers c.records.result c.in_ok-cuts.cuts =
     c.in_ok-build.ensures.ok ∙ ap (λ s. opened (inside.builds + 1) s plan.workers c.records.result c.in_ok-cuts.cuts) c.in_ok-clone-2.ensures.same in
-    let work : c.new-work.result ≡ fresh spec plan.workers = c.new-work.ensures ∙ ap (λ s. fresh s plan.workers) c.in_ok-clone.ensures.same in
-    started_works _ _ c.in_ok-build.build c.new-work.result inside.builds spec plan.workers c.records.result c.in_ok-cuts.cuts refl refl build work
+    let work : c.in_ok-work.work ≡ fresh spec.kinds spec plan.workers =
+    c.in_ok-work.ensures.ok ∙ ap (λ s. fresh c.schema.result.now s plan.workers) c.in_ok-clone.ensures.same
+    ∙ ap (λ kinds. fresh kinds spec plan.workers) (c.schema.ensures ∙ sym columns) in
+    let counts = few_workers c.args.self.now.state _ plan c.in_ok-spec.ensures.counts in
+    started_works _ _ c.in_ok-build.build c.in_ok-work.work inside.builds spec plan.workers c.records.result c.in_ok-cuts.cuts refl refl refl build work
     (started_follows heap.schema heap.log c.in_ok-build.build (inside.builds + 1) spec plan.workers c.records.result c.pages-pages.result c.in_ok-cuts.cuts plan.dealing build
     c.records.ensures c.in_ok-cuts.ensures.ok c.pages-pages.ensures.pages columns c.pages-pages.ensures.limit fit
-    (few_workers c.args.self.now.state plan c.in_ok-spec.ensures.counts))
+    (few_workers c.args.self.now.state _ plan c.in_ok-spec.ensures.counts).0)
     columns (subst (AreOfBuilds inside.builds) (sym c.restart_all.ensures.sent) c.self.invariant.4) c.restart_all.ensures.workers c.empty_side.ensures.drained
 
 pub returns-clause-started : goal.returns-clause-started
@@ -99,7 +102,7 @@ returns-clause-started g c =
     let ends : ArePutEnds g.T.Table.pages g.T.Table.side new_pages c.empty_side.new.side.end =
     put_ends_started g.T.Table.pages g.T.Table.side inside.pages.items new_pages inside.side.end c.empty_side.new.side.end c.self.invariant.5
     c.restart_all.ensures.rings c.empty_side.ensures.ring in
-    let few : plan.workers ≤ length new_pages = let most = few_workers live plan c.in_ok-spec.ensures.counts in omega (arith, most, ends.sixteen) in
+    let few : plan.workers ≤ length new_pages = let most = few_workers live _ plan c.in_ok-spec.ensures.counts in omega (arith, most.0, ends.sixteen) in
     let work : work_state c.restart_all.new.workers.items (Some c.new-work.result) ≡ fresh_work plan =
     ap (λ (ws : List WorkerValue). work_state ws (Some c.new-work.result)) c.restart_all.ensures.workers
     ∙ ap (λ (w : WorkValue). work_state (map (begun_on (inside.builds + 1)) new_pages) (Some w)) (c.new-work.ensures ∙ ap (λ s. fresh s plan.workers) c.in_ok-clone.ensures.same)
