@@ -1,20 +1,21 @@
 -- The definitions computed at small values that a reader can check by hand.
-use Rattle.std.proofs.Common.{◌≡◌, ◌∙◌, ℕ, pos, negsuc, Bool, true, false, List, [], ◌∷◌, Some, None, refl, sym, ap}
-use Rattle.std.specs.Prelude.{◌||◌, ◌++◌, replicate}
+use Rattle.std.proofs.Common.{◌≡◌, ◌∙◌, ℕ, pos, negsuc, Bool, true, false, List, [], ◌∷◌, Some, None, refl, sym, ap, inl, inr}
+use Rattle.std.specs.Prelude.{◌||◌, ◌++◌, map, replicate}
 use Rattle.std.proofs.lemmas.Option.{same_Some}
 use Rattle.std.specs.Ordering.{eq_by_cmp}
 use Rattle.keybytes.specs.Keys.{KeySpecValue}
 use Rattle.keybytes.specs.declared.cell.Cell.{Cell}
 use Rattle.keybytes.specs.declared.cell.Cell.TheVariants.{Null, Int as Number}
 use Rattle.keybytes.specs.declared.kind.Kind.TheVariants.{Int}
-use Rattle.keybytes.specs.declared.fault.Fault.TheVariants.{BadCount, BadRanges, RangeDone, RingFull, NotScanned, NotSealed, NotLoaded, Memory}
+use Rattle.keybytes.specs.declared.fault.Fault.TheVariants.{BadCount, BadRanges, RangeDone, RingFull, NotScanned, NotSealed, NotLoaded, SpoolNotEmpty, NoPage, Memory}
 use Rattle.heap_log.specs.declared.outcome.Outcome.TheVariants.{Ready}
 use Rattle.heap_log.specs.declared.record.LogRec.{LogRec}
 use Rattle.heap_log.specs.declared.record.LogRec.TheVariants as logged
 use Rattle.heap_table.specs.Pages.{rid_at}
 use Rattle.keybytes.specs.declared.pair.Pair.{Pair}
 use Rattle.builder_core.specs.declared.dealing.Dealing.TheVariants.{Even}
-use Rattle.builder_core.specs.declared.event.Event.TheVariants.{Scan, Digest, Seal, Load, Switch}
+use Rattle.builder_core.specs.declared.event.Event.TheVariants.{Start, Scan, Digest, Seal, Load, Switch}
+use Rattle.builder_core.specs.declared.plan.Plan.{Plan}
 use Rattle.builder_core.specs.declared.reply.Reply.{Reply}
 use Rattle.builder_core.specs.declared.reply.Reply.TheVariants.{Scanned, Digested, Sealed, Loaded, Switched}
 use Rattle.keybytes.specs.Pairs.{pair_cmp}
@@ -23,7 +24,7 @@ use Rattle.builder_core.specs.CoreState.{BuildState, WorkerState, WorkState, Cor
 use Rattle.builder_core.specs.Scanning.{scanned_pairs}
 use Rattle.scan_range.specs.Cuts.{range_pages, cuts_refusal}
 use Rattle.builder_core.specs.Ranges.{dealt_ends, dealing_refusal, next_page, open_range}
-use Rattle.builder_core.specs.Steps.{refusal, Does, AfterMemory}
+use Rattle.builder_core.specs.Steps.{refusal, Does, AfterWant, IsRefused}
 use Rattle.builder_core.specs.Workers.{waiting, fill_runs, loud_worker}
 use Rattle.builder_core.specs.declared.scan.Scan.{Scan as Copied}
 use Rattle.keybytes.proofs.PairSets.{is_in, items_are}
@@ -189,7 +190,7 @@ abbrev one_worker : Plan
 one_worker = record { specs = record { items = on_number ∷ []; capacity = 1 }; workers = 1; dealing = Even 1; tries = 1; keep_pairs = false }
 
 abbrev beside : List Bool → CoreState
-beside left = record (with_no_build before_a_scan) { spools = record { stakes = map (λ empty. None) left; left = left } }
+beside left = record before_a_scan { live = record before_a_scan.live { build = None }; spools = record { stakes = map (λ empty. None) left; left = left } }
 
 one_empty_spool : refusal (beside (true ∷ [])) (Start one_worker) ≡ None
 one_empty_spool = refl
