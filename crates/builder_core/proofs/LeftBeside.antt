@@ -1,5 +1,5 @@
 -- What a call leaves beside a table, put together from what its parts left.
-use Rattle.std.proofs.Common.{◌≡◌, ℕ, Bool, true, false, ◌&&◌, List, [], ◌∷◌, All, map, Option, Some, None, refl, sym, ap, ◌∙◌, subst}
+use Rattle.std.proofs.Common.{◌≡◌, ℕ, Bool, false, ◌&&◌, List, [], ◌∷◌, All, map, Option, Some, None, refl, sym, ap, ◌∙◌, subst}
 use Rattle.std.specs.Prelude.{IfSome, is_some}
 use Rattle.std.specs.List.{list_all}
 use Rattle.spool_ledger.specs.Accounts.{Stake}
@@ -31,14 +31,15 @@ module _ {S : Type 0} (runs : S → List (List Pair)) (open_run : S → List Pai
 
   pub same_seen :
       (a b : List S) → map stake a ≡ map stake b
-      → map (λ (s : SpoolValue). s.stake) (map (spool_value runs open_run stake) a) ≡ map (λ (s : SpoolValue). s.stake) (map (spool_value runs open_run stake) b)
+      → map (λ (s : SpoolValue). s.stake) (map (spool_value runs open_run stake) a)
+      ≡ map (λ (s : SpoolValue). s.stake) (map (spool_value runs open_run stake) b)
   same_seen a b same = sym (stakes_seen a) ∙ same ∙ stakes_seen b
 
   -- spools that no build was given are left for the next one
   pub left_seen :
       (given : Bool) (spools : List S) → given ≡ false
       → list_all (λ (s : S). holds_nothing (runs s) (open_run s)) spools
-        ≡ list_all (λ is_empty. is_empty) (spools_state given (map (spool_value runs open_run stake) spools)).left
+      ≡ list_all (λ is_empty. is_empty) (spools_state given (map (spool_value runs open_run stake) spools)).left
   left_seen given spools none =
       let empty : SpoolValue → Bool = λ s. holds_nothing s.runs s.open_run in
       rw none (each_tested (λ (s : S). holds_nothing (runs s) (open_run s)) spools
@@ -68,7 +69,7 @@ module _ (old seen : BuildingValue) (work held : WorkValue) (same : seen ≡ old
   pub left_sorted :
       (spools : List SpoolValue) (pairs : List Pair) (room : ℕ) → spools ≡ map ended_spool seen.spools
       → record seen { spools = spools; work = Some (record held { tree = Some pairs; room = room }) }
-        ≡ record old { spools = map ended_spool old.spools; work = Some (after_sort work pairs room) }
+      ≡ record old { spools = map ended_spool old.spools; work = Some (after_sort work pairs room) }
   left_sorted spools pairs room ended = rw (ended, same, is) refl
 
   -- the runs of its spools are in order, where its pairs aren't yet
@@ -91,14 +92,14 @@ module _ (old seen : BuildingValue) (work held : WorkValue) (same : seen ≡ old
         (makers : List MakerValue) (spools : List SpoolValue)
         → HasTakenAt work.spec worker count closing Spools seen.workers held.makers seen.spools images workers makers spools
         → HasTaken worker count closing Spools old images (record seen { workers = workers; spools = spools; work = Some (record held { makers = makers }) })
-    taken_after closing Spools images workers makers spools taken = record {
+    taken_after closing Taken images workers makers spools taken = record {
       work = work;
       runs = its_work;
       workers = workers;
       makers = makers;
       spools = spools;
-      taken = subst (λ (b : BuildingValue). HasTakenAt work.spec worker count closing Spools b.workers work.makers b.spools images workers makers spools) same
-          (subst (λ (w : WorkValue). HasTakenAt work.spec worker count closing Spools seen.workers w.makers seen.spools images workers makers spools) is taken);
+      taken = subst (λ (b : BuildingValue). HasTakenAt work.spec worker count closing Taken b.workers work.makers b.spools images workers makers spools) same
+          (subst (λ (w : WorkValue). HasTakenAt work.spec worker count closing Taken seen.workers w.makers seen.spools images workers makers spools) is taken);
       left = rw (same, is) refl;
     }
 

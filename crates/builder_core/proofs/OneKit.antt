@@ -1,13 +1,12 @@
 -- One worker with its kit, among all workers, makers and spools.
-use Rattle.std.proofs.Common.{◌≡◌, ℕ, zero, suc, ◌<◌, List, [], ◌∷◌, ◌++◌, All, map, set, get_or, length, take, drop, Option, Some, Result, Ok, Err, IfOk, OnOk, refl, sym}
-use Rattle.std.proofs.Common.{ap, ◌∙◌, subst, arith}
+use Rattle.std.proofs.Common.{◌≡◌, ℕ, zero, suc, ◌<◌, List, [], ◌∷◌, ◌++◌, All, map, set, get_or, length, take, drop, Option, Some, Result, Ok}
+use Rattle.std.proofs.Common.{Err, IfOk, refl, sym, ap, ap₂, ◌∙◌, subst, arith}
 use Rattle.std.specs.List.{slice_get}
 use Rattle.std.proofs.lemmas.List.{map-set, take_at, length-set}
 use Rattle.std.proofs.lemmas.List.Elements.{All-head, All-cons, All-nil}
 use Rattle.std.proofs.lemmas.Option.{get_or_from_slice_get}
 use Rattle.spool_ledger.specs.Accounts.{Stake}
 use Rattle.keybytes.specs.Keys.{KeySpecValue}
-use Rattle.keybytes.specs.declared.kind.Kind.{Kind}
 use Rattle.keybytes.specs.declared.pair.Pair.{Pair}
 use Rattle.heap_table.specs.Images.{ImageValue}
 use Rattle.run_spool.specs.Spools.{AreSorted}
@@ -15,7 +14,7 @@ use Rattle.run_maker.specs.Making.{MakerValue, AreReady, Holdings}
 use Rattle.building.specs.ImagePairs.{HaveRows}
 use Rattle.building.specs.Work.{next_images, after_digest}
 use Rattle.building.specs.WorkerValue.{WorkerValue}
-use Rattle.builder_core.specs.Holding.{SpoolValue, Kit, IsFit, begun_of, holdings, spool_value}
+use Rattle.builder_core.specs.Holding.{SpoolValue, Kit, IsFit, holdings, spool_value}
 use Rattle.builder_core.specs.Working.{CanTakeAt, HasTakenAt}
 use Rattle.builder_core.proofs.Places.{at_map}
 
@@ -59,8 +58,15 @@ module _
     {S : Type 0} (runs : S → List (List Pair)) (open_run : S → List Pair) (stake : S → Option Stake) (spec : KeySpecValue) (i : ℕ)
     (count : WorkerValue → ℕ) (workers : List WorkerValue) (makers : List MakerValue) (spools : List S)
     (can : CanTakeAt spec i count workers makers (map (spool_value runs open_run stake) spools)) (own : List S) (lent : own ≡ take 1 (drop i spools)) where
-  its_spool : (s : S) × (slice_get spools i ≡ Some s) × (spool_value runs open_run stake s ≡ can.kit.spool)
-  its_spool = at_map (spool_value runs open_run stake) spools i can.kit.spool can.spool
+  abbrev value : S → SpoolValue
+  value s = spool_value runs open_run stake s
+
+  -- what a maker holds with these spools
+  abbrev held : MakerValue → List S → Holdings
+  held maker spools = record { runs = map runs spools; begun = maker.begun }
+
+  its_spool : (s : S) × (slice_get spools i ≡ Some s) × (value s ≡ can.kit.spool)
+  its_spool = at_map value spools i can.kit.spool can.spool
 
   lent_one : own ≡ its_spool.0 ∷ []
   lent_one = lent ∙ only_at spools i its_spool.0 its_spool.1
@@ -102,7 +108,7 @@ module _
         left_one = only_one stake left (stake its_spool.0) (stakes ∙ ap (map stake) lent_one)
 
         kit_after : Kit
-        kit_after = record { maker = new; spool = spool_value runs open_run stake left_one.0 }
+        kit_after = record { maker = new; spool = value left_one.0 }
 
         one_begun : length new.begun ≡ 1
         one_begun = many ∙ ap length (same_specs ∙ ap (λ (m : MakerValue). m.specs) its_maker ∙ can.fit.specs)
@@ -115,53 +121,42 @@ module _
           one_index = one_begun;
           short = short 0 [] (omega (arith, one_begun));
           ready = subst (λ (l : List S). AreReady (map runs l) (map open_run l)) left_one.1 ready;
-          sorted = All-head AreSorted (runs left_one.0) []
-              (subst (λ (l : List S). All AreSorted (map runs l)) left_one.1 (sorted (rw lent_runs (All-cons AreSorted can.kit.spool.runs [] can.fit.sorted (All-nil AreSorted)))));
+          sorted =
+              let all : All AreSorted (map runs own) = rw lent_runs (All-cons AreSorted can.kit.spool.runs [] can.fit.sorted (All-nil AreSorted)) in
+              All-head AreSorted (runs left_one.0) [] (subst (λ (l : List S). All AreSorted (map runs l)) left_one.1 (sorted all));
         }
 
         -- what is said of all that is held is said of the kit
         held_after :
             (R : List KeySpecValue → List ImageValue → Holdings → Holdings → Type 0)
-            → R maker.specs (next_images (count worker) worker) (record { runs = map runs own; begun = maker.begun }) (record { runs = map runs left; begun = new.begun })
+            → R maker.specs (next_images (count worker) worker) (held maker own) (held new left)
             → R (spec ∷ []) (next_images (count can.it) can.it) (holdings can.kit) (holdings kit_after)
         unfolding kit_after
-        held_after R held =
+        held_after R all =
             let specs : maker.specs ≡ spec ∷ [] = ap (λ (m : MakerValue). m.specs) its_maker ∙ can.fit.specs in
-            let begun : maker.begun ≡ can.kit.maker.begun = ap (λ (m : MakerValue). m.begun) its_maker in
-            let runs_left : map runs left ≡ runs left_one.0 ∷ [] = ap (map runs) left_one.1 in
-            let by_worker = subst
-                (λ (w : WorkerValue). R maker.specs (next_images (count w) w) (record { runs = map runs own; begun = maker.begun }) (record { runs = map runs left; begun = new.begun }))
-                its_worker held in
-            let by_specs = subst
-                (λ (ss : List KeySpecValue). R ss (next_images (count can.it) can.it) (record { runs = map runs own; begun = maker.begun })
-                    (record { runs = map runs left; begun = new.begun }))
-                specs by_worker in
-            let by_runs = subst
-                (λ (rs : List (List (List Pair))). R (spec ∷ []) (next_images (count can.it) can.it) (record { runs = rs; begun = maker.begun })
-                    (record { runs = map runs left; begun = new.begun }))
-                lent_runs by_specs in
-            let by_begun = subst
-                (λ (b : List (List Pair)). R (spec ∷ []) (next_images (count can.it) can.it) (record { runs = can.kit.spool.runs ∷ []; begun = b })
-                    (record { runs = map runs left; begun = new.begun }))
-                begun by_runs in
-            subst
-            (λ (rs : List (List (List Pair))). R (spec ∷ []) (next_images (count can.it) can.it) (holdings can.kit) (record { runs = rs; begun = new.begun }))
-            runs_left by_begun
+            let its : List ImageValue = next_images (count can.it) can.it in
+            let before : held maker own ≡ holdings can.kit =
+            ap₂ (λ (rs : List (List (List Pair))) (m : MakerValue). record { runs = rs; begun = m.begun }) lent_runs its_maker in
+            let behind : held new left ≡ holdings kit_after = ap (held new) left_one.1 in
+            let of_it = subst (λ (w : WorkerValue). R maker.specs (next_images (count w) w) (held maker own) (held new left)) its_worker all in
+            let of_spec = subst (λ (ss : List KeySpecValue). R ss its (held maker own) (held new left)) specs of_it in
+            let of_kit = subst (λ (h : Holdings). R (spec ∷ []) its h (held new left)) before of_spec in
+            subst (λ (h : Holdings). R (spec ∷ []) its (holdings can.kit) h) behind of_kit
 
         -- the worker took what it was to take
         pub has_taken :
             (closing : WorkerValue → WorkerValue) (R : List KeySpecValue → List ImageValue → Holdings → Holdings → Type 0)
             (Spools : KeySpecValue → List ImageValue → Kit → Kit → Type 0)
-            → ((images : List ImageValue) (kit : Kit) → length kit.maker.begun ≡ 1 → kit.maker ≡ new → R (spec ∷ []) images (holdings can.kit) (holdings kit)
-                → Spools spec images can.kit kit)
-            → R maker.specs (next_images (count worker) worker) (record { runs = map runs own; begun = maker.begun }) (record { runs = map runs left; begun = new.begun })
+            → ((images : List ImageValue) (kit : Kit) → length kit.maker.begun ≡ 1 → kit.maker ≡ new
+            → R (spec ∷ []) images (holdings can.kit) (holdings kit) → Spools spec images can.kit kit)
+            → R maker.specs (next_images (count worker) worker) (held maker own) (held new left)
             → (images : ℕ) → images ≡ length (next_images (count worker) worker)
             → (new_worker : WorkerValue) → new_worker ≡ closing (after_digest (count worker) worker)
             → (n : ℕ) (front back rest : List S) → n ≡ length spools → front ≡ take i spools → back ≡ drop 1 (drop i spools)
-            → HasTakenAt spec i count closing Spools workers makers (map (spool_value runs open_run stake) spools) images (set workers i new_worker) (set makers i new)
-              (map (spool_value runs open_run stake) (take n ((front ++ (left ++ back)) ++ rest)))
+            → HasTakenAt spec i count closing Spools workers makers (map value spools) images (set workers i new_worker) (set makers i new)
+            (map value (take n ((front ++ (left ++ back)) ++ rest)))
         unfolding kit_after
-        has_taken closing R Spools told held images counted new_worker took n front back rest long before behind = record {
+        has_taken closing R Spools told all images counted new_worker took n front back rest long before behind = record {
           it = can.it;
           there = can.there;
           kit = can.kit;
@@ -171,10 +166,10 @@ module _
           after = kit_after;
           fit = fit_after;
           stake = left_one.2 ∙ ap (λ (v : SpoolValue). v.stake) its_spool.2;
-          spools_more = told (next_images (count can.it) can.it) kit_after one_begun refl (held_after R held);
-          workers_are = ap (λ (w : WorkerValue). set workers i w) (took ∙ ap (λ (w : WorkerValue). closing (after_digest (count w) w)) its_worker);
+          spools_more = told (next_images (count can.it) can.it) kit_after one_begun refl (held_after R all);
+          workers_are = ap (set workers i) (took ∙ ap (λ (w : WorkerValue). closing (after_digest (count w) w)) its_worker);
           makers_are = refl;
           spools_are =
-              ap (map (spool_value runs open_run stake)) (given_back spools front left back rest i n its_spool.0 left_one.0 its_spool.1 before behind left_one.1 long)
-              ∙ map-set (spool_value runs open_run stake) spools i left_one.0;
+              ap (map value) (given_back spools front left back rest i n its_spool.0 left_one.0 its_spool.1 before behind left_one.1 long)
+              ∙ map-set value spools i left_one.0;
         }
