@@ -1,6 +1,6 @@
 -- The definitions computed at small values that a reader can check by hand.
 use Rattle.std.proofs.Common.{◌≡◌, ◌∙◌, ℕ, pos, negsuc, Bool, true, false, List, [], ◌∷◌, Some, None, refl, sym, ap, inl, inr}
-use Rattle.std.specs.Prelude.{◌||◌, ◌++◌, map, replicate}
+use Rattle.std.specs.Prelude.{◌||◌, ◌++◌, replicate}
 use Rattle.std.proofs.lemmas.Option.{same_Some}
 use Rattle.std.specs.Ordering.{eq_by_cmp}
 use Rattle.keybytes.specs.Keys.{KeySpecValue}
@@ -14,8 +14,7 @@ use Rattle.heap_log.specs.declared.record.LogRec.TheVariants as logged
 use Rattle.heap_table.specs.Pages.{rid_at}
 use Rattle.keybytes.specs.declared.pair.Pair.{Pair}
 use Rattle.builder_core.specs.declared.dealing.Dealing.TheVariants.{Even}
-use Rattle.builder_core.specs.declared.event.Event.TheVariants.{Start, Scan, Digest, Seal, Load, Switch}
-use Rattle.builder_core.specs.declared.plan.Plan.{Plan}
+use Rattle.builder_core.specs.declared.event.Event.TheVariants.{Scan, Digest, Seal, Load, Switch}
 use Rattle.builder_core.specs.declared.reply.Reply.{Reply}
 use Rattle.builder_core.specs.declared.reply.Reply.TheVariants.{Scanned, Digested, Sealed, Loaded, Switched}
 use Rattle.keybytes.specs.Pairs.{pair_cmp}
@@ -24,7 +23,8 @@ use Rattle.builder_core.specs.CoreState.{BuildState, WorkerState, WorkState, Cor
 use Rattle.builder_core.specs.Scanning.{scanned_pairs}
 use Rattle.scan_range.specs.Cuts.{range_pages, cuts_refusal}
 use Rattle.builder_core.specs.Ranges.{dealt_ends, dealing_refusal, next_page, open_range}
-use Rattle.builder_core.specs.Steps.{refusal, Does, AfterWant, IsRefused}
+use Rattle.builder_core.specs.Steps.{refusal, spools_refusal, Does, AfterWant, IsRefused}
+use Rattle.builder_core.specs.Holding.{spools_state}
 use Rattle.builder_core.specs.Workers.{waiting, fill_runs, loud_worker}
 use Rattle.builder_core.specs.declared.scan.Scan.{Scan as Copied}
 use Rattle.keybytes.proofs.PairSets.{is_in, items_are}
@@ -185,24 +185,20 @@ spoils_without_page = inr (refl, inl refl, refl)
 page_stays_wanted : refusal (record before_a_scan { work = spoiled_work NoPage }) (Load 0) ≡ Some NoPage
 page_stays_wanted = refl
 
--- a plan of one worker starts a build beside one empty spool
-abbrev one_worker : Plan
-one_worker = record { specs = record { items = on_number ∷ []; capacity = 1 }; workers = 1; dealing = Even 1; tries = 1; keep_pairs = false }
+-- empty spools start a build, and one with pairs keeps it from starting
+empty_spools : spools_refusal (true ∷ true ∷ []) ≡ None
+empty_spools = refl
 
-abbrev beside : List Bool → CoreState
-beside left = record before_a_scan { live = record before_a_scan.live { build = None }; spools = record { stakes = map (λ empty. None) left; left = left } }
-
-one_empty_spool : refusal (beside (true ∷ [])) (Start one_worker) ≡ None
-one_empty_spool = refl
-
-a_spool_with_pairs : refusal (beside (false ∷ [])) (Start one_worker) ≡ Some SpoolNotEmpty
+a_spool_with_pairs : spools_refusal (true ∷ false ∷ []) ≡ Some SpoolNotEmpty
 a_spool_with_pairs = refl
 
-no_spool_left : refusal (beside []) (Start one_worker) ≡ Some BadCount
-no_spool_left = refl
+-- spools that a build was given are not left for a next one
+given_spools : (spools_state true (record { runs = []; open_run = []; stake = None } ∷ [])).left ≡ []
+given_spools = refl
 
-a_spool_too_many : refusal (beside (true ∷ true ∷ [])) (Start one_worker) ≡ Some BadCount
-a_spool_too_many = refl
+-- and of those that are handed in, one with a run whose pairs are all freed is not empty
+freed_run : (spools_state false (record { runs = [] ∷ []; open_run = []; stake = None } ∷ record { runs = []; open_run = []; stake = None } ∷ [])).left ≡ false ∷ true ∷ []
+freed_run = refl
 
 spoiled_scan : refusal spoiled_build (Scan 0 0) ≡ Some Memory
 spoiled_scan = refl
