@@ -17,13 +17,13 @@ pub enum Answer {
     Undone { number: usize, left: usize },
     /// The row at a RID.
     Cells { row: Row },
-    /// A switch that decided, with the number of its log record.
-    Switched { number: usize, verdicts: Verdicts },
+    /// A switch that decided, with the number of its log record, and how many pages that its build leased are missing.
+    Switched { number: usize, verdicts: Verdicts, pages: usize },
     /// The pairs of an index, in order.
     Pairs { lines: Vec<PairLine> },
     /// The entries of a side-file, in order.
     Entries { lines: Vec<EntryLine> },
-    /// The build was given up.
-    Abandoned,
+    /// The build was given up, and so many pages that it leased are missing.
+    Abandoned { pages: usize },
     Refused { fault: Fault },
 }
