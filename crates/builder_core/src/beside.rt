@@ -91,8 +91,9 @@ impl<S: Spool, T: Table> Building<S, T> {
             workers,
             side_end,
             mut spools,
+            given: _given,
+            work: _work,
             of,
-            ..
         } = self;
         end_all(spools.as_mut_slice());
         let ends = Ends {

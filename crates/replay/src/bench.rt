@@ -54,7 +54,11 @@ impl<T: Table> Bench<T> {
     pub fn close(self) -> usize
         ensures { result ≡ 0 }
     {
-        let Bench { core, leases, .. } = self;
+        let Bench {
+            alloc: _alloc,
+            core,
+            leases,
+        } = self;
         let (_, _, spools) = core.into_live();
         reclaim(leases, spools)
     }
