@@ -73,7 +73,7 @@ impl<T: Table> Bench<T> {
     /// Does one event that neither starts a build nor ends one.
     pub fn step(&mut self, event: Event) -> Reply
         requires { KeepsBuild event }
-        ensures { Step self.old event result self.new }
+        ensures step { Step self.old event result self.new }
     {
         self.core.step(event)
     }
