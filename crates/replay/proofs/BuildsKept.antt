@@ -1,13 +1,12 @@
 -- What an event leaves of the build that runs and of the pages that are leased for it.
-use Rattle.std.proofs.Common.{◌≡◌, ℕ, ◌+◌, Bool, true, false, List, length, Option, Some, None, inl, inr, refl, sym, ap, subst, ◌∙◌}
+use Rattle.std.proofs.Common.{◌≡◌, ℕ, ◌+◌, true, false, List, length, Option, Some, None, inl, inr, refl, sym, ap, subst, ◌∙◌}
 use Rattle.std.specs.Prelude.{is_some}
 use Rattle.keybytes.specs.declared.fault.Fault.{Fault}
 use Rattle.keybytes.specs.declared.fault.Fault.TheVariants.{NoBuild}
 use Rattle.heap_log.specs.declared.outcome.Outcome.{Outcome}
 use Rattle.heap_table.specs.HeapState.{HeapState}
-use Rattle.spool_ledger.specs.Accounts.{Stake}
-use Rattle.builder_core.specs.CoreState.{CoreState, LiveState, BuildState, WorkState, SpoolsState, abandoned, idle, live_with_heap, opening, with_heap, with_live}
-use Rattle.builder_core.specs.Steps.{AfterWant, Does, IsRefused, IsWant, OnBuild, Step, after_digest, after_load, after_scan, after_seal, after_switch_in, build_cause, index_at, load_refusal, next_copies, pairs_copied, refusal, spoiled_by, verdicts_on, worker_refusal}
+use Rattle.builder_core.specs.CoreState.{CoreState, LiveState, BuildState, WorkState, SpoolsState, idle, live_with_heap, opening, with_heap, with_live}
+use Rattle.builder_core.specs.Steps.{AfterWant, Does, OnBuild, Step, after_digest, after_load, after_scan, after_seal, after_switch_in, build_cause, index_at, load_refusal, next_copies, pairs_copied, refusal, spoiled_by, verdicts_on, worker_refusal}
 use Rattle.builder_core.specs.Ranges.{next_page}
 use Rattle.builder_core.specs.Workers.{waiting}
 use Rattle.std.specs.List.{slice_get}

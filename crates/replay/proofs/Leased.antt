@@ -1,5 +1,5 @@
 -- The accounts of one pool behind new spools, and behind spools that are given up.
-use Rattle.std.proofs.Common.{◌≡◌, ℕ, zero, suc, ◌+◌, ◌*◌, ◌≤◌, Bool, true, false, List, [], ◌∷◌, ◌++◌, length, map, replicate, Option, Some, refl, sym, ap, subst, ◌∙◌, arith}
+use Rattle.std.proofs.Common.{◌≡◌, ℕ, zero, suc, ◌+◌, ◌*◌, ◌≤◌, Bool, true, List, [], ◌∷◌, ◌++◌, map, replicate, Option, Some, refl, sym, ap, subst, ◌∙◌, arith}
 use Rattle.std.proofs.lemmas.List.{append_assoc, length-replicate}
 use Rattle.std.proofs.lemmas.List.Elements.{All-nil, All-cons, All-head, All-tail}
 use Rattle.std.proofs.lemmas.List.Folds.{sum_by-replicate}
@@ -9,8 +9,7 @@ use Rattle.std.specs.List.{All, sum_by}
 use Rattle.spool_ledger.specs.Accounts.{AccountValue, IsWhole, Stake, new_account, stake_of}
 use Rattle.spool_ledger.specs.Pools.{PoolValue, new_pool, quota_of, with_out}
 use Rattle.run_spool.specs.PlainSpools.{SpoolValue, new_spool}
-use Rattle.run_spool.specs.Spools.{holds_nothing, stakes_in}
-use Rattle.builder_core.specs.CoreState.{SpoolsState}
+use Rattle.run_spool.specs.Spools.{stakes_in}
 use Rattle.replay.specs.Leasing.{AreOf, LeasesValue, new_spools, pages_of, plain_spools, plain_stake}
 
 -- that number, so many times, comes to the product

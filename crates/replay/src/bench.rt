@@ -130,11 +130,7 @@ impl<T: Table> Bench<T> {
         ensures refused { IfErr result (λ fault. Step self.old Event.Abandon (Reply.Refused fault) self.new) }
     {
         match self.core.step(Event::Abandon) {
-            Reply::Abandoned => Ok(end_build(
-                self.alloc,
-                &mut self.core,
-                self.leases.take(),
-            )),
+            Reply::Abandoned => Ok(end_build(self.alloc, &mut self.core, self.leases.take())),
             Reply::Refused { fault } => Err(fault),
             _ => unreachable!(),
         }

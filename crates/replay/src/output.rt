@@ -74,7 +74,9 @@ impl<W: io::Write + Drop> Output<W> {
             Answer::Undone { number, left } => self.fields(*number, *left),
             Answer::Cells { row } => self.cells(row.cells()),
             Answer::Switched {
-                number, verdicts, ..
+                number,
+                verdicts,
+                ..
             } => {
                 self.field(*number)?;
                 self.verdicts(verdicts)

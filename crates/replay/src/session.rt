@@ -106,7 +106,11 @@ impl Session {
     }
 
     /// Begins a transaction that the label names; where that is refused, it names none.
-    fn begin_named<T: Table>(&mut self, bench: &mut Bench<T>, label: &Label) -> Result<Answer, Fault>
+    fn begin_named<T: Table>(
+        &mut self,
+        bench: &mut Bench<T>,
+        label: &Label,
+    ) -> Result<Answer, Fault>
         ensures { Answers (state_of bench.old self.old) (Command.Begin label.now) result (state_of bench.new self.new) }
     {
         self.labels.forget(label)?;
@@ -162,7 +166,11 @@ impl Session {
         step(bench, Event::Undo { txn })
     }
 
-    fn commit_named<T: Table>(&mut self, bench: &mut Bench<T>, label: &Label) -> Result<Answer, Fault>
+    fn commit_named<T: Table>(
+        &mut self,
+        bench: &mut Bench<T>,
+        label: &Label,
+    ) -> Result<Answer, Fault>
         ensures { Answers (state_of bench.old self.old) (Command.Commit label.now) result (state_of bench.new self.new) }
     {
         let txn = self.labels.txn(label)?;
@@ -198,7 +206,11 @@ impl Session {
         })
     }
 
-    fn key_specs<T: Table>(&self, core: &Core<PlainSpool, T>, specs: Vec<Spec>) -> Result<Vec<KeySpec>, Fault>
+    fn key_specs<T: Table>(
+        &self,
+        core: &Core<PlainSpool, T>,
+        specs: Vec<Spec>,
+    ) -> Result<Vec<KeySpec>, Fault>
         ensures ok { IfOk result (λ made. made.items ≡ map (key_spec_of core.now.live.heap.schema) specs.items) }
         ensures refused { IfErr result (λ fault. fault ≢ Fault.Memory → specs_refusal core.now.live.heap.schema specs.items ≡ Some fault) }
     {
@@ -239,7 +251,11 @@ impl Session {
     }
 
     /// The entries that are left in the side-file of an index that is being built.
-    fn side_lines<T: Table>(&self, core: &Core<PlainSpool, T>, index: usize) -> Result<Vec<EntryLine>, Fault>
+    fn side_lines<T: Table>(
+        &self,
+        core: &Core<PlainSpool, T>,
+        index: usize,
+    ) -> Result<Vec<EntryLine>, Fault>
         ensures lists { IfOk result (λ lines. ListsLeft core.now index (Answer.Entries lines)) }
         ensures refused { IfErr result (RefusedFor (side_refusal core.now.live.build index)) }
     {

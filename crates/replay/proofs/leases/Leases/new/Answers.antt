@@ -1,5 +1,5 @@
-use Rattle.std.proofs.Common.{◌≡◌, ◌∙◌, ◌*◌, List, map, replicate, ap, vec_capacity}
-use Rattle.spool_ledger.specs.Accounts.{AccountValue, new_account}
+use Rattle.std.proofs.Common.{◌≡◌, ◌∙◌, ◌*◌, map, replicate, ap, vec_capacity}
+use Rattle.spool_ledger.specs.Accounts.{new_account}
 use Rattle.spool_ledger.specs.Pools.{PoolValue}
 use Rattle.builder_core.specs.CoreState.{SpoolsState}
 use Rattle.replay.proofs.Leased.{are_whole, new_are_new, split_are_of}
