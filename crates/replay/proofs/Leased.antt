@@ -1,5 +1,5 @@
 -- The accounts of one pool behind new spools, and behind spools that are given up.
-use Rattle.std.proofs.Common.{◌≡◌, ℕ, zero, suc, ◌+◌, ◌*◌, ◌≤◌, Bool, true, List, [], ◌∷◌, ◌++◌, map, replicate, Option, Some, refl, sym, ap, subst, ◌∙◌, arith}
+use Rattle.std.proofs.Common.{◌≡◌, ℕ, zero, suc, ◌+◌, ◌-◌, ◌*◌, ◌≤◌, Bool, true, List, [], ◌∷◌, ◌++◌, map, replicate, Option, Some, refl, sym, ap, subst, ◌∙◌, arith}
 use Rattle.std.proofs.lemmas.List.{append_assoc, length-replicate}
 use Rattle.std.proofs.lemmas.List.Elements.{All-nil, All-cons, All-head, All-tail}
 use Rattle.std.proofs.lemmas.List.Folds.{sum_by-replicate}
@@ -7,7 +7,7 @@ use Rattle.std.proofs.lemmas.List.Sums.{sum_by-cons}
 use Rattle.std.specs.Prelude.{sum}
 use Rattle.std.specs.List.{All, sum_by}
 use Rattle.spool_ledger.specs.Accounts.{AccountValue, IsWhole, Stake, new_account, stake_of}
-use Rattle.spool_ledger.specs.Pools.{PoolValue, new_pool, quota_of, with_out}
+use Rattle.spool_ledger.specs.Pools.{PoolValue, after_reclaim, free_of, new_pool, quota_of, with_out}
 use Rattle.run_spool.specs.PlainSpools.{SpoolValue, new_spool}
 use Rattle.run_spool.specs.Spools.{stakes_in}
 use Rattle.replay.specs.Leasing.{AreOf, LeasesValue, new_spools, pages_of, plain_spools, plain_stake}
@@ -74,12 +74,12 @@ own_of_new count quota =
 pages_of_new : (count quota : ℕ) → sum_by pages_of (stakes_in (equal_stakes count quota)) ≡ count * quota
 pages_of_new count quota = ap (sum_by pages_of) (stakes_there count quota) ∙ sum_by-replicate pages_of count (record { pool = 0; quota = quota })
 
-new_are_of : (count quota : ℕ) (leases : LeasesValue) (stakes : List (Option Stake)) → leases.pool.number ≡ 0 → count * quota ≤ leases.pool.out
+new_are_of : (count quota : ℕ) (leases : LeasesValue) (stakes : List (Option Stake)) → leases.pool.number ≡ 0 → count * quota ≡ leases.pool.out
     → count ≤ leases.room → stakes ≡ (new_spools count quota).stakes → AreOf leases stakes
 new_are_of count quota leases stakes number out room are =
     subst (AreOf leases) (sym are) (record {
       own = subst (λ (pool : ℕ). All (λ stake. stake.pool ≡ pool) (stakes_in (equal_stakes count quota))) (sym number) (own_of_new count quota);
-      out = subst (λ (pages : ℕ). pages ≤ leases.pool.out) (sym (pages_of_new count quota)) out;
+      out = pages_of_new count quota ∙ out;
       room = subst (λ (many : ℕ). many ≤ leases.room) (sym (length-replicate count _)) room;
     })
 
@@ -120,11 +120,26 @@ back_own leases spools before after none are of =
     own_accounts leases.pool.number after
     (subst (All (λ (stake : Stake). stake.pool ≡ leases.pool.number)) (sym (stakes_back spools before after none are)) of.own)
 
--- and have no more pages together than it has split off
+-- and have together the pages that it has split off
 pub back_out : (leases : LeasesValue) (spools : List SpoolValue) (before after : List AccountValue) → before ≡ []
     → map stake_of after ≡ map stake_of before ++ stakes_in (map plain_stake spools) → AreOf leases (map plain_stake spools)
-    → sum_by quota_of after ≤ leases.pool.out
+    → sum_by quota_of after ≡ leases.pool.out
 back_out leases spools before after none are of =
-    let same : sum_by quota_of after ≡ sum_by pages_of (stakes_in (map plain_stake spools)) =
-    sym (account_pages after) ∙ ap (sum_by pages_of) (stakes_back spools before after none are) in
-    subst (λ (pages : ℕ). pages ≤ leases.pool.out) (sym same) of.out
+    sym (account_pages after) ∙ ap (sum_by pages_of) (stakes_back spools before after none are) ∙ of.out
+
+-- accounts that have all their pages have as many free as their quotas come to
+free_of_whole : (accounts : List AccountValue) → All IsWhole accounts → sum_by free_of accounts ≡ sum_by quota_of accounts
+free_of_whole [] whole = refl
+free_of_whole (account ∷ accounts) whole =
+    sum_by-cons free_of account accounts
+    ∙ ap (λ free. free + sum_by free_of accounts) (All-head IsWhole account accounts whole)
+    ∙ ap (λ rest. account.quota + rest) (free_of_whole accounts (All-tail IsWhole account accounts whole))
+    ∙ sym (sum_by-cons quota_of account accounts)
+
+-- a pool that reclaims all that it has split off has no page out
+pub none_out : (pool new : PoolValue) (accounts : List AccountValue) → sum_by quota_of accounts ≡ pool.out → All IsWhole accounts
+    → new ≡ after_reclaim pool accounts → new.out ≡ 0
+none_out pool new accounts out whole reclaimed =
+    let left : new.out ≡ pool.out - sum_by free_of accounts = ap (λ (pool : PoolValue). pool.out) reclaimed in
+    let free : sum_by free_of accounts ≡ pool.out = free_of_whole accounts whole ∙ out in
+    omega (arith, left, free)

@@ -42,10 +42,10 @@ new_spools count quota = record { stakes = replicate count (Some (record { pool 
 abbrev pub pages_of : Stake → ℕ
 pages_of stake = stake.quota
 
--- the accounts behind spools are of that pool, have no more pages together than it has split off, and find room beside it
+-- the accounts behind spools are of that pool, have together the pages that it has split off, and find room beside it
 pub record AreOf (leases : LeasesValue) (stakes : List (Option Stake)) : Type 0 where
   pub own : All (λ stake. stake.pool ≡ leases.pool.number) (stakes_in stakes)
-  pub out : sum_by pages_of (stakes_in stakes) ≤ leases.pool.out
+  pub out : sum_by pages_of (stakes_in stakes) ≡ leases.pool.out
   pub room : length stakes ≤ leases.room
 
 -- no build runs beside the table, and there are no spools

@@ -99,7 +99,7 @@ impl<T: Table> Bench<T> {
             }
             Reply::Refused { fault } => {
                 let spools = self.core.exchange_spools(Vec::new(self.alloc));
-                let _missing = leases.reclaim(spools);
+                let _whole = leases.reclaim(spools);
                 Err(fault)
             }
             _ => unreachable!(),
@@ -178,7 +178,10 @@ fn reclaim(leases: Option<Leases>, spools: Vec<PlainSpool>) -> usize
     ensures { result ≡ 0 }
 {
     match leases {
-        Some(leases) => leases.reclaim(spools),
+        Some(leases) => {
+            let (_pool, missing) = leases.reclaim(spools);
+            missing
+        }
         None => 0,
     }
 }

@@ -51,21 +51,23 @@ impl Leases {
         Ok((leases, spools_over(alloc, accounts)?))
     }
 
-    /// Gives the spools up, and answers how many of their pages are missing. It takes no memory.
-    pub fn reclaim(self, spools: Vec<PlainSpool>) -> usize
+    /// Gives the spools up, and hands the pool back, with how many of its pages are missing. It takes no memory.
+    pub fn reclaim(self, spools: Vec<PlainSpool>) -> (Pool, usize)
         requires { AreOf self (map plain_stake spools.items) }
-        ensures { result ≡ 0 }
+        ensures pool { result.0.out ≡ 0 }
+        ensures missing { result.1 ≡ 0 }
     {
         let Leases {
             mut pool,
             mut accounts,
         } = self;
         give_up_all(spools, &mut accounts);
-        match pool.reclaim(accounts) {
+        let missing = match pool.reclaim(accounts) {
             Ok(()) => 0,
             Err(Fault::Short(missing)) => missing,
             Err(_) => unreachable!(),
-        }
+        };
+        (pool, missing)
     }
 }
 

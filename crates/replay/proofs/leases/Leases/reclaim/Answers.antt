@@ -13,4 +13,8 @@ pub reclaim-requires-clause-out : goal.reclaim-requires-clause-out
 reclaim-requires-clause-out c =
     let leases : LeasesValue = record { pool = c.self.inside.pool; room = vec_capacity c.self.inside.accounts } in
     let of = subst (λ (leases : LeasesValue). AreOf leases (map plain_stake c.args.spools.items)) (sym c.self.view_is) c.requires in
-    back_out leases c.args.spools.items c.self.inside.accounts.items c.give_up_all.new.accounts.items c.self.invariant c.give_up_all.ensures.stakes of
+    let out = back_out leases c.args.spools.items c.self.inside.accounts.items c.give_up_all.new.accounts.items c.self.invariant c.give_up_all.ensures.stakes of in
+    omega (arith, out)
+
+pub returns-clause-pool : goal.returns-clause-pool
+returns-clause-pool c = ?
