@@ -1,7 +1,7 @@
 //! Builds over several ranges of four pages.
 
 use crate::asks::Ask;
-use crate::builds::{Call, differing};
+use crate::calls::{Call, differing};
 use keybytes::Fault;
 
 /// A transaction inserts seven rows, two a page.
@@ -102,7 +102,7 @@ fn in_either_order(rt: HostRuntime) {
         &BAD_RANGES,
     ];
     for calls in cases {
-        assert_eq!(rt; differing(rt.alloc(), &FOUR_PAGES, calls), Ok(None));
+        assert_eq!(rt; differing(rt.alloc(), &[&FOUR_PAGES, calls]), Ok(None));
     }
 }
 
@@ -111,7 +111,7 @@ fn in_either_order(rt: HostRuntime) {
 fn where_memory_may_run_out(rt: HostRuntime) {
     let cases: [&[Call]; 2] = [&LAST_RANGE_FIRST, &EVEN_RANGES];
     for calls in cases {
-        let other = differing(rt.alloc(), &FOUR_PAGES, calls);
+        let other = differing(rt.alloc(), &[&FOUR_PAGES, calls]);
         assert!(rt; other == Ok(None) || other == Err(Fault::Memory));
     }
 }

@@ -187,15 +187,19 @@ IsWorkOf kinds log None (Some work) = ⊥
 IsWorkOf kinds log (Some b) None = ⊥
 IsWorkOf kinds log (Some b) (Some work) = IsWorkOn kinds log b work
 
+-- what the makers and spools of so many workers hold of the copies that these took: their pairs, until they are in order
+pub record HaveKits (count : ℕ) (workers : List WorkerValue) (spools : List SpoolValue) (work : WorkValue) : Type 0 where
+  pub equipped : AreEquipped work.spec.kinds work.spec count work.makers spools
+  pub opened : AreOpen work.spec count workers work.makers
+  pub holding : work.tree ≡ None → AreHolding work.spec count workers work.makers spools
+
 -- the workers of the build are at work on what their rings were sent, unless it is spoiled
 pub record AreAtWork (b : BuildState) (pages : List (PutEnd Copied)) (side : PutEnd Entry) (building : BuildingValue) (work : WorkValue) : Type 0 where
   -- nothing is in the side-file's ring
   pub drained : IsDrained side building.side.ring building.side.received
   pub given : building.given ≡ true
   pub taking : work.spoiled ≡ None → AreTaking b.number b.workers (all_sent pages) building.workers
-  pub equipped : work.spoiled ≡ None → AreEquipped work.spec.kinds work.spec b.workers work.makers building.spools
-  pub opened : work.spoiled ≡ None → AreOpen work.spec b.workers building.workers work.makers
-  pub holding : work.spoiled ≡ None → work.tree ≡ None → AreHolding work.spec b.workers building.workers work.makers building.spools
+  pub kits : work.spoiled ≡ None → HaveKits b.workers building.workers building.spools work
 
 -- the same for the build that runs, if one does
 abbrev pub WorkersFollow : List (PutEnd Copied) → PutEnd Entry → BuildingValue → Option BuildState → Option WorkValue → Type 0

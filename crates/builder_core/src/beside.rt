@@ -7,6 +7,7 @@ ghost use Rattle.builder_core.specs.Builds.{given_up};
 ghost use Rattle.builder_core.specs.Holding.{spool_value, spools_state, Digested, Sealed};
 ghost use Rattle.builder_core.specs.Working.{CanTake, HasTaken, one_copy, all_copies, HasLoaded, IsSpoiled};
 
+use crate::ending::end_spools;
 use crate::merging::merged_pairs;
 use crate::taking::{digest_at, seal_at};
 use crate::work::Work;
@@ -14,7 +15,7 @@ use crate::{Ends, Table};
 use building::Worker;
 use keybytes::Fault;
 use rtrb::Consumer;
-use run_spool::{Spool, are_empty, end_all};
+use run_spool::{Spool, are_empty};
 use side_file::Entry;
 use std::alloc::Global;
 use std::marker::{Model, PhantomData};
@@ -91,11 +92,11 @@ impl<S: Spool, T: Table> Building<S, T> {
             workers,
             side_end,
             mut spools,
-            given: _given,
-            work: _work,
+            given: _,
+            work: _,
             of,
         } = self;
-        end_all(spools.as_mut_slice());
+        end_spools(&mut spools);
         let ends = Ends {
             workers,
             side_end,
@@ -118,7 +119,7 @@ impl<S: Spool, T: Table> Building<S, T> {
         let mut others = replace(&mut self.spools, spools);
         self.given = false;
         self.work = None;
-        end_all(others.as_mut_slice());
+        end_spools(&mut others);
         others
     }
 
@@ -153,13 +154,19 @@ impl<S: Spool, T: Table> Building<S, T> {
         let Some(work) = &mut self.work else {
             unreachable!()
         };
-        match digest_at(&mut self.workers, &mut work.makers, &mut self.spools, worker) {
-            Ok(images) => Ok(images),
+        let images = match digest_at(
+            &mut self.workers,
+            &mut work.makers,
+            &mut self.spools,
+            worker,
+        ) {
+            Ok(images) => images,
             Err(fault) => {
                 work.spoiled = Some(fault);
-                Err(fault)
+                return Err(fault);
             }
-        }
+        };
+        Ok(images)
     }
 
     /// Lets a worker take all copies that it has seen, and close its run. Want of memory or of a page spoils the build.
@@ -172,13 +179,19 @@ impl<S: Spool, T: Table> Building<S, T> {
         let Some(work) = &mut self.work else {
             unreachable!()
         };
-        match seal_at(&mut self.workers, &mut work.makers, &mut self.spools, worker) {
-            Ok(images) => Ok(images),
+        let images = match seal_at(
+            &mut self.workers,
+            &mut work.makers,
+            &mut self.spools,
+            worker,
+        ) {
+            Ok(images) => images,
             Err(fault) => {
                 work.spoiled = Some(fault);
-                Err(fault)
+                return Err(fault);
             }
-        }
+        };
+        Ok(images)
     }
 
     /// Puts the pairs of all spools in order, and answers how many there are; 0 where they are in order already. Want of memory
@@ -214,6 +227,6 @@ impl<S: Spool, T: Table> Building<S, T> {
         ensures { self.new ≡ given_up self.old }
     {
         self.work = None;
-        end_all(self.spools.as_mut_slice());
+        end_spools(&mut self.spools);
     }
 }

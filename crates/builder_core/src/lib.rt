@@ -16,6 +16,7 @@ mod beside;
 mod changes;
 mod core_steps;
 mod dealing;
+mod ending;
 mod ends;
 mod event;
 mod live;

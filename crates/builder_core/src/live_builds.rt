@@ -22,6 +22,7 @@ ghost use Rattle.builder_core.specs.SideFiles.{IsDrained};
 ghost use Rattle.builder_core.specs.Steps.{Starts, Scans, Digests, Seals, Loads, Switches, OnBuild, spoiled_by, start_refusal, counts_fit};
 ghost use Rattle.builder_core.specs.declared.event.Event.{Event};
 
+use crate::ending::end_spools;
 use crate::parts::WORKERS_MAX;
 use crate::rings::restart_all;
 use crate::table_scan::TableScan;
@@ -280,7 +281,7 @@ impl<T: Table> Live<T> {
         // It tells that its columns make a key, whose bytes are then in the columns' order.
         let _columns = spec.columns();
         self.ready.push_reserved(ReadyIndex::new(spec, pairs));
-        building.give_up();
+        end_spools(&mut building.spools);
         Ok(noted)
     }
 }
@@ -328,6 +329,7 @@ fn make_room(work: &mut Option<Work>, n: usize) -> Result<(), Fault>
     ensures room { OnOk result (IfSome work.new (λ w. n ≤ w.room)) }
     ensures same { (w : WorkValue) → work.old ≡ Some w → (room : ℕ) × (work.new ≡ Some (record w { room = room })) }
     ensures none { work.old ≡ None → work.new ≡ None }
+    ensures loaded { IfSome work.new (λ w. is_some w.tree ≡ true) }
     ensures memory { IfErr result (λ fault. fault ≡ Fault.Memory) }
 {
     match work {

@@ -176,6 +176,8 @@ impl<T: Table> Live<T> {
         ensures works { WorksOn self.now building.new }
         ensures memory { IfErr result (λ fault. fault ≡ Fault.Memory) }
     {
+        // That there are 16 workers is known once their field is reached.
+        let _workers = &building.workers;
         building.load(self.alloc)
     }
 }

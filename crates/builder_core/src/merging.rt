@@ -5,9 +5,10 @@ ghost use Rattle.run_spool.specs.Spools.{AreSorted, all_pairs};
 ghost use Rattle.run_merge.specs.Merging.{all_runs};
 ghost use Rattle.builder_core.specs.Holding.{spool_value, ended_spool};
 
+use crate::ending::end_spools;
 use keybytes::{Fault, Pair};
 use run_merge::merge;
-use run_spool::{Spool, end_all};
+use run_spool::Spool;
 use std::alloc::Global;
 use std::mem::replace;
 
@@ -25,7 +26,7 @@ pub fn merged_pairs<S: Spool>(alloc: Global, spools: &mut Vec<S>) -> Result<Vec<
     let (pairs, back) = merge_all(alloc, lent);
     *spools = back;
     let pairs = pairs?;
-    end_all(spools.as_mut_slice());
+    end_spools(spools);
     Ok(pairs)
 }
 

@@ -3,9 +3,10 @@ ghost use Rattle.builder_core.specs.CoreState.{ReadyFollowTable};
 ghost use Rattle.builder_core.specs.Headline.{RunsAsAtRest};
 ghost use Rattle.builder_core.specs.Holding.{spools_in};
 
+use crate::ending::end_spools;
 use crate::{Core, Ends, Event, Live, Reply, Table};
 use keybytes::Fault;
-use run_spool::{Spool, end_all};
+use run_spool::Spool;
 use std::alloc::Global;
 
 /// Does all events in turn, and answers each. Want of memory before the first event does none of them. A build that runs in the
@@ -29,7 +30,7 @@ pub fn run_events<S: Spool, T: Table>(
         Ok(replies) => replies,
         Err(_) => {
             let mut spools = spools;
-            end_all(spools.as_mut_slice());
+            end_spools(&mut spools);
             return (live, ends, spools, Err(Fault::Memory));
         }
     };

@@ -18,10 +18,12 @@ pub fn digest_at<S: Spool>(
     spools: &mut Vec<S>,
     worker: usize,
 ) -> Result<usize, Fault>
-    requires { (spec : KeySpecValue) × CanTakeAt spec worker one_copy workers.old.items makers.old.items (map (spool_value S.runs S.open_run S.stake) spools.old.items) }
+    requires { (spec : KeySpecValue)
+        × CanTakeAt spec worker one_copy workers.old.items makers.old.items (map (spool_value S.runs S.open_run S.stake) spools.old.items) }
     ensures taken { IfOk result (λ images. (spec : KeySpecValue)
         → CanTakeAt spec worker one_copy workers.old.items makers.old.items (map (spool_value S.runs S.open_run S.stake) spools.old.items)
-        → HasTakenAt spec worker one_copy (λ w. w) Digested workers.old.items makers.old.items (map (spool_value S.runs S.open_run S.stake) spools.old.items) images
+        → HasTakenAt spec worker one_copy (λ w. w) Digested workers.old.items makers.old.items
+        (map (spool_value S.runs S.open_run S.stake) spools.old.items) images
         workers.new.items makers.new.items (map (spool_value S.runs S.open_run S.stake) spools.new.items)) }
     ensures rings { take_rings workers.new.items ≡ take_rings workers.old.items }
     ensures stakes { map S.stake spools.new.items ≡ map S.stake spools.old.items }
@@ -29,7 +31,11 @@ pub fn digest_at<S: Spool>(
 {
     let (_, rest) = spools.as_mut_slice().split_at_mut(worker);
     let (own, _) = rest.split_at_mut(1);
-    workers[worker].digest(&mut makers[worker], own)
+    let maker = &mut makers[worker];
+    let taken = workers[worker].digest(maker, own);
+    // (what every maker keeps is then known of this one)
+    maker.laws();
+    taken
 }
 
 /// Lets a worker take all copies that it has seen, and close its run.
@@ -39,10 +45,12 @@ pub fn seal_at<S: Spool>(
     spools: &mut Vec<S>,
     worker: usize,
 ) -> Result<usize, Fault>
-    requires { (spec : KeySpecValue) × CanTakeAt spec worker all_copies workers.old.items makers.old.items (map (spool_value S.runs S.open_run S.stake) spools.old.items) }
+    requires { (spec : KeySpecValue)
+        × CanTakeAt spec worker all_copies workers.old.items makers.old.items (map (spool_value S.runs S.open_run S.stake) spools.old.items) }
     ensures taken { IfOk result (λ images. (spec : KeySpecValue)
         → CanTakeAt spec worker all_copies workers.old.items makers.old.items (map (spool_value S.runs S.open_run S.stake) spools.old.items)
-        → HasTakenAt spec worker all_copies after_seal Sealed workers.old.items makers.old.items (map (spool_value S.runs S.open_run S.stake) spools.old.items) images
+        → HasTakenAt spec worker all_copies after_seal Sealed workers.old.items makers.old.items
+        (map (spool_value S.runs S.open_run S.stake) spools.old.items) images
         workers.new.items makers.new.items (map (spool_value S.runs S.open_run S.stake) spools.new.items)) }
     ensures rings { take_rings workers.new.items ≡ take_rings workers.old.items }
     ensures stakes { map S.stake spools.new.items ≡ map S.stake spools.old.items }
@@ -50,5 +58,9 @@ pub fn seal_at<S: Spool>(
 {
     let (_, rest) = spools.as_mut_slice().split_at_mut(worker);
     let (own, _) = rest.split_at_mut(1);
-    workers[worker].seal(&mut makers[worker], own)
+    let maker = &mut makers[worker];
+    let taken = workers[worker].seal(maker, own);
+    // (what every maker keeps is then known of this one)
+    maker.laws();
+    taken
 }

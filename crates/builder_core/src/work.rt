@@ -1,7 +1,8 @@
 //! The work of a build.
 ghost use Rattle.builder_core.specs.Builds.{fresh};
 ghost use Rattle.builder_core.specs.Holding.{fresh_maker};
-ghost use Rattle.std.specs.Prelude.{replicate, IfOk, ◌≡◌, ◌≤◌, ◌-◌, vec_len, vec_capacity, is_some, true, None, Some, IfSome, IfErr, OnOk, MatchResult, MatchOption};
+ghost use Rattle.std.specs.Prelude.{◌≡◌, ◌≤◌, ◌-◌, replicate, vec_len, vec_capacity, is_some, true, None, Some};
+ghost use Rattle.std.specs.Prelude.{IfSome, IfOk, IfErr, OnOk, MatchResult, MatchOption};
 
 use crate::Pair;
 use keybytes::{Fault, KeySpec, Schema};
@@ -37,12 +38,7 @@ impl Model for Work {
 
 impl Work {
     /// A build by so many workers, on rows of these columns, that has done nothing.
-    pub fn new(
-        alloc: Global,
-        schema: &Schema,
-        spec: KeySpec,
-        workers: usize,
-    ) -> Result<Work, Fault>
+    pub fn new(alloc: Global, schema: &Schema, spec: KeySpec, workers: usize) -> Result<Work, Fault>
         requires { spec.kinds ≡ schema.now }
         ensures ok { IfOk result (λ work. work ≡ fresh schema.now spec workers) }
         ensures memory { IfErr result (λ fault. fault ≡ Fault.Memory) }

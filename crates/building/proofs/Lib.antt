@@ -1,5 +1,5 @@
-pub mod CopyPairs
 pub mod Digests
+pub mod Holding
 pub mod ManyPairs
 pub mod PageCopies
 pub mod Rings

@@ -1,4 +1,4 @@
-ghost use Rattle.std.specs.Prelude.{◌≡◌, ◌≤◌, ◌<◌, ◌⊎◌, ◌++◌, [], ℕ, All, length, map};
+ghost use Rattle.std.specs.Prelude.{◌≡◌, ◌≤◌, ◌<◌, ◌⊎◌, ◌+◌, ◌++◌, [], ℕ, All, length, map};
 ghost use Rattle.std.specs.Prelude.{IfErr, IfOk, OnOk, OnErr};
 ghost use Rattle.side_file.specs.Ends.{ring_take};
 ghost use Rattle.run_spool.specs.Spools.{AreSorted};
@@ -166,6 +166,7 @@ impl Worker {
         for _ in 0..self.seen() {
             images += self.digest(maker, spools)?;
         }
+        maker.laws();
         maker.seal(spools)?;
         self.sealed = self.taken;
         Ok(images)

@@ -17,7 +17,7 @@ closed_sorted runs [] up all = all
 closed_sorted runs (first ∷ run) up all = All-push (λ r. IsSorted pair_cmp r) runs (first ∷ run) all up
 
 -- a run more has its pairs more
-all_closed : (runs : List (List Pair)) (run : List Pair) → all_pairs (with_closed_run runs run) ≡ all_pairs runs ++ run
+pub all_closed : (runs : List (List Pair)) (run : List Pair) → all_pairs (with_closed_run runs run) ≡ all_pairs runs ++ run
 all_closed runs [] = sym (append-nil (all_pairs runs))
 all_closed runs (first ∷ run) =
     flat_map-append (λ (r : List Pair). r) runs ((first ∷ run) ∷ []) ∙ ap (λ (r : List Pair). all_pairs runs ++ r) (append-nil (first ∷ run))

@@ -55,13 +55,15 @@ impl Maker {
         })
     }
 
-    /// Does nothing: its clauses tell what every maker keeps.
+    /// Changes nothing: its clauses tell what every maker keeps.
     pub fn laws(&self)
         ensures specs { All (λ spec. spec.kinds ≡ self.now.schema) self.now.specs }
         ensures begun { length self.now.begun ≡ length self.now.specs }
         ensures short { All (λ begun. length begun < 4096) self.now.begun }
     {
-        let _kept = &self.specs;
+        for begun in &self.begun {
+            begun.laws();
+        }
     }
 
     /// Takes a copy of a page: makes one pair of each row and index, and spools those that make a run.

@@ -38,6 +38,13 @@ impl OpenRun {
         }
     }
 
+    /// Does nothing: its clause tells what every one keeps.
+    pub(crate) fn laws(&self)
+        ensures { length self.now < 4096 }
+    {
+        let _kept = &self.pairs;
+    }
+
     pub(crate) fn is_empty(&self) -> bool
         ensures { IsTrue result ↔ (self.now ≡ []) }
     {

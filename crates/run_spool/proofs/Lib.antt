@@ -6,3 +6,4 @@ pub mod Chains
 pub mod RunSteps
 pub mod SpoolSteps
 pub mod PairRuns
+pub mod EachSpool
