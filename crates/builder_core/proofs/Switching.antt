@@ -121,7 +121,7 @@ done_stakes s (Load index) reply new does = let on = on_build s.live.build _ doe
 done_stakes s Switch reply new does = let on = on_build s.live.build _ does.2 in ap stakes_of on.1.2
 done_stakes s Abandon reply new does = ap stakes_of does.1
 
-step_stakes : (s : CoreState) (event : Event) (reply : Reply) (new : CoreState) → Step s event reply new → stakes_of new ≡ stakes_of s
+pub step_stakes : (s : CoreState) (event : Event) (reply : Reply) (new : CoreState) → Step s event reply new → stakes_of new ≡ stakes_of s
 step_stakes s event reply new (inl refused) = elim refused.2 [
   | inl cause ↦ ap stakes_of cause.1
   | inr wants ↦ want_keeps stakes_of s event refused.0 new refl wants.2

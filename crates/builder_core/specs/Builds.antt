@@ -193,7 +193,8 @@ pub record HaveKits (count : ℕ) (workers : List WorkerValue) (spools : List Sp
   pub opened : AreOpen work.spec count workers work.makers
   pub holding : work.tree ≡ None → AreHolding work.spec count workers work.makers spools
 
--- the workers of the build are at work on what their rings were sent, unless it is spoiled
+-- nothing is in the side-file's ring, the build has the spools, and its workers are at work on what their rings were sent; of a spoiled build
+-- only the first two are known
 pub record AreAtWork (b : BuildState) (pages : List (PutEnd Copied)) (side : PutEnd Entry) (building : BuildingValue) (work : WorkValue) : Type 0 where
   -- nothing is in the side-file's ring
   pub drained : IsDrained side building.side.ring building.side.received
@@ -207,7 +208,8 @@ WorkersFollow pages side building None work = Unit {0}
 WorkersFollow pages side building (Some b) None = Unit {0}
 WorkersFollow pages side building (Some b) (Some work) = AreAtWork b pages side building work
 
--- work stands beside a table exactly where a build runs on it, and is that build's, and its workers follow their rings
+-- work stands beside a table exactly where a build runs on it, and is that build's; its workers follow their rings, and their makers and
+-- spools hold what they took
 pub record WorksOn (live : LiveValue) (building : BuildingValue) : Type 0 where
   pub work : IsWorkOf live.state.heap.schema live.state.heap.log live.state.build building.work
   pub workers : WorkersFollow live.pages live.side building live.state.build building.work

@@ -1,5 +1,5 @@
--- A table, its ready indexes and the build that runs, as callers see them, in two halves: what a lock has to keep, and what the
--- workers of the build do beside it.
+-- A table, its ready indexes and the build that runs, as callers see them: what a lock has to keep, and beside it what the workers of
+-- the build do and the spools that they have.
 use Rattle.std.specs.Prelude.{◌≡◌, ℕ, zero, suc, Bool, List, [], Option, None, Some}
 use Rattle.spool_ledger.specs.Accounts.{Stake}
 use Rattle.std.specs.List.{All}

@@ -66,11 +66,11 @@ pub record HasTaken
   pub taken : HasTakenAt work.spec worker count closing Spools old.workers work.makers old.spools images workers makers spools
   pub left : new ≡ record old { workers = workers; spools = spools; work = Some (record work { makers = makers }) }
 
--- the copies that a worker takes at a digest, and at a seal
+-- how many copies a worker takes at a digest
 abbrev pub one_copy : WorkerValue → ℕ
 one_copy worker = 1
 
--- all that it sees
+-- and at a seal: all that it sees
 abbrev pub all_copies : WorkerValue → ℕ
 all_copies worker = length worker.end.known
 

@@ -1,5 +1,5 @@
 //! What stands beside a table.
-ghost use Rattle.std.specs.Prelude.{◌≡◌, ◌≤◌, ◌⊎◌, All, length, map, false, None, Some, IsSome, IfSome, IfOk, IfErr, OnErr, MatchOption};
+ghost use Rattle.std.specs.Prelude.{◌≡◌, ◌≤◌, ◌⊎◌, [], All, length, map, false, None, Some, IsSome, IfSome, IfOk, IfErr, OnErr, MatchOption};
 ghost use Rattle.std.specs.List.{list_all};
 ghost use Rattle.run_spool.specs.Spools.{AreSorted};
 ghost use Rattle.building.specs.Work.{after_seal};
@@ -128,6 +128,14 @@ impl<S: Spool, T: Table> Building<S, T> {
         ensures { MatchOption result (self.now.work ≡ None) (λ work. self.now.work ≡ Some work.now) }
     {
         self.work.as_ref()
+    }
+
+    /// The spools. Once a build that had them has ended they are ended.
+    pub(crate) fn spools(&self) -> &[S]
+        ensures stakes { map S.stake result.now ≡ (spools_state self.now.given self.now.spools).stakes }
+        ensures ended { self.now.work ≡ None → (spools_state self.now.given self.now.spools).left ≡ [] → All S.ended result.now }
+    {
+        self.spools.as_slice()
     }
 
     /// How many spools are left for the next build.

@@ -1,4 +1,4 @@
-ghost use Rattle.std.specs.Prelude.{◌≡◌, All, map, Some, None, is_some, IfOk, IfErr, OnOk, OnErr, MatchResult, slice_get};
+ghost use Rattle.std.specs.Prelude.{◌≡◌, [], All, map, Some, None, is_some, IfOk, IfErr, OnOk, OnErr, MatchResult, slice_get};
 ghost use Rattle.keybytes.specs.Faults.{RefusedFor};
 ghost use Rattle.heap_log.specs.Standing.{live_at};
 ghost use Rattle.heap_table.specs.HeapState.{row_missing, after_visit};
@@ -79,6 +79,15 @@ impl<S: Spool, T: Table> Core<S, T> {
         self.building.exchange(spools)
     }
 
+    /// The spools that were handed in. Once a build was given them and has ended, by a switch or by giving it up, each of them is
+    /// ended, with every leased page back.
+    pub fn spools(&self) -> &[S]
+        ensures stakes { map S.stake result.now ≡ self.now.spools.stakes }
+        ensures ended { self.now.live.build ≡ None → self.now.spools.left ≡ [] → All S.ended result.now }
+    {
+        self.building.spools()
+    }
+
     /// The columns of the table.
     pub fn schema(&self) -> &Schema
         ensures { result.now ≡ self.now.live.heap.schema }
@@ -155,6 +164,7 @@ impl<S: Spool, T: Table> Core<S, T> {
     /// spoils the build.
     pub fn step(&mut self, event: Event) -> Reply
         ensures step { Step self.old event result self.new }
+        ensures stakes { self.new.spools.stakes ≡ self.old.spools.stakes }
         ensures ready { ReadyFollowTable self.new.live }
         ensures sound { IfSome self.new.live.build (λ b. BuildIsSound b self.new.live.heap.log) }
     {

@@ -12,7 +12,7 @@ use run_spool::Spool;
 use std::alloc::Global;
 use std::mem::replace;
 
-/// Merges the pairs of all closed runs, and ends the spools. Want of memory may lose some of the pairs.
+/// Merges the pairs of all closed runs, and then ends the spools. Want of memory may lose some of the pairs, and ends no spool.
 pub fn merged_pairs<S: Spool>(alloc: Global, spools: &mut Vec<S>) -> Result<Vec<Pair>, Fault>
     requires { All AreSorted (map S.runs spools.old.items) }
     ensures all { IfOk result (λ pairs. IsPermutation (all_pairs (all_runs (map S.runs spools.old.items))) pairs.items) }

@@ -9,8 +9,9 @@ use keybytes::Fault;
 use run_spool::Spool;
 use std::alloc::Global;
 
-/// Does all events in turn, and answers each. Want of memory before the first event does none of them. A build that runs in the
-/// table that is handed in, or still behind the last event, is abandoned. The spools come back ended, however it goes.
+/// Does all events in turn, and answers each. Want of memory before the first event does none of them. Otherwise a
+/// build that runs in the table that is handed in, or still behind the last event, is abandoned. The spools come back ended, however it
+/// goes.
 pub fn run_events<S: Spool, T: Table>(
     alloc: Global,
     live: Live<T>,
