@@ -1,2 +1,1 @@
 mod Owing
-pub mod Stakes
