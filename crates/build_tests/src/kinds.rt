@@ -1,14 +1,17 @@
 //! The build of three rows over spools of other kinds.
 
-use crate::asks::Ask;
+use crate::asks::{Ask, numbers_in};
 use crate::builds::{BUILD, ROWS};
-use crate::calls::{Call, differing_beside};
+use crate::calls::{Call, differing_beside, table};
 use crate::list_spool::ListSpool;
+use crate::lists::events;
 use crate::pools::{QUOTA, new_pool, plain_spool};
+use crate::returned::ended_by_run;
+use builder_core::Reply;
 use keybytes::Fault;
-use run_spool::Spool;
+use run_spool::{Spool, give_up};
 use std::alloc::Global;
-use std::test::Fail;
+use std::marker::Brand;
 
 /// A spool for four runs of eight pairs each.
 fn list_spool(alloc: Global) -> Result<ListSpool, Fault> {
@@ -26,7 +29,7 @@ fn a_build_over_lists(rt: HostRuntime) {
 }
 
 /// By two workers, each with a page.
-const BY_TWO: [Call; 9] = [
+const BY_TWO: [Call; 7] = [
     Call::Event(Ask::StartBy(2, 2), Ok((2, 0))),
     Call::Event(Ask::ScanFor(0, 0), Ok((0, 0))),
     Call::Event(Ask::ScanFor(1, 1), Ok((1, 0))),
@@ -34,18 +37,49 @@ const BY_TWO: [Call; 9] = [
     Call::Event(Ask::SealBy(1), Ok((1, 0))),
     Call::Event(Ask::Load, Ok((3, 0))),
     Call::Event(Ask::Switch, Ok((7, 0))),
-    Call::Building(false),
-    Call::Ready(Ok(true)),
 ];
 
 /// The first worker's spool is a plain one, the second's keeps its runs in lists.
-#[test]
-fn a_build_over_both_kinds_in_boxes(rt: HostRuntime) -> Result<(), Fail> {
-    let alloc = rt.alloc();
+fn both_kinds(alloc: Global) -> Result<Vec<Box<dyn Spool + Send>>, Fault> {
     let mut pool = new_pool(alloc)?;
     let plain: Box<dyn Spool + Send> = Box::new(alloc, plain_spool(alloc, &mut pool, QUOTA)?)?;
     let list: Box<dyn Spool + Send> = Box::new(alloc, list_spool(alloc)?)?;
-    let spools = vec![in alloc; plain, list]?;
-    assert!(rt; differing_beside(alloc, 2, pool, spools, &[&ROWS, &BY_TWO])? == None);
-    Ok(())
+    Ok(vec![in alloc; plain, list]?)
+}
+
+/// Whether the last replies are the answers of these calls.
+fn end_with(replies: &[Reply], calls: &[Call]) -> bool {
+    let mut told = replies.iter().rev();
+    for call in calls.iter().rev() {
+        if let Call::Event(_, answer) = call
+            && told.next().map(numbers_in) != Some(*answer)
+        {
+            return false;
+        }
+    }
+    true
+}
+
+/// Whether the build is answered so, and how many accounts stood behind the spools.
+fn over_boxes(alloc: Global) -> Result<(bool, usize), Fault> {
+    let spools = both_kinds(alloc)?;
+    let mut asked = events(alloc, &ROWS)?;
+    for event in events(alloc, &BY_TWO)? {
+        asked.push(event)?;
+    }
+    let parts = table(alloc, 2)?;
+    let (spools, replies) =
+        ended_by_run::<Box<dyn Spool + Send>, Brand>(alloc, parts, spools, &asked);
+    let mut accounts = 0;
+    for spool in spools {
+        if give_up(spool).is_some() {
+            accounts = 1;
+        }
+    }
+    Ok((end_with(&replies?, &BY_TWO), accounts))
+}
+
+#[test]
+fn a_build_over_both_kinds_in_boxes(rt: HostRuntime) {
+    assert_eq!(rt; over_boxes(rt.alloc()), Ok((true, 1)));
 }

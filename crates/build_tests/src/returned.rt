@@ -14,7 +14,7 @@ use std::alloc::Global;
 use std::marker::Brand;
 
 /// Does a list of events on a table, beside these spools.
-fn ended_by_run<S: Spool, T: Table>(
+pub fn ended_by_run<S: Spool, T: Table>(
     alloc: Global,
     parts: Parts,
     spools: Vec<S>,
@@ -141,7 +141,7 @@ fn is_whole(alloc: Global, pool: &mut Pool) -> Result<bool, Fault> {
 fn by_run(alloc: Global, asks: &[Ask]) -> Result<(bool, Result<Vec<Reply>, Fault>), Fault> {
     let mut pool = new_pool(alloc)?;
     let spools = plain_spools(alloc, &mut pool, 1, 1)?;
-    let accounts = Vec::with_capacity(alloc, 1)?;
+    let accounts = Vec::with_capacity(alloc, spools.len())?;
     let events = events(alloc, 240, asks)?;
     let parts = table(alloc, 255)?;
     let told = returned_by_run::<PlainSpool, Brand>(
@@ -153,7 +153,7 @@ fn by_run(alloc: Global, asks: &[Ask]) -> Result<(bool, Result<Vec<Reply>, Fault
 fn by_steps(alloc: Global, asks: &[Ask]) -> Result<(bool, Result<(), Fault>), Fault> {
     let mut pool = new_pool(alloc)?;
     let spools = plain_spools(alloc, &mut pool, 1, 1)?;
-    let accounts = Vec::with_capacity(alloc, 1)?;
+    let accounts = Vec::with_capacity(alloc, spools.len())?;
     let events = events(alloc, 240, asks)?;
     let parts = table(alloc, 255)?;
     let told = returned_by_steps::<PlainSpool, Brand>(parts, spools, accounts, &mut pool, events);
