@@ -1,4 +1,5 @@
 //! The build of three rows over spools of other kinds.
+ghost use Rattle.std.specs.Prelude.{◌≡◌};
 
 use crate::asks::{Ask, numbers_in};
 use crate::builds::{BUILD, ROWS};
@@ -7,7 +8,7 @@ use crate::list_spool::ListSpool;
 use crate::lists::events;
 use crate::pools::{QUOTA, new_pool, plain_spool};
 use crate::returned::ended_by_run;
-use builder_core::Reply;
+use builder_core::{Event, Parts, Reply, Table};
 use keybytes::Fault;
 use run_spool::{Spool, give_up};
 use std::alloc::Global;
@@ -60,23 +61,43 @@ fn end_with(replies: &[Reply], calls: &[Call]) -> bool {
     true
 }
 
-/// Whether the build is answered so, and how many accounts stood behind the spools.
+/// Whether the build by two is answered so over these spools, and how many accounts stood behind them.
+fn built_over<S: Spool, T: Table>(
+    alloc: Global,
+    parts: Parts,
+    spools: Vec<S>,
+    asked: &[Event],
+) -> Result<(bool, usize), Fault>
+    requires pages { parts.pages ≡ T.pages }
+    requires side { parts.side ≡ T.side }
+{
+    let (spools, replies) = ended_by_run::<S, T>(alloc, parts, spools, asked);
+    let mut accounts = Vec::new(alloc);
+    for spool in spools {
+        if let Some(account) = give_up(spool) {
+            accounts.push(account)?;
+        }
+    }
+    Ok((end_with(&replies?, &BY_TWO), accounts.len()))
+}
+
+/// The same of a table that gets a name for it.
+fn built_over_named<S: Spool>(
+    alloc: Global,
+    spools: Vec<S>,
+    asked: &[Event],
+) -> Result<(bool, usize), Fault> {
+    let parts = table(alloc, 2)?;
+    built_over::<S, Brand>(alloc, parts, spools, asked)
+}
+
 fn over_boxes(alloc: Global) -> Result<(bool, usize), Fault> {
     let spools = both_kinds(alloc)?;
     let mut asked = events(alloc, &ROWS)?;
     for event in events(alloc, &BY_TWO)? {
         asked.push(event)?;
     }
-    let parts = table(alloc, 2)?;
-    let (spools, replies) =
-        ended_by_run::<Box<dyn Spool + Send>, Brand>(alloc, parts, spools, &asked);
-    let mut accounts = 0;
-    for spool in spools {
-        if give_up(spool).is_some() {
-            accounts = 1;
-        }
-    }
-    Ok((end_with(&replies?, &BY_TWO), accounts))
+    built_over_named(alloc, spools, &asked)
 }
 
 #[test]

@@ -118,12 +118,8 @@ const SPOILED: [Call; 13] = [
 
 #[test]
 fn a_build_that_wants_a_page(rt: HostRuntime) {
-    let cases: [&[&[Call]]; 3] = [
-        &[&FITS],
-        &[&SEAL_WANTS_A_PAGE, &SPOILED],
-        &[&DIGEST_WANTS_A_PAGE, &SPOILED],
-    ];
-    for calls in cases {
-        assert_eq!(rt; beside(rt.alloc(), 255, 1, 1, calls), Ok(None));
-    }
+    let alloc = rt.alloc();
+    assert_eq!(rt; beside(alloc, 255, 1, 1, &[&FITS]), Ok(None));
+    assert_eq!(rt; beside(alloc, 255, 1, 1, &[&SEAL_WANTS_A_PAGE, &SPOILED]), Ok(None));
+    assert_eq!(rt; beside(alloc, 255, 1, 1, &[&DIGEST_WANTS_A_PAGE, &SPOILED]), Ok(None));
 }

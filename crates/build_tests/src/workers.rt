@@ -88,10 +88,11 @@ const WHILE_WRITTEN: [Call; 13] = [
 
 #[test]
 fn take_what_is_put_for_each(rt: HostRuntime) {
-    let cases: [&[Call]; 4] = [&TWO_WORKERS, &SIXTEEN_WORKERS, &ABANDONED, &WHILE_WRITTEN];
-    for calls in cases {
-        assert_eq!(rt; differing(rt.alloc(), &[&FOUR_PAGES, calls]), Ok(None));
-    }
+    let alloc = rt.alloc();
+    assert_eq!(rt; differing(alloc, &[&FOUR_PAGES, &TWO_WORKERS]), Ok(None));
+    assert_eq!(rt; differing(alloc, &[&FOUR_PAGES, &SIXTEEN_WORKERS]), Ok(None));
+    assert_eq!(rt; differing(alloc, &[&FOUR_PAGES, &ABANDONED]), Ok(None));
+    assert_eq!(rt; differing(alloc, &[&FOUR_PAGES, &WHILE_WRITTEN]), Ok(None));
 }
 
 /// `rt try --test --fail-alloc N` for each N shows that no allocation that fails gives a wrong answer.
