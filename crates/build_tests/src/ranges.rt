@@ -95,8 +95,14 @@ const BAD_RANGES: [Call; 8] = [
 #[test]
 fn in_either_order(rt: HostRuntime) {
     let alloc = rt.alloc();
-    assert_eq!(rt; differing(alloc, &[&FOUR_PAGES, &FIRST_RANGE_FIRST]), Ok(None));
-    assert_eq!(rt; differing(alloc, &[&FOUR_PAGES, &LAST_RANGE_FIRST]), Ok(None));
+    assert_eq!(rt;
+        differing(alloc, &[&FOUR_PAGES, &FIRST_RANGE_FIRST]),
+        Ok(None)
+    );
+    assert_eq!(rt;
+        differing(alloc, &[&FOUR_PAGES, &LAST_RANGE_FIRST]),
+        Ok(None)
+    );
     assert_eq!(rt; differing(alloc, &[&FOUR_PAGES, &EVEN_RANGES]), Ok(None));
     assert_eq!(rt; differing(alloc, &[&FOUR_PAGES, &EMPTY_RANGES]), Ok(None));
     assert_eq!(rt; differing(alloc, &[&FOUR_PAGES, &BAD_RANGES]), Ok(None));

@@ -120,6 +120,12 @@ const SPOILED: [Call; 13] = [
 fn a_build_that_wants_a_page(rt: HostRuntime) {
     let alloc = rt.alloc();
     assert_eq!(rt; beside(alloc, 255, 1, 1, &[&FITS]), Ok(None));
-    assert_eq!(rt; beside(alloc, 255, 1, 1, &[&SEAL_WANTS_A_PAGE, &SPOILED]), Ok(None));
-    assert_eq!(rt; beside(alloc, 255, 1, 1, &[&DIGEST_WANTS_A_PAGE, &SPOILED]), Ok(None));
+    assert_eq!(rt;
+        beside(alloc, 255, 1, 1, &[&SEAL_WANTS_A_PAGE, &SPOILED]),
+        Ok(None)
+    );
+    assert_eq!(rt;
+        beside(alloc, 255, 1, 1, &[&DIGEST_WANTS_A_PAGE, &SPOILED]),
+        Ok(None)
+    );
 }

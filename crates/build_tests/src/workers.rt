@@ -90,7 +90,10 @@ const WHILE_WRITTEN: [Call; 13] = [
 fn take_what_is_put_for_each(rt: HostRuntime) {
     let alloc = rt.alloc();
     assert_eq!(rt; differing(alloc, &[&FOUR_PAGES, &TWO_WORKERS]), Ok(None));
-    assert_eq!(rt; differing(alloc, &[&FOUR_PAGES, &SIXTEEN_WORKERS]), Ok(None));
+    assert_eq!(rt;
+        differing(alloc, &[&FOUR_PAGES, &SIXTEEN_WORKERS]),
+        Ok(None)
+    );
     assert_eq!(rt; differing(alloc, &[&FOUR_PAGES, &ABANDONED]), Ok(None));
     assert_eq!(rt; differing(alloc, &[&FOUR_PAGES, &WHILE_WRITTEN]), Ok(None));
 }

@@ -173,7 +173,7 @@ module _
         (sym run.build_is) (
           answer_is,
           ap (core_state live) done.left ∙ ap (λ (s : WorkState). record { live = live.state; work = s; spools = spools_state left.given left.spools }) state_left
-          ∙ ap (λ (s : SpoolsState). record { live = live.state; work = after_load before 0; spools = s }) spools_left,
+              ∙ ap (λ (s : SpoolsState). record { live = live.state; work = after_load before 0; spools = s }) spools_left,
         )
 
   -- where they are in order already nothing changes

@@ -105,7 +105,7 @@ module _
       (sym run.build_is) (
         at_it.counted ∙ ap (λ (v : WorkerValue). length (next_images (all_copies v) v)) same_it ∙ all ∙ sym waits,
         ap (core_state live) left ∙ ap (λ (s : WorkState). record { live = live.state; work = s; spools = spools_state changed.given changed.spools }) work_is
-        ∙ ap (λ (s : SpoolsState). record { live = live.state; work = sealed b before k; spools = s }) spools_are,
+            ∙ ap (λ (s : SpoolsState). record { live = live.state; work = sealed b before k; spools = s }) spools_are,
       )
 
 module _

@@ -105,7 +105,7 @@ module _
       (sym run.build_is) (
         at_it.counted ∙ ap (λ (v : WorkerValue). length (next_images 1 v)) same_it ∙ one ∙ sym waits_one,
         ap (core_state live) left ∙ ap (λ (s : WorkState). record { live = live.state; work = s; spools = spools_state changed.given changed.spools }) work_is
-        ∙ ap (λ (s : SpoolsState). record { live = live.state; work = digested b before k; spools = s }) spools_are,
+            ∙ ap (λ (s : SpoolsState). record { live = live.state; work = digested b before k; spools = s }) spools_are,
       )
 
 -- whatever the digest answered, all goes on

@@ -33,8 +33,8 @@ use catch_up::{Built, catch_up};
 use heap_log::{Outcome, Verdicts};
 use heap_table::{Heap, PageImage};
 use keybytes::{Fault, KeySpec};
-use run_spool::Spool;
 use rtrb::Consumer;
+use run_spool::Spool;
 use scan_range::Cuts;
 use side_file::{Entry, SideFile};
 use std::alloc::Global;
@@ -82,7 +82,11 @@ fn dealt_cuts(alloc: Global, dealing: &Dealing, pages: u32) -> Result<Cuts, Faul
 impl<T: Table> Live<T> {
     /// A build of the plan's indexes starts, and every ring is emptied; answered with the number of pages that it reads.
     /// [`Fault::BuildRunning`], [`Fault::BadCount`], [`Fault::BadColumn`], [`Fault::BadRanges`], [`Fault::SpoolNotEmpty`].
-    pub fn start<S: Spool>(&mut self, plan: &Plan, building: &mut Building<S, T>) -> Result<u32, Fault>
+    pub fn start<S: Spool>(
+        &mut self,
+        plan: &Plan,
+        building: &mut Building<S, T>,
+    ) -> Result<u32, Fault>
         ensures started { Answered (start_refusal self.old.state (core_state self.old building.old).spools plan.now) (Starts plan.now)
             (core_state self.old building.old) result (core_state self.new building.new) }
         ensures works { OnOk result (WorksOn self.new building.new) }
@@ -254,7 +258,10 @@ impl<T: Table> Live<T> {
     /// Makes the indexes of the build ready, and ends it and its spools; answered with the number of the log record, and what became of each
     /// index. [`Fault::NoBuild`], the fault of a spoiled build, [`Fault::NotScanned`], [`Fault::NotLoaded`],
     /// [`Fault::Behind`].
-    pub fn switch_in<S: Spool>(&mut self, building: &mut Building<S, T>) -> Result<(usize, Verdicts), Fault>
+    pub fn switch_in<S: Spool>(
+        &mut self,
+        building: &mut Building<S, T>,
+    ) -> Result<(usize, Verdicts), Fault>
         requires { WorksOn self.old building.old }
         ensures switched { Answered (cause_of self.old building.old Event.Switch) Switches
             (core_state self.old building.old) result (core_state self.new building.new) }

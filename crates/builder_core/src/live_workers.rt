@@ -26,7 +26,11 @@ impl<T: Table> Live<T> {
     }
 
     /// The lowest of so many workers for which a copy waits, or whose run is open.
-    fn look_for_loud<S: Spool>(&mut self, count: usize, building: &mut Building<S, T>) -> Option<usize>
+    fn look_for_loud<S: Spool>(
+        &mut self,
+        count: usize,
+        building: &mut Building<S, T>,
+    ) -> Option<usize>
         requires few { count ≤ 16 }
         requires makers { IfSome building.old.work (λ work. count ≤ length work.makers) }
         requires runs { IsSome building.old.work }
@@ -34,7 +38,7 @@ impl<T: Table> Live<T> {
         ensures loud { IfSome building.old.work (λ work. MatchOption result
             (AreDone count (all_sent self.new.pages) building.new.workers work.makers)
             (λ k. (k < count) × AreDone k (all_sent self.new.pages) building.new.workers work.makers
-                × IsUnfinished k (all_sent self.new.pages) building.new.workers work.makers)) }
+            × IsUnfinished k (all_sent self.new.pages) building.new.workers work.makers)) }
         ensures put { PagesFollow self.new.state.heap.schema self.new.state.heap.log self.new.state.builds self.new.state.build (all_sent self.new.pages) }
         ensures pages { length self.new.pages ≡ 16 }
         ensures workers { length building.new.workers ≡ 16 }
@@ -81,7 +85,11 @@ impl<T: Table> Live<T> {
     }
 
     /// Why the worker would make no pairs. Takes no memory.
-    pub(crate) fn check_worker<S: Spool>(&self, worker: usize, building: &Building<S, T>) -> Result<(), Fault>
+    pub(crate) fn check_worker<S: Spool>(
+        &self,
+        worker: usize,
+        building: &Building<S, T>,
+    ) -> Result<(), Fault>
         requires { WorksOn self.now building.now }
         ensures seal { MatchResult result
             (λ _. cause_of self.now building.now (Event.Seal worker) ≡ None)
@@ -123,7 +131,11 @@ impl<T: Table> Live<T> {
 
     /// Lets the worker take all copies that wait and close its run, and answers how many it took. Want of
     /// memory or of a page spoils the build.
-    pub(crate) fn seal<S: Spool>(&mut self, worker: usize, building: &mut Building<S, T>) -> Result<usize, Fault>
+    pub(crate) fn seal<S: Spool>(
+        &mut self,
+        worker: usize,
+        building: &mut Building<S, T>,
+    ) -> Result<usize, Fault>
         requires works { WorksOn self.old building.old }
         requires runs { MayWork self.old building.old worker }
         ensures sealed { IfOk result (λ images. Seals worker (core_state self.old building.old) images (core_state self.new building.new)) }

@@ -66,7 +66,7 @@ pub fn first_loud(
     ensures loud { MatchOption result
         (AreDone count (all_sent pages.new.items) workers.new.items makers.now)
         (λ k. (k < count) × AreDone k (all_sent pages.new.items) workers.new.items makers.now
-            × IsUnfinished k (all_sent pages.new.items) workers.new.items makers.now) }
+        × IsUnfinished k (all_sent pages.new.items) workers.new.items makers.now) }
 {
     for worker in 0..count {
         if is_loud(pages, workers, makers, worker) {

@@ -83,6 +83,6 @@ returns-in-None-clause-runs g c =
       only = c.if-index-ne0.false;
       all = search rules;
       quiet = subst (λ (n : ℕ). AreDone n (all_sent live.pages) building.workers w.makers) c.workers-count.ensures
-    (subst (λ (o : Option WorkValue). IfSome o (λ work. AreDone c.workers-count.result (all_sent live.pages) building.workers work.makers)) c.in-Some-Some.ensures'
-    c.in-None.ensures.loud);
+          (subst (λ (o : Option WorkValue). IfSome o (λ work. AreDone c.workers-count.result (all_sent live.pages) building.workers work.makers)) c.in-Some-Some.ensures'
+          c.in-None.ensures.loud);
     }

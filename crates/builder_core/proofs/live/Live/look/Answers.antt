@@ -9,11 +9,10 @@ use Rattle.builder_core.proofs.Places.{as_long, there_is}
 use Rattle.builder_core.proofs.live.Live.look.Goals as goal
 
 pub invariant_of-building : goal.invariant_of-building
-invariant_of-building g c =
-    (
-      ends_looked g.T.Table.pages g.T.Table.side c.building.inside.workers.items c.waiting.new.workers.items _ c.building.invariant.0 c.waiting.ensures.looked.same,
-      c.building.invariant.1,
-    )
+invariant_of-building g c = (
+  ends_looked g.T.Table.pages g.T.Table.side c.building.inside.workers.items c.waiting.new.workers.items _ c.building.invariant.0 c.waiting.ensures.looked.same,
+  c.building.invariant.1,
+)
 
 pub returns-clause-sees : goal.returns-clause-sees
 returns-clause-sees g c =

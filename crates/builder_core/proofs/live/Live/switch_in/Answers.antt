@@ -162,8 +162,7 @@ invariant_of-self-2 g c =
 pub invariant_of-building-2 : goal.invariant_of-building-2
 invariant_of-building-2 g c =
     let ends = c.caught_up-pairs.ensures in
-    let ring : ring_take c.caught_up-pairs.new.side_end ≡ c.self.inside.side.end.ring = sym ends.drained.same_ring ∙ ends.ring in
-    (
+    let ring : ring_take c.caught_up-pairs.new.side_end ≡ c.self.inside.side.end.ring = sym ends.drained.same_ring ∙ ends.ring in (
       record {
         workers_are = c.building.invariant.0.workers_are;
         side_is = ap (λ (r : RingId). r ∷ []) ring ∙ c.self.invariant.5.side_is;
