@@ -1,7 +1,9 @@
 //! What is asked of a table and its index build, and the numbers in the answers.
 
-use builder_core::{Core, Dealing, Event, Plan, Reply, Table};
+use crate::stand::Stand;
+use builder_core::{Dealing, Event, Plan, Reply, Table};
 use keybytes::{Cell, Fault, KeySpec, Kind, Rid, Row, Schema};
+use run_spool::Spool;
 use std::alloc::Global;
 
 pub const FIRST: Rid = Rid { page: 0, slot: 0 };
@@ -49,6 +51,15 @@ pub enum Ask {
     Load,
     Switch,
     Abandon,
+}
+
+/// How many workers a build has that is to start.
+pub fn workers_of(ask: Ask) -> Option<usize> {
+    match ask {
+        Ask::Start(_) | Ask::StartEven(_) => Some(1),
+        Ask::StartBy(workers, _) => Some(workers),
+        _ => None,
+    }
 }
 
 fn start(alloc: Global, workers: usize, dealing: Dealing) -> Result<Event, Fault> {
@@ -122,10 +133,10 @@ pub fn numbers_in(reply: &Reply) -> Result<(usize, usize), Fault> {
     }
 }
 
-pub fn answer<T: Table>(
-    core: &mut Core<T>,
+pub fn answer<S: Spool, T: Table>(
+    stand: &mut Stand<S, T>,
     alloc: Global,
     ask: Ask,
 ) -> Result<(usize, usize), Fault> {
-    numbers_in(&core.step(event(alloc, ask)?))
+    numbers_in(&stand.step(event(alloc, ask)?))
 }

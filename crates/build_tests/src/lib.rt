@@ -6,6 +6,32 @@ mod asks;
 #[cfg(test)]
 mod builds;
 #[cfg(test)]
+mod calls;
+#[cfg(test)]
+mod entries;
+#[cfg(test)]
+mod kept;
+#[cfg(test)]
+mod kind;
+#[cfg(test)]
+mod kinds;
+#[cfg(test)]
+mod list_run;
+#[cfg(test)]
+mod list_spool;
+#[cfg(test)]
+mod lists;
+#[cfg(test)]
+mod pools;
+#[cfg(test)]
+mod quota;
+#[cfg(test)]
 mod ranges;
+#[cfg(test)]
+mod returned;
+#[cfg(test)]
+mod spools;
+#[cfg(test)]
+mod stand;
 #[cfg(test)]
 mod workers;

@@ -1,7 +1,7 @@
 //! Builds over several ranges of four pages.
 
 use crate::asks::Ask;
-use crate::builds::{Call, differing};
+use crate::calls::{Call, differing};
 use keybytes::Fault;
 
 /// A transaction inserts seven rows, two a page.
@@ -94,24 +94,25 @@ const BAD_RANGES: [Call; 8] = [
 
 #[test]
 fn in_either_order(rt: HostRuntime) {
-    let cases: [&[Call]; 5] = [
-        &FIRST_RANGE_FIRST,
-        &LAST_RANGE_FIRST,
-        &EVEN_RANGES,
-        &EMPTY_RANGES,
-        &BAD_RANGES,
-    ];
-    for calls in cases {
-        assert_eq!(rt; differing(rt.alloc(), &FOUR_PAGES, calls), Ok(None));
-    }
+    let alloc = rt.alloc();
+    assert_eq!(rt;
+        differing(alloc, &[&FOUR_PAGES, &FIRST_RANGE_FIRST]),
+        Ok(None)
+    );
+    assert_eq!(rt;
+        differing(alloc, &[&FOUR_PAGES, &LAST_RANGE_FIRST]),
+        Ok(None)
+    );
+    assert_eq!(rt; differing(alloc, &[&FOUR_PAGES, &EVEN_RANGES]), Ok(None));
+    assert_eq!(rt; differing(alloc, &[&FOUR_PAGES, &EMPTY_RANGES]), Ok(None));
+    assert_eq!(rt; differing(alloc, &[&FOUR_PAGES, &BAD_RANGES]), Ok(None));
 }
 
 /// `rt try --test --fail-alloc N` for each N shows that no allocation that fails gives a wrong answer.
 #[test]
 fn where_memory_may_run_out(rt: HostRuntime) {
-    let cases: [&[Call]; 2] = [&LAST_RANGE_FIRST, &EVEN_RANGES];
-    for calls in cases {
-        let other = differing(rt.alloc(), &FOUR_PAGES, calls);
-        assert!(rt; other == Ok(None) || other == Err(Fault::Memory));
-    }
+    let other = differing(rt.alloc(), &[&FOUR_PAGES, &LAST_RANGE_FIRST]);
+    assert!(rt; other == Ok(None) || other == Err(Fault::Memory));
+    let other = differing(rt.alloc(), &[&FOUR_PAGES, &EVEN_RANGES]);
+    assert!(rt; other == Ok(None) || other == Err(Fault::Memory));
 }

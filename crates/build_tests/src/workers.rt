@@ -1,7 +1,7 @@
 //! Builds by several workers, over the four pages of [`FOUR_PAGES`].
 
 use crate::asks::Ask;
-use crate::builds::{Call, differing};
+use crate::calls::{Call, differing};
 use crate::ranges::FOUR_PAGES;
 use keybytes::Fault;
 
@@ -88,15 +88,19 @@ const WHILE_WRITTEN: [Call; 13] = [
 
 #[test]
 fn take_what_is_put_for_each(rt: HostRuntime) {
-    let cases: [&[Call]; 4] = [&TWO_WORKERS, &SIXTEEN_WORKERS, &ABANDONED, &WHILE_WRITTEN];
-    for calls in cases {
-        assert_eq!(rt; differing(rt.alloc(), &FOUR_PAGES, calls), Ok(None));
-    }
+    let alloc = rt.alloc();
+    assert_eq!(rt; differing(alloc, &[&FOUR_PAGES, &TWO_WORKERS]), Ok(None));
+    assert_eq!(rt;
+        differing(alloc, &[&FOUR_PAGES, &SIXTEEN_WORKERS]),
+        Ok(None)
+    );
+    assert_eq!(rt; differing(alloc, &[&FOUR_PAGES, &ABANDONED]), Ok(None));
+    assert_eq!(rt; differing(alloc, &[&FOUR_PAGES, &WHILE_WRITTEN]), Ok(None));
 }
 
 /// `rt try --test --fail-alloc N` for each N shows that no allocation that fails gives a wrong answer.
 #[test]
 fn where_memory_may_run_out(rt: HostRuntime) {
-    let other = differing(rt.alloc(), &FOUR_PAGES, &WHILE_WRITTEN);
+    let other = differing(rt.alloc(), &[&FOUR_PAGES, &WHILE_WRITTEN]);
     assert!(rt; other == Ok(None) || other == Err(Fault::Memory));
 }

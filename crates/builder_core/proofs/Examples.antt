@@ -1,5 +1,5 @@
 -- The definitions computed at small values that a reader can check by hand.
-use Rattle.std.proofs.Common.{◌≡◌, ◌∙◌, ℕ, pos, negsuc, Bool, true, false, List, [], ◌∷◌, Some, None, refl, sym, ap}
+use Rattle.std.proofs.Common.{◌≡◌, ◌∙◌, ℕ, pos, negsuc, Bool, true, false, List, [], ◌∷◌, Some, None, refl, sym, ap, inl, inr}
 use Rattle.std.specs.Prelude.{◌||◌, ◌++◌, replicate}
 use Rattle.std.proofs.lemmas.Option.{same_Some}
 use Rattle.std.specs.Ordering.{eq_by_cmp}
@@ -7,7 +7,7 @@ use Rattle.keybytes.specs.Keys.{KeySpecValue}
 use Rattle.keybytes.specs.declared.cell.Cell.{Cell}
 use Rattle.keybytes.specs.declared.cell.Cell.TheVariants.{Null, Int as Number}
 use Rattle.keybytes.specs.declared.kind.Kind.TheVariants.{Int}
-use Rattle.keybytes.specs.declared.fault.Fault.TheVariants.{BadCount, BadRanges, RangeDone, RingFull, NotScanned, NotSealed, NotLoaded, Memory}
+use Rattle.keybytes.specs.declared.fault.Fault.TheVariants.{BadCount, BadRanges, RangeDone, RingFull, NotScanned, NotSealed, NotLoaded, SpoolNotEmpty, NoPage, Memory}
 use Rattle.heap_log.specs.declared.outcome.Outcome.TheVariants.{Ready}
 use Rattle.heap_log.specs.declared.record.LogRec.{LogRec}
 use Rattle.heap_log.specs.declared.record.LogRec.TheVariants as logged
@@ -23,7 +23,8 @@ use Rattle.builder_core.specs.CoreState.{BuildState, WorkerState, WorkState, Cor
 use Rattle.builder_core.specs.Scanning.{scanned_pairs}
 use Rattle.scan_range.specs.Cuts.{range_pages, cuts_refusal}
 use Rattle.builder_core.specs.Ranges.{dealt_ends, dealing_refusal, next_page, open_range}
-use Rattle.builder_core.specs.Steps.{refusal, Does, AfterMemory}
+use Rattle.builder_core.specs.Steps.{refusal, spools_refusal, Does, AfterWant, IsRefused}
+use Rattle.builder_core.specs.Holding.{spools_state}
 use Rattle.builder_core.specs.Workers.{waiting, fill_runs, loud_worker}
 use Rattle.builder_core.specs.declared.scan.Scan.{Scan as Copied}
 use Rattle.keybytes.proofs.PairSets.{is_in, items_are}
@@ -131,6 +132,7 @@ while_built pages scans taken loaded = record {
     build = Some (the_build pages (pages ∷ []) 1 scans);
   };
   work = work_of (worker_with taken taken ∷ []) loaded;
+  spools = record { stakes = None ∷ []; left = [] };
 }
 
 abbrev both_pages : List Copied
@@ -173,8 +175,30 @@ switched new reply does = does.1 ∙ ap (λ number. Switched number does.0.1) do
 abbrev spoiled_build : CoreState
 spoiled_build = record before_a_scan { work = spoiled_work Memory }
 
-spoils : AfterMemory (Seal 0) before_a_scan spoiled_build
+spoils : AfterWant (Seal 0) Memory before_a_scan spoiled_build
 spoils = refl
+
+-- and so does one that wants a page
+spoils_without_page : IsRefused before_a_scan (Seal 0) NoPage (record before_a_scan { work = spoiled_work NoPage })
+spoils_without_page = inr (refl, inl refl, refl)
+
+page_stays_wanted : refusal (record before_a_scan { work = spoiled_work NoPage }) (Load 0) ≡ Some NoPage
+page_stays_wanted = refl
+
+-- empty spools start a build, and one with pairs keeps it from starting
+empty_spools : spools_refusal (true ∷ true ∷ []) ≡ None
+empty_spools = refl
+
+a_spool_with_pairs : spools_refusal (true ∷ false ∷ []) ≡ Some SpoolNotEmpty
+a_spool_with_pairs = refl
+
+-- spools that a build was given are not left for a next one
+given_spools : (spools_state true (record { runs = []; open_run = []; stake = None } ∷ [])).left ≡ []
+given_spools = refl
+
+-- and of those that are handed in, one with a run whose pairs are all freed is not empty
+freed_run : (spools_state false (record { runs = [] ∷ []; open_run = []; stake = None } ∷ record { runs = []; open_run = []; stake = None } ∷ [])).left ≡ false ∷ true ∷ []
+freed_run = refl
 
 spoiled_scan : refusal spoiled_build (Scan 0 0) ≡ Some Memory
 spoiled_scan = refl

@@ -5,12 +5,16 @@ pub mod Distinct
 pub mod EntrySteps
 pub mod Examples
 pub mod Following
+pub mod Kits
+pub mod LeftBeside
 pub mod LoadCauses
 pub mod Loaded
 pub mod Looked
 pub mod Looks
 pub mod Making
+pub mod Merges
 pub mod NextPages
+pub mod OneKit
 pub mod OneRing
 pub mod OneWorker
 pub mod Partition

@@ -10,6 +10,7 @@ use Rattle.keybytes.specs.Faults.{first_cause}
 use Rattle.keybytes.specs.Keys.{KeySpecValue}
 use Rattle.keybytes.specs.declared.fault.Fault.{Fault}
 use Rattle.keybytes.specs.declared.fault.Fault.TheVariants.{BadCount, NotScanned, NotSealed}
+use Rattle.run_maker.specs.Making.{MakerValue}
 use Rattle.side_file.specs.Ends.{PutEnd}
 use Rattle.building.specs.WorkerValue.{WorkerValue}
 use Rattle.building.specs.declared.copied.Copied.{Copied}
@@ -35,19 +36,31 @@ module _
   abbrev work : WorkState
   work = work_state building.workers building.work
 
-  module _ (k : ℕ) (sent : List Copied) (worker : WorkerValue) (less : k < b.workers) (there : slice_get (all_sent live.pages) k ≡ Some sent)
-      (at : slice_get building.workers k ≡ Some worker) where
+  -- so many makers and spools as the build has workers
+  makers_many : length w.makers ≡ b.workers
+  makers_many = (run.at_work.kits fine).equipped.makers_many
+
+  spools_many : length building.spools ≡ b.workers
+  spools_many = (run.at_work.kits fine).equipped.spools_many
+
+  module _ (k : ℕ) (sent : List Copied) (worker : WorkerValue) (maker : MakerValue) (less : k < b.workers)
+      (there : slice_get (all_sent live.pages) k ≡ Some sent) (at : slice_get building.workers k ≡ Some worker) (made : slice_get w.makers k ≡ Some maker) where
+    one_index : length maker.begun ≡ 1
+    one_index =
+        let spool = there_is building.spools k (omega (arith, less, spools_many)) in
+        ((run.at_work.kits fine).equipped.fit k maker spool.0 made spool.1).one_index
+
     -- whether it is quiet is what callers see
-    quiet_at : IsDone sent worker → is_quiet b live.state.heap.log k (worker_at work k) ≡ true
+    quiet_at : IsDone sent worker maker → is_quiet b live.state.heap.log k (worker_at work k) ≡ true
     quiet_at quiet =
         ap (is_quiet b live.state.heap.log k) (worker_there live building b w run fine put k less worker at)
         ∙ quiet_is live.state.heap.schema live.state.heap.log b w.spec k sent worker run.on.columns (put k sent there)
-        (run.at_work.taking fine k sent worker less there at) run.on.specs quiet
+        (run.at_work.taking fine k sent worker less there at) maker one_index ((run.at_work.kits fine).opened k worker maker less at made) run.on.specs quiet
 
-    quiet_there : is_quiet b live.state.heap.log k (worker_at work k) ≡ true → IsDone sent worker
+    quiet_there : is_quiet b live.state.heap.log k (worker_at work k) ≡ true → IsDone sent worker maker
     quiet_there is =
         is_quiet-quiet live.state.heap.schema live.state.heap.log b w.spec k sent worker run.on.columns (put k sent there)
-        (run.at_work.taking fine k sent worker less there at) run.on.specs
+        (run.at_work.taking fine k sent worker less there at) maker one_index ((run.at_work.kits fine).opened k worker maker less at made) run.on.specs
         (sym (ap (is_quiet b live.state.heap.log k) (worker_there live building b w run fine put k less worker at)) ∙ is)
 
   module _ (rings : length live.pages ≡ 16) (sixteen : length building.workers ≡ 16) where
@@ -61,30 +74,33 @@ module _
     is_loud k = not (is_quiet b live.state.heap.log k (worker_at work k))
 
     -- a worker that is quiet is not loud
-    not_loud : (k count : ℕ) → k < count → count ≤ b.workers → AreDone count (all_sent live.pages) building.workers → is_loud (0 + k) ≡ false
+    not_loud : (k count : ℕ) → k < count → count ≤ b.workers → AreDone count (all_sent live.pages) building.workers w.makers → is_loud (0 + k) ≡ false
     not_loud k count less within quiet =
         let end = there_is live.pages k (omega (arith, less, within, run.follows.few_workers, rings)) in
         let it = there_is building.workers k (omega (arith, less, within, run.follows.few_workers, sixteen)) in
+        let its = there_is w.makers k (omega (arith, less, within, makers_many)) in
         let there = map_at (λ (e : PutEnd Copied). e.sent) live.pages k end.0 end.1 in
-        ap is_loud (zero-add k) ∙ ap not (quiet_at k end.0.sent it.0 (omega (arith, less, within)) there it.1 (quiet k end.0.sent it.0 less there it.1))
+        ap is_loud (zero-add k)
+        ∙ ap not (quiet_at k end.0.sent it.0 its.0 (omega (arith, less, within)) there it.1 its.1 (quiet k end.0.sent it.0 its.0 less there it.1 its.1))
 
-    loud_there : (k : ℕ) → k < b.workers → IsUnfinished k (all_sent live.pages) building.workers → is_loud (0 + k) ≡ true
+    loud_there : (k : ℕ) → k < b.workers → IsUnfinished k (all_sent live.pages) building.workers w.makers → is_loud (0 + k) ≡ true
     loud_there k less loud =
         let end = there_is live.pages k (omega (arith, less, run.follows.few_workers, rings)) in
         let it = there_is building.workers k (omega (arith, less, run.follows.few_workers, sixteen)) in
+        let its = there_is w.makers k (omega (arith, less, makers_many)) in
         let there = map_at (λ (e : PutEnd Copied). e.sent) live.pages k end.0 end.1 in
         ap is_loud (zero-add k) ∙ elim (cases_Bool (is_quiet b live.state.heap.log k (worker_at work k))) [
-          | inl quiet ↦ absurd (loud end.0.sent it.0 there it.1 (quiet_there k end.0.sent it.0 less there it.1 quiet))
+          | inl quiet ↦ absurd (loud end.0.sent it.0 its.0 there it.1 its.1 (quiet_there k end.0.sent it.0 its.0 less there it.1 its.1 quiet))
           | inr not_quiet ↦ ap not not_quiet
         ]
 
-    none_loud : AreDone b.workers (all_sent live.pages) building.workers → loud_worker b live.state.heap.log work ≡ None
+    none_loud : AreDone b.workers (all_sent live.pages) building.workers w.makers → loud_worker b live.state.heap.log work ≡ None
     none_loud quiet =
         ap (λ (n : ℕ). first_that is_loud (range_with_len 0 n)) count_is
         ∙ none_left is_loud 0 b.workers (λ k less. not_loud k b.workers less (omega arith) quiet)
 
     first_loud :
-        (k : ℕ) → k < b.workers → AreDone k (all_sent live.pages) building.workers → IsUnfinished k (all_sent live.pages) building.workers
+        (k : ℕ) → k < b.workers → AreDone k (all_sent live.pages) building.workers w.makers → IsUnfinished k (all_sent live.pages) building.workers w.makers
         → loud_worker b live.state.heap.log work ≡ Some k
     first_loud k less quiet loud =
         ap (λ (n : ℕ). first_that is_loud (range_with_len 0 n)) count_is
@@ -105,12 +121,12 @@ module _
 
     -- where all are quiet nothing is against it
     pub load_free :
-        open_range b ≡ None → AreDone b.workers (all_sent live.pages) building.workers
+        open_range b ≡ None → AreDone b.workers (all_sent live.pages) building.workers w.makers
         → build_cause live.state.build (λ x. load_refusal x (core_state live building) 0) ≡ None
     load_free all quiet = load_cause None all (none_loud quiet)
 
     -- the first that isn't is the cause
     pub load_loud :
-        (k : ℕ) → open_range b ≡ None → k < b.workers → AreDone k (all_sent live.pages) building.workers → IsUnfinished k (all_sent live.pages) building.workers
+        (k : ℕ) → open_range b ≡ None → k < b.workers → AreDone k (all_sent live.pages) building.workers w.makers → IsUnfinished k (all_sent live.pages) building.workers w.makers
         → build_cause live.state.build (λ x. load_refusal x (core_state live building) 0) ≡ Some (NotSealed k)
     load_loud k all less quiet loud = load_cause (Some k) all (first_loud k less quiet loud)

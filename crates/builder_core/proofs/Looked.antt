@@ -2,10 +2,12 @@
 use Rattle.std.proofs.Common.{◌≡◌, List, [], ◌∷◌, map, Option, Some, None, refl, sym, ap, ◌∙◌, subst}
 use Rattle.building.specs.WorkerValue.{WorkerValue}
 use Rattle.building.specs.Work.{knowing}
-use Rattle.builder_core.specs.Builds.{LiveValue, BuildingValue, WorkValue, HasLooked, IsRunning, WorkersFollow, WorksOn, work_state, core_state}
+use Rattle.builder_core.specs.Builds.{LiveValue, BuildingValue, WorkValue, HasLooked, IsRunning, WorkersFollow, WorksOn, HaveKits, work_state, core_state}
 use Rattle.builder_core.specs.Builds.{state_unless, index_state}
-use Rattle.builder_core.specs.CoreState.{BuildState, LiveState, WorkState}
-use Rattle.builder_core.proofs.AtWork.{outlines_looked, states_same, taking_same, holding_looked}
+use Rattle.builder_core.specs.CoreState.{BuildState, LiveState, WorkState, SpoolsState}
+use Rattle.builder_core.specs.Holding.{SpoolValue, spools_state}
+use Rattle.builder_core.proofs.AtWork.{states_same, taking_same}
+use Rattle.builder_core.proofs.Kits.{kits_looked}
 
 -- callers see no difference
 states_looked : (old new : List WorkerValue) (work : Option WorkValue) → map (knowing []) new ≡ map (knowing []) old → work_state new work ≡ work_state old work
@@ -13,13 +15,17 @@ states_looked old new None same = refl
 states_looked old new (Some w) same = by_fault w.spoiled where
   by_fault : (o : Option _) → state_unless o new w ≡ state_unless o old w
   by_fault (Some fault) = refl
-  by_fault None = ap (λ ws. record { workers = ws; indexes = index_state w.tree ∷ []; spoiled = None }) (states_same w.workers old new (outlines_looked old new same))
+  by_fault None = ap (λ ws. record { workers = ws; indexes = index_state w.tree ∷ []; spoiled = None }) (states_same w.workers old new same)
 
 pub state_looked : (live new_live : LiveValue) (building new : BuildingValue) → HasLooked live building new_live new → core_state new_live new ≡ core_state live building
 state_looked live new_live building new looked =
-    ap (λ s. record { live = s; work = work_state new.workers new.work }) looked.state
-    ∙ ap (λ (w : Option WorkValue). record { live = live.state; work = work_state new.workers w }) looked.work
-    ∙ ap (λ (w : WorkState). record { live = live.state; work = w }) (states_looked building.workers new.workers building.work looked.rings.same)
+    let spools : spools_state new.given new.spools ≡ spools_state building.given building.spools =
+    ap (λ g. spools_state g new.spools) looked.given ∙ ap (spools_state building.given) looked.spools in
+    let work : work_state new.workers new.work ≡ work_state building.workers building.work =
+    ap (work_state new.workers) looked.work ∙ states_looked building.workers new.workers building.work looked.rings.same in
+    ap (λ s. record { live = s; work = work_state new.workers new.work; spools = spools_state new.given new.spools }) looked.state
+    ∙ ap (λ (w : WorkState). record { live = live.state; work = w; spools = spools_state new.given new.spools }) work
+    ∙ ap (λ (s : SpoolsState). record { live = live.state; work = work_state building.workers building.work; spools = s }) spools
 
 -- and all goes on
 workers_after :
@@ -29,9 +35,11 @@ workers_after live new_live building new None work looked follow = tt
 workers_after live new_live building new (Some b) None looked follow = tt
 workers_after live new_live building new (Some b) (Some w) looked follow = record {
   drained = rw (looked.side, looked.other_side) follow.drained;
-  taking = λ fine. rw looked.rings.sent (taking_same b.number w.spec b.workers _ building.workers new.workers
-      (outlines_looked building.workers new.workers looked.rings.same) (follow.taking fine));
-  holding = λ fine none. holding_looked w.spec b.workers building.workers new.workers looked.rings.same (follow.holding fine none);
+  given = looked.given ∙ follow.given;
+  taking = λ fine. rw looked.rings.sent (taking_same b.number b.workers _ building.workers new.workers looked.rings.same (follow.taking fine));
+  kits = λ fine.
+      subst (λ (spools : List SpoolValue). HaveKits b.workers new.workers spools w) (sym looked.spools)
+      (kits_looked b.workers building.workers new.workers building.spools w looked.rings.same (follow.kits fine));
 }
 
 pub works_looked : (live new_live : LiveValue) (building new : BuildingValue) → HasLooked live building new_live new → WorksOn live building → WorksOn new_live new

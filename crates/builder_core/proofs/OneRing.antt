@@ -52,8 +52,9 @@ workers_looked old new side building None work same follow = tt
 workers_looked old new side building (Some b) None same follow = tt
 workers_looked old new side building (Some b) (Some w) same follow = record {
   drained = follow.drained;
-  taking = λ fine. subst (λ (all : List (List Copied)). AreTaking b.number w.spec b.workers all building.workers) (sym same) (follow.taking fine);
-  holding = follow.holding;
+  given = follow.given;
+  taking = λ fine. subst (λ (all : List (List Copied)). AreTaking b.number b.workers all building.workers) (sym same) (follow.taking fine);
+  kits = follow.kits;
 }
 
 -- an end that knows no free place takes no copy
@@ -119,7 +120,8 @@ workers_put pages side building b new None i sent copied put follow there is own
 workers_put pages side building b new (Some w) i sent copied put follow there is own number workers = record {
   drained = follow.drained;
   taking = λ fine.
-      rw (is, number, workers) (taking_put b.number w.spec b.workers (all_sent pages) building.workers i (sent ++ copied ∷ []) (follow.taking fine)
-      (λ worker less at. put_taking b.number w.spec sent worker (follow.taking fine i sent worker less there at) copied own));
-  holding = λ fine none. rw workers (follow.holding fine none);
+      rw (is, number, workers) (taking_put b.number b.workers (all_sent pages) building.workers i (sent ++ copied ∷ []) (follow.taking fine)
+      (λ worker less at. put_taking b.number sent worker (follow.taking fine i sent worker less there at) copied own));
+  given = follow.given;
+  kits = λ fine. rw workers (follow.kits fine);
 }

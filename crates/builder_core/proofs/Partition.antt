@@ -72,9 +72,9 @@ none_below number [] = refl
 none_below number (x ∷ xs) = rw (le-ltb (number x) 0 (omega arith)) (none_below number xs)
 
 module _ {W X Y : Type 0} (held : W → List Y) (number : X → ℕ) (f : X → List Y) (xs : List X) (all : List W) where
-  -- so many hold what is made of the elements with their numbers
+  -- so many hold what is made of the elements with their numbers, in any order
   abbrev pub HoldParts : ℕ → Type 0
-  HoldParts count = (k : ℕ) (w : W) → k < count → slice_get all k ≡ Some w → held w ≡ flat_map f (filter (λ x. number x == k) xs)
+  HoldParts count = (k : ℕ) (w : W) → k < count → slice_get all k ≡ Some w → IsPermutation (held w) (flat_map f (filter (λ x. number x == k) xs))
 
   first_parts :
       (count : ℕ) → count ≤ length all → HoldParts count
@@ -83,19 +83,20 @@ module _ {W X Y : Type 0} (held : W → List Y) (number : X → ℕ) (f : X → 
   first_parts (suc k) within hold =
       let it = there_is all k (omega (arith, within)) in
       let next : suc k ≡ k + 1 = omega arith in
-      let own : held it.0 ≡ flat_map f (filter (λ x. number x == k) xs) = hold k it.0 (omega arith) it.1 in
+      let own : IsPermutation (held it.0) (flat_map f (filter (λ x. number x == k) xs)) = hold k it.0 (omega arith) it.1 in
       let last : take (suc k) all ≡ take k all ++ it.0 ∷ [] =
       ap (λ n. take n all) next ∙ take_more all k it.0 (omega (arith, within)) ∙ ap (λ w. take k all ++ w ∷ []) (get_or_from_slice_get all k it.0 it.0 it.1) in
-      let made : flat_map held (take (suc k) all) ≡ flat_map held (take k all) ++ flat_map f (filter (λ x. number x == k) xs) =
+      let made : flat_map held (take (suc k) all) ≡ flat_map held (take k all) ++ held it.0 =
       ap (flat_map held) last ∙ flat_map-append held (take k all) (it.0 ∷ [])
-      ∙ ap (λ ys. flat_map held (take k all) ++ ys) (append-nil (held it.0) ∙ own) in
+      ∙ ap (λ ys. flat_map held (take k all) ++ ys) (append-nil (held it.0)) in
       let both = two_parts f (λ x. nat_lt (number x) k) (λ x. number x == k) (λ x. nat_lt (number x) (suc k)) (λ x. below_apart (number x) k)
       (λ x. ap (nat_lt (number x)) next ∙ below_next (number x) k) xs in
       subst (λ (l : List Y). IsPermutation l (flat_map f (filter (λ x. nat_lt (number x) (suc k)) xs))) (sym made)
+      (IsPermutation-trans _ _ _ (IsPermutation-append_right (flat_map held (take k all)) (held it.0) (flat_map f (filter (λ x. number x == k) xs)) own)
       (IsPermutation-trans _ _ _
       (IsPermutation-append_left (flat_map f (filter (λ x. number x == k) xs)) (flat_map held (take k all)) (flat_map f (filter (λ x. nat_lt (number x) k) xs))
       (first_parts k (omega (arith, within)) (λ n w less. hold n w (omega (arith, less)))))
-      both)
+      both))
 
   -- where each element has one of these numbers, together they hold what is made of all
   pub parts_together :

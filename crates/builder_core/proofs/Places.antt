@@ -1,11 +1,12 @@
 -- What stands in a place of a list.
 use Rattle.std.proofs.Common.{◌≡◌, ℕ, zero, suc, ◌<◌, ◌⊎◌, List, [], ◌∷◌, length, map, set, get_or, Option, Some, None, refl, sym, ap, ◌∙◌, subst, inl, inr}
 use Rattle.std.proofs.Common.{arith}
+use Rattle.std.specs.Prelude.{replicate}
 use Rattle.std.specs.List.{All, slice_get}
 use Rattle.std.specs.Option.{option_map}
 use Rattle.std.proofs.Math.Seq.{map-set_same}
 use Rattle.std.proofs.lemmas.List.{get_or-map, get_or-set_same, length-map, length-set}
-use Rattle.std.proofs.lemmas.List.Elements.{All-head, All-tail}
+use Rattle.std.proofs.lemmas.List.Elements.{All-head, All-tail, All-nil, All-cons}
 use Rattle.std.proofs.lemmas.Option.{same_Some, slice_get-map, slice_get-get_or}
 
 -- where one place was written, each has what was written, or what it had
@@ -20,6 +21,25 @@ at_set (z ∷ zs) (suc i) y (suc k) x at = elim (at_set zs i y k x at) [
   | inl it ↦ inl (ap suc it.0, it.1)
   | inr it ↦ inr (λ same. it.0 (omega (arith, same)), it.1)
 ]
+
+-- what was written in that place, and what stands in another
+pub set_there : {X : Type 0} (xs : List X) (i : ℕ) (y : X) (k : ℕ) (x : X) → slice_get (set xs i y) k ≡ Some x → k ≡ i → x ≡ y
+set_there xs i y k x at same = elim (at_set xs i y k x at) [
+  | inl it ↦ it.1
+  | inr it ↦ absurd (it.0 same)
+]
+
+pub set_elsewhere : {X : Type 0} (xs : List X) (i : ℕ) (y : X) (k : ℕ) (x : X) → slice_get (set xs i y) k ≡ Some x → (k ≡ i → ⊥) → slice_get xs k ≡ Some x
+set_elsewhere xs i y k x at other = elim (at_set xs i y k x at) [
+  | inl it ↦ absurd (other it.0)
+  | inr it ↦ it.1
+]
+
+-- what is the same in all places
+pub replicate_at : {X : Type 0} (n : ℕ) (y : X) (k : ℕ) (x : X) → slice_get (replicate n y) k ≡ Some x → x ≡ y
+replicate_at zero y k x at = absurd (cc)
+replicate_at (suc n) y zero x at = sym (same_Some y x at)
+replicate_at (suc n) y (suc k) x at = replicate_at n y k x at
 
 -- what holds of all holds in each place
 pub all_at : {X : Type 0} (P : X → Type 0) (xs : List X) (k : ℕ) (x : X) → All P xs → slice_get xs k ≡ Some x → P x
@@ -73,3 +93,14 @@ pub there_is : {X : Type 0} (xs : List X) (i : ℕ) → i < length xs → (x : X
 there_is [] i less = absurd (omega (arith, less))
 there_is (x ∷ xs) zero less = (x, refl)
 there_is (x ∷ xs) (suc i) less = there_is xs i (omega (arith, less))
+
+-- and what has something is a place of it
+pub below : {X : Type 0} (xs : List X) (i : ℕ) (x : X) → slice_get xs i ≡ Some x → i < length xs
+below [] i x at = absurd (cc)
+below (y ∷ ys) zero x at = omega arith
+below (y ∷ ys) (suc i) x at = let less = below ys i x at in omega (arith, less)
+
+-- what holds in each place holds of all
+pub all_from : {X : Type 0} (P : X → Type 0) (xs : List X) → ((k : ℕ) (x : X) → slice_get xs k ≡ Some x → P x) → All P xs
+all_from P [] each = All-nil P
+all_from P (x ∷ xs) each = All-cons P x xs (each 0 x refl) (all_from P xs (λ k y at. each (suc k) y at))

@@ -1,7 +1,14 @@
 -- Why a step of a build of one index is refused, in the order of the causes.
 use Rattle.std.proofs.Common.{◌≡◌, ℕ, ◌-◌, ◌<◌, List, [], ◌∷◌, ◌++◌, length, map, take, Option, Some, None, refl}
 use Rattle.std.proofs.Common.{sym, ap, ◌∙◌, arith, subst}
+use Rattle.std.specs.Prelude.{IsSome, true}
 use Rattle.std.specs.List.{slice_get}
+use Rattle.std.proofs.lemmas.Bool.{false≢true}
+use Rattle.keybytes.specs.declared.kind.Kind.{Kind}
+use Rattle.heap_log.specs.declared.record.LogRec.{LogRec}
+use Rattle.side_file.specs.Ends.{PutEnd}
+use Rattle.side_file.specs.declared.entry.Entry.{Entry}
+use Rattle.builder_core.specs.Steps.{build_cause}
 use Rattle.building.specs.WorkerValue.{WorkerValue}
 use Rattle.building.specs.declared.copied.Copied.{Copied}
 use Rattle.builder_core.specs.Builds.{LiveValue, BuildingValue, WorkValue, work_state, worker_state, index_state, IsWorkOf}
@@ -68,3 +75,16 @@ module _
         ap (λ s. length (put_to b k) - s.taken) (worker_there k less worker at)
         ∙ waits live.state.heap.schema live.state.heap.log b w.spec k sent worker run.on.columns (put k sent there)
         (run.at_work.taking fine k sent worker less there at) known in_order
+
+-- to give a running build up nothing is in the way
+pub builds_on : (o : Option BuildState) → IsSome o → build_cause o (λ b. None) ≡ None
+builds_on None some = absurd (false≢true some)
+builds_on (Some b) some = refl
+
+-- a build that runs was given the spools
+pub given_to :
+    (kinds : List Kind) (log : List LogRec) (pages : List (PutEnd Copied)) (side : PutEnd Entry) (building : BuildingValue) (o : Option BuildState)
+    (work : Option WorkValue) → IsWorkOf kinds log o work → WorkersFollow pages side building o work → IsSome o → building.given ≡ true
+given_to kinds log pages side building None w is follow some = absurd (false≢true some)
+given_to kinds log pages side building (Some b) None is follow some = absurd is
+given_to kinds log pages side building (Some b) (Some w) is follow some = follow.given

@@ -1,57 +1,72 @@
 -- What a worker's seal leaves, as callers see it.
-use Rattle.std.proofs.Common.{◌≡◌, ℕ, ◌+◌, ◌<◌, List, [], ◌∷◌, ◌++◌, length, map, take, set, Option, Some, None, Result, Ok, Err, OnErr, IfOk}
-use Rattle.std.proofs.Common.{sym, ap, ◌∙◌, subst, arith}
+use Rattle.std.proofs.Common.{◌≡◌, ℕ, ◌+◌, ◌<◌, List, [], ◌∷◌, ◌++◌, length, map, take, set, Option, Some, None, Result, Ok, Err, IfOk, IfErr}
+use Rattle.std.proofs.Common.{refl, sym, ap, ◌∙◌, subst, arith}
 use Rattle.std.specs.List.{slice_get}
 use Rattle.std.proofs.lemmas.Option.{same_Some}
 use Rattle.keybytes.specs.declared.fault.Fault.{Fault}
 use Rattle.side_file.specs.Ends.{PutEnd}
 use Rattle.building.specs.Copies.{images_of}
-use Rattle.building.specs.ImagePairs.{HavePairs}
+use Rattle.run_maker.specs.Making.{MakerValue}
 use Rattle.building.specs.Work.{next_images, after_digest, after_seal}
 use Rattle.building.specs.WorkerValue.{WorkerValue}
 use Rattle.building.specs.declared.copied.Copied.{Copied}
 use Rattle.building.proofs.Taking.{next_count, sent_count}
 use Rattle.builder_core.specs.Builds.{LiveValue, BuildingValue, WorkValue, IsRunning, SeesRing, WorksOn, worker_state, work_state, core_state, index_state}
-use Rattle.builder_core.specs.CoreState.{BuildState, WorkerState, WorkState}
+use Rattle.builder_core.specs.CoreState.{BuildState, WorkerState, WorkState, SpoolsState}
+use Rattle.builder_core.specs.Holding.{SpoolValue, Sealed, spools_state}
 use Rattle.builder_core.specs.Rings.{all_sent, ArePut}
 use Rattle.builder_core.specs.Steps.{OnBuild, Seals, after_seal as sealed}
 use Rattle.builder_core.specs.Workers.{put_to, waiting}
-use Rattle.builder_core.specs.Working.{HasTaken, IsSpoiled, all_copies}
+use Rattle.builder_core.specs.Working.{HasTaken, HasTakenAt, IsSpoiled, all_copies}
 use Rattle.builder_core.proofs.Copies.{copies_count}
 use Rattle.builder_core.proofs.Refusals.{state_is, waiting_is}
-use Rattle.builder_core.proofs.Takes.{sealed_works, spoiled_works, states_set}
+use Rattle.builder_core.proofs.Takes.{sealed_works, going_on, spoiled_works, states_set}
+use Rattle.builder_core.proofs.OneWorker.{same_stakes}
 use Rattle.builder_core.proofs.Places.{map_at}
 
 module _
     (live : LiveValue) (building new : BuildingValue) (b : BuildState) (w : WorkValue) (run : IsRunning live building b w) (fine : w.spoiled ≡ None)
     (put : ArePut live.state.heap.schema live.state.heap.log b (all_sent live.pages)) (k : ℕ) (sent : List Copied) (it : WorkerValue) (less : k < b.workers)
     (there : slice_get (all_sent live.pages) k ≡ Some sent) (at : slice_get building.workers k ≡ Some it)
-    (in_order : it.end.received ++ it.end.known ≡ sent) (images : ℕ) (taken : HasTaken k all_copies after_seal building images new) where
-  same_it : taken.it ≡ it
-  same_it = same_Some taken.it it (sym taken.there ∙ at)
-
+    (in_order : it.end.received ++ it.end.known ≡ sent) (images : ℕ) (taken : HasTaken k all_copies after_seal Sealed building images new) where
   same_work : taken.work ≡ w
   same_work = same_Some taken.work w (sym taken.runs ∙ run.work_is)
 
-  have : HavePairs w.spec (next_images (all_copies it) it) taken.made
-  have =
-      subst (λ (v : WorkValue). HavePairs v.spec (next_images (all_copies it) it) taken.made) same_work
-      (subst (λ (v : WorkerValue). HavePairs taken.work.spec (next_images (all_copies v) v) taken.made) same_it taken.have)
+  at_it : HasTakenAt w.spec k all_copies after_seal Sealed building.workers w.makers building.spools images taken.workers taken.makers taken.spools
+  at_it = subst (λ (v : WorkValue). HasTakenAt v.spec k all_copies after_seal Sealed building.workers v.makers building.spools images taken.workers taken.makers taken.spools)
+      same_work taken.taken
+
+  same_it : at_it.it ≡ it
+  same_it = same_Some at_it.it it (sym at_it.there ∙ at)
 
   abbrev last : WorkerValue
-  last = after_seal (after_digest (all_copies it) taken.made it)
+  last = after_seal (after_digest (all_copies it) it)
 
-  left : new ≡ record building { workers = set building.workers k last }
-  left = taken.left ∙ ap (λ (v : WorkerValue). record building { workers = set building.workers k (after_seal (after_digest (all_copies v) taken.made v)) }) same_it
+  abbrev changed : BuildingValue
+  changed = going_on live building b w run fine put k sent it less there at in_order at_it.kit at_it.after at_it.maker at_it.spool at_it.fit (all_copies it) last
+
+  left : new ≡ changed
+  left =
+      taken.left ∙ ap (λ (v : WorkValue). record building { workers = taken.workers; spools = taken.spools; work = Some (record v { makers = taken.makers }) }) same_work
+      ∙ ap (λ (ws : List WorkerValue). record building { workers = ws; spools = taken.spools; work = Some (record w { makers = taken.makers }) })
+      (at_it.workers_are ∙ ap (λ (v : WorkerValue). set building.workers k (after_seal (after_digest (all_copies v) v))) same_it)
+      ∙ ap (λ (ms : List MakerValue). record building { workers = set building.workers k last; spools = taken.spools; work = Some (record w { makers = ms }) })
+      at_it.makers_are
+      ∙ ap (λ (ss : List SpoolValue). record building {
+        workers = set building.workers k last;
+        spools = ss;
+        work = Some (record w { makers = set w.makers k at_it.after.maker });
+      }) at_it.spools_are
 
   pub sealed_on : WorksOn live new
   sealed_on =
       subst (WorksOn live) (sym left)
-      (sealed_works live building b w run fine put k sent it less there at in_order (all_copies it) taken.made have)
+      (sealed_works live building b w run fine put k sent it less there at in_order at_it.kit at_it.after at_it.maker at_it.spool at_it.fit (all_copies it)
+      (subst (λ (v : WorkerValue). Sealed w.spec (next_images (all_copies v) v) at_it.kit at_it.after) same_it at_it.spools_more))
 
   -- it took all that waited
   all : length (next_images (all_copies it) it) ≡ length it.end.known
-  all = next_count b.number w.spec sent it (run.at_work.taking fine k sent it less there at) (all_copies it) in_order (omega arith)
+  all = next_count b.number sent it (run.at_work.taking fine k sent it less there at) (all_copies it) in_order (omega arith)
 
   abbrev before : WorkState
   before = work_state building.workers building.work
@@ -63,7 +78,7 @@ module _
   taken_all : it.taken + length (next_images (all_copies it) it) ≡ length (put_to b k)
   taken_all =
       let copies = copies_count live.state.heap.schema live.state.heap.log (put_to b k) (images_of b.number sent) (put k sent there) in
-      let count = sent_count b.number w.spec sent it (run.at_work.taking fine k sent it less there at) it.end.known in_order in
+      let count = sent_count b.number sent it (run.at_work.taking fine k sent it less there at) it.end.known in_order in
       omega (arith, copies, count, all)
 
   abbrev sealed_at : ℕ → WorkerState
@@ -72,22 +87,25 @@ module _
   abbrev with_states : List WorkerState → WorkState
   with_states states = record { workers = states; indexes = index_state w.tree ∷ []; spoiled = None }
 
-  abbrev changed : BuildingValue
-  changed = record building { workers = set building.workers k last }
-
-  work_is : work_state changed.workers building.work ≡ sealed b before k
+  work_is : work_state changed.workers changed.work ≡ sealed b before k
   work_is =
-      state_is changed w run.work_is fine
+      state_is changed (record w { makers = set w.makers k at_it.after.maker }) refl fine
       ∙ ap with_states (states_set w.workers k building.workers last (omega (arith, less, run.on.workers)))
       ∙ ap (λ (n : ℕ). with_states (set (map worker_state (take w.workers building.workers)) k (sealed_at n))) taken_all
       ∙ sym (ap (λ (s : WorkState). record s { workers = set s.workers k (sealed_at (length (put_to b k))) }) (state_is building w run.work_is fine))
 
+  -- the spools are given, as they were
+  spools_are : spools_state changed.given changed.spools ≡ spools_state building.given building.spools
+  spools_are = same_stakes building run.at_work.given k at_it.kit.spool at_it.after.spool at_it.spool at_it.stake
+
   pub seals : Seals k (core_state live building) images (core_state live new)
   seals =
-      subst (λ (o : Option BuildState). OnBuild o (λ x. (images ≡ waiting x before k) × (core_state live new ≡ record { live = live.state; work = sealed x before k })))
+      subst (λ (o : Option BuildState). OnBuild o (λ x. (images ≡ waiting x before k)
+      × (core_state live new ≡ record (core_state live building) { work = sealed x before k })))
       (sym run.build_is) (
-        taken.counted ∙ ap (λ (v : WorkerValue). length (next_images (all_copies v) v)) same_it ∙ all ∙ sym waits,
-        ap (core_state live) left ∙ ap (λ (s : WorkState). record { live = live.state; work = s }) work_is,
+        at_it.counted ∙ ap (λ (v : WorkerValue). length (next_images (all_copies v) v)) same_it ∙ all ∙ sym waits,
+        ap (core_state live) left ∙ ap (λ (s : WorkState). record { live = live.state; work = s; spools = spools_state changed.given changed.spools }) work_is
+            ∙ ap (λ (s : SpoolsState). record { live = live.state; work = sealed b before k; spools = s }) spools_are,
       )
 
 module _
@@ -99,12 +117,12 @@ module _
 
   -- whatever the seal answered, all goes on
   pub works_after_seal :
-      (answer : Result ℕ Fault) → IfOk answer (λ images. HasTaken k all_copies after_seal building images new) → OnErr answer (IsSpoiled building new) → WorksOn live new
+      (answer : Result ℕ Fault) → IfOk answer (λ images. HasTaken k all_copies after_seal Sealed building images new) → IfErr answer (λ fault. IsSpoiled fault building new) → WorksOn live new
   works_after_seal (Ok images) taken spoiled = sealed_on live building new b w run fine put k sees.end.sent sees.it less there sees.there sees.in_order images taken
-  works_after_seal (Err fault) taken spoiled = spoiled_works live building new b w run spoiled
+  works_after_seal (Err fault) taken spoiled = spoiled_works live fault building new b w run spoiled
 
   pub seals_after :
-      (answer : Result ℕ Fault) → IfOk answer (λ images. HasTaken k all_copies after_seal building images new)
+      (answer : Result ℕ Fault) → IfOk answer (λ images. HasTaken k all_copies after_seal Sealed building images new)
       → IfOk answer (λ images. Seals k (core_state live building) images (core_state live new))
   seals_after (Ok images) taken = seals live building new b w run fine put k sees.end.sent sees.it less there sees.there sees.in_order images taken
   seals_after (Err fault) taken = tt

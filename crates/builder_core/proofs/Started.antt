@@ -1,5 +1,5 @@
 -- What the start of a build leaves.
-use Rattle.std.proofs.Common.{◌≡◌, ℕ, ◌+◌, ◌≤◌, List, [], ◌∷◌, length, map, Some, None, refl, sym, ap, ◌∙◌, subst}
+use Rattle.std.proofs.Common.{◌≡◌, ℕ, ◌+◌, ◌≤◌, List, [], ◌∷◌, length, map, true, Some, None, refl, sym, ap, ◌∙◌, subst}
 use Rattle.std.proofs.lemmas.List.{length-map}
 use Rattle.keybytes.specs.Keys.{KeySpecValue}
 use Rattle.keybytes.specs.declared.kind.Kind.{Kind}
@@ -11,18 +11,21 @@ use Rattle.side_file.specs.declared.entry.Entry.{Entry}
 use Rattle.building.specs.TakeEnd.{TakeEnd}
 use Rattle.building.specs.WorkerValue.{WorkerValue}
 use Rattle.building.specs.declared.copied.Copied.{Copied}
-use Rattle.builder_core.specs.Builds.{LiveValue, BuildingValue, WorkValue, IsBuildOf, WorksOn, build_over}
+use Rattle.builder_core.specs.Builds.{LiveValue, BuildingValue, WorkValue, IsBuildOf, WorksOn, build_over, fresh}
+use Rattle.builder_core.specs.Holding.{SpoolValue}
+use Rattle.std.specs.List.{slice_get}
 use Rattle.builder_core.specs.CoreState.{BuildState}
 use Rattle.builder_core.specs.Ranges.{dealing_refusal, dealt_ends}
 use Rattle.builder_core.specs.Rings.{all_sent, put_rings, take_rings, begun_on, AreOfBuilds, ArePutEnds, AreTakeEnds}
 use Rattle.builder_core.specs.SideFiles.{IsDrained}
 use Rattle.builder_core.specs.declared.dealing.Dealing.{Dealing}
-use Rattle.builder_core.proofs.AtWork.{started_taking, started_holding}
+use Rattle.builder_core.proofs.AtWork.{started_taking}
+use Rattle.builder_core.proofs.Kits.{started_kits}
 use Rattle.builder_core.proofs.Places.{as_long, mapped}
 use Rattle.builder_core.proofs.Refusals.{works_with}
 use Rattle.builder_core.proofs.Starts.{dealt_are_cuts}
 use Rattle.builder_core.proofs.TableBuilds.{started_build}
-use Rattle.builder_core.proofs.Works.{fresh, fresh_work_on}
+use Rattle.builder_core.proofs.Works.{fresh_work_on}
 
 -- the ends that put are of the rings that they were of
 pub put_ends_started :
@@ -68,19 +71,22 @@ module _
 -- the workers of a build that starts are at work on it
 pub started_works :
     (live : LiveValue) (building : BuildingValue) (b : BuildState) (w : WorkValue) (builds : ℕ) (spec : KeySpecValue) (workers opened : ℕ) (cuts : CutsValue)
-    → live.state.build ≡ Some b → building.work ≡ Some w → b ≡ build_over (builds + 1) spec workers opened cuts [] → w ≡ fresh spec workers
-    → IsBuildOf live.state.heap.schema live.state.heap.log b → spec.kinds ≡ live.state.heap.schema → AreOfBuilds builds (all_sent live.pages)
-    → building.workers ≡ map (begun_on (builds + 1)) live.pages → IsDrained live.side building.side.ring building.side.received → WorksOn live building
-started_works live building b w builds spec workers opened cuts build_is work_is b_is w_is follows columns before workers_is drained =
+    → live.state.build ≡ Some b → building.work ≡ Some w → building.given ≡ true → b ≡ build_over (builds + 1) spec workers opened cuts []
+    → w ≡ fresh spec.kinds spec workers → IsBuildOf live.state.heap.schema live.state.heap.log b → spec.kinds ≡ live.state.heap.schema
+    → AreOfBuilds builds (all_sent live.pages) → building.workers ≡ map (begun_on (builds + 1)) live.pages
+    → IsDrained live.side building.side.ring building.side.received → length building.spools ≡ workers
+    → ((k : ℕ) (spool : SpoolValue) → slice_get building.spools k ≡ Some spool → (spool.runs ≡ []) × (spool.open_run ≡ [])) → WorksOn live building
+started_works live building b w builds spec workers opened cuts build_is work_is given b_is w_is follows columns before workers_is drained many empty =
     let new : BuildState = build_over (builds + 1) spec workers opened cuts [] in
     works_with live building b w (record {
       build_is = build_is;
       work_is = work_is;
       follows = follows;
-      on = rw (b_is, w_is) (fresh_work_on live.state.heap.schema live.state.heap.log new spec workers refl columns refl);
+      on = rw (b_is, w_is) (fresh_work_on live.state.heap.schema live.state.heap.log new spec.kinds spec workers refl columns refl);
       at_work = record {
         drained = drained;
-        taking = λ fine. rw (b_is, w_is, workers_is) (started_taking builds spec live.pages before workers);
-        holding = λ fine none. rw (b_is, w_is, workers_is) (started_holding builds spec live.pages before workers);
+        given = given;
+        taking = λ fine. rw (b_is, workers_is) (started_taking builds live.pages before workers);
+        kits = λ fine. rw (b_is, w_is, workers_is) (started_kits builds live.pages before spec workers building.spools many empty);
       };
     })

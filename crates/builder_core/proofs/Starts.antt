@@ -1,15 +1,15 @@
 -- When a build starts.
 use Rattle.std.proofs.Common.{◌≡◌, ℕ, zero, suc, ◌≤◌, Bool, true, false, List, [], ◌∷◌, Some, None, refl, sym, ap, ap₂, ◌∙◌, arith}
-use Rattle.std.specs.Prelude.{◌&&◌, ◌||◌, ◌==◌, not, nat_lt, nat_le, length, map, take, replicate, is_some, if◌then◌else◌}
+use Rattle.std.specs.Prelude.{◌&&◌, ◌||◌, ◌==◌, ◌*◌, Option, not, nat_lt, nat_le, length, map, take, replicate, is_some, if◌then◌else◌}
 use Rattle.std.specs.List.{All, list_any, list_all}
 use Rattle.std.proofs.lemmas.List.{length-map}
 use Rattle.std.proofs.lemmas.List.Elements.{All-head, All-tail, All-nil, All-cons}
-use Rattle.std.proofs.lemmas.Bool.{and_parts, and_from, leb-true, false≢true, false_from_ne_true}
+use Rattle.std.proofs.lemmas.Bool.{and_parts, and_from, leb-true, eqb-true, false≢true, false_from_ne_true}
 use Rattle.keybytes.specs.Keys.{KeySpecValue}
 use Rattle.keybytes.specs.declared.kind.Kind.{Kind}
 use Rattle.keybytes.specs.declared.kind.Kind.TheVariants.{Int, Text, Flag}
 use Rattle.keybytes.specs.declared.fault.Fault.{Fault}
-use Rattle.keybytes.specs.declared.fault.Fault.TheVariants.{BadColumn, BadRanges}
+use Rattle.keybytes.specs.declared.fault.Fault.TheVariants.{BadColumn, BadRanges, SpoolNotEmpty}
 use Rattle.heap_table.specs.Pages.{pages_written}
 use Rattle.builder_core.specs.declared.dealing.Dealing.{Dealing}
 use Rattle.builder_core.specs.declared.dealing.Dealing.TheVariants.{Ends, Even}
@@ -17,14 +17,14 @@ use Rattle.builder_core.specs.declared.plan.Plan.{Plan}
 use Rattle.side_file.specs.Ends.{PutEnd}
 use Rattle.building.specs.WorkerValue.{WorkerValue}
 use Rattle.building.specs.declared.copied.Copied.{Copied}
-use Rattle.builder_core.specs.Builds.{work_state, worker_state}
+use Rattle.builder_core.specs.Builds.{fresh, work_state, worker_state}
 use Rattle.builder_core.specs.Rings.{begun_on}
-use Rattle.builder_core.specs.CoreState.{LiveState}
+use Rattle.builder_core.specs.CoreState.{LiveState, SpoolsState}
 use Rattle.scan_range.specs.Cuts.{are_cuts}
 use Rattle.scan_range.proofs.EvenEnds.{even_are_cuts, even_fit}
 use Rattle.builder_core.specs.Ranges.{dealt_ends, dealing_refusal}
-use Rattle.builder_core.specs.Steps.{same_kind, same_kinds, counts_fit, start_refusal, fresh_work}
-use Rattle.builder_core.proofs.Works.{fresh}
+use Rattle.builder_core.specs.Steps.{same_kind, same_kinds, counts_fit, cause_if, spools_refusal, start_refusal, fresh_work}
+use Rattle.keybytes.specs.Faults.{first_cause}
 
 same_kind-true : (a b : Kind) → same_kind a b ≡ true → a ≡ b
 same_kind-true Int Int e = refl
@@ -75,23 +75,34 @@ all_of_one test specs spec is = ap (list_all test) is ∙ and_true (test spec)
 pub any_of_one : (test : KeySpecValue → Bool) (specs : List KeySpecValue) (spec : KeySpecValue) → specs ≡ spec ∷ [] → list_any test specs ≡ test spec
 any_of_one test specs spec is = ap (list_any test) is ∙ or_false (test spec)
 
-module _ (live : LiveState) (plan : Plan) (spec : KeySpecValue) (one : plan.specs.items ≡ spec ∷ []) (still : is_some live.build ≡ false) (counts : counts_fit live plan ≡ true) where
+module _
+    (live : LiveState) (spools : SpoolsState) (plan : Plan) (spec : KeySpecValue) (one : plan.specs.items ≡ spec ∷ []) (still : is_some live.build ≡ false)
+    (counts : counts_fit live (length spools.left) plan ≡ true) where
   columns_are : list_all (λ s. same_kinds s.kinds live.heap.schema) plan.specs.items ≡ same_kinds spec.kinds live.heap.schema
   columns_are = all_of_one (λ s. same_kinds s.kinds live.heap.schema) plan.specs.items spec one
 
-  pub bad_column : same_kinds spec.kinds live.heap.schema ≡ false → start_refusal live plan ≡ Some BadColumn
+  pub bad_column : same_kinds spec.kinds live.heap.schema ≡ false → start_refusal live spools plan ≡ Some BadColumn
   bad_column columns = rw (still, counts, columns_are, columns) refl
 
-  ranges_cause : same_kinds spec.kinds live.heap.schema ≡ true → start_refusal live plan ≡ dealing_refusal (pages_written live.heap.log) plan.dealing
+  ranges_cause :
+      same_kinds spec.kinds live.heap.schema ≡ true
+      → start_refusal live spools plan ≡ first_cause (dealing_refusal (pages_written live.heap.log) plan.dealing) (spools_refusal spools.left)
   ranges_cause columns = rw (still, counts, columns_are, columns) refl
 
   pub bad_ranges :
       (fault : Fault) → same_kinds spec.kinds live.heap.schema ≡ true → dealing_refusal (pages_written live.heap.log) plan.dealing ≡ Some fault
-      → start_refusal live plan ≡ Some fault
-  bad_ranges fault columns ranges = ranges_cause columns ∙ ranges
+      → start_refusal live spools plan ≡ Some fault
+  bad_ranges fault columns ranges = ranges_cause columns ∙ ap (λ cause. first_cause cause (spools_refusal spools.left)) ranges
 
-  pub nothing_bad : same_kinds spec.kinds live.heap.schema ≡ true → dealing_refusal (pages_written live.heap.log) plan.dealing ≡ None → start_refusal live plan ≡ None
-  nothing_bad columns ranges = ranges_cause columns ∙ ranges
+  module _ (columns : same_kinds spec.kinds live.heap.schema ≡ true) (ranges : dealing_refusal (pages_written live.heap.log) plan.dealing ≡ None) where
+    spools_cause : start_refusal live spools plan ≡ spools_refusal spools.left
+    spools_cause = ranges_cause columns ∙ ap (λ cause. first_cause cause (spools_refusal spools.left)) ranges
+
+    pub bad_spools : list_all (λ is_empty. is_empty) spools.left ≡ false → start_refusal live spools plan ≡ Some SpoolNotEmpty
+    bad_spools some = spools_cause ∙ ap (λ (all : Bool). cause_if (not all) SpoolNotEmpty) some
+
+    pub nothing_bad : list_all (λ is_empty. is_empty) spools.left ≡ true → start_refusal live spools plan ≡ None
+    nothing_bad all = spools_cause ∙ ap (λ (every : Bool). cause_if (not every) SpoolNotEmpty) all
 
 fit_cuts : (fit : Bool) → (if fit then None else Some BadRanges) ≡ None → fit ≡ true
 fit_cuts true e = refl
@@ -102,19 +113,24 @@ pub dealt_are_cuts : (pages : ℕ) (dealing : Dealing) → dealing_refusal pages
 dealt_are_cuts pages (Ends ends) e = fit_cuts (are_cuts pages ends.items) e
 dealt_are_cuts pages (Even ranges) e = let fit = even_fit ranges e in even_are_cuts pages ranges fit.0 fit.1
 
--- a plan whose counts fit has no more than 16 workers
-pub few_workers : (live : LiveState) (plan : Plan) → counts_fit live plan ≡ true → plan.workers ≤ 16
-few_workers live plan e =
+-- a plan whose counts fit has no more than 16 workers, and a spool for each
+pub few_workers :
+    (live : LiveState) (spools : ℕ) (plan : Plan) → counts_fit live spools plan ≡ true
+    → (plan.workers ≤ 16) × (spools ≡ plan.workers * length plan.specs.items) × (1 ≤ plan.workers)
+few_workers live spools plan e =
     let some : Bool = nat_le 1 plan.workers in
     let few : Bool = nat_le plan.workers 16 in
     let specs : Bool = length plan.specs.items == 1 in
     let plain : Bool = not (list_any (λ spec. spec.unique) plan.specs.items) in
     let room : Bool = nat_lt (length live.ready) 32 in
-    let first = and_parts (some && few && specs && plain && room) (nat_lt live.builds 18446744073709551615) e in
-    let second = and_parts (some && few && specs && plain) room first.0 in
-    let third = and_parts (some && few && specs) plain second.0 in
-    let fourth = and_parts (some && few) specs third.0 in
-    leb-true plan.workers 16 (and_parts some few fourth.0).1
+    let number : Bool = nat_lt live.builds 18446744073709551615 in
+    let first = and_parts (some && few && specs && plain && room && number) (spools == plan.workers * length plan.specs.items) e in
+    let second = and_parts (some && few && specs && plain && room) number first.0 in
+    let third = and_parts (some && few && specs && plain) room second.0 in
+    let fourth = and_parts (some && few && specs) plain third.0 in
+    let fifth = and_parts (some && few) specs fourth.0 in
+    let sixth = and_parts some few fifth.0 in
+    (leb-true plan.workers 16 sixth.1, eqb-true spools (plan.workers * length plan.specs.items) first.1, leb-true 1 plan.workers sixth.0)
 
 -- a list of one element, repeated
 repeated : {X Y : Type 0} (f : X → Y) (n : ℕ) (xs : List X) (y : Y) → n ≤ length xs → All (λ x. f x ≡ y) xs → map f (take n xs) ≡ replicate n y
@@ -132,9 +148,9 @@ at_first build (end ∷ ends) = All-cons IsFirst (begun_on build end) (map (begu
 
 -- its work is that of so many workers on one index
 pub fresh_is :
-    (plan : Plan) (spec : KeySpecValue) (build : ℕ) (pages : List (PutEnd Copied)) → plan.workers ≤ length pages → plan.specs.items ≡ spec ∷ []
-    → work_state (map (begun_on build) pages) (Some (fresh spec plan.workers)) ≡ fresh_work plan
-fresh_is plan spec build pages few one =
+    (plan : Plan) (kinds : List Kind) (spec : KeySpecValue) (build : ℕ) (pages : List (PutEnd Copied)) → plan.workers ≤ length pages → plan.specs.items ≡ spec ∷ []
+    → work_state (map (begun_on build) pages) (Some (fresh kinds spec plan.workers)) ≡ fresh_work plan
+fresh_is plan kinds spec build pages few one =
     let states : map worker_state (take plan.workers (map (begun_on build) pages)) ≡ replicate plan.workers (record { taken = 0; sealed = 0 }) =
     repeated worker_state plan.workers (map (begun_on build) pages) (record { taken = 0; sealed = 0 }) (omega (arith, few, length-map pages (begun_on build))) (at_first build pages) in
     rw (one, states) refl

@@ -13,7 +13,6 @@ use Rattle.heap_table.specs.TablePairs.{pairs_at_rest}
 use Rattle.side_file.specs.Ends.{PutEnd}
 use Rattle.side_file.specs.SideFileValue.{SideFileValue}
 use Rattle.side_file.specs.declared.entry.Entry.{Entry}
-use Rattle.building.specs.TakeEnd.{TakeEnd}
 use Rattle.building.specs.WorkerValue.{WorkerValue}
 use Rattle.building.specs.declared.copied.Copied.{Copied}
 use Rattle.visibility.specs.Applied.{apply_entries}
@@ -21,7 +20,8 @@ use Rattle.catch_up.specs.Built.{told_to}
 use Rattle.catch_up.proofs.Telling.{told_entries}
 use Rattle.builder_core.specs.Builds.{LiveValue, BuildingValue, WorkValue, BuildFollows, WorkersFollow, WorksOn, IsRunning, state_unless, work_state}
 use Rattle.builder_core.specs.Builds.{core_state}
-use Rattle.builder_core.specs.CoreState.{BuildState, LiveState, ReadyValue, CoreState, WorkState, idle, scanning_of}
+use Rattle.builder_core.specs.CoreState.{BuildState, LiveState, ReadyValue, CoreState, WorkState, SpoolsState, idle, scanning_of}
+use Rattle.builder_core.specs.Holding.{spools_state}
 use Rattle.builder_core.specs.Scanning.{scanned_pairs}
 use Rattle.builder_core.specs.SideEntries.{side_entries}
 use Rattle.builder_core.specs.SideFiles.{HasEntries}
@@ -31,8 +31,8 @@ use Rattle.builder_core.proofs.TableBuilds.{only_same, switched_pairs, set_of-ke
 use Rattle.builder_core.proofs.Works.{roomy_work}
 
 -- what stands beside a table, with that work
-abbrev pub with_work : List WorkerValue → TakeEnd Entry → Option WorkValue → BuildingValue
-with_work workers side work = record { workers = workers; side = side; work = work }
+abbrev pub with_work : BuildingValue → Option WorkValue → BuildingValue
+with_work building work = record building { work = work }
 
 -- the work has another room for pairs, if there is work
 abbrev pub IsRoomy : Option WorkValue → Option WorkValue → Type 0
@@ -40,12 +40,17 @@ IsRoomy old new = (w : WorkValue) → old ≡ Some w → (room : ℕ) × (new �
 
 -- room for more pairs changes nothing that the workers do
 roomy_workers :
-    (pages : List (PutEnd Copied)) (put : PutEnd Entry) (workers : List WorkerValue) (side : TakeEnd Entry) (build : Option BuildState) (w : WorkValue)
-    (room : ℕ) → WorkersFollow pages put (with_work workers side (Some w)) build (Some w)
-    → WorkersFollow pages put (with_work workers side (Some (record w { room = room }))) build (Some (record w { room = room }))
-roomy_workers pages put workers side None w room follow = tt
-roomy_workers pages put workers side (Some b) w room follow =
-    record { drained = follow.drained; taking = follow.taking; holding = follow.holding }
+    (pages : List (PutEnd Copied)) (put : PutEnd Entry) (building : BuildingValue) (build : Option BuildState) (w : WorkValue)
+    (room : ℕ) → WorkersFollow pages put (with_work building (Some w)) build (Some w)
+    → WorkersFollow pages put (with_work building (Some (record w { room = room }))) build (Some (record w { room = room }))
+roomy_workers pages put building None w room follow = tt
+roomy_workers pages put building (Some b) w room follow =
+    let kits = λ (fine : w.spoiled ≡ None). follow.kits fine in record {
+      drained = follow.drained;
+      given = follow.given;
+      taking = follow.taking;
+      kits = λ fine. record { equipped = (kits fine).equipped; opened = (kits fine).opened; holding = (kits fine).holding };
+    }
 
 -- nor what callers see
 room_unseen :
@@ -56,22 +61,22 @@ room_unseen (Some fault) workers w room = refl
 
 -- so that all goes on
 pub after_room :
-    (live : LiveValue) (workers : List WorkerValue) (side : TakeEnd Entry) (old new : Option WorkValue) → WorksOn live (with_work workers side old)
+    (live : LiveValue) (building : BuildingValue) (old new : Option WorkValue) → WorksOn live (with_work building old)
     → IsRoomy old new → (old ≡ None → new ≡ None)
-    → WorksOn live (with_work workers side new) × (work_state workers new ≡ work_state workers old)
-after_room live workers side None new works same none = (
-  subst (λ (o : Option WorkValue). WorksOn live (with_work workers side o)) (sym (none refl)) works,
-  ap (work_state workers) (none refl),
+    → WorksOn live (with_work building new) × (work_state building.workers new ≡ work_state building.workers old)
+after_room live building None new works same none = (
+  subst (λ (o : Option WorkValue). WorksOn live (with_work building o)) (sym (none refl)) works,
+  ap (work_state building.workers) (none refl),
 )
-after_room live workers side (Some w) new works same none =
+after_room live building (Some w) new works same none =
     let roomy = same w refl in
     let changed : WorkValue = record w { room = roomy.0 } in
-    let there : WorksOn live (with_work workers side (Some changed)) = record {
+    let there : WorksOn live (with_work building (Some changed)) = record {
       work = roomy_work live.state.heap.schema live.state.heap.log live.state.build w roomy.0 works.work;
-      workers = roomy_workers live.pages live.side workers side live.state.build w roomy.0 works.workers;
+      workers = roomy_workers live.pages live.side building live.state.build w roomy.0 works.workers;
     } in (
-      subst (λ (o : Option WorkValue). WorksOn live (with_work workers side o)) (sym roomy.1) there,
-      ap (work_state workers) roomy.1 ∙ room_unseen w.spoiled workers w roomy.0,
+      subst (λ (o : Option WorkValue). WorksOn live (with_work building o)) (sym roomy.1) there,
+      ap (work_state building.workers) roomy.1 ∙ room_unseen w.spoiled building.workers w roomy.0,
     )
 
 -- a build that may be switched in: what runs once there is room for the pairs
@@ -81,15 +86,15 @@ pub record Switching (live : LiveValue) (old new : BuildingValue) (b : BuildStat
 
 -- told of a table and of what stands beside it from within
 pub switching :
-    (inside live : LiveValue) (old : BuildingValue) (workers : List WorkerValue) (side : TakeEnd Entry) (before after : Option WorkValue) (b : BuildState)
-    (w : WorkValue) → inside ≡ live → with_work workers side before ≡ old → inside.state.build ≡ Some b → after ≡ Some w
+    (inside live : LiveValue) (old building : BuildingValue) (before after : Option WorkValue) (b : BuildState)
+    (w : WorkValue) → inside ≡ live → with_work building before ≡ old → inside.state.build ≡ Some b → after ≡ Some w
     → BuildFollows inside.state.heap.schema inside.state.heap.log inside.state.build → WorksOn live old
-    → IsRoomy before after → (before ≡ None → after ≡ None) → Switching live old (with_work workers side after) b w
-switching inside live old workers side before after b w view_is there build_is work_is follows works same none =
-    let roomy = after_room live workers side before after (subst (WorksOn live) (sym there) works) same none in
+    → IsRoomy before after → (before ≡ None → after ≡ None) → Switching live old (with_work building after) b w
+switching inside live old building before after b w view_is there build_is work_is follows works same none =
+    let roomy = after_room live building before after (subst (WorksOn live) (sym there) works) same none in
     record {
-      run = running_inside inside live (with_work workers side after) b w view_is build_is work_is follows roomy.0;
-      same = ap (λ (ws : WorkState). record { live = live.state; work = ws }) roomy.1 ∙ ap (core_state live) there;
+      run = running_inside inside live (with_work building after) b w view_is build_is work_is follows roomy.0;
+      same = ap (λ (ws : WorkState). record { live = live.state; work = ws; spools = spools_state building.given building.spools }) roomy.1 ∙ ap (core_state live) there;
     }
 
 module _
@@ -131,20 +136,25 @@ module _
 
     -- what the switch leaves
     pub switches :
-        (told : ℕ × List Outcome) (heap : HeapState) (ready : List ReadyValue) (build : Option BuildState) (workers : List WorkerValue)
-        (left : Option WorkValue) → told.0 ≡ length live.state.heap.log + 1 → told.1 ≡ Ready (length live.state.ready) ∷ []
+        (told : ℕ × List Outcome) (heap : HeapState) (ready : List ReadyValue) (build : Option BuildState) (new : BuildingValue)
+        → told.0 ≡ length live.state.heap.log + 1 → told.1 ≡ Ready (length live.state.ready) ∷ []
         → heap ≡ after_switch live.state.heap (Ready (length live.state.ready) ∷ [])
-        → ready ≡ live.state.ready ++ record { spec = spec; pairs = pairs } ∷ [] → build ≡ None → left ≡ None
-        → Switches (core_state live building) told
-        (record { live = record { heap = heap; ready = ready; builds = live.state.builds; build = build }; work = work_state workers left })
-    switches told heap ready build workers left number verdicts noted grown none gone =
+        → ready ≡ live.state.ready ++ record { spec = spec; pairs = pairs } ∷ [] → build ≡ None → new.work ≡ None
+        → spools_state new.given new.spools ≡ spools_state building.given building.spools
+        → Switches (core_state live building) told (record {
+          live = record { heap = heap; ready = ready; builds = live.state.builds; build = build };
+          work = work_state new.workers new.work;
+          spools = spools_state new.given new.spools;
+        })
+    switches told heap ready build new number verdicts noted grown none gone ended =
+        let spools : SpoolsState = spools_state building.given building.spools in
         let Whole : HeapState → List ReadyValue → CoreState =
-        λ h r. record { live = record { heap = h; ready = r; builds = live.state.builds; build = None }; work = idle } in
+        λ h r. record { live = record { heap = h; ready = r; builds = live.state.builds; build = None }; work = idle; spools = spools } in
         let table : LiveState = record { heap = heap; ready = ready; builds = live.state.builds; build = build } in
-        let new : CoreState = record { live = table; work = work_state workers left } in
-        let state : new ≡ record { live = after_switch_in live.state b; work = idle } =
-        rw (none, gone) (ap (λ h. Whole h ready) (noted ∙ ap (after_switch live.state.heap) verdicts_are)
+        let left : CoreState = record { live = table; work = work_state new.workers new.work; spools = spools_state new.given new.spools } in
+        let state : left ≡ record { live = after_switch_in live.state b; work = idle; spools = spools } =
+        rw (none, gone, ended) (ap (λ h. Whole h ready) (noted ∙ ap (after_switch live.state.heap) verdicts_are)
         ∙ ap (Whole (after_switch live.state.heap (verdicts_on live.state b))) (grown ∙ ap (λ is. live.state.ready ++ is) indexes_are)) in
         subst (λ (o : Option BuildState). OnBuild o (λ b. (told.0 ≡ length live.state.heap.log + 1) × (told.1 ≡ verdicts_on live.state b)
-        × (new ≡ record { live = after_switch_in live.state b; work = idle })))
+        × (left ≡ record { live = after_switch_in live.state b; work = idle; spools = spools })))
         (sym run.build_is) (number, verdicts ∙ verdicts_are, state)

@@ -22,7 +22,9 @@ use Rattle.builder_core.specs.declared.reply.Reply.{Reply}
 use Rattle.builder_core.specs.declared.reply.Reply.TheVariants.{Switched, Refused}
 use Rattle.builder_core.specs.CoreState.{CoreState, LiveState, BuildState, ReadyValue}
 use Rattle.builder_core.specs.Headline.{HasPairsAtRest, EachSwitchIsAtRest}
-use Rattle.builder_core.specs.Steps.{Step, Run, Does, AfterMemory, OnBuild, ready_from, index_now, after_switch_in, verdicts_on}
+use Rattle.keybytes.specs.declared.fault.Fault.{Fault}
+use Rattle.spool_ledger.specs.Accounts.{Stake}
+use Rattle.builder_core.specs.Steps.{Step, Run, Does, AfterWant, spoiled_by, OnBuild, ready_from, index_now, after_switch_in, verdicts_on}
 
 -- the second log is the first, and more
 abbrev pub GoesOn : List LogRec → List LogRec → Type 0
@@ -66,26 +68,29 @@ done_goes_on s Switch reply new does =
     let on = on_build s.live.build _ does.2 in same_log s new _ (ap (λ (t : CoreState). t.live.heap) on.1.2) (_, refl)
 done_goes_on s Abandon reply new does = keeps_log s new _ does.1 refl
 
-memory_keeps : (s : CoreState) (event : Event) (new : CoreState) → AfterMemory event s new → new.live.heap.log ≡ s.live.heap.log
-memory_keeps s Begin new is = ap (λ (t : CoreState). t.live.heap.log) is
-memory_keeps s (Insert txn row) new is = ap (λ (t : CoreState). t.live.heap.log) is
-memory_keeps s (Update txn rid row) new is = ap (λ (t : CoreState). t.live.heap.log) is
-memory_keeps s (Delete txn rid) new is = ap (λ (t : CoreState). t.live.heap.log) is
-memory_keeps s (Undo txn) new is = ap (λ (t : CoreState). t.live.heap.log) is
-memory_keeps s (Commit txn) new is = ap (λ (t : CoreState). t.live.heap.log) is
-memory_keeps s (Start plan) new is = ap (λ (t : CoreState). t.live.heap.log) is
-memory_keeps s (Scan range worker) new is = ap (λ (t : CoreState). t.live.heap.log) is
-memory_keeps s (Digest worker) new is = ap (λ (t : CoreState). t.live.heap.log) is.1
-memory_keeps s (Seal worker) new is = ap (λ (t : CoreState). t.live.heap.log) is
-memory_keeps s (Load index) new is = ap (λ (t : CoreState). t.live.heap.log) is.1
-memory_keeps s Switch new is = ap (λ (t : CoreState). t.live.heap.log) is
-memory_keeps s Abandon new never = absurd never
+-- what a spoiled build leaves, want leaves
+want_keeps :
+    {X : Type 0} (f : CoreState → X) (s : CoreState) (event : Event) (fault : Fault) (new : CoreState) → f (spoiled_by fault s) ≡ f s
+    → AfterWant event fault s new → f new ≡ f s
+want_keeps f s Begin fault new same is = ap f is
+want_keeps f s (Insert txn row) fault new same is = ap f is
+want_keeps f s (Update txn rid row) fault new same is = ap f is
+want_keeps f s (Delete txn rid) fault new same is = ap f is
+want_keeps f s (Undo txn) fault new same is = ap f is
+want_keeps f s (Commit txn) fault new same is = ap f is
+want_keeps f s (Start plan) fault new same is = ap f is
+want_keeps f s (Scan range worker) fault new same is = ap f is
+want_keeps f s (Digest worker) fault new same is = ap f is.1 ∙ same
+want_keeps f s (Seal worker) fault new same is = ap f is ∙ same
+want_keeps f s (Load index) fault new same is = ap f is.1 ∙ same
+want_keeps f s Switch fault new same is = ap f is
+want_keeps f s Abandon fault new same never = absurd never
 
 -- a step adds to the log alone
 step_goes_on : (s : CoreState) (event : Event) (reply : Reply) (new : CoreState) → Step s event reply new → GoesOn s.live.heap.log new.live.heap.log
 step_goes_on s event reply new (inl refused) = elim refused.2 [
   | inl cause ↦ goes_same s.live.heap.log new.live.heap.log (ap (λ (t : CoreState). t.live.heap.log) cause.1)
-  | inr wants ↦ goes_same s.live.heap.log new.live.heap.log (memory_keeps s event new wants.2)
+  | inr wants ↦ goes_same s.live.heap.log new.live.heap.log (want_keeps (λ (t : CoreState). t.live.heap.log) s event refused.0 new refl wants.2)
 ]
 step_goes_on s event reply new (inr done) = done_goes_on s event reply new done.1
 
@@ -96,6 +101,40 @@ run_goes_on s [] (reply ∷ replies) end run = absurd run
 run_goes_on s (event ∷ events) [] end run = absurd run
 run_goes_on s (event ∷ events) (reply ∷ replies) end run =
     goes_on s.live.heap.log run.0.live.heap.log end.live.heap.log (step_goes_on s event reply run.0 run.1) (run_goes_on run.0 events replies end run.2)
+
+-- no step takes a stake from a spool
+abbrev stakes_of : CoreState → List (Option Stake)
+stakes_of s = s.spools.stakes
+
+done_stakes : (s : CoreState) (event : Event) (reply : Reply) (new : CoreState) → Does s event reply new → stakes_of new ≡ stakes_of s
+done_stakes s Begin reply new does = ap stakes_of does.2.1
+done_stakes s (Insert txn row) reply new does = ap stakes_of does.2.1
+done_stakes s (Update txn rid row) reply new does = ap stakes_of does.2.1
+done_stakes s (Delete txn rid) reply new does = ap stakes_of does.2.1
+done_stakes s (Undo txn) reply new does = ap stakes_of does.2.1
+done_stakes s (Commit txn) reply new does = ap stakes_of does.2.1
+done_stakes s (Start plan) reply new does = ap stakes_of does.2.1
+done_stakes s (Scan range worker) reply new does = ap stakes_of does.2.1
+done_stakes s (Digest worker) reply new does = let on = on_build s.live.build _ does.2 in ap stakes_of on.1.1
+done_stakes s (Seal worker) reply new does = let on = on_build s.live.build _ does.2 in ap stakes_of on.1.1
+done_stakes s (Load index) reply new does = let on = on_build s.live.build _ does.2 in ap stakes_of on.1.1
+done_stakes s Switch reply new does = let on = on_build s.live.build _ does.2 in ap stakes_of on.1.2
+done_stakes s Abandon reply new does = ap stakes_of does.1
+
+pub step_stakes : (s : CoreState) (event : Event) (reply : Reply) (new : CoreState) → Step s event reply new → stakes_of new ≡ stakes_of s
+step_stakes s event reply new (inl refused) = elim refused.2 [
+  | inl cause ↦ ap stakes_of cause.1
+  | inr wants ↦ want_keeps stakes_of s event refused.0 new refl wants.2
+]
+step_stakes s event reply new (inr done) = done_stakes s event reply new done.1
+
+-- nor does a run
+pub run_stakes :
+    (s : CoreState) (events : List Event) (replies : List Reply) (end : CoreState) → Run s events replies end → end.spools.stakes ≡ s.spools.stakes
+run_stakes s [] [] end run = ap stakes_of run
+run_stakes s [] (reply ∷ replies) end run = absurd run
+run_stakes s (event ∷ events) [] end run = absurd run
+run_stakes s (event ∷ events) (reply ∷ replies) end run = run_stakes run.0 events replies end run.2 ∙ step_stakes s event reply run.0 run.1
 
 -- what a switch did that decided
 pub record Switched_in (s : CoreState) (event : Event) (number : ℕ) (verdicts : List Outcome) (new : CoreState) : Type 0 where

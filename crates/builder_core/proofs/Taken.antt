@@ -1,24 +1,26 @@
 -- What a worker's digest leaves, as callers see it.
-use Rattle.std.proofs.Common.{◌≡◌, ℕ, ◌+◌, ◌<◌, ◌≤◌, List, [], ◌∷◌, ◌++◌, length, map, take, set, Option, Some, None, Result, Ok, Err, OnErr, IfOk}
-use Rattle.std.proofs.Common.{sym, ap, ◌∙◌, subst, arith}
+use Rattle.std.proofs.Common.{◌≡◌, ℕ, ◌+◌, ◌<◌, ◌≤◌, List, [], ◌∷◌, ◌++◌, length, map, take, set, Option, Some, None, Result, Ok, Err, IfOk, IfErr, OnErr}
+use Rattle.std.proofs.Common.{refl, sym, ap, ◌∙◌, subst, arith}
 use Rattle.std.specs.List.{slice_get}
 use Rattle.std.proofs.lemmas.List.{set-get_or}
 use Rattle.std.proofs.lemmas.Option.{same_Some}
 use Rattle.keybytes.specs.declared.fault.Fault.{Fault}
 use Rattle.side_file.specs.Ends.{PutEnd}
-use Rattle.building.specs.ImagePairs.{HavePairs}
+use Rattle.run_maker.specs.Making.{MakerValue}
 use Rattle.building.specs.Work.{next_images, after_digest}
 use Rattle.building.specs.WorkerValue.{WorkerValue}
 use Rattle.building.specs.declared.copied.Copied.{Copied}
 use Rattle.building.proofs.Taking.{next_count}
 use Rattle.builder_core.specs.Builds.{LiveValue, BuildingValue, WorkValue, IsRunning, SeesRing, WorksOn, worker_state, work_state, core_state, index_state}
-use Rattle.builder_core.specs.CoreState.{BuildState, WorkerState, WorkState}
+use Rattle.builder_core.specs.CoreState.{BuildState, WorkerState, WorkState, SpoolsState}
+use Rattle.builder_core.specs.Holding.{SpoolValue, Digested, spools_state}
 use Rattle.builder_core.specs.Rings.{all_sent, ArePut}
 use Rattle.builder_core.specs.Steps.{OnBuild, Waits, Digests, next_copies, after_digest as digested}
 use Rattle.builder_core.specs.Workers.{waiting, worker_at}
-use Rattle.builder_core.specs.Working.{HasTaken, IsSpoiled, one_copy}
+use Rattle.builder_core.specs.Working.{HasTaken, HasTakenAt, IsSpoiled, one_copy}
 use Rattle.builder_core.proofs.Refusals.{state_is, waiting_is, worker_there}
-use Rattle.builder_core.proofs.Takes.{digested_works, spoiled_works, states_set}
+use Rattle.builder_core.proofs.Takes.{digested_works, going_on, spoiled_works, states_set}
+use Rattle.builder_core.proofs.OneWorker.{same_stakes}
 use Rattle.builder_core.proofs.Places.{map_at}
 
 module _
@@ -26,28 +28,38 @@ module _
     (put : ArePut live.state.heap.schema live.state.heap.log b (all_sent live.pages)) (k : ℕ) (sent : List Copied) (it : WorkerValue) (less : k < b.workers)
     (there : slice_get (all_sent live.pages) k ≡ Some sent) (at : slice_get building.workers k ≡ Some it)
     (in_order : it.end.received ++ it.end.known ≡ sent) (some : 1 ≤ length it.end.known) (images : ℕ)
-    (taken : HasTaken k one_copy (λ v. v) building images new) where
-  same_it : taken.it ≡ it
-  same_it = same_Some taken.it it (sym taken.there ∙ at)
-
+    (taken : HasTaken k one_copy (λ v. v) Digested building images new) where
   same_work : taken.work ≡ w
   same_work = same_Some taken.work w (sym taken.runs ∙ run.work_is)
 
-  have : HavePairs w.spec (next_images 1 it) taken.made
-  have =
-      subst (λ (v : WorkValue). HavePairs v.spec (next_images 1 it) taken.made) same_work
-      (subst (λ (v : WorkerValue). HavePairs taken.work.spec (next_images 1 v) taken.made) same_it taken.have)
+  at_it : HasTakenAt w.spec k one_copy (λ v. v) Digested building.workers w.makers building.spools images taken.workers taken.makers taken.spools
+  at_it = subst (λ (v : WorkValue). HasTakenAt v.spec k one_copy (λ x. x) Digested building.workers v.makers building.spools images taken.workers taken.makers taken.spools)
+      same_work taken.taken
 
-  left : new ≡ record building { workers = set building.workers k (after_digest 1 taken.made it) }
-  left = taken.left ∙ ap (λ (v : WorkerValue). record building { workers = set building.workers k (after_digest 1 taken.made v) }) same_it
+  same_it : at_it.it ≡ it
+  same_it = same_Some at_it.it it (sym at_it.there ∙ at)
+
+  left : new ≡ going_on live building b w run fine put k sent it less there at in_order at_it.kit at_it.after at_it.maker at_it.spool at_it.fit 1 (after_digest 1 it)
+  left =
+      taken.left ∙ ap (λ (v : WorkValue). record building { workers = taken.workers; spools = taken.spools; work = Some (record v { makers = taken.makers }) }) same_work
+      ∙ ap (λ (ws : List WorkerValue). record building { workers = ws; spools = taken.spools; work = Some (record w { makers = taken.makers }) })
+      (at_it.workers_are ∙ ap (λ (v : WorkerValue). set building.workers k (after_digest 1 v)) same_it)
+      ∙ ap (λ (ms : List MakerValue). record building { workers = set building.workers k (after_digest 1 it); spools = taken.spools; work = Some (record w { makers = ms }) })
+      at_it.makers_are
+      ∙ ap (λ (ss : List SpoolValue). record building {
+        workers = set building.workers k (after_digest 1 it);
+        spools = ss;
+        work = Some (record w { makers = set w.makers k at_it.after.maker });
+      }) at_it.spools_are
 
   pub taken_works : WorksOn live new
   taken_works =
       subst (WorksOn live) (sym left)
-      (digested_works live building b w run fine put k sent it less there at in_order 1 taken.made have)
+      (digested_works live building b w run fine put k sent it less there at in_order at_it.kit at_it.after at_it.maker at_it.spool at_it.fit 1
+      (subst (λ (v : WorkerValue). Digested w.spec (next_images 1 v) at_it.kit at_it.after) same_it at_it.spools_more))
 
   one : length (next_images 1 it) ≡ 1
-  one = next_count b.number w.spec sent it (run.at_work.taking fine k sent it less there at) 1 in_order some
+  one = next_count b.number sent it (run.at_work.taking fine k sent it less there at) 1 in_order some
 
   abbrev before : WorkState
   before = work_state building.workers building.work
@@ -61,7 +73,7 @@ module _
   abbrev next_state : WorkerState
   next_state = record (worker_at before k) { taken = (worker_at before k).taken + next_copies b before k }
 
-  worker_is : worker_state (after_digest 1 taken.made it) ≡ next_state
+  worker_is : worker_state (after_digest 1 it) ≡ next_state
   worker_is =
       ap (λ (n : ℕ). counted n) (one ∙ sym waits_one)
       ∙ sym (ap (λ (s : WorkerState). record s { taken = s.taken + next_copies b before k })
@@ -70,41 +82,47 @@ module _
         counted n = record { taken = it.taken + n; sealed = it.sealed }
 
   abbrev changed : BuildingValue
-  changed = record building { workers = set building.workers k (after_digest 1 taken.made it) }
+  changed = going_on live building b w run fine put k sent it less there at in_order at_it.kit at_it.after at_it.maker at_it.spool at_it.fit 1 (after_digest 1 it)
 
   abbrev with_states : List WorkerState → WorkState
   with_states states = record { workers = states; indexes = index_state w.tree ∷ []; spoiled = None }
 
-  work_is : work_state changed.workers building.work ≡ digested b before k
+  work_is : work_state changed.workers changed.work ≡ digested b before k
   work_is =
-      state_is changed w run.work_is fine
-      ∙ ap with_states (states_set w.workers k building.workers (after_digest 1 taken.made it) (omega (arith, less, run.on.workers)))
+      state_is changed (record w { makers = set w.makers k at_it.after.maker }) refl fine
+      ∙ ap with_states (states_set w.workers k building.workers (after_digest 1 it) (omega (arith, less, run.on.workers)))
       ∙ ap (λ (s : WorkerState). with_states (set (map worker_state (take w.workers building.workers)) k s)) worker_is
       ∙ sym (ap (λ (s : WorkState). record s { workers = set s.workers k next_state }) (state_is building w run.work_is fine))
 
+  -- the spools are given, as they were
+  spools_are : spools_state changed.given changed.spools ≡ spools_state building.given building.spools
+  spools_are = same_stakes building run.at_work.given k at_it.kit.spool at_it.after.spool at_it.spool at_it.stake
+
   pub digests : Digests k (core_state live building) images (core_state live new)
   digests =
-      subst (λ (o : Option BuildState). OnBuild o (λ x. (images ≡ next_copies x before k) × (core_state live new ≡ record { live = live.state; work = digested x before k })))
+      subst (λ (o : Option BuildState). OnBuild o (λ x. (images ≡ next_copies x before k)
+      × (core_state live new ≡ record (core_state live building) { work = digested x before k })))
       (sym run.build_is) (
-        taken.counted ∙ ap (λ (v : WorkerValue). length (next_images 1 v)) same_it ∙ one ∙ sym waits_one,
-        ap (core_state live) left ∙ ap (λ (s : WorkState). record { live = live.state; work = s }) work_is,
+        at_it.counted ∙ ap (λ (v : WorkerValue). length (next_images 1 v)) same_it ∙ one ∙ sym waits_one,
+        ap (core_state live) left ∙ ap (λ (s : WorkState). record { live = live.state; work = s; spools = spools_state changed.given changed.spools }) work_is
+            ∙ ap (λ (s : SpoolsState). record { live = live.state; work = digested b before k; spools = s }) spools_are,
       )
 
 -- whatever the digest answered, all goes on
 pub works_after :
     (live : LiveValue) (building new : BuildingValue) (b : BuildState) (w : WorkValue) (run : IsRunning live building b w) (fine : w.spoiled ≡ None)
     (put : ArePut live.state.heap.schema live.state.heap.log b (all_sent live.pages)) (k : ℕ) (less : k < b.workers) (answer : Result ℕ Fault) (count : ℕ)
-    (sees : SeesRing k count live building) → 1 ≤ count → IfOk answer (λ images. HasTaken k one_copy (λ v. v) building images new)
-    → OnErr answer (IsSpoiled building new) → WorksOn live new
+    (sees : SeesRing k count live building) → 1 ≤ count → IfOk answer (λ images. HasTaken k one_copy (λ v. v) Digested building images new)
+    → IfErr answer (λ fault. IsSpoiled fault building new) → WorksOn live new
 works_after live building new b w run fine put k less (Ok images) count sees some taken spoiled =
     taken_works live building new b w run fine put k sees.end.sent sees.it less (map_at (λ (end : PutEnd Copied). end.sent) live.pages k sees.end sees.ring) sees.there
     sees.in_order (omega (arith, some, sees.seen)) images taken
-works_after live building new b w run fine put k less (Err fault) count sees some taken spoiled = spoiled_works live building new b w run spoiled
+works_after live building new b w run fine put k less (Err fault) count sees some taken spoiled = spoiled_works live fault building new b w run spoiled
 
 pub digests_after :
     (live : LiveValue) (building new : BuildingValue) (b : BuildState) (w : WorkValue) (run : IsRunning live building b w) (fine : w.spoiled ≡ None)
     (put : ArePut live.state.heap.schema live.state.heap.log b (all_sent live.pages)) (k : ℕ) (less : k < b.workers) (answer : Result ℕ Fault) (count : ℕ)
-    (sees : SeesRing k count live building) → 1 ≤ count → IfOk answer (λ images. HasTaken k one_copy (λ v. v) building images new)
+    (sees : SeesRing k count live building) → 1 ≤ count → IfOk answer (λ images. HasTaken k one_copy (λ v. v) Digested building images new)
     → IfOk answer (λ images. Digests k (core_state live building) images (core_state live new))
 digests_after live building new b w run fine put k less (Ok images) count sees some taken =
     digests live building new b w run fine put k sees.end.sent sees.it less (map_at (λ (end : PutEnd Copied). end.sent) live.pages k sees.end sees.ring) sees.there
@@ -127,8 +145,8 @@ digests_none live building b w run fine put k less count sees none =
     let state : before ≡ digested b before k =
     sym (ap (λ (s : WorkerState). record before { workers = set before.workers k s }) same
     ∙ ap (λ ws. record before { workers = ws }) (set-get_or before.workers k (record { taken = 0; sealed = 0 }))) in
-    subst (λ (o : Option BuildState). OnBuild o (λ x. (0 ≡ next_copies x before k) × (core_state live building ≡ record { live = live.state; work = digested x before k })))
-    (sym run.build_is) (sym nothing, ap (λ (s : WorkState). record { live = live.state; work = s }) state)
+    subst (λ (o : Option BuildState). OnBuild o (λ x. (0 ≡ next_copies x before k) × (core_state live building ≡ record (core_state live building) { work = digested x before k })))
+    (sym run.build_is) (sym nothing, ap (λ (s : WorkState). record { live = live.state; work = s; spools = spools_state building.given building.spools }) state)
 
 -- where the ring has a copy, callers see that one waits
 pub waits_some :

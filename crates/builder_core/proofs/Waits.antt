@@ -1,7 +1,10 @@
 -- What waits for a worker, and what it has not sealed, by what its ring was sent.
 use Rattle.std.proofs.Common.{◌≡◌, ℕ, zero, suc, ◌+◌, ◌-◌, ◌%◌, ◌<◌, ◌==◌, Bool, true, false, List, [], ◌∷◌, ◌++◌, length, map, take, take_all, drop}
 use Rattle.std.proofs.Common.{get_or, Some, refl, sym, ap, ◌∙◌, subst, arith, length-append}
-use Rattle.std.specs.Prelude.{◌&&◌, flat_map}
+use Rattle.std.specs.Prelude.{◌&&◌, flat_map, IsPermutation}
+use Rattle.std.proofs.lemmas.List.Sorted.{IsPermutation-sym}
+use Rattle.run_spool.specs.Spools.{all_pairs}
+use Rattle.run_maker.specs.Making.{MakerValue}
 use Rattle.std.specs.List.{slice_get, list_all}
 use Rattle.std.proofs.lemmas.Bool.{and_parts, and_from, eq-eqb, eqb-true}
 use Rattle.std.proofs.lemmas.List.{append_cancel_left, take-append-le, nil_from_length, append-nil}
@@ -12,7 +15,8 @@ use Rattle.keybytes.specs.declared.pair.Pair.{Pair}
 use Rattle.heap_log.specs.declared.record.LogRec.{LogRec}
 use Rattle.heap_table.specs.Images.{ImageValue}
 use Rattle.building.specs.Copies.{images_of}
-use Rattle.building.specs.Taking.{IsTaking, HoldsPairs, received_images}
+use Rattle.building.specs.Holding.{HoldsPairs, HoldsOpen}
+use Rattle.building.specs.Taking.{IsTaking, received_images, unsealed_images}
 use Rattle.building.specs.WorkerValue.{WorkerValue}
 use Rattle.building.specs.declared.copied.Copied.{Copied}
 use Rattle.building.proofs.ManyPairs.{images-append}
@@ -25,7 +29,9 @@ use Rattle.builder_core.specs.Scanning.{AreCopies, pairs_at_scan}
 use Rattle.builder_core.specs.Workers.{put_to, unsealed_pairs, fill_runs, is_quiet}
 use Rattle.builder_core.specs.declared.scan.Scan.{Scan}
 use Rattle.builder_core.proofs.Copies.{copies_count}
+use Rattle.builder_core.specs.Holding.{begun_of}
 use Rattle.builder_core.proofs.CopyPairs.{copies_pairs}
+use Rattle.builder_core.proofs.Kits.{begun_none, none_begun}
 
 -- the first copies, and the others
 copies_take : (kinds : List Kind) (log : List LogRec) (n : ℕ) (scans : List Scan) (images : List ImageValue) → AreCopies kinds log scans images → AreCopies kinds log (take n scans) (take n images)
@@ -57,7 +63,7 @@ state_at (suc count) (suc k) (w ∷ ws) worker other less at = state_at count k 
 
 module _
     (kinds : List Kind) (log : List LogRec) (b : BuildState) (spec : KeySpecValue) (k : ℕ) (sent : List Copied) (worker : WorkerValue)
-    (columns : spec.kinds ≡ kinds) (copies : AreCopies kinds log (put_to b k) (images_of b.number sent)) (taking : IsTaking b.number spec sent worker) where
+    (columns : spec.kinds ≡ kinds) (copies : AreCopies kinds log (put_to b k) (images_of b.number sent)) (taking : IsTaking b.number sent worker) where
   -- the images that it received, and the others
   parts : images_of b.number sent ≡ received_images worker ++ images_of b.number taking.rest
   parts =
@@ -86,45 +92,52 @@ module _
   pub waits : (known : List Copied) → worker.end.received ++ known ≡ sent → length (put_to b k) - worker.taken ≡ length known
   waits known in_order =
       let count = copies_count kinds log (put_to b k) (images_of b.number sent) copies in
-      let all = sent_count b.number spec sent worker taking known in_order in
+      let all = sent_count b.number sent worker taking known in_order in
       omega (arith, count, all)
 
-  -- the pairs that it holds
-  pub held_pairs : HoldsPairs spec worker → worker.pairs ≡ flat_map (pairs_at_scan (scanning_of b spec) log) (take worker.taken (put_to b k))
-  held_pairs held =
-      have_same spec (received_images worker) worker.pairs _ held
-      (copies_pairs (scanning_of b spec) kinds log (take worker.taken (put_to b k)) (received_images worker) columns received_copies)
+  -- the pairs that its kit holds
+  pub held_pairs :
+      (runs : List (List Pair)) (begun : List Pair) → HoldsPairs spec (received_images worker) runs begun
+      → IsPermutation (all_pairs runs ++ begun) (flat_map (pairs_at_scan (scanning_of b spec) log) (take worker.taken (put_to b k)))
+  held_pairs runs begun held =
+      let same = have_same spec (received_images worker) held.made _ held.have
+      (copies_pairs (scanning_of b spec) kinds log (take worker.taken (put_to b k)) (received_images worker) columns received_copies) in
+      IsPermutation-sym _ (all_pairs runs ++ begun) (subst (λ (ps : List Pair). IsPermutation ps (all_pairs runs ++ begun)) same held.all)
 
-  unsealed : taking.last ≡ unsealed_pairs b log k (worker_state worker) spec
-  unsealed =
-      have_same spec (drop worker.sealed (received_images worker)) taking.last _ taking.since_seal
-      (copies_pairs (scanning_of b spec) kinds log (drop worker.sealed (take worker.taken (put_to b k))) (drop worker.sealed (received_images worker)) columns
-      (copies_drop kinds log worker.sealed (take worker.taken (put_to b k)) (received_images worker) received_copies))
+  module _ (maker : MakerValue) (opened : HoldsOpen spec (unsealed_images worker) (begun_of maker)) where
+    unsealed : opened.last ≡ unsealed_pairs b log k (worker_state worker) spec
+    unsealed =
+        have_same spec (unsealed_images worker) opened.last _ opened.since_seal
+        (copies_pairs (scanning_of b spec) kinds log (drop worker.sealed (take worker.taken (put_to b k))) (unsealed_images worker) columns
+        (copies_drop kinds log worker.sealed (take worker.taken (put_to b k)) (received_images worker) received_copies))
 
-  runs : worker.open_pairs ≡ length (unsealed_pairs b log k (worker_state worker) spec) % 4096
-  runs = taking.open_run ∙ ap (λ (ps : List Pair). length ps % 4096) unsealed
+    begun_is : length (begun_of maker) ≡ length (unsealed_pairs b log k (worker_state worker) spec) % 4096
+    begun_is = opened.open_run ∙ ap (λ (ps : List Pair). length ps % 4096) unsealed
 
   only_spec : b.specs ≡ spec ∷ [] → list_all (λ s. fill_runs (unsealed_pairs b log k (worker_state worker) s)) b.specs ≡ fill_runs (unsealed_pairs b log k (worker_state worker) spec)
   only_spec one = ap (list_all (λ s. fill_runs (unsealed_pairs b log k (worker_state worker) s))) one ∙ and_true (fill_runs (unsealed_pairs b log k (worker_state worker) spec))
 
-  -- a worker that took all, and whose run is closed, is quiet
-  pub quiet_is : b.specs ≡ spec ∷ [] → IsDone sent worker → is_quiet b log k (worker_state worker) ≡ true
-  quiet_is one quiet =
-      let none : taking.rest ≡ [] = append_cancel_left worker.end.received taking.rest [] (taking.in_order ∙ sym quiet.taken ∙ sym (append-nil worker.end.received)) in
-      let all : worker.taken ≡ length (put_to b k) = let rest = ap (λ (cs : List Copied). length (images_of b.number cs)) none in omega (arith, counted, rest) in
-      let closed : (length (unsealed_pairs b log k (worker_state worker) spec) % 4096 == 0) ≡ true =
-      eq-eqb (length (unsealed_pairs b log k (worker_state worker) spec) % 4096) 0 (sym runs ∙ quiet.closed) in
-      and_from (worker.taken == length (put_to b k)) (list_all (λ s. fill_runs (unsealed_pairs b log k (worker_state worker) s)) b.specs)
-      (eq-eqb worker.taken (length (put_to b k)) all) (only_spec one ∙ closed)
+  module _ (maker : MakerValue) (one_index : length maker.begun ≡ 1) (opened : HoldsOpen spec (unsealed_images worker) (begun_of maker)) where
+    -- a worker that took all, and whose run is closed, is quiet
+    pub quiet_is : b.specs ≡ spec ∷ [] → IsDone sent worker maker → is_quiet b log k (worker_state worker) ≡ true
+    quiet_is one quiet =
+        let none : taking.rest ≡ [] = append_cancel_left worker.end.received taking.rest [] (taking.in_order ∙ sym quiet.taken ∙ sym (append-nil worker.end.received)) in
+        let all : worker.taken ≡ length (put_to b k) = let rest = ap (λ (cs : List Copied). length (images_of b.number cs)) none in omega (arith, counted, rest) in
+        let closed : (length (unsealed_pairs b log k (worker_state worker) spec) % 4096 == 0) ≡ true =
+        eq-eqb (length (unsealed_pairs b log k (worker_state worker) spec) % 4096) 0
+        (sym (begun_is maker opened) ∙ ap (λ (ps : List Pair). length ps) (begun_none maker one_index quiet.closed)) in
+        and_from (worker.taken == length (put_to b k)) (list_all (λ s. fill_runs (unsealed_pairs b log k (worker_state worker) s)) b.specs)
+        (eq-eqb worker.taken (length (put_to b k)) all) (only_spec one ∙ closed)
 
-  -- and only such a one
-  pub is_quiet-quiet : b.specs ≡ spec ∷ [] → is_quiet b log k (worker_state worker) ≡ true → IsDone sent worker
-  is_quiet-quiet one is =
-      let both = and_parts (worker.taken == length (put_to b k)) (list_all (λ s. fill_runs (unsealed_pairs b log k (worker_state worker) s)) b.specs) is in
-      let all : worker.taken ≡ length (put_to b k) = eqb-true worker.taken (length (put_to b k)) both.0 in
-      let own = own_images b.number taking.rest taking.own in
-      let none : taking.rest ≡ [] = nil_from_length taking.rest (omega (arith, all, counted, own)) in
-      record {
-        taken = sym (append-nil worker.end.received) ∙ ap (λ cs. worker.end.received ++ cs) (sym none) ∙ taking.in_order;
-        closed = runs ∙ eqb-true (length (unsealed_pairs b log k (worker_state worker) spec) % 4096) 0 (sym (only_spec one) ∙ both.1);
-      }
+    -- and only such a one
+    pub is_quiet-quiet : b.specs ≡ spec ∷ [] → is_quiet b log k (worker_state worker) ≡ true → IsDone sent worker maker
+    is_quiet-quiet one is =
+        let both = and_parts (worker.taken == length (put_to b k)) (list_all (λ s. fill_runs (unsealed_pairs b log k (worker_state worker) s)) b.specs) is in
+        let all : worker.taken ≡ length (put_to b k) = eqb-true worker.taken (length (put_to b k)) both.0 in
+        let own = own_images b.number taking.rest taking.own in
+        let none : taking.rest ≡ [] = nil_from_length taking.rest (omega (arith, all, counted, own)) in
+        record {
+          taken = sym (append-nil worker.end.received) ∙ ap (λ cs. worker.end.received ++ cs) (sym none) ∙ taking.in_order;
+          closed = none_begun maker one_index (nil_from_length (begun_of maker)
+              (begun_is maker opened ∙ eqb-true (length (unsealed_pairs b log k (worker_state worker) spec) % 4096) 0 (sym (only_spec one) ∙ both.1)));
+        }

@@ -9,27 +9,30 @@ use Rattle.keybytes.specs.declared.kind.Kind.{Kind}
 use Rattle.keybytes.specs.declared.pair.Pair.{Pair}
 use Rattle.heap_log.specs.declared.record.LogRec.{LogRec}
 use Rattle.heap_table.proofs.PairsAtRest.{InOrder, sorted_set}
-use Rattle.builder_core.specs.Builds.{IsWorkOf, WorkValue, IsBuildOf, IsWorkOn, after_sort}
+use Rattle.run_maker.specs.Making.{MakerValue}
+use Rattle.builder_core.specs.Builds.{IsWorkOf, WorkValue, IsBuildOf, IsWorkOn, after_sort, fresh}
 use Rattle.builder_core.specs.CoreState.{BuildState, scanning_of}
 use Rattle.builder_core.specs.Ranges.{open_range}
 use Rattle.builder_core.specs.Scanning.{scanned_pairs}
 use Rattle.builder_core.proofs.Distinct.{scanned_distinct}
 use Rattle.builder_core.proofs.ScanSteps.{scan_now}
 
--- the work of a build that has done nothing
-abbrev pub fresh : KeySpecValue → ℕ → WorkValue
-fresh spec workers = record { spec = spec; workers = workers; tree = None; room = 0; spoiled = None }
-
 pub fresh_work_on :
-    (kinds : List Kind) (log : List LogRec) (b : BuildState) (spec : KeySpecValue) (workers : ℕ) → b.specs ≡ spec ∷ [] → spec.kinds ≡ kinds
-    → workers ≡ b.workers → IsWorkOn kinds log b (fresh spec workers)
-fresh_work_on kinds log b spec workers specs columns count = record {
+    (kinds : List Kind) (log : List LogRec) (b : BuildState) (columns : List Kind) (spec : KeySpecValue) (workers : ℕ) → b.specs ≡ spec ∷ []
+    → spec.kinds ≡ kinds → workers ≡ b.workers → IsWorkOn kinds log b (fresh columns spec workers)
+fresh_work_on kinds log b columns spec workers specs same count = record {
   specs = specs;
-  columns = columns;
+  columns = same;
   workers = count;
   all = λ e. absurd (false≢true e);
   loaded = λ pairs e. absurd (cc);
 }
+
+-- its makers went on
+pub makers_work_on :
+    (kinds : List Kind) (log : List LogRec) (b : BuildState) (work : WorkValue) (makers : List MakerValue) → IsWorkOn kinds log b work
+    → IsWorkOn kinds log b (record work { makers = makers })
+makers_work_on kinds log b work makers is = record { specs = is.specs; columns = is.columns; workers = is.workers; all = is.all; loaded = is.loaded }
 
 -- one page more was copied
 pub scanned_work_on :

@@ -1,5 +1,5 @@
 -- What a table and the workers of its build keep between events, and how the two go together.
-use Rattle.std.specs.Prelude.{◌≡◌, ℕ, ◌+◌, ◌-◌, ◌==◌, ◌<◌, ◌≤◌, List, [], ◌∷◌, ◌++◌, length, map, take, is_some, vec_len, vec_capacity, Vec, true, Option}
+use Rattle.std.specs.Prelude.{◌≡◌, ℕ, ◌+◌, ◌-◌, ◌==◌, ◌<◌, ◌≤◌, Bool, List, [], ◌∷◌, ◌++◌, length, map, take, replicate, is_some, vec_len, vec_capacity, Vec, true, Option}
 use Rattle.std.specs.Prelude.{Some, None}
 use Rattle.std.specs.declared.alloc.Global.{Global}
 use Rattle.std.specs.FinMap.{keys}
@@ -13,6 +13,7 @@ use Rattle.keybytes.specs.declared.kind.Kind.{Kind}
 use Rattle.keybytes.specs.declared.pair.Pair.{Pair}
 use Rattle.heap_log.specs.declared.record.LogRec.{LogRec}
 use Rattle.heap_table.specs.HeapState.{HeapState}
+use Rattle.run_maker.specs.Making.{MakerValue}
 use Rattle.scan_range.specs.Cuts.{CutsValue, are_cuts}
 use Rattle.scan_range.specs.Ranges.{RangesValue, is_passed}
 use Rattle.side_file.specs.Ends.{PutEnd, RingId}
@@ -22,7 +23,8 @@ use Rattle.building.specs.WorkerValue.{WorkerValue}
 use Rattle.building.specs.declared.copied.Copied.{Copied}
 use Rattle.builder_core.specs.CoreState.{BuildState, LiveState, WorkerState, IndexState, WorkState, CoreState, scanning_of, live_with_heap, idle, spoiled_work}
 use Rattle.builder_core.specs.Ranges.{next_page, open_range}
-use Rattle.builder_core.specs.Rings.{all_sent, AreForWorkers, AreLooked, AreTaking, AreHolding, AreDone}
+use Rattle.builder_core.specs.Holding.{SpoolValue, spools_state, ended_spool, fresh_maker, AreEquipped, AreHolding, AreOpen}
+use Rattle.builder_core.specs.Rings.{all_sent, AreForWorkers, AreLooked, AreTaking, AreDone}
 use Rattle.builder_core.specs.Scanning.{IsScanned, ReadOnce, scanned_at, scanned_pairs}
 use Rattle.builder_core.specs.SideFiles.{IsDrained}
 use Rattle.builder_core.specs.Steps.{refusal, cause_if, build_cause, counts_refusal, range_refusal}
@@ -46,11 +48,24 @@ pub record WorkValue : Type 0 where
   pub spec : KeySpecValue
   -- how many of the workers it has
   pub workers : ℕ
+  -- what makes the pairs of each of them
+  pub makers : List MakerValue
   -- the index's pairs, once they are in order
   pub tree : Option (List Pair)
   -- how many more pairs find room beside them
   pub room : ℕ
   pub spoiled : Option Fault
+
+-- the work of a build by so many workers, on rows of these columns, that has done nothing
+abbrev pub fresh : List Kind → KeySpecValue → ℕ → WorkValue
+fresh kinds spec workers = record {
+  spec = spec;
+  workers = workers;
+  makers = replicate workers (fresh_maker kinds spec);
+  tree = None;
+  room = 0;
+  spoiled = None;
+}
 
 -- a heap, and the rings for the builds of its indexes
 pub record PartsValue : Type 0 where
@@ -63,10 +78,13 @@ pub record EndsValue : Type 0 where
   pub workers : List WorkerValue
   pub side : TakeEnd Entry
 
--- what stands beside a table: the workers, the other end of the side-file's ring, and the work of the build that runs
+-- what stands beside a table: the workers, the other end of the side-file's ring, the spools, whether a build was given them, and the
+-- work of the build that runs
 pub record BuildingValue : Type 0 where
   pub workers : List WorkerValue
   pub side : TakeEnd Entry
+  pub spools : List SpoolValue
+  pub given : Bool
   pub work : Option WorkValue
 
 -- how many more pairs find room in a list, if there is one
@@ -94,11 +112,19 @@ work_state workers (Some work) = state_unless work.spoiled workers work
 
 -- what callers see of a table and of what stands beside it
 abbrev pub core_state : LiveValue → BuildingValue → CoreState
-core_state live building = record { live = live.state; work = work_state building.workers building.work }
+core_state live building = record {
+  live = live.state;
+  work = work_state building.workers building.work;
+  spools = spools_state building.given building.spools;
+}
 
 -- why an event is refused of a table and of what stands beside it
 abbrev pub cause_of : LiveValue → BuildingValue → Event → Option Fault
 cause_of live building event = refusal (core_state live building) event
+
+-- the work is given up, and the spools are ended
+abbrev pub given_up : BuildingValue → BuildingValue
+given_up building = record building { spools = map ended_spool building.spools; work = None }
 
 -- these pairs are the index's, in order
 abbrev pub after_sort : WorkValue → List Pair → ℕ → WorkValue
@@ -161,12 +187,20 @@ IsWorkOf kinds log None (Some work) = ⊥
 IsWorkOf kinds log (Some b) None = ⊥
 IsWorkOf kinds log (Some b) (Some work) = IsWorkOn kinds log b work
 
--- the workers of the build are at work on what their rings were sent, unless it is spoiled
+-- what the makers and spools of so many workers hold of the copies that these took: their pairs, until they are in order
+pub record HaveKits (count : ℕ) (workers : List WorkerValue) (spools : List SpoolValue) (work : WorkValue) : Type 0 where
+  pub equipped : AreEquipped work.spec.kinds work.spec count work.makers spools
+  pub opened : AreOpen work.spec count workers work.makers
+  pub holding : work.tree ≡ None → AreHolding work.spec count workers work.makers spools
+
+-- nothing is in the side-file's ring, the build has the spools, and its workers are at work on what their rings were sent; of a spoiled build
+-- only the first two are known
 pub record AreAtWork (b : BuildState) (pages : List (PutEnd Copied)) (side : PutEnd Entry) (building : BuildingValue) (work : WorkValue) : Type 0 where
   -- nothing is in the side-file's ring
   pub drained : IsDrained side building.side.ring building.side.received
-  pub taking : work.spoiled ≡ None → AreTaking b.number work.spec b.workers (all_sent pages) building.workers
-  pub holding : work.spoiled ≡ None → work.tree ≡ None → AreHolding work.spec b.workers building.workers
+  pub given : building.given ≡ true
+  pub taking : work.spoiled ≡ None → AreTaking b.number b.workers (all_sent pages) building.workers
+  pub kits : work.spoiled ≡ None → HaveKits b.workers building.workers building.spools work
 
 -- the same for the build that runs, if one does
 abbrev pub WorkersFollow : List (PutEnd Copied) → PutEnd Entry → BuildingValue → Option BuildState → Option WorkValue → Type 0
@@ -174,7 +208,8 @@ WorkersFollow pages side building None work = Unit {0}
 WorkersFollow pages side building (Some b) None = Unit {0}
 WorkersFollow pages side building (Some b) (Some work) = AreAtWork b pages side building work
 
--- work stands beside a table exactly where a build runs on it, and is that build's, and its workers follow their rings
+-- work stands beside a table exactly where a build runs on it, and is that build's; its workers follow their rings, and their makers and
+-- spools hold what they took
 pub record WorksOn (live : LiveValue) (building : BuildingValue) : Type 0 where
   pub work : IsWorkOf live.state.heap.schema live.state.heap.log live.state.build building.work
   pub workers : WorkersFollow live.pages live.side building live.state.build building.work
@@ -185,6 +220,8 @@ pub record HasLooked (live : LiveValue) (building : BuildingValue) (new_live : L
   pub side : new_live.side ≡ live.side
   pub rings : AreLooked live.pages building.workers new_live.pages new_building.workers
   pub other_side : new_building.side ≡ building.side
+  pub spools : new_building.spools ≡ building.spools
+  pub given : new_building.given ≡ building.given
   pub work : new_building.work ≡ building.work
 
 -- both ends of a worker's ring are at hand, and so many copies wait in it
@@ -238,4 +275,4 @@ pub record MayLoad (live : LiveValue) (building : BuildingValue) (index : ℕ) :
   pub fine : work.spoiled ≡ None
   pub only : index ≡ 0
   pub all : open_range build ≡ None
-  pub quiet : AreDone build.workers (all_sent live.pages) building.workers
+  pub quiet : AreDone build.workers (all_sent live.pages) building.workers work.makers

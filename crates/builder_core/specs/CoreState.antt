@@ -1,6 +1,7 @@
--- A table, its ready indexes and the build that runs, as callers see them, in two halves: what a lock has to keep, and what the
--- workers of the build do beside it.
+-- A table, its ready indexes and the build that runs, as callers see them: what a lock has to keep, and beside it what the workers of
+-- the build do and the spools that they have.
 use Rattle.std.specs.Prelude.{◌≡◌, ℕ, zero, suc, Bool, List, [], Option, None, Some}
+use Rattle.spool_ledger.specs.Accounts.{Stake}
 use Rattle.std.specs.List.{All}
 use Rattle.keybytes.specs.Keys.{KeySpecValue}
 use Rattle.keybytes.specs.Pairs.{HaveKeysOf, AreInColumnOrder}
@@ -76,10 +77,21 @@ idle = record { workers = []; indexes = []; spoiled = None }
 abbrev pub spoiled_work : Fault → WorkState
 spoiled_work fault = record { workers = []; indexes = []; spoiled = Some fault }
 
--- a table, and the work on its build
+-- the spools beside a table: pool and quota of the account behind each, if there is one, and of those that are left for the next
+-- start, whether each is empty
+pub record SpoolsState : Type 0 where
+  pub stakes : List (Option Stake)
+  pub left : List Bool
+
+-- a build has them, so that none is left for a next start
+abbrev pub all_given : SpoolsState → SpoolsState
+all_given spools = record spools { left = [] }
+
+-- a table, the work on its build, and the spools for its pairs
 pub record CoreState : Type 0 where
   pub live : LiveState
   pub work : WorkState
+  pub spools : SpoolsState
 
 -- the same with that heap
 abbrev pub live_with_heap : LiveState → HeapState → LiveState
@@ -98,8 +110,8 @@ abbrev pub abandoned : LiveState → LiveState
 abandoned live = record live { build = None }
 
 -- nothing runs
-abbrev pub opening : LiveState → CoreState
-opening live = record { live = abandoned live; work = idle }
+abbrev pub opening : LiveState → SpoolsState → CoreState
+opening live spools = record { live = abandoned live; work = idle; spools = spools }
 
 -- the table once rows were given out that many times more
 abbrev pub after_visits : HeapState → ℕ → HeapState

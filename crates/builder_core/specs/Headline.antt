@@ -10,7 +10,7 @@ use Rattle.heap_table.specs.TablePairs.{pairs_at_rest}
 use Rattle.builder_core.specs.declared.event.Event.{Event}
 use Rattle.builder_core.specs.declared.reply.Reply.{Reply}
 use Rattle.builder_core.specs.declared.reply.Reply.TheVariants.{Switched}
-use Rattle.builder_core.specs.CoreState.{CoreState, LiveState, BuildState, ReadyValue, opening, abandoned}
+use Rattle.builder_core.specs.CoreState.{CoreState, LiveState, BuildState, ReadyValue, SpoolsState, opening, abandoned}
 use Rattle.builder_core.specs.Steps.{Step, Run}
 use Rattle.builder_core.specs.declared.event.Event.TheVariants.{Switch}
 
@@ -47,10 +47,10 @@ EachSwitchIsAtRest start end events replies =
     (place number : ℕ) (verdicts : List Outcome) → slice_get replies place ≡ Some (Switched number verdicts)
     → SwitchesIn start end events replies place number verdicts
 
--- what a list of events comes to on a table: a run of the step relation, in which each index as it is switched in has the pairs
+-- what a list of events comes to on a table, beside these spools: a run of the step relation, in which each index as it is switched in has the pairs
 -- that a build at rest gives of the rows then live
-pub record RunsAsAtRest (live : LiveState) (events : List Event) (replies : List Reply) (left : LiveState) : Type 0 where
+pub record RunsAsAtRest (live : LiveState) (spools : SpoolsState) (events : List Event) (replies : List Reply) (left : LiveState) : Type 0 where
   pub end : CoreState
-  pub run : Run (opening live) events replies end
+  pub run : Run (opening live spools) events replies end
   pub left_is : left ≡ abandoned end.live
-  pub switches : EachSwitchIsAtRest (opening live) end events replies
+  pub switches : EachSwitchIsAtRest (opening live spools) end events replies

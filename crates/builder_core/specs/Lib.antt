@@ -1,6 +1,7 @@
 pub mod Builds
 pub mod CoreState
 pub mod Headline
+pub mod Holding
 pub mod Invariant
 pub mod Ranges
 pub mod Rings

@@ -1,14 +1,14 @@
 -- The rings between a table and the workers of its build: what was put for whom, and what each worker has of it.
 use Rattle.std.specs.Prelude.{◌≡◌, ℕ, ◌<◌, ◌≤◌, List, [], ◌∷◌, length, map, Option, Some, None}
 use Rattle.std.specs.List.{All, slice_get}
-use Rattle.keybytes.specs.Keys.{KeySpecValue}
 use Rattle.keybytes.specs.declared.kind.Kind.{Kind}
 use Rattle.heap_log.specs.declared.record.LogRec.{LogRec}
+use Rattle.run_maker.specs.Making.{MakerValue}
 use Rattle.side_file.specs.Ends.{PutEnd, RingId}
 use Rattle.side_file.specs.declared.entry.Entry.{Entry}
 use Rattle.building.specs.Copies.{images_of}
 use Rattle.building.specs.TakeEnd.{TakeEnd}
-use Rattle.building.specs.Taking.{IsTaking, HoldsPairs}
+use Rattle.building.specs.Taking.{IsTaking}
 use Rattle.building.specs.Work.{knowing, at_start}
 use Rattle.building.specs.WorkerValue.{WorkerValue}
 use Rattle.building.specs.declared.copied.Copied.{Copied}
@@ -65,14 +65,10 @@ PagesFollow kinds log builds None all = Unit {0}
 PagesFollow kinds log builds (Some b) all = HasPut kinds log builds b all
 
 -- so many of the workers take what their rings were sent for that build
-abbrev pub AreTaking : ℕ → KeySpecValue → ℕ → List (List Copied) → List WorkerValue → Type 0
-AreTaking build spec count all workers =
+abbrev pub AreTaking : ℕ → ℕ → List (List Copied) → List WorkerValue → Type 0
+AreTaking build count all workers =
     (k : ℕ) (sent : List Copied) (worker : WorkerValue) → k < count → slice_get all k ≡ Some sent → slice_get workers k ≡ Some worker
-    → IsTaking build spec sent worker
-
--- and hold the pairs of the copies that they took
-abbrev pub AreHolding : KeySpecValue → ℕ → List WorkerValue → Type 0
-AreHolding spec count workers = (k : ℕ) (worker : WorkerValue) → k < count → slice_get workers k ≡ Some worker → HoldsPairs spec worker
+    → IsTaking build sent worker
 
 -- both ends of the rings were looked at, and nothing was put or taken
 pub record AreLooked
@@ -86,18 +82,19 @@ pub record AreLooked
 abbrev pub begun_on : ℕ → PutEnd Copied → WorkerValue
 begun_on build end = at_start build (record { ring = end.ring; received = end.sent; known = [] })
 
--- a worker took all that its ring was sent, and has no run open
-pub record IsDone (sent : List Copied) (worker : WorkerValue) : Type 0 where
+-- a worker took all that its ring was sent, and its maker has no run open
+pub record IsDone (sent : List Copied) (worker : WorkerValue) (maker : MakerValue) : Type 0 where
   pub taken : worker.end.received ≡ sent
-  pub closed : worker.open_pairs ≡ 0
+  pub closed : All (λ begun. begun ≡ []) maker.begun
 
 -- the first so many workers are
-abbrev pub AreDone : ℕ → List (List Copied) → List WorkerValue → Type 0
-AreDone count all workers =
-    (k : ℕ) (sent : List Copied) (worker : WorkerValue) → k < count → slice_get all k ≡ Some sent → slice_get workers k ≡ Some worker
-    → IsDone sent worker
+abbrev pub AreDone : ℕ → List (List Copied) → List WorkerValue → List MakerValue → Type 0
+AreDone count all workers makers =
+    (k : ℕ) (sent : List Copied) (worker : WorkerValue) (maker : MakerValue) → k < count → slice_get all k ≡ Some sent
+    → slice_get workers k ≡ Some worker → slice_get makers k ≡ Some maker → IsDone sent worker maker
 
 -- the worker of that number isn't done
-abbrev pub IsUnfinished : ℕ → List (List Copied) → List WorkerValue → Type 0
-IsUnfinished k all workers =
-    (sent : List Copied) (worker : WorkerValue) → slice_get all k ≡ Some sent → slice_get workers k ≡ Some worker → IsDone sent worker → ⊥
+abbrev pub IsUnfinished : ℕ → List (List Copied) → List WorkerValue → List MakerValue → Type 0
+IsUnfinished k all workers makers =
+    (sent : List Copied) (worker : WorkerValue) (maker : MakerValue) → slice_get all k ≡ Some sent → slice_get workers k ≡ Some worker
+    → slice_get makers k ≡ Some maker → IsDone sent worker maker → ⊥

@@ -1,16 +1,15 @@
 -- What each event does and why it is refused; one step, and a run of events.
 use Rattle.std.specs.Prelude.{◌≡◌, ℕ, ◌+◌, ◌<◌, Bool, true, false, ◌&&◌, ◌||◌, not, ◌==◌, nat_lt, nat_le, min, if◌then◌else◌, is_some, is_none, List, []}
-use Rattle.std.specs.Prelude.{◌∷◌, ◌++◌, ◌⊎◌, length, map, replicate, get_or, set, Option, Some, None, Result}
+use Rattle.std.specs.Prelude.{◌∷◌, ◌++◌, ◌*◌, ◌⊎◌, length, map, replicate, get_or, set, Option, Some, None, Result, Ok, Err}
 use Rattle.std.specs.List.{list_any, list_all, range_with_len, slice_get}
 use Rattle.std.specs.Option.{option_map}
-use Rattle.keybytes.specs.Answered.{Refused as RefusedBy, AnsweredInWant}
 use Rattle.keybytes.specs.Faults.{first_cause}
 use Rattle.keybytes.specs.Keys.{KeySpecValue}
 use Rattle.keybytes.specs.declared.kind.Kind.{Kind}
 use Rattle.keybytes.specs.declared.kind.Kind.TheVariants.{Int, Text, Flag}
 use Rattle.keybytes.specs.declared.fault.Fault.{Fault}
 use Rattle.keybytes.specs.declared.fault.Fault.TheVariants.{BuildRunning, NoBuild, BadCount, BadColumn, RangeDone, RingFull, NotScanned, NotSealed}
-use Rattle.keybytes.specs.declared.fault.Fault.TheVariants.{NotLoaded, Behind, Memory}
+use Rattle.keybytes.specs.declared.fault.Fault.TheVariants.{NotLoaded, Behind, SpoolNotEmpty, NoPage, Memory}
 use Rattle.heap_log.specs.declared.outcome.Outcome.{Outcome}
 use Rattle.heap_log.specs.declared.outcome.Outcome.TheVariants.{Ready}
 use Rattle.heap_log.specs.declared.record.LogRec.{LogRec}
@@ -25,8 +24,8 @@ use Rattle.builder_core.specs.declared.event.Event.TheVariants.{Begin, Insert, U
 use Rattle.builder_core.specs.declared.reply.Reply.{Reply}
 use Rattle.builder_core.specs.declared.reply.Reply.TheVariants.{Begun, Written, Undone, Committed, Started, Scanned, Digested, Sealed, Loaded, Switched}
 use Rattle.builder_core.specs.declared.reply.Reply.TheVariants.{Abandoned, Refused}
-use Rattle.builder_core.specs.CoreState.{ReadyValue, BuildState, LiveState, IndexState, WorkState, CoreState, scanning_of, live_with_heap, with_live}
-use Rattle.builder_core.specs.CoreState.{opening, idle, spoiled_work}
+use Rattle.builder_core.specs.CoreState.{ReadyValue, BuildState, LiveState, IndexState, WorkState, SpoolsState, CoreState, scanning_of, live_with_heap, with_live}
+use Rattle.builder_core.specs.CoreState.{opening, idle, spoiled_work, all_given}
 use Rattle.builder_core.specs.Ranges.{dealt_ends, dealing_refusal, next_page, open_range}
 use Rattle.builder_core.specs.Scanning.{scanned_pairs}
 use Rattle.builder_core.specs.Workers.{put_to, worker_at, waiting, loud_worker, unloaded_index, all_unapplied}
@@ -78,19 +77,24 @@ same_kinds (a ∷ rest) (b ∷ bs) = same_kind a b && same_kinds rest bs
 abbrev pub workers_most : ℕ
 workers_most = 16
 
--- 1 to 16 workers, one index that isn't unique, room for it among the ready ones, and a number for the build
-abbrev pub counts_fit : LiveState → Plan → Bool
-counts_fit live plan =
+-- 1 to 16 workers, one index that isn't unique, room for it among the ready ones, a number for the build, and a spool for each
+-- worker and index
+abbrev pub counts_fit : LiveState → ℕ → Plan → Bool
+counts_fit live spools plan =
     nat_le 1 plan.workers && nat_le plan.workers workers_most && (length plan.specs.items == 1) && not (list_any (λ spec. spec.unique) plan.specs.items)
-    && nat_lt (length live.ready) 32 && nat_lt live.builds 18446744073709551615
+    && nat_lt (length live.ready) 32 && nat_lt live.builds 18446744073709551615 && (spools == plan.workers * length plan.specs.items)
 
--- why a plan starts no build
-abbrev pub start_refusal : LiveState → Plan → Option Fault
-start_refusal live plan =
+-- why the spools that are left start no build
+abbrev pub spools_refusal : List Bool → Option Fault
+spools_refusal left = cause_if (not (list_all (λ is_empty. is_empty) left)) SpoolNotEmpty
+
+-- why a plan starts no build beside these spools
+abbrev pub start_refusal : LiveState → SpoolsState → Plan → Option Fault
+start_refusal live spools plan =
     first_cause (cause_if (is_some live.build) BuildRunning)
-    (first_cause (cause_if (not (counts_fit live plan)) BadCount)
+    (first_cause (cause_if (not (counts_fit live (length spools.left) plan)) BadCount)
     (first_cause (cause_if (not (list_all (λ spec. same_kinds spec.kinds live.heap.schema) plan.specs.items)) BadColumn)
-    (dealing_refusal (pages_written live.heap.log) plan.dealing)))
+    (first_cause (dealing_refusal (pages_written live.heap.log) plan.dealing) (spools_refusal spools.left))))
 
 -- the build that a plan starts
 abbrev pub started : LiveState → Plan → BuildState
@@ -113,13 +117,14 @@ fresh_work plan = record {
   spoiled = None;
 }
 
--- a build starts; answered with the number of pages that it reads
+-- a build starts and has the spools; answered with the number of pages that it reads
 abbrev pub Starts : Plan → CoreState → ℕ → CoreState → Type 0
 Starts plan s pages new =
     (pages ≡ pages_written s.live.heap.log)
     × (new ≡ record {
       live = record s.live { builds = s.live.builds + 1; build = Some (started s.live plan) };
       work = fresh_work plan;
+      spools = all_given s.spools;
     })
 
 -- Scan, Digest, Seal, Load, Switch and Abandon.
@@ -260,11 +265,11 @@ abbrev pub Switches : CoreState → ℕ × List Outcome → CoreState → Type 0
 Switches s told new =
     OnBuild s.live.build (λ b.
     (told.0 ≡ length s.live.heap.log + 1) × (told.1 ≡ verdicts_on s.live b)
-    × (new ≡ record { live = after_switch_in s.live b; work = idle }))
+    × (new ≡ record s { live = after_switch_in s.live b; work = idle }))
 
 -- the build is given up, and with it all its work
 abbrev pub Abandons : CoreState → CoreState → Type 0
-Abandons s new = new ≡ opening s.live
+Abandons s new = new ≡ opening s.live s.spools
 
 -- All events.
 
@@ -276,7 +281,7 @@ refusal s (Update txn rid row) = unless_indexed s.live (update_refusal s.live.he
 refusal s (Delete txn rid) = unless_indexed s.live (delete_refusal s.live.heap txn rid)
 refusal s (Undo txn) = unless_indexed s.live (undo_refusal s.live.heap txn)
 refusal s (Commit txn) = txn_refusal s.live.heap txn
-refusal s (Start plan) = start_refusal s.live plan
+refusal s (Start plan) = start_refusal s.live s.spools plan
 refusal s (Scan range worker) = build_cause s.live.build (λ b. scan_refusal b s.work range worker)
 refusal s (Digest worker) = build_cause s.live.build (λ b. worker_refusal b s.work worker)
 refusal s (Seal worker) = build_cause s.live.build (λ b. worker_refusal b s.work worker)
@@ -308,30 +313,52 @@ Does s Abandon reply new = (reply ≡ Abandoned) × Abandons s new
 abbrev pub spoiled_by : Fault → CoreState → CoreState
 spoiled_by fault s = record s { work = spoiled_work fault }
 
--- what want of memory leaves: it changes nothing, but spoils a build whose pairs were being made or put in order
-abbrev pub AfterMemory : Event → CoreState → CoreState → Type 0
-AfterMemory Begin s new = new ≡ s
-AfterMemory (Insert txn row) s new = new ≡ s
-AfterMemory (Update txn rid row) s new = new ≡ s
-AfterMemory (Delete txn rid) s new = new ≡ s
-AfterMemory (Undo txn) s new = new ≡ s
-AfterMemory (Commit txn) s new = new ≡ s
-AfterMemory (Start plan) s new = new ≡ s
-AfterMemory (Scan range worker) s new = new ≡ s
-AfterMemory (Digest worker) s new = Waits worker s × (new ≡ spoiled_by Memory s)
-AfterMemory (Seal worker) s new = new ≡ spoiled_by Memory s
-AfterMemory (Load index) s new = ((index_at s.work index).loaded ≡ false) × (new ≡ spoiled_by Memory s)
-AfterMemory Switch s new = new ≡ s
--- to give a build up takes no memory
-AfterMemory Abandon s new = ⊥
+-- what may be wanted and not be there: memory, or a page for the pairs
+abbrev pub IsWorkWant : Fault → Type 0
+IsWorkWant fault = (fault ≡ NoPage) ⊎ (fault ≡ Memory)
 
--- an event is refused for a fault
+-- what an event may want: a page only where pairs are spooled
+abbrev pub IsWant : Event → Fault → Type 0
+IsWant Begin fault = fault ≡ Memory
+IsWant (Insert txn row) fault = fault ≡ Memory
+IsWant (Update txn rid row) fault = fault ≡ Memory
+IsWant (Delete txn rid) fault = fault ≡ Memory
+IsWant (Undo txn) fault = fault ≡ Memory
+IsWant (Commit txn) fault = fault ≡ Memory
+IsWant (Start plan) fault = fault ≡ Memory
+IsWant (Scan range worker) fault = fault ≡ Memory
+IsWant (Digest worker) fault = IsWorkWant fault
+IsWant (Seal worker) fault = IsWorkWant fault
+IsWant (Load index) fault = fault ≡ Memory
+IsWant Switch fault = fault ≡ Memory
+-- to give a build up takes no memory
+IsWant Abandon fault = ⊥
+
+-- what want leaves: it changes nothing, but spoils a build whose pairs were being spooled or put in order
+abbrev pub AfterWant : Event → Fault → CoreState → CoreState → Type 0
+AfterWant Begin fault s new = new ≡ s
+AfterWant (Insert txn row) fault s new = new ≡ s
+AfterWant (Update txn rid row) fault s new = new ≡ s
+AfterWant (Delete txn rid) fault s new = new ≡ s
+AfterWant (Undo txn) fault s new = new ≡ s
+AfterWant (Commit txn) fault s new = new ≡ s
+AfterWant (Start plan) fault s new = new ≡ s
+AfterWant (Scan range worker) fault s new = new ≡ s
+AfterWant (Digest worker) fault s new = Waits worker s × (new ≡ spoiled_by fault s)
+AfterWant (Seal worker) fault s new = new ≡ spoiled_by fault s
+AfterWant (Load index) fault s new = ((index_at s.work index).loaded ≡ false) × (new ≡ spoiled_by fault s)
+AfterWant Switch fault s new = new ≡ s
+AfterWant Abandon fault s new = ⊥
+
+-- an event is refused for a fault: it has that cause, and nothing changes; or it has none, and wants what isn't there
 abbrev pub IsRefused : CoreState → Event → Fault → CoreState → Type 0
-IsRefused s event fault new = RefusedBy (refusal s event) (AfterMemory event) s fault new
+IsRefused s event fault new =
+    ((refusal s event ≡ Some fault) × (new ≡ s)) ⊎ ((refusal s event ≡ None) × IsWant event fault × AfterWant event fault s new)
 
 -- the reply to an event, or the fault of its refusal
 abbrev pub Answers : CoreState → Event → Result Reply Fault → CoreState → Type 0
-Answers s event answer new = AnsweredInWant (refusal s event) (AfterMemory event) (λ old reply left. Does old event reply left) s answer new
+Answers s event (Ok reply) new = (refusal s event ≡ None) × Does s event reply new
+Answers s event (Err fault) new = IsRefused s event fault new
 
 -- one event: it is refused, or it has no cause to be and is done
 abbrev pub Step : CoreState → Event → Reply → CoreState → Type 0

@@ -1,65 +1,97 @@
 -- What the workers of a build do, and what that leaves beside the table.
-use Rattle.std.specs.Prelude.{◌≡◌, ℕ, ◌≤◌, List, ◌++◌, length, map, take, drop, set, flat_map, is_some, true, Some, None, IsPermutation}
+use Rattle.std.specs.Prelude.{◌≡◌, ℕ, ◌≤◌, List, [], length, map, set, is_some, true, Some, None, IsPermutation}
 use Rattle.std.specs.List.{slice_get}
-use Rattle.keybytes.specs.declared.fault.Fault.TheVariants.{Memory}
-use Rattle.keybytes.specs.declared.kind.Kind.{Kind}
+use Rattle.keybytes.specs.Keys.{KeySpecValue}
+use Rattle.keybytes.specs.declared.fault.Fault.{Fault}
 use Rattle.keybytes.specs.declared.pair.Pair.{Pair}
 use Rattle.heap_table.proofs.PairsAtRest.{InOrder}
-use Rattle.building.specs.ImagePairs.{HavePairs}
-use Rattle.building.specs.Work.{next_images, after_digest, CanDigest, emptied}
+use Rattle.heap_table.specs.Images.{ImageValue}
+use Rattle.run_spool.specs.Spools.{all_pairs}
+use Rattle.run_maker.specs.Making.{MakerValue}
+use Rattle.run_merge.specs.Merging.{all_runs}
+use Rattle.building.specs.ImagePairs.{HaveRows}
+use Rattle.building.specs.Work.{next_images, after_digest}
 use Rattle.building.specs.WorkerValue.{WorkerValue}
 use Rattle.builder_core.specs.Builds.{BuildingValue, WorkValue, after_sort}
+use Rattle.builder_core.specs.Holding.{SpoolValue, Kit, IsFit, ended_spool}
 
--- a worker can make the pairs of so many of the copies that it sees in its ring
-pub record CanTake (kinds : List Kind) (worker : ℕ) (count : WorkerValue → ℕ) (building : BuildingValue) : Type 0 where
+-- a worker, with its kit, can spool the pairs of so many of the copies that it sees in its ring
+pub record CanTakeAt
+    (spec : KeySpecValue) (worker : ℕ) (count : WorkerValue → ℕ) (workers : List WorkerValue) (makers : List MakerValue) (spools : List SpoolValue)
+    : Type 0 where
+  pub it : WorkerValue
+  pub there : slice_get workers worker ≡ Some it
+  pub kit : Kit
+  pub maker : slice_get makers worker ≡ Some kit.maker
+  pub spool : slice_get spools worker ≡ Some kit.spool
+  pub fit : IsFit spec.kinds spec kit
+  pub seen : count it ≤ length it.end.known
+  pub rows : HaveRows spec.kinds (next_images (count it) it)
+
+-- the worker took these copies, with that effect on its kit; at a seal it then closed its run. Answered with how many were of its build
+pub record HasTakenAt
+    (spec : KeySpecValue) (worker : ℕ) (count : WorkerValue → ℕ) (closing : WorkerValue → WorkerValue)
+    (Spools : KeySpecValue → List ImageValue → Kit → Kit → Type 0) (workers : List WorkerValue) (makers : List MakerValue) (spools : List SpoolValue)
+    (images : ℕ) (new_workers : List WorkerValue) (new_makers : List MakerValue) (new_spools : List SpoolValue)
+    : Type 0 where
+  pub it : WorkerValue
+  pub there : slice_get workers worker ≡ Some it
+  pub kit : Kit
+  pub maker : slice_get makers worker ≡ Some kit.maker
+  pub spool : slice_get spools worker ≡ Some kit.spool
+  pub counted : images ≡ length (next_images (count it) it)
+  pub after : Kit
+  pub fit : IsFit spec.kinds spec after
+  pub stake : after.spool.stake ≡ kit.spool.stake
+  pub spools_more : Spools spec (next_images (count it) it) kit after
+  pub workers_are : new_workers ≡ set workers worker (closing (after_digest (count it) it))
+  pub makers_are : new_makers ≡ set makers worker after.maker
+  pub spools_are : new_spools ≡ set spools worker after.spool
+
+-- the same of a worker of the build that runs
+pub record CanTake (worker : ℕ) (count : WorkerValue → ℕ) (building : BuildingValue) : Type 0 where
   pub work : WorkValue
   pub runs : building.work ≡ Some work
-  pub columns : work.spec.kinds ≡ kinds
-  pub it : WorkerValue
-  pub there : slice_get building.workers worker ≡ Some it
-  pub seen : count it ≤ length it.end.known
-  pub can : CanDigest work.spec (count it) it
+  pub can : CanTakeAt work.spec worker count building.workers work.makers building.spools
 
--- the worker took these copies and made their pairs; at a seal it then closed its run. Answered with how many were of its build
 pub record HasTaken
-    (worker : ℕ) (count : WorkerValue → ℕ) (closing : WorkerValue → WorkerValue) (old : BuildingValue) (images : ℕ) (new : BuildingValue)
+    (worker : ℕ) (count : WorkerValue → ℕ) (closing : WorkerValue → WorkerValue) (Spools : KeySpecValue → List ImageValue → Kit → Kit → Type 0)
+    (old : BuildingValue) (images : ℕ) (new : BuildingValue)
     : Type 0 where
   pub work : WorkValue
   pub runs : old.work ≡ Some work
-  pub it : WorkerValue
-  pub there : slice_get old.workers worker ≡ Some it
-  pub made : List Pair
-  pub have : HavePairs work.spec (next_images (count it) it) made
-  pub counted : images ≡ length (next_images (count it) it)
-  pub left : new ≡ record old { workers = set old.workers worker (closing (after_digest (count it) made it)) }
+  pub workers : List WorkerValue
+  pub makers : List MakerValue
+  pub spools : List SpoolValue
+  pub taken : HasTakenAt work.spec worker count closing Spools old.workers work.makers old.spools images workers makers spools
+  pub left : new ≡ record old { workers = workers; spools = spools; work = Some (record work { makers = makers }) }
 
--- the copies that a worker takes at a digest, and at a seal
+-- how many copies a worker takes at a digest
 abbrev pub one_copy : WorkerValue → ℕ
 one_copy worker = 1
 
--- all that it sees
+-- and at a seal: all that it sees
 abbrev pub all_copies : WorkerValue → ℕ
 all_copies worker = length worker.end.known
 
--- the build can't go on for want of memory
-pub record IsSpoiled (old new : BuildingValue) : Type 0 where
+-- the build can't go on for that fault; its spools keep their stakes
+pub record IsSpoiled (fault : Fault) (old new : BuildingValue) : Type 0 where
   pub work : WorkValue
   pub runs : old.work ≡ Some work
   pub workers : List WorkerValue
-  pub left : new ≡ record old { workers = workers; work = Some (record work { spoiled = Some Memory }) }
+  pub makers : List MakerValue
+  pub spools : List SpoolValue
+  pub stakes : map (λ (spool : SpoolValue). spool.stake) spools ≡ map (λ (spool : SpoolValue). spool.stake) old.spools
+  pub left : new ≡ record old { workers = workers; spools = spools; work = Some (record work { makers = makers; spoiled = Some fault }) }
 
--- the first so many workers gave their pairs
-abbrev pub all_emptied : ℕ → List WorkerValue → List WorkerValue
-all_emptied count workers = map emptied (take count workers) ++ drop count workers
-
--- all pairs of the workers are put in order; answered with their number
+-- the pairs of all spools are put in order; answered with their number
 pub record HasSorted (work : WorkValue) (old : BuildingValue) (count : ℕ) (new : BuildingValue) : Type 0 where
   pub pairs : List Pair
   pub room : ℕ
-  pub moved : IsPermutation (flat_map (λ worker. worker.pairs) (take work.workers old.workers)) pairs
+  pub moved : IsPermutation (all_pairs (all_runs (map (λ (spool : SpoolValue). spool.runs) old.spools))) pairs
   pub sorted : InOrder pairs
   pub counted : count ≡ length pairs
-  pub left : new ≡ record old { workers = all_emptied work.workers old.workers; work = Some (after_sort work pairs room) }
+  pub left : new ≡ record old { spools = map ended_spool old.spools; work = Some (after_sort work pairs room) }
 
 -- a load: the pairs are put in order, or were so before
 pub record HasLoaded (old : BuildingValue) (count : ℕ) (new : BuildingValue) : Type 0 where

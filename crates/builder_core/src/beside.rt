@@ -1,44 +1,71 @@
 //! What stands beside a table.
-ghost use Rattle.std.specs.Prelude.{◌≡◌, ◌≤◌, length, None, Some, IsSome, IfSome, IfOk, IfErr, OnErr, MatchOption};
+ghost use Rattle.std.specs.Prelude.{◌≡◌, ◌≤◌, ◌⊎◌, [], All, length, map, false, None, Some, IsSome, IfSome, IfOk, IfErr, OnErr, MatchOption};
+ghost use Rattle.std.specs.List.{list_all};
+ghost use Rattle.run_spool.specs.Spools.{AreSorted};
 ghost use Rattle.building.specs.Work.{after_seal};
+ghost use Rattle.builder_core.specs.Builds.{given_up};
+ghost use Rattle.builder_core.specs.Holding.{spool_value, spools_state, Digested, Sealed};
 ghost use Rattle.builder_core.specs.Working.{CanTake, HasTaken, one_copy, all_copies, HasLoaded, IsSpoiled};
 
-use crate::rings::gather_first;
+use crate::ending::end_spools;
+use crate::merging::merged_pairs;
+use crate::taking::{digest_at, seal_at};
 use crate::work::Work;
 use crate::{Ends, Table};
 use building::Worker;
-use keybytes::{Fault, Schema};
+use keybytes::Fault;
 use rtrb::Consumer;
+use run_spool::{Spool, are_empty};
 use side_file::Entry;
 use std::alloc::Global;
 use std::marker::{Model, PhantomData};
+use std::mem::replace;
 
-/// What the workers of a build do outside of any lock: the workers, and the work of the build that runs.
-#[derive(Drop)]
-pub struct Building<T: Table> {
+/// What the workers of a build do outside of any lock: the workers, the work of the build that runs, and the spools for its pairs.
+///
+/// It is no `Drop`: whoever has it takes the spools out again, and they are ended then.
+pub struct Building<S: Spool, T: Table> {
     pub(crate) workers: Vec<Worker>,
     pub(crate) side_end: Consumer<Entry>,
+    pub(crate) spools: Vec<S>,
+    /// Whether a build was given the spools; they are then not left for a next one.
+    pub(crate) given: bool,
     pub(crate) work: Option<Work>,
     of: PhantomData<T>,
 }
 
-impl<T: Table> Model for Building<T> {
+impl<S: Spool, T: Table> Model for Building<S, T> {
     ghost use Rattle.builder_core.specs.Builds.{BuildingValue};
 
     ghost Value = { BuildingValue };
 
+    ghost use Rattle.std.specs.Prelude.{◌≡◌, map, true, All, None};
     ghost use Rattle.building.specs.TakeEnd.{take_end};
+    ghost use Rattle.builder_core.specs.Holding.{spool_value};
     ghost use Rattle.builder_core.specs.Rings.{AreTakeEnds};
 
-    ghost view = { λ building. record { workers = building.workers.items; side = take_end building.side_end; work = building.work } };
+    ghost view = { λ building. record {
+      workers = building.workers.items;
+      side = take_end building.side_end;
+      spools = map (spool_value S.runs S.open_run S.stake) building.spools.items;
+      given = building.given;
+      work = building.work;
+    } };
 
-    ghost invariant = { λ building. AreTakeEnds T.pages T.side building.workers.items (take_end building.side_end) };
+    ghost invariant = { λ building. AreTakeEnds T.pages T.side building.workers.items (take_end building.side_end)
+        × (building.given ≡ true → building.work ≡ None → All S.ended building.spools.items) };
 }
 
-impl<T: Table> Building<T> {
-    /// No build is at work. Takes no memory.
-    pub fn new(ends: Ends<T>) -> Building<T>
-        ensures { result ≡ record { workers = ends.workers; side = ends.side; work = None } }
+impl<S: Spool, T: Table> Building<S, T> {
+    /// No build is at work, and the spools are left for the next one. Takes no memory.
+    pub fn new(ends: Ends<T>, spools: Vec<S>) -> Building<S, T>
+        ensures { result ≡ record {
+          workers = ends.workers;
+          side = ends.side;
+          spools = map (spool_value S.runs S.open_run S.stake) spools.items;
+          given = false;
+          work = None;
+        } }
     {
         let Ends {
             workers,
@@ -48,26 +75,52 @@ impl<T: Table> Building<T> {
         Building {
             workers,
             side_end,
+            spools,
+            given: false,
             work: None,
             of,
         }
     }
 
-    /// Hands the ends of the rings back; the work of a build that runs is given up. Takes no memory.
-    pub fn into_ends(self) -> Ends<T>
-        ensures { result ≡ record { workers = self.workers; side = self.side } }
+    /// Hands the ends of the rings back, and the spools, ended; the work of a build that runs is given up. Takes no memory.
+    pub fn into_parts(self) -> (Ends<T>, Vec<S>)
+        ensures ends { result.0 ≡ record { workers = self.workers; side = self.side } }
+        ensures ended { All S.ended result.1.items }
+        ensures stakes { map S.stake result.1.items ≡ map (λ spool. spool.stake) self.spools }
     {
         let Building {
             workers,
             side_end,
+            mut spools,
+            given: _,
+            work: _,
             of,
-            ..
         } = self;
-        Ends {
+        end_spools(&mut spools);
+        let ends = Ends {
             workers,
             side_end,
             of,
-        }
+        };
+        (ends, spools)
+    }
+
+    /// Puts other spools in the place of those that are there, which are ended and handed back; the work of a build that runs is
+    /// given up. Takes no memory.
+    pub(crate) fn exchange(&mut self, spools: Vec<S>) -> Vec<S>
+        ensures left { self.new ≡ record self.old {
+          spools = map (spool_value S.runs S.open_run S.stake) spools.items;
+          given = false;
+          work = None;
+        } }
+        ensures ended { All S.ended result.items }
+        ensures stakes { map S.stake result.items ≡ map (λ spool. spool.stake) self.old.spools }
+    {
+        let mut others = replace(&mut self.spools, spools);
+        self.given = false;
+        self.work = None;
+        end_spools(&mut others);
+        others
     }
 
     /// The work of the build that runs.
@@ -77,17 +130,44 @@ impl<T: Table> Building<T> {
         self.work.as_ref()
     }
 
-    /// Lets a worker take the next copy that it has seen. Want of memory spoils the build.
-    pub(crate) fn digest(&mut self, worker: usize, schema: &Schema) -> Result<usize, Fault>
-        requires { CanTake schema.now worker one_copy self.old }
-        ensures taken { IfOk result (λ images. HasTaken worker one_copy (λ w. w) self.old images self.new) }
-        ensures spoiled { OnErr result (IsSpoiled self.old self.new) }
-        ensures memory { IfErr result (λ fault. fault ≡ Fault.Memory) }
+    /// The spools. Once a build that had them has ended they are ended.
+    pub(crate) fn spools(&self) -> &[S]
+        ensures stakes { map S.stake result.now ≡ (spools_state self.now.given self.now.spools).stakes }
+        ensures ended { self.now.work ≡ None → (spools_state self.now.given self.now.spools).left ≡ [] → All S.ended result.now }
+    {
+        self.spools.as_slice()
+    }
+
+    /// How many spools are left for the next build.
+    pub(crate) fn spools_left(&self) -> usize
+        ensures { result ≡ length (spools_state self.now.given self.now.spools).left }
+    {
+        if self.given { 0 } else { self.spools.len() }
+    }
+
+    /// Whether each of these is empty.
+    pub(crate) fn are_left_empty(&self) -> bool
+        ensures { result ≡ list_all (λ is_empty. is_empty) (spools_state self.now.given self.now.spools).left }
+    {
+        self.given || are_empty(self.spools.as_slice())
+    }
+
+    /// Lets a worker take the next copy that it has seen. Want of memory or of a page spoils the build.
+    pub(crate) fn digest(&mut self, worker: usize) -> Result<usize, Fault>
+        requires { CanTake worker one_copy self.old }
+        ensures taken { IfOk result (λ images. HasTaken worker one_copy (λ w. w) Digested self.old images self.new) }
+        ensures spoiled { IfErr result (λ fault. IsSpoiled fault self.old self.new) }
+        ensures fault { IfErr result (λ fault. (fault ≡ Fault.NoPage) ⊎ (fault ≡ Fault.Memory)) }
     {
         let Some(work) = &mut self.work else {
             unreachable!()
         };
-        let images = match self.workers[worker].digest(schema, &work.spec) {
+        let images = match digest_at(
+            &mut self.workers,
+            &mut work.makers,
+            &mut self.spools,
+            worker,
+        ) {
             Ok(images) => images,
             Err(fault) => {
                 work.spoiled = Some(fault);
@@ -97,17 +177,22 @@ impl<T: Table> Building<T> {
         Ok(images)
     }
 
-    /// Lets a worker take all copies that it has seen, and close its run. Want of memory spoils the build.
-    pub(crate) fn seal(&mut self, worker: usize, schema: &Schema) -> Result<usize, Fault>
-        requires { CanTake schema.now worker all_copies self.old }
-        ensures taken { IfOk result (λ images. HasTaken worker all_copies after_seal self.old images self.new) }
-        ensures spoiled { OnErr result (IsSpoiled self.old self.new) }
-        ensures memory { IfErr result (λ fault. fault ≡ Fault.Memory) }
+    /// Lets a worker take all copies that it has seen, and close its run. Want of memory or of a page spoils the build.
+    pub(crate) fn seal(&mut self, worker: usize) -> Result<usize, Fault>
+        requires { CanTake worker all_copies self.old }
+        ensures taken { IfOk result (λ images. HasTaken worker all_copies after_seal Sealed self.old images self.new) }
+        ensures spoiled { IfErr result (λ fault. IsSpoiled fault self.old self.new) }
+        ensures fault { IfErr result (λ fault. (fault ≡ Fault.NoPage) ⊎ (fault ≡ Fault.Memory)) }
     {
         let Some(work) = &mut self.work else {
             unreachable!()
         };
-        let images = match self.workers[worker].seal(schema, &work.spec) {
+        let images = match seal_at(
+            &mut self.workers,
+            &mut work.makers,
+            &mut self.spools,
+            worker,
+        ) {
             Ok(images) => images,
             Err(fault) => {
                 work.spoiled = Some(fault);
@@ -117,14 +202,14 @@ impl<T: Table> Building<T> {
         Ok(images)
     }
 
-    /// Puts the pairs in order that the workers made, and answers how many there are; 0 where they are in order already. Want of
-    /// memory spoils the build.
+    /// Puts the pairs of all spools in order, and answers how many there are; 0 where they are in order already. Want of memory
+    /// spoils the build.
     pub(crate) fn load(&mut self, alloc: Global) -> Result<usize, Fault>
         requires runs { IsSome self.old.work }
-        requires few { IfSome self.old.work (λ work. work.workers ≤ length self.old.workers) }
+        requires sorted { IfSome self.old.work (λ work. work.tree ≡ None → All AreSorted (map (λ spool. spool.runs) self.old.spools)) }
         ensures loaded { IfOk result (λ count. HasLoaded self.old count self.new) }
         ensures first { OnErr result (IfSome self.old.work (λ work. work.tree ≡ None)) }
-        ensures spoiled { OnErr result (IsSpoiled self.old self.new) }
+        ensures spoiled { IfErr result (λ fault. IsSpoiled fault self.old self.new) }
         ensures memory { IfErr result (λ fault. fault ≡ Fault.Memory) }
     {
         let Some(work) = &mut self.work else {
@@ -133,7 +218,7 @@ impl<T: Table> Building<T> {
         if work.is_loaded() {
             return Ok(0);
         }
-        let pairs = match gather_first(alloc, &mut self.workers, work.workers) {
+        let pairs = match merged_pairs(alloc, &mut self.spools) {
             Ok(pairs) => pairs,
             Err(fault) => {
                 work.spoiled = Some(fault);
@@ -145,10 +230,11 @@ impl<T: Table> Building<T> {
         Ok(count)
     }
 
-    /// Gives the work of the build up. Takes no memory.
+    /// Gives the work of the build up, and ends the spools. Takes no memory.
     pub fn give_up(&mut self)
-        ensures { self.new ≡ record self.old { work = None } }
+        ensures { self.new ≡ given_up self.old }
     {
         self.work = None;
+        end_spools(&mut self.spools);
     }
 }

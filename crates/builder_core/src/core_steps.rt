@@ -1,4 +1,4 @@
-ghost use Rattle.std.specs.Prelude.{◌≡◌, Some, None, is_some, IfOk, IfErr, OnOk, OnErr, MatchResult, slice_get};
+ghost use Rattle.std.specs.Prelude.{◌≡◌, [], All, map, Some, None, is_some, IfOk, IfErr, OnOk, OnErr, MatchResult, slice_get};
 ghost use Rattle.keybytes.specs.Faults.{RefusedFor};
 ghost use Rattle.heap_log.specs.Standing.{live_at};
 ghost use Rattle.heap_table.specs.HeapState.{row_missing, after_visit};
@@ -10,24 +10,27 @@ ghost use Rattle.std.specs.VecDeque.Iter.{deque_iter_rest};
 ghost use Rattle.builder_core.specs.SideFiles.{AreEntriesLeft, HaveEntryKeys, side_refusal};
 ghost use Rattle.builder_core.specs.Steps.{Step, Answers, OnBuild};
 ghost use Rattle.std.specs.Prelude.{IfSome};
+ghost use Rattle.builder_core.specs.Holding.{spools_in};
 ghost use Rattle.builder_core.specs.Invariant.{BuildIsSound};
 
 use crate::{Building, Ends, Event, Live, Pair, Plan, ReadyIndex, Reply, Table};
 use heap_table::{PageImage, Undone};
 use keybytes::{Fault, KeySpec, Rid, Row, Schema};
+use run_spool::Spool;
 use side_file::Entry;
 use std::collections::vec_deque::Iter;
 use std::marker::Model;
 
-/// A table with its ready indexes, and the work of the index build that may be running. Each ready index has the pairs of the
-/// rows that stand.
-#[derive(Drop)]
-pub struct Core<T: Table> {
+/// A table with its ready indexes, and the work of the index build that may be running, with the spools for its pairs. Each ready
+/// index has the pairs of the rows that stand.
+///
+/// It is no `Drop`: whoever has it takes table and spools out again by [`Core::into_live`].
+pub struct Core<S: Spool, T: Table> {
     live: Live<T>,
-    building: Building<T>,
+    building: Building<S, T>,
 }
 
-impl<T: Table> Model for Core<T> {
+impl<S: Spool, T: Table> Model for Core<S, T> {
     ghost use Rattle.builder_core.specs.CoreState.{CoreState};
     ghost use Rattle.builder_core.specs.Builds.{core_state, WorksOn};
 
@@ -38,26 +41,51 @@ impl<T: Table> Model for Core<T> {
     ghost invariant = { λ core. WorksOn core.live core.building };
 }
 
-impl<T: Table> Core<T> {
-    /// The table, with no build running: one that runs in it is abandoned.
-    pub fn new(live: Live<T>, ends: Ends<T>) -> Core<T>
-        ensures { result ≡ opening live.state }
+impl<S: Spool, T: Table> Core<S, T> {
+    /// The table, with no build running: one that runs in it is abandoned. The next start takes the spools, one for each worker and
+    /// index of its build: that of worker `w` and index `i` stands at `w` times the number of indexes, plus `i`.
+    pub fn new(live: Live<T>, ends: Ends<T>, spools: Vec<S>) -> Core<S, T>
+        ensures { result ≡ opening live.state (spools_in S.runs S.open_run S.stake spools.items) }
     {
         let mut live = live;
         live.give_up();
         Core {
             live,
-            building: Building::new(ends),
+            building: Building::new(ends, spools),
         }
     }
 
-    /// Gives the table with its ready indexes back, and the ends of its rings; a running build is abandoned.
-    pub fn into_live(self) -> (Live<T>, Ends<T>)
-        ensures { result.0.state ≡ abandoned self.live }
+    /// Gives the table with its ready indexes back, the ends of its rings, and the spools, each of which was ended; a running build is
+    /// abandoned. Takes no memory.
+    pub fn into_live(self) -> (Live<T>, Ends<T>, Vec<S>)
+        ensures live { result.0.state ≡ abandoned self.live }
+        ensures ended { All S.ended result.2.items }
+        ensures stakes { map S.stake result.2.items ≡ self.spools.stakes }
     {
         let Core { mut live, building } = self;
         live.give_up();
-        (live, building.into_ends())
+        let (ends, spools) = building.into_parts();
+        (live, ends, spools)
+    }
+
+    /// Puts other spools in the place of those that are there, which are ended and handed back; a running build is abandoned. So it
+    /// is a new core over the same table. Takes no memory.
+    pub fn exchange_spools(&mut self, spools: Vec<S>) -> Vec<S>
+        ensures core { self.new ≡ opening self.old.live (spools_in S.runs S.open_run S.stake spools.items) }
+        ensures ended { All S.ended result.items }
+        ensures stakes { map S.stake result.items ≡ self.old.spools.stakes }
+    {
+        self.live.give_up();
+        self.building.exchange(spools)
+    }
+
+    /// The spools that were handed in. Once a build was given them and has ended, by a switch or by giving it up, each of them is
+    /// ended, with every leased page back.
+    pub fn spools(&self) -> &[S]
+        ensures stakes { map S.stake result.now ≡ self.now.spools.stakes }
+        ensures ended { self.now.live.build ≡ None → self.now.spools.left ≡ [] → All S.ended result.now }
+    {
+        self.building.spools()
     }
 
     /// The columns of the table.
@@ -132,10 +160,11 @@ impl<T: Table> Core<T> {
         self.live.side(index)
     }
 
-    /// Does one event. A refused one changes nothing, but for want of memory in a digest, a seal or a load, which
+    /// Does one event. A refused one changes nothing, but for want of memory or of a page in a digest, a seal or a load, which
     /// spoils the build.
     pub fn step(&mut self, event: Event) -> Reply
         ensures step { Step self.old event result self.new }
+        ensures stakes { self.new.spools.stakes ≡ self.old.spools.stakes }
         ensures ready { ReadyFollowTable self.new.live }
         ensures sound { IfSome self.new.live.build (λ b. BuildIsSound b self.new.live.heap.log) }
     {

@@ -4,9 +4,9 @@ use keybytes::{Rid, Row};
 /// What is asked of a table and of its index build.
 ///
 /// Behind what each event does stand the faults that refuse it: where several have their cause, the first is answered. A row is
-/// changed only while no index is ready, for now. [`Fault::Memory`] is answered only where none of
-/// them has its cause. In a digest, a seal or a load it spoils the build: a scan, a digest, a seal, a load and a switch are then
-/// refused so, right behind [`Fault::NoBuild`] and [`Fault::BadCount`].
+/// changed only while no index is ready, for now. [`Fault::Memory`] is answered only where none of them has its cause, and so is
+/// [`Fault::NoPage`] of a digest or a seal, where a spool had no room for a pair. In a digest, a seal or a load either spoils the
+/// build: a scan, a digest, a seal, a load and a switch are then refused so, right behind [`Fault::NoBuild`] and [`Fault::BadCount`].
 #[derive(Debug, Drop)]
 pub enum Event {
     /// A transaction begins. [`Fault::TooManyTxns`].
@@ -26,9 +26,9 @@ pub enum Event {
     /// The transaction ends, and keeps its writes. [`Fault::NoSuchTxn`], [`Fault::TxnEnding`].
     Commit { txn: u64 },
     /// An index build starts, of one index that isn't unique, by 1 to 16 workers over 1 to 256 ranges. [`Fault::BuildRunning`];
-    /// [`Fault::BadCount`] for other counts and where 32 indexes are ready; [`Fault::BadColumn`] for an index of other
-    /// columns than the table's; [`Fault::BadRanges`] for other numbers of ranges, ends that go down, or a last one that isn't
-    /// the number of pages.
+    /// [`Fault::BadCount`] for other counts, where 32 indexes are ready, and where the spools that are left aren't one for each worker;
+    /// [`Fault::BadColumn`] for an index of other columns than the table's; [`Fault::BadRanges`] for other numbers of ranges, ends that
+    /// go down, or a last one that isn't the number of pages; [`Fault::SpoolNotEmpty`]. A refused start leaves the spools for the next.
     Start { plan: Plan },
     /// The next page of the range is copied for the worker. [`Fault::NoBuild`]; [`Fault::BadCount`] for a range or a worker
     /// that isn't there; [`Fault::RangeDone`]; [`Fault::RingFull`] while four copies wait.

@@ -3,24 +3,27 @@
 //! An event is a write, an undo, a commit or one step of a build, and is answered before the next is looked at. A build copies
 //! the table's pages, makes the pairs of key and RID of their rows, puts the pairs in order, and is then switched in:
 //! from there on the index is ready. Why an event is refused and what it does otherwise is said once, by `refusal` and `Does`
-//! of `specs/Steps.antt`; a refused event changes nothing, unless memory ran out in the midst of a build's work, which
+//! of `specs/Steps.antt`; a refused event changes nothing, unless memory or pages ran out in the midst of a build's work, which
 //! spoils that build.
 //!
 //! [`Parts`] are a heap with the rings for all its builds, and [`Parts::open`] gives them the name of a [`Table`]: [`Live`] is then
 //! the table with its ready indexes, and [`Ends`] are the ends of the rings that stand beside it. [`Core`] is both, with the build
-//! that may be running: [`Core::step`] answers one event, and [`run_events`] a list of them. [`at_rest`] makes the pairs of a table that nobody writes.
+//! that may be running: [`Core::step`] answers one event, and [`run_events`] a list of them. The pairs of a build are kept in spools that
+//! the caller makes, and gets back ended ([`Core::into_live`]). [`at_rest`] makes the pairs of a table that nobody writes.
 #![tactic(auto)]
 
 mod beside;
 mod changes;
 mod core_steps;
 mod dealing;
+mod ending;
 mod ends;
 mod event;
 mod live;
 mod live_builds;
 mod live_workers;
 mod live_writes;
+mod merging;
 mod parts;
 mod plan;
 mod ready_index;
@@ -31,6 +34,7 @@ mod run;
 mod scan;
 mod table;
 mod table_scan;
+mod taking;
 mod work;
 
 pub use beside::Building;

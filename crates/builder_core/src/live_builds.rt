@@ -2,6 +2,7 @@
 ghost use Rattle.std.specs.Prelude.{◌≡◌, ◌<◌, ◌+◌, ◌∷◌, [], List, length, Some, None, IfOk, IfErr, OnOk, OnErr, IsOk, MatchOption, MatchResult};
 ghost use Rattle.std.specs.Prelude.{true, false, vec_len, vec_capacity, ◌==◌, is_some, IsSome, IfSome, ◌≤◌, ◌-◌, ℕ};
 ghost use Rattle.std.specs.Prelude.{slice_get, map};
+ghost use Rattle.std.specs.List.{list_all};
 ghost use Rattle.builder_core.specs.Rings.{begun_on};
 ghost use Rattle.side_file.specs.Ends.{PutEnd};
 ghost use Rattle.building.specs.declared.copied.Copied.{Copied};
@@ -14,13 +15,14 @@ ghost use Rattle.catch_up.specs.Built.{told_to};
 ghost use Rattle.heap_log.specs.declared.outcome.Outcome.{Outcome};
 ghost use Rattle.heap_table.specs.HeapState.{after_switch};
 ghost use Rattle.heap_table.specs.Pages.{pages_written, KeepsRows};
-ghost use Rattle.builder_core.specs.Builds.{WorkValue, BuildingValue, core_state, cause_of, put_refusal, page_refusal, MayWork, MayLoad, WorksOn};
+ghost use Rattle.builder_core.specs.Builds.{WorkValue, BuildingValue, given_up, core_state, cause_of, put_refusal, page_refusal, MayWork, MayLoad, WorksOn};
 ghost use Rattle.builder_core.specs.CoreState.{abandoned};
 ghost use Rattle.builder_core.specs.Ranges.{dealing_refusal, dealt_ends, next_page};
 ghost use Rattle.builder_core.specs.SideFiles.{IsDrained};
 ghost use Rattle.builder_core.specs.Steps.{Starts, Scans, Digests, Seals, Loads, Switches, OnBuild, spoiled_by, start_refusal, counts_fit};
 ghost use Rattle.builder_core.specs.declared.event.Event.{Event};
 
+use crate::ending::end_spools;
 use crate::parts::WORKERS_MAX;
 use crate::rings::restart_all;
 use crate::table_scan::TableScan;
@@ -32,6 +34,7 @@ use heap_log::{Outcome, Verdicts};
 use heap_table::{Heap, PageImage};
 use keybytes::{Fault, KeySpec};
 use rtrb::Consumer;
+use run_spool::Spool;
 use scan_range::Cuts;
 use side_file::{Entry, SideFile};
 use std::alloc::Global;
@@ -78,19 +81,24 @@ fn dealt_cuts(alloc: Global, dealing: &Dealing, pages: u32) -> Result<Cuts, Faul
 
 impl<T: Table> Live<T> {
     /// A build of the plan's indexes starts, and every ring is emptied; answered with the number of pages that it reads.
-    /// [`Fault::BuildRunning`], [`Fault::BadCount`], [`Fault::BadColumn`], [`Fault::BadRanges`].
-    pub fn start(&mut self, plan: &Plan, building: &mut Building<T>) -> Result<u32, Fault>
-        ensures started { Answered (start_refusal self.old.state plan.now) (Starts plan.now)
+    /// [`Fault::BuildRunning`], [`Fault::BadCount`], [`Fault::BadColumn`], [`Fault::BadRanges`], [`Fault::SpoolNotEmpty`].
+    pub fn start<S: Spool>(
+        &mut self,
+        plan: &Plan,
+        building: &mut Building<S, T>,
+    ) -> Result<u32, Fault>
+        ensures started { Answered (start_refusal self.old.state (core_state self.old building.old).spools plan.now) (Starts plan.now)
             (core_state self.old building.old) result (core_state self.new building.new) }
         ensures works { OnOk result (WorksOn self.new building.new) }
         ensures emptied { OnOk result (building.new.workers ≡ map (begun_on self.new.state.builds) self.new.pages) }
         ensures kept { WorksOn self.old building.old → WorksOn self.new building.new }
         ensures unchanged { OnErr result ((self.new ≡ self.old) × (building.new ≡ building.old)) }
     {
-        let spec = self.check_plan(plan)?;
+        let spec = self.check_plan(plan, building)?;
         let pages = self.heap.pages();
         let cuts = dealt_cuts(self.alloc, &plan.dealing, pages)?;
-        let work = Work::new(spec.clone()?, plan.workers);
+        let schema = self.heap.schema();
+        let work = Work::new(self.alloc, schema, spec.clone()?, plan.workers)?;
         let number = self.builds + 1;
         let build = TableScan::new(
             self.alloc,
@@ -104,45 +112,56 @@ impl<T: Table> Live<T> {
         empty_side(&mut self.side, &mut building.side_end);
         self.builds = number;
         self.build = Some(build);
+        building.given = true;
         building.work = Some(work);
         Ok(pages)
     }
 
-    /// The one specification of a plan that a build can be started by.
-    fn check_plan<'p>(&self, plan: &'p Plan) -> Result<&'p KeySpec, Fault>
+    /// The one specification of a plan that a build can be started by, with the spools that are left.
+    fn check_plan<'p, S: Spool>(
+        &self,
+        plan: &'p Plan,
+        building: &Building<S, T>,
+    ) -> Result<&'p KeySpec, Fault>
         ensures spec { IfOk result (λ spec. plan.now.specs.items ≡ spec.now ∷ []) }
         ensures columns { IfOk result (λ spec. spec.now.kinds ≡ self.now.state.heap.schema) }
         ensures free { OnOk result (self.now.state.build ≡ None) }
         ensures number { OnOk result (self.now.state.builds < 18446744073709551615) }
-        ensures counts { OnOk result (counts_fit self.now.state plan.now ≡ true) }
+        ensures counts { OnOk result (counts_fit self.now.state (length (core_state self.now building.now).spools.left) plan.now ≡ true) }
         ensures ranges { OnOk result (dealing_refusal (pages_written self.now.state.heap.log) plan.now.dealing ≡ None) }
-        ensures accepted { OnOk result (start_refusal self.now.state plan.now ≡ None) }
-        ensures refused { IfErr result (λ fault. start_refusal self.now.state plan.now ≡ Some fault) }
+        ensures empty { OnOk result (list_all (λ is_empty. is_empty) (core_state self.now building.now).spools.left ≡ true) }
+        ensures accepted { OnOk result (start_refusal self.now.state (core_state self.now building.now).spools plan.now ≡ None) }
+        ensures refused { IfErr result (λ fault. start_refusal self.now.state (core_state self.now building.now).spools plan.now ≡ Some fault) }
     {
         if self.build.is_some() {
             return Err(Fault::BuildRunning);
         }
         let spec = only_spec(plan).ok_or(Fault::BadCount)?;
-        if !self.counts_fit(plan, spec) {
+        if !self.counts_fit(plan, spec, building.spools_left()) {
             return Err(Fault::BadCount);
         }
         if !spec.is_of(self.heap.schema()) {
             return Err(Fault::BadColumn);
         }
         check_dealing(&plan.dealing, self.heap.pages())?;
+        if !building.are_left_empty() {
+            return Err(Fault::SpoolNotEmpty);
+        }
         Ok(spec)
     }
 
-    /// Whether a plan has 1 to 16 workers and its index isn't unique, and there is room for one index and one build more.
-    fn counts_fit(&self, plan: &Plan, spec: &KeySpec) -> bool
+    /// Whether a plan has 1 to 16 workers with a spool each and its index isn't unique, and there is room for one index and one
+    /// build more.
+    fn counts_fit(&self, plan: &Plan, spec: &KeySpec, spools: usize) -> bool
         requires { plan.now.specs.items ≡ spec.now ∷ [] }
-        ensures { result ≡ counts_fit self.now.state plan.now }
+        ensures { result ≡ counts_fit self.now.state spools plan.now }
     {
         plan.workers >= 1
             && plan.workers <= WORKERS_MAX
             && !spec.unique()
             && self.ready.len() < READY_MAX
             && self.builds < u64::MAX
+            && spools == plan.workers
     }
 
     /// The lowest page of the range that is left to be copied for the worker.
@@ -198,7 +217,7 @@ impl<T: Table> Live<T> {
     }
 
     /// Why the indexes of the build would not become ready. Takes no memory.
-    fn check_switch(&self, building: &Building<T>) -> Result<(), Fault>
+    fn check_switch<S: Spool>(&self, building: &Building<S, T>) -> Result<(), Fault>
         requires { WorksOn self.now building.now }
         ensures { MatchResult result
             (λ _. cause_of self.now building.now Event.Switch ≡ None)
@@ -224,7 +243,7 @@ impl<T: Table> Live<T> {
     /// Gives the build up. [`Fault::NoBuild`]. Takes no memory.
     pub fn abandon(&mut self) -> Result<(), Fault>
         ensures abandoned { OnOk result (self.new ≡ record self.old { state = abandoned self.old.state }) }
-        ensures works { OnOk result ((building : BuildingValue) → WorksOn self.new (record building { work = None })) }
+        ensures works { OnOk result ((building : BuildingValue) → WorksOn self.new (given_up building)) }
         ensures accepted { OnOk result (IsSome self.old.state.build) }
         ensures refused { IfErr result (λ fault. (fault ≡ Fault.NoBuild) × (self.old.state.build ≡ None)) }
         ensures unchanged { OnErr result (self.new ≡ self.old) }
@@ -236,10 +255,13 @@ impl<T: Table> Live<T> {
         Ok(())
     }
 
-    /// Makes the indexes of the build ready and ends it; answered with the number of the log record, and what became of each
+    /// Makes the indexes of the build ready, and ends it and its spools; answered with the number of the log record, and what became of each
     /// index. [`Fault::NoBuild`], the fault of a spoiled build, [`Fault::NotScanned`], [`Fault::NotLoaded`],
     /// [`Fault::Behind`].
-    pub fn switch_in(&mut self, building: &mut Building<T>) -> Result<(usize, Verdicts), Fault>
+    pub fn switch_in<S: Spool>(
+        &mut self,
+        building: &mut Building<S, T>,
+    ) -> Result<(usize, Verdicts), Fault>
         requires { WorksOn self.old building.old }
         ensures switched { Answered (cause_of self.old building.old Event.Switch) Switches
             (core_state self.old building.old) result (core_state self.new building.new) }
@@ -266,6 +288,7 @@ impl<T: Table> Live<T> {
         // It tells that its columns make a key, whose bytes are then in the columns' order.
         let _columns = spec.columns();
         self.ready.push_reserved(ReadyIndex::new(spec, pairs));
+        end_spools(&mut building.spools);
         Ok(noted)
     }
 }
@@ -313,6 +336,7 @@ fn make_room(work: &mut Option<Work>, n: usize) -> Result<(), Fault>
     ensures room { OnOk result (IfSome work.new (λ w. n ≤ w.room)) }
     ensures same { (w : WorkValue) → work.old ≡ Some w → (room : ℕ) × (work.new ≡ Some (record w { room = room })) }
     ensures none { work.old ≡ None → work.new ≡ None }
+    ensures loaded { IfSome work.new (λ w. is_some w.tree ≡ true) }
     ensures memory { IfErr result (λ fault. fault ≡ Fault.Memory) }
 {
     match work {

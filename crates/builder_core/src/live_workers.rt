@@ -1,21 +1,22 @@
 //! The steps of a build in which its workers have a part, with both ends of their rings at hand.
-ghost use Rattle.std.specs.Prelude.{◌≡◌, ◌++◌, ◌<◌, ◌≤◌, ◌+◌, length, slice_get, false, Some, None, IfSome, IfOk, IfErr, OnOk, OnErr, MatchOption, MatchResult};
+ghost use Rattle.std.specs.Prelude.{◌≡◌, ◌++◌, ◌<◌, ◌≤◌, ◌+◌, length, slice_get, false, Some, None, IsSome, IfSome, IfOk, IfErr, OnOk, OnErr, MatchOption, MatchResult};
 ghost use Rattle.side_file.specs.Ends.{PutEnd};
 ghost use Rattle.building.specs.WorkerValue.{WorkerValue};
 ghost use Rattle.building.specs.declared.copied.Copied.{Copied};
 ghost use Rattle.builder_core.specs.Builds.{core_state, cause_of, put_refusal, HasLooked, SeesRing, MayWork, MayLoad, WorksOn};
 ghost use Rattle.builder_core.specs.Rings.{all_sent, AreDone, IsUnfinished, PagesFollow};
-ghost use Rattle.builder_core.specs.Steps.{Waits, Digests, Seals, Loads, index_at, spoiled_by};
+ghost use Rattle.builder_core.specs.Steps.{Waits, Digests, Seals, Loads, index_at, spoiled_by, IsWorkWant};
 ghost use Rattle.builder_core.specs.declared.event.Event.{Event};
 
 use crate::rings::{first_loud, waiting};
 use crate::{Building, Live, Table};
 use building::RING_IMAGES;
 use keybytes::Fault;
+use run_spool::Spool;
 
 impl<T: Table> Live<T> {
     /// How many copies wait for a worker.
-    fn look(&mut self, worker: usize, building: &mut Building<T>) -> usize
+    fn look<S: Spool>(&mut self, worker: usize, building: &mut Building<S, T>) -> usize
         requires { worker < 16 }
         ensures looked { HasLooked self.old building.old self.new building.new }
         ensures sees { SeesRing worker result self.new building.new }
@@ -25,25 +26,40 @@ impl<T: Table> Live<T> {
     }
 
     /// The lowest of so many workers for which a copy waits, or whose run is open.
-    fn look_for_loud(&mut self, count: usize, building: &mut Building<T>) -> Option<usize>
-        requires { count ≤ 16 }
+    fn look_for_loud<S: Spool>(
+        &mut self,
+        count: usize,
+        building: &mut Building<S, T>,
+    ) -> Option<usize>
+        requires few { count ≤ 16 }
+        requires makers { IfSome building.old.work (λ work. count ≤ length work.makers) }
+        requires runs { IsSome building.old.work }
         ensures looked { HasLooked self.old building.old self.new building.new }
-        ensures loud { MatchOption result
-            (AreDone count (all_sent self.new.pages) building.new.workers)
-            (λ k. (k < count) × AreDone k (all_sent self.new.pages) building.new.workers × IsUnfinished k (all_sent self.new.pages) building.new.workers) }
+        ensures loud { IfSome building.old.work (λ work. MatchOption result
+            (AreDone count (all_sent self.new.pages) building.new.workers work.makers)
+            (λ k. (k < count) × AreDone k (all_sent self.new.pages) building.new.workers work.makers
+            × IsUnfinished k (all_sent self.new.pages) building.new.workers work.makers)) }
         ensures put { PagesFollow self.new.state.heap.schema self.new.state.heap.log self.new.state.builds self.new.state.build (all_sent self.new.pages) }
         ensures pages { length self.new.pages ≡ 16 }
         ensures workers { length building.new.workers ≡ 16 }
     {
-        first_loud(&mut self.pages, &mut building.workers, count)
+        let Some(work) = &building.work else {
+            unreachable!()
+        };
+        first_loud(
+            &mut self.pages,
+            &mut building.workers,
+            work.makers.as_slice(),
+            count,
+        )
     }
 
     /// Why a page of the range would not be copied for the worker, with both ends of the worker's ring at hand. Takes no memory.
-    pub(crate) fn check_scan(
+    pub(crate) fn check_scan<S: Spool>(
         &mut self,
         range: usize,
         worker: usize,
-        building: &mut Building<T>,
+        building: &mut Building<S, T>,
     ) -> Result<(), Fault>
         requires { WorksOn self.old building.old }
         ensures accepted { OnOk result (cause_of self.old building.old (Event.Scan range worker) ≡ None) }
@@ -69,7 +85,11 @@ impl<T: Table> Live<T> {
     }
 
     /// Why the worker would make no pairs. Takes no memory.
-    pub(crate) fn check_worker(&self, worker: usize, building: &Building<T>) -> Result<(), Fault>
+    pub(crate) fn check_worker<S: Spool>(
+        &self,
+        worker: usize,
+        building: &Building<S, T>,
+    ) -> Result<(), Fault>
         requires { WorksOn self.now building.now }
         ensures seal { MatchResult result
             (λ _. cause_of self.now building.now (Event.Seal worker) ≡ None)
@@ -88,44 +108,50 @@ impl<T: Table> Live<T> {
         work.check()
     }
 
-    /// Lets the worker take the next copy, if one waits, and answers how many it took. Want of memory spoils the build.
-    pub(crate) fn digest(
+    /// Lets the worker take the next copy, if one waits, and answers how many it took. Want of memory or of a page
+    /// spoils the build.
+    pub(crate) fn digest<S: Spool>(
         &mut self,
         worker: usize,
-        building: &mut Building<T>,
+        building: &mut Building<S, T>,
     ) -> Result<usize, Fault>
         requires works { WorksOn self.old building.old }
         requires runs { MayWork self.old building.old worker }
         ensures waits { OnErr result (Waits worker (core_state self.old building.old)) }
         ensures digested { IfOk result (λ images. Digests worker (core_state self.old building.old) images (core_state self.new building.new)) }
-        ensures spoiled { OnErr result (core_state self.new building.new ≡ spoiled_by Fault.Memory (core_state self.old building.old)) }
+        ensures spoiled { IfErr result (λ fault. core_state self.new building.new ≡ spoiled_by fault (core_state self.old building.old)) }
         ensures works { WorksOn self.new building.new }
-        ensures memory { IfErr result (λ fault. fault ≡ Fault.Memory) }
+        ensures fault { IfErr result IsWorkWant }
     {
         if self.look(worker, building) == 0 {
             return Ok(0);
         }
-        building.digest(worker, self.heap.schema())
+        building.digest(worker)
     }
 
-    /// Lets the worker take all copies that wait and close its run, and answers how many it took. Want of memory spoils the build.
-    pub(crate) fn seal(&mut self, worker: usize, building: &mut Building<T>) -> Result<usize, Fault>
+    /// Lets the worker take all copies that wait and close its run, and answers how many it took. Want of
+    /// memory or of a page spoils the build.
+    pub(crate) fn seal<S: Spool>(
+        &mut self,
+        worker: usize,
+        building: &mut Building<S, T>,
+    ) -> Result<usize, Fault>
         requires works { WorksOn self.old building.old }
         requires runs { MayWork self.old building.old worker }
         ensures sealed { IfOk result (λ images. Seals worker (core_state self.old building.old) images (core_state self.new building.new)) }
-        ensures spoiled { OnErr result (core_state self.new building.new ≡ spoiled_by Fault.Memory (core_state self.old building.old)) }
+        ensures spoiled { IfErr result (λ fault. core_state self.new building.new ≡ spoiled_by fault (core_state self.old building.old)) }
         ensures works { WorksOn self.new building.new }
-        ensures memory { IfErr result (λ fault. fault ≡ Fault.Memory) }
+        ensures fault { IfErr result IsWorkWant }
     {
         self.look(worker, building);
-        building.seal(worker, self.heap.schema())
+        building.seal(worker)
     }
 
     /// Why the pairs of the index would not be put in order, with both ends of the rings at hand. Takes no memory.
-    pub(crate) fn check_load(
+    pub(crate) fn check_load<S: Spool>(
         &mut self,
         index: usize,
-        building: &mut Building<T>,
+        building: &mut Building<S, T>,
     ) -> Result<(), Fault>
         requires { WorksOn self.old building.old }
         ensures accepted { OnOk result (cause_of self.old building.old (Event.Load index) ≡ None) }
@@ -153,12 +179,12 @@ impl<T: Table> Live<T> {
 
     /// Puts the pairs in order that the workers made, and answers how many there are; 0 where they are in order already. Want of
     /// memory spoils the build.
-    pub(crate) fn load(&self, building: &mut Building<T>) -> Result<usize, Fault>
+    pub(crate) fn load<S: Spool>(&self, building: &mut Building<S, T>) -> Result<usize, Fault>
         requires works { WorksOn self.now building.old }
         requires runs { MayLoad self.now building.old 0 }
         ensures first { OnErr result ((index_at (core_state self.now building.old).work 0).loaded ≡ false) }
         ensures loaded { IfOk result (λ pairs. Loads 0 (core_state self.now building.old) pairs (core_state self.now building.new)) }
-        ensures spoiled { OnErr result (core_state self.now building.new ≡ spoiled_by Fault.Memory (core_state self.now building.old)) }
+        ensures spoiled { IfErr result (λ fault. core_state self.now building.new ≡ spoiled_by fault (core_state self.now building.old)) }
         ensures works { WorksOn self.now building.new }
         ensures memory { IfErr result (λ fault. fault ≡ Fault.Memory) }
     {

@@ -101,7 +101,7 @@ fn page_rings(alloc: Global) -> Result<(Vec<PagePutter>, Vec<Worker>), Fault>
     for _ in 0..WORKERS_MAX {
         let (putter, end) = page_ring(alloc)?;
         pages.push_reserved(putter);
-        workers.push_reserved(Worker::new(alloc, end));
+        workers.push_reserved(Worker::new(end));
     }
     Ok((pages, workers))
 }

@@ -1,16 +1,13 @@
 //! Both ends of the rings that copies of pages go through, at hand.
-ghost use Rattle.std.specs.Prelude.{◌≡◌, ◌++◌, ◌<◌, ◌≤◌, ◌+◌, List, map, length, slice_get, true, false, take, flat_map, Some, IfSome, IfOk, IfErr, OnOk};
-ghost use Rattle.std.specs.Prelude.{OnErr, MatchOption, IsPermutation};
-ghost use Rattle.heap_table.proofs.PairsAtRest.{InOrder};
+ghost use Rattle.std.specs.Prelude.{◌≡◌, ◌++◌, ◌<◌, ◌≤◌, ◌+◌, List, map, length, slice_get, true, false, Some, IfSome, MatchOption};
+ghost use Rattle.run_maker.specs.Making.{MakerValue};
 ghost use Rattle.side_file.specs.Ends.{PutEnd};
 ghost use Rattle.building.specs.WorkerValue.{WorkerValue};
 ghost use Rattle.building.specs.declared.copied.Copied.{Copied};
 ghost use Rattle.builder_core.specs.Rings.{put_rings, take_rings, all_sent, begun_on, AreLooked, AreDone, IsUnfinished, IsDone};
-ghost use Rattle.builder_core.specs.Working.{all_emptied};
 
-use building::{PagePutter, Worker, gather};
-use keybytes::{Fault, Pair};
-use std::alloc::Global;
+use building::{PagePutter, Worker};
+use run_maker::Maker;
 
 /// Empties every ring, and lets its worker begin a build.
 pub fn restart_all(pages: &mut Vec<PagePutter>, workers: &mut Vec<Worker>, build: u64)
@@ -38,51 +35,43 @@ pub fn waiting(pages: &mut Vec<PagePutter>, workers: &mut Vec<Worker>, worker: u
 }
 
 /// Whether a worker has a copy in its ring, or a run open.
-fn is_loud(pages: &mut Vec<PagePutter>, workers: &mut Vec<Worker>, worker: usize) -> bool
+fn is_loud(
+    pages: &mut Vec<PagePutter>,
+    workers: &mut Vec<Worker>,
+    makers: &[Maker],
+    worker: usize,
+) -> bool
     requires rings { put_rings pages.old.items ≡ take_rings workers.old.items }
     requires there { worker < length pages.old.items }
+    requires maker { worker < length makers.now }
     ensures looked { AreLooked pages.old.items workers.old.items pages.new.items workers.new.items }
-    ensures loud { result ≡ true → IsUnfinished worker (all_sent pages.new.items) workers.new.items }
-    ensures quiet { result ≡ false → (sent : List Copied) (w : WorkerValue) → slice_get (all_sent pages.new.items) worker ≡ Some sent
-        → slice_get workers.new.items worker ≡ Some w → IsDone sent w }
+    ensures loud { result ≡ true → IsUnfinished worker (all_sent pages.new.items) workers.new.items makers.now }
+    ensures quiet { result ≡ false → (sent : List Copied) (w : WorkerValue) (maker : MakerValue) → slice_get (all_sent pages.new.items) worker ≡ Some sent
+        → slice_get workers.new.items worker ≡ Some w → slice_get makers.now worker ≡ Some maker → IsDone sent w maker }
 {
-    waiting(pages, workers, worker) > 0 || workers[worker].has_open_run()
+    waiting(pages, workers, worker) > 0 || makers[worker].has_open_run()
 }
 
 /// The lowest of so many workers that has a copy in its ring, or a run open.
 pub fn first_loud(
     pages: &mut Vec<PagePutter>,
     workers: &mut Vec<Worker>,
+    makers: &[Maker],
     count: usize,
 ) -> Option<usize>
     requires rings { put_rings pages.old.items ≡ take_rings workers.old.items }
     requires there { count ≤ length pages.old.items }
+    requires makers { count ≤ length makers.now }
     ensures looked { AreLooked pages.old.items workers.old.items pages.new.items workers.new.items }
     ensures loud { MatchOption result
-        (AreDone count (all_sent pages.new.items) workers.new.items)
-        (λ k. (k < count) × AreDone k (all_sent pages.new.items) workers.new.items × IsUnfinished k (all_sent pages.new.items) workers.new.items) }
+        (AreDone count (all_sent pages.new.items) workers.new.items makers.now)
+        (λ k. (k < count) × AreDone k (all_sent pages.new.items) workers.new.items makers.now
+        × IsUnfinished k (all_sent pages.new.items) workers.new.items makers.now) }
 {
     for worker in 0..count {
-        if is_loud(pages, workers, worker) {
+        if is_loud(pages, workers, makers, worker) {
             return Some(worker);
         }
     }
     None
-}
-
-/// Hands the pairs of the first so many workers on, in order.
-pub fn gather_first(
-    alloc: Global,
-    workers: &mut Vec<Worker>,
-    count: usize,
-) -> Result<Vec<Pair>, Fault>
-    requires { count ≤ length workers.old.items }
-    ensures moved { IfOk result (λ pairs. IsPermutation (flat_map (λ worker. worker.pairs) (take count workers.old.items)) pairs.items) }
-    ensures sorted { IfOk result (λ pairs. InOrder pairs.items) }
-    ensures left { OnOk result (workers.new.items ≡ all_emptied count workers.old.items) }
-    ensures memory { IfErr result (λ fault. fault ≡ Fault.Memory) }
-    ensures unchanged { OnErr result (workers.new.items ≡ workers.old.items) }
-{
-    let (workers, _) = workers.as_mut_slice().split_at_mut(count);
-    gather(alloc, workers)
 }

@@ -1,8 +1,13 @@
 //! The work of a build.
-ghost use Rattle.std.specs.Prelude.{◌≡◌, ◌≤◌, ◌-◌, vec_len, vec_capacity, is_some, true, None, Some, IfSome, IfErr, OnOk, MatchResult, MatchOption};
+ghost use Rattle.builder_core.specs.Builds.{fresh};
+ghost use Rattle.builder_core.specs.Holding.{fresh_maker};
+ghost use Rattle.std.specs.Prelude.{◌≡◌, ◌≤◌, ◌-◌, replicate, vec_len, vec_capacity, is_some, true, None, Some};
+ghost use Rattle.std.specs.Prelude.{IfSome, IfOk, IfErr, OnOk, MatchResult, MatchOption};
 
 use crate::Pair;
-use keybytes::{Fault, KeySpec};
+use keybytes::{Fault, KeySpec, Schema};
+use run_maker::Maker;
+use std::alloc::Global;
 use std::marker::Model;
 
 /// The work of a build of one index.
@@ -10,6 +15,7 @@ use std::marker::Model;
 pub struct Work {
     pub(crate) spec: KeySpec,
     pub(crate) workers: usize,
+    pub(crate) makers: Vec<Maker>,
     pub(crate) tree: Option<Vec<Pair>>,
     pub(crate) spoiled: Option<Fault>,
 }
@@ -23,6 +29,7 @@ impl Model for Work {
     ghost view = { λ work. record {
       spec = work.spec;
       workers = work.workers;
+      makers = work.makers.items;
       tree = option_map (λ pairs. pairs.items) work.tree;
       room = room_in work.tree;
       spoiled = work.spoiled;
@@ -30,16 +37,19 @@ impl Model for Work {
 }
 
 impl Work {
-    /// A build by so many workers that has done nothing.
-    pub fn new(spec: KeySpec, workers: usize) -> Work
-        ensures { result ≡ record { spec = spec; workers = workers; tree = None; room = 0; spoiled = None } }
+    /// A build by so many workers, on rows of these columns, that has done nothing.
+    pub fn new(alloc: Global, schema: &Schema, spec: KeySpec, workers: usize) -> Result<Work, Fault>
+        requires { spec.kinds ≡ schema.now }
+        ensures ok { IfOk result (λ work. work ≡ fresh schema.now spec workers) }
+        ensures memory { IfErr result (λ fault. fault ≡ Fault.Memory) }
     {
-        Work {
+        Ok(Work {
+            makers: new_makers(alloc, schema, &spec, workers)?,
             spec,
             workers,
             tree: None,
             spoiled: None,
-        }
+        })
     }
 
     /// Why the build can't go on, if it can't.
@@ -79,4 +89,23 @@ impl Work {
     {
         self.tree
     }
+}
+
+/// A maker for each of so many workers.
+fn new_makers(
+    alloc: Global,
+    schema: &Schema,
+    spec: &KeySpec,
+    workers: usize,
+) -> Result<Vec<Maker>, Fault>
+    requires { spec.now.kinds ≡ schema.now }
+    ensures ok { IfOk result (λ makers. makers.items ≡ replicate workers (fresh_maker schema.now spec.now)) }
+    ensures memory { IfErr result (λ fault. fault ≡ Fault.Memory) }
+{
+    let mut makers = Vec::with_capacity(alloc, workers)?;
+    for _ in 0..workers {
+        let specs = vec![in alloc; spec.clone()?]?;
+        makers.push_reserved(Maker::new(alloc, schema.clone()?, specs)?);
+    }
+    Ok(makers)
 }

@@ -1,6 +1,5 @@
-pub mod CopyPairs
 pub mod Digests
-pub mod Gathers
+pub mod Holding
 pub mod ManyPairs
 pub mod PageCopies
 pub mod Rings

@@ -1,23 +1,27 @@
--- The pairs of several copies, and the images of a build among several copies.
+-- The pairs and the rows of several copies, and the images of a build among several copies.
 use Rattle.std.proofs.Common.{◌≡◌, ℕ, ◌==◌, ◌<◌, ◌≤◌, Bool, true, false, if◌then◌else◌, List, [], ◌∷◌, ◌++◌, length, take, drop, map, append_assoc}
 use Rattle.std.proofs.Common.{append-nil, refl, sym, ap, ◌∙◌, subst, arith}
-use Rattle.std.specs.Prelude.{filter}
+use Rattle.std.specs.Prelude.{Option, filter}
 use Rattle.std.proofs.lemmas.List.{map-append, length-map, take-append-drop}
 use Rattle.std.specs.List.{All}
 use Rattle.std.proofs.lemmas.Bool.Decides.{nat_tests}
-use Rattle.std.proofs.lemmas.List.Elements.{filter-append, All-head, All-tail}
+use Rattle.std.proofs.lemmas.List.Elements.{filter-append, All-cons, All-head, All-nil, All-tail}
 use Rattle.std.proofs.lemmas.List.Sums.{length-filter, count_by-le-length}
 use Rattle.keybytes.specs.Keys.{KeySpecValue}
+use Rattle.keybytes.specs.declared.cell.Cell.{Cell}
+use Rattle.keybytes.specs.declared.kind.Kind.{Kind}
 use Rattle.keybytes.specs.declared.pair.Pair.{Pair}
 use Rattle.heap_table.specs.Images.{ImageValue}
 use Rattle.building.specs.declared.copied.Copied.{Copied}
 use Rattle.building.specs.Copies.{images_of}
-use Rattle.building.specs.ImagePairs.{HasPairs, HavePairs, EachHasPairs}
+use Rattle.run_maker.specs.ImagePairs.{HasPairs, HasRows}
+use Rattle.building.specs.ImagePairs.{HavePairs, HaveRows, EachHasRows}
 
 -- the pairs of one copy
 pub one_has : (spec : KeySpecValue) (image : ImageValue) (made : List Pair) → HavePairs spec (image ∷ []) made → HasPairs spec image made
 one_has spec image made have = subst (HasPairs spec image) (sym (have.4 ∙ (ap (λ ps. have.0 ++ ps) have.3 ∙ append-nil have.0))) have.2
 
+-- the one copy's pairs are all
 pub one_have : (spec : KeySpecValue) (image : ImageValue) (made : List Pair) → HasPairs spec image made → HavePairs spec (image ∷ []) made
 one_have spec image made has = (made, [], has, refl, sym (append-nil made))
 
@@ -53,6 +57,7 @@ pub have_more :
     → HavePairs spec (images ++ image ∷ []) (a ++ b)
 have_more spec images image a b have has = have_append spec images (image ∷ []) a b have (one_have spec image b has)
 
+-- the first copies have pairs, where all have
 pub have_take :
     (spec : KeySpecValue) (n : ℕ) (images : List ImageValue) (made : List Pair) → HavePairs spec images made
     → (a : List Pair) × HavePairs spec (take n images) a
@@ -61,6 +66,7 @@ have_take spec n images made have =
     let parts = have_split spec (take n images) (drop n images) made both in
     (parts.0, parts.2)
 
+-- and so have the others
 pub have_drop :
     (spec : KeySpecValue) (n : ℕ) (images : List ImageValue) (made : List Pair) → HavePairs spec images made
     → (b : List Pair) × HavePairs spec (drop n images) b
@@ -90,17 +96,32 @@ images_none build (x ∷ xs) all =
     let other : (x.build == build) ≡ false = grind (arith, nat_tests) in
     rw other (images_none build xs (All-tail (λ (copied : Copied). copied.build < build) x xs all))
 
--- where the pairs of each copy can be made, those of a build's can
-pub each_have : (spec : KeySpecValue) (build : ℕ) (xs : List Copied) → EachHasPairs spec xs → (made : List Pair) × HavePairs spec (images_of build xs) made
-each_have spec build [] each = ([], refl)
-each_have spec build (x ∷ xs) each =
-    let P : Copied → Type 0 = λ copied. (made : List Pair) × HasPairs spec copied.image made in
+-- the rows on a copy of a page can be read
+abbrev IsReadable : List Kind → ImageValue → Type 0
+IsReadable kinds image = (rows : ℕ → Option (List Cell)) × HasRows kinds image rows
+
+-- where the rows on all copies can be read, those on the first ones can
+pub rows_first : (kinds : List Kind) (xs ys : List ImageValue) → HaveRows kinds (xs ++ ys) → HaveRows kinds xs
+rows_first kinds [] ys all = All-nil (IsReadable kinds)
+rows_first kinds (x ∷ xs) ys all =
+    All-cons (IsReadable kinds) x xs (All-head (IsReadable kinds) x (xs ++ ys) all) (rows_first kinds xs ys (All-tail (IsReadable kinds) x (xs ++ ys) all))
+
+-- and so can those on the others
+pub rows_others : (kinds : List Kind) (xs ys : List ImageValue) → HaveRows kinds (xs ++ ys) → HaveRows kinds ys
+rows_others kinds [] ys all = all
+rows_others kinds (x ∷ xs) ys all = rows_others kinds xs ys (All-tail (IsReadable kinds) x (xs ++ ys) all)
+
+-- where the rows on each copy can be read, those on a build's can
+pub each_rows : (kinds : List Kind) (build : ℕ) (xs : List Copied) → EachHasRows kinds xs → HaveRows kinds (images_of build xs)
+each_rows kinds build [] each = All-nil (IsReadable kinds)
+each_rows kinds build (x ∷ xs) each =
+    let P : Copied → Type 0 = λ copied. IsReadable kinds copied.image in
     let one : P x = All-head P x xs each in
-    let others = each_have spec build xs (All-tail P x xs each) in
+    let others = each_rows kinds build xs (All-tail P x xs each) in
     let own : Copied → Bool = λ copied. copied.build == build in
     let images : List Copied → List ImageValue = λ copies. map (λ copied. copied.image) copies in
-    let Have : Bool → Type 0 = λ b. (made : List Pair) × HavePairs spec (images (if b then x ∷ filter own xs else filter own xs)) made in
+    let Have : Bool → Type 0 = λ b. HaveRows kinds (images (if b then x ∷ filter own xs else filter own xs)) in
     elim (x.build == build) as Have [
-      | true ↦ (one.0 ++ others.0, (one.0, others.0, one.1, others.1, refl))
+      | true ↦ All-cons (IsReadable kinds) x.image (images (filter own xs)) one others
       | false ↦ others
     ]

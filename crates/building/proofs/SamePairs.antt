@@ -16,7 +16,8 @@ use Rattle.keybytes.proofs.Reading.{same_cell}
 use Rattle.heap_table.specs.Images.{ImageValue, Shows, image_slot}
 use Rattle.heap_table.specs.Pages.{rid_at}
 use Rattle.slotted_page.specs.Slot.{Slot}
-use Rattle.building.specs.ImagePairs.{HasPairs, HavePairs}
+use Rattle.run_maker.specs.ImagePairs.{HasPairs}
+use Rattle.building.specs.ImagePairs.{HavePairs}
 
 -- the first cell of a row, with the bytes of the others behind it
 begins :
@@ -60,6 +61,7 @@ same_shown kinds slot (Some a) (Some b) p q =
     let same : row_bytes a ≡ row_bytes b = same_Some (row_bytes a) (row_bytes b) (sym p.bytes ∙ q.bytes) in
     ap Some (same_row kinds (row_bytes b) a b (subst (λ (bs : List ℕ). Spells kinds bs a) same p.spells) q.spells)
 
+-- the same rows have the same pairs
 same_pairs :
     (spec : KeySpecValue) (page : ℕ) (f g : ℕ → Option (List Cell)) (slots : List ℕ) → ((slot : ℕ) → f slot ≡ g slot)
     → filter_map (λ slot. pair_with spec (rid_at page slot) (f slot)) slots ≡ filter_map (λ slot. pair_with spec (rid_at page slot) (g slot)) slots

@@ -1,20 +1,25 @@
 -- A worker goes on taking what was put for its build.
-use Rattle.std.proofs.Common.{◌≡◌, ℕ, ◌+◌, ◌%◌, ◌==◌, ◌<◌, ◌≤◌, Bool, true, List, [], ◌∷◌, ◌++◌, length, take, drop, append_assoc, append-nil, refl, sym}
+use Rattle.std.proofs.Common.{◌≡◌, ℕ, ◌+◌, ◌%◌, ◌==◌, ◌<◌, ◌≤◌, true, List, [], ◌∷◌, ◌++◌, length, take, drop, append_assoc, append-nil, refl, sym}
 use Rattle.std.proofs.Common.{ap, ◌∙◌, subst, arith, length-append, take-append-drop}
-use Rattle.std.specs.Prelude.{map}
+use Rattle.std.specs.Prelude.{IsPermutation}
 use Rattle.std.specs.List.{All}
 use Rattle.std.proofs.lemmas.Bool.Decides.{nat_tests}
 use Rattle.std.proofs.lemmas.List.{append_cancel_left, drop-append-le, length-take}
 use Rattle.std.proofs.Math.ListN.{drop_of_length-le}
+use Rattle.std.proofs.Math.Nat.{mod-eq_of_lt}
 use Rattle.std.proofs.lemmas.List.Elements.{All-head, All-tail, All-push, All-take, All-drop, All-nil}
+use Rattle.std.proofs.lemmas.List.Sorted.{IsPermutation-append_left, IsPermutation-refl, IsPermutation-trans}
 use Rattle.keybytes.specs.Keys.{KeySpecValue}
 use Rattle.keybytes.specs.declared.pair.Pair.{Pair}
 use Rattle.heap_table.specs.Images.{ImageValue}
+use Rattle.run_spool.specs.Spools.{all_pairs}
+use Rattle.run_maker.specs.Spooling.{Adds}
 use Rattle.building.specs.declared.copied.Copied.{Copied}
 use Rattle.building.specs.Copies.{images_of}
+use Rattle.building.specs.Holding.{HoldsPairs, HoldsOpen}
 use Rattle.building.specs.ImagePairs.{HavePairs}
-use Rattle.building.specs.TakeEnd.{TakeEnd, after_taking}
-use Rattle.building.specs.Taking.{IsTaking, HoldsPairs, received_images}
+use Rattle.building.specs.TakeEnd.{TakeEnd}
+use Rattle.building.specs.Taking.{IsTaking, received_images, unsealed_images}
 use Rattle.building.specs.Work.{at_start, knowing, next_images, after_digest, after_seal}
 use Rattle.building.specs.WorkerValue.{WorkerValue}
 use Rattle.building.proofs.ManyPairs.{have_append, images-append, images_none}
@@ -32,7 +37,7 @@ own_images build (copied ∷ copies) own =
     let rest = own_images build copies (All-tail (IsOwn build) copied copies own) in
     rw is (omega (arith, rest))
 
-module _ (build : ℕ) (spec : KeySpecValue) (sent : List Copied) (worker : WorkerValue) (taking : IsTaking build spec sent worker) where
+module _ (build : ℕ) (sent : List Copied) (worker : WorkerValue) (taking : IsTaking build sent worker) where
   -- what it sees in the ring is what it hasn't taken
   pub sees_rest : (known : List Copied) → worker.end.received ++ known ≡ sent → known ≡ taking.rest
   sees_rest known in_order = append_cancel_left worker.end.received known taking.rest (in_order ∙ sym taking.in_order)
@@ -42,7 +47,7 @@ module _ (build : ℕ) (spec : KeySpecValue) (sent : List Copied) (worker : Work
   sees_own known in_order = subst (λ (copies : List Copied). All (IsOwn build) copies) (sym (sees_rest known in_order)) taking.own
 
   -- looking at the ring changes nothing of this
-  pub looked_taking : (known : List Copied) → IsTaking build spec sent (knowing known worker)
+  pub looked_taking : (known : List Copied) → IsTaking build sent (knowing known worker)
   looked_taking known = record {
     of_build = taking.of_build;
     rest = taking.rest;
@@ -50,13 +55,10 @@ module _ (build : ℕ) (spec : KeySpecValue) (sent : List Copied) (worker : Work
     own = taking.own;
     taken = taking.taken;
     sealed_was_taken = taking.sealed_was_taken;
-    last = taking.last;
-    since_seal = taking.since_seal;
-    open_run = taking.open_run;
   }
 
   -- one copy more is put
-  pub put_taking : (copied : Copied) → copied.build ≡ build → IsTaking build spec (sent ++ copied ∷ []) worker
+  pub put_taking : (copied : Copied) → copied.build ≡ build → IsTaking build (sent ++ copied ∷ []) worker
   put_taking copied is = record {
     of_build = taking.of_build;
     rest = taking.rest ++ copied ∷ [];
@@ -64,23 +66,17 @@ module _ (build : ℕ) (spec : KeySpecValue) (sent : List Copied) (worker : Work
     own = All-push (IsOwn build) taking.rest copied taking.own is;
     taken = taking.taken;
     sealed_was_taken = taking.sealed_was_taken;
-    last = taking.last;
-    since_seal = taking.since_seal;
-    open_run = taking.open_run;
   }
 
   -- what it took is sealed
-  pub sealed_taking : IsTaking build spec sent (after_seal worker)
-  sealed_taking = let none : drop worker.taken (received_images worker) ≡ [] = drop_of_length-le (received_images worker) (omega (arith, taking.taken)) in record {
+  pub sealed_taking : IsTaking build sent (after_seal worker)
+  sealed_taking = record {
     of_build = taking.of_build;
     rest = taking.rest;
     in_order = taking.in_order;
     own = taking.own;
     taken = taking.taken;
     sealed_was_taken = omega arith;
-    last = [];
-    since_seal = subst (λ (images : List ImageValue). HavePairs spec images []) (sym none) refl;
-    open_run = refl;
   }
 
   -- how many images of its build were put
@@ -104,14 +100,11 @@ module _ (build : ℕ) (spec : KeySpecValue) (sent : List Copied) (worker : Work
         omega (arith, count, taken, here, few)
 
     -- it takes the next copies
-    pub digested_taking : (made : List Pair) → HavePairs spec (next_images n worker) made → IsTaking build spec sent (after_digest n made worker)
-    digested_taking made have =
-        let images : received_images (after_digest n made worker) ≡ received_images worker ++ next_images n worker =
+    pub digested_taking : IsTaking build sent (after_digest n worker)
+    digested_taking =
+        let images : received_images (after_digest n worker) ≡ received_images worker ++ next_images n worker =
         images-append worker.build worker.end.received (take n worker.end.known) in
         let count = length-append (received_images worker) (next_images n worker) in
-        let within : worker.sealed ≤ length (received_images worker) = omega (arith, taking.taken, taking.sealed_was_taken) in
-        let later : drop worker.sealed (received_images (after_digest n made worker)) ≡ drop worker.sealed (received_images worker) ++ next_images n worker =
-        ap (drop worker.sealed) images ∙ drop-append-le worker.sealed (received_images worker) (next_images n worker) within in
         record {
           of_build = taking.of_build;
           rest = drop n worker.end.known;
@@ -120,32 +113,98 @@ module _ (build : ℕ) (spec : KeySpecValue) (sent : List Copied) (worker : Work
           own = All-drop (IsOwn build) n worker.end.known (sees_own worker.end.known in_order);
           taken = omega (arith, taking.taken, ap length images, count);
           sealed_was_taken = omega (arith, taking.sealed_was_taken);
-          last = taking.last ++ made;
-          since_seal = subst (λ (xs : List ImageValue). HavePairs spec xs (taking.last ++ made)) (sym later)
-              (have_append spec (drop worker.sealed (received_images worker)) (next_images n worker) taking.last made taking.since_seal have);
-          open_run = ap (λ k. (k + length made) % 4096) taking.open_run ∙ open_more (length taking.last) (length made)
-              ∙ ap (λ k. k % 4096) (sym (length-append taking.last made));
         }
 
 -- a build begins, of which nothing was put
-pub start_taking :
-    (build : ℕ) (spec : KeySpecValue) (end : TakeEnd Copied) → All (λ copied. copied.build < build) end.received → IsTaking build spec end.received (at_start build end)
-start_taking build spec end before =
-    let none : images_of build end.received ≡ [] = images_none build end.received before in
-    record {
-      of_build = refl;
-      rest = [];
-      in_order = append-nil end.received;
-      own = All-nil (IsOwn build);
-      taken = sym (ap length none);
-      sealed_was_taken = omega arith;
-      last = [];
-      since_seal = subst (λ (images : List ImageValue). HavePairs spec images []) (sym none) refl;
-      open_run = refl;
-    }
+pub start_taking : (build : ℕ) (end : TakeEnd Copied) → All (λ copied. copied.build < build) end.received → IsTaking build end.received (at_start build end)
+start_taking build end before = record {
+  of_build = refl;
+  rest = [];
+  in_order = append-nil end.received;
+  own = All-nil (IsOwn build);
+  taken = sym (ap length (images_none build end.received before));
+  sealed_was_taken = omega arith;
+}
 
-pub start_holds : (build : ℕ) (spec : KeySpecValue) (end : TakeEnd Copied) → All (λ copied. copied.build < build) end.received → HoldsPairs spec (at_start build end)
-start_holds build spec end before = subst (λ (images : List ImageValue). HavePairs spec images []) (sym (images_none build end.received before)) refl
+-- and nothing of it is held
+pub start_holds :
+    (build : ℕ) (spec : KeySpecValue) (end : TakeEnd Copied) → All (λ copied. copied.build < build) end.received
+    → HoldsPairs spec (received_images (at_start build end)) [] []
+start_holds build spec end before = record {
+  made = [];
+  have = subst (λ (images : List ImageValue). HavePairs spec images []) (sym (images_none build end.received before)) refl;
+  all = IsPermutation-refl [];
+}
+
+-- in closed runs or in none
+pub start_open :
+    (build : ℕ) (spec : KeySpecValue) (end : TakeEnd Copied) → All (λ copied. copied.build < build) end.received
+    → HoldsOpen spec (unsealed_images (at_start build end)) []
+start_open build spec end before = record {
+  last = [];
+  since_seal = subst (λ (images : List ImageValue). HavePairs spec images []) (sym (images_none build end.received before)) refl;
+  open_run = refl;
+}
+
+module _ (spec : KeySpecValue) (n : ℕ) (worker : WorkerValue) where
+  -- the images that it received, with the next ones behind them
+  received_more : received_images (after_digest n worker) ≡ received_images worker ++ next_images n worker
+  received_more = images-append worker.build worker.end.received (take n worker.end.known)
+
+  -- the pairs of the next copies are held too
+  pub digested_holds :
+      (old_runs : List (List Pair)) (begun : List Pair) (runs : List (List Pair)) (new_begun made : List Pair)
+      → HoldsPairs spec (received_images worker) old_runs begun → HavePairs spec (next_images n worker) made → Adds made old_runs begun runs new_begun
+      → HoldsPairs spec (received_images (after_digest n worker)) runs new_begun
+  digested_holds old_runs begun runs new_begun made holds have adds = record {
+    made = holds.made ++ made;
+    have = subst (λ (images : List ImageValue). HavePairs spec images (holds.made ++ made)) (sym received_more)
+        (have_append spec (received_images worker) (next_images n worker) holds.made made holds.have have);
+    all = IsPermutation-trans _ _ _ (IsPermutation-append_left made holds.made (all_pairs old_runs ++ begun) holds.all) adds.all;
+  }
+
+  -- after a seal all in closed runs
+  pub sealed_holds :
+      (old_runs : List (List Pair)) (begun : List Pair) (runs : List (List Pair)) (made : List Pair)
+      → HoldsPairs spec (received_images worker) old_runs begun → HavePairs spec (next_images n worker) made
+      → IsPermutation ((all_pairs old_runs ++ begun) ++ made) (all_pairs runs ++ [])
+      → HoldsPairs spec (received_images (after_seal (after_digest n worker))) runs []
+  sealed_holds old_runs begun runs made holds have all = record {
+    made = holds.made ++ made;
+    have = subst (λ (images : List ImageValue). HavePairs spec images (holds.made ++ made)) (sym received_more)
+        (have_append spec (received_images worker) (next_images n worker) holds.made made holds.have have);
+    all = IsPermutation-trans _ _ _ (IsPermutation-append_left made holds.made (all_pairs old_runs ++ begun) holds.all) all;
+  }
+
+  -- of those since the last seal the next copies' pairs fill the run that was open, or stay in it
+  pub digested_open :
+      (old_runs : List (List Pair)) (begun : List Pair) (runs : List (List Pair)) (new_begun made : List Pair)
+      → worker.taken ≡ length (received_images worker) → worker.sealed ≤ worker.taken
+      → HoldsOpen spec (unsealed_images worker) begun → HavePairs spec (next_images n worker) made → Adds made old_runs begun runs new_begun
+      → length new_begun < 4096
+      → HoldsOpen spec (unsealed_images (after_digest n worker)) new_begun
+  digested_open old_runs begun runs new_begun made taken sealed holds have adds short =
+      let later : unsealed_images (after_digest n worker) ≡ unsealed_images worker ++ next_images n worker =
+      ap (drop worker.sealed) received_more ∙ drop-append-le worker.sealed (received_images worker) (next_images n worker) (omega (arith, taken, sealed)) in
+      record {
+        last = holds.last ++ made;
+        since_seal = subst (λ (images : List ImageValue). HavePairs spec images (holds.last ++ made)) (sym later)
+            (have_append spec (unsealed_images worker) (next_images n worker) holds.last made holds.since_seal have);
+        open_run = sym (mod-eq_of_lt short) ∙ (adds.count ∙ (ap (λ k. (k + length made) % 4096) holds.open_run
+            ∙ (open_more (length holds.last) (length made) ∙ ap (λ k. k % 4096) (sym (length-append holds.last made)))));
+      }
+
+  -- after a seal no pair is in no run
+  pub sealed_open : worker.taken ≡ length (received_images worker) → HoldsOpen spec (unsealed_images (after_seal (after_digest n worker))) []
+  sealed_open taken =
+      let all : length (received_images (after_digest n worker)) ≤ worker.taken + length (next_images n worker) =
+      omega (arith, taken, ap length received_more, length-append (received_images worker) (next_images n worker)) in
+      let none : unsealed_images (after_seal (after_digest n worker)) ≡ [] = drop_of_length-le (received_images (after_digest n worker)) all in
+      record {
+        last = [];
+        since_seal = subst (λ (images : List ImageValue). HavePairs spec images []) (sym none) refl;
+        open_run = refl;
+      }
 
 -- the image of one copy, of that build or of another
 pub own_image_of : (build : ℕ) (copied : Copied) → copied.build ≡ build → images_of build (copied ∷ []) ≡ copied.image ∷ []

@@ -1,27 +1,24 @@
--- The pairs of the rows on copies of pages.
-use Rattle.std.specs.Prelude.{◌≡◌, ℕ, List, [], ◌∷◌, ◌++◌, length, Option, filter_map}
-use Rattle.std.specs.List.{All, range_with_len}
+-- The rows and the pairs on copies of pages.
+use Rattle.std.specs.Prelude.{◌≡◌, ℕ, List, [], ◌∷◌, ◌++◌, Option}
+use Rattle.std.specs.List.{All}
 use Rattle.keybytes.specs.Keys.{KeySpecValue}
-use Rattle.keybytes.specs.Pairs.{pair_with}
 use Rattle.keybytes.specs.declared.cell.Cell.{Cell}
+use Rattle.keybytes.specs.declared.kind.Kind.{Kind}
 use Rattle.keybytes.specs.declared.pair.Pair.{Pair}
-use Rattle.heap_table.specs.Images.{ImageValue, Shows, image_slot}
-use Rattle.heap_table.specs.Pages.{rid_at}
+use Rattle.heap_table.specs.Images.{ImageValue}
+use Rattle.run_maker.specs.ImagePairs.{HasPairs, HasRows}
 use Rattle.building.specs.declared.copied.Copied.{Copied}
 
--- these are the pairs of the rows on a copy, by slot
-pub record HasPairs (spec : KeySpecValue) (image : ImageValue) (pairs : List Pair) : Type 0 where
-  -- the row in each slot, or none
-  pub rows : ℕ → Option (List Cell)
-  pub shows : (slot : ℕ) → Shows spec.kinds (image_slot image slot) (rows slot)
-  pub pairs_are : pairs ≡ filter_map (λ slot. pair_with spec (rid_at image.page slot) (rows slot)) (range_with_len 0 (length image.slots))
+-- the rows on each of these images can be read
+abbrev pub HaveRows : List Kind → List ImageValue → Type 0
+HaveRows kinds images = All (λ image. (rows : ℕ → Option (List Cell)) × HasRows kinds image rows) images
 
--- these are the pairs of the copies, one copy after another
+-- and so can those on each of these copies
+abbrev pub EachHasRows : List Kind → List Copied → Type 0
+EachHasRows kinds copies = All (λ copied. (rows : ℕ → Option (List Cell)) × HasRows kinds copied.image rows) copies
+
+-- these are the pairs of the images' rows, one image after another
 abbrev pub HavePairs : KeySpecValue → List ImageValue → List Pair → Type 0
 HavePairs spec [] pairs = pairs ≡ []
 HavePairs spec (image ∷ images) pairs =
     (first : List Pair) × (rest : List Pair) × HasPairs spec image first × HavePairs spec images rest × (pairs ≡ first ++ rest)
-
--- the pairs of each of these copies can be made
-abbrev pub EachHasPairs : KeySpecValue → List Copied → Type 0
-EachHasPairs spec copies = All (λ copied. (made : List Pair) × HasPairs spec copied.image made) copies

@@ -1,4 +1,5 @@
 pub mod Copies
+pub mod Holding
 pub mod ImagePairs
 pub mod TakeEnd
 pub mod Taking

@@ -1,15 +1,11 @@
 -- A worker as its callers see it.
-use Rattle.std.specs.Prelude.{ℕ, List}
-use Rattle.keybytes.specs.declared.pair.Pair.{Pair}
+use Rattle.std.specs.Prelude.{ℕ}
 use Rattle.building.specs.declared.copied.Copied.{Copied}
 use Rattle.building.specs.TakeEnd.{TakeEnd}
 
--- the number of its build, its end of its ring, the pairs that it holds, how many copies of its build it took, how many of these
--- when it last sealed, and how many pairs its open run has
+-- the number of its build, its end of its ring, how many copies of its build it took, and how many of these when it last sealed
 pub record WorkerValue : Type 0 where
   pub build : ℕ
   pub end : TakeEnd Copied
-  pub pairs : List Pair
   pub taken : ℕ
   pub sealed : ℕ
-  pub open_pairs : ℕ

@@ -1,25 +1,22 @@
 //! What the workers of an index build do outside of the table's lock.
 //!
 //! The step that holds the lock copies a page and puts the copy into the ring of one worker: a [`PagePutter`] is that end of a
-//! ring, which has room for [`RING_IMAGES`] copies. The [`Worker`] at the other end takes the copies out, makes the pairs of key
-//! and RID of their rows, and keeps them until the index is loaded: [`gather`] hands the pairs of all workers on, in order.
+//! ring, which has room for [`RING_IMAGES`] copies. The [`Worker`] at the other end takes the copies out, and lets its maker put the
+//! pairs of key and RID of their rows into the spools that it is lent, one for each index.
 //!
 //! Rings live longer than builds, so each copy carries the number of its build ([`Copied`]), and a worker drops what was put
-//! for another build. A worker whose memory runs out spoils its build; [`Worker::restart`] begins the next one.
+//! for another build. A worker whose memory or pages run out spoils its build; [`Worker::restart`] begins the next one.
 //!
 //! A contract sees of an end all that it ever put or took, so that a caller with both ends at hand can show that what was
 //! taken is what was put.
 #![tactic(auto)]
 
 mod copied;
-mod gathering;
-mod making;
 mod page_putter;
 #[cfg(test)]
 mod tests;
 mod worker;
 
 pub use copied::Copied;
-pub use gathering::gather;
 pub use page_putter::{PagePutter, RING_IMAGES, page_ring};
 pub use worker::Worker;

@@ -1,11 +1,16 @@
 //! A worker over the pages of a small table.
-ghost use Rattle.std.specs.Prelude.{◌≡◌, [], IfOk};
-ghost use Rattle.keybytes.specs.Keys.{KeySpecValue};
-ghost use Rattle.building.specs.ImagePairs.{EachHasPairs};
+ghost use Rattle.std.specs.Prelude.{◌≡◌, [], IfOk, OnOk, length, map};
+ghost use Rattle.spool_ledger.specs.Accounts.{new_account};
+ghost use Rattle.run_spool.specs.PlainSpools.{new_spool};
+ghost use Rattle.run_maker.specs.Making.{AreReady};
+ghost use Rattle.building.specs.ImagePairs.{EachHasRows};
 
-use crate::{Copied, PagePutter, Worker, gather, page_ring};
+use crate::{Copied, PagePutter, Worker, page_ring};
 use heap_table::{Heap, PageImage};
-use keybytes::{Cell, Fault, KeySpec, Kind, Rid, Row, Schema};
+use keybytes::{Cell, Fault, Key, KeySpec, Kind, Rid, Row, Schema};
+use run_maker::Maker;
+use run_spool::{PlainSpool, Spool};
+use spool_ledger::Pool;
 use std::alloc::Global;
 use std::slice::from_mut;
 use std::test::Fail;
@@ -24,16 +29,16 @@ impl Bench {
         ensures { IfOk result (λ bench. bench.putter.sent ≡ []) }
     {
         let (mut putter, ring) = page_ring(alloc)?;
-        let mut worker = Worker::new(alloc, ring);
+        let mut worker = Worker::new(ring);
         worker.restart(&mut putter, build);
         Ok(Bench { putter, worker })
     }
 
     /// Puts a copy of a page as it is now.
     fn put(&mut self, heap: &mut Heap, build: u64, page: u32) -> Result<(), Fault>
-        requires { (spec : KeySpecValue) → spec.kinds ≡ heap.old.state.schema → EachHasPairs spec self.old.putter.sent }
+        requires { EachHasRows heap.old.state.schema self.old.putter.sent }
         ensures schema { heap.new.state.schema ≡ heap.old.state.schema }
-        ensures each { (spec : KeySpecValue) → spec.kinds ≡ heap.new.state.schema → EachHasPairs spec self.new.putter.sent }
+        ensures each { EachHasRows heap.new.state.schema self.new.putter.sent }
     {
         let mut image = PageImage::new(heap.allocator())?;
         if page >= heap.pages() {
@@ -48,24 +53,28 @@ impl Bench {
     }
 
     /// Takes the next copy, if one waits.
-    fn digest(&mut self, schema: &Schema, spec: &KeySpec) -> Result<usize, Fault>
-        requires columns { spec.now.kinds ≡ schema.now }
-        requires each { EachHasPairs spec.now self.old.putter.sent }
-        ensures { self.new.putter.sent ≡ self.old.putter.sent }
+    fn digest<S: Spool>(&mut self, maker: &mut Maker, spools: &mut [S]) -> Result<usize, Fault>
+        requires each { EachHasRows maker.old.schema self.old.putter.sent }
+        requires spools { length spools.old ≡ length maker.old.specs }
+        requires ready { AreReady (map S.runs spools.old) (map S.open_run spools.old) }
+        ensures ready { OnOk result (AreReady (map S.runs spools.new) (map S.open_run spools.new)) }
+        ensures schema { maker.new.schema ≡ maker.old.schema }
+        ensures specs { maker.new.specs ≡ maker.old.specs }
+        ensures sent { self.new.putter.sent ≡ self.old.putter.sent }
     {
         if self.worker.waiting(&mut self.putter) == 0 {
             return Ok(0);
         }
-        self.worker.digest(schema, spec)
+        self.worker.digest(maker, spools)
     }
 
-    fn seal(&mut self, schema: &Schema, spec: &KeySpec) -> Result<usize, Fault>
-        requires columns { spec.now.kinds ≡ schema.now }
-        requires each { EachHasPairs spec.now self.old.putter.sent }
-        ensures { self.new.putter.sent ≡ self.old.putter.sent }
+    fn seal<S: Spool>(&mut self, maker: &mut Maker, spools: &mut [S]) -> Result<usize, Fault>
+        requires each { EachHasRows maker.old.schema self.old.putter.sent }
+        requires spools { length spools.old ≡ length maker.old.specs }
+        requires ready { AreReady (map S.runs spools.old) (map S.open_run spools.old) }
     {
         self.worker.waiting(&mut self.putter);
-        self.worker.seal(schema, spec)
+        self.worker.seal(maker, spools)
     }
 }
 
@@ -80,6 +89,26 @@ fn three_rows(alloc: Global) -> Result<Heap, Fault> {
     Ok(heap)
 }
 
+/// A maker of the pairs of one index on the column.
+fn one_maker(alloc: Global, schema: &Schema) -> Result<Maker, Fault>
+    ensures schema { IfOk result (λ maker. maker.schema ≡ schema.now) }
+    ensures specs { IfOk result (λ maker. length maker.specs ≡ 1) }
+{
+    let spec = KeySpec::new(alloc, schema, vec![in alloc; 0]?, false)?;
+    Maker::new(alloc, schema.clone()?, vec![in alloc; spec]?)
+}
+
+/// A plain spool with one page, which is all of a pool.
+fn plain_spool(alloc: Global) -> Result<PlainSpool, Fault>
+    ensures { IfOk result (λ spool. spool ≡ new_spool (new_account 1 1)) }
+{
+    let mut pool = Pool::new(alloc, 1, 1)?;
+    let Some(account) = pool.split(alloc, &[1])?.pop() else {
+        return Err(Fault::Memory);
+    };
+    PlainSpool::new(alloc, account).map_err(|(_, fault)| fault)
+}
+
 /// Where the rows stand whose pairs come, in order.
 const RIDS: [Rid; 3] = [
     Rid { page: 0, slot: 1 },
@@ -87,22 +116,25 @@ const RIDS: [Rid; 3] = [
     Rid { page: 1, slot: 0 },
 ];
 
-/// Whether the pairs of the workers, gathered, are those of the three rows.
-fn are_gathered(alloc: Global, workers: &mut [Worker]) -> Result<bool, Fault> {
-    let pairs = gather(alloc, workers)?;
-    for (rid, pair) in RIDS.iter().zip(pairs.as_slice()) {
-        if pair.rid != *rid {
+/// Whether a spool has one run, of the pairs of the three rows.
+fn are_spooled<S: Spool>(alloc: Global, spool: &mut S) -> Result<bool, Fault> {
+    if spool.run_count() != 1 || spool.run_len(0) != 3 {
+        return Ok(false);
+    }
+    let mut key = Key::new(alloc);
+    for j in 0..3 {
+        if spool.read(0, j, &mut key)? != RIDS[j] {
             return Ok(false);
         }
     }
-    Ok(pairs.len() == 3)
+    Ok(true)
 }
 
 /// Puts copies of both pages, and between them one for another build.
 fn put_pages(bench: &mut Bench, heap: &mut Heap) -> Result<(), Fault>
     requires { bench.old.putter.sent ≡ [] }
     ensures schema { heap.new.state.schema ≡ heap.old.state.schema }
-    ensures each { (spec : KeySpecValue) → spec.kinds ≡ heap.new.state.schema → EachHasPairs spec bench.new.putter.sent }
+    ensures each { EachHasRows heap.new.state.schema bench.new.putter.sent }
 {
     bench.put(heap, 7, 0)?;
     bench.put(heap, 6, 0)?;
@@ -110,28 +142,33 @@ fn put_pages(bench: &mut Bench, heap: &mut Heap) -> Result<(), Fault>
 }
 
 /// Takes one copy, and seals the others. Whether each call answers what it has to.
-fn takes_all(bench: &mut Bench, schema: &Schema, spec: &KeySpec) -> Result<bool, Fault>
-    requires columns { spec.now.kinds ≡ schema.now }
-    requires each { EachHasPairs spec.now bench.old.putter.sent }
+fn takes_all<S: Spool>(
+    bench: &mut Bench,
+    maker: &mut Maker,
+    spools: &mut [S],
+) -> Result<bool, Fault>
+    requires each { EachHasRows maker.old.schema bench.old.putter.sent }
+    requires spools { length spools.old ≡ length maker.old.specs }
+    requires ready { AreReady (map S.runs spools.old) (map S.open_run spools.old) }
 {
-    let one = bench.digest(schema, spec)?;
-    let open = bench.worker.has_open_run();
-    let others = bench.seal(schema, spec)?;
-    Ok(one == 1 && open && others == 1 && !bench.worker.has_open_run())
+    let one = bench.digest(maker, spools)?;
+    let open = maker.has_open_run();
+    let others = bench.seal(maker, spools)?;
+    Ok(one == 1 && open && others == 1 && !maker.has_open_run())
 }
 
 fn has_taken_both(worker: &Worker) -> bool {
-    worker.build() == 7 && worker.taken() == 2 && worker.sealed() == 2 && worker.pairs() == 3
+    worker.build() == 7 && worker.taken() == 2 && worker.sealed() == 2
 }
 
 fn goes_through(alloc: Global) -> Result<bool, Fault> {
     let mut heap = three_rows(alloc)?;
     let mut bench = Bench::new(alloc, 7)?;
     put_pages(&mut bench, &mut heap)?;
-    let schema = heap.schema();
-    let spec = KeySpec::new(alloc, schema, vec![in alloc; 0]?, false)?;
-    let taken = takes_all(&mut bench, schema, &spec)? && has_taken_both(&bench.worker);
-    Ok(taken && are_gathered(alloc, from_mut(&mut bench.worker))?)
+    let mut maker = one_maker(alloc, heap.schema())?;
+    let mut spool = plain_spool(alloc)?;
+    let taken = takes_all(&mut bench, &mut maker, from_mut(&mut spool))?;
+    Ok(taken && has_taken_both(&bench.worker) && are_spooled(alloc, &mut spool)?)
 }
 
 #[test]

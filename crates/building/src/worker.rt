@@ -1,33 +1,28 @@
-ghost use Rattle.std.specs.Prelude.{◌≡◌, ◌≤◌, ◌<◌, ◌+◌, ◌==◌, ◌++◌, [], ℕ, List, not, length, vec_len, vec_capacity};
-ghost use Rattle.std.specs.Prelude.{IfErr, IfOk, OnOk, OnErr, IsOk};
-ghost use Rattle.keybytes.specs.declared.pair.Pair.{Pair};
+ghost use Rattle.std.specs.Prelude.{◌≡◌, ◌≤◌, ◌<◌, ◌⊎◌, ◌+◌, ◌++◌, [], ℕ, All, length, map};
+ghost use Rattle.std.specs.Prelude.{IfErr, IfOk, OnOk, OnErr};
 ghost use Rattle.side_file.specs.Ends.{ring_take};
-ghost use Rattle.building.specs.ImagePairs.{HavePairs};
+ghost use Rattle.run_spool.specs.Spools.{AreSorted};
+ghost use Rattle.run_maker.specs.Making.{AreReady};
+ghost use Rattle.building.specs.Holding.{TakesAll, HoldsMore};
+ghost use Rattle.building.specs.ImagePairs.{HaveRows};
 ghost use Rattle.building.specs.TakeEnd.{take_end, after_taking, PutEndLooked};
-ghost use Rattle.building.specs.Work.{at_start, IsWorker, knowing, next_images, after_digest, after_seal, CanDigest, emptied};
+ghost use Rattle.building.specs.Work.{at_start, IsWorker, knowing, next_images, after_digest, after_seal};
 
-use crate::making::add_pairs;
 use crate::{Copied, PagePutter};
-use keybytes::{Fault, KeySpec, Pair, Schema};
+use keybytes::Fault;
 use rtrb::Consumer;
-use std::alloc::Global;
+use run_maker::Maker;
+use run_spool::Spool;
 use std::marker::Model;
-use std::mem::replace;
 
-/// How many pairs make a run that is closed by itself.
-const RUN_PAIRS: usize = 4096;
-
-/// A worker of a build: its end of its ring, and the pairs that it made of the copies it took.
+/// A worker of a build: its end of its ring, and how far it is. It is lent the maker of its pairs and the spools that keep them.
 #[derive(Drop)]
 pub struct Worker {
     build: u64,
     ring: Consumer<Copied>,
-    pairs: Vec<Pair>,
     taken: usize,
     /// How many were taken when it last sealed.
     sealed: usize,
-    /// How many pairs its open run has.
-    open_pairs: usize,
 }
 
 impl Model for Worker {
@@ -35,33 +30,29 @@ impl Model for Worker {
 
     ghost Value = { WorkerValue };
 
-    ghost use Rattle.std.specs.Prelude.{◌≤◌, ◌<◌};
+    ghost use Rattle.std.specs.Prelude.{◌≤◌};
     ghost use Rattle.building.specs.TakeEnd.{take_end};
 
     ghost view = { λ worker. record {
       build = worker.build;
       end = take_end worker.ring;
-      pairs = worker.pairs.items;
       taken = worker.taken;
       sealed = worker.sealed;
-      open_pairs = worker.open_pairs;
     } };
 
-    ghost invariant = { λ worker. (worker.sealed ≤ worker.taken) × (worker.open_pairs < 4096) };
+    ghost invariant = { λ worker. worker.sealed ≤ worker.taken };
 }
 
 impl Worker {
     /// A worker that has taken nothing. The numbers of builds begin above 0.
-    pub fn new(alloc: Global, ring: Consumer<Copied>) -> Worker
+    pub fn new(ring: Consumer<Copied>) -> Worker
         ensures { result ≡ at_start 0 (take_end ring) }
     {
         Worker {
             build: 0,
             ring,
-            pairs: Vec::new(alloc),
             taken: 0,
             sealed: 0,
-            open_pairs: 0,
         }
     }
 
@@ -69,7 +60,7 @@ impl Worker {
     pub fn laws(&self)
         ensures { IsWorker self.now }
     {
-        let _kept = &self.pairs;
+        let _kept = &self.taken;
     }
 
     /// The number of its build.
@@ -93,20 +84,6 @@ impl Worker {
         self.sealed
     }
 
-    /// How many pairs it holds.
-    pub fn pairs(&self) -> usize
-        ensures { result ≡ length self.now.pairs }
-    {
-        self.pairs.len()
-    }
-
-    /// Whether a run of pairs is begun that only a seal closes. A run closes by itself once it has 4,096 pairs.
-    pub fn has_open_run(&self) -> bool
-        ensures { result ≡ not (self.now.open_pairs == 0) }
-    {
-        self.open_pairs != 0
-    }
-
     /// Empties its ring and begins a build. Takes no memory.
     pub fn restart(&mut self, putter: &mut PagePutter, build: u64)
         requires { putter.old.ring ≡ self.old.end.ring }
@@ -115,10 +92,8 @@ impl Worker {
     {
         empty_ring(&mut self.ring, putter);
         self.build = build;
-        self.pairs.clear();
         self.taken = 0;
         self.sealed = 0;
-        self.open_pairs = 0;
     }
 
     /// How many copies are in its ring, with the other end at hand. Both ends then know all that there is to know of the ring.
@@ -133,18 +108,26 @@ impl Worker {
         putter.beside(&mut self.ring)
     }
 
-    /// Takes the next copy that it has seen, makes its pairs and answers 1; a copy of another build is dropped, and the answer
-    /// is 0. Want of memory spoils the build: the copy is gone, and a part of its pairs may be made. [`Fault::Memory`] is also
-    /// the answer where its copies would be more than `usize` counts.
-    pub fn digest(&mut self, schema: &Schema, spec: &KeySpec) -> Result<usize, Fault>
-        requires columns { spec.now.kinds ≡ schema.now }
+    /// Takes the next copy that it has seen, spools its pairs and answers 1; a copy of another build is dropped, and the answer
+    /// is 0. It is lent the spool of each index. Want of memory or of a page spoils the build: the copy is gone, and a part of its
+    /// pairs may be spooled. [`Fault::Memory`] is also the answer where its copies would be more than `usize` counts.
+    pub fn digest<S: Spool>(&mut self, maker: &mut Maker, spools: &mut [S]) -> Result<usize, Fault>
         requires seen { 0 < length self.old.end.known }
-        requires copy { CanDigest spec.now 1 self.old }
+        requires rows { HaveRows maker.old.schema (next_images 1 self.old) }
+        requires spools { length spools.old ≡ length maker.old.specs }
+        requires ready { AreReady (map S.runs spools.old) (map S.open_run spools.old) }
         ensures count { IfOk result (λ images. images ≡ length (next_images 1 self.old)) }
-        ensures made { OnOk result ((made : List Pair) → HavePairs spec.now (next_images 1 self.old) made → self.new ≡ after_digest 1 made self.old) }
+        ensures taken { OnOk result (self.new ≡ after_digest 1 self.old) }
+        ensures holds { OnOk result (TakesAll maker.old.specs (next_images 1 self.old)
+            (record { runs = map S.runs spools.old; begun = maker.old.begun }) (record { runs = map S.runs spools.new; begun = maker.new.begun })) }
+        ensures ready { OnOk result (AreReady (map S.runs spools.new) (map S.open_run spools.new)) }
+        ensures sorted { All AreSorted (map S.runs spools.old) → All AreSorted (map S.runs spools.new) }
+        ensures stakes { map S.stake spools.new ≡ map S.stake spools.old }
+        ensures schema { maker.new.schema ≡ maker.old.schema }
+        ensures specs { maker.new.specs ≡ maker.old.specs }
         ensures build { self.new.build ≡ self.old.build }
         ensures end { self.new.end ≡ after_taking 1 self.old.end }
-        ensures memory { IfErr result (λ fault. fault ≡ Fault.Memory) }
+        ensures fault { IfErr result (λ fault. (fault ≡ Fault.NoPage) ⊎ (fault ≡ Fault.Memory)) }
     {
         let copied = self.ring.pop_known();
         if copied.build != self.build {
@@ -153,59 +136,40 @@ impl Worker {
         if self.taken == usize::MAX {
             return Err(Fault::Memory);
         }
-        let before = self.pairs.len();
-        add_pairs(&mut self.pairs, &copied.image, schema, spec)?;
-        let made = self.pairs.len() - before;
-        self.open_pairs = (self.open_pairs + made % RUN_PAIRS) % RUN_PAIRS;
+        maker.take(copied.image, spools)?;
         self.taken += 1;
         Ok(1)
     }
 
-    /// Takes all copies that it has seen, makes their pairs, and answers how many copies of its build there were. What it
-    /// has taken is then sealed. Want of memory spoils the build: some of the copies are gone.
-    pub fn seal(&mut self, schema: &Schema, spec: &KeySpec) -> Result<usize, Fault>
-        requires columns { spec.now.kinds ≡ schema.now }
-        requires copies { CanDigest spec.now (length self.old.end.known) self.old }
+    /// Takes all copies that it has seen, spools their pairs, closes the run of each index, and answers how many copies of its
+    /// build there were. What it has taken is then sealed. Want of memory or of a page spoils the build: some of the copies are gone.
+    pub fn seal<S: Spool>(&mut self, maker: &mut Maker, spools: &mut [S]) -> Result<usize, Fault>
+        requires rows { HaveRows maker.old.schema (next_images (length self.old.end.known) self.old) }
+        requires spools { length spools.old ≡ length maker.old.specs }
+        requires ready { AreReady (map S.runs spools.old) (map S.open_run spools.old) }
         ensures count { IfOk result (λ images. images ≡ length (next_images (length self.old.end.known) self.old)) }
-        ensures made { OnOk result ((made : List Pair) → HavePairs spec.now (next_images (length self.old.end.known) self.old) made
-            → self.new ≡ after_seal (after_digest (length self.old.end.known) made self.old)) }
+        ensures taken { OnOk result (self.new ≡ after_seal (after_digest (length self.old.end.known) self.old)) }
+        ensures holds { OnOk result (HoldsMore maker.old.specs (next_images (length self.old.end.known) self.old)
+            (record { runs = map S.runs spools.old; begun = maker.old.begun }) (record { runs = map S.runs spools.new; begun = maker.new.begun })) }
+        ensures closed { OnOk result (All (λ begun. begun ≡ []) maker.new.begun) }
+        ensures ready { OnOk result (AreReady (map S.runs spools.new) (map S.open_run spools.new)) }
+        ensures sorted { All AreSorted (map S.runs spools.old) → All AreSorted (map S.runs spools.new) }
+        ensures stakes { map S.stake spools.new ≡ map S.stake spools.old }
+        ensures schema { maker.new.schema ≡ maker.old.schema }
+        ensures specs { maker.new.specs ≡ maker.old.specs }
         ensures build { self.new.build ≡ self.old.build }
         ensures ring { self.new.end.ring ≡ self.old.end.ring }
         ensures failed { OnErr result ((n : ℕ) × (n ≤ length self.old.end.known) × (self.new.end ≡ after_taking n self.old.end)) }
-        ensures memory { IfErr result (λ fault. fault ≡ Fault.Memory) }
+        ensures fault { IfErr result (λ fault. (fault ≡ Fault.NoPage) ⊎ (fault ≡ Fault.Memory)) }
     {
         let mut images = 0;
         for _ in 0..self.seen() {
-            images += self.digest(schema, spec)?;
+            images += self.digest(maker, spools)?;
         }
+        maker.laws();
+        maker.seal(spools)?;
         self.sealed = self.taken;
-        self.open_pairs = 0;
         Ok(images)
-    }
-
-    // Hands its pairs on, with room for that many more.
-    pub(crate) fn take_pairs(&mut self, alloc: Global, more: usize) -> Result<Vec<Pair>, Fault>
-        ensures pairs { IfOk result (λ pairs. pairs.items ≡ self.old.pairs) }
-        ensures room { IfOk result (λ pairs. vec_len pairs + more ≤ vec_capacity pairs) }
-        ensures left { OnOk result (self.new ≡ emptied self.old) }
-        ensures alone { more ≡ 0 → IsOk result }
-        ensures memory { IfErr result (λ fault. fault ≡ Fault.Memory) }
-        ensures unchanged { OnErr result (self.new ≡ self.old) }
-    {
-        self.pairs.reserve(more)?;
-        Ok(replace(&mut self.pairs, Vec::new(alloc)))
-    }
-
-    // Moves its pairs behind those that are there.
-    pub(crate) fn move_pairs(&mut self, pairs: &mut Vec<Pair>)
-        requires { vec_len pairs.old + length self.old.pairs ≤ vec_capacity pairs.old }
-        ensures moved { pairs.new.items ≡ pairs.old.items ++ self.old.pairs }
-        ensures room { vec_capacity pairs.old ≤ vec_capacity pairs.new }
-        ensures left { self.new ≡ emptied self.old }
-    {
-        if pairs.append(&mut self.pairs).is_err() {
-            unreachable!()
-        }
     }
 
     // How many copies it has seen.

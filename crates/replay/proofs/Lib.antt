@@ -1,4 +1,6 @@
+mod BuildsKept
 mod KeyedPairs
+mod Leased
 mod Replies
 mod SpecLists
 mod TakenBack

@@ -8,6 +8,7 @@ use Rattle.keybytes.specs.declared.fault.Fault.{Fault}
 use Rattle.keybytes.specs.declared.fault.Fault.TheVariants.{Memory, NoSuchTxn}
 use Rattle.keybytes.specs.declared.rid.Rid.{Rid}
 use Rattle.heap_log.specs.Standing.{live_at}
+use Rattle.heap_log.specs.declared.outcome.Outcome.{Outcome}
 use Rattle.heap_table.specs.HeapState.{after_visit, is_open, row_missing}
 use Rattle.builder_core.specs.CoreState.{CoreState, with_heap}
 use Rattle.builder_core.specs.Steps.{Step}
@@ -21,13 +22,14 @@ use Rattle.script.specs.declared.command.Command.TheVariants.{Row, Begin, Insert
 use Rattle.script.specs.declared.command.Command.TheVariants.{Seal, Load, Switch, Abandon, Side, Pairs, Rest}
 use Rattle.script.specs.declared.start.Start.{Start}
 use Rattle.replay.specs.Labels.{named}
+use Rattle.replay.specs.Leasing.{EndsBuild, FailsToStart, StartsOver}
 use Rattle.replay.specs.Listings.{ListsIndex, ListsRest, ListsSide}
 use Rattle.replay.specs.Plans.{IsPlanOf, planning_refusal, specs_refusal}
 use Rattle.replay.specs.declared.answer.Answer.{Answer}
 use Rattle.replay.specs.declared.answer.Answer.TheVariants as answer
 use Rattle.replay.specs.declared.labels.Labels.{Labels}
 
--- a reply as it is answered
+-- a reply as it is answered; behind a build no leased page is missing
 abbrev pub answer_to : Reply → Answer
 answer_to (reply.Begun txn) = answer.Number txn
 answer_to (reply.Written number rid) = answer.Written number rid
@@ -38,8 +40,8 @@ answer_to (reply.Scanned page) = answer.Number page
 answer_to (reply.Digested images) = answer.Number images
 answer_to (reply.Sealed images) = answer.Number images
 answer_to (reply.Loaded pairs) = answer.Number pairs
-answer_to (reply.Switched number verdicts) = answer.Switched number verdicts
-answer_to reply.Abandoned = answer.Abandoned
+answer_to (reply.Switched number verdicts) = answer.Switched number verdicts 0
+answer_to reply.Abandoned = answer.Abandoned 0
 answer_to (reply.Refused fault) = answer.Refused fault
 
 -- what a result answers: a fault is a refusal
@@ -107,11 +109,30 @@ GivesRow rid old given new =
     ((row : List Cell) × (given ≡ answer.Cells row) × (live_at old.live.heap.log rid ≡ Some row) × (new ≡ with_heap old (after_visit old.live.heap)))
     ⊎ ((fault : Fault) × RefusedFor (row_missing (live_at old.live.heap.log rid)) fault × Refuses fault old given new)
 
+-- a build starts over new spools; or that is refused, and nothing changes
+abbrev pub StartsByPlan : ℕ → Plan → CoreState → Answer → CoreState → Type 0
+StartsByPlan quota plan old given new =
+    ((pages : ℕ) × (given ≡ answer.Number pages) × StartsOver quota plan old (reply.Started pages) new)
+    ⊎ ((fault : Fault) × FailsToStart quota plan old fault × Refuses fault old given new)
+
 -- a build starts by the plan that is asked for, or a key specification is refused; want of memory aside
 abbrev pub StartsBuild : Start → CoreState → Answer → CoreState → Type 0
 StartsBuild start old given new =
-    ((plan : Plan) × IsPlanOf old.live.heap.schema start plan × Happens (event.Start plan) old given new)
+    ((plan : Plan) × IsPlanOf old.live.heap.schema start plan × StartsByPlan start.quota plan old given new)
     ⊎ ((fault : Fault) × (fault ≢ Memory → specs_refusal old.live.heap.schema start.specs.items ≡ Some fault) × Refuses fault old given new)
+
+-- a switch decides: the build has ended, and no page of its spools is missing; or it is refused
+abbrev pub Decides : CoreState → Answer → CoreState → Type 0
+Decides old given new =
+    ((number : ℕ) × (verdicts : List Outcome)
+    × (given ≡ answer.Switched number verdicts 0) × EndsBuild event.Switch (reply.Switched number verdicts) old new)
+    ⊎ ((fault : Fault) × (given ≡ answer.Refused fault) × Step old event.Switch (reply.Refused fault) new)
+
+-- the build is given up, and no page of its spools is missing; or that is refused
+abbrev pub GivesUp : CoreState → Answer → CoreState → Type 0
+GivesUp old given new =
+    ((given ≡ answer.Abandoned 0) × EndsBuild event.Abandon reply.Abandoned old new)
+    ⊎ ((fault : Fault) × (given ≡ answer.Refused fault) × Step old event.Abandon (reply.Refused fault) new)
 
 -- the command is carried out, with labels that name these transactions
 abbrev pub CarriesOut : Labels → Command → CoreState → Answer → CoreState → Type 0
@@ -130,8 +151,8 @@ CarriesOut labels (Scan range worker) old given new = Happens (event.Scan range 
 CarriesOut labels (Digest worker) old given new = Happens (event.Digest worker) old given new
 CarriesOut labels (Seal worker) old given new = Happens (event.Seal worker) old given new
 CarriesOut labels (Load index) old given new = Happens (event.Load index) old given new
-CarriesOut labels Switch old given new = Happens event.Switch old given new
-CarriesOut labels Abandon old given new = Happens event.Abandon old given new
+CarriesOut labels Switch old given new = Decides old given new
+CarriesOut labels Abandon old given new = GivesUp old given new
 CarriesOut labels (Side index) old given new = ListsSide index old given new
 CarriesOut labels (Pairs number) old given new = ListsIndex number old given new
 CarriesOut labels (Rest spec) old given new = ListsRest spec old given new

@@ -15,6 +15,7 @@ use Rattle.script.specs.declared.script.Script.{Script}
 use Rattle.script.specs.declared.table.Table.{Table}
 use Rattle.replay.specs.Answers.{CarriesOut, answer_of}
 use Rattle.replay.specs.Labels.{NamesNone, Renames}
+use Rattle.replay.specs.Leasing.{no_spools}
 use Rattle.replay.specs.Limits.{is_refusal, table_refusal}
 use Rattle.replay.specs.declared.answer.Answer.{Answer}
 use Rattle.replay.specs.declared.answer.Answer.TheVariants as answer
@@ -81,10 +82,10 @@ status_after status (answer.Row rid) = status
 status_after status (answer.Written number rid) = status
 status_after status (answer.Undone number left) = status
 status_after status (answer.Cells row) = status
-status_after status (answer.Switched number verdicts) = if list_any is_refusal verdicts then IndexRefused else status
+status_after status (answer.Switched number verdicts pages) = if list_any is_refusal verdicts then IndexRefused else status
 status_after status (answer.Pairs lines) = status
 status_after status (answer.Entries lines) = status
-status_after status answer.Abandoned = status
+status_after status (answer.Abandoned pages) = status
 status_after status (answer.Refused fault) = status
 
 -- the command is run and answered
@@ -111,7 +112,7 @@ pub record RunsOn (heap : HeapState) (commands : List NumberedCommand) (status :
   pub begun : Session
   pub end : ScriptState
   pub new : IsNew begun
-  pub run : RunsAll (state_of (opening (bare_table heap)) begun) commands end
+  pub run : RunsAll (state_of (opening (bare_table heap) no_spools) begun) commands end
   pub ended : status ≡ end.status
 
 -- commands run on a table of their own end with that status; a refused table fails, and no command is run

@@ -5,8 +5,10 @@
 #![tactic(auto)]
 
 mod answer;
+mod bench;
 mod entry_line;
 mod labels;
+mod leases;
 mod listing;
 mod output;
 mod output_failed;

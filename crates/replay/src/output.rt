@@ -67,13 +67,17 @@ impl<W: io::Write + Drop> Output<W> {
     /// The values of an answer that is no refusal.
     fn values(&mut self, answer: &Answer) -> Result<(), OutputFailed> {
         match answer {
-            Answer::Done | Answer::Abandoned | Answer::Refused { .. } => Ok(()),
+            Answer::Done | Answer::Abandoned { .. } | Answer::Refused { .. } => Ok(()),
             Answer::Number { number } => self.field(*number),
             Answer::Row { rid } => self.field(*rid),
             Answer::Written { number, rid } => self.fields(*number, *rid),
             Answer::Undone { number, left } => self.fields(*number, *left),
             Answer::Cells { row } => self.cells(row.cells()),
-            Answer::Switched { number, verdicts } => {
+            Answer::Switched {
+                number,
+                verdicts,
+                ..
+            } => {
                 self.field(*number)?;
                 self.verdicts(verdicts)
             }
@@ -102,7 +106,9 @@ impl<W: io::Write + Drop> Output<W> {
         ensures { OnOk result (fields_written self.new.writer ≡ 0) }
     {
         match answer {
-            Answer::Switched { .. } => self.pages(number),
+            Answer::Switched { pages, .. } | Answer::Abandoned { pages } => {
+                self.pages(number, *pages)
+            }
             Answer::Pairs { lines } => {
                 for line in lines {
                     self.pair(number, line)?;
@@ -115,17 +121,16 @@ impl<W: io::Write + Drop> Output<W> {
                 }
                 Ok(())
             }
-            Answer::Abandoned => self.pages(number),
             _ => Ok(()),
         }
     }
 
-    /// How many leased pages are missing: none, while none are leased.
-    fn pages(&mut self, number: usize) -> Result<(), OutputFailed>
+    /// How many leased pages are missing.
+    fn pages(&mut self, number: usize, missing: usize) -> Result<(), OutputFailed>
         ensures { OnOk result (fields_written self.new.writer ≡ 0) }
     {
         self.fields(number, "pages")?;
-        self.field(0usize)?;
+        self.field(missing)?;
         self.end()
     }
 

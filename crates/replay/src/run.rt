@@ -3,13 +3,14 @@ ghost use Rattle.std.specs.Prelude.{◌≡◌, ◌≤◌, IfSome, OnOk, IfOk};
 ghost use Rattle.replay.specs.Sessions.{state_of, EndsWith, ExitsWith, RunsAll, RunsNext, RunsOn};
 
 use crate::answer::Answer;
+use crate::bench::Bench;
 use crate::output::Output;
 use crate::output_failed::OutputFailed;
 use crate::parts::table_parts;
 use crate::report::refuse;
 use crate::session::Session;
 use crate::status::Status;
-use builder_core::{Core, Parts, Table};
+use builder_core::{Parts, Table};
 use keybytes::Fault;
 use script::{NumberedCommand, Script};
 use std::alloc::Global;
@@ -92,34 +93,36 @@ fn answer_table<T: Table, W: Write + Drop>(
 {
     output.print(number, &Answer::Done)?;
     let (live, ends) = parts.open::<T>();
-    let mut core = Core::new(live, ends);
+    let mut bench = Bench::new(alloc, live, ends);
     let mut session = Session::new(alloc);
-    answer_all(&mut session, &mut core, commands, output)?;
+    let answered = answer_all(&mut session, &mut bench, commands, output);
+    let _missing = bench.close();
+    answered?;
     Ok(session.status())
 }
 
 fn answer_all<T: Table, W: Write + Drop>(
     session: &mut Session,
-    core: &mut Core<T>,
+    bench: &mut Bench<T>,
     commands: Vec<NumberedCommand>,
     output: &mut Output<W>,
 ) -> Result<(), OutputFailed>
-    ensures { OnOk result (RunsAll (state_of core.old session.old) commands.items (state_of core.new session.new)) }
+    ensures { OnOk result (RunsAll (state_of bench.old session.old) commands.items (state_of bench.new session.new)) }
 {
     for command in commands {
-        answer_next(session, core, command, output)?;
+        answer_next(session, bench, command, output)?;
     }
     Ok(())
 }
 
 fn answer_next<T: Table, W: Write + Drop>(
     session: &mut Session,
-    core: &mut Core<T>,
+    bench: &mut Bench<T>,
     command: NumberedCommand,
     output: &mut Output<W>,
 ) -> Result<(), OutputFailed>
-    ensures { RunsNext (state_of core.old session.old) command (state_of core.new session.new) }
+    ensures { RunsNext (state_of bench.old session.old) command (state_of bench.new session.new) }
 {
-    let answer = session.run(core, command.command);
+    let answer = session.run(bench, command.command);
     output.print(command.number, &answer)
 }

@@ -5,6 +5,7 @@ ghost use Rattle.keybytes.specs.Faults.{RefusedFor};
 ghost use Rattle.keybytes.specs.Keys.{key_columns_refusal};
 ghost use Rattle.replay.specs.Answers.{Happens, answer_of};
 ghost use Rattle.replay.specs.Sessions.{state_of, Answers, IsNew, Runs};
+ghost use Rattle.replay.specs.Leasing.{KeepsBuild};
 ghost use Rattle.replay.specs.Limits.{is_refusal};
 ghost use Rattle.builder_core.specs.SideFiles.{side_refusal};
 ghost use Rattle.replay.specs.declared.answer.Answer.{Answer};
@@ -12,6 +13,7 @@ ghost use Rattle.replay.specs.Listings.{key_spec_of, ListsLeft};
 ghost use Rattle.replay.specs.Plans.{specs_refusal};
 
 use crate::answer::Answer;
+use crate::bench::Bench;
 use crate::entry_line::EntryLine;
 use crate::labels::Labels;
 use crate::listing::{entry_lines, pair_lines};
@@ -21,6 +23,7 @@ use crate::txn::{begin, put, take_back};
 use builder_core::{Core, Event, Plan, Reply, Table};
 use heap_log::{Outcome, Verdicts};
 use keybytes::{Cell, Fault, KeySpec, Rid, Row};
+use run_spool::PlainSpool;
 use script::{Command, Label, Spec, Start};
 use std::alloc::Global;
 
@@ -52,147 +55,162 @@ impl Session {
     }
 
     /// Runs a command, and answers it.
-    pub fn run<T: Table>(&mut self, core: &mut Core<T>, command: Command) -> Answer
-        ensures { Runs (state_of core.old self.old) command result (state_of core.new self.new) }
+    pub fn run<T: Table>(&mut self, bench: &mut Bench<T>, command: Command) -> Answer
+        ensures { Runs (state_of bench.old self.old) command result (state_of bench.new self.new) }
     {
-        match self.answer(core, command) {
+        match self.answer(bench, command) {
             Ok(answer) => answer,
             Err(fault) => Answer::Refused { fault },
         }
     }
 
-    fn answer<T: Table>(&mut self, core: &mut Core<T>, command: Command) -> Result<Answer, Fault>
-        ensures { Answers (state_of core.old self.old) command result (state_of core.new self.new) }
+    fn answer<T: Table>(&mut self, bench: &mut Bench<T>, command: Command) -> Result<Answer, Fault>
+        ensures { Answers (state_of bench.old self.old) command result (state_of bench.new self.new) }
     {
         match command {
-            Command::Row { cells } => self.put_row(core, cells),
-            Command::Begin { label } => self.begin_named(core, &label),
-            Command::Insert { label, cells } => self.insert_named(core, &label, cells),
-            Command::Update { label, rid, cells } => self.update_named(core, &label, rid, cells),
-            Command::Delete { label, rid } => self.delete_named(core, &label, rid),
-            Command::Undo { label } => self.undo_named(core, &label),
-            Command::Commit { label } => self.commit_named(core, &label),
-            Command::Get { rid } => self.get(core, rid),
-            Command::Start(start) => self.start(core, start),
-            Command::Scan { range, worker } => step(core, Event::Scan { range, worker }),
-            Command::Digest { worker } => step(core, Event::Digest { worker }),
-            Command::Seal { worker } => step(core, Event::Seal { worker }),
-            Command::Load { index } => step(core, Event::Load { index }),
-            Command::Switch => self.switch(core),
-            Command::Abandon => step(core, Event::Abandon),
-            Command::Side { index } => self.side(core, index),
-            Command::Pairs { number } => self.pairs(core, number),
-            Command::Rest { spec } => self.rest(core, spec),
+            Command::Row { cells } => self.put_row(bench, cells),
+            Command::Begin { label } => self.begin_named(bench, &label),
+            Command::Insert { label, cells } => self.insert_named(bench, &label, cells),
+            Command::Update { label, rid, cells } => self.update_named(bench, &label, rid, cells),
+            Command::Delete { label, rid } => self.delete_named(bench, &label, rid),
+            Command::Undo { label } => self.undo_named(bench, &label),
+            Command::Commit { label } => self.commit_named(bench, &label),
+            Command::Get { rid } => self.get(bench, rid),
+            Command::Start(start) => self.start(bench, start),
+            Command::Scan { range, worker } => step(bench, Event::Scan { range, worker }),
+            Command::Digest { worker } => step(bench, Event::Digest { worker }),
+            Command::Seal { worker } => step(bench, Event::Seal { worker }),
+            Command::Load { index } => step(bench, Event::Load { index }),
+            Command::Switch => self.switch(bench),
+            Command::Abandon => self.abandon(bench),
+            Command::Side { index } => self.side(bench.core(), index),
+            Command::Pairs { number } => self.pairs(bench.core(), number),
+            Command::Rest { spec } => self.rest(bench, spec),
         }
     }
 
     /// Puts a row in, by a transaction of its own. Where that is refused once the transaction has begun, what it wrote is
     /// taken back.
-    fn put_row<T: Table>(&mut self, core: &mut Core<T>, cells: Vec<Cell>) -> Result<Answer, Fault>
-        ensures { Answers (state_of core.old self.old) (Command.Row cells) result (state_of core.new self.new) }
+    fn put_row<T: Table>(&mut self, bench: &mut Bench<T>, cells: Vec<Cell>) -> Result<Answer, Fault>
+        ensures { Answers (state_of bench.old self.old) (Command.Row cells) result (state_of bench.new self.new) }
     {
         let row = Row::new(cells)?;
-        let txn = begin(core)?;
-        match put(core, txn, row) {
+        let txn = begin(bench)?;
+        match put(bench, txn, row) {
             Ok(rid) => Ok(Answer::Row { rid }),
             Err(fault) => {
-                take_back(core, txn);
+                take_back(bench, txn);
                 Err(fault)
             }
         }
     }
 
     /// Begins a transaction that the label names; where that is refused, it names none.
-    fn begin_named<T: Table>(&mut self, core: &mut Core<T>, label: &Label) -> Result<Answer, Fault>
-        ensures { Answers (state_of core.old self.old) (Command.Begin label.now) result (state_of core.new self.new) }
+    fn begin_named<T: Table>(
+        &mut self,
+        bench: &mut Bench<T>,
+        label: &Label,
+    ) -> Result<Answer, Fault>
+        ensures { Answers (state_of bench.old self.old) (Command.Begin label.now) result (state_of bench.new self.new) }
     {
         self.labels.forget(label)?;
-        let txn = begin(core)?;
+        let txn = begin(bench)?;
         self.labels.name(label, txn);
         Ok(Answer::Number { number: txn })
     }
 
     fn insert_named<T: Table>(
         &mut self,
-        core: &mut Core<T>,
+        bench: &mut Bench<T>,
         label: &Label,
         cells: Vec<Cell>,
     ) -> Result<Answer, Fault>
-        ensures { Answers (state_of core.old self.old) (Command.Insert label.now cells) result (state_of core.new self.new) }
+        ensures { Answers (state_of bench.old self.old) (Command.Insert label.now cells) result (state_of bench.new self.new) }
     {
         let row = Row::new(cells)?;
         let txn = self.labels.txn(label)?;
-        step(core, Event::Insert { txn, row })
+        step(bench, Event::Insert { txn, row })
     }
 
     fn update_named<T: Table>(
         &mut self,
-        core: &mut Core<T>,
+        bench: &mut Bench<T>,
         label: &Label,
         rid: Rid,
         cells: Vec<Cell>,
     ) -> Result<Answer, Fault>
-        ensures { Answers (state_of core.old self.old) (Command.Update label.now rid cells) result (state_of core.new self.new) }
+        ensures { Answers (state_of bench.old self.old) (Command.Update label.now rid cells) result (state_of bench.new self.new) }
     {
         let row = Row::new(cells)?;
         let txn = self.labels.txn(label)?;
-        step(core, Event::Update { txn, rid, row })
+        step(bench, Event::Update { txn, rid, row })
     }
 
     fn delete_named<T: Table>(
         &mut self,
-        core: &mut Core<T>,
+        bench: &mut Bench<T>,
         label: &Label,
         rid: Rid,
     ) -> Result<Answer, Fault>
-        ensures { Answers (state_of core.old self.old) (Command.Delete label.now rid) result (state_of core.new self.new) }
+        ensures { Answers (state_of bench.old self.old) (Command.Delete label.now rid) result (state_of bench.new self.new) }
     {
         let txn = self.labels.txn(label)?;
-        step(core, Event::Delete { txn, rid })
+        step(bench, Event::Delete { txn, rid })
     }
 
     /// Undoes one write; the label names the transaction still.
-    fn undo_named<T: Table>(&mut self, core: &mut Core<T>, label: &Label) -> Result<Answer, Fault>
-        ensures { Answers (state_of core.old self.old) (Command.Undo label.now) result (state_of core.new self.new) }
+    fn undo_named<T: Table>(&mut self, bench: &mut Bench<T>, label: &Label) -> Result<Answer, Fault>
+        ensures { Answers (state_of bench.old self.old) (Command.Undo label.now) result (state_of bench.new self.new) }
     {
         let txn = self.labels.txn(label)?;
-        step(core, Event::Undo { txn })
+        step(bench, Event::Undo { txn })
     }
 
-    fn commit_named<T: Table>(&mut self, core: &mut Core<T>, label: &Label) -> Result<Answer, Fault>
-        ensures { Answers (state_of core.old self.old) (Command.Commit label.now) result (state_of core.new self.new) }
+    fn commit_named<T: Table>(
+        &mut self,
+        bench: &mut Bench<T>,
+        label: &Label,
+    ) -> Result<Answer, Fault>
+        ensures { Answers (state_of bench.old self.old) (Command.Commit label.now) result (state_of bench.new self.new) }
     {
         let txn = self.labels.txn(label)?;
-        step(core, Event::Commit { txn })
+        step(bench, Event::Commit { txn })
     }
 
-    fn get<T: Table>(&mut self, core: &mut Core<T>, rid: Rid) -> Result<Answer, Fault>
-        ensures { Answers (state_of core.old self.old) (Command.Get rid) result (state_of core.new self.new) }
+    fn get<T: Table>(&mut self, bench: &mut Bench<T>, rid: Rid) -> Result<Answer, Fault>
+        ensures { Answers (state_of bench.old self.old) (Command.Get rid) result (state_of bench.new self.new) }
     {
-        let row = core.get(rid)?;
+        let row = bench.get(rid)?;
         Ok(Answer::Cells { row })
     }
 
-    fn start<T: Table>(&mut self, core: &mut Core<T>, start: Start) -> Result<Answer, Fault>
-        ensures { Answers (state_of core.old self.old) (Command.Start start) result (state_of core.new self.new) }
+    fn start<T: Table>(&mut self, bench: &mut Bench<T>, start: Start) -> Result<Answer, Fault>
+        ensures { Answers (state_of bench.old self.old) (Command.Start start) result (state_of bench.new self.new) }
     {
-        if core.is_building() {
+        if bench.core().is_building() {
             return Err(Fault::BuildRunning);
         }
         if !is_in_limits(&start) {
             return Err(Fault::BadCount);
         }
         let plan = Plan {
-            specs: self.key_specs(core, start.specs)?,
+            specs: self.key_specs(bench.core(), start.specs)?,
             workers: start.workers,
             dealing: dealing_of(start.dealing),
             tries: 1,
             keep_pairs: false,
         };
-        step(core, Event::Start { plan })
+        let pages = bench.start(start.quota, plan)?;
+        Ok(Answer::Number {
+            number: u64::from(pages),
+        })
     }
 
-    fn key_specs<T: Table>(&self, core: &Core<T>, specs: Vec<Spec>) -> Result<Vec<KeySpec>, Fault>
+    fn key_specs<T: Table>(
+        &self,
+        core: &Core<PlainSpool, T>,
+        specs: Vec<Spec>,
+    ) -> Result<Vec<KeySpec>, Fault>
         ensures ok { IfOk result (λ made. made.items ≡ map (key_spec_of core.now.live.heap.schema) specs.items) }
         ensures refused { IfErr result (λ fault. fault ≢ Fault.Memory → specs_refusal core.now.live.heap.schema specs.items ≡ Some fault) }
     {
@@ -204,19 +222,28 @@ impl Session {
     }
 
     /// Tries to bring the build's indexes into use, and notes whether one was refused.
-    fn switch<T: Table>(&mut self, core: &mut Core<T>) -> Result<Answer, Fault>
-        ensures { Answers (state_of core.old self.old) Command.Switch result (state_of core.new self.new) }
+    fn switch<T: Table>(&mut self, bench: &mut Bench<T>) -> Result<Answer, Fault>
+        ensures { Answers (state_of bench.old self.old) Command.Switch result (state_of bench.new self.new) }
     {
-        let answer = step(core, Event::Switch)?;
-        if let Answer::Switched { verdicts, .. } = &answer
-            && has_refused(verdicts)
-        {
+        let (number, verdicts, pages) = bench.switch()?;
+        if has_refused(&verdicts) {
             self.status = Status::IndexRefused;
         }
-        Ok(answer)
+        Ok(Answer::Switched {
+            number,
+            verdicts,
+            pages,
+        })
     }
 
-    fn side<T: Table>(&self, core: &Core<T>, index: usize) -> Result<Answer, Fault>
+    fn abandon<T: Table>(&mut self, bench: &mut Bench<T>) -> Result<Answer, Fault>
+        ensures { Answers (state_of bench.old self.old) Command.Abandon result (state_of bench.new self.new) }
+    {
+        let pages = bench.abandon()?;
+        Ok(Answer::Abandoned { pages })
+    }
+
+    fn side<T: Table>(&self, core: &Core<PlainSpool, T>, index: usize) -> Result<Answer, Fault>
         ensures { Answers (state_of core.now self.now) (Command.Side index) result (state_of core.now self.now) }
     {
         let lines = self.side_lines(core, index)?;
@@ -224,7 +251,11 @@ impl Session {
     }
 
     /// The entries that are left in the side-file of an index that is being built.
-    fn side_lines<T: Table>(&self, core: &Core<T>, index: usize) -> Result<Vec<EntryLine>, Fault>
+    fn side_lines<T: Table>(
+        &self,
+        core: &Core<PlainSpool, T>,
+        index: usize,
+    ) -> Result<Vec<EntryLine>, Fault>
         ensures lists { IfOk result (λ lines. ListsLeft core.now index (Answer.Entries lines)) }
         ensures refused { IfErr result (RefusedFor (side_refusal core.now.live.build index)) }
     {
@@ -234,7 +265,7 @@ impl Session {
         Ok(lines)
     }
 
-    fn pairs<T: Table>(&self, core: &Core<T>, number: usize) -> Result<Answer, Fault>
+    fn pairs<T: Table>(&self, core: &Core<PlainSpool, T>, number: usize) -> Result<Answer, Fault>
         ensures { Answers (state_of core.now self.now) (Command.Pairs number) result (state_of core.now self.now) }
     {
         let index = core.ready(number)?;
@@ -242,17 +273,17 @@ impl Session {
         Ok(Answer::Pairs { lines })
     }
 
-    fn rest<T: Table>(&mut self, core: &mut Core<T>, spec: Spec) -> Result<Answer, Fault>
-        ensures { Answers (state_of core.old self.old) (Command.Rest spec) result (state_of core.new self.new) }
+    fn rest<T: Table>(&mut self, bench: &mut Bench<T>, spec: Spec) -> Result<Answer, Fault>
+        ensures { Answers (state_of bench.old self.old) (Command.Rest spec) result (state_of bench.new self.new) }
     {
-        let spec = self.key_spec(core, spec)?;
-        let pairs = core.rest(&spec)?;
+        let spec = self.key_spec(bench.core(), spec)?;
+        let pairs = bench.rest(&spec)?;
         let lines = pair_lines(self.alloc, &spec, pairs.as_slice())?;
         Ok(Answer::Pairs { lines })
     }
 
     /// The key specification, of the table's columns.
-    fn key_spec<T: Table>(&self, core: &Core<T>, spec: Spec) -> Result<KeySpec, Fault>
+    fn key_spec<T: Table>(&self, core: &Core<PlainSpool, T>, spec: Spec) -> Result<KeySpec, Fault>
         ensures table { IfOk result (λ made. made.kinds ≡ core.now.live.heap.schema) }
         ensures columns { IfOk result (λ made. made.columns ≡ spec.columns.items) }
         ensures unique { IfOk result (λ made. made.unique ≡ spec.unique) }
@@ -264,15 +295,16 @@ impl Session {
 }
 
 /// Runs an event that stands for a whole command.
-fn step<T: Table>(core: &mut Core<T>, event: Event) -> Result<Answer, Fault>
-    ensures { Happens event core.old (answer_of result) core.new }
+fn step<T: Table>(bench: &mut Bench<T>, event: Event) -> Result<Answer, Fault>
+    requires { KeepsBuild event }
+    ensures { Happens event bench.old (answer_of result) bench.new }
 {
-    Ok(match core.step(event) {
+    Ok(match bench.step(event) {
         Reply::Begun { txn } => Answer::Number { number: txn },
         Reply::Written { number, rid } => Answer::Written { number, rid },
         Reply::Undone { number, left } => Answer::Undone { number, left },
-        Reply::Started { pages: count } | Reply::Scanned { page: count } => Answer::Number {
-            number: u64::from(count),
+        Reply::Scanned { page } => Answer::Number {
+            number: u64::from(page),
         },
         Reply::Committed { number: count }
         | Reply::Digested { images: count }
@@ -280,9 +312,8 @@ fn step<T: Table>(core: &mut Core<T>, event: Event) -> Result<Answer, Fault>
         | Reply::Loaded { pairs: count } => Answer::Number {
             number: count as u64,
         },
-        Reply::Switched { number, verdicts } => Answer::Switched { number, verdicts },
-        Reply::Abandoned => Answer::Abandoned,
         Reply::Refused { fault } => return Err(fault),
+        _ => unreachable!(),
     })
 }
 

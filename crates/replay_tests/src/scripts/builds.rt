@@ -2,7 +2,7 @@
 
 use crate::case::Case;
 
-pub const CASES: [Case; 4] = [
+pub const CASES: [Case; 5] = [
     Case {
         name: "equal keys stand by RID",
         script: b"table,2,int
@@ -165,5 +165,65 @@ start,0,1,1,n:0
         err: "",
         status: 0,
         check: "script: 22 records, all good\n",
+    },
+    Case {
+        name: "spools with too few pages",
+        script: b"table,2,int
+row,5
+row,3
+start,1,0,1,n:0
+scan,0,0
+digest,0
+seal,0
+seal,0
+load,0
+switch
+row,4
+abandon
+start,2,1,2,n:0
+scan,0,0
+scan,0,1
+seal,0
+seal,1
+load,0
+switch
+pairs,0
+start,16,1,even:2,n:0
+abandon
+abandon
+",
+        out: "1,ok
+2,ok,0.0
+3,ok,0.1
+4,ok,1
+5,ok,0
+6,ok,1
+7,refused,51,NoPage
+8,refused,51,NoPage
+9,refused,51,NoPage
+10,refused,51,NoPage
+11,ok,1.0
+12,ok
+12,pages,0
+13,ok,2
+14,ok,0
+15,ok,1
+16,ok,1
+17,ok,1
+18,ok,3
+19,ok,7,ready:0
+19,pages,0
+20,ok,3
+20,pair,3,0.1
+20,pair,4,1.0
+20,pair,5,0.0
+21,ok,2
+22,ok
+22,pages,0
+23,refused,41,NoBuild
+",
+        err: "",
+        status: 0,
+        check: "script: 23 records, all good\n",
     },
 ];

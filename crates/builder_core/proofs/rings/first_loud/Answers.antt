@@ -9,7 +9,7 @@ use Rattle.builder_core.proofs.rings.first_loud.Goals as goal
 pub loop-worker-init : goal.loop-worker-init
 loop-worker-init c = record {
   looked = record { rings = refl; sent = refl; same = refl };
-  quiet = λ k sent worker less there at. absurd (omega (arith, less));
+  quiet = λ k sent worker maker less there at made. absurd (omega (arith, less));
 }
 
 pub is_loud-requires-clause-rings : goal.is_loud-requires-clause-rings
@@ -29,7 +29,7 @@ returns-then-is_loud-clause-looked c =
 pub returns-then-is_loud-clause-loud : goal.returns-then-is_loud-clause-loud
 returns-then-is_loud-clause-loud c = (
   omega arith,
-  quiet_looked c.loop-worker.pages.items c.loop-worker.workers.items c.is_loud.new.pages.items c.is_loud.new.workers.items c.loop-worker.worker c.is_loud.ensures.looked
+  quiet_looked c.loop-worker.pages.items c.loop-worker.workers.items c.is_loud.new.pages.items c.is_loud.new.workers.items c.args.makers.now c.loop-worker.worker c.is_loud.ensures.looked
       c.loop-worker.invariant.quiet,
   c.is_loud.ensures.loud c.if-is_loud.true,
 )
@@ -38,8 +38,8 @@ pub loop-worker-preserved : goal.loop-worker-preserved
 loop-worker-preserved c = record {
   looked = looked_again c.args.pages.now.items c.args.workers.now.items c.loop-worker.pages.items c.loop-worker.workers.items c.is_loud.new.pages.items c.is_loud.new.workers.items
       c.loop-worker.invariant.looked c.is_loud.ensures.looked;
-  quiet = quiet_more c.loop-worker.worker (all_sent c.is_loud.new.pages.items) c.is_loud.new.workers.items
-      (quiet_looked c.loop-worker.pages.items c.loop-worker.workers.items c.is_loud.new.pages.items c.is_loud.new.workers.items c.loop-worker.worker c.is_loud.ensures.looked
+  quiet = quiet_more c.loop-worker.worker (all_sent c.is_loud.new.pages.items) c.is_loud.new.workers.items c.args.makers.now
+      (quiet_looked c.loop-worker.pages.items c.loop-worker.workers.items c.is_loud.new.pages.items c.is_loud.new.workers.items c.args.makers.now c.loop-worker.worker c.is_loud.ensures.looked
       c.loop-worker.invariant.quiet)
       (c.is_loud.ensures.quiet c.if-is_loud.false);
 }
@@ -47,4 +47,4 @@ loop-worker-preserved c = record {
 pub returns-clause-loud : goal.returns-clause-loud
 returns-clause-loud c =
     let all : c.loop-worker.worker ≡ c.args.count = omega (arith, c.loop-worker-test.false) in
-    subst (λ (n : ℕ). AreDone n (all_sent c.loop-worker.pages.items) c.loop-worker.workers.items) all c.loop-worker.invariant.quiet
+    subst (λ (n : ℕ). AreDone n (all_sent c.loop-worker.pages.items) c.loop-worker.workers.items c.args.makers.now) all c.loop-worker.invariant.quiet

@@ -1,12 +1,13 @@
 use Rattle.std.proofs.Common.{◌≡◌, ◌≤◌, length, take}
 use Rattle.std.specs.Vec.{vec_capacity}
 use Rattle.builder_core.specs.CoreState.{opening}
+use Rattle.builder_core.specs.Holding.{spools_in}
 use Rattle.builder_core.specs.Steps.{Run}
 use Rattle.builder_core.proofs.run.run_events.Given as goal
 
 abbrev pub invariant-loop-event : goal.invariant-loop-event
 invariant-loop-event g l = record {
-  run : Run (opening l.fn.live.state) (take l.event-index l.events) l.replies.items l.core;
+  run : Run (opening l.fn.live.state (spools_in g.S.Spool.runs g.S.Spool.open_run g.S.Spool.stake l.fn.spools.items)) (take l.event-index l.events) l.replies.items l.core;
   room : length l.events ≤ vec_capacity l.replies;
   count : length l.replies.items ≡ l.event-index;
 }

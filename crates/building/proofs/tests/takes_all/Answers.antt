@@ -1,6 +1,9 @@
-use Rattle.std.proofs.Common.{sym, subst}
-use Rattle.building.specs.ImagePairs.{EachHasPairs}
+use Rattle.std.proofs.Common.{List, sym, subst}
+use Rattle.keybytes.specs.declared.kind.Kind.{Kind}
+use Rattle.building.specs.ImagePairs.{EachHasRows}
 use Rattle.building.proofs.tests.takes_all.Goals as goal
 
 pub seal-requires-clause-each : goal.seal-requires-clause-each
-seal-requires-clause-each c = subst (EachHasPairs c.args.spec.now) (sym c.digest.ensures) c.requires.each
+seal-requires-clause-each g c =
+    subst (λ (kinds : List Kind). EachHasRows kinds c.digest.new.self.putter.sent) (sym c.digest.ensures.schema)
+    (subst (EachHasRows c.args.maker.now.schema) (sym c.digest.ensures.sent) c.requires.each)

@@ -1,9 +1,9 @@
-use Rattle.std.proofs.Common.{rules, ◌≡◌, None, Some, ℕ, subst, arith}
+use Rattle.std.proofs.Common.{rules, ◌≡◌, ◌<◌, None, Some, Option, IfSome, ℕ, subst, arith}
 use Rattle.keybytes.specs.declared.fault.Fault.TheVariants.{NotSealed}
 use Rattle.builder_core.specs.Builds.{LiveValue, BuildingValue, WorkValue}
 use Rattle.builder_core.specs.CoreState.{BuildState, CoreState}
 use Rattle.builder_core.specs.Ranges.{open_range}
-use Rattle.builder_core.specs.Rings.{all_sent, AreDone}
+use Rattle.builder_core.specs.Rings.{all_sent, AreDone, IsUnfinished}
 use Rattle.builder_core.specs.Steps.{build_cause, load_refusal}
 use Rattle.builder_core.proofs.LoadCauses.{load_free, load_loud}
 use Rattle.builder_core.proofs.Looked.{works_looked, state_looked, runs_looked}
@@ -24,8 +24,11 @@ returns-in-Some-look_for_loud-clause-refused g c =
     let was = running old before b w c.in-Some-Some.ensures.build c.in-Some-Some.ensures' c.build.ensures.follows c.requires in
     let run = runs_looked old live before building b w looked was in
     let all : open_range b ≡ None = search rules in
-    let loud = c.in-Some-look_for_loud.ensures.loud in
     let worker : ℕ = c.in-Some-look_for_loud.worker in
+    let Loud : WorkValue → Type 0 =
+    λ work. (worker < c.workers-count.result) × AreDone worker (all_sent live.pages) building.workers work.makers
+    × IsUnfinished worker (all_sent live.pages) building.workers work.makers in
+    let loud : Loud w = subst (λ (o : Option WorkValue). IfSome o Loud) c.in-Some-Some.ensures' c.in-Some-look_for_loud.ensures.loud in
     let cause = load_loud live building b w run c.in_ok-check.ensures (put_of live b run.build_is c.look_for_loud.ensures.put) c.look_for_loud.ensures.pages
     c.look_for_loud.ensures.workers worker all (omega (arith, loud.0, c.workers-count.ensures)) loud.1 loud.2 in
     rw c.if-index-ne0.false (subst (λ (s : CoreState). build_cause s.live.build (λ x. load_refusal x s 0) ≡ Some (NotSealed worker)) same cause)
@@ -49,7 +52,9 @@ returns-in-None-clause-accepted g c =
     let was = running old before b w c.in-Some-Some.ensures.build c.in-Some-Some.ensures' c.build.ensures.follows c.requires in
     let run = runs_looked old live before building b w looked was in
     let all : open_range b ≡ None = search rules in
-    let quiet = subst (λ (n : ℕ). AreDone n (all_sent live.pages) building.workers) c.workers-count.ensures c.in-None.ensures.loud in
+    let quiet = subst (λ (n : ℕ). AreDone n (all_sent live.pages) building.workers w.makers) c.workers-count.ensures
+    (subst (λ (o : Option WorkValue). IfSome o (λ work. AreDone c.workers-count.result (all_sent live.pages) building.workers work.makers)) c.in-Some-Some.ensures'
+    c.in-None.ensures.loud) in
     let cause = load_free live building b w run c.in_ok-check.ensures (put_of live b run.build_is c.look_for_loud.ensures.put) c.look_for_loud.ensures.pages
     c.look_for_loud.ensures.workers all quiet in
     rw c.if-index-ne0.false (subst (λ (s : CoreState). build_cause s.live.build (λ x. load_refusal x s 0) ≡ None) same cause)
@@ -77,5 +82,7 @@ returns-in-None-clause-runs g c =
       fine = c.in_ok-check.ensures;
       only = c.if-index-ne0.false;
       all = search rules;
-      quiet = subst (λ (n : ℕ). AreDone n (all_sent live.pages) building.workers) c.workers-count.ensures c.in-None.ensures.loud;
+      quiet = subst (λ (n : ℕ). AreDone n (all_sent live.pages) building.workers w.makers) c.workers-count.ensures
+          (subst (λ (o : Option WorkValue). IfSome o (λ work. AreDone c.workers-count.result (all_sent live.pages) building.workers work.makers)) c.in-Some-Some.ensures'
+          c.in-None.ensures.loud);
     }

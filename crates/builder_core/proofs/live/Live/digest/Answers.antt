@@ -1,13 +1,13 @@
-use Rattle.std.proofs.Common.{◌∙◌, ap, sym, subst, arith}
-use Rattle.std.specs.Prelude.{IfOk}
+use Rattle.std.proofs.Common.{◌≡◌, ◌∙◌, ap, sym, subst, arith}
+use Rattle.std.specs.Prelude.{IfOk, IfErr}
 use Rattle.side_file.specs.Ends.{PutEnd}
 use Rattle.building.specs.declared.copied.Copied.{Copied}
 use Rattle.builder_core.specs.Builds.{LiveValue, BuildingValue, core_state}
 use Rattle.builder_core.specs.CoreState.{CoreState}
-use Rattle.builder_core.specs.Steps.{Waits, Digests}
+use Rattle.builder_core.specs.Steps.{Waits, Digests, spoiled_by}
 use Rattle.builder_core.proofs.Looked.{works_looked, state_looked, runs_looked}
 use Rattle.builder_core.proofs.Places.{map_at}
-use Rattle.builder_core.proofs.Takes.{can_take, put_of}
+use Rattle.builder_core.proofs.Takes.{can_read, its_kit, put_of, spoiled_after}
 use Rattle.builder_core.proofs.Taken.{works_after, digests_after, digests_none, waits_some, on_err}
 use Rattle.builder_core.proofs.live.Live.digest.Goals as goal
 
@@ -22,15 +22,21 @@ digest-requires g c =
     let run = runs_looked c.args.self.now live c.args.building.now building may.build may.work c.look.ensures.looked may.runs in
     let sees = c.look.ensures.sees in
     let there = map_at (λ (end : PutEnd Copied). end.sent) live.pages c.args.worker sees.end sees.ring in
+    let put = put_of live may.build run.build_is c.look.ensures.put in
+    let kit = its_kit live building may.build may.work run may.fine put c.args.worker sees.end.sent sees.it may.there there sees.there sees.in_order in
     record {
       work = may.work;
       runs = run.work_is;
-      columns = run.on.columns ∙ sym (c.schema.ensures ∙ ap (λ (l : LiveValue). l.state.heap.schema) c.self.view_is);
-      it = sees.it;
-      there = sees.there;
-      seen = omega (arith, sees.seen, c.if-look-eq0.false);
-      can = can_take live building may.build may.work run may.fine (put_of live may.build run.build_is c.look.ensures.put) c.args.worker sees.end.sent sees.it may.there there sees.there
-          sees.in_order 1;
+      can = record {
+        it = sees.it;
+        there = sees.there;
+        kit = kit.0;
+        maker = kit.1;
+        spool = kit.2;
+        fit = kit.3;
+        seen = omega (arith, sees.seen, c.if-look-eq0.false);
+        rows = can_read live building may.build may.work run may.fine put c.args.worker sees.end.sent sees.it may.there there sees.there sees.in_order 1;
+      };
     }
 
 pub returns-clause-works : goal.returns-clause-works
@@ -71,3 +77,13 @@ returns-clause-waits g c =
     on_err c.digest.result _ (subst (Waits c.args.worker) (state_looked c.args.self.now live c.args.building.now building c.look.ensures.looked)
     (waits_some live building may.build may.work run may.fine (put_of live may.build run.build_is c.look.ensures.put) c.args.worker may.there c.look.result
     c.look.ensures.sees (omega (arith, c.if-look-eq0.false))))
+
+pub returns-clause-spoiled : goal.returns-clause-spoiled
+returns-clause-spoiled g c =
+    let may = c.requires.runs in
+    let live : LiveValue = c.look.new.self in
+    let building : BuildingValue = c.look.new.building in
+    let run = runs_looked c.args.self.now live c.args.building.now building may.build may.work c.look.ensures.looked may.runs in
+    subst (λ (s : CoreState). IfErr c.digest.result (λ fault. core_state live c.digest.new.self ≡ spoiled_by fault s))
+    (state_looked c.args.self.now live c.args.building.now building c.look.ensures.looked)
+    (spoiled_after live building c.digest.new.self may.build may.work run c.digest.result c.digest.ensures.spoiled)

@@ -1,15 +1,17 @@
-use Rattle.std.proofs.Common.{◌≡◌, ◌≤◌, length, Option, IfSome, ap, sym, ◌∙◌, subst, arith}
+use Rattle.std.proofs.Common.{◌≡◌, length, All, map, None, Option, IfSome, ap, sym, ◌∙◌, subst}
+use Rattle.run_spool.specs.Spools.{AreSorted}
+use Rattle.builder_core.specs.Holding.{SpoolValue}
 use Rattle.builder_core.specs.Builds.{LiveValue, BuildingValue, WorkValue}
-use Rattle.builder_core.proofs.Loaded.{put_inside, works_after_load, loads_after, wanted_first}
+use Rattle.builder_core.proofs.Loaded.{put_inside, runs_sorted, works_after_load, loads_after, wanted_first}
+use Rattle.builder_core.proofs.Takes.{spoiled_after}
 use Rattle.builder_core.proofs.live.Live.load.Goals as goal
 
-pub load-requires-clause-few : goal.load-requires-clause-few
-load-requires-clause-few g c =
+pub load-requires-clause-sorted : goal.load-requires-clause-sorted
+load-requires-clause-sorted g c =
     let may = c.requires.runs in
     let building : BuildingValue = c.args.building.now in
-    let sixteen : length building.workers ≡ 16 = sym (ap (λ (v : BuildingValue). length v.workers) c.building.view_is) ∙ c.building.invariant.sixteen in
-    subst (λ (o : Option WorkValue). IfSome o (λ work. work.workers ≤ length building.workers)) (sym may.runs.work_is)
-    (omega (arith, may.runs.on.workers, may.runs.follows.few_workers, sixteen))
+    subst (λ (o : Option WorkValue). IfSome o (λ work. work.tree ≡ None → All AreSorted (map (λ (s : SpoolValue). s.runs) building.spools))) (sym may.runs.work_is)
+    (λ none. runs_sorted c.args.self.now building may.build may.work may.runs may.fine)
 
 pub returns-clause-loaded : goal.returns-clause-loaded
 returns-clause-loaded g c =
@@ -18,7 +20,7 @@ returns-clause-loaded g c =
     let building : BuildingValue = c.args.building.now in
     let put = put_inside _ live may.build c.self.view_is may.runs.build_is c.self.invariant.3 in
     let rings : length live.pages ≡ 16 = sym (ap (λ (l : LiveValue). length l.pages) c.self.view_is) ∙ c.self.invariant.5.sixteen in
-    let sixteen : length building.workers ≡ 16 = sym (ap (λ (v : BuildingValue). length v.workers) c.building.view_is) ∙ c.building.invariant.sixteen in
+    let sixteen : length building.workers ≡ 16 = sym (ap (λ (v : BuildingValue). length v.workers) c.building.view_is) ∙ c.building.invariant.0.sixteen in
     loads_after live building may.build may.work may.runs may.fine put rings sixteen may.quiet may.all
     c.load.new.self c.load.result c.load.ensures.loaded
 
@@ -29,7 +31,7 @@ returns-clause-works g c =
     let building : BuildingValue = c.args.building.now in
     let put = put_inside _ live may.build c.self.view_is may.runs.build_is c.self.invariant.3 in
     let rings : length live.pages ≡ 16 = sym (ap (λ (l : LiveValue). length l.pages) c.self.view_is) ∙ c.self.invariant.5.sixteen in
-    let sixteen : length building.workers ≡ 16 = sym (ap (λ (v : BuildingValue). length v.workers) c.building.view_is) ∙ c.building.invariant.sixteen in
+    let sixteen : length building.workers ≡ 16 = sym (ap (λ (v : BuildingValue). length v.workers) c.building.view_is) ∙ c.building.invariant.0.sixteen in
     works_after_load live building may.build may.work may.runs may.fine put rings sixteen may.quiet may.all
     c.load.new.self c.load.result c.load.ensures.loaded c.load.ensures.spoiled
 
@@ -40,5 +42,10 @@ returns-clause-first g c =
     let building : BuildingValue = c.args.building.now in
     let put = put_inside _ live may.build c.self.view_is may.runs.build_is c.self.invariant.3 in
     let rings : length live.pages ≡ 16 = sym (ap (λ (l : LiveValue). length l.pages) c.self.view_is) ∙ c.self.invariant.5.sixteen in
-    let sixteen : length building.workers ≡ 16 = sym (ap (λ (v : BuildingValue). length v.workers) c.building.view_is) ∙ c.building.invariant.sixteen in
+    let sixteen : length building.workers ≡ 16 = sym (ap (λ (v : BuildingValue). length v.workers) c.building.view_is) ∙ c.building.invariant.0.sixteen in
     wanted_first live building may.build may.work may.runs may.fine put rings sixteen may.quiet may.all c.load.result c.load.ensures.first
+
+pub returns-clause-spoiled : goal.returns-clause-spoiled
+returns-clause-spoiled g c =
+    let may = c.requires.runs in
+    spoiled_after c.args.self.now c.args.building.now c.load.new.self may.build may.work may.runs c.load.result c.load.ensures.spoiled

@@ -9,8 +9,10 @@ use Rattle.builder_core.proofs.Places.{as_long, there_is}
 use Rattle.builder_core.proofs.live.Live.look.Goals as goal
 
 pub invariant_of-building : goal.invariant_of-building
-invariant_of-building g c =
-    ends_looked g.T.Table.pages g.T.Table.side c.building.inside.workers.items c.waiting.new.workers.items _ c.building.invariant c.waiting.ensures.looked.same
+invariant_of-building g c = (
+  ends_looked g.T.Table.pages g.T.Table.side c.building.inside.workers.items c.waiting.new.workers.items _ c.building.invariant.0 c.waiting.ensures.looked.same,
+  c.building.invariant.1,
+)
 
 pub returns-clause-sees : goal.returns-clause-sees
 returns-clause-sees g c =
@@ -18,7 +20,7 @@ returns-clause-sees g c =
     let workers = as_long (knowing []) (knowing []) c.waiting.new.workers.items c.building.inside.workers.items looked.same in
     let pages =
     as_long (λ (end : PutEnd Copied). end.ring) (λ (end : PutEnd Copied). end.ring) c.waiting.new.pages.items c.self.inside.pages.items looked.rings in
-    let it = there_is c.waiting.new.workers.items c.args.worker (omega (arith, workers, c.building.invariant.sixteen, c.requires)) in
+    let it = there_is c.waiting.new.workers.items c.args.worker (omega (arith, workers, c.building.invariant.0.sixteen, c.requires)) in
     let end = there_is c.waiting.new.pages.items c.args.worker (omega (arith, pages, c.self.invariant.5.sixteen, c.requires)) in
     record {
       it = it.0;

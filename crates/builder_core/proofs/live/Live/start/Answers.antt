@@ -1,5 +1,7 @@
 use Rattle.std.proofs.Common.{◌≡◌, ◌∙◌, ◌+◌, ◌∷◌, [], ◌≤◌, ℕ, List, length, Some, None, refl, ap, sym, subst, arith}
-use Rattle.std.specs.Prelude.{map}
+use Rattle.std.specs.Prelude.{map, Bool, true, false, ◌*◌}
+use Rattle.std.specs.List.{list_all, slice_get}
+use Rattle.std.proofs.lemmas.List.{length-map}
 use Rattle.keybytes.specs.Keys.{KeySpecValue}
 use Rattle.heap_table.specs.Pages.{pages_written}
 use Rattle.scan_range.specs.Cuts.{CutsValue}
@@ -7,16 +9,19 @@ use Rattle.side_file.specs.Ends.{PutEnd}
 use Rattle.building.specs.TakeEnd.{take_end}
 use Rattle.building.specs.WorkerValue.{WorkerValue}
 use Rattle.building.specs.declared.copied.Copied.{Copied}
-use Rattle.builder_core.specs.Builds.{LiveValue, WorkValue, work_state, build_over}
+use Rattle.builder_core.specs.Builds.{LiveValue, BuildingValue, WorkValue, work_state, build_over, fresh}
 use Rattle.builder_core.specs.Ranges.{dealing_refusal, dealt_ends}
-use Rattle.builder_core.specs.CoreState.{BuildState, LiveState, WorkState, CoreState}
+use Rattle.builder_core.specs.CoreState.{BuildState, LiveState, WorkState, SpoolsState, CoreState, all_given}
+use Rattle.builder_core.specs.Holding.{SpoolValue, spool_value, spools_state}
+use Rattle.builder_core.specs.declared.plan.Plan.{Plan}
+use Rattle.builder_core.proofs.Kits.{each_empty}
+use Rattle.run_spool.specs.Spools.{holds_nothing}
 use Rattle.builder_core.specs.Rings.{all_sent, AreOfBuilds, ArePutEnds, begun_on}
 use Rattle.builder_core.specs.Steps.{started, fresh_work}
 use Rattle.builder_core.proofs.Puts.{pages_started, builds_more}
 use Rattle.builder_core.proofs.SideKept.{side_opened}
 use Rattle.builder_core.proofs.Started.{build_on, build_is_on, started_follows, put_ends_started, take_ends_started, started_works}
 use Rattle.builder_core.proofs.Starts.{few_workers, fresh_is}
-use Rattle.builder_core.proofs.Works.{fresh}
 use Rattle.builder_core.proofs.live.Live.start.Goals as goal
 
 abbrev opened : ℕ → KeySpecValue → ℕ → ℕ → CutsValue → BuildState
@@ -40,7 +45,7 @@ invariant_of-self g c =
       c.self.invariant.0,
       started_follows heap.schema heap.log build (inside.builds + 1) spec plan.workers c.records.result c.pages-pages.result c.in_ok-cuts.cuts plan.dealing
           c.in_ok-build.ensures.ok c.records.ensures c.in_ok-cuts.ensures.ok c.pages-pages.ensures.pages columns c.pages-pages.ensures.limit fit
-          (few_workers c.args.self.now.state plan c.in_ok-spec.ensures.counts),
+          (few_workers c.args.self.now.state _ plan c.in_ok-spec.ensures.counts).0,
       side_opened heap.log build c.empty_side.new.side (ap (λ (b : BuildState). b.opened) is) (ap (λ (b : BuildState). b.pages) is) (ap (λ (b : BuildState). b.scans) is)
           (ap (λ (b : BuildState). b.fed) is) c.empty_side.ensures.left c.empty_side.ensures.fed,
       pages_started heap.schema heap.log inside.builds build (all_sent c.restart_all.new.pages.items) (ap (λ (b : BuildState). b.number) is)
@@ -52,12 +57,33 @@ invariant_of-self g c =
 
 pub invariant_of-building : goal.invariant_of-building
 invariant_of-building g c =
-    let inside = c.self.inside in
-    take_ends_started g.T.Table.pages g.T.Table.side (inside.builds + 1) c.restart_all.new.pages.items c.empty_side.new.side.end c.restart_all.new.workers.items
-    (take_end c.empty_side.new.end)
-    (put_ends_started g.T.Table.pages g.T.Table.side inside.pages.items c.restart_all.new.pages.items inside.side.end c.empty_side.new.side.end c.self.invariant.5
-    c.restart_all.ensures.rings c.empty_side.ensures.ring)
-    c.restart_all.ensures.workers c.empty_side.ensures.drained.same_ring
+    let inside = c.self.inside in (
+      take_ends_started g.T.Table.pages g.T.Table.side (inside.builds + 1) c.restart_all.new.pages.items c.empty_side.new.side.end c.restart_all.new.workers.items
+          (take_end c.empty_side.new.end)
+          (put_ends_started g.T.Table.pages g.T.Table.side inside.pages.items c.restart_all.new.pages.items inside.side.end c.empty_side.new.side.end c.self.invariant.5
+          c.restart_all.ensures.rings c.empty_side.ensures.ring)
+          c.restart_all.ensures.workers c.empty_side.ensures.drained.same_ring,
+      λ given none. absurd (cc),
+    )
+
+-- the spools that the plan's workers have
+given_spools :
+    (building : BuildingValue) (spools : List SpoolValue) (plan : Plan) (spec : KeySpecValue) → spools ≡ building.spools
+    → length (spools_state building.given building.spools).left ≡ plan.workers * length plan.specs.items → plan.specs.items ≡ spec ∷ [] → 1 ≤ plan.workers
+    → list_all (λ is_empty. is_empty) (spools_state building.given building.spools).left ≡ true
+    → (length spools ≡ plan.workers) × ((k : ℕ) (spool : SpoolValue) → slice_get spools k ≡ Some spool → (spool.runs ≡ []) × (spool.open_run ≡ []))
+given_spools building spools plan spec same many one some empty =
+    let workers : length (spools_state building.given building.spools).left ≡ plan.workers * 1 =
+    many ∙ ap (λ (specs : List KeySpecValue). plan.workers * length specs) one in
+    rw same (by_given building.given workers empty) where
+      by_given :
+          (given : Bool) → length (spools_state given building.spools).left ≡ plan.workers * 1 → list_all (λ is_empty. is_empty) (spools_state given building.spools).left ≡ true
+          → (length building.spools ≡ plan.workers)
+          × ((k : ℕ) (spool : SpoolValue) → slice_get building.spools k ≡ Some spool → (spool.runs ≡ []) × (spool.open_run ≡ []))
+      by_given true n all = absurd (omega (arith, n, some))
+      by_given false n all =
+          let long = length-map building.spools (λ (s : SpoolValue). holds_nothing s.runs s.open_run) in
+          (omega (arith, n, long), each_empty building.spools all)
 
 pub returns-clause-works : goal.returns-clause-works
 returns-clause-works g c =
@@ -70,12 +96,20 @@ returns-clause-works g c =
     ap (λ (l : LiveValue). dealing_refusal (pages_written l.state.heap.log) plan.dealing) c.self.view_is ∙ c.in_ok-spec.ensures.ranges in
     let build : c.in_ok-build.build ≡ opened (inside.builds + 1) spec plan.workers c.records.result c.in_ok-cuts.cuts =
     c.in_ok-build.ensures.ok ∙ ap (λ s. opened (inside.builds + 1) s plan.workers c.records.result c.in_ok-cuts.cuts) c.in_ok-clone-2.ensures.same in
-    let work : c.new-work.result ≡ fresh spec plan.workers = c.new-work.ensures ∙ ap (λ s. fresh s plan.workers) c.in_ok-clone.ensures.same in
-    started_works _ _ c.in_ok-build.build c.new-work.result inside.builds spec plan.workers c.records.result c.in_ok-cuts.cuts refl refl build work
+    let work : c.in_ok-work.work ≡ fresh spec.kinds spec plan.workers =
+    c.in_ok-work.ensures.ok ∙ ap (λ s. fresh c.schema-schema.result.now s plan.workers) c.in_ok-clone.ensures.same
+    ∙ ap (λ kinds. fresh kinds spec plan.workers) (c.schema-schema.ensures ∙ sym columns) in
+    let now : BuildingValue = c.args.building.now in
+    let counts = few_workers c.args.self.now.state (length (spools_state now.given now.spools).left) plan c.in_ok-spec.ensures.counts in
+    let spools : List SpoolValue = map (spool_value g.S.Spool.runs g.S.Spool.open_run g.S.Spool.stake) c.building.inside.spools.items in
+    let lent = given_spools now spools plan spec (ap (λ (b : BuildingValue). b.spools) c.building.view_is) counts.1 c.in_ok-spec.ensures.spec counts.2
+    c.in_ok-spec.ensures.empty in
+    started_works _ _ c.in_ok-build.build c.in_ok-work.work inside.builds spec plan.workers c.records.result c.in_ok-cuts.cuts refl refl refl build work
     (started_follows heap.schema heap.log c.in_ok-build.build (inside.builds + 1) spec plan.workers c.records.result c.pages-pages.result c.in_ok-cuts.cuts plan.dealing build
     c.records.ensures c.in_ok-cuts.ensures.ok c.pages-pages.ensures.pages columns c.pages-pages.ensures.limit fit
-    (few_workers c.args.self.now.state plan c.in_ok-spec.ensures.counts))
+    (few_workers c.args.self.now.state _ plan c.in_ok-spec.ensures.counts).0)
     columns (subst (AreOfBuilds inside.builds) (sym c.restart_all.ensures.sent) c.self.invariant.4) c.restart_all.ensures.workers c.empty_side.ensures.drained
+    lent.0 lent.1
 
 pub returns-clause-started : goal.returns-clause-started
 returns-clause-started g c =
@@ -99,19 +133,26 @@ returns-clause-started g c =
     let ends : ArePutEnds g.T.Table.pages g.T.Table.side new_pages c.empty_side.new.side.end =
     put_ends_started g.T.Table.pages g.T.Table.side inside.pages.items new_pages inside.side.end c.empty_side.new.side.end c.self.invariant.5
     c.restart_all.ensures.rings c.empty_side.ensures.ring in
-    let few : plan.workers ≤ length new_pages = let most = few_workers live plan c.in_ok-spec.ensures.counts in omega (arith, most, ends.sixteen) in
-    let work : work_state c.restart_all.new.workers.items (Some c.new-work.result) ≡ fresh_work plan =
-    ap (λ (ws : List WorkerValue). work_state ws (Some c.new-work.result)) c.restart_all.ensures.workers
-    ∙ ap (λ (w : WorkValue). work_state (map (begun_on (inside.builds + 1)) new_pages) (Some w)) (c.new-work.ensures ∙ ap (λ s. fresh s plan.workers) c.in_ok-clone.ensures.same)
-    ∙ fresh_is plan spec (inside.builds + 1) new_pages few one in
-    let Whole : LiveState → BuildState → WorkState → CoreState = λ l b w. record { live = record l { builds = l.builds + 1; build = Some b }; work = w } in
-    let old_work : WorkState = work_state c.restart_all.new.workers.items (Some c.new-work.result) in (
+    let few : plan.workers ≤ length new_pages = let most = few_workers live _ plan c.in_ok-spec.ensures.counts in omega (arith, most.0, ends.sixteen) in
+    let work : work_state c.restart_all.new.workers.items (Some c.in_ok-work.work) ≡ fresh_work plan =
+    ap (λ (ws : List WorkerValue). work_state ws (Some c.in_ok-work.work)) c.restart_all.ensures.workers
+    ∙ ap (λ (w : WorkValue). work_state (map (begun_on (inside.builds + 1)) new_pages) (Some w))
+    (c.in_ok-work.ensures.ok ∙ ap (λ s. fresh c.schema-schema.result.now s plan.workers) c.in_ok-clone.ensures.same)
+    ∙ fresh_is plan c.schema-schema.result.now spec (inside.builds + 1) new_pages few one in
+    let spools : List SpoolValue = map (spool_value g.S.Spool.runs g.S.Spool.open_run g.S.Spool.stake) c.building.inside.spools.items in
+    let now : BuildingValue = c.args.building.now in
+    let lent : spools_state true spools ≡ all_given (spools_state now.given now.spools) =
+    ap (λ (ss : List SpoolValue). spools_state true ss) (ap (λ (b : BuildingValue). b.spools) c.building.view_is) in
+    let Whole : LiveState → BuildState → WorkState → SpoolsState → CoreState =
+    λ l b w s. record { live = record l { builds = l.builds + 1; build = Some b }; work = w; spools = s } in
+    let old_work : WorkState = work_state c.restart_all.new.workers.items (Some c.in_ok-work.work) in (
       c.in_ok-spec.ensures.accepted,
       (
         pages,
-        ap (λ (l : LiveValue). Whole l.state c.in_ok-build.build old_work) c.self.view_is
-            ∙ ap (λ b. Whole live b old_work) build
-            ∙ ap (Whole live (started live plan)) work,
+        ap (λ (l : LiveValue). Whole l.state c.in_ok-build.build old_work (spools_state true spools)) c.self.view_is
+            ∙ ap (λ b. Whole live b old_work (spools_state true spools)) build
+            ∙ ap (λ w. Whole live (started live plan) w (spools_state true spools)) work
+            ∙ ap (Whole live (started live plan) (fresh_work plan)) lent,
       ),
     )
 

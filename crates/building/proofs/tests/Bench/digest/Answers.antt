@@ -1,12 +1,12 @@
 use Rattle.std.proofs.Common.{sym, subst}
-use Rattle.building.specs.ImagePairs.{EachHasPairs}
-use Rattle.building.proofs.ManyPairs.{each_have}
+use Rattle.building.specs.ImagePairs.{EachHasRows}
+use Rattle.building.proofs.ManyPairs.{each_rows}
 use Rattle.building.proofs.Digests.{can_digest}
 use Rattle.building.proofs.tests.Bench.digest.Goals as goal
 
-pub digest-requires-clause-copy : goal.digest-requires-clause-copy
-digest-requires-clause-copy c =
+pub digest-requires-clause-rows : goal.digest-requires-clause-rows
+digest-requires-clause-rows g c =
+    let kinds = c.args.maker.now.schema in
     let sent = c.waiting.new.putter.sent in
-    let each : EachHasPairs c.args.spec.now sent = subst (EachHasPairs c.args.spec.now) (sym c.waiting.ensures.putter.sent) c.requires.each in
-    let all = each_have c.args.spec.now c.waiting.new.self.build sent each in
-    can_digest c.args.spec.now 1 c.waiting.new.self sent all.0 c.waiting.ensures.in_order all.1
+    let each : EachHasRows kinds sent = subst (EachHasRows kinds) (sym c.waiting.ensures.putter.sent) c.requires.each in
+    can_digest kinds 1 c.waiting.new.self sent c.waiting.ensures.in_order (each_rows kinds c.waiting.new.self.build sent each)

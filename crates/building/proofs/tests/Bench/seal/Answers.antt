@@ -1,12 +1,13 @@
 use Rattle.std.proofs.Common.{length, sym, subst}
-use Rattle.building.specs.ImagePairs.{EachHasPairs}
-use Rattle.building.proofs.ManyPairs.{each_have}
+use Rattle.building.specs.ImagePairs.{EachHasRows}
+use Rattle.building.proofs.ManyPairs.{each_rows}
 use Rattle.building.proofs.Digests.{can_digest}
 use Rattle.building.proofs.tests.Bench.seal.Goals as goal
 
-pub seal-requires-clause-copies : goal.seal-requires-clause-copies
-seal-requires-clause-copies c =
+pub seal-requires-clause-rows : goal.seal-requires-clause-rows
+seal-requires-clause-rows g c =
+    let kinds = c.args.maker.now.schema in
     let sent = c.waiting.new.putter.sent in
-    let each : EachHasPairs c.args.spec.now sent = subst (EachHasPairs c.args.spec.now) (sym c.waiting.ensures.putter.sent) c.requires.each in
-    let all = each_have c.args.spec.now c.waiting.new.self.build sent each in
-    can_digest c.args.spec.now (length c.waiting.new.self.end.known) c.waiting.new.self sent all.0 c.waiting.ensures.in_order all.1
+    let each : EachHasRows kinds sent = subst (EachHasRows kinds) (sym c.waiting.ensures.putter.sent) c.requires.each in
+    can_digest kinds (length c.waiting.new.self.end.known) c.waiting.new.self sent c.waiting.ensures.in_order
+    (each_rows kinds c.waiting.new.self.build sent each)

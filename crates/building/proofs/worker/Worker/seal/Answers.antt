@@ -1,42 +1,78 @@
-use Rattle.std.proofs.Common.{◌+◌, ◌-◌, length, length-append, ap, ◌∙◌, arith}
+use Rattle.std.proofs.Common.{◌≡◌, ◌+◌, ◌-◌, ◌∙◌, ℕ, List, length, length-append, map, ap, sym, subst, arith}
 use Rattle.std.proofs.lemmas.Result.{err_from_is_err_and}
+use Rattle.keybytes.specs.Keys.{KeySpecValue}
+use Rattle.keybytes.specs.declared.kind.Kind.{Kind}
+use Rattle.heap_table.specs.Images.{ImageValue}
+use Rattle.run_maker.specs.Making.{Holdings}
+use Rattle.building.specs.Holding.{TakesAll}
+use Rattle.building.specs.ImagePairs.{HaveRows}
 use Rattle.building.specs.TakeEnd.{after_taking}
-use Rattle.building.specs.Work.{next_images}
-use Rattle.building.proofs.Digests.{can_next, digested_more, images_more, taking_more, next_few}
+use Rattle.building.specs.Work.{next_images, after_digest}
+use Rattle.building.specs.WorkerValue.{WorkerValue}
+use Rattle.building.proofs.Digests.{can_next, digest_more, images_more, taking_more, next_few}
+use Rattle.building.proofs.Holding.{takes_more, takes_sealed}
 use Rattle.building.proofs.worker.Worker.seal.Goals as goal
 
-pub digest-requires-clause-copy : goal.digest-requires-clause-copy
-digest-requires-clause-copy c =
+pub digest-requires-clause-rows : goal.digest-requires-clause-rows
+digest-requires-clause-rows g c =
     let worker = c.args.self.now in
     let rest = length worker.end.known - (c.loop.counter + 1) in
-    can_next c.args.spec.now c.loop.counter 1 rest worker c.loop.self (omega arith) c.loop.invariant.build c.loop.invariant.end c.requires.copies
+    let build = ap (λ (w : WorkerValue). w.build) c.loop.invariant.taken in
+    let end = ap (λ (w : WorkerValue). w.end) c.loop.invariant.taken in
+    subst (λ (kinds : List Kind). HaveRows kinds (next_images 1 c.loop.self)) (sym c.loop.invariant.schema)
+    (can_next c.args.maker.now.schema c.loop.counter 1 rest worker c.loop.self (omega arith) build end c.requires.rows)
 
 pub returns-in_err-images-clause-failed : goal.returns-in_err-images-clause-failed
-returns-in_err-images-clause-failed c =
+returns-in_err-images-clause-failed g c =
     let worker = c.args.self.now in
     let p = err_from_is_err_and c.from_residual.result c.from_residual.ensures.1 in
+    let end = ap (λ (w : WorkerValue). w.end) c.loop.invariant.taken in
     rw p.1 (
       c.loop.counter + 1,
       omega arith,
-      c.digest.ensures.end ∙ (ap (λ end. after_taking 1 end) c.loop.invariant.end ∙ taking_more c.loop.counter 1 worker.end),
+      c.digest.ensures.end ∙ (ap (λ end. after_taking 1 end) end ∙ taking_more c.loop.counter 1 worker.end),
     )
 
 pub overflow_add-images : goal.overflow_add-images
-overflow_add-images c =
+overflow_add-images g c =
     omega (arith, next_few c.loop.counter c.args.self.now, next_few 1 c.loop.self, c.in_ok-images.ensures.count)
 
 pub loop-preserved : goal.loop-preserved
-loop-preserved c =
+loop-preserved g c =
     let worker = c.args.self.now in
     let n = c.loop.counter in
-    let images = images_more n 1 worker c.loop.self c.loop.invariant.build c.loop.invariant.end in
+    let was = c.loop.invariant in
+    let specs = c.args.maker.now.specs in
+    let start : Holdings = record { runs = map g.S.Spool.runs c.args.spools.now; begun = c.args.maker.now.begun } in
+    let middle : Holdings = record { runs = map g.S.Spool.runs c.loop.spools; begun = c.loop.maker.begun } in
+    let after : Holdings = record { runs = map g.S.Spool.runs c.digest.new.spools; begun = c.digest.new.maker.begun } in
+    let build = ap (λ (w : WorkerValue). w.build) was.taken in
+    let end = ap (λ (w : WorkerValue). w.end) was.taken in
+    let images = images_more n 1 worker c.loop.self build end in
+    let then : TakesAll specs (next_images 1 c.loop.self) middle after =
+    subst (λ (ss : List KeySpecValue). TakesAll ss (next_images 1 c.loop.self) middle after) was.specs c.in_ok-images.ensures.holds in
     record {
-      build = c.digest.ensures.build ∙ c.loop.invariant.build;
-      end = c.digest.ensures.end ∙ (ap (λ end. after_taking 1 end) c.loop.invariant.end ∙ taking_more n 1 worker.end);
-      made = λ made have.
-          digested_more c.args.spec.now n 1 made worker c.loop.self c.digest.new.self c.loop.invariant.build c.loop.invariant.end
-          c.loop.invariant.made c.in_ok-images.ensures.made have;
+      taken = c.in_ok-images.ensures.taken ∙ (ap (after_digest 1) was.taken ∙ digest_more n 1 worker);
+      holds = subst (λ (xs : List ImageValue). TakesAll specs xs start after) (sym images)
+          (takes_more specs (next_images n worker) (next_images 1 c.loop.self) start middle after was.holds then);
+      ready = c.in_ok-images.ensures.ready;
+      sorted = λ all. c.digest.ensures.sorted (was.sorted all);
+      stakes = c.digest.ensures.stakes ∙ was.stakes;
+      schema = c.digest.ensures.schema ∙ was.schema;
+      specs = c.digest.ensures.specs ∙ was.specs;
       images =
           let both = length-append (next_images n worker) (next_images 1 c.loop.self) in
-          omega (arith, c.loop.invariant.images, c.in_ok-images.ensures.count, ap length images, both);
+          omega (arith, was.images, c.in_ok-images.ensures.count, ap length images, both);
     }
+
+pub returns-clause-holds : goal.returns-clause-holds
+returns-clause-holds g c =
+    let worker = c.args.self.now in
+    let was = c.loop.invariant in
+    let specs = c.args.maker.now.specs in
+    let start : Holdings = record { runs = map g.S.Spool.runs c.args.spools.now; begun = c.args.maker.now.begun } in
+    let middle : Holdings = record { runs = map g.S.Spool.runs c.loop.spools; begun = c.loop.maker.begun } in
+    let all : c.loop.counter ≡ length worker.end.known = omega (arith, c.loop-test.false, c.loop.auto.counter-end, c.seen-end.ensures) in
+    let takes = subst (λ (n : ℕ). TakesAll specs (next_images n worker) start middle) all was.holds in
+    takes_sealed specs (next_images (length worker.end.known) worker) start middle (map g.S.Spool.runs c.seal.new.spools) c.seal.new.self.begun takes
+    (c.laws.ensures.begun ∙ ap length was.specs) c.in_ok-seal.ensures.sealed c.in_ok-seal.ensures.none_open

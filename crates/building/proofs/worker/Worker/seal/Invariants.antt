@@ -1,14 +1,20 @@
-use Rattle.std.proofs.Common.{◌≡◌, List, length}
-use Rattle.keybytes.specs.declared.pair.Pair.{Pair}
-use Rattle.building.specs.ImagePairs.{HavePairs}
-use Rattle.building.specs.TakeEnd.{after_taking}
+use Rattle.std.proofs.Common.{◌≡◌, All, length, map}
+use Rattle.run_spool.specs.Spools.{AreSorted}
+use Rattle.run_maker.specs.Making.{AreReady}
+use Rattle.building.specs.Holding.{TakesAll}
 use Rattle.building.specs.Work.{next_images, after_digest}
 use Rattle.building.proofs.worker.Worker.seal.Given as goal
 
 abbrev pub invariant-loop : goal.invariant-loop
-invariant-loop l = record {
-  build : l.self.build ≡ l.initial.self.build;
-  end : l.self.end ≡ after_taking l.counter l.initial.self.end;
-  made : (made : List Pair) → HavePairs l.spec (next_images l.counter l.initial.self) made → l.self ≡ after_digest l.counter made l.initial.self;
+invariant-loop g l = record {
+  taken : l.self ≡ after_digest l.counter l.initial.self;
+  holds : TakesAll l.initial.maker.specs (next_images l.counter l.initial.self)
+      (record { runs = map g.S.Spool.runs l.initial.spools; begun = l.initial.maker.begun })
+      (record { runs = map g.S.Spool.runs l.spools; begun = l.maker.begun });
+  ready : AreReady (map g.S.Spool.runs l.spools) (map g.S.Spool.open_run l.spools);
+  sorted : All AreSorted (map g.S.Spool.runs l.initial.spools) → All AreSorted (map g.S.Spool.runs l.spools);
+  stakes : map g.S.Spool.stake l.spools ≡ map g.S.Spool.stake l.initial.spools;
+  schema : l.maker.schema ≡ l.initial.maker.schema;
+  specs : l.maker.specs ≡ l.initial.maker.specs;
   images : l.images ≡ length (next_images l.counter l.initial.self);
 }

@@ -1,6 +1,7 @@
 use Rattle.std.proofs.Common.{ap, inl, refl, ◌∙◌}
 use Rattle.keybytes.specs.Keys.{KeySpecValue}
 use Rattle.heap_table.specs.TablePairs.{pairs_at_rest}
+use Rattle.builder_core.specs.CoreState.{CoreState}
 use Rattle.replay.specs.Listings.{key_spec_of}
 use Rattle.replay.proofs.KeyedPairs.{listed_by}
 use Rattle.replay.proofs.SpecLists.{is_named}
@@ -8,10 +9,10 @@ use Rattle.replay.proofs.session.Session.rest.Goals as goal
 
 pub returns : goal.returns
 returns g c =
-    let core = c.args.core.now in
+    let core = c.args.bench.now in
     let asked = key_spec_of core.live.heap.schema c.args.spec in
     let made = c.in_ok-spec.spec in
-    let named = is_named core.live.heap.schema c.args.spec made c.in_ok-spec.ensures.table c.in_ok-spec.ensures.columns c.in_ok-spec.ensures.unique in
+    let named = is_named core.live.heap.schema c.args.spec made (c.in_ok-spec.ensures.table ∙ ap (λ (s : CoreState). s.live.heap.schema) c.core.ensures) c.in_ok-spec.ensures.columns c.in_ok-spec.ensures.unique in
     let pairs = c.as_slice.ensures.value ∙ c.in_ok-pairs.ensures.ok ∙ ap (λ (spec : KeySpecValue). pairs_at_rest spec core.live.heap.log) named in
     let lines = c.in_ok-lines.lines in
     record {

@@ -1,0 +1,2 @@
+pub mod ListSpools
+pub mod Owing

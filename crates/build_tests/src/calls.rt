@@ -1,0 +1,234 @@
+//! Calls, and whether they are answered as they should be.
+ghost use Rattle.std.specs.Prelude.{◌≡◌, map};
+ghost use Rattle.build_tests.specs.Owing.{IsOwed};
+
+use crate::asks::{Ask, answer, schema, spec, workers_of};
+use crate::entries::are_entries;
+use crate::kept::Kept;
+use crate::kind::Kind;
+use crate::pools::{QUOTA, new_pool};
+use crate::quota::Quota;
+use crate::stand::Stand;
+use builder_core::{Parts, Table};
+use heap_table::Heap;
+use keybytes::{Cell, Fault, Rid};
+use run_spool::{PlainSpool, Spool};
+use spool_ledger::Pool;
+use std::alloc::Global;
+use std::marker::Brand;
+
+/// A call, and what it answers.
+pub enum Call {
+    /// A start gets new spools first, where no build runs and the test's kind renews them.
+    Event(Ask, Result<(usize, usize), Fault>),
+    /// A start beside the spools that are left.
+    Left(Ask, Result<(usize, usize), Fault>),
+    Begins(usize),
+    /// A transaction inserts so many rows.
+    Rows(i64),
+    /// So many pages of the first range are copied, each taken by worker 0 before the next.
+    Pages(usize),
+    Get(Rid, Result<Option<i64>, Fault>),
+    Rest(Result<bool, Fault>),
+    Ready(Result<bool, Fault>),
+    Building(bool),
+}
+
+/// An event that is asked for once more where memory ran out.
+fn answer_again<S: Spool, T: Table>(
+    stand: &mut Stand<S, T>,
+    alloc: Global,
+    ask: Ask,
+) -> Result<(usize, usize), Fault> {
+    match answer(stand, alloc, ask) {
+        Err(Fault::Memory) => answer(stand, alloc, ask),
+        told => told,
+    }
+}
+
+/// Whether the first index is on the table's column, and has the pairs of the three rows.
+fn are_ready<S: Spool, T: Table>(stand: &Stand<S, T>) -> Result<bool, Fault> {
+    let index = stand.core().ready(0)?;
+    Ok(are_entries(index.pairs()) && index.spec().columns() == &[0][..])
+}
+
+fn number_at<S: Spool, T: Table>(stand: &mut Stand<S, T>, rid: Rid) -> Result<Option<i64>, Fault> {
+    match stand.get(rid)?.cells() {
+        [Cell::Int(number)] => Ok(Some(*number)),
+        _ => Ok(None),
+    }
+}
+
+fn begins<S: Spool, T: Table>(
+    stand: &mut Stand<S, T>,
+    alloc: Global,
+    count: usize,
+) -> Result<bool, Fault> {
+    for number in 1..=count {
+        if answer(stand, alloc, Ask::Begin)? != (number, 0) {
+            return Ok(false);
+        }
+    }
+    Ok(true)
+}
+
+fn inserts<S: Spool, T: Table>(
+    stand: &mut Stand<S, T>,
+    alloc: Global,
+    count: i64,
+) -> Result<bool, Fault> {
+    let (txn, _) = answer(stand, alloc, Ask::Begin)?;
+    for number in 0..count {
+        answer(stand, alloc, Ask::Insert(txn as u64, number))?;
+    }
+    answer(stand, alloc, Ask::Commit(txn as u64))?;
+    Ok(true)
+}
+
+fn copies<S: Spool, T: Table>(
+    stand: &mut Stand<S, T>,
+    alloc: Global,
+    count: usize,
+) -> Result<bool, Fault> {
+    for page in 0..count {
+        let copied = answer(stand, alloc, Ask::Scan)?;
+        let taken = answer(stand, alloc, Ask::Digest(0))?;
+        if copied != (page, 0) || taken != (1, 0) {
+            return Ok(false);
+        }
+    }
+    Ok(true)
+}
+
+/// Whether it is so; want of memory is passed on.
+fn is_unless_wanting<X: PartialEq + Drop>(
+    told: Result<X, Fault>,
+    answer: &Result<X, Fault>,
+) -> Result<bool, Fault> {
+    if let Err(Fault::Memory) = told {
+        return Err(Fault::Memory);
+    }
+    Ok(told == *answer)
+}
+
+/// Puts new spools in the place of the others before a start, unless a build runs.
+fn renew<S: Spool, T: Table, K: Kind<S>>(
+    stand: &mut Stand<S, T>,
+    alloc: Global,
+    kind: &K,
+    ask: Ask,
+) -> Result<(), Fault> {
+    match workers_of(ask) {
+        Some(workers) if !stand.core().is_building() => stand.renew(alloc, kind, workers),
+        _ => Ok(()),
+    }
+}
+
+/// Whether it is answered so. Want of memory is passed on where a second event of the same kind doesn't help.
+fn is_answered<S: Spool, T: Table, K: Kind<S>>(
+    stand: &mut Stand<S, T>,
+    alloc: Global,
+    kind: &K,
+    call: &Call,
+) -> Result<bool, Fault> {
+    match call {
+        Call::Event(ask, answer) => {
+            renew(stand, alloc, kind, *ask)?;
+            is_unless_wanting(answer_again(stand, alloc, *ask), answer)
+        }
+        Call::Left(ask, answer) => is_unless_wanting(answer_again(stand, alloc, *ask), answer),
+        Call::Begins(count) => begins(stand, alloc, *count),
+        Call::Rows(count) => inserts(stand, alloc, *count),
+        Call::Pages(count) => copies(stand, alloc, *count),
+        Call::Get(rid, answer) => Ok(number_at(stand, *rid) == *answer),
+        Call::Rest(answer) => {
+            let told = stand.rest(&spec(alloc)?);
+            is_unless_wanting(told.map(|pairs| are_entries(&pairs)), answer)
+        }
+        Call::Ready(answer) => Ok(are_ready(stand) == *answer),
+        Call::Building(answer) => Ok(stand.core().is_building() == *answer),
+    }
+}
+
+/// The number of the first call that is answered otherwise.
+fn first_other<S: Spool, T: Table, K: Kind<S>>(
+    stand: &mut Stand<S, T>,
+    alloc: Global,
+    kind: &K,
+    calls: &[Call],
+) -> Result<Option<usize>, Fault> {
+    for (number, call) in calls.iter().enumerate() {
+        if !is_answered(stand, alloc, kind, call)? {
+            return Ok(Some(number));
+        }
+    }
+    Ok(None)
+}
+
+/// The first other answer in the first list that has one.
+fn first_other_in<S: Spool, T: Table, K: Kind<S>>(
+    stand: &mut Stand<S, T>,
+    alloc: Global,
+    kind: &K,
+    lists: &[&[Call]],
+) -> Result<Option<usize>, Fault> {
+    for calls in lists {
+        let other = first_other(stand, alloc, kind, calls)?;
+        if other.is_some() {
+            return Ok(other);
+        }
+    }
+    Ok(None)
+}
+
+/// An empty table of one column, of that many slots a page.
+pub fn table(alloc: Global, slots: u8) -> Result<Parts, Fault> {
+    match Parts::new(alloc, Heap::new(alloc, schema(alloc)?, slots, 32)?) {
+        Ok(parts) => Ok(parts),
+        Err((_, fault)) => Err(fault),
+    }
+}
+
+/// The first other answer of a table under its name. The pool has all its pages in the end.
+fn differing_on<S: Spool, T: Table, K: Kind<S>>(
+    alloc: Global,
+    parts: Parts,
+    pool: Pool,
+    spools: Vec<S>,
+    kind: &K,
+    lists: &[&[Call]],
+) -> Result<Option<usize>, Fault>
+    requires pages { parts.pages ≡ T.pages }
+    requires side { parts.side ≡ T.side }
+    requires owed { IsOwed pool (map S.stake spools.items) }
+{
+    let (live, ends) = parts.open::<T>();
+    let mut stand = Stand::new(live, ends, pool, spools);
+    let told = first_other_in(&mut stand, alloc, kind, lists);
+    let ended = stand.end(alloc);
+    let other = told?;
+    ended?;
+    Ok(other)
+}
+
+/// The first other answer where each start gets new spools.
+pub fn differing(alloc: Global, lists: &[&[Call]]) -> Result<Option<usize>, Fault> {
+    let parts = table(alloc, 2)?;
+    let spools: Vec<PlainSpool> = Vec::new(alloc);
+    let pool = new_pool(alloc)?;
+    differing_on::<PlainSpool, Brand, Quota>(alloc, parts, pool, spools, &Quota(QUOTA), lists)
+}
+
+/// The first other answer where no start gets other spools than these.
+pub fn differing_beside<S: Spool>(
+    alloc: Global,
+    slots: u8,
+    pool: Pool,
+    spools: Vec<S>,
+    lists: &[&[Call]],
+) -> Result<Option<usize>, Fault>
+    requires { IsOwed pool (map S.stake spools.items) }
+{
+    let parts = table(alloc, slots)?;
+    differing_on::<S, Brand, Kept>(alloc, parts, pool, spools, &Kept, lists)
+}

@@ -1,0 +1,37 @@
+//! The pairs of three rows.
+
+use crate::asks::FIRST;
+use builder_core::Pair;
+use keybytes::Rid;
+
+/// The bytes of a key, and where its row stands.
+struct Entry {
+    key: &'static [u8],
+    rid: Rid,
+}
+
+/// Keys 3 and 5 at page 0, and 5 again at page 1.
+const ENTRIES: &[Entry] = &[
+    Entry {
+        key: b"\x01\x80\0\0\0\0\0\0\x03",
+        rid: Rid { page: 0, slot: 1 },
+    },
+    Entry {
+        key: b"\x01\x80\0\0\0\0\0\0\x05",
+        rid: FIRST,
+    },
+    Entry {
+        key: b"\x01\x80\0\0\0\0\0\0\x05",
+        rid: Rid { page: 1, slot: 0 },
+    },
+];
+
+/// Whether the pairs are those of the three rows.
+pub fn are_entries(pairs: &[Pair]) -> bool {
+    for (entry, pair) in ENTRIES.iter().zip(pairs) {
+        if pair.key.bytes() != entry.key || pair.rid != entry.rid {
+            return false;
+        }
+    }
+    pairs.len() == ENTRIES.len()
+}

@@ -1,0 +1,94 @@
+//! Spools over the pages of a pool, and what comes back of them.
+ghost use Rattle.std.specs.Prelude.{◌≡◌, ◌≤◌, ◌∷◌, [], Some, map, IfOk, IfErr, OnOk, vec_len, vec_capacity};
+ghost use Rattle.spool_ledger.specs.Accounts.{new_account, stake_of};
+ghost use Rattle.spool_ledger.specs.Pools.{with_out, with_back};
+ghost use Rattle.run_spool.specs.PlainSpools.{new_spool};
+ghost use Rattle.build_tests.specs.Owing.{IsOwed, pages_owed};
+
+use keybytes::{Fault, Key, Pair, Rid};
+use run_spool::{PlainSpool, Spool, give_up_all};
+use spool_ledger::{Account, Pool};
+use std::alloc::Global;
+
+/// How many pages the pool of a test has: enough for 17 spools of [`QUOTA`] pages.
+pub const PAGES: u32 = 68;
+
+/// How many pages a spool has, where nothing else is said.
+pub const QUOTA: u32 = 4;
+
+/// The pool of a test.
+pub fn new_pool(alloc: Global) -> Result<Pool, Fault> {
+    Pool::new(alloc, 1, PAGES)
+}
+
+/// A plain spool of that many pages of the pool.
+pub fn plain_spool(alloc: Global, pool: &mut Pool, quota: u32) -> Result<PlainSpool, Fault>
+    ensures made { IfOk result (λ spool. spool ≡ new_spool (new_account pool.old.number quota)) }
+    ensures out { OnOk result (pool.new ≡ with_out pool.old quota) }
+{
+    let Some(account) = pool.split(alloc, &[quota])?.pop() else {
+        return Err(Fault::Memory);
+    };
+    match PlainSpool::new(alloc, account) {
+        Ok(spool) => Ok(spool),
+        Err((_, fault)) => Err(fault),
+    }
+}
+
+/// As many of them as are asked for.
+pub fn plain_spools(
+    alloc: Global,
+    pool: &mut Pool,
+    quota: u32,
+    count: usize,
+) -> Result<Vec<PlainSpool>, Fault>
+    ensures owed { IfOk result (λ spools. IsOwed pool.new (map (λ spool. Some (stake_of spool.account)) spools.items)) }
+{
+    let mut spools = Vec::with_capacity(alloc, count)?;
+    for _ in 0..count {
+        spools.push_reserved(plain_spool(alloc, pool, quota)?);
+    }
+    Ok(spools)
+}
+
+/// A spool with a pair in its open run.
+pub fn used_spool(alloc: Global, pool: &mut Pool, quota: u32) -> Result<PlainSpool, Fault>
+    ensures owed { IfOk result (λ spool. IsOwed pool.new (Some (stake_of spool.account) ∷ [])) }
+{
+    let mut spool = plain_spool(alloc, pool, quota)?;
+    let pair = Pair {
+        key: Key::new(alloc),
+        rid: Rid { page: 0, slot: 0 },
+    };
+    if !spool.is_empty() {
+        return Err(Fault::SpoolNotEmpty);
+    }
+    match Spool::push(&mut spool, pair) {
+        Ok(()) => Ok(spool),
+        Err((_, fault)) => Err(fault),
+    }
+}
+
+/// Gives spools up, and hands the accounts that stood behind them back to their pool, each with all its pages. Takes no memory.
+pub fn give_back<S: Spool>(spools: Vec<S>, accounts: Vec<Account>, pool: &mut Pool)
+    requires owed { IsOwed pool.old (map S.stake spools.items) }
+    requires none { accounts.items ≡ [] }
+    requires room { vec_len spools ≤ vec_capacity accounts }
+    ensures { pool.new ≡ with_back pool.old (pages_owed (map S.stake spools.items)) }
+{
+    let mut accounts = accounts;
+    give_up_all(spools, &mut accounts);
+    let is_whole = pool.reclaim(accounts).is_ok();
+    prove!(is_whole);
+}
+
+/// The same, with the memory that it takes.
+pub fn reclaim<S: Spool>(alloc: Global, spools: Vec<S>, pool: &mut Pool) -> Result<(), Fault>
+    requires owed { IsOwed pool.old (map S.stake spools.items) }
+    ensures back { OnOk result (pool.new ≡ with_back pool.old (pages_owed (map S.stake spools.items))) }
+    ensures memory { IfErr result (λ fault. fault ≡ Fault.Memory) }
+{
+    let accounts = Vec::with_capacity(alloc, spools.len())?;
+    give_back(spools, accounts, pool);
+    Ok(())
+}

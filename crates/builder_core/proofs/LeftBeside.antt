@@ -1,0 +1,109 @@
+-- What a call leaves beside a table, put together from what its parts left.
+use Rattle.std.proofs.Common.{◌≡◌, ℕ, Bool, false, ◌&&◌, List, [], ◌∷◌, All, map, Option, Some, None, refl, sym, ap, ◌∙◌, subst}
+use Rattle.std.specs.Prelude.{IfSome, is_some}
+use Rattle.std.specs.List.{list_all}
+use Rattle.spool_ledger.specs.Accounts.{Stake}
+use Rattle.keybytes.specs.Keys.{KeySpecValue}
+use Rattle.keybytes.specs.declared.fault.Fault.{Fault}
+use Rattle.keybytes.specs.declared.pair.Pair.{Pair}
+use Rattle.heap_table.specs.Images.{ImageValue}
+use Rattle.run_spool.specs.Spools.{AreSorted, holds_nothing}
+use Rattle.run_maker.specs.Making.{MakerValue}
+use Rattle.building.specs.WorkerValue.{WorkerValue}
+use Rattle.builder_core.specs.Builds.{BuildingValue, WorkValue, after_sort}
+use Rattle.builder_core.specs.Holding.{SpoolValue, Kit, spool_value, spools_state, ended_spool}
+use Rattle.builder_core.specs.Working.{CanTake, CanTakeAt, HasTaken, HasTakenAt, IsSpoiled}
+use Rattle.builder_core.proofs.OneWorker.{the_work}
+use Rattle.builder_core.proofs.Places.{mapped}
+
+-- a test of each that was taken already
+each_tested : {X : Type 0} (test : X → Bool) (xs : List X) → list_all test xs ≡ list_all (λ is_so. is_so) (map test xs)
+each_tested test [] = refl
+each_tested test (x ∷ xs) = ap (λ rest. test x && rest) (each_tested test xs)
+
+-- spools of any kind, as callers of all see them
+module _ {S : Type 0} (runs : S → List (List Pair)) (open_run : S → List Pair) (stake : S → Option Stake) where
+  pub stakes_seen : (spools : List S) → map stake spools ≡ map (λ (s : SpoolValue). s.stake) (map (spool_value runs open_run stake) spools)
+  stakes_seen spools = sym (mapped (spool_value runs open_run stake) (λ (s : SpoolValue). s.stake) spools)
+
+  pub runs_seen : (spools : List S) → map runs spools ≡ map (λ (s : SpoolValue). s.runs) (map (spool_value runs open_run stake) spools)
+  runs_seen spools = sym (mapped (spool_value runs open_run stake) (λ (s : SpoolValue). s.runs) spools)
+
+  pub same_seen :
+      (a b : List S) → map stake a ≡ map stake b
+      → map (λ (s : SpoolValue). s.stake) (map (spool_value runs open_run stake) a)
+      ≡ map (λ (s : SpoolValue). s.stake) (map (spool_value runs open_run stake) b)
+  same_seen a b same = sym (stakes_seen a) ∙ same ∙ stakes_seen b
+
+  -- spools that no build was given are left for the next one
+  pub left_seen :
+      (given : Bool) (spools : List S) → given ≡ false
+      → list_all (λ (s : S). holds_nothing (runs s) (open_run s)) spools
+      ≡ list_all (λ is_empty. is_empty) (spools_state given (map (spool_value runs open_run stake) spools)).left
+  left_seen given spools none =
+      let empty : SpoolValue → Bool = λ s. holds_nothing s.runs s.open_run in
+      rw none (each_tested (λ (s : S). holds_nothing (runs s) (open_run s)) spools
+      ∙ ap (list_all (λ is_empty. is_empty)) (sym (mapped (spool_value runs open_run stake) empty spools)))
+
+-- the work of the build that runs, as it was seen
+module _ (old seen : BuildingValue) (work held : WorkValue) (same : seen ≡ old) (runs : seen.work ≡ Some work) (is : held ≡ work) where
+  its_work : old.work ≡ Some work
+  its_work = ap (λ (b : BuildingValue). b.work) (sym same) ∙ runs
+
+  -- a fault ends it
+  pub spoiled_after :
+      (fault : Fault) (workers : List WorkerValue) (makers : List MakerValue) (spools : List SpoolValue)
+      → map (λ (s : SpoolValue). s.stake) spools ≡ map (λ (s : SpoolValue). s.stake) seen.spools
+      → IsSpoiled fault old (record seen { workers = workers; spools = spools; work = Some (record held { makers = makers; spoiled = Some fault }) })
+  spoiled_after fault workers makers spools stakes = record {
+    work = work;
+    runs = its_work;
+    workers = workers;
+    makers = makers;
+    spools = spools;
+    stakes = stakes ∙ ap (λ (b : BuildingValue). map (λ (s : SpoolValue). s.stake) b.spools) same;
+    left = rw (same, is) refl;
+  }
+
+  -- its pairs are put in order
+  pub left_sorted :
+      (spools : List SpoolValue) (pairs : List Pair) (room : ℕ) → spools ≡ map ended_spool seen.spools
+      → record seen { spools = spools; work = Some (record held { tree = Some pairs; room = room }) }
+      ≡ record old { spools = map ended_spool old.spools; work = Some (after_sort work pairs room) }
+  left_sorted spools pairs room ended = rw (ended, same, is) refl
+
+  -- the runs of its spools are in order, where its pairs aren't yet
+  pub runs_sorted :
+      IfSome old.work (λ w. w.tree ≡ None → All AreSorted (map (λ (s : SpoolValue). s.runs) old.spools)) → work.tree ≡ None
+      → All AreSorted (map (λ (s : SpoolValue). s.runs) seen.spools)
+  runs_sorted all none =
+      let here = subst (λ (o : Option WorkValue). IfSome o (λ w. w.tree ≡ None → All AreSorted (map (λ (s : SpoolValue). s.runs) old.spools))) its_work all in
+      subst (λ (b : BuildingValue). All AreSorted (map (λ (s : SpoolValue). s.runs) b.spools)) (sym same) (here none)
+
+  -- a worker takes some of its copies
+  module _ (worker : ℕ) (count : WorkerValue → ℕ) where
+    pub can_take : CanTake worker count old → CanTakeAt work.spec worker count seen.workers held.makers seen.spools
+    can_take can =
+        let it : can.work ≡ work = the_work old.work can.work work can.runs its_work in
+        rw (same, is) (subst (λ (w : WorkValue). CanTakeAt w.spec worker count old.workers w.makers old.spools) it can.can)
+
+    pub taken_after :
+        (closing : WorkerValue → WorkerValue) (Spools : KeySpecValue → List ImageValue → Kit → Kit → Type 0) (images : ℕ) (workers : List WorkerValue)
+        (makers : List MakerValue) (spools : List SpoolValue)
+        → HasTakenAt work.spec worker count closing Spools seen.workers held.makers seen.spools images workers makers spools
+        → HasTaken worker count closing Spools old images (record seen { workers = workers; spools = spools; work = Some (record held { makers = makers }) })
+    taken_after closing Taken images workers makers spools taken = record {
+      work = work;
+      runs = its_work;
+      workers = workers;
+      makers = makers;
+      spools = spools;
+      taken = subst (λ (b : BuildingValue). HasTakenAt work.spec worker count closing Taken b.workers work.makers b.spools images workers makers spools) same
+          (subst (λ (w : WorkValue). HasTakenAt work.spec worker count closing Taken seen.workers w.makers seen.spools images workers makers spools) is taken);
+      left = rw (same, is) refl;
+    }
+
+-- pairs that aren't in order are in no list
+pub no_tree : (tree : Option (List Pair)) → false ≡ is_some tree → tree ≡ None
+no_tree None none = refl
+no_tree (Some pairs) none = absurd (cc)

@@ -1,0 +1,32 @@
+-- Spools whose pairs are put in order, and that are then ended.
+use Rattle.std.proofs.Common.{◌≡◌, List, [], ◌∷◌, All, map, Option, sym, ap, ◌∙◌}
+use Rattle.std.specs.List.Sorted.{IsSorted}
+use Rattle.std.proofs.lemmas.List.Elements.{All-nil, All-head, All-tail, All-append}
+use Rattle.spool_ledger.specs.Accounts.{Stake}
+use Rattle.keybytes.specs.Pairs.{pair_cmp}
+use Rattle.keybytes.specs.declared.pair.Pair.{Pair}
+use Rattle.run_spool.specs.Spools.{AreSorted}
+use Rattle.run_merge.specs.Merging.{all_runs}
+use Rattle.builder_core.specs.Holding.{SpoolValue, spool_value, ended_spool}
+use Rattle.builder_core.proofs.Places.{mapped}
+
+-- where the runs of each spool are in order, those of all are
+pub all_sorted : (spools : List (List (List Pair))) → All AreSorted spools → AreSorted (all_runs spools)
+all_sorted [] all = All-nil (IsSorted pair_cmp)
+all_sorted (runs ∷ rest) all =
+    All-append (IsSorted pair_cmp) runs (all_runs rest) (All-head AreSorted runs rest all) (all_sorted rest (All-tail AreSorted runs rest all))
+
+-- of a spool that was ended callers see its stake alone
+bare : Option Stake → SpoolValue
+bare stake = record { runs = []; open_run = []; stake = stake }
+
+-- so spools with the same stakes look the same once they are ended
+module _ {S : Type 0} (runs : S → List (List Pair)) (open_run : S → List Pair) (stake : S → Option Stake) where
+  ended_bare : (spools : List S) → map ended_spool (map (spool_value runs open_run stake) spools) ≡ map bare (map stake spools)
+  unfolding bare
+  ended_bare spools = mapped (spool_value runs open_run stake) ended_spool spools ∙ sym (mapped stake bare spools)
+
+  pub ended_same :
+      (a b : List S) → map stake a ≡ map stake b
+      → map ended_spool (map (spool_value runs open_run stake) a) ≡ map ended_spool (map (spool_value runs open_run stake) b)
+  ended_same a b same = ended_bare a ∙ ap (map bare) same ∙ sym (ended_bare b)

@@ -1,0 +1,25 @@
+use Rattle.std.proofs.Common.{◌≡◌, ◌∙◌, Option, IsSome, true, refl, ap, map, subst}
+use Rattle.builder_core.specs.Builds.{LiveValue, BuildingValue, core_state, given_up}
+use Rattle.builder_core.specs.CoreState.{BuildState, CoreState, SpoolsState, abandoned, idle, opening}
+use Rattle.builder_core.specs.Holding.{ended_spool}
+use Rattle.builder_core.proofs.OneWorker.{ended_stakes}
+use Rattle.builder_core.proofs.Refusals.{builds_on, given_to}
+use Rattle.builder_core.proofs.core_steps.Core.abandon.Goals as goal
+
+pub returns : goal.returns
+returns g c =
+    let live : LiveValue = c.self.inside.live in
+    let building : BuildingValue = c.self.inside.building in
+    let runs : IsSome live.state.build = c.in_ok-abandon.ensures.accepted in
+    let given : building.given ≡ true =
+    given_to live.state.heap.schema live.state.heap.log live.pages live.side building live.state.build building.work c.self.invariant.work c.self.invariant.workers runs in
+    let ended = ended_stakes building (map ended_spool building.spools) given refl in (
+      builds_on c.args.self.now.live.build (subst (λ (s : CoreState). IsSome s.live.build) c.self.view_is runs),
+      (
+        refl,
+        ap (λ (l : LiveValue). core_state l c.give_up.new.self) c.in_ok-abandon.ensures.abandoned
+            ∙ ap (core_state (record live { state = abandoned live.state })) c.give_up.ensures
+            ∙ ap (λ (s : SpoolsState). record { live = abandoned live.state; work = idle; spools = s }) ended
+            ∙ ap (λ (s : CoreState). opening s.live s.spools) c.self.view_is,
+      ),
+    )

@@ -1,0 +1,69 @@
+use Rattle.std.proofs.Common.{◌≡◌, ◌∙◌, [], All, map, length, take, drop, refl, sym, ap, subst, arith}
+use Rattle.std.proofs.lemmas.Result.{IfOk-at_ok}
+use Rattle.run_maker.specs.Making.{MakerValue, AreReady, Holdings}
+use Rattle.building.specs.Holding.{HoldsMore}
+use Rattle.building.specs.Work.{next_images, after_digest, after_seal}
+use Rattle.building.specs.WorkerValue.{WorkerValue}
+use Rattle.builder_core.specs.Holding.{Sealed}
+use Rattle.builder_core.specs.Rings.{take_rings}
+use Rattle.builder_core.specs.Working.{all_copies}
+use Rattle.builder_core.proofs.Kits.{begun_none}
+use Rattle.builder_core.proofs.OneKit.{if_ok, lent_ready, lent_many, its_rows, has_taken}
+use Rattle.builder_core.proofs.Places.{kept}
+use Rattle.builder_core.proofs.taking.seal_at.Goals as goal
+
+pub seal-taken-requires-clause-rows : goal.seal-taken-requires-clause-rows
+seal-taken-requires-clause-rows g c =
+    its_rows g.S.Spool.runs g.S.Spool.open_run g.S.Spool.stake c.requires.0 c.args.worker all_copies c.args.workers.now.items c.args.makers.now.items
+    c.args.spools.now.items c.requires.1 c.split_at_mut-own.result.0.now
+    (c.split_at_mut-own.ensures.front ∙ ap (take 1) (c.split_at_mut-rest.ensures.back ∙ ap (drop c.args.worker) c.as_mut_slice.ensures.value))
+    c.index_mut-maker.result.now c.index_mut-maker.ensures.value c.index_mut.result.now
+    c.index_mut.ensures.value
+
+pub seal-taken-requires-clause-spools : goal.seal-taken-requires-clause-spools
+seal-taken-requires-clause-spools g c =
+    lent_many g.S.Spool.runs g.S.Spool.open_run g.S.Spool.stake c.requires.0 c.args.worker all_copies c.args.workers.now.items c.args.makers.now.items
+    c.args.spools.now.items c.requires.1 c.split_at_mut-own.result.0.now
+    (c.split_at_mut-own.ensures.front ∙ ap (take 1) (c.split_at_mut-rest.ensures.back ∙ ap (drop c.args.worker) c.as_mut_slice.ensures.value))
+    c.index_mut-maker.result.now c.index_mut-maker.ensures.value
+
+pub seal-taken-requires-clause-ready : goal.seal-taken-requires-clause-ready
+seal-taken-requires-clause-ready g c =
+    lent_ready g.S.Spool.runs g.S.Spool.open_run g.S.Spool.stake c.requires.0 c.args.worker all_copies c.args.workers.now.items c.args.makers.now.items
+    c.args.spools.now.items c.requires.1 c.split_at_mut-own.result.0.now
+    (c.split_at_mut-own.ensures.front ∙ ap (take 1) (c.split_at_mut-rest.ensures.back ∙ ap (drop c.args.worker) c.as_mut_slice.ensures.value))
+
+pub returns-clause-rings : goal.returns-clause-rings
+returns-clause-rings g c =
+    let old : WorkerValue = c.index_mut.result.now in
+    kept (λ (w : WorkerValue). w.end.ring) c.args.workers.now.items (take_rings c.args.workers.now.items) c.args.worker c.seal-taken.new.self old refl
+    (c.seal-taken.ensures.ring ∙ ap (λ (w : WorkerValue). w.end.ring) c.index_mut.ensures.value)
+
+pub returns-clause-taken : goal.returns-clause-taken
+returns-clause-taken g c =
+    let new : MakerValue = c.seal-taken.new.maker in
+    let it : WorkerValue = c.index_mut.result.now in
+    let maker : MakerValue = c.index_mut-maker.result.now in
+    let taken = c.seal-taken.ensures in
+    let runs = g.S.Spool.runs in
+    let own = c.split_at_mut-own.result.0.now in
+    let left = c.seal-taken.new.spools in
+    let before : Holdings = record { runs = map runs own; begun = maker.begun } in
+    let behind : Holdings = record { runs = map runs left; begun = new.begun } in
+    let rest = c.split_at_mut-rest.ensures.back ∙ ap (drop c.args.worker) c.as_mut_slice.ensures.value in
+    if_ok c.seal-taken.result _ (λ images ok spec can.
+    has_taken runs g.S.Spool.open_run g.S.Spool.stake spec c.args.worker all_copies c.args.workers.now.items c.args.makers.now.items
+    c.args.spools.now.items can own (c.split_at_mut-own.ensures.front ∙ ap (take 1) rest) maker c.index_mut-maker.ensures.value it c.index_mut.ensures.value
+    new left taken.schema taken.specs c.laws.ensures.begun c.laws.ensures.short
+    (IfOk-at_ok (λ _. AreReady (map runs left) (map g.S.Spool.open_run left)) ok taken.ready) taken.sorted taken.stakes
+    after_seal HoldsMore Sealed (λ images kit one same all. (
+      all,
+      begun_none kit.maker one
+          (subst (λ (m : MakerValue). All (λ begun. begun ≡ []) m.begun) (sym same) (IfOk-at_ok (λ _. All (λ begun. begun ≡ []) new.begun) ok taken.closed)),
+    ))
+    (IfOk-at_ok (λ _. HoldsMore maker.specs (next_images (all_copies it) it) before behind) ok taken.holds)
+    images (IfOk-at_ok (λ n. n ≡ length (next_images (all_copies it) it)) ok taken.count)
+    c.seal-taken.new.self (IfOk-at_ok (λ _. c.seal-taken.new.self ≡ after_seal (after_digest (all_copies it) it)) ok taken.taken)
+    c.args.spools.now.len c.split_at_mut-rest.result.0.now c.split_at_mut-own.result.1.now _ (omega (arith, c.args.spools.now.ok))
+    (c.split_at_mut-rest.ensures.front ∙ ap (take c.args.worker) c.as_mut_slice.ensures.value)
+    (c.split_at_mut-own.ensures.back ∙ ap (drop 1) rest))

@@ -1,0 +1,33 @@
+-- What a worker's maker and spools hold of the copies that it took: of each index the pairs in closed runs, and those in no run yet.
+use Rattle.std.specs.Prelude.{◌≡◌, ℕ, ◌<◌, ◌%◌, List, [], ◌++◌, length, get_or, IsPermutation}
+use Rattle.keybytes.specs.Keys.{KeySpecValue}
+use Rattle.keybytes.specs.declared.pair.Pair.{Pair}
+use Rattle.heap_table.specs.Images.{ImageValue}
+use Rattle.run_spool.specs.Spools.{all_pairs}
+use Rattle.run_maker.specs.Making.{Holdings, AddsAt, spec_at}
+use Rattle.building.specs.ImagePairs.{HavePairs}
+
+-- the pairs that are held of index i
+abbrev pub held_at : ℕ → Holdings → List Pair
+held_at i holdings = all_pairs (get_or holdings.runs i []) ++ get_or holdings.begun i []
+
+-- each index is held with the pairs of these images more, and closes a run as soon as 4,096 are in none
+abbrev pub TakesAll : List KeySpecValue → List ImageValue → Holdings → Holdings → Type 0
+TakesAll specs images old new = (i : ℕ) → i < length specs → (made : List Pair) → HavePairs (spec_at specs i) images made → AddsAt i made old new
+
+-- each index is held with the pairs of these images more
+abbrev pub HoldsMore : List KeySpecValue → List ImageValue → Holdings → Holdings → Type 0
+HoldsMore specs images old new =
+    (i : ℕ) → i < length specs → (made : List Pair) → HavePairs (spec_at specs i) images made → IsPermutation (held_at i old ++ made) (held_at i new)
+
+-- an index's pairs of these images are held, each as often as it is there, in the closed runs and in no run yet
+pub record HoldsPairs (spec : KeySpecValue) (images : List ImageValue) (runs : List (List Pair)) (begun : List Pair) : Type 0 where
+  pub made : List Pair
+  pub have : HavePairs spec images made
+  pub all : IsPermutation made (all_pairs runs ++ begun)
+
+-- of the pairs of these images, which were taken since the last seal, those are in no run yet that don't fill one
+pub record HoldsOpen (spec : KeySpecValue) (images : List ImageValue) (begun : List Pair) : Type 0 where
+  pub last : List Pair
+  pub since_seal : HavePairs spec images last
+  pub open_run : length begun ≡ length last % 4096

@@ -1,0 +1,102 @@
+-- The pages that the spools of a build lease, and how a table stands before a build and behind it.
+use Rattle.std.specs.Prelude.{◌≡◌, ◌⊎◌, ℕ, ◌*◌, ◌≤◌, true, is_some, List, [], length, replicate, Option, Some, None}
+use Rattle.std.specs.List.{All, sum_by}
+use Rattle.spool_ledger.specs.Accounts.{Stake, stake_of}
+use Rattle.spool_ledger.specs.Pools.{PoolValue}
+use Rattle.run_spool.specs.PlainSpools.{SpoolValue, runs_of}
+use Rattle.run_spool.specs.Runs.{pairs_of}
+use Rattle.run_spool.specs.Spools.{stakes_in}
+use Rattle.keybytes.specs.declared.fault.Fault.{Fault}
+use Rattle.keybytes.specs.declared.fault.Fault.TheVariants.{Memory}
+use Rattle.builder_core.specs.CoreState.{CoreState, SpoolsState, idle, opening}
+use Rattle.builder_core.specs.Holding.{spools_in}
+use Rattle.builder_core.specs.Steps.{Step}
+use Rattle.builder_core.specs.declared.event.Event.{Event}
+use Rattle.builder_core.specs.declared.event.Event.TheVariants.{Begin, Insert, Update, Delete, Undo, Commit, Start, Scan, Digest, Seal, Load, Switch, Abandon}
+use Rattle.builder_core.specs.declared.plan.Plan.{Plan}
+use Rattle.builder_core.specs.declared.reply.Reply.{Reply}
+use Rattle.builder_core.specs.declared.reply.Reply.TheVariants.{Refused}
+
+-- the pool of a build's pages, and for how many of its accounts there is room
+pub record LeasesValue : Type 0 where
+  pub pool : PoolValue
+  pub room : ℕ
+
+-- pool and quota of the account behind a plain spool
+abbrev pub plain_stake : SpoolValue → Option Stake
+plain_stake spool = Some (stake_of spool.account)
+
+-- plain spools as the core sees them
+abbrev pub plain_spools : List SpoolValue → SpoolsState
+plain_spools spools = spools_in runs_of (λ spool. pairs_of spool.open_run) plain_stake spools
+
+-- there is none
+abbrev pub no_spools : SpoolsState
+no_spools = record { stakes = []; left = [] }
+
+-- so many empty spools, each with a quota of that many pages of its own
+abbrev pub new_spools : ℕ → ℕ → SpoolsState
+new_spools count quota = record { stakes = replicate count (Some (record { pool = 0; quota = quota })); left = replicate count true }
+
+-- how many pages a stake has
+abbrev pub pages_of : Stake → ℕ
+pages_of stake = stake.quota
+
+-- the accounts behind spools are of that pool, have together the pages that it has split off, and find room beside it
+pub record AreOf (leases : LeasesValue) (stakes : List (Option Stake)) : Type 0 where
+  pub own : All (λ stake. stake.pool ≡ leases.pool.number) (stakes_in stakes)
+  pub out : sum_by pages_of (stakes_in stakes) ≡ leases.pool.out
+  pub room : length stakes ≤ leases.room
+
+-- no build runs beside the table, and there are no spools
+pub record IsAtRest (s : CoreState) : Type 0 where
+  pub build : s.live.build ≡ None
+  pub work : s.work ≡ idle
+  pub spools : s.spools ≡ no_spools
+
+-- a build runs, and the accounts behind its spools are of that pool
+pub record IsLeasing (leases : LeasesValue) (s : CoreState) : Type 0 where
+  pub build : is_some s.live.build ≡ true
+  pub stakes : AreOf leases s.spools.stakes
+
+-- pages are leased exactly while a build runs
+abbrev pub LeasesFollow : Option LeasesValue → CoreState → Type 0
+LeasesFollow None s = IsAtRest s
+LeasesFollow (Some leases) s = IsLeasing leases s
+
+-- the pages of these stakes are leased from that pool, if there is one
+abbrev pub AreLeased : Option LeasesValue → List (Option Stake) → Type 0
+AreLeased None stakes = Unit {0}
+AreLeased (Some leases) stakes = AreOf leases stakes
+
+-- the table with new spools beside it, one for each worker and index of the plan, each with a quota of that many pages
+abbrev pub with_new_spools : ℕ → Plan → CoreState → CoreState
+with_new_spools quota plan s = opening s.live (new_spools (plan.workers * length plan.specs.items) quota)
+
+-- the start of a build over new spools is replied so
+abbrev pub StartsOver : ℕ → Plan → CoreState → Reply → CoreState → Type 0
+StartsOver quota plan old told new = Step (with_new_spools quota plan old) (Start plan) told new
+
+-- a build does not start over new spools, or there is no memory for these
+abbrev pub FailsToStart : ℕ → Plan → CoreState → Fault → Type 0
+FailsToStart quota plan s fault = (fault ≡ Memory) ⊎ ((left : CoreState) × StartsOver quota plan s (Refused fault) left)
+
+-- an event is replied so and ends the build, and its spools are given up
+abbrev pub EndsBuild : Event → Reply → CoreState → CoreState → Type 0
+EndsBuild asked told old new = (left : CoreState) × Step old asked told left × (new ≡ opening left.live no_spools)
+
+-- the event neither starts a build nor ends one
+abbrev pub KeepsBuild : Event → Type 0
+KeepsBuild Begin = Unit {0}
+KeepsBuild (Insert txn row) = Unit {0}
+KeepsBuild (Update txn rid row) = Unit {0}
+KeepsBuild (Delete txn rid) = Unit {0}
+KeepsBuild (Undo txn) = Unit {0}
+KeepsBuild (Commit txn) = Unit {0}
+KeepsBuild (Start plan) = ⊥
+KeepsBuild (Scan range worker) = Unit {0}
+KeepsBuild (Digest worker) = Unit {0}
+KeepsBuild (Seal worker) = Unit {0}
+KeepsBuild (Load index) = Unit {0}
+KeepsBuild Switch = ⊥
+KeepsBuild Abandon = ⊥

@@ -1,0 +1,187 @@
+ghost use Rattle.std.specs.Prelude.{◌≡◌, ◌≤◌, Some, None, map, vec_len, OnOk, OnErr, IfOk, IfErr};
+ghost use Rattle.keybytes.specs.Faults.{RefusedFor};
+ghost use Rattle.keybytes.specs.Pairs.{HaveKeysOf};
+ghost use Rattle.heap_log.specs.Standing.{live_at};
+ghost use Rattle.heap_table.specs.HeapState.{after_visit, row_missing};
+ghost use Rattle.heap_table.specs.TablePairs.{pairs_at_rest};
+ghost use Rattle.builder_core.specs.CoreState.{opening, with_heap};
+ghost use Rattle.builder_core.specs.Steps.{Step};
+ghost use Rattle.replay.specs.Leasing.{AreLeased, EndsBuild, FailsToStart, KeepsBuild, StartsOver, no_spools, plain_stake};
+ghost use Rattle.replay.specs.Listings.{OnlyVisits};
+
+use crate::leases::Leases;
+use builder_core::{Core, Ends, Event, Live, Plan, Reply, Table};
+use heap_log::Verdicts;
+use keybytes::{Fault, KeySpec, Pair, Rid, Row};
+use run_spool::PlainSpool;
+use std::alloc::Global;
+use std::marker::Model;
+
+/// A table with the build that may be running, and the pages that the spools of this build lease. While no build runs there are no
+/// spools. Contracts see the state of the core.
+///
+/// It is no `Drop`: [`Bench::close`] gives the pages back.
+pub struct Bench<T: Table> {
+    alloc: Global,
+    core: Core<PlainSpool, T>,
+    leases: Option<Leases>,
+}
+
+impl<T: Table> Model for Bench<T> {
+    ghost use Rattle.builder_core.specs.CoreState.{CoreState};
+    ghost use Rattle.replay.specs.Leasing.{LeasesFollow};
+
+    ghost Value = { CoreState };
+
+    ghost view = { λ bench. bench.core };
+
+    ghost invariant = { λ bench. LeasesFollow bench.leases bench.core };
+}
+
+impl<T: Table> Bench<T> {
+    /// The table, with no build running.
+    pub fn new(alloc: Global, live: Live<T>, ends: Ends<T>) -> Bench<T>
+        ensures { result ≡ opening live.state no_spools }
+    {
+        Bench {
+            alloc,
+            core: Core::new(live, ends, Vec::new(alloc)),
+            leases: None,
+        }
+    }
+
+    /// Gives up what is left of a build, and answers how many leased pages are missing.
+    pub fn close(self) -> usize
+        ensures { result ≡ 0 }
+    {
+        let Bench {
+            alloc: _alloc,
+            core,
+            leases,
+        } = self;
+        let (_, _, spools) = core.into_live();
+        reclaim(leases, spools)
+    }
+
+    /// The table and its build, to be looked at.
+    pub fn core(&self) -> &Core<PlainSpool, T>
+        ensures { result.now ≡ self.now }
+    {
+        &self.core
+    }
+
+    /// Does one event that neither starts a build nor ends one.
+    pub fn step(&mut self, event: Event) -> Reply
+        requires { KeepsBuild event }
+        ensures step { Step self.old event result self.new }
+    {
+        self.core.step(event)
+    }
+
+    /// Starts a build over new spools, each with its quota of pages, and answers how many pages of the table it reads. Where that
+    /// is refused the spools are given up again.
+    pub fn start(&mut self, quota: usize, plan: Plan) -> Result<u32, Fault>
+        requires resting { self.old.live.build ≡ None }
+        requires workers { plan.workers ≤ 16 }
+        requires indexes { vec_len plan.specs ≤ 8 }
+        requires quota { quota ≤ 1024 }
+        ensures started { IfOk result (λ pages. StartsOver quota plan self.old (Reply.Started pages) self.new) }
+        ensures refused { IfErr result (FailsToStart quota plan self.old) }
+        ensures unchanged { OnErr result (self.new ≡ self.old) }
+    {
+        let spools = plan.workers * plan.specs.len();
+        let (leases, spools) = Leases::new(self.alloc, spools, quota)?;
+        let _none = self.core.exchange_spools(spools);
+        match self.core.step(Event::Start { plan }) {
+            Reply::Started { pages } => {
+                self.leases = Some(leases);
+                Ok(pages)
+            }
+            Reply::Refused { fault } => {
+                let spools = self.core.exchange_spools(Vec::new(self.alloc));
+                let _whole = leases.reclaim(spools);
+                Err(fault)
+            }
+            _ => unreachable!(),
+        }
+    }
+
+    /// Tries to bring the build's indexes into use. Once that is decided the spools are given up: behind the number of the log record
+    /// and the verdicts stands how many of their pages are missing.
+    pub fn switch(&mut self) -> Result<(usize, Verdicts, usize), Fault>
+        ensures decided { IfOk result (λ told. EndsBuild Event.Switch (Reply.Switched told.0 told.1) self.old self.new) }
+        ensures back { IfOk result (λ told. told.2 ≡ 0) }
+        ensures refused { IfErr result (λ fault. Step self.old Event.Switch (Reply.Refused fault) self.new) }
+    {
+        match self.core.step(Event::Switch) {
+            Reply::Switched { number, verdicts } => {
+                let missing = end_build(self.alloc, &mut self.core, self.leases.take());
+                Ok((number, verdicts, missing))
+            }
+            Reply::Refused { fault } => Err(fault),
+            _ => unreachable!(),
+        }
+    }
+
+    /// Gives the build up, with its spools, and answers how many of their pages are missing.
+    pub fn abandon(&mut self) -> Result<usize, Fault>
+        ensures abandoned { OnOk result (EndsBuild Event.Abandon Reply.Abandoned self.old self.new) }
+        ensures back { IfOk result (λ missing. missing ≡ 0) }
+        ensures refused { IfErr result (λ fault. Step self.old Event.Abandon (Reply.Refused fault) self.new) }
+    {
+        match self.core.step(Event::Abandon) {
+            Reply::Abandoned => Ok(end_build(self.alloc, &mut self.core, self.leases.take())),
+            Reply::Refused { fault } => Err(fault),
+            _ => unreachable!(),
+        }
+    }
+
+    /// The row that stands at a RID now; [`Fault::NoSuchRow`] where none does. Counts as a visit.
+    pub fn get(&mut self, rid: Rid) -> Result<Row, Fault>
+        ensures ok { IfOk result (λ row. live_at self.old.live.heap.log rid ≡ Some row) }
+        ensures visited { OnOk result (self.new ≡ with_heap self.old (after_visit self.old.live.heap)) }
+        ensures unchanged { OnErr result (self.new ≡ self.old) }
+        ensures refused { IfErr result (RefusedFor (row_missing (live_at self.old.live.heap.log rid))) }
+    {
+        self.core.get(rid)
+    }
+
+    /// The pairs that an index of this specification would have now, in order.
+    pub fn rest(&mut self, spec: &KeySpec) -> Result<Vec<Pair>, Fault>
+        requires { spec.now.kinds ≡ self.old.live.heap.schema }
+        ensures ok { IfOk result (λ pairs. pairs.items ≡ pairs_at_rest spec.now self.old.live.heap.log) }
+        ensures keys { IfOk result (λ pairs. HaveKeysOf spec.now pairs.items) }
+        ensures rows { OnlyVisits self.old self.new }
+        ensures memory { IfErr result (λ fault. fault ≡ Fault.Memory) }
+    {
+        self.core.rest(spec)
+    }
+}
+
+/// Takes the spools out of the core and gives them up, and answers how many of their pages are missing.
+fn end_build<T: Table>(
+    alloc: Global,
+    core: &mut Core<PlainSpool, T>,
+    leases: Option<Leases>,
+) -> usize
+    requires { AreLeased leases core.old.spools.stakes }
+    ensures core { core.new ≡ opening core.old.live no_spools }
+    ensures pages { result ≡ 0 }
+{
+    let spools = core.exchange_spools(Vec::new(alloc));
+    reclaim(leases, spools)
+}
+
+/// Gives spools up, and answers how many of their pages are missing. Where nothing is leased none is.
+fn reclaim(leases: Option<Leases>, spools: Vec<PlainSpool>) -> usize
+    requires { AreLeased leases (map plain_stake spools.items) }
+    ensures { result ≡ 0 }
+{
+    match leases {
+        Some(leases) => {
+            let (_pool, missing) = leases.reclaim(spools);
+            missing
+        }
+        None => 0,
+    }
+}
