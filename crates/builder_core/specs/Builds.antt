@@ -1,7 +1,6 @@
 -- What a table and the workers of its build keep between events, and how the two go together.
-use Rattle.std.specs.Prelude.{◌≡◌, ℕ, ◌+◌, ◌-◌, ◌==◌, ◌<◌, ◌≤◌, Bool, List, [], ◌∷◌, ◌++◌, length, map, take, replicate, is_some, vec_len, vec_capacity, Vec, true, Option}
+use Rattle.std.specs.Prelude.{◌≡◌, ℕ, ◌+◌, ◌==◌, ◌<◌, ◌≤◌, Bool, List, [], ◌∷◌, ◌++◌, length, map, min, take, replicate, is_some, true, Option}
 use Rattle.std.specs.Prelude.{Some, None}
-use Rattle.std.specs.declared.alloc.Global.{Global}
 use Rattle.std.specs.FinMap.{keys}
 use Rattle.std.specs.List.{slice_get}
 use Rattle.keybytes.specs.Faults.{first_cause}
@@ -21,14 +20,18 @@ use Rattle.side_file.specs.declared.entry.Entry.{Entry}
 use Rattle.building.specs.TakeEnd.{TakeEnd}
 use Rattle.building.specs.WorkerValue.{WorkerValue}
 use Rattle.building.specs.declared.copied.Copied.{Copied}
-use Rattle.builder_core.specs.CoreState.{BuildState, LiveState, WorkerState, IndexState, WorkState, CoreState, scanning_of, live_with_heap, idle, spoiled_work}
+use Rattle.builder_core.specs.CoreState.{BuildState, LiveState, WorkerState, IndexState, WorkState, CoreState, scanning_of, live_with_heap, idle}
 use Rattle.builder_core.specs.Ranges.{next_page, open_range}
 use Rattle.builder_core.specs.Holding.{SpoolValue, spools_state, ended_spool, fresh_maker, AreEquipped, AreHolding, AreOpen}
 use Rattle.builder_core.specs.Rings.{all_sent, AreForWorkers, AreLooked, AreTaking, AreDone}
-use Rattle.builder_core.specs.Scanning.{IsScanned, ReadOnce, scanned_at, scanned_pairs}
-use Rattle.builder_core.specs.SideFiles.{IsDrained}
-use Rattle.builder_core.specs.Steps.{refusal, cause_if, build_cause, counts_refusal, range_refusal}
+use Rattle.builder_core.specs.Scanning.{Scanning, IsScanned, ReadOnce, scanned_at, scanned_pairs}
+use Rattle.builder_core.specs.SideFiles.{IsFed, HasLookedAtSide}
+use Rattle.builder_core.specs.Steps.{refusal, cause_if, build_cause, counts_refusal, range_refusal, ring_most, after_feed}
 use Rattle.builder_core.specs.declared.event.Event.{Event}
+use Rattle.builder_core.specs.Workers.{fed_to, unfed}
+use Rattle.builder_core.specs.SideEntries.{side_entries}
+use Rattle.visibility.specs.Applied.{apply_entries}
+use Rattle.catch_up.specs.Built.{BuiltValue}
 use Rattle.builder_core.specs.declared.scan.Scan.{Scan}
 
 -- a table with the ends of its rings that put
@@ -45,25 +48,28 @@ value_with_heap live heap = record live { state = live_with_heap live.state heap
 
 -- the work of a build of one index
 pub record WorkValue : Type 0 where
+  -- the number of the build
+  pub build : ℕ
   pub spec : KeySpecValue
   -- how many of the workers it has
   pub workers : ℕ
   -- what makes the pairs of each of them
   pub makers : List MakerValue
   -- the index's pairs, once they are in order
-  pub tree : Option (List Pair)
-  -- how many more pairs find room beside them
-  pub room : ℕ
+  pub built : Option BuiltValue
+  -- how many entries of its side-file were applied to them
+  pub applied : ℕ
   pub spoiled : Option Fault
 
--- the work of a build by so many workers, on rows of these columns, that has done nothing
-abbrev pub fresh : List Kind → KeySpecValue → ℕ → WorkValue
-fresh kinds spec workers = record {
+-- the work of the build with that number by so many workers, on rows of these columns, that has done nothing
+abbrev pub fresh : ℕ → List Kind → KeySpecValue → ℕ → WorkValue
+fresh build kinds spec workers = record {
+  build = build;
   spec = spec;
   workers = workers;
   makers = replicate workers (fresh_maker kinds spec);
-  tree = None;
-  room = 0;
+  built = None;
+  applied = 0;
   spoiled = None;
 }
 
@@ -87,23 +93,18 @@ pub record BuildingValue : Type 0 where
   pub given : Bool
   pub work : Option WorkValue
 
--- how many more pairs find room in a list, if there is one
-abbrev pub room_in : Option (Vec Pair Global) → ℕ
-room_in None = 0
-room_in (Some pairs) = vec_capacity pairs - vec_len pairs
-
 -- what callers see of a worker
 abbrev pub worker_state : WorkerValue → WorkerState
 worker_state worker = record { taken = worker.taken; sealed = worker.sealed }
 
 -- and of the index
-abbrev pub index_state : Option (List Pair) → IndexState
-index_state tree = record { loaded = is_some tree; applied = 0 }
+abbrev pub index_state : WorkValue → IndexState
+index_state work = record { loaded = is_some work.built; applied = work.applied }
 
 -- what callers see of work that goes on, or is spoiled
 abbrev pub state_unless : Option Fault → List WorkerValue → WorkValue → WorkState
-state_unless None workers work = record { workers = map worker_state (take work.workers workers); indexes = index_state work.tree ∷ []; spoiled = None }
-state_unless (Some fault) workers work = spoiled_work fault
+state_unless None workers work = record { workers = map worker_state (take work.workers workers); indexes = index_state work ∷ []; spoiled = None }
+state_unless (Some fault) workers work = record { workers = []; indexes = index_state work ∷ []; spoiled = Some fault }
 
 -- what callers see of the work
 abbrev pub work_state : List WorkerValue → Option WorkValue → WorkState
@@ -127,12 +128,12 @@ abbrev pub given_up : BuildingValue → BuildingValue
 given_up building = record building { spools = map ended_spool building.spools; work = None }
 
 -- these pairs are the index's, in order
-abbrev pub after_sort : WorkValue → List Pair → ℕ → WorkValue
-after_sort work pairs room = record work { tree = Some pairs; room = room }
+abbrev pub after_sort : WorkValue → List Pair → WorkValue
+after_sort work pairs = record work { built = Some (record { build = work.build; pairs = pairs }) }
 
--- a build of one index by so many workers, over the ranges that are cut so
-abbrev pub build_over : ℕ → KeySpecValue → ℕ → ℕ → CutsValue → List Scan → BuildState
-build_over number spec workers opened cuts scans = record {
+-- a build of one index by so many workers, over the ranges that are cut so, which fed so many entries
+abbrev pub build_over : ℕ → KeySpecValue → ℕ → ℕ → CutsValue → List Scan → ℕ → BuildState
+build_over number spec workers opened cuts scans fed = record {
   number = number;
   specs = spec ∷ [];
   opened = opened;
@@ -140,7 +141,7 @@ build_over number spec workers opened cuts scans = record {
   ends = cuts.ends;
   workers = workers;
   scans = scans;
-  fed = 0 ∷ [];
+  fed = fed ∷ [];
 }
 
 -- the scans of a build by so many workers whose ranges are so far
@@ -170,15 +171,24 @@ abbrev pub BuildFollows : List Kind → List LogRec → Option BuildState → Ty
 BuildFollows kinds log None = Unit {0}
 BuildFollows kinds log (Some b) = IsBuildOf kinds log b
 
+-- these are the pairs that were read, with the first so many entries of the side-file applied to them, in order
+abbrev pub IsCaughtUpTo : ℕ → Scanning → List LogRec → List Pair → Type 0
+IsCaughtUpTo applied b log pairs = pairs ≡ keys (apply_entries (take applied (side_entries b log)) (set_of (scanned_pairs b log)))
+
 -- it is the work of that build
 pub record IsWorkOn (kinds : List Kind) (log : List LogRec) (b : BuildState) (work : WorkValue) : Type 0 where
+  pub number : work.build ≡ b.number
   pub specs : b.specs ≡ work.spec ∷ []
   pub columns : work.spec.kinds ≡ kinds
   pub workers : work.workers ≡ b.workers
   -- its pairs are in order only once no page is left to copy
-  pub all : is_some work.tree ≡ true → open_range b ≡ None
-  -- in order they are the index's
-  pub loaded : (pairs : List Pair) → work.tree ≡ Some pairs → pairs ≡ keys (set_of (scanned_pairs (scanning_of b work.spec) log))
+  pub all : is_some work.built ≡ true → open_range b ≡ None
+  -- no entry was applied before, nor one that the side-file has not
+  pub none_before : work.built ≡ None → work.applied ≡ 0
+  pub there : work.applied ≤ length (side_entries (scanning_of b work.spec) log)
+  -- in order they are the index's, with that number
+  pub loaded : (built : BuiltValue) → work.built ≡ Some built → IsCaughtUpTo work.applied (scanning_of b work.spec) log built.pairs
+  pub of_build : (built : BuiltValue) → work.built ≡ Some built → built.build ≡ b.number
 
 -- there is work exactly where a build runs, and it is that build's
 abbrev pub IsWorkOf : List Kind → List LogRec → Option BuildState → Option WorkValue → Type 0
@@ -191,13 +201,12 @@ IsWorkOf kinds log (Some b) (Some work) = IsWorkOn kinds log b work
 pub record HaveKits (count : ℕ) (workers : List WorkerValue) (spools : List SpoolValue) (work : WorkValue) : Type 0 where
   pub equipped : AreEquipped work.spec.kinds work.spec count work.makers spools
   pub opened : AreOpen work.spec count workers work.makers
-  pub holding : work.tree ≡ None → AreHolding work.spec count workers work.makers spools
+  pub holding : work.built ≡ None → AreHolding work.spec count workers work.makers spools
 
--- nothing is in the side-file's ring, the build has the spools, and its workers are at work on what their rings were sent; of a spoiled build
--- only the first two are known
+-- the entries that were fed and not applied wait in the side-file's ring, the build has the spools, and its workers are at work on what
+-- their rings were sent; of a spoiled build only the first two are known
 pub record AreAtWork (b : BuildState) (pages : List (PutEnd Copied)) (side : PutEnd Entry) (building : BuildingValue) (work : WorkValue) : Type 0 where
-  -- nothing is in the side-file's ring
-  pub drained : IsDrained side building.side.ring building.side.received
+  pub fed : IsFed (fed_to b 0) work.applied side building.side
   pub given : building.given ≡ true
   pub taking : work.spoiled ≡ None → AreTaking b.number b.workers (all_sent pages) building.workers
   pub kits : work.spoiled ≡ None → HaveKits b.workers building.workers building.spools work
@@ -276,3 +285,32 @@ pub record MayLoad (live : LiveValue) (building : BuildingValue) (index : ℕ) :
   pub only : index ≡ 0
   pub all : open_range build ≡ None
   pub quiet : AreDone build.workers (all_sent live.pages) building.workers work.makers
+
+-- entries of the side-file may be applied to the index
+pub record MayApply (live : LiveValue) (building : BuildingValue) : Type 0 where
+  pub build : BuildState
+  pub work : WorkValue
+  pub runs : IsRunning live building build work
+  pub fine : work.spoiled ≡ None
+  pub loaded : is_some work.built ≡ true
+
+-- both ends of the side-file's ring were looked at, and nothing else changed
+pub record SideIsLooked (live : LiveValue) (building : BuildingValue) (new_live : LiveValue) (new_building : BuildingValue) : Type 0 where
+  pub put : new_live ≡ record live { side = new_live.side }
+  pub taken : new_building ≡ record building { side = new_building.side }
+  pub looked : HasLookedAtSide live.side building.side new_live.side new_building.side
+
+-- the most entries that one call feeds: at most so many, at most a ring's, and as many as are left
+abbrev pub least_fed : BuildState → List LogRec → ℕ → ℕ → ℕ
+least_fed b log index most = min most (min ring_most (unfed b log index (slice_get b.specs index)))
+
+-- the next entries of the index's side-file went into its ring, as many as this end knew places for
+pub record HasFed (index most : ℕ) (live : LiveValue) (count : ℕ) (new : LiveValue) : Type 0 where
+  pub build : BuildState
+  pub runs : live.state.build ≡ Some build
+  pub within : count ≤ least_fed build live.state.heap.log index most
+  pub exact : least_fed build live.state.heap.log index most ≤ live.side.free → count ≡ least_fed build live.state.heap.log index most
+  -- a place that was never used is known to be free
+  pub first : least_fed build live.state.heap.log index most + length live.side.sent ≤ ring_most → count ≡ least_fed build live.state.heap.log index most
+  pub left : new.state ≡ record live.state { build = Some (after_feed build index count) }
+  pub pages : new.pages ≡ live.pages

@@ -38,7 +38,7 @@ pub record BuildState : Type 0 where
   pub workers : ℕ
   -- the pages that were copied since, in that order
   pub scans : List Scan
-  -- how many entries of each index's side-file went into its ring: none before the switch, as yet
+  -- how many entries of each index's side-file went into its ring
   pub fed : List ℕ
 
 -- what a build has read of the table, for one of its indexes
@@ -57,8 +57,7 @@ pub record WorkerState : Type 0 where
   pub taken : ℕ
   pub sealed : ℕ
 
--- an index of the build: whether its pairs are in order, and how many entries of its side-file it applied since: none
--- before the switch, as yet
+-- an index of the build: whether its pairs are in order, and how many entries of its side-file were applied to them since
 pub record IndexState : Type 0 where
   pub loaded : Bool
   pub applied : ℕ
@@ -73,9 +72,9 @@ pub record WorkState : Type 0 where
 abbrev pub idle : WorkState
 idle = record { workers = []; indexes = []; spoiled = None }
 
--- the build can't go on for that fault, and what its workers did doesn't count any more
-abbrev pub spoiled_work : Fault → WorkState
-spoiled_work fault = record { workers = []; indexes = []; spoiled = Some fault }
+-- the build can't go on for that fault, and what its workers did doesn't count any more; entries may still wait in a ring
+abbrev pub spoiled_work : Fault → WorkState → WorkState
+spoiled_work fault work = record { workers = []; indexes = work.indexes; spoiled = Some fault }
 
 -- the spools beside a table: pool and quota of the account behind each, if there is one, and of those that are left for the next
 -- start, whether each is empty

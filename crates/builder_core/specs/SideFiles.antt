@@ -1,5 +1,5 @@
 -- The side-file of a running build, and what a change of a row appends to it.
-use Rattle.std.specs.Prelude.{◌≡◌, ℕ, Bool, ◌||◌, nat_le, is_some, if◌then◌else◌, List, [], ◌∷◌, length, map, drop, get_or, Option, Some, None}
+use Rattle.std.specs.Prelude.{◌≡◌, ℕ, ◌+◌, ◌-◌, ◌≤◌, ◌++◌, Bool, ◌||◌, nat_le, is_some, if◌then◌else◌, List, [], ◌∷◌, length, map, drop, get_or, Option, Some, None}
 use Rattle.std.specs.List.{All, slice_get}
 use Rattle.keybytes.specs.Keys.{KeySpecValue, IsKeyOf}
 use Rattle.keybytes.specs.Pairs.{pair_with}
@@ -8,11 +8,14 @@ use Rattle.keybytes.specs.declared.fault.Fault.{Fault}
 use Rattle.keybytes.specs.declared.fault.Fault.TheVariants.{NoBuild, BadCount}
 use Rattle.keybytes.specs.declared.rid.Rid.{Rid}
 use Rattle.heap_log.specs.declared.record.LogRec.{LogRec}
-use Rattle.side_file.specs.Ends.{RingId, PutEnd}
+use Rattle.side_file.specs.Changes.{all_appended}
+use Rattle.side_file.specs.Ends.{PutEnd}
+use Rattle.side_file.specs.Kept.{last_ones}
 use Rattle.side_file.specs.Entries.{entry_of}
 use Rattle.side_file.specs.SideFileValue.{SideFileValue}
 use Rattle.side_file.specs.declared.entry.Entry.{Entry}
 use Rattle.visibility.specs.SideEntries.{SideEntry, changes}
+use Rattle.building.specs.TakeEnd.{TakeEnd, PutEndLooked}
 use Rattle.builder_core.specs.CoreState.{BuildState, scanning_of}
 use Rattle.builder_core.specs.Scanning.{scanned_at}
 use Rattle.builder_core.specs.SideEntries.{side_entries}
@@ -26,12 +29,11 @@ sees b rid = nat_le b.pages rid.page || is_some (scanned_at b.scans rid.page)
 abbrev pub noted : BuildState → KeySpecValue → Rid → Option (List Cell) → Option (List Cell) → List SideEntry
 noted b spec rid old new = if sees b rid then changes (pair_with spec rid old) (pair_with spec rid new) else []
 
--- the side-file has that build's entries, under its number, and none of them was fed
+-- the side-file has that build's entries, fed or left, under its number
 pub record HasEntries (log : List LogRec) (b : BuildState) (side : SideFileValue) : Type 0 where
-  pub entries : (spec : KeySpecValue) → b.specs ≡ spec ∷ [] → side.left ≡ map (entry_of b.number) (side_entries (scanning_of b spec) log)
+  pub entries : (spec : KeySpecValue) → b.specs ≡ spec ∷ [] → all_appended side ≡ map (entry_of b.number) (side_entries (scanning_of b spec) log)
   -- each has the key of a row
-  pub keys : (spec : KeySpecValue) → b.specs ≡ spec ∷ [] → All (λ entry. IsKeyOf spec entry.key) side.left
-  pub none_fed : side.fed ≡ []
+  pub keys : (spec : KeySpecValue) → b.specs ≡ spec ∷ [] → All (λ entry. IsKeyOf spec entry.key) (all_appended side)
   pub count : b.fed ≡ length side.fed ∷ []
 
 -- the side-file has the entries of the running build, if one runs
@@ -39,10 +41,23 @@ abbrev pub SideFollows : List LogRec → Option BuildState → SideFileValue →
 SideFollows log None side = Unit {0}
 SideFollows log (Some b) side = HasEntries log b side
 
--- both ends are of one ring, and what was put into it was taken out
-pub record IsDrained (put : PutEnd Entry) (ring : RingId) (received : List Entry) : Type 0 where
-  pub same_ring : put.ring ≡ ring
-  pub nothing_left : received ≡ put.sent
+-- both ends are of one ring, and of so many entries that it was sent last, all but so many wait in it
+pub record IsFed (fed applied : ℕ) (put : PutEnd Entry) (end : TakeEnd Entry) : Type 0 where
+  pub same_ring : put.ring ≡ end.ring
+  pub waiting : end.received ++ last_ones (fed - applied) put.sent ≡ put.sent
+  pub counted : applied ≤ fed
+
+-- both ends of the side-file's ring were looked at, and nothing was put or taken
+pub record HasLookedAtSide (put : PutEnd Entry) (end : TakeEnd Entry) (new_put : PutEnd Entry) (new_end : TakeEnd Entry) : Type 0 where
+  pub put_end : PutEndLooked put new_put
+  pub ring : new_end.ring ≡ end.ring
+  pub received : new_end.received ≡ end.received
+
+-- all that waits is seen at the end that takes, and at the other all that is free
+pub record SeesSide (waiting : ℕ) (put : PutEnd Entry) (end : TakeEnd Entry) : Type 0 where
+  pub in_order : end.received ++ end.known ≡ put.sent
+  pub counted : waiting ≡ length end.known
+  pub free : 256 ≤ put.free + waiting
 
 -- why there is no side-file of that index
 abbrev pub side_refusal : Option BuildState → ℕ → Option Fault

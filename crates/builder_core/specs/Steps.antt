@@ -1,5 +1,5 @@
 -- What each event does and why it is refused; one step, and a run of events.
-use Rattle.std.specs.Prelude.{◌≡◌, ℕ, ◌+◌, ◌<◌, Bool, true, false, ◌&&◌, ◌||◌, not, ◌==◌, nat_lt, nat_le, min, if◌then◌else◌, is_some, is_none, List, []}
+use Rattle.std.specs.Prelude.{◌≡◌, ℕ, ◌+◌, ◌-◌, ◌<◌, ◌≤◌, Bool, true, false, ◌&&◌, ◌||◌, not, ◌==◌, nat_lt, nat_le, min, if◌then◌else◌, is_some, is_none, List, []}
 use Rattle.std.specs.Prelude.{◌∷◌, ◌++◌, ◌*◌, ◌⊎◌, length, map, replicate, get_or, set, Option, Some, None, Result, Ok, Err}
 use Rattle.std.specs.List.{list_any, list_all, range_with_len, slice_get}
 use Rattle.std.specs.Option.{option_map}
@@ -20,15 +20,15 @@ use Rattle.heap_table.specs.Pages.{pages_written}
 use Rattle.heap_table.specs.TablePairs.{pairs_at_rest}
 use Rattle.builder_core.specs.declared.plan.Plan.{Plan}
 use Rattle.builder_core.specs.declared.event.Event.{Event}
-use Rattle.builder_core.specs.declared.event.Event.TheVariants.{Begin, Insert, Update, Delete, Undo, Commit, Start, Scan, Digest, Seal, Load, Switch, Abandon}
+use Rattle.builder_core.specs.declared.event.Event.TheVariants.{Begin, Insert, Update, Delete, Undo, Commit, Start, Scan, Digest, Seal, Load, Feed, Apply, Switch, Abandon}
 use Rattle.builder_core.specs.declared.reply.Reply.{Reply}
-use Rattle.builder_core.specs.declared.reply.Reply.TheVariants.{Begun, Written, Undone, Committed, Started, Scanned, Digested, Sealed, Loaded, Switched}
+use Rattle.builder_core.specs.declared.reply.Reply.TheVariants.{Begun, Written, Undone, Committed, Started, Scanned, Digested, Sealed, Loaded, Fed, Applied, Switched}
 use Rattle.builder_core.specs.declared.reply.Reply.TheVariants.{Abandoned, Refused}
 use Rattle.builder_core.specs.CoreState.{ReadyValue, BuildState, LiveState, IndexState, WorkState, SpoolsState, CoreState, scanning_of, live_with_heap, with_live}
 use Rattle.builder_core.specs.CoreState.{opening, idle, spoiled_work, all_given}
 use Rattle.builder_core.specs.Ranges.{dealt_ends, dealing_refusal, next_page, open_range}
 use Rattle.builder_core.specs.Scanning.{scanned_pairs}
-use Rattle.builder_core.specs.Workers.{put_to, worker_at, waiting, loud_worker, unloaded_index, all_unapplied}
+use Rattle.builder_core.specs.Workers.{put_to, worker_at, waiting, loud_worker, index_at, unloaded_index, all_entries, all_unapplied, fed_to, unfed, in_ring}
 
 -- the cause where the test holds
 abbrev pub cause_if : Bool → Fault → Option Fault
@@ -127,7 +127,7 @@ Starts plan s pages new =
       spools = all_given s.spools;
     })
 
--- Scan, Digest, Seal, Load, Switch and Abandon.
+-- Scan, Digest, Seal, Load, Feed, Apply, Switch and Abandon.
 
 -- why the running build refuses an event; that none runs is a reason too
 abbrev pub build_cause : Option BuildState → (BuildState → Option Fault) → Option Fault
@@ -201,13 +201,9 @@ Seals worker s images new =
 -- why no pairs are put in order
 abbrev pub load_refusal : BuildState → CoreState → ℕ → Option Fault
 load_refusal b s index =
-    first_cause (cause_if (nat_le (length b.specs) index) BadCount)
+    first_cause (index_refusal b index)
     (first_cause s.work.spoiled
     (first_cause (option_map NotScanned (open_range b)) (option_map NotSealed (loud_worker b s.live.heap.log s.work))))
-
--- an index of the build
-abbrev pub index_at : WorkState → ℕ → IndexState
-index_at work index = get_or work.indexes index (record { loaded = false; applied = 0 })
 
 -- how many pairs of that specification the copied pages had
 abbrev pub pairs_copied : BuildState → List LogRec → Option KeySpecValue → ℕ
@@ -216,14 +212,63 @@ pairs_copied b log (Some spec) = length (scanned_pairs (scanning_of b spec) log)
 
 -- the index's pairs are in order
 abbrev pub after_load : WorkState → ℕ → WorkState
-after_load work index = record work { indexes = set work.indexes index (record (index_at work index) { loaded = true }) }
+after_load work index = record work { indexes = set work.indexes index (record (index_at work.indexes index) { loaded = true }) }
 
 -- answered with the number of pairs; 0 where they were in order already
 abbrev pub Loads : ℕ → CoreState → ℕ → CoreState → Type 0
 Loads index s pairs new =
     OnBuild s.live.build (λ b.
-    (pairs ≡ (if (index_at s.work index).loaded then 0 else pairs_copied b s.live.heap.log (slice_get b.specs index)))
+    (pairs ≡ (if (index_at s.work.indexes index).loaded then 0 else pairs_copied b s.live.heap.log (slice_get b.specs index)))
     × (new ≡ record s { work = after_load s.work index }))
+
+-- the most entries that wait in the ring of a side-file
+abbrev pub ring_most : ℕ
+ring_most = 256
+
+-- an index that isn't there
+abbrev pub index_refusal : BuildState → ℕ → Option Fault
+index_refusal b index = cause_if (nat_le (length b.specs) index) BadCount
+
+-- how many entries go into the ring at once: at most so many, as many as are left, and as many as it has room for
+abbrev pub next_fed : BuildState → List LogRec → WorkState → ℕ → ℕ → ℕ
+next_fed b log work index most = min most (min (unfed b log index (slice_get b.specs index)) (ring_most - in_ring b work index))
+
+-- the next entries of the index's side-file went into its ring
+abbrev pub after_feed : BuildState → ℕ → ℕ → BuildState
+after_feed b index count = record b { fed = set b.fed index (fed_to b index + count) }
+
+-- answered with their number
+abbrev pub Feeds : ℕ → ℕ → CoreState → ℕ → CoreState → Type 0
+Feeds index most s count new =
+    OnBuild s.live.build (λ b.
+    (count ≡ next_fed b s.live.heap.log s.work index most)
+    × (new ≡ with_live s (record s.live { build = Some (after_feed b index count) })))
+
+-- why no entries are applied to the index
+abbrev pub apply_refusal : BuildState → WorkState → ℕ → Option Fault
+apply_refusal b work index =
+    first_cause (index_refusal b index)
+    (first_cause work.spoiled (cause_if (not (index_at work.indexes index).loaded) (NotLoaded index)))
+
+-- how many entries are applied at once: at most so many of those that wait in the ring
+abbrev pub next_applied : BuildState → WorkState → ℕ → ℕ → ℕ
+next_applied b work index most = min most (in_ring b work index)
+
+-- so many entries more were applied to the index
+abbrev pub after_apply : WorkState → ℕ → ℕ → WorkState
+after_apply work index count =
+    let old = index_at work.indexes index in
+    record work { indexes = set work.indexes index (record old { applied = old.applied + count }) }
+
+-- answered with their number
+abbrev pub Applies : ℕ → ℕ → CoreState → ℕ → CoreState → Type 0
+Applies index most s count new =
+    OnBuild s.live.build (λ b. (count ≡ next_applied b s.work index most) × (new ≡ record s { work = after_apply s.work index count }))
+
+-- where memory was wanted, the entries before were applied
+abbrev pub AppliesSome : ℕ → ℕ → CoreState → CoreState → Type 0
+AppliesSome index most s new =
+    OnBuild s.live.build (λ b. (count : ℕ) × (count < next_applied b s.work index most) × (new ≡ record s { work = after_apply s.work index count }))
 
 -- the most entries that a switch applies, over all indexes
 abbrev pub switch_most : ℕ
@@ -267,6 +312,28 @@ Switches s told new =
     (told.0 ≡ length s.live.heap.log + 1) × (told.1 ≡ verdicts_on s.live b)
     × (new ≡ record s { live = after_switch_in s.live b; work = idle }))
 
+-- an index is further: more of its so many entries may have gone into the ring, and more may have been applied
+pub record IsFurther (entries fed : ℕ) (index : IndexState) (new_fed : ℕ) (new : IndexState) : Type 0 where
+  pub loaded : new.loaded ≡ index.loaded
+  pub fed_more : fed ≤ new_fed
+  pub applied_more : index.applied ≤ new.applied
+  pub applied_were_fed : new.applied ≤ new_fed
+  pub fed_were_there : new_fed ≤ entries
+
+-- each index of the build is
+pub record AreFurther (b : BuildState) (log : List LogRec) (indexes : List IndexState) (fed : List ℕ) (new : List IndexState) : Type 0 where
+  pub fed_many : length fed ≡ length b.fed
+  pub indexes_many : length new ≡ length indexes
+  pub each : (index : ℕ) (spec : KeySpecValue) → slice_get b.specs index ≡ Some spec
+      → IsFurther (all_entries b log spec) (fed_to b index) (index_at indexes index) (get_or fed index 0) (index_at new index)
+
+-- where memory was wanted at a switch, some of the entries were fed and applied, and nothing else changed
+abbrev pub CatchesUp : CoreState → CoreState → Type 0
+CatchesUp s new =
+    OnBuild s.live.build (λ b.
+    (fed : List ℕ) × (indexes : List IndexState) × AreFurther b s.live.heap.log s.work.indexes fed indexes
+    × (new ≡ record s { live = record s.live { build = Some (record b { fed = fed }) }; work = record s.work { indexes = indexes } }))
+
 -- the build is given up, and with it all its work
 abbrev pub Abandons : CoreState → CoreState → Type 0
 Abandons s new = new ≡ opening s.live s.spools
@@ -286,6 +353,8 @@ refusal s (Scan range worker) = build_cause s.live.build (λ b. scan_refusal b s
 refusal s (Digest worker) = build_cause s.live.build (λ b. worker_refusal b s.work worker)
 refusal s (Seal worker) = build_cause s.live.build (λ b. worker_refusal b s.work worker)
 refusal s (Load index) = build_cause s.live.build (λ b. load_refusal b s index)
+refusal s (Feed index most) = build_cause s.live.build (λ b. index_refusal b index)
+refusal s (Apply index most) = build_cause s.live.build (λ b. apply_refusal b s.work index)
 refusal s Switch = build_cause s.live.build (λ b. switch_refusal b s.live.heap.log s.work)
 refusal s Abandon = build_cause s.live.build (λ b. None)
 
@@ -306,12 +375,14 @@ Does s (Scan range worker) reply new = Tells Scanned (OnLive (Scans range worker
 Does s (Digest worker) reply new = Tells Digested (Digests worker) s reply new
 Does s (Seal worker) reply new = Tells Sealed (Seals worker) s reply new
 Does s (Load index) reply new = Tells Loaded (Loads index) s reply new
+Does s (Feed index most) reply new = Tells Fed (Feeds index most) s reply new
+Does s (Apply index most) reply new = Tells Applied (Applies index most) s reply new
 Does s Switch reply new = Tells (λ told. Switched told.0 told.1) Switches s reply new
 Does s Abandon reply new = (reply ≡ Abandoned) × Abandons s new
 
 -- the build can't go on for that fault
 abbrev pub spoiled_by : Fault → CoreState → CoreState
-spoiled_by fault s = record s { work = spoiled_work fault }
+spoiled_by fault s = record s { work = spoiled_work fault s.work }
 
 -- what may be wanted and not be there: memory, or a page for the pairs
 abbrev pub IsWorkWant : Fault → Type 0
@@ -330,11 +401,15 @@ IsWant (Scan range worker) fault = fault ≡ Memory
 IsWant (Digest worker) fault = IsWorkWant fault
 IsWant (Seal worker) fault = IsWorkWant fault
 IsWant (Load index) fault = fault ≡ Memory
+-- to feed a ring takes no memory
+IsWant (Feed index most) fault = ⊥
+IsWant (Apply index most) fault = fault ≡ Memory
 IsWant Switch fault = fault ≡ Memory
 -- to give a build up takes no memory
 IsWant Abandon fault = ⊥
 
--- what want leaves: it changes nothing, but spoils a build whose pairs were being spooled or put in order
+-- what want leaves: it changes nothing, but spoils a build whose pairs were being spooled or put in order, and what was applied stays
+-- applied
 abbrev pub AfterWant : Event → Fault → CoreState → CoreState → Type 0
 AfterWant Begin fault s new = new ≡ s
 AfterWant (Insert txn row) fault s new = new ≡ s
@@ -346,8 +421,10 @@ AfterWant (Start plan) fault s new = new ≡ s
 AfterWant (Scan range worker) fault s new = new ≡ s
 AfterWant (Digest worker) fault s new = Waits worker s × (new ≡ spoiled_by fault s)
 AfterWant (Seal worker) fault s new = new ≡ spoiled_by fault s
-AfterWant (Load index) fault s new = ((index_at s.work index).loaded ≡ false) × (new ≡ spoiled_by fault s)
-AfterWant Switch fault s new = new ≡ s
+AfterWant (Load index) fault s new = ((index_at s.work.indexes index).loaded ≡ false) × (new ≡ spoiled_by fault s)
+AfterWant (Feed index most) fault s new = ⊥
+AfterWant (Apply index most) fault s new = AppliesSome index most s new
+AfterWant Switch fault s new = CatchesUp s new
 AfterWant Abandon fault s new = ⊥
 
 -- an event is refused for a fault: it has that cause, and nothing changes; or it has none, and wants what isn't there

@@ -1,5 +1,5 @@
 -- What was put to the workers of a build, and what they have done with it.
-use Rattle.std.specs.Prelude.{ℕ, ◌+◌, ◌-◌, ◌%◌, Bool, ◌&&◌, not, ◌==◌, List, [], ◌∷◌, filter, length, take, drop, flat_map, get_or, Option}
+use Rattle.std.specs.Prelude.{ℕ, ◌+◌, ◌-◌, ◌%◌, Bool, false, ◌&&◌, not, ◌==◌, List, [], ◌∷◌, filter, length, take, drop, flat_map, get_or, Option, Some, None}
 use Rattle.std.specs.List.{range_with_len, position, list_all}
 use Rattle.keybytes.specs.Keys.{KeySpecValue}
 use Rattle.keybytes.specs.declared.pair.Pair.{Pair}
@@ -40,16 +40,37 @@ is_quiet b log worker state =
 abbrev pub loud_worker : BuildState → List LogRec → WorkState → Option ℕ
 loud_worker b log work = first_that (λ worker. not (is_quiet b log worker (worker_at work worker))) (range_with_len 0 (length work.workers))
 
+-- an index of the build
+abbrev pub index_at : List IndexState → ℕ → IndexState
+index_at indexes index = get_or indexes index (record { loaded = false; applied = 0 })
+
 -- the lowest index whose pairs are not in order
 abbrev pub unloaded_index : WorkState → Option ℕ
 unloaded_index work = position (λ index. not index.loaded) work.indexes
 
--- how many entries of an index's side-file its list of pairs has not applied
+-- how many entries the side-file of an index had so far
+abbrev pub all_entries : BuildState → List LogRec → KeySpecValue → ℕ
+all_entries b log spec = length (side_entries (scanning_of b spec) log)
+
+-- how many of them its pairs have not applied
 abbrev pub unapplied : BuildState → List LogRec → KeySpecValue → IndexState → ℕ
-unapplied b log spec index = length (side_entries (scanning_of b spec) log) - index.applied
+unapplied b log spec index = all_entries b log spec - index.applied
 
 -- the same over all indexes
 abbrev pub all_unapplied : BuildState → List LogRec → List KeySpecValue → List IndexState → ℕ
 all_unapplied b log [] indexes = 0
 all_unapplied b log (spec ∷ specs) [] = 0
 all_unapplied b log (spec ∷ specs) (index ∷ indexes) = unapplied b log spec index + all_unapplied b log specs indexes
+
+-- how many of them went into the ring
+abbrev pub fed_to : BuildState → ℕ → ℕ
+fed_to b index = get_or b.fed index 0
+
+-- and how many did not
+abbrev pub unfed : BuildState → List LogRec → ℕ → Option KeySpecValue → ℕ
+unfed b log index None = 0
+unfed b log index (Some spec) = all_entries b log spec - fed_to b index
+
+-- how many wait in the ring to be applied
+abbrev pub in_ring : BuildState → WorkState → ℕ → ℕ
+in_ring b work index = fed_to b index - (index_at work.indexes index).applied

@@ -1,10 +1,15 @@
--- What the workers of a build do, and what that leaves beside the table.
-use Rattle.std.specs.Prelude.{◌≡◌, ℕ, ◌≤◌, List, [], length, map, set, is_some, true, Some, None, IsPermutation}
-use Rattle.std.specs.List.{slice_get}
+-- What the workers of a build do, and the entries that are applied to its index, and what that leaves beside the table.
+use Rattle.std.specs.Prelude.{◌≡◌, ℕ, ◌+◌, ◌^◌, ◌<◌, ◌≤◌, List, [], ◌++◌, length, map, set, take, is_some, true, Some, None, IsPermutation}
+use Rattle.std.specs.List.{slice_get, IsDistinct}
+use Rattle.std.specs.Ordering.{eq_by_cmp}
 use Rattle.keybytes.specs.Keys.{KeySpecValue}
 use Rattle.keybytes.specs.declared.fault.Fault.{Fault}
 use Rattle.keybytes.specs.declared.pair.Pair.{Pair}
-use Rattle.heap_table.proofs.PairsAtRest.{InOrder}
+use Rattle.keybytes.specs.Pairs.{AreOrdered, pair_cmp, set_of}
+use Rattle.side_file.specs.declared.entry.Entry.{Entry}
+use Rattle.visibility.specs.Applied.{apply_entries}
+use Rattle.catch_up.specs.Built.{BuiltValue, told_to}
+use Rattle.building.specs.TakeEnd.{TakeEnd}
 use Rattle.heap_table.specs.Images.{ImageValue}
 use Rattle.run_spool.specs.Spools.{all_pairs}
 use Rattle.run_maker.specs.Making.{MakerValue}
@@ -87,15 +92,43 @@ pub record IsSpoiled (fault : Fault) (old new : BuildingValue) : Type 0 where
 -- the pairs of all spools are put in order; answered with their number
 pub record HasSorted (work : WorkValue) (old : BuildingValue) (count : ℕ) (new : BuildingValue) : Type 0 where
   pub pairs : List Pair
-  pub room : ℕ
   pub moved : IsPermutation (all_pairs (all_runs (map (λ (spool : SpoolValue). spool.runs) old.spools))) pairs
-  pub sorted : InOrder pairs
+  pub ordered : AreOrdered pairs
   pub counted : count ≡ length pairs
-  pub left : new ≡ record old { spools = map ended_spool old.spools; work = Some (after_sort work pairs room) }
+  pub left : new ≡ record old { spools = map ended_spool old.spools; work = Some (after_sort work pairs) }
+
+-- no pair is there twice: in some order they are those of a list that has none twice
+abbrev pub AreEachOnce : List Pair → Type 0
+AreEachOnce pairs = (others : List Pair) × IsDistinct (eq_by_cmp pair_cmp) others × IsPermutation others pairs
 
 -- a load: the pairs are put in order, or were so before
 pub record HasLoaded (old : BuildingValue) (count : ℕ) (new : BuildingValue) : Type 0 where
   pub work : WorkValue
   pub runs : old.work ≡ Some work
-  pub again : is_some work.tree ≡ true → (count ≡ 0) × (new ≡ old)
-  pub first : work.tree ≡ None → HasSorted work old count new
+  pub again : is_some work.built ≡ true → (count ≡ 0) × (new ≡ old)
+  pub first : work.built ≡ None → HasSorted work old count new
+
+-- the next entries that the side-file's ring is seen to have can be applied, so many of them
+pub record CanApply (count : ℕ) (building : BuildingValue) : Type 0 where
+  pub work : WorkValue
+  pub runs : building.work ≡ Some work
+  pub loaded : is_some work.built ≡ true
+  pub seen : count ≤ length building.side.known
+  pub countable : work.applied + count < 2 ^ 64
+
+-- the first so many of them were taken from the ring, and those of its build were applied to the index
+pub record HasApplied (old : BuildingValue) (count : ℕ) (new : BuildingValue) : Type 0 where
+  pub work : WorkValue
+  pub runs : old.work ≡ Some work
+  pub before : BuiltValue
+  pub built : work.built ≡ Some before
+  pub pairs : List Pair
+  pub applied : set_of pairs ≡ apply_entries (told_to before.build (take count old.side.known)) (set_of before.pairs)
+  pub ordered : AreOrdered pairs
+  pub end : TakeEnd Entry
+  pub ring : end.ring ≡ old.side.ring
+  pub received : end.received ≡ old.side.received ++ take count old.side.known
+  pub left : new ≡ record old {
+    side = end;
+    work = Some (record work { built = Some (record { build = before.build; pairs = pairs }); applied = work.applied + count });
+  }

@@ -1,18 +1,20 @@
 //! What stands beside a table.
-ghost use Rattle.std.specs.Prelude.{◌≡◌, ◌≤◌, ◌⊎◌, [], All, length, map, false, None, Some, IsSome, IfSome, IfOk, IfErr, OnErr, MatchOption};
+ghost use Rattle.std.specs.Prelude.{◌≡◌, ℕ, ◌<◌, ◌≤◌, ◌⊎◌, drop, OnOk, [], All, length, map, false, None, Some, IsSome, IfSome, IfOk, IfErr, OnErr, MatchOption};
 ghost use Rattle.std.specs.List.{list_all};
-ghost use Rattle.run_spool.specs.Spools.{AreSorted};
+ghost use Rattle.run_spool.specs.Spools.{AreSorted, all_pairs};
+ghost use Rattle.run_merge.specs.Merging.{all_runs};
 ghost use Rattle.building.specs.Work.{after_seal};
 ghost use Rattle.builder_core.specs.Builds.{given_up};
 ghost use Rattle.builder_core.specs.Holding.{spool_value, spools_state, Digested, Sealed};
-ghost use Rattle.builder_core.specs.Working.{CanTake, HasTaken, one_copy, all_copies, HasLoaded, IsSpoiled};
+ghost use Rattle.builder_core.specs.Working.{CanTake, HasTaken, one_copy, all_copies, AreEachOnce, HasLoaded, CanApply, HasApplied, IsSpoiled};
 
 use crate::ending::end_spools;
-use crate::merging::merged_pairs;
+use crate::merging::merged_tree;
 use crate::taking::{digest_at, seal_at};
 use crate::work::Work;
 use crate::{Ends, Table};
 use building::Worker;
+use catch_up::{Built, apply};
 use keybytes::Fault;
 use rtrb::Consumer;
 use run_spool::{Spool, are_empty};
@@ -206,9 +208,10 @@ impl<S: Spool, T: Table> Building<S, T> {
     /// spoils the build.
     pub(crate) fn load(&mut self, alloc: Global) -> Result<usize, Fault>
         requires runs { IsSome self.old.work }
-        requires sorted { IfSome self.old.work (λ work. work.tree ≡ None → All AreSorted (map (λ spool. spool.runs) self.old.spools)) }
+        requires sorted { IfSome self.old.work (λ work. work.built ≡ None → All AreSorted (map (λ spool. spool.runs) self.old.spools)) }
+        requires once { IfSome self.old.work (λ work. work.built ≡ None → AreEachOnce (all_pairs (all_runs (map (λ spool. spool.runs) self.old.spools)))) }
         ensures loaded { IfOk result (λ count. HasLoaded self.old count self.new) }
-        ensures first { OnErr result (IfSome self.old.work (λ work. work.tree ≡ None)) }
+        ensures first { OnErr result (IfSome self.old.work (λ work. work.built ≡ None)) }
         ensures spoiled { IfErr result (λ fault. IsSpoiled fault self.old self.new) }
         ensures memory { IfErr result (λ fault. fault ≡ Fault.Memory) }
     {
@@ -218,16 +221,50 @@ impl<S: Spool, T: Table> Building<S, T> {
         if work.is_loaded() {
             return Ok(0);
         }
-        let pairs = match merged_pairs(alloc, &mut self.spools) {
-            Ok(pairs) => pairs,
+        let tree = match merged_tree(alloc, &mut self.spools) {
+            Ok(tree) => tree,
             Err(fault) => {
                 work.spoiled = Some(fault);
                 return Err(fault);
             }
         };
-        let count = pairs.len();
-        work.tree = Some(pairs);
+        let count = tree.len();
+        tree.laws();
+        work.built = Some(Built::new(work.build, tree));
         Ok(count)
+    }
+
+    /// Applies the next entries that the side-file's ring is seen to have, and answers how many. Those that were applied before
+    /// memory was wanted stay applied.
+    pub(crate) fn apply(&mut self, count: usize) -> Result<usize, Fault>
+        requires { CanApply count self.old }
+        ensures applied { IfOk result (λ entries. (entries ≡ count) × HasApplied self.old count self.new) }
+        ensures some { OnErr result ((entries : ℕ) × (entries < count) × HasApplied self.old entries self.new) }
+        ensures memory { IfErr result (λ fault. fault ≡ Fault.Memory) }
+    {
+        for _ in 0..count {
+            self.apply_next()?;
+        }
+        Ok(count)
+    }
+
+    /// Applies the next entry.
+    fn apply_next(&mut self) -> Result<(), Fault>
+        requires { CanApply 1 self.old }
+        ensures applied { OnOk result (HasApplied self.old 1 self.new) }
+        ensures unchanged { OnErr result (HasApplied self.old 0 self.new) }
+        ensures known { OnOk result (drop 1 self.old.side.known ≡ self.new.side.known) }
+        ensures memory { IfErr result (λ fault. fault ≡ Fault.Memory) }
+    {
+        let Some(work) = &mut self.work else {
+            unreachable!()
+        };
+        let Some(built) = &mut work.built else {
+            unreachable!()
+        };
+        apply(built, &mut self.side_end, 1)?;
+        work.applied += 1;
+        Ok(())
     }
 
     /// Gives the work of the build up, and ends the spools. Takes no memory.

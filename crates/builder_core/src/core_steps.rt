@@ -113,8 +113,8 @@ impl<S: Spool, T: Table> Core<S, T> {
         ensures follow { ReadyFollowTable self.now.live }
     {
         let index = self.live.ready().get(number).ok_or(Fault::BadCount)?;
-        // They tell their order.
-        let _pairs = index.pairs();
+        // It tells their order.
+        let _tree = index.tree();
         Ok(index)
     }
 
@@ -223,6 +223,8 @@ impl<S: Spool, T: Table> Core<S, T> {
             Event::Digest { worker } => self.digest(*worker),
             Event::Seal { worker } => self.seal(*worker),
             Event::Load { index } => self.load(*index),
+            Event::Feed { index, most } => self.feed(*index, *most),
+            Event::Apply { index, most } => self.apply(*index, *most),
             Event::Switch => self.switch(),
             Event::Abandon => self.abandon(),
         }
@@ -325,6 +327,21 @@ impl<S: Spool, T: Table> Core<S, T> {
         self.live.check_load(index, &mut self.building)?;
         let pairs = self.live.load(&mut self.building)?;
         Ok(Reply::Loaded { pairs })
+    }
+
+    fn feed(&mut self, index: usize, most: usize) -> Result<Reply, Fault>
+        ensures { Answers self.old (Event.Feed index most) result self.new }
+    {
+        let entries = self.live.feed_beside(index, most, &mut self.building)?;
+        Ok(Reply::Fed { entries })
+    }
+
+    fn apply(&mut self, index: usize, most: usize) -> Result<Reply, Fault>
+        ensures { Answers self.old (Event.Apply index most) result self.new }
+    {
+        self.live.check_apply(index, &self.building)?;
+        let entries = self.live.apply(most, &mut self.building)?;
+        Ok(Reply::Applied { entries })
     }
 
     fn switch(&mut self) -> Result<Reply, Fault>

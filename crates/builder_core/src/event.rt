@@ -6,7 +6,7 @@ use keybytes::{Rid, Row};
 /// Behind what each event does stand the faults that refuse it: where several have their cause, the first is answered. A row is
 /// changed only while no index is ready, for now. [`Fault::Memory`] is answered only where none of them has its cause, and so is
 /// [`Fault::NoPage`] of a digest or a seal, where a spool had no room for a pair. In a digest, a seal or a load either spoils the
-/// build: a scan, a digest, a seal, a load and a switch are then refused so, right behind [`Fault::NoBuild`] and [`Fault::BadCount`].
+/// build: a scan, a digest, a seal, a load, an apply and a switch are then refused so, right behind [`Fault::NoBuild`] and [`Fault::BadCount`].
 #[derive(Debug, Drop)]
 pub enum Event {
     /// A transaction begins. [`Fault::TooManyTxns`].
@@ -41,6 +41,12 @@ pub enum Event {
     /// The pairs of the index are put in order. [`Fault::NoBuild`], [`Fault::BadCount`]; [`Fault::NotScanned`] with the
     /// lowest range that has a page left; [`Fault::NotSealed`] with the lowest worker for which a copy waits or whose run is open.
     Load { index: usize },
+    /// At most so many entries of the index's side-file go into its ring, which has room for 256. [`Fault::NoBuild`],
+    /// [`Fault::BadCount`].
+    Feed { index: usize, most: usize },
+    /// At most so many entries that wait in the ring are applied to the pairs of the index. [`Fault::NoBuild`], [`Fault::BadCount`],
+    /// [`Fault::NotLoaded`]. Those that were applied before memory was wanted stay applied.
+    Apply { index: usize, most: usize },
     /// The indexes of the build become ready, and the build ends. [`Fault::NoBuild`], [`Fault::NotScanned`],
     /// [`Fault::NotLoaded`]; [`Fault::Behind`] while more than 1,024 entries of the side-file are left to apply.
     Switch,

@@ -21,6 +21,8 @@ mod ends;
 mod event;
 mod live;
 mod live_builds;
+mod live_sides;
+mod live_switch;
 mod live_workers;
 mod live_writes;
 mod merging;

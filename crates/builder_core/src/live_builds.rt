@@ -1,49 +1,32 @@
 //! The steps of a build that touch the table.
-ghost use Rattle.std.specs.Prelude.{◌≡◌, ◌<◌, ◌+◌, ◌∷◌, [], List, length, Some, None, IfOk, IfErr, OnOk, OnErr, IsOk, MatchOption, MatchResult};
-ghost use Rattle.std.specs.Prelude.{true, false, vec_len, vec_capacity, ◌==◌, is_some, IsSome, IfSome, ◌≤◌, ◌-◌, ℕ};
-ghost use Rattle.std.specs.Prelude.{slice_get, map};
+ghost use Rattle.std.specs.Prelude.{◌≡◌, ◌<◌, ◌∷◌, [], length, Some, None, IfOk, IfErr, OnOk, OnErr, IsOk, IsSome, MatchOption, MatchResult};
+ghost use Rattle.std.specs.Prelude.{true, false, ◌==◌, slice_get, map};
 ghost use Rattle.std.specs.List.{list_all};
-ghost use Rattle.builder_core.specs.Rings.{begun_on};
-ghost use Rattle.side_file.specs.Ends.{PutEnd};
-ghost use Rattle.building.specs.declared.copied.Copied.{Copied};
-ghost use Rattle.rtrb.specs.Ring.{received};
 ghost use Rattle.keybytes.specs.Answered.{Answered};
-ghost use Rattle.keybytes.specs.Pairs.{AreOrdered, set_of};
-ghost use Rattle.visibility.specs.Applied.{apply_entries};
-ghost use Rattle.side_file.specs.Ends.{ring_take};
-ghost use Rattle.catch_up.specs.Built.{told_to};
-ghost use Rattle.heap_log.specs.declared.outcome.Outcome.{Outcome};
-ghost use Rattle.heap_table.specs.HeapState.{after_switch};
-ghost use Rattle.heap_table.specs.Pages.{pages_written, KeepsRows};
-ghost use Rattle.builder_core.specs.Builds.{WorkValue, BuildingValue, given_up, core_state, cause_of, put_refusal, page_refusal, MayWork, MayLoad, WorksOn};
+ghost use Rattle.side_file.specs.Ends.{PutEnd};
+ghost use Rattle.heap_table.specs.Pages.{pages_written};
+ghost use Rattle.building.specs.declared.copied.Copied.{Copied};
+ghost use Rattle.builder_core.specs.Builds.{BuildingValue, given_up, core_state, put_refusal, page_refusal, WorksOn};
 ghost use Rattle.builder_core.specs.CoreState.{abandoned};
 ghost use Rattle.builder_core.specs.Ranges.{dealing_refusal, dealt_ends, next_page};
-ghost use Rattle.builder_core.specs.SideFiles.{IsDrained};
-ghost use Rattle.builder_core.specs.Steps.{Starts, Scans, Digests, Seals, Loads, Switches, OnBuild, spoiled_by, start_refusal, counts_fit};
-ghost use Rattle.builder_core.specs.declared.event.Event.{Event};
+ghost use Rattle.builder_core.specs.Rings.{begun_on};
+ghost use Rattle.builder_core.specs.Steps.{Starts, Scans, OnBuild, start_refusal, counts_fit};
 
-use crate::ending::end_spools;
+use crate::live_sides::empty_side;
 use crate::parts::WORKERS_MAX;
 use crate::rings::restart_all;
 use crate::table_scan::TableScan;
 use crate::work::Work;
-use crate::{Building, Dealing, Live, Pair, Plan, ReadyIndex, Table};
+use crate::{Building, Dealing, Live, Plan, Table};
 use building::Copied;
-use catch_up::{Built, catch_up};
-use heap_log::{Outcome, Verdicts};
-use heap_table::{Heap, PageImage};
+use heap_table::PageImage;
 use keybytes::{Fault, KeySpec};
-use rtrb::Consumer;
 use run_spool::Spool;
 use scan_range::Cuts;
-use side_file::{Entry, SideFile};
 use std::alloc::Global;
 
 /// The most indexes that a table may have.
 const READY_MAX: usize = 32;
-
-/// The most entries of the side-file that a switch applies.
-const SWITCH_MAX: usize = 1024;
 
 /// The specification of a plan with one.
 fn only_spec(plan: &Plan) -> Option<&KeySpec>
@@ -98,8 +81,8 @@ impl<T: Table> Live<T> {
         let pages = self.heap.pages();
         let cuts = dealt_cuts(self.alloc, &plan.dealing, pages)?;
         let schema = self.heap.schema();
-        let work = Work::new(self.alloc, schema, spec.clone()?, plan.workers)?;
         let number = self.builds + 1;
+        let work = Work::new(self.alloc, number, schema, spec.clone()?, plan.workers)?;
         let build = TableScan::new(
             self.alloc,
             number,
@@ -216,30 +199,6 @@ impl<T: Table> Live<T> {
         Ok(page)
     }
 
-    /// Why the indexes of the build would not become ready. Takes no memory.
-    fn check_switch<S: Spool>(&self, building: &Building<S, T>) -> Result<(), Fault>
-        requires { WorksOn self.now building.now }
-        ensures { MatchResult result
-            (λ _. cause_of self.now building.now Event.Switch ≡ None)
-            (λ fault. cause_of self.now building.now Event.Switch ≡ Some fault) }
-    {
-        let (Some(build), Some(work)) = (self.build(), building.work()) else {
-            return Err(Fault::NoBuild);
-        };
-        work.check()?;
-        if let Some(range) = build.first_open() {
-            return Err(Fault::NotScanned(range));
-        }
-        if !work.is_loaded() {
-            return Err(Fault::NotLoaded(0));
-        }
-        let left = self.side.left();
-        if left > SWITCH_MAX {
-            return Err(Fault::Behind(left));
-        }
-        Ok(())
-    }
-
     /// Gives the build up. [`Fault::NoBuild`]. Takes no memory.
     pub fn abandon(&mut self) -> Result<(), Fault>
         ensures abandoned { OnOk result (self.new ≡ record self.old { state = abandoned self.old.state }) }
@@ -254,113 +213,4 @@ impl<T: Table> Live<T> {
         self.give_up();
         Ok(())
     }
-
-    /// Makes the indexes of the build ready, and ends it and its spools; answered with the number of the log record, and what became of each
-    /// index. [`Fault::NoBuild`], the fault of a spoiled build, [`Fault::NotScanned`], [`Fault::NotLoaded`],
-    /// [`Fault::Behind`].
-    pub fn switch_in<S: Spool>(
-        &mut self,
-        building: &mut Building<S, T>,
-    ) -> Result<(usize, Verdicts), Fault>
-        requires { WorksOn self.old building.old }
-        ensures switched { Answered (cause_of self.old building.old Event.Switch) Switches
-            (core_state self.old building.old) result (core_state self.new building.new) }
-        ensures works { WorksOn self.new building.new }
-        ensures unchanged { OnErr result (self.new ≡ self.old) }
-    {
-        self.check_switch(building)?;
-        self.heap.laws();
-        make_room(&mut building.work, self.side.left())?;
-        let noted = note_ready(self.alloc, &mut self.heap, &mut self.ready)?;
-        let (Some(build), Some(work)) = (self.build.take(), building.work.take()) else {
-            unreachable!()
-        };
-        let Some(pairs) = work.into_pairs() else {
-            unreachable!()
-        };
-        let pairs = caught_up(
-            build.number(),
-            pairs,
-            &mut self.side,
-            &mut building.side_end,
-        );
-        let spec = build.into_spec();
-        // It tells that its columns make a key, whose bytes are then in the columns' order.
-        let _columns = spec.columns();
-        self.ready.push_reserved(ReadyIndex::new(spec, pairs));
-        end_spools(&mut building.spools);
-        Ok(noted)
-    }
-}
-
-/// Drops all entries, those in the ring too.
-fn empty_side(side: &mut SideFile, end: &mut Consumer<Entry>)
-    requires { side.old.end.ring ≡ ring_take end.old }
-    ensures left { side.new.left ≡ [] }
-    ensures fed { side.new.fed ≡ [] }
-    ensures ring { side.new.end.ring ≡ side.old.end.ring }
-    ensures drained { IsDrained side.new.end (ring_take end.new) (received end.new) }
-{
-    for _ in 0..side.beside(end) {
-        end.pop_known();
-    }
-    side.reset();
-}
-
-/// Notes in the log that one more index is ready, and makes room for it.
-fn note_ready(
-    alloc: Global,
-    heap: &mut Heap,
-    ready: &mut Vec<ReadyIndex>,
-) -> Result<(usize, Verdicts), Fault>
-    ensures number { IfOk result (λ done. done.0 ≡ length heap.old.state.log + 1) }
-    ensures verdicts { IfOk result (λ done. done.1 ≡ Outcome.Ready (length ready.old.items) ∷ []) }
-    ensures noted { OnOk result (heap.new.state ≡ after_switch heap.old.state (Outcome.Ready (length ready.old.items) ∷ [])) }
-    ensures rows { KeepsRows heap.old.state.log heap.new.state.log }
-    ensures room { OnOk result (vec_len ready.new < vec_capacity ready.new) }
-    ensures ready { ready.new.items ≡ ready.old.items }
-    ensures unchanged { OnErr result (heap.new ≡ heap.old) }
-    ensures memory { IfErr result (λ fault. fault ≡ Fault.Memory) }
-{
-    let index = ready.len();
-    ready.reserve(1)?;
-    let noted = vec![in alloc; Outcome::Ready(index)]?;
-    let told = vec![in alloc; Outcome::Ready(index)]?;
-    let number = heap.note(noted)?;
-    Ok((number, Verdicts::new(told)))
-}
-
-/// Makes room for so many more pairs of the index.
-fn make_room(work: &mut Option<Work>, n: usize) -> Result<(), Fault>
-    requires { IfSome work.old (λ w. is_some w.tree ≡ true) }
-    ensures room { OnOk result (IfSome work.new (λ w. n ≤ w.room)) }
-    ensures same { (w : WorkValue) → work.old ≡ Some w → (room : ℕ) × (work.new ≡ Some (record w { room = room })) }
-    ensures none { work.old ≡ None → work.new ≡ None }
-    ensures loaded { IfSome work.new (λ w. is_some w.tree ≡ true) }
-    ensures memory { IfErr result (λ fault. fault ≡ Fault.Memory) }
-{
-    match work {
-        Some(work) => work.make_room(n),
-        None => Ok(()),
-    }
-}
-
-/// The pairs of a build's index once all entries of its side-file are applied to them.
-fn caught_up(
-    number: u64,
-    pairs: Vec<Pair>,
-    side: &mut SideFile,
-    side_end: &mut Consumer<Entry>,
-) -> Vec<Pair>
-    requires ordered { AreOrdered pairs.items }
-    requires drained { IsDrained side.old.end (ring_take side_end.old) (received side_end.old) }
-    requires room { length side.old.left ≤ vec_capacity pairs - vec_len pairs }
-    ensures ordered { AreOrdered result.items }
-    ensures applied { set_of result.items ≡ apply_entries (told_to number side.old.left) (set_of pairs.items) }
-    ensures drained { IsDrained side.new.end (ring_take side_end.new) (received side_end.new) }
-    ensures ring { side.new.end.ring ≡ side.old.end.ring }
-{
-    let mut built = Built::new(number, pairs);
-    catch_up(&mut built, side, side_end);
-    built.into_pairs()
 }

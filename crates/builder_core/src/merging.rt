@@ -1,22 +1,26 @@
-//! The pairs of all spools in order.
+//! The pairs of all spools in a tree.
 ghost use Rattle.std.specs.Prelude.{◌≡◌, All, map, IfOk, IfErr, OnOk, IsPermutation};
 ghost use Rattle.heap_table.proofs.PairsAtRest.{InOrder};
 ghost use Rattle.run_spool.specs.Spools.{AreSorted, all_pairs};
 ghost use Rattle.run_merge.specs.Merging.{all_runs};
 ghost use Rattle.builder_core.specs.Holding.{spool_value, ended_spool};
+ghost use Rattle.builder_core.specs.Working.{AreEachOnce};
 
 use crate::ending::end_spools;
+use btree::Tree;
+use bulk_load::load;
 use keybytes::{Fault, Pair};
 use run_merge::merge;
 use run_spool::Spool;
 use std::alloc::Global;
 use std::mem::replace;
 
-/// Merges the pairs of all closed runs, and then ends the spools. Want of memory may lose some of the pairs, and ends no spool.
-pub fn merged_pairs<S: Spool>(alloc: Global, spools: &mut Vec<S>) -> Result<Vec<Pair>, Fault>
-    requires { All AreSorted (map S.runs spools.old.items) }
-    ensures all { IfOk result (λ pairs. IsPermutation (all_pairs (all_runs (map S.runs spools.old.items))) pairs.items) }
-    ensures sorted { IfOk result (λ pairs. InOrder pairs.items) }
+/// Makes a tree of the pairs of all closed runs, and then ends the spools. Want of memory may lose some of the pairs, and ends
+/// no spool.
+pub fn merged_tree<S: Spool>(alloc: Global, spools: &mut Vec<S>) -> Result<Tree, Fault>
+    requires sorted { All AreSorted (map S.runs spools.old.items) }
+    requires once { AreEachOnce (all_pairs (all_runs (map S.runs spools.old.items))) }
+    ensures all { IfOk result (λ tree. IsPermutation (all_pairs (all_runs (map S.runs spools.old.items))) tree.pairs) }
     ensures ended { OnOk result (map (spool_value S.runs S.open_run S.stake) spools.new.items
         ≡ map ended_spool (map (spool_value S.runs S.open_run S.stake) spools.old.items)) }
     ensures stakes { map S.stake spools.new.items ≡ map S.stake spools.old.items }
@@ -25,9 +29,9 @@ pub fn merged_pairs<S: Spool>(alloc: Global, spools: &mut Vec<S>) -> Result<Vec<
     let lent = replace(spools, Vec::new(alloc));
     let (pairs, back) = merge_all(alloc, lent);
     *spools = back;
-    let pairs = pairs?;
+    let tree = load(alloc, &mut pairs?.into_iter())?;
     end_spools(spools);
-    Ok(pairs)
+    Ok(tree)
 }
 
 /// Merges the pairs of all closed runs of the spools, which are handed back.

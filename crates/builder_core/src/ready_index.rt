@@ -2,15 +2,15 @@ ghost use Rattle.std.specs.Prelude.{◌≡◌};
 ghost use Rattle.builder_core.specs.CoreState.{IsIndex};
 ghost use Rattle.keybytes.specs.Pairs.{HaveKeysOf, AreInColumnOrder};
 
-use crate::Pair;
+use btree::Tree;
 use keybytes::KeySpec;
 use std::marker::Model;
 
 /// An index that is ready: its specification, and its pairs in order.
-#[derive(Debug, Drop)]
+#[derive(Drop)]
 pub struct ReadyIndex {
     spec: KeySpec,
-    pairs: Vec<Pair>,
+    tree: Tree,
 }
 
 impl Model for ReadyIndex {
@@ -20,18 +20,18 @@ impl Model for ReadyIndex {
 
     ghost use Rattle.builder_core.specs.CoreState.{IsIndex};
 
-    ghost view = { λ index. record { spec = index.spec; pairs = index.pairs.items } };
+    ghost view = { λ index. record { spec = index.spec; pairs = index.tree.pairs } };
 
-    ghost invariant = { λ index. IsIndex index.spec index.pairs.items };
+    ghost invariant = { λ index. IsIndex index.spec index.tree.pairs };
 }
 
 impl ReadyIndex {
-    pub(crate) fn new(spec: KeySpec, pairs: Vec<Pair>) -> ReadyIndex
-        requires { IsIndex spec pairs.items }
+    pub(crate) fn new(spec: KeySpec, tree: Tree) -> ReadyIndex
+        requires { IsIndex spec tree.pairs }
         ensures spec { result.spec ≡ spec }
-        ensures pairs { result.pairs ≡ pairs.items }
+        ensures pairs { result.pairs ≡ tree.pairs }
     {
-        ReadyIndex { spec, pairs }
+        ReadyIndex { spec, tree }
     }
 
     /// What makes the keys of its pairs.
@@ -42,11 +42,11 @@ impl ReadyIndex {
     }
 
     /// The pairs, by key, then by RID.
-    pub fn pairs(&self) -> &[Pair]
-        ensures pairs { result.now ≡ self.now.pairs }
+    pub fn tree(&self) -> &Tree
+        ensures pairs { result.now.pairs ≡ self.now.pairs }
         ensures keys { HaveKeysOf self.now.spec self.now.pairs }
         ensures order { AreInColumnOrder self.now.spec self.now.pairs }
     {
-        self.pairs.as_slice()
+        &self.tree
     }
 }

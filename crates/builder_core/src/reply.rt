@@ -23,6 +23,10 @@ pub enum Reply {
     Sealed { images: usize },
     /// With the number of pairs that were put in order: 0 where they were in order already.
     Loaded { pairs: usize },
+    /// With the number of entries that went into the ring.
+    Fed { entries: usize },
+    /// With the number of entries that were applied.
+    Applied { entries: usize },
     /// With the number of the log record, and what became of each index of the build.
     Switched { number: usize, verdicts: Verdicts },
     /// The build was given up.

@@ -1,11 +1,13 @@
 //! What the table knows of the build that runs.
-ghost use Rattle.std.specs.Prelude.{◌≡◌, ◌≢◌, ℕ, ◌||◌, ◌++◌, ◌∷◌, ◌<◌, ◌≤◌, [], length, Some, is_some, nat_le, IfOk, IfErr};
+ghost use Rattle.std.specs.Prelude.{◌≡◌, ◌≢◌, ℕ, ◌+◌, ◌^◌, ◌||◌, ◌++◌, ◌∷◌, ◌<◌, ◌≤◌, [], length, Some, is_some, nat_le, IfOk, IfErr};
 ghost use Rattle.scan_range.specs.Ranges.{at_start};
 ghost use Rattle.builder_core.specs.SideFiles.{sees};
 ghost use Rattle.builder_core.specs.CoreState.{BuildState};
 ghost use Rattle.builder_core.specs.Builds.{AreScansOf, build_over};
 ghost use Rattle.builder_core.specs.Ranges.{next_page, open_range};
 ghost use Rattle.builder_core.specs.Scanning.{scanned_at};
+ghost use Rattle.builder_core.specs.Steps.{after_feed};
+ghost use Rattle.builder_core.specs.Workers.{fed_to};
 
 use crate::Scan;
 use keybytes::{Fault, KeySpec, Rid};
@@ -14,7 +16,8 @@ use std::alloc::Global;
 use std::marker::Model;
 use visibility::visible;
 
-/// A running build of one index: how far each of its ranges is, and which pages were copied, in their order.
+/// A running build of one index: how far each of its ranges is, which pages were copied, in their order, and how many entries of its
+/// side-file were fed.
 #[derive(Drop)]
 pub struct TableScan {
     number: u64,
@@ -23,6 +26,7 @@ pub struct TableScan {
     opened: usize,
     ranges: Ranges,
     scans: Vec<Scan>,
+    fed: usize,
 }
 
 impl Model for TableScan {
@@ -35,7 +39,7 @@ impl Model for TableScan {
 
     ghost use Rattle.builder_core.specs.Builds.{build_over};
 
-    ghost view = { λ b. build_over b.number b.spec b.workers b.opened (record { pages = b.ranges.pages; ends = b.ranges.ends }) b.scans.items };
+    ghost view = { λ b. build_over b.number b.spec b.workers b.opened (record { pages = b.ranges.pages; ends = b.ranges.ends }) b.scans.items b.fed };
 
     ghost invariant = { λ b. AreScansOf b.ranges b.workers b.scans.items × (b.ranges.pages ≤ vec_capacity b.scans) };
 }
@@ -52,7 +56,7 @@ impl TableScan {
         cuts: Cuts,
     ) -> Result<TableScan, Fault>
         requires { cuts.pages ≤ 65536 }
-        ensures ok { IfOk result (λ b. b ≡ build_over number spec workers opened cuts []) }
+        ensures ok { IfOk result (λ b. b ≡ build_over number spec workers opened cuts [] 0) }
         ensures memory { IfErr result (λ fault. fault ≡ Fault.Memory) }
     {
         let pages = cuts.pages() as usize;
@@ -63,6 +67,7 @@ impl TableScan {
             opened,
             ranges: Ranges::new(alloc, cuts)?,
             scans: Vec::with_capacity(alloc, pages)?,
+            fed: 0,
         })
     }
 
@@ -141,6 +146,14 @@ impl TableScan {
             page,
             records,
         });
+    }
+
+    /// Notes that so many entries more were fed.
+    pub fn note_fed(&mut self, count: usize)
+        requires { fed_to self.old 0 + count < 2 ^ 64 }
+        ensures { self.new ≡ after_feed self.old 0 count }
+    {
+        self.fed += count;
     }
 
     /// What makes the keys of its index.

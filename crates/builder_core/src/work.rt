@@ -1,10 +1,9 @@
 //! The work of a build.
 ghost use Rattle.builder_core.specs.Builds.{fresh};
 ghost use Rattle.builder_core.specs.Holding.{fresh_maker};
-ghost use Rattle.std.specs.Prelude.{◌≡◌, ◌≤◌, ◌-◌, replicate, vec_len, vec_capacity, is_some, true, None, Some};
-ghost use Rattle.std.specs.Prelude.{IfSome, IfOk, IfErr, OnOk, MatchResult, MatchOption};
+ghost use Rattle.std.specs.Prelude.{◌≡◌, replicate, is_some, None, Some, IfOk, IfErr, MatchResult};
 
-use crate::Pair;
+use catch_up::Built;
 use keybytes::{Fault, KeySpec, Schema};
 use run_maker::Maker;
 use std::alloc::Global;
@@ -13,41 +12,51 @@ use std::marker::Model;
 /// The work of a build of one index.
 #[derive(Drop)]
 pub struct Work {
+    pub(crate) build: u64,
     pub(crate) spec: KeySpec,
     pub(crate) workers: usize,
     pub(crate) makers: Vec<Maker>,
-    pub(crate) tree: Option<Vec<Pair>>,
+    pub(crate) built: Option<Built>,
+    pub(crate) applied: usize,
     pub(crate) spoiled: Option<Fault>,
 }
 
 impl Model for Work {
-    ghost use Rattle.std.specs.Option.{option_map};
-    ghost use Rattle.builder_core.specs.Builds.{WorkValue, room_in};
+    ghost use Rattle.builder_core.specs.Builds.{WorkValue};
 
     ghost Value = { WorkValue };
 
     ghost view = { λ work. record {
+      build = work.build;
       spec = work.spec;
       workers = work.workers;
       makers = work.makers.items;
-      tree = option_map (λ pairs. pairs.items) work.tree;
-      room = room_in work.tree;
+      built = work.built;
+      applied = work.applied;
       spoiled = work.spoiled;
     } };
 }
 
 impl Work {
-    /// A build by so many workers, on rows of these columns, that has done nothing.
-    pub fn new(alloc: Global, schema: &Schema, spec: KeySpec, workers: usize) -> Result<Work, Fault>
+    /// The build with that number by so many workers, on rows of these columns, that has done nothing.
+    pub fn new(
+        alloc: Global,
+        build: u64,
+        schema: &Schema,
+        spec: KeySpec,
+        workers: usize,
+    ) -> Result<Work, Fault>
         requires { spec.kinds ≡ schema.now }
-        ensures ok { IfOk result (λ work. work ≡ fresh schema.now spec workers) }
+        ensures ok { IfOk result (λ work. work ≡ fresh build schema.now spec workers) }
         ensures memory { IfErr result (λ fault. fault ≡ Fault.Memory) }
     {
         Ok(Work {
             makers: new_makers(alloc, schema, &spec, workers)?,
+            build,
             spec,
             workers,
-            tree: None,
+            built: None,
+            applied: 0,
             spoiled: None,
         })
     }
@@ -64,30 +73,23 @@ impl Work {
 
     /// Whether the pairs are in order.
     pub fn is_loaded(&self) -> bool
-        ensures { result ≡ is_some self.now.tree }
+        ensures { result ≡ is_some self.now.built }
     {
-        self.tree.is_some()
+        self.built.is_some()
     }
 
-    /// Makes room for that many more pairs beside those in order.
-    pub fn make_room(&mut self, n: usize) -> Result<(), Fault>
-        requires { is_some self.old.tree ≡ true }
-        ensures room { OnOk result (n ≤ self.new.room) }
-        ensures same { self.new ≡ record self.old { room = self.new.room } }
-        ensures memory { IfErr result (λ fault. fault ≡ Fault.Memory) }
+    /// How many entries of the side-file were applied to them.
+    pub fn applied(&self) -> usize
+        ensures { result ≡ self.now.applied }
     {
-        if let Some(pairs) = &mut self.tree {
-            pairs.reserve(n)?;
-        }
-        Ok(())
+        self.applied
     }
 
-    /// The pairs of the index, if they are in order.
-    pub fn into_pairs(self) -> Option<Vec<Pair>>
-        ensures pairs { MatchOption result (self.tree ≡ None) (λ pairs. self.tree ≡ Some pairs.items) }
-        ensures room { IfSome result (λ pairs. vec_capacity pairs - vec_len pairs ≡ self.room) }
+    /// The index, if its pairs are in order.
+    pub fn into_built(self) -> Option<Built>
+        ensures { self.built ≡ result }
     {
-        self.tree
+        self.built
     }
 }
 
