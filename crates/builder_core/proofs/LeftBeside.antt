@@ -10,6 +10,7 @@ use Rattle.heap_table.specs.Images.{ImageValue}
 use Rattle.run_spool.specs.Spools.{AreSorted, holds_nothing}
 use Rattle.run_maker.specs.Making.{MakerValue}
 use Rattle.building.specs.WorkerValue.{WorkerValue}
+use Rattle.catch_up.specs.Built.{BuiltValue}
 use Rattle.builder_core.specs.Builds.{BuildingValue, WorkValue, after_sort}
 use Rattle.builder_core.specs.Holding.{SpoolValue, Kit, spool_value, spools_state, ended_spool}
 use Rattle.builder_core.specs.Working.{CanTake, CanTakeAt, HasTaken, HasTakenAt, IsSpoiled}
@@ -67,17 +68,22 @@ module _ (old seen : BuildingValue) (work held : WorkValue) (same : seen ≡ old
 
   -- its pairs are put in order
   pub left_sorted :
-      (spools : List SpoolValue) (pairs : List Pair) (room : ℕ) → spools ≡ map ended_spool seen.spools
-      → record seen { spools = spools; work = Some (record held { tree = Some pairs; room = room }) }
-      ≡ record old { spools = map ended_spool old.spools; work = Some (after_sort work pairs room) }
-  left_sorted spools pairs room ended = rw (ended, same, is) refl
+      (spools : List SpoolValue) (built : BuiltValue) → spools ≡ map ended_spool seen.spools → built.build ≡ held.build
+      → record seen { spools = spools; work = Some (record held { built = Some built }) }
+      ≡ record old { spools = map ended_spool old.spools; work = Some (after_sort work built.pairs) }
+  left_sorted spools built ended number = rw (ended, same, is) (ap of_build (number ∙ ap (λ (w : WorkValue). w.build) is)) where
+    of_build : ℕ → BuildingValue
+    of_build n = record old {
+      spools = map ended_spool old.spools;
+      work = Some (record work { built = Some (record { build = n; pairs = built.pairs }) });
+    }
 
   -- the runs of its spools are in order, where its pairs aren't yet
   pub runs_sorted :
-      IfSome old.work (λ w. w.tree ≡ None → All AreSorted (map (λ (s : SpoolValue). s.runs) old.spools)) → work.tree ≡ None
+      IfSome old.work (λ w. w.built ≡ None → All AreSorted (map (λ (s : SpoolValue). s.runs) old.spools)) → work.built ≡ None
       → All AreSorted (map (λ (s : SpoolValue). s.runs) seen.spools)
   runs_sorted all none =
-      let here = subst (λ (o : Option WorkValue). IfSome o (λ w. w.tree ≡ None → All AreSorted (map (λ (s : SpoolValue). s.runs) old.spools))) its_work all in
+      let here = subst (λ (o : Option WorkValue). IfSome o (λ w. w.built ≡ None → All AreSorted (map (λ (s : SpoolValue). s.runs) old.spools))) its_work all in
       subst (λ (b : BuildingValue). All AreSorted (map (λ (s : SpoolValue). s.runs) b.spools)) (sym same) (here none)
 
   -- a worker takes some of its copies
@@ -103,7 +109,7 @@ module _ (old seen : BuildingValue) (work held : WorkValue) (same : seen ≡ old
       left = rw (same, is) refl;
     }
 
--- pairs that aren't in order are in no list
-pub no_tree : (tree : Option (List Pair)) → false ≡ is_some tree → tree ≡ None
+-- pairs that aren't in order are in no tree
+pub no_tree : (built : Option BuiltValue) → false ≡ is_some built → built ≡ None
 no_tree None none = refl
-no_tree (Some pairs) none = absurd (cc)
+no_tree (Some built) none = absurd (cc)

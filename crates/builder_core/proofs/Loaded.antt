@@ -22,8 +22,9 @@ use Rattle.std.proofs.lemmas.List.Concat.{flat_map-append}
 use Rattle.builder_core.specs.Ranges.{open_range}
 use Rattle.builder_core.specs.Rings.{all_sent, ArePut, AreDone, PagesFollow}
 use Rattle.builder_core.specs.Scanning.{pairs_at_scan, scanned_pairs}
-use Rattle.builder_core.specs.Steps.{OnBuild, Loads, index_at, pairs_copied, after_load}
-use Rattle.builder_core.specs.Workers.{put_to}
+use Rattle.builder_core.specs.Steps.{OnBuild, Loads, pairs_copied, after_load}
+use Rattle.builder_core.specs.Workers.{put_to, index_at}
+use Rattle.catch_up.specs.Built.{BuiltValue}
 use Rattle.builder_core.specs.Working.{HasLoaded, HasSorted, IsSpoiled}
 use Rattle.builder_core.specs.declared.scan.Scan.{Scan}
 use Rattle.builder_core.proofs.Kits.{begun_none, kits_sorted}
@@ -34,10 +35,9 @@ use Rattle.builder_core.proofs.Takes.{spoiled_works, put_of}
 use Rattle.builder_core.proofs.Waits.{waits, held_pairs}
 use Rattle.builder_core.proofs.Works.{sorted_work_on}
 
--- an index whose pairs are in order is loaded, and applied no entry
-loaded_index : (tree : Option (List Pair)) → is_some tree ≡ true → index_state tree ≡ record { loaded = true; applied = 0 }
-loaded_index None some = absurd (false≢true some)
-loaded_index (Some pairs) some = refl
+-- an index whose pairs are in order is loaded
+loaded_index : (w : WorkValue) → is_some w.built ≡ true → index_state w ≡ record (index_state w) { loaded = true }
+loaded_index w some = ap (λ b. record { loaded = b; applied = w.applied }) some
 
 -- the runs of each spool of a build are in order
 pub runs_sorted :
@@ -80,11 +80,11 @@ module _
 
   -- what a load of that build answers
   abbrev load_answer : BuildState → ℕ
-  load_answer x = if (index_at before 0).loaded then 0 else pairs_copied x live.state.heap.log (slice_get x.specs 0)
+  load_answer x = if (index_at before.indexes 0).loaded then 0 else pairs_copied x live.state.heap.log (slice_get x.specs 0)
 
   -- the spool of a quiet worker holds the pairs of all pages that were copied for it
   own_pairs :
-      w.tree ≡ None → (k : ℕ) (spool : SpoolValue) → k < b.workers → slice_get building.spools k ≡ Some spool
+      w.built ≡ None → (k : ℕ) (spool : SpoolValue) → k < b.workers → slice_get building.spools k ≡ Some spool
       → IsPermutation (all_pairs spool.runs) (flat_map (pairs_at_scan (scanning_of b w.spec) live.state.heap.log) (put_to b k))
   own_pairs none k spool less lent =
       let kits = run.at_work.kits fine in
@@ -110,7 +110,7 @@ module _
   made = all_pairs (all_runs (map (λ (s : SpoolValue). s.runs) building.spools))
 
   -- all together hold those of all pages
-  together : w.tree ≡ None → IsPermutation made scanned
+  together : w.built ≡ None → IsPermutation made scanned
   together none =
       let many = (run.at_work.kits fine).equipped.spools_many in
       let all : take b.workers building.spools ≡ building.spools = take_all b.workers building.spools (omega (arith, many)) in
@@ -120,9 +120,9 @@ module _
       (parts_together (λ (s : SpoolValue). all_pairs s.runs) (λ (s : Scan). s.worker) (pairs_at_scan (scanning_of b w.spec) live.state.heap.log) b.scans
       building.spools b.workers (omega (arith, many)) run.follows.for_workers (own_pairs none))
 
-  module _ (new : BuildingValue) (count : ℕ) (none : w.tree ≡ None) (done : HasSorted w building count new) where
+  module _ (new : BuildingValue) (count : ℕ) (none : w.built ≡ None) (done : HasSorted w building count new) where
     abbrev sorted : WorkValue
-    sorted = after_sort w done.pairs done.room
+    sorted = after_sort w done.pairs
 
     abbrev left : BuildingValue
     left = record building { spools = map ended_spool building.spools; work = Some sorted }
@@ -134,10 +134,10 @@ module _
           build_is = run.build_is;
           work_is = refl;
           follows = run.follows;
-          on = sorted_work_on live.state.heap.schema live.state.heap.log b w made done.pairs done.room run.follows run.on all (together none)
-              done.moved done.sorted;
+          on = sorted_work_on live.state.heap.schema live.state.heap.log b w made done.pairs run.on all none (together none)
+              done.moved done.ordered;
           at_work = record {
-            drained = run.at_work.drained;
+            fed = run.at_work.fed;
             given = run.at_work.given;
             taking = λ f. run.at_work.taking fine;
             kits = λ f. kits_sorted b.workers building.workers building.spools w sorted (run.at_work.kits fine) refl refl (λ no_tree. absurd (cc));
@@ -162,8 +162,8 @@ module _
     answer_is =
         counted
         ∙ ap (λ (specs : List KeySpecValue). pairs_copied b live.state.heap.log (slice_get specs 0)) (sym run.on.specs)
-        ∙ ap (λ (o : Option (List Pair)). if is_some o then 0 else pairs_copied b live.state.heap.log (slice_get b.specs 0)) (sym none)
-        ∙ ap (λ (s : WorkState). if (index_at s 0).loaded then 0 else pairs_copied b live.state.heap.log (slice_get b.specs 0))
+        ∙ ap (λ (o : Option BuiltValue). if is_some o then 0 else pairs_copied b live.state.heap.log (slice_get b.specs 0)) (sym none)
+        ∙ ap (λ (s : WorkState). if (index_at s.indexes 0).loaded then 0 else pairs_copied b live.state.heap.log (slice_get b.specs 0))
         (sym (state_is building w run.work_is fine))
 
     sorted_loads : Loads 0 (core_state live building) count (core_state live new)
@@ -177,16 +177,14 @@ module _
         )
 
   -- where they are in order already nothing changes
-  again_loads : is_some w.tree ≡ true → (count : ℕ) → count ≡ 0 → Loads 0 (core_state live building) count (core_state live building)
+  again_loads : is_some w.built ≡ true → (count : ℕ) → count ≡ 0 → Loads 0 (core_state live building) count (core_state live building)
   again_loads some count is =
-      let index = loaded_index w.tree some in
-      let kept : index_state w.tree ≡ record (index_state w.tree) { loaded = true } =
-      index ∙ sym (ap (λ (i : IndexState). record i { loaded = true }) index) in
+      let kept : index_state w ≡ record (index_state w) { loaded = true } = loaded_index w some in
       let state : before ≡ after_load before 0 =
       state_is building w run.work_is fine
       ∙ ap (λ (i : IndexState). record (state_of building w) { indexes = i ∷ [] }) kept
       ∙ sym (ap (λ (s : WorkState). after_load s 0) (state_is building w run.work_is fine)) in
-      let loaded : (index_at before 0).loaded ≡ true = ap (λ (s : WorkState). (index_at s 0).loaded) (state_is building w run.work_is fine) ∙ some in
+      let loaded : (index_at before.indexes 0).loaded ≡ true = ap (λ (s : WorkState). (index_at s.indexes 0).loaded) (state_is building w run.work_is fine) ∙ some in
       subst (λ (o : Option BuildState). OnBuild o (λ x. (count ≡ load_answer x)
       × (core_state live building ≡ record (core_state live building) { work = after_load before 0 })))
       (sym run.build_is)
@@ -196,19 +194,19 @@ module _
     same : done.work ≡ w
     same = same_Some done.work w (sym done.runs ∙ run.work_is)
 
-    first : w.tree ≡ None → HasSorted w building count new
-    first = subst (λ (v : WorkValue). v.tree ≡ None → HasSorted v building count new) same done.first
+    first : w.built ≡ None → HasSorted w building count new
+    first = subst (λ (v : WorkValue). v.built ≡ None → HasSorted v building count new) same done.first
 
-    again : is_some w.tree ≡ true → (count ≡ 0) × (new ≡ building)
-    again = subst (λ (v : WorkValue). is_some v.tree ≡ true → (count ≡ 0) × (new ≡ building)) same done.again
+    again : is_some w.built ≡ true → (count ≡ 0) × (new ≡ building)
+    again = subst (λ (v : WorkValue). is_some v.built ≡ true → (count ≡ 0) × (new ≡ building)) same done.again
 
-    loaded_works : (o : Option (List Pair)) → w.tree ≡ o → WorksOn live new
+    loaded_works : (o : Option BuiltValue) → w.built ≡ o → WorksOn live new
     loaded_works None is = sorted_works new count is (first is)
-    loaded_works (Some pairs) is = subst (WorksOn live) (sym (again (ap is_some is)).1) (works_with live building b w run)
+    loaded_works (Some built) is = subst (WorksOn live) (sym (again (ap is_some is)).1) (works_with live building b w run)
 
-    loaded_loads : (o : Option (List Pair)) → w.tree ≡ o → Loads 0 (core_state live building) count (core_state live new)
+    loaded_loads : (o : Option BuiltValue) → w.built ≡ o → Loads 0 (core_state live building) count (core_state live new)
     loaded_loads None is = sorted_loads new count is (first is)
-    loaded_loads (Some pairs) is =
+    loaded_loads (Some built) is =
         let done_before = again (ap is_some is) in
         subst (λ (n : BuildingValue). Loads 0 (core_state live building) count (core_state live n)) (sym done_before.1)
         (again_loads (ap is_some is) count done_before.0)
@@ -217,19 +215,19 @@ module _
   pub works_after_load :
       (new : BuildingValue) (answer : Result ℕ Fault) → IfOk answer (λ count. HasLoaded building count new) → IfErr answer (λ fault. IsSpoiled fault building new)
       → WorksOn live new
-  works_after_load new (Ok count) done spoiled = loaded_works new count done w.tree refl
+  works_after_load new (Ok count) done spoiled = loaded_works new count done w.built refl
   works_after_load new (Err fault) done spoiled = spoiled_works live fault building new b w run spoiled
 
   pub loads_after :
       (new : BuildingValue) (answer : Result ℕ Fault) → IfOk answer (λ count. HasLoaded building count new)
       → IfOk answer (λ count. Loads 0 (core_state live building) count (core_state live new))
-  loads_after new (Ok count) done = loaded_loads new count done w.tree refl
+  loads_after new (Ok count) done = loaded_loads new count done w.built refl
   loads_after new (Err fault) done = tt
 
   -- memory is wanted only where they aren't in order yet
   pub wanted_first :
-      (answer : Result ℕ Fault) → OnErr answer (IfSome building.work (λ work. work.tree ≡ None)) → OnErr answer ((index_at before 0).loaded ≡ false)
+      (answer : Result ℕ Fault) → OnErr answer (IfSome building.work (λ work. work.built ≡ None)) → OnErr answer ((index_at before.indexes 0).loaded ≡ false)
   wanted_first (Ok count) none = tt
   wanted_first (Err fault) none =
-      let empty : w.tree ≡ None = subst (λ (o : Option WorkValue). IfSome o (λ work. work.tree ≡ None)) run.work_is none in
-      ap (λ (s : WorkState). (index_at s 0).loaded) (state_is building w run.work_is fine) ∙ ap is_some empty
+      let empty : w.built ≡ None = subst (λ (o : Option WorkValue). IfSome o (λ work. work.built ≡ None)) run.work_is none in
+      ap (λ (s : WorkState). (index_at s.indexes 0).loaded) (state_is building w run.work_is fine) ∙ ap is_some empty

@@ -15,7 +15,7 @@ states_looked old new None same = refl
 states_looked old new (Some w) same = by_fault w.spoiled where
   by_fault : (o : Option _) → state_unless o new w ≡ state_unless o old w
   by_fault (Some fault) = refl
-  by_fault None = ap (λ ws. record { workers = ws; indexes = index_state w.tree ∷ []; spoiled = None }) (states_same w.workers old new same)
+  by_fault None = ap (λ ws. record { workers = ws; indexes = index_state w ∷ []; spoiled = None }) (states_same w.workers old new same)
 
 pub state_looked : (live new_live : LiveValue) (building new : BuildingValue) → HasLooked live building new_live new → core_state new_live new ≡ core_state live building
 state_looked live new_live building new looked =
@@ -34,7 +34,7 @@ workers_after :
 workers_after live new_live building new None work looked follow = tt
 workers_after live new_live building new (Some b) None looked follow = tt
 workers_after live new_live building new (Some b) (Some w) looked follow = record {
-  drained = rw (looked.side, looked.other_side) follow.drained;
+  fed = rw (looked.side, looked.other_side) follow.fed;
   given = looked.given ∙ follow.given;
   taking = λ fine. rw looked.rings.sent (taking_same b.number b.workers _ building.workers new.workers looked.rings.same (follow.taking fine));
   kits = λ fine.

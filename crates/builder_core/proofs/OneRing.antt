@@ -51,7 +51,7 @@ pub workers_looked :
 workers_looked old new side building None work same follow = tt
 workers_looked old new side building (Some b) None same follow = tt
 workers_looked old new side building (Some b) (Some w) same follow = record {
-  drained = follow.drained;
+  fed = follow.fed;
   given = follow.given;
   taking = λ fine. subst (λ (all : List (List Copied)). AreTaking b.number b.workers all building.workers) (sym same) (follow.taking fine);
   kits = follow.kits;
@@ -115,10 +115,10 @@ pub workers_put :
     (pages : List (PutEnd Copied)) (side : PutEnd Entry) (building : BuildingValue) (b new : BuildState) (work : Option WorkValue)
     (i : ℕ) (sent : List Copied) (copied : Copied) (put : List (PutEnd Copied)) → WorkersFollow pages side building (Some b) work
     → slice_get (all_sent pages) i ≡ Some sent → all_sent put ≡ set (all_sent pages) i (sent ++ copied ∷ []) → copied.build ≡ b.number
-    → new.number ≡ b.number → new.workers ≡ b.workers → WorkersFollow put side building (Some new) work
-workers_put pages side building b new None i sent copied put follow there is own number workers = tt
-workers_put pages side building b new (Some w) i sent copied put follow there is own number workers = record {
-  drained = follow.drained;
+    → new.number ≡ b.number → new.workers ≡ b.workers → new.fed ≡ b.fed → WorkersFollow put side building (Some new) work
+workers_put pages side building b new None i sent copied put follow there is own number workers fed = tt
+workers_put pages side building b new (Some w) i sent copied put follow there is own number workers fed = record {
+  fed = rw fed follow.fed;
   taking = λ fine.
       rw (is, number, workers) (taking_put b.number b.workers (all_sent pages) building.workers i (sent ++ copied ∷ []) (follow.taking fine)
       (λ worker less at. put_taking b.number sent worker (follow.taking fine i sent worker less there at) copied own));

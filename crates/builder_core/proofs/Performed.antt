@@ -118,7 +118,7 @@ module _ (h : HeapValue) (ready : Ready) (is : IsReady h ready) (change : IsLawf
     entries = λ spec one.
         let here : Scanning = scanning_of b spec in
         let put : SideEntry → _ = entry_of b.number in
-        left spec one
+        appended spec one
         ∙ ap (λ es. es ++ map put (noted b spec ready.rid ready.old ready.new)) (has.entries spec one)
         ∙ ap (λ es. map put (side_entries here log) ++ map put es) (sym (noted_entries b spec build one))
         ∙ sym (map-append put (side_entries here log) (entries_of here log (rec_ready ready)))
@@ -128,12 +128,17 @@ module _ (h : HeapValue) (ready : Ready) (is : IsReady h ready) (change : IsLawf
         let columns : spec.kinds ≡ h.state.schema = columns_for h.state.schema log b build spec one in
         let old_row : IfSome ready.old (IsTableRow spec.kinds) = subst (λ k. IfSome ready.old (IsTableRow k)) (sym columns) change.old_fits in
         let new_row : IfSome ready.new (IsTableRow spec.kinds) = subst (λ k. IfSome ready.new (IsTableRow k)) (sym columns) change.new_fits in
-        subst (All (λ entry. IsKeyOf spec entry.key)) (sym (left spec one))
-        (All-append (λ entry. IsKeyOf spec entry.key) old.left _ (has.keys spec one)
+        subst (All (λ entry. IsKeyOf spec entry.key)) (sym (appended spec one))
+        (All-append (λ entry. IsKeyOf spec entry.key) (all_appended old) _ (has.keys spec one)
         (All-from_recursion (λ entry. IsKeyOf spec entry.key) _ (noted_keys b spec ready.rid ready.old ready.new old_row new_row)));
-    none_fed = fed ∙ has.none_fed;
     count = has.count ∙ ap (λ es. length es ∷ []) (sym fed);
-  }
+  } where
+    appended :
+        (spec : KeySpecValue) → b.specs ≡ spec ∷ []
+        → all_appended new ≡ all_appended old ++ map (entry_of b.number) (noted b spec ready.rid ready.old ready.new)
+    appended spec one =
+        ap (λ es. es ++ new.left) fed ∙ ap (λ es. old.fed ++ es) (left spec one)
+        ∙ append_assoc old.fed old.left (map (entry_of b.number) (noted b spec ready.rid ready.old ready.new))
 
   -- the side-file of the running build, if one runs, follows the change
   pub side_follows_on :

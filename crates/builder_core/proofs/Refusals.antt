@@ -51,7 +51,7 @@ works_with live building b w run = record {
 
 -- what callers see of work that goes on
 abbrev pub state_of : BuildingValue → WorkValue → WorkState
-state_of building w = record { workers = map worker_state (take w.workers building.workers); indexes = index_state w.tree ∷ []; spoiled = None }
+state_of building w = record { workers = map worker_state (take w.workers building.workers); indexes = index_state w ∷ []; spoiled = None }
 
 pub state_is : (building : BuildingValue) (w : WorkValue) → building.work ≡ Some w → w.spoiled ≡ None → work_state building.workers building.work ≡ state_of building w
 state_is building w is fine = rw (is, fine) refl

@@ -8,7 +8,9 @@ use Rattle.keybytes.specs.declared.kind.Kind.{Kind}
 use Rattle.heap_log.specs.declared.record.LogRec.{LogRec}
 use Rattle.heap_table.specs.Pages.{pages_written}
 use Rattle.side_file.specs.Entries.{entry_of}
+use Rattle.side_file.specs.Changes.{all_appended}
 use Rattle.side_file.specs.SideFileValue.{SideFileValue}
+use Rattle.side_file.specs.declared.entry.Entry.{Entry}
 use Rattle.visibility.specs.SideEntries.{SideEntry}
 use Rattle.builder_core.specs.Builds.{IsBuildOf, BuildFollows}
 use Rattle.builder_core.specs.CoreState.{BuildState, LiveState, scanning_of}
@@ -29,12 +31,14 @@ pub side_opened :
     → HasEntries log b side
 side_opened log b side opened pages scans none left fed = record {
   entries = λ spec one.
-      left
+      nothing
       ∙ sym (ap (map (entry_of b.number)) (ap (λ s. side_entries s log) (same spec) ∙ opened_entries spec log));
-  keys = λ spec one. subst (All (λ entry. IsKeyOf spec entry.key)) (sym left) (All-nil (λ entry. IsKeyOf spec entry.key));
-  none_fed = fed;
+  keys = λ spec one. subst (All (λ entry. IsKeyOf spec entry.key)) (sym nothing) (All-nil (λ entry. IsKeyOf spec entry.key));
   count = none ∙ sym (ap (λ es. length es ∷ []) fed);
 } where
+  nothing : all_appended side ≡ []
+  nothing = rw (fed, left) refl
+
   same : (spec : KeySpecValue) → scanning_of b spec ≡ opened_scanning spec log
   same spec = rw (opened, pages, scans) refl
 
@@ -44,7 +48,6 @@ pub side_scanned :
 side_scanned log b side worker page none has = record {
   entries = λ spec one. has.entries spec one ∙ ap (map (entry_of b.number)) (sym (same_entries (scanning_of b spec) worker page log none));
   keys = has.keys;
-  none_fed = has.none_fed;
   count = has.count;
 }
 
@@ -58,7 +61,6 @@ side_same kinds log rec b side nothing build has = record {
       has.entries spec one
       ∙ ap (map (entry_of b.number)) (sym (more_entries here log rec (scanned_for kinds log b build spec one).opened ∙ ap (λ fs. es ++ fs) (nothing here) ∙ append-nil es));
   keys = has.keys;
-  none_fed = has.none_fed;
   count = has.count;
 }
 
@@ -67,11 +69,12 @@ pub side_stays :
     (log : List LogRec) (build : Option BuildState) (old new : SideFileValue) → SideFollows log build old → new.left ≡ old.left → new.fed ≡ old.fed → SideFollows log build new
 side_stays log None old new has left fed = tt
 side_stays log (Some b) old new has left fed = record {
-  entries = λ spec one. left ∙ has.entries spec one;
-  keys = λ spec one. subst (All (λ entry. IsKeyOf spec entry.key)) (sym left) (has.keys spec one);
-  none_fed = fed ∙ has.none_fed;
+  entries = λ spec one. same ∙ has.entries spec one;
+  keys = λ spec one. subst (All (λ entry. IsKeyOf spec entry.key)) (sym same) (has.keys spec one);
   count = has.count ∙ ap (λ es. length es ∷ []) (sym fed);
-}
+} where
+  same : all_appended new ≡ all_appended old
+  same = rw (fed, left) refl
 
 -- a record that changes no row appends nothing
 pub side_plain :
@@ -96,8 +99,13 @@ left_of :
     → AreEntriesLeft log (Some b) 0 side.left
 left_of kinds log b side build has = λ spec at.
     let one : b.specs ≡ spec ∷ [] = only_spec b.specs build.spec spec build.one_index at in
-    let none : get_or b.fed 0 0 ≡ 0 = ap (λ (fed : List ℕ). get_or fed 0 0) (has.count ∙ ap (λ es. length es ∷ []) has.none_fed) in
-    has.entries spec one ∙ ap (λ n. map (entry_of b.number) (drop n (side_entries (scanning_of b spec) log))) (sym none)
+    let put : SideEntry → Entry = entry_of b.number in
+    let es : List SideEntry = side_entries (scanning_of b spec) log in
+    let count : get_or b.fed 0 0 ≡ length side.fed = ap (λ (fed : List ℕ). get_or fed 0 0) has.count in
+    sym (drop-append_seam side.fed side.left)
+    ∙ ap (drop (length side.fed)) (has.entries spec one)
+    ∙ sym (map-drop put (length side.fed) es)
+    ∙ ap (λ n. map put (drop n es)) (sym count)
 
 -- and each has the key of a row
 pub keys_left :
@@ -105,7 +113,8 @@ pub keys_left :
     → is_some build ≡ true → index ≡ 0 → HaveEntryKeys build index side.left
 keys_left kinds log None side index follows has some zero = absurd (false≢true some)
 keys_left kinds log (Some b) side index follows has some zero =
-    subst (λ i. HaveEntryKeys (Some b) i side.left) (sym zero) (λ spec at. has.keys spec (only_spec b.specs follows.spec spec follows.one_index at))
+    subst (λ i. HaveEntryKeys (Some b) i side.left) (sym zero) (λ spec at.
+    All-append_right (λ entry. IsKeyOf spec entry.key) side.fed side.left (has.keys spec (only_spec b.specs follows.spec spec follows.one_index at)))
 
 -- what is left in the side-file are the entries of the build's index
 pub entries_left :

@@ -17,7 +17,8 @@ use Rattle.std.specs.List.{slice_get}
 use Rattle.builder_core.specs.CoreState.{BuildState}
 use Rattle.builder_core.specs.Ranges.{dealing_refusal, dealt_ends}
 use Rattle.builder_core.specs.Rings.{all_sent, put_rings, take_rings, begun_on, AreOfBuilds, ArePutEnds, AreTakeEnds}
-use Rattle.builder_core.specs.SideFiles.{IsDrained}
+use Rattle.side_file.specs.Kept.{last_ones}
+use Rattle.std.proofs.lemmas.List.{append-nil, drop_all}
 use Rattle.builder_core.specs.declared.dealing.Dealing.{Dealing}
 use Rattle.builder_core.proofs.AtWork.{started_taking}
 use Rattle.builder_core.proofs.Kits.{started_kits}
@@ -50,16 +51,16 @@ take_ends_started page_rings side_ring build pages side workers end are is ring 
 -- a build over the pages of that log
 abbrev pub build_on : ℕ → KeySpecValue → ℕ → List LogRec → Dealing → BuildState
 build_on number spec workers log dealing =
-    build_over number spec workers (length log) (record { pages = pages_written log; ends = dealt_ends (pages_written log) dealing }) []
+    build_over number spec workers (length log) (record { pages = pages_written log; ends = dealt_ends (pages_written log) dealing }) [] 0
 
 module _
     (kinds : List Kind) (log : List LogRec) (b : BuildState) (number : ℕ) (spec : KeySpecValue) (workers opened pages : ℕ) (cuts : CutsValue) (dealing : Dealing)
-    (is : b ≡ build_over number spec workers opened cuts []) (records : opened ≡ length log) (dealt : cuts ≡ record { pages = pages; ends = dealt_ends pages dealing })
+    (is : b ≡ build_over number spec workers opened cuts [] 0) (records : opened ≡ length log) (dealt : cuts ≡ record { pages = pages; ends = dealt_ends pages dealing })
     (written : pages ≡ pages_written log) where
   pub build_is_on : b ≡ build_on number spec workers log dealing
   build_is_on =
-      is ∙ ap (λ n. build_over number spec workers n cuts []) records
-      ∙ ap (λ (c : CutsValue). build_over number spec workers (length log) c [])
+      is ∙ ap (λ n. build_over number spec workers n cuts [] 0) records
+      ∙ ap (λ (c : CutsValue). build_over number spec workers (length log) c [] 0)
       (dealt ∙ ap (λ n. record { pages = n; ends = dealt_ends n dealing }) written)
 
   pub started_follows : spec.kinds ≡ kinds → pages ≤ 65536 → dealing_refusal (pages_written log) dealing ≡ None → workers ≤ 16 → IsBuildOf kinds log b
@@ -71,20 +72,20 @@ module _
 -- the workers of a build that starts are at work on it
 pub started_works :
     (live : LiveValue) (building : BuildingValue) (b : BuildState) (w : WorkValue) (builds : ℕ) (spec : KeySpecValue) (workers opened : ℕ) (cuts : CutsValue)
-    → live.state.build ≡ Some b → building.work ≡ Some w → building.given ≡ true → b ≡ build_over (builds + 1) spec workers opened cuts []
-    → w ≡ fresh spec.kinds spec workers → IsBuildOf live.state.heap.schema live.state.heap.log b → spec.kinds ≡ live.state.heap.schema
+    → live.state.build ≡ Some b → building.work ≡ Some w → building.given ≡ true → b ≡ build_over (builds + 1) spec workers opened cuts [] 0
+    → w ≡ fresh (builds + 1) spec.kinds spec workers → IsBuildOf live.state.heap.schema live.state.heap.log b → spec.kinds ≡ live.state.heap.schema
     → AreOfBuilds builds (all_sent live.pages) → building.workers ≡ map (begun_on (builds + 1)) live.pages
-    → IsDrained live.side building.side.ring building.side.received → length building.spools ≡ workers
+    → live.side.ring ≡ building.side.ring → building.side.received ≡ live.side.sent → length building.spools ≡ workers
     → ((k : ℕ) (spool : SpoolValue) → slice_get building.spools k ≡ Some spool → (spool.runs ≡ []) × (spool.open_run ≡ [])) → WorksOn live building
-started_works live building b w builds spec workers opened cuts build_is work_is given b_is w_is follows columns before workers_is drained many empty =
-    let new : BuildState = build_over (builds + 1) spec workers opened cuts [] in
+started_works live building b w builds spec workers opened cuts build_is work_is given b_is w_is follows columns before workers_is ring drained many empty =
+    let new : BuildState = build_over (builds + 1) spec workers opened cuts [] 0 in
     works_with live building b w (record {
       build_is = build_is;
       work_is = work_is;
       follows = follows;
       on = rw (b_is, w_is) (fresh_work_on live.state.heap.schema live.state.heap.log new spec.kinds spec workers refl columns refl);
       at_work = record {
-        drained = drained;
+        fed = rw (b_is, w_is) (record { same_ring = ring; waiting = ap (λ es. es ++ last_ones 0 live.side.sent) drained ∙ ap (λ es. live.side.sent ++ es) (drop_all (length live.side.sent) live.side.sent (omega arith)) ∙ append-nil live.side.sent; counted = omega arith });
         given = given;
         taking = λ fine. rw (b_is, workers_is) (started_taking builds live.pages before workers);
         kits = λ fine. rw (b_is, w_is, workers_is) (started_kits builds live.pages before spec workers building.spools many empty);

@@ -1,5 +1,5 @@
 -- What each event leaves of the build that a table knows, and what its switch makes ready.
-use Rattle.std.proofs.Common.{◌≡◌, ℕ, ◌<◌, ◌≤◌, true, List, [], ◌∷◌, ◌++◌, length, Option, Some, None, refl, sym, ap, ◌∙◌, arith, subst}
+use Rattle.std.proofs.Common.{◌≡◌, ℕ, ◌<◌, ◌≤◌, true, List, [], ◌∷◌, ◌++◌, length, length-append, take, take_all, Option, Some, None, refl, sym, ap, ◌∙◌, arith, subst}
 use Rattle.std.specs.Prelude.{is_some}
 use Rattle.std.specs.FinMap.{keys, contains_key-keys}
 use Rattle.std.specs.FinSet.{FinSet}
@@ -19,7 +19,10 @@ use Rattle.scan_range.specs.Cuts.{are_cuts}
 use Rattle.builder_core.specs.Ranges.{next_page}
 use Rattle.builder_core.specs.Scanning.{Scanning, IsScanned, IsScanOf, AllScanned, scanned_at, scanned_pairs}
 use Rattle.visibility.specs.Applied.{apply_entries}
-use Rattle.builder_core.specs.SideEntries.{side_entries}
+use Rattle.builder_core.specs.SideEntries.{entries_of, side_entries}
+use Rattle.std.proofs.lemmas.List.{take-append-le}
+use Rattle.catch_up.specs.Built.{BuiltValue}
+use Rattle.builder_core.proofs.EntrySteps.{more_entries}
 use Rattle.builder_core.proofs.ScanSteps.{opened_scanned, more_scanned, pairs_kept, scan_now, scan_scanned, pages_grow}
 use Rattle.builder_core.proofs.NextPages.{some_of, next_below, next_unscanned, no_page, all_copied}
 use Rattle.builder_core.proofs.RangeScans.{few_scans}
@@ -31,7 +34,7 @@ use Rattle.builder_core.proofs.Works.{scanned_work_on}
 pub started_build :
     (kinds : List Kind) (log : List LogRec) (number : ℕ) (spec : KeySpecValue) (workers : ℕ) (ends : List ℕ) → spec.kinds ≡ kinds → pages_written log ≤ 65536
     → are_cuts (pages_written log) ends ≡ true → workers ≤ 16
-    → IsBuildOf kinds log (build_over number spec workers (length log) (record { pages = pages_written log; ends = ends }) [])
+    → IsBuildOf kinds log (build_over number spec workers (length log) (record { pages = pages_written log; ends = ends }) [] 0)
 started_build kinds log number spec workers ends columns limit cuts few = record {
   spec = spec;
   one_index = refl;
@@ -85,14 +88,25 @@ work_grown :
     (kinds : List Kind) (log : List LogRec) (rec : LogRec) (b : BuildState) (work : WorkValue) → IsBuildOf kinds log b → IsWorkOn kinds log b work
     → IsWorkOn kinds (log ++ rec ∷ []) b work
 work_grown kinds log rec b work build is = record {
+  number = is.number;
   specs = is.specs;
   columns = is.columns;
   workers = is.workers;
   all = is.all;
-  loaded = λ pairs t. is.loaded pairs t ∙ sym (ap (λ ps. keys (set_of ps)) (pairs_kept here log rec b.scans scans));
+  none_before = is.none_before;
+  there = let more = length-append (side_entries here log) (entries_of here log rec) in let grown = ap length grows in omega (arith, is.there, more, grown);
+  loaded = λ built t.
+      is.loaded built t
+      ∙ ap (λ es. keys (apply_entries es (set_of (scanned_pairs here log))))
+      (sym (ap (take work.applied) grows ∙ take-append-le work.applied (side_entries here log) (entries_of here log rec) is.there))
+      ∙ sym (ap (λ ps. keys (apply_entries (take work.applied (side_entries here (log ++ rec ∷ []))) (set_of ps))) (pairs_kept here log rec b.scans scans));
+  of_build = is.of_build;
 } where
   here : Scanning
   here = scanning_of b work.spec
+
+  grows : side_entries here (log ++ rec ∷ []) ≡ side_entries here log ++ entries_of here log rec
+  grows = more_entries here log rec build.scanned.opened
 
   scans : All (IsScanOf here log) b.scans
   scans = All-weaker (IsScanOf (scanning_of b build.spec) log) (IsScanOf here log)
@@ -125,17 +139,14 @@ set_of-keys s = same_members (set_of (keys s)) s (λ q. contains-set_of (keys s)
 
 -- once the side-file is applied to the scanned pairs, they are the pairs at rest
 pub switched_pairs :
-    (kinds : List Kind) (log : List LogRec) (b : BuildState) (work : WorkValue) (before after : List Pair) → IsBuildOf kinds log b → IsWorkOn kinds log b work
-    → work.tree ≡ Some before → after ≡ keys (set_of after)
-    → set_of after ≡ apply_entries (side_entries (scanning_of b work.spec) log) (set_of before) → after ≡ pairs_at_rest work.spec log
-switched_pairs kinds log b work before after build is loaded ordered applied =
+    (kinds : List Kind) (log : List LogRec) (b : BuildState) (work : WorkValue) (built : BuiltValue) → IsBuildOf kinds log b → IsWorkOn kinds log b work
+    → work.built ≡ Some built → length (side_entries (scanning_of b work.spec) log) ≤ work.applied → built.pairs ≡ pairs_at_rest work.spec log
+switched_pairs kinds log b work built build is loaded all =
     let here : Scanning = scanning_of b work.spec in
     let whole : AllScanned here = all_copied b (is.all (ap is_some loaded)) build.cuts in
-    ordered
-    ∙ ap keys (applied
-    ∙ ap (λ ps. apply_entries (side_entries here log) (set_of ps)) (is.loaded before loaded)
-    ∙ ap (apply_entries (side_entries here log)) (set_of-keys (set_of (scanned_pairs here log)))
-    ∙ leaves_index here log (scanned_for kinds log b build work.spec is.specs) whole)
+    is.loaded built loaded
+    ∙ ap (λ es. keys (apply_entries es (set_of (scanned_pairs here log)))) (take_all work.applied (side_entries here log) all)
+    ∙ ap keys (leaves_index here log (scanned_for kinds log b build work.spec is.specs) whole)
 
 -- the page that comes next is one of the table's
 pub next_written : (kinds : List Kind) (log : List LogRec) (b : BuildState) (range page : ℕ) → IsBuildOf kinds log b → next_page b range ≡ Some page → page < pages_written log

@@ -20,8 +20,11 @@ use Rattle.building.specs.declared.copied.Copied.{Copied}
 use Rattle.building.proofs.ManyPairs.{images-append, have_split}
 use Rattle.building.proofs.Taking.{digested_taking, sealed_taking, digested_holds, sealed_holds, digested_open, sealed_open}
 use Rattle.run_maker.specs.ImagePairs.{HasPairs, HasRows}
-use Rattle.builder_core.specs.Builds.{LiveValue, BuildingValue, WorkValue, IsRunning, IsWorkOn, WorksOn, worker_state, core_state}
-use Rattle.builder_core.specs.CoreState.{BuildState, SpoolsState, scanning_of, spoiled_work}
+use Rattle.builder_core.specs.Builds.{LiveValue, BuildingValue, WorkValue, IsRunning, IsWorkOn, WorksOn, worker_state, index_state, state_unless, work_state}
+use Rattle.builder_core.specs.Builds.{core_state}
+use Rattle.builder_core.specs.SideFiles.{IsFed}
+use Rattle.builder_core.specs.Workers.{fed_to}
+use Rattle.builder_core.specs.CoreState.{BuildState, WorkState, SpoolsState, scanning_of, spoiled_work}
 use Rattle.builder_core.specs.Holding.{SpoolValue, Kit, IsFit, Digested, Sealed, begun_of, spools_state}
 use Rattle.builder_core.specs.Rings.{all_sent, ArePut, HasPut, PagesFollow}
 use Rattle.builder_core.specs.Scanning.{pairs_at_scan}
@@ -109,7 +112,7 @@ module _
 
     goes_on :
         (new : WorkerValue) → IsTaking b.number sent new → HoldsOpen w.spec (unsealed_images new) (begun_of after.maker)
-        → (w.tree ≡ None → HoldsPairs w.spec (received_images new) after.spool.runs (begun_of after.maker)) → WorksOn live (going_on new)
+        → (w.built ≡ None → HoldsPairs w.spec (received_images new) after.spool.runs (begun_of after.maker)) → WorksOn live (going_on new)
     goes_on new own opened held =
         works_with live (going_on new) b (record w { makers = set w.makers k after.maker })
         (record {
@@ -118,7 +121,7 @@ module _
           follows = run.follows;
           on = makers_work_on live.state.heap.schema live.state.heap.log b w (set w.makers k after.maker) run.on;
           at_work = record {
-            drained = run.at_work.drained;
+            fed = run.at_work.fed;
             given = run.at_work.given;
             taking = λ f. taking_set b.number b.workers (all_sent live.pages) building.workers k new (run.at_work.taking fine)
                 (λ s is. subst (λ (x : List Copied). IsTaking b.number x new) (same_Some sent s (sym there ∙ is)) own);
@@ -132,7 +135,7 @@ module _
     opened_before : HoldsOpen w.spec (unsealed_images it) old_begun
     opened_before = (run.at_work.kits fine).opened k it kit.maker less at made_by
 
-    held_before : w.tree ≡ None → HoldsPairs w.spec (received_images it) kit.spool.runs old_begun
+    held_before : w.built ≡ None → HoldsPairs w.spec (received_images it) kit.spool.runs old_begun
     held_before none = (run.at_work.kits fine).holding none k it kit.maker kit.spool less at made_by lent
 
     pub digested_works : Digested w.spec (next_images n it) kit after → WorksOn live (going_on (after_digest n it))
@@ -183,8 +186,15 @@ spoiled_works live fault building new b w run spoiled =
       follows = run.follows;
       on = spoiled_work_on live.state.heap.schema live.state.heap.log b (record spoiled.work { makers = spoiled.makers }) fault
           (makers_work_on live.state.heap.schema live.state.heap.log b spoiled.work spoiled.makers on);
-      at_work = record { drained = run.at_work.drained; given = run.at_work.given; taking = λ f. absurd (cc); kits = λ f. absurd (cc) };
+      at_work = record { fed = subst (λ (x : WorkValue). IsFed (fed_to b 0) x.applied live.side building.side) same run.at_work.fed; given = run.at_work.given; taking = λ f. absurd (cc); kits = λ f. absurd (cc) };
     }))
+
+-- callers see of it what its index applied
+still_spoiled :
+    (fault : Fault) (o : Option Fault) (workers : List WorkerValue) (w : WorkValue)
+    → spoiled_work fault (state_unless o workers w) ≡ record { workers = []; indexes = index_state w ∷ []; spoiled = Some fault }
+still_spoiled fault None workers w = refl
+still_spoiled fault (Some other) workers w = refl
 
 -- and so do callers see it
 pub spoiled_state :
@@ -193,7 +203,14 @@ pub spoiled_state :
 spoiled_state live fault building new b w run spoiled =
     let spools : spools_state building.given spoiled.spools ≡ spools_state building.given building.spools =
     rw run.at_work.given (ap (λ stakes. record { stakes = stakes; left = [] }) spoiled.stakes) in
-    ap (core_state live) spoiled.left ∙ ap (λ (s : SpoolsState). record { live = live.state; work = spoiled_work fault; spools = s }) spools
+    let same : spoiled.work ≡ w = same_Some spoiled.work w (sym spoiled.runs ∙ run.work_is) in
+    ap (core_state live) spoiled.left
+    ∙ ap (λ (s : SpoolsState). record { live = live.state; work = spoiled_as spoiled.work; spools = s }) spools
+    ∙ ap (λ (x : WorkValue). record { live = live.state; work = spoiled_as x; spools = spools_state building.given building.spools }) same
+    ∙ ap (λ (s : WorkState). record { live = live.state; work = s; spools = spools_state building.given building.spools })
+    (sym (ap (λ (o : Option WorkValue). spoiled_work fault (work_state building.workers o)) run.work_is ∙ still_spoiled fault w.spoiled building.workers w)) where
+      spoiled_as : WorkValue → WorkState
+      spoiled_as x = record { workers = []; indexes = index_state x ∷ []; spoiled = Some fault }
 
 -- whatever was answered, callers see it where the build is spoiled
 pub spoiled_after :

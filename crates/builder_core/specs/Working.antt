@@ -97,9 +97,9 @@ pub record HasSorted (work : WorkValue) (old : BuildingValue) (count : ℕ) (new
   pub counted : count ≡ length pairs
   pub left : new ≡ record old { spools = map ended_spool old.spools; work = Some (after_sort work pairs) }
 
--- no pair is there twice: in some order they are those of a list that has none twice
+-- no pair is there twice
 abbrev pub AreEachOnce : List Pair → Type 0
-AreEachOnce pairs = (others : List Pair) × IsDistinct (eq_by_cmp pair_cmp) others × IsPermutation others pairs
+AreEachOnce pairs = IsDistinct (eq_by_cmp pair_cmp) pairs
 
 -- a load: the pairs are put in order, or were so before
 pub record HasLoaded (old : BuildingValue) (count : ℕ) (new : BuildingValue) : Type 0 where
