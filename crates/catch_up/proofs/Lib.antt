@@ -1,4 +1,1 @@
-pub mod Placed
-pub mod Receiving
-pub mod Sorted
 pub mod Telling
