@@ -1,4 +1,4 @@
-ghost use Rattle.std.specs.Prelude.{◌≡◌, ◌<◌, [], length, take, OnOk, OnErr, IfErr};
+ghost use Rattle.std.specs.Prelude.{◌≡◌, ◌+◌, ◌<◌, [], length, take, OnOk, OnErr, IfErr};
 ghost use Rattle.rtrb.specs.Ring.{known_items};
 ghost use Rattle.keybytes.specs.Pairs.{AreOrdered};
 ghost use Rattle.catch_up.specs.Applying.{Applied, Taken};
@@ -67,6 +67,7 @@ impl Built {
     pub(crate) fn take_next(&mut self, ring: &mut Consumer<Entry>) -> Result<(), Fault>
         requires { 0 < length (known_items ring.old) }
         ensures taken { OnOk result (Taken (take 1 (known_items ring.old)) ring.old ring.new) }
+        ensures known { OnOk result (length (known_items ring.old) ≡ length (known_items ring.new) + 1) }
         ensures applied { OnOk result (Applied (take 1 (known_items ring.old)) self.old self.new) }
         ensures waits { OnErr result (Taken [] ring.old ring.new) }
         ensures unchanged { OnErr result (self.new ≡ self.old) }
