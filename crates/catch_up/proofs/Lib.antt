@@ -1,4 +1,2 @@
-pub mod Placed
-pub mod Receiving
-pub mod Sorted
+pub mod Taking
 pub mod Telling

@@ -7,11 +7,10 @@ use Rattle.side_file.specs.declared.op.Op.{Op}
 use Rattle.side_file.specs.declared.op.Op.TheVariants.{Delete, Insert}
 use Rattle.visibility.specs.SideEntries.{SideEntry, delete, insert}
 
--- the number of its build, its pairs, and how many more find room
+-- the number of its build, and its pairs in order
 pub record BuiltValue : Type 0 where
   pub build : ℕ
   pub pairs : List Pair
-  pub room : ℕ
 
 abbrev pub change_by : Op → Pair → SideEntry
 change_by Delete pair = delete pair

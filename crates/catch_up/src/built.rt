@@ -1,41 +1,44 @@
-ghost use Rattle.std.specs.Prelude.{◌≡◌, ◌∷◌, [], ◌≤◌, ◌<◌, ◌+◌, ◌-◌, Some, None, OnOk, IfErr, vec_len, vec_capacity};
-ghost use Rattle.keybytes.specs.Pairs.{AreOrdered, set_of};
-ghost use Rattle.visibility.specs.Applied.{apply_entry, apply_entries};
-ghost use Rattle.catch_up.specs.Built.{told, told_to};
+ghost use Rattle.std.specs.Prelude.{◌≡◌, ◌+◌, ◌<◌, [], length, take, OnOk, OnErr, IfErr};
+ghost use Rattle.rtrb.specs.Ring.{known_items};
+ghost use Rattle.keybytes.specs.Pairs.{AreOrdered};
+ghost use Rattle.catch_up.specs.Applying.{Applied, Taken};
 
-use crate::pairs::{put, take};
-use keybytes::{Fault, Pair};
-use side_file::{Entry, Op};
+use crate::changing::{change, make_room};
+use btree::Tree;
+use keybytes::Fault;
+use rtrb::Consumer;
+use side_file::Entry;
 use std::marker::Model;
 
-/// The pairs of an index that is being built, in order, and the number of its build.
+/// The tree of an index that is being built, and the number of its build. Contracts see the number and the pairs.
 #[derive(Drop)]
 pub struct Built {
     build: u64,
-    pairs: Vec<Pair>,
+    tree: Tree,
 }
 
 impl Model for Built {
-    ghost use Rattle.std.specs.Prelude.{◌-◌, vec_len, vec_capacity};
-    ghost use Rattle.keybytes.specs.Pairs.{AreOrdered};
     ghost use Rattle.catch_up.specs.Built.{BuiltValue};
 
     ghost Value = { BuiltValue };
 
-    ghost view = { λ built. record { build = built.build; pairs = built.pairs.items; room = vec_capacity built.pairs - vec_len built.pairs } };
-
-    ghost invariant = { λ built. AreOrdered built.pairs.items };
+    ghost view = { λ built. record { build = built.build; pairs = built.tree.pairs } };
 }
 
 impl Built {
     /// The index of a build, with the pairs that it scanned.
-    pub fn new(build: u64, pairs: Vec<Pair>) -> Built
-        requires { AreOrdered pairs.items }
+    pub fn new(build: u64, tree: Tree) -> Built
         ensures build { result.build ≡ build }
-        ensures pairs { result.pairs ≡ pairs.items }
-        ensures room { result.room ≡ vec_capacity pairs - vec_len pairs }
+        ensures pairs { result.pairs ≡ tree.pairs }
     {
-        Built { build, pairs }
+        Built { build, tree }
+    }
+
+    /// Does nothing: its clause tells what every index keeps.
+    pub fn laws(&self)
+        ensures { AreOrdered self.now.pairs }
+    {
+        self.tree.laws();
     }
 
     /// The number of its build.
@@ -45,56 +48,36 @@ impl Built {
         self.build
     }
 
-    /// The pairs, by key, then by RID.
-    pub fn pairs(&self) -> &[Pair]
-        ensures pairs { result.now ≡ self.now.pairs }
-        ensures ordered { AreOrdered self.now.pairs }
+    /// The tree, with the pairs.
+    pub fn tree(&self) -> &Tree
+        ensures { result.now.pairs ≡ self.now.pairs }
     {
-        self.pairs.as_slice()
+        &self.tree
     }
 
-    /// Gives the pairs.
-    pub fn into_pairs(self) -> Vec<Pair>
-        ensures pairs { result.items ≡ self.pairs }
-        ensures ordered { AreOrdered self.pairs }
+    /// Gives the tree.
+    pub fn into_tree(self) -> Tree
+        ensures { result.pairs ≡ self.pairs }
     {
-        self.pairs
+        self.tree
     }
 
-    /// Makes room for that many more pairs.
-    pub(crate) fn reserve(&mut self, n: usize) -> Result<(), Fault>
-        ensures room { OnOk result (n ≤ self.new.room) }
-        ensures same { (self.new.build ≡ self.old.build) × (self.new.pairs ≡ self.old.pairs) }
+    /// Takes the next entry out of the ring, which is known to have one, and applies it if it is of this build. Room for its pair
+    /// comes first: want of memory leaves the entry in the ring.
+    pub(crate) fn take_next(&mut self, ring: &mut Consumer<Entry>) -> Result<(), Fault>
+        requires { 0 < length (known_items ring.old) }
+        ensures taken { OnOk result (Taken (take 1 (known_items ring.old)) ring.old ring.new) }
+        ensures known { OnOk result (length (known_items ring.old) ≡ length (known_items ring.new) + 1) }
+        ensures applied { OnOk result (Applied (take 1 (known_items ring.old)) self.old self.new) }
+        ensures waits { OnErr result (Taken [] ring.old ring.new) }
+        ensures unchanged { OnErr result (self.new ≡ self.old) }
         ensures memory { IfErr result (λ fault. fault ≡ Fault.Memory) }
     {
-        self.pairs.reserve(n)?;
-        Ok(())
-    }
-
-    /// Applies an entry; one of another build is dropped.
-    pub(crate) fn apply(&mut self, entry: Entry)
-        requires { 0 < self.old.room }
-        ensures applied { set_of self.new.pairs ≡ apply_entries (told_to self.old.build (entry ∷ [])) (set_of self.old.pairs) }
-        ensures build { self.new.build ≡ self.old.build }
-        ensures room { self.old.room ≤ self.new.room + 1 }
-    {
+        make_room(&mut self.tree, self.build, ring.peek_known())?;
+        let entry = ring.pop_known();
         if entry.build == self.build {
-            self.apply_one(entry);
+            change(&mut self.tree, entry);
         }
-    }
-
-    /// Applies an entry, of whatever build.
-    fn apply_one(&mut self, entry: Entry)
-        requires { 0 < self.old.room }
-        ensures applied { set_of self.new.pairs ≡ apply_entry (told entry) (set_of self.old.pairs) }
-        ensures build { self.new.build ≡ self.old.build }
-        ensures room { self.old.room ≤ self.new.room + 1 }
-    {
-        let Entry { op, key, rid, .. } = entry;
-        let pair = Pair { key, rid };
-        match op {
-            Op::Delete => take(&mut self.pairs, &pair),
-            Op::Insert => put(&mut self.pairs, pair),
-        }
+        Ok(())
     }
 }

@@ -1,13 +1,18 @@
 //! An index that is being built, brought up to date by the entries of its side-file.
 //!
-//! The pairs that a build scanned are put in order while writers go on, and the writers' changes wait as entries in the index's
-//! side-file. [`Built`] is the index with its pairs in order; [`catch_up`] applies to it, in their order, all entries that wait.
-//! Room for their pairs is made first, by [`make_room`], so that nothing can be refused once an entry has left its ring.
+//! The pairs that a build scanned are loaded into a tree while writers go on, and the writers' changes wait as entries in the
+//! index's side-file. [`Built`] is the tree with the number of its build. [`apply`] takes entries out of the ring and applies
+//! them to the tree, in their order; [`catch_up`], with both ends of the ring at hand, goes on until none waits.
+//!
+//! An entry leaves the ring once there is room for its pair, so that want of memory loses none: those that were applied stay
+//! applied, and the rest waits in order.
 #![tactic(auto)]
 
+mod applying;
 mod built;
 mod catching;
-mod pairs;
+mod changing;
 
+pub use applying::apply;
 pub use built::Built;
-pub use catching::{catch_up, make_room};
+pub use catching::catch_up;

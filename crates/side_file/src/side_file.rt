@@ -25,6 +25,8 @@ pub struct SideFile {
     left: VecDeque<Entry>,
     /// How many were fed since the last reset: the last ones that the ring was sent.
     fed: usize,
+    /// How many were ever fed: all that the ring was sent.
+    ever: usize,
     room: usize,
 }
 
@@ -41,7 +43,7 @@ impl Model for SideFile {
 
     ghost view = { λ side. record { fed = last_ones side.fed (sent side.producer); left = side.left.items; room = side.room; end = put_end side.producer } };
 
-    ghost invariant = { λ side. IsKept (producer_capacity side.producer) (length (sent side.producer)) side.fed
+    ghost invariant = { λ side. IsKept (producer_capacity side.producer) (length (sent side.producer)) side.ever side.fed
         (length side.left.items) side.room (deque_capacity side.left) };
 }
 
@@ -59,6 +61,7 @@ impl SideFile {
             producer,
             left: VecDeque::new(alloc),
             fed: 0,
+            ever: 0,
             room: 0,
         };
         Ok((side, consumer))
@@ -94,7 +97,7 @@ impl SideFile {
     }
 
     /// Makes room for that many more entries; takes no memory where the room is there. Memory is also the answer where the
-    /// entries since the last reset would be more than `usize` counts.
+    /// entries of all time would be more than `usize` counts.
     pub fn reserve(&mut self, n: usize) -> Result<(), Fault>
         ensures reserved { Answered None (Reserves n) self.old result self.new }
         ensures succeeds { n ≤ self.old.room → IsOk result }
@@ -102,7 +105,7 @@ impl SideFile {
         if n <= self.room {
             return Ok(());
         }
-        if usize::MAX - self.fed - self.left() < n {
+        if usize::MAX - self.ever - self.left() < n {
             return Err(Fault::Memory);
         }
         self.left.reserve(n)?;
@@ -133,7 +136,15 @@ impl SideFile {
         let count = most.min(self.producer.slots());
         move_first(&mut self.left, &mut self.producer, count);
         self.fed += count;
+        self.ever += count;
         count
+    }
+
+    /// How many entries were ever fed, those before a reset too.
+    pub fn fed(&self) -> usize
+        ensures { result ≡ length self.now.end.sent }
+    {
+        self.ever
     }
 
     /// How many entries aren't fed yet.
