@@ -147,10 +147,10 @@ fresh_fit kinds spec kit fresh runs none = record {
 
 -- a build begins with fresh makers and empty spools
 pub started_kits :
-    (builds : ℕ) (pages : List (PutEnd Copied)) (before : AreOfBuilds builds (all_sent pages)) (spec : KeySpecValue) (count : ℕ) (spools : List SpoolValue)
+    (builds : ℕ) (pages : List (PutEnd Copied)) (before : AreOfBuilds builds (all_sent pages)) (spec : KeySpecValue) (count number : ℕ) (spools : List SpoolValue)
     → length spools ≡ count → ((k : ℕ) (spool : SpoolValue) → slice_get spools k ≡ Some spool → (spool.runs ≡ []) × (spool.open_run ≡ []))
-    → HaveKits count (map (begun_on (builds + 1)) pages) spools (fresh spec.kinds spec count)
-started_kits builds pages before spec count spools many empty = record {
+    → HaveKits count (map (begun_on (builds + 1)) pages) spools (fresh number spec.kinds spec count)
+started_kits builds pages before spec count number spools many empty = record {
   equipped = record {
     makers_many = length-replicate count (fresh_maker spec.kinds spec);
     spools_many = many;

@@ -7,13 +7,14 @@ use Rattle.keybytes.specs.Keys.{KeySpecValue}
 use Rattle.keybytes.specs.declared.fault.Fault.{Fault}
 use Rattle.keybytes.specs.declared.pair.Pair.{Pair}
 use Rattle.heap_table.specs.Images.{ImageValue}
-use Rattle.run_spool.specs.Spools.{AreSorted, holds_nothing}
+use Rattle.run_spool.specs.Spools.{AreSorted, all_pairs, holds_nothing}
+use Rattle.run_merge.specs.Merging.{all_runs}
 use Rattle.run_maker.specs.Making.{MakerValue}
 use Rattle.building.specs.WorkerValue.{WorkerValue}
 use Rattle.catch_up.specs.Built.{BuiltValue}
 use Rattle.builder_core.specs.Builds.{BuildingValue, WorkValue, after_sort}
 use Rattle.builder_core.specs.Holding.{SpoolValue, Kit, spool_value, spools_state, ended_spool}
-use Rattle.builder_core.specs.Working.{CanTake, CanTakeAt, HasTaken, HasTakenAt, IsSpoiled}
+use Rattle.builder_core.specs.Working.{AreEachOnce, CanTake, CanTakeAt, HasTaken, HasTakenAt, IsSpoiled}
 use Rattle.builder_core.proofs.OneWorker.{the_work}
 use Rattle.builder_core.proofs.Places.{mapped}
 
@@ -85,6 +86,15 @@ module _ (old seen : BuildingValue) (work held : WorkValue) (same : seen ≡ old
   runs_sorted all none =
       let here = subst (λ (o : Option WorkValue). IfSome o (λ w. w.built ≡ None → All AreSorted (map (λ (s : SpoolValue). s.runs) old.spools))) its_work all in
       subst (λ (b : BuildingValue). All AreSorted (map (λ (s : SpoolValue). s.runs) b.spools)) (sym same) (here none)
+
+  -- and no pair is there twice
+  pub runs_once :
+      IfSome old.work (λ w. w.built ≡ None → AreEachOnce (all_pairs (all_runs (map (λ (s : SpoolValue). s.runs) old.spools)))) → work.built ≡ None
+      → AreEachOnce (all_pairs (all_runs (map (λ (s : SpoolValue). s.runs) seen.spools)))
+  runs_once all none =
+      let here = subst (λ (o : Option WorkValue). IfSome o (λ w. w.built ≡ None
+      → AreEachOnce (all_pairs (all_runs (map (λ (s : SpoolValue). s.runs) old.spools))))) its_work all in
+      subst (λ (b : BuildingValue). AreEachOnce (all_pairs (all_runs (map (λ (s : SpoolValue). s.runs) b.spools)))) (sym same) (here none)
 
   -- a worker takes some of its copies
   module _ (worker : ℕ) (count : WorkerValue → ℕ) where

@@ -1,9 +1,11 @@
+pub mod Applying
 pub mod AtWork
 pub mod Copies
 pub mod CopyPairs
 pub mod Distinct
 pub mod EntrySteps
 pub mod Examples
+pub mod Feeding
 pub mod Following
 pub mod Kits
 pub mod LeftBeside

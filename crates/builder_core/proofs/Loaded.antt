@@ -25,7 +25,7 @@ use Rattle.builder_core.specs.Scanning.{pairs_at_scan, scanned_pairs}
 use Rattle.builder_core.specs.Steps.{OnBuild, Loads, pairs_copied, after_load}
 use Rattle.builder_core.specs.Workers.{put_to, index_at}
 use Rattle.catch_up.specs.Built.{BuiltValue}
-use Rattle.builder_core.specs.Working.{HasLoaded, HasSorted, IsSpoiled}
+use Rattle.builder_core.specs.Working.{AreEachOnce, HasLoaded, HasSorted, IsSpoiled}
 use Rattle.builder_core.specs.declared.scan.Scan.{Scan}
 use Rattle.builder_core.proofs.Kits.{begun_none, kits_sorted}
 use Rattle.builder_core.proofs.Partition.{parts_together}
@@ -33,6 +33,12 @@ use Rattle.builder_core.proofs.Places.{there_is, map_at, at_map, mapped, all_fro
 use Rattle.builder_core.proofs.Refusals.{state_of, state_is, works_with}
 use Rattle.builder_core.proofs.Takes.{spoiled_works, put_of}
 use Rattle.builder_core.proofs.Waits.{waits, held_pairs}
+use Rattle.std.proofs.lemmas.Map.Keys.{IsDistinct-IsPermutation}
+use Rattle.std.proofs.lemmas.Cmp.{eq_by_cmp_equiv}
+use Rattle.std.specs.Ordering.{eq_by_cmp}
+use Rattle.keybytes.specs.Pairs.{pair_cmp}
+use Rattle.keybytes.proofs.PairSets.{pairs_total}
+use Rattle.builder_core.proofs.Distinct.{scanned_distinct}
 use Rattle.builder_core.proofs.Works.{sorted_work_on}
 
 -- an index whose pairs are in order is loaded
@@ -119,6 +125,12 @@ module _
       subst (λ (ps : List Pair). IsPermutation ps scanned) each
       (parts_together (λ (s : SpoolValue). all_pairs s.runs) (λ (s : Scan). s.worker) (pairs_at_scan (scanning_of b w.spec) live.state.heap.log) b.scans
       building.spools b.workers (omega (arith, many)) run.follows.for_workers (own_pairs none))
+
+  -- none of them is there twice
+  pub each_once : w.built ≡ None → AreEachOnce made
+  each_once none =
+      IsDistinct-IsPermutation (eq_by_cmp pair_cmp) (eq_by_cmp_equiv pairs_total).symm scanned made (IsPermutation-sym made scanned (together none))
+      (scanned_distinct (scanning_of b w.spec) live.state.heap.log b.scans run.follows.scanned.once)
 
   module _ (new : BuildingValue) (count : ℕ) (none : w.built ≡ None) (done : HasSorted w building count new) where
     abbrev sorted : WorkValue

@@ -8,7 +8,13 @@ use Rattle.keybytes.specs.declared.pair.Pair.{Pair}
 use Rattle.run_spool.specs.Spools.{AreSorted}
 use Rattle.run_merge.specs.Merging.{all_runs}
 use Rattle.builder_core.specs.Holding.{SpoolValue, spool_value, ended_spool}
+use Rattle.builder_core.specs.Working.{AreEachOnce}
+use Rattle.std.specs.FinMap.{keys}
+use Rattle.std.specs.Prelude.{IsPermutation}
+use Rattle.keybytes.specs.Pairs.{AreOrdered, set_of}
+use Rattle.heap_table.proofs.PairsAtRest.{InOrder, sorted_set}
 use Rattle.builder_core.proofs.Places.{mapped}
+use Rattle.builder_core.proofs.TableBuilds.{set_of-keys}
 
 -- where the runs of each spool are in order, those of all are
 pub all_sorted : (spools : List (List (List Pair))) → All AreSorted spools → AreSorted (all_runs spools)
@@ -30,3 +36,9 @@ module _ {S : Type 0} (runs : S → List (List Pair)) (open_run : S → List Pai
       (a b : List S) → map stake a ≡ map stake b
       → map ended_spool (map (spool_value runs open_run stake) a) ≡ map ended_spool (map (spool_value runs open_run stake) b)
   ended_same a b same = ended_bare a ∙ ap (map bare) same ∙ sym (ended_bare b)
+
+-- pairs of which none is there twice, put in order, are an ordered set
+pub once_ordered : (made pairs : List Pair) → AreEachOnce made → IsPermutation made pairs → InOrder pairs → AreOrdered pairs
+once_ordered made pairs once moved sorted =
+    let is : pairs ≡ keys (set_of made) = sorted_set made pairs once moved sorted in
+    is ∙ ap keys (sym (set_of-keys (set_of made))) ∙ ap (λ ps. keys (set_of ps)) (sym is)

@@ -1,8 +1,9 @@
 -- The side-file of a build as it starts, as it copies a page more, and as the log grows by a record that changes no row.
 use Rattle.std.proofs.Common.{◌≡◌, ℕ, List, [], ◌∷◌, ◌++◌, length, map, drop, true, Option, Some, None, refl, sym, ap, ◌∙◌, subst}
-use Rattle.std.proofs.lemmas.List.{append-nil}
+use Rattle.std.proofs.lemmas.List.{append-nil, drop-map}
+use Rattle.std.proofs.Math.Seq.{drop-append_seam}
 use Rattle.std.specs.List.{All}
-use Rattle.std.proofs.lemmas.List.Elements.{All-nil}
+use Rattle.std.proofs.lemmas.List.Elements.{All-nil, All-tail}
 use Rattle.keybytes.specs.Keys.{KeySpecValue, IsKeyOf}
 use Rattle.keybytes.specs.declared.kind.Kind.{Kind}
 use Rattle.heap_log.specs.declared.record.LogRec.{LogRec}
@@ -104,8 +105,13 @@ left_of kinds log b side build has = λ spec at.
     let count : get_or b.fed 0 0 ≡ length side.fed = ap (λ (fed : List ℕ). get_or fed 0 0) has.count in
     sym (drop-append_seam side.fed side.left)
     ∙ ap (drop (length side.fed)) (has.entries spec one)
-    ∙ sym (map-drop put (length side.fed) es)
+    ∙ drop-map put (length side.fed) es
     ∙ ap (λ n. map put (drop n es)) (sym count)
+
+-- what holds of all holds of the last of them
+all_right : {X : Type 0} (P : X → Type 0) (xs ys : List X) → All P (xs ++ ys) → All P ys
+all_right P [] ys all = all
+all_right P (x ∷ xs) ys all = all_right P xs ys (All-tail P x (xs ++ ys) all)
 
 -- and each has the key of a row
 pub keys_left :
@@ -114,7 +120,7 @@ pub keys_left :
 keys_left kinds log None side index follows has some zero = absurd (false≢true some)
 keys_left kinds log (Some b) side index follows has some zero =
     subst (λ i. HaveEntryKeys (Some b) i side.left) (sym zero) (λ spec at.
-    All-append_right (λ entry. IsKeyOf spec entry.key) side.fed side.left (has.keys spec (only_spec b.specs follows.spec spec follows.one_index at)))
+    all_right (λ entry. IsKeyOf spec entry.key) side.fed side.left (has.keys spec (only_spec b.specs follows.spec spec follows.one_index at)))
 
 -- what is left in the side-file are the entries of the build's index
 pub entries_left :

@@ -1,5 +1,5 @@
 -- The side-file of a running build, and what a change of a row appends to it.
-use Rattle.std.specs.Prelude.{◌≡◌, ℕ, ◌+◌, ◌-◌, ◌≤◌, ◌++◌, Bool, ◌||◌, nat_le, is_some, if◌then◌else◌, List, [], ◌∷◌, length, map, drop, get_or, Option, Some, None}
+use Rattle.std.specs.Prelude.{◌≡◌, ℕ, ◌+◌, ◌-◌, ◌<◌, ◌≤◌, ◌^◌, ◌++◌, Bool, ◌||◌, nat_le, is_some, if◌then◌else◌, List, [], ◌∷◌, length, map, take, drop, get_or, Option, Some, None}
 use Rattle.std.specs.List.{All, slice_get}
 use Rattle.keybytes.specs.Keys.{KeySpecValue, IsKeyOf}
 use Rattle.keybytes.specs.Pairs.{pair_with}
@@ -19,6 +19,7 @@ use Rattle.building.specs.TakeEnd.{TakeEnd, PutEndLooked}
 use Rattle.builder_core.specs.CoreState.{BuildState, scanning_of}
 use Rattle.builder_core.specs.Scanning.{scanned_at}
 use Rattle.builder_core.specs.SideEntries.{side_entries}
+use Rattle.builder_core.specs.Workers.{fed_to}
 
 -- whether the build has to hear of a change at the RID by now: its page is newer than the build, or was copied. It is `is_visible`,
 -- with the log as it is now
@@ -46,6 +47,14 @@ pub record IsFed (fed applied : ℕ) (put : PutEnd Entry) (end : TakeEnd Entry) 
   pub same_ring : put.ring ≡ end.ring
   pub waiting : end.received ++ last_ones (fed - applied) put.sent ≡ put.sent
   pub counted : applied ≤ fed
+  pub were_sent : fed ≤ length put.sent
+  pub countable : fed < 2 ^ 64
+
+-- the entries that were fed are the first of the build's, and the last that the ring was sent
+pub record AreFedEntries (log : List LogRec) (b : BuildState) (put : PutEnd Entry) : Type 0 where
+  pub entries : (spec : KeySpecValue) → b.specs ≡ spec ∷ []
+      → last_ones (fed_to b 0) put.sent ≡ map (entry_of b.number) (take (fed_to b 0) (side_entries (scanning_of b spec) log))
+  pub there : (spec : KeySpecValue) → b.specs ≡ spec ∷ [] → fed_to b 0 ≤ length (side_entries (scanning_of b spec) log)
 
 -- both ends of the side-file's ring were looked at, and nothing was put or taken
 pub record HasLookedAtSide (put : PutEnd Entry) (end : TakeEnd Entry) (new_put : PutEnd Entry) (new_end : TakeEnd Entry) : Type 0 where

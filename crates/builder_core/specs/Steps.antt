@@ -198,6 +198,10 @@ abbrev pub Seals : ℕ → CoreState → ℕ → CoreState → Type 0
 Seals worker s images new =
     OnBuild s.live.build (λ b. (images ≡ waiting b s.work worker) × (new ≡ record s { work = after_seal b s.work worker }))
 
+-- an index that isn't there
+abbrev pub index_refusal : BuildState → ℕ → Option Fault
+index_refusal b index = cause_if (nat_le (length b.specs) index) BadCount
+
 -- why no pairs are put in order
 abbrev pub load_refusal : BuildState → CoreState → ℕ → Option Fault
 load_refusal b s index =
@@ -224,10 +228,6 @@ Loads index s pairs new =
 -- the most entries that wait in the ring of a side-file
 abbrev pub ring_most : ℕ
 ring_most = 256
-
--- an index that isn't there
-abbrev pub index_refusal : BuildState → ℕ → Option Fault
-index_refusal b index = cause_if (nat_le (length b.specs) index) BadCount
 
 -- how many entries go into the ring at once: at most so many, as many as are left, and as many as it has room for
 abbrev pub next_fed : BuildState → List LogRec → WorkState → ℕ → ℕ → ℕ

@@ -1,5 +1,5 @@
 -- What the workers of a build do, and the entries that are applied to its index, and what that leaves beside the table.
-use Rattle.std.specs.Prelude.{◌≡◌, ℕ, ◌+◌, ◌^◌, ◌<◌, ◌≤◌, List, [], ◌++◌, length, map, set, take, is_some, true, Some, None, IsPermutation}
+use Rattle.std.specs.Prelude.{◌≡◌, ℕ, ◌+◌, ◌^◌, ◌<◌, ◌≤◌, List, [], ◌++◌, length, map, set, take, drop, is_some, true, Some, None, IsPermutation}
 use Rattle.std.specs.List.{slice_get, IsDistinct}
 use Rattle.std.specs.Ordering.{eq_by_cmp}
 use Rattle.keybytes.specs.Keys.{KeySpecValue}
@@ -113,6 +113,7 @@ pub record CanApply (count : ℕ) (building : BuildingValue) : Type 0 where
   pub work : WorkValue
   pub runs : building.work ≡ Some work
   pub loaded : is_some work.built ≡ true
+  pub ordered : (built : BuiltValue) → work.built ≡ Some built → AreOrdered built.pairs
   pub seen : count ≤ length building.side.known
   pub countable : work.applied + count < 2 ^ 64
 
@@ -128,6 +129,9 @@ pub record HasApplied (old : BuildingValue) (count : ℕ) (new : BuildingValue) 
   pub end : TakeEnd Entry
   pub ring : end.ring ≡ old.side.ring
   pub received : end.received ≡ old.side.received ++ take count old.side.known
+  -- the others are still seen, and more may be
+  pub more : List Entry
+  pub known : end.known ≡ drop count old.side.known ++ more
   pub left : new ≡ record old {
     side = end;
     work = Some (record work { built = Some (record { build = before.build; pairs = pairs }); applied = work.applied + count });

@@ -1,5 +1,5 @@
 //! What stands beside a table.
-ghost use Rattle.std.specs.Prelude.{◌≡◌, ℕ, ◌<◌, ◌≤◌, ◌⊎◌, drop, OnOk, [], All, length, map, false, None, Some, IsSome, IfSome, IfOk, IfErr, OnErr, MatchOption};
+ghost use Rattle.std.specs.Prelude.{◌≡◌, ℕ, ◌<◌, ◌≤◌, ◌⊎◌, OnOk, [], All, length, map, false, None, Some, IsSome, IfSome, IfOk, IfErr, OnErr, MatchOption};
 ghost use Rattle.std.specs.List.{list_all};
 ghost use Rattle.run_spool.specs.Spools.{AreSorted, all_pairs};
 ghost use Rattle.run_merge.specs.Merging.{all_runs};
@@ -253,7 +253,6 @@ impl<S: Spool, T: Table> Building<S, T> {
         requires { CanApply 1 self.old }
         ensures applied { OnOk result (HasApplied self.old 1 self.new) }
         ensures unchanged { OnErr result (HasApplied self.old 0 self.new) }
-        ensures known { OnOk result (drop 1 self.old.side.known ≡ self.new.side.known) }
         ensures memory { IfErr result (λ fault. fault ≡ Fault.Memory) }
     {
         let Some(work) = &mut self.work else {
@@ -262,7 +261,9 @@ impl<S: Spool, T: Table> Building<S, T> {
         let Some(built) = &mut work.built else {
             unreachable!()
         };
-        apply(built, &mut self.side_end, 1)?;
+        let taken = apply(built, &mut self.side_end, 1);
+        built.laws();
+        taken?;
         work.applied += 1;
         Ok(())
     }

@@ -1,9 +1,9 @@
 //! The side-file of a build: its entries go into its ring, and from there to the index, with both ends of the ring at hand.
-ghost use Rattle.std.specs.Prelude.{◌≡◌, [], ℕ, None, Some, IsSome, IfOk, IfErr, OnOk, OnErr, MatchResult};
+ghost use Rattle.std.specs.Prelude.{◌≡◌, [], ℕ, None, Some, IsSome, IfSome, IfOk, IfErr, OnOk, OnErr, MatchResult};
 ghost use Rattle.rtrb.specs.Ring.{received};
 ghost use Rattle.side_file.specs.Ends.{ring_take};
 ghost use Rattle.builder_core.specs.Builds.{BuildingValue, core_state, cause_of, WorksOn, SideIsLooked, HasFed};
-ghost use Rattle.builder_core.specs.SideFiles.{SeesSide, side_refusal};
+ghost use Rattle.builder_core.specs.SideFiles.{SeesSide, AreFedEntries, side_refusal};
 ghost use Rattle.builder_core.specs.Steps.{Feeds, Applies, AppliesSome};
 ghost use Rattle.builder_core.specs.declared.event.Event.{Event};
 
@@ -39,8 +39,11 @@ impl<T: Table> Live<T> {
     fn look_at_side<S: Spool>(&mut self, building: &mut Building<S, T>) -> usize
         ensures looked { SideIsLooked self.old building.old self.new building.new }
         ensures sees { SeesSide result self.new.side building.new.side }
+        ensures fed { IfSome self.new.state.build (λ b. AreFedEntries self.new.state.heap.log b self.new.side) }
     {
-        self.side.beside(&mut building.side_end)
+        let waiting = self.side.beside(&mut building.side_end);
+        self.side.laws();
+        waiting
     }
 
     /// The same as [`Live::feed`], with both ends of the ring at hand, so that each free place is known.

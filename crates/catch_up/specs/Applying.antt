@@ -1,5 +1,5 @@
 -- What applying the entries that wait leaves of an index, of its side-file and of the ring between them.
-use Rattle.std.specs.Prelude.{◌≡◌, ℕ, ◌<◌, ◌≤◌, List, [], ◌++◌, length, Result, IfOk, OnOk, IfErr}
+use Rattle.std.specs.Prelude.{◌≡◌, ℕ, ◌<◌, ◌≤◌, List, [], ◌++◌, length, Result, IfOk, OnOk, OnErr, IfErr}
 use Rattle.std.specs.declared.alloc.Global.{Global}
 use mathlib.Core.List.{IsPrefix}
 use Rattle.rtrb.specs.declared.consumer.Consumer.{Consumer}
@@ -7,25 +7,15 @@ use Rattle.rtrb.specs.Ring.{received, known_items}
 use Rattle.keybytes.specs.Pairs.{set_of}
 use Rattle.keybytes.specs.declared.fault.Fault.{Fault}
 use Rattle.keybytes.specs.declared.fault.Fault.TheVariants.{Memory}
-use Rattle.side_file.specs.Changes.{all_appended}
 use Rattle.side_file.specs.Ends.{ring_take}
-use Rattle.side_file.specs.SideFileValue.{SideFileValue}
 use Rattle.side_file.specs.declared.entry.Entry.{Entry}
 use Rattle.visibility.specs.Applied.{apply_entries}
-use Rattle.catch_up.specs.Built.{BuiltValue, told_to, all_waiting}
+use Rattle.catch_up.specs.Built.{BuiltValue, told_to}
 
 -- those of the index's build were applied to it, in order, and those of another build left out
 pub record Applied (entries : List Entry) (old new : BuiltValue) : Type 0 where
   pub build : new.build ≡ old.build
   pub pairs : set_of new.pairs ≡ apply_entries (told_to old.build entries) (set_of old.pairs)
-
--- nothing changed but that entries went into the ring, in order
-pub record FedOn (old new : SideFileValue) : Type 0 where
-  pub ring : new.end.ring ≡ old.end.ring
-  pub capacity : new.end.capacity ≡ old.end.capacity
-  pub in_order : new.end.sent ++ new.left ≡ old.end.sent ++ old.left
-  pub all : all_appended new ≡ all_appended old
-  pub room : new.room ≡ old.room
 
 module _ {P : Type 0} where
   -- they left the ring in order, those first that were known to be in it
@@ -43,17 +33,5 @@ module _ {P : Type 0} where
     pub most : length entries ≤ k
     pub count : IfOk answer (λ count. count ≡ length entries)
     pub all : OnOk answer (length entries < k → known_items after ≡ [])
-    pub memory : IfErr answer (λ fault. fault ≡ Memory)
-
-  -- the first entries that waited are taken and applied, and the rest waits in order: nothing waits unless memory was refused
-  pub record CatchesUp
-      {R : Type 0} (old : BuiltValue) (side : SideFileValue) (before : Consumer Entry Global P) (answer : Result R Fault)
-      (new : BuiltValue) (fed : SideFileValue) (after : Consumer Entry Global P) : Type 0 where
-    pub entries : List Entry
-    pub taken : Taken entries before after
-    pub applied : Applied entries old new
-    pub fed_on : FedOn side fed
-    pub first : all_waiting side (received before) ≡ entries ++ all_waiting fed (received after)
-    pub none_left : OnOk answer (fed.left ≡ [])
-    pub drained : OnOk answer (received after ≡ fed.end.sent)
+    pub short : OnErr answer (length entries < k)
     pub memory : IfErr answer (λ fault. fault ≡ Memory)

@@ -1,8 +1,7 @@
 -- An index that is being built, and what the entries of its side-file do to it.
-use Rattle.std.specs.Prelude.{ℕ, ◌==◌, ◌++◌, List, length, map, filter, drop}
+use Rattle.std.specs.Prelude.{ℕ, ◌==◌, List, map, filter}
 use Rattle.keybytes.specs.declared.pair.Pair.{Pair}
 use Rattle.side_file.specs.declared.entry.Entry.{Entry}
-use Rattle.side_file.specs.SideFileValue.{SideFileValue}
 use Rattle.side_file.specs.declared.op.Op.{Op}
 use Rattle.side_file.specs.declared.op.Op.TheVariants.{Delete, Insert}
 use Rattle.visibility.specs.SideEntries.{SideEntry, delete, insert}
@@ -23,7 +22,3 @@ told entry = change_by entry.op (record { key = entry.key; rid = entry.rid })
 -- what entries do to an index of that build: those of another build do nothing
 abbrev pub told_to : ℕ → List Entry → List SideEntry
 told_to build entries = map told (filter (λ entry. entry.build == build) entries)
-
--- the entries that wait to be applied: those that were fed and not received, then those that are left
-abbrev pub all_waiting : SideFileValue → List Entry → List Entry
-all_waiting side received = drop (length received) (side.end.sent ++ side.left)

@@ -2,7 +2,7 @@
 //!
 //! The pairs that a build scanned are loaded into a tree while writers go on, and the writers' changes wait as entries in the
 //! index's side-file. [`Built`] is the tree with the number of its build. [`apply`] takes entries out of the ring and applies
-//! them to the tree, in their order; [`catch_up`], with both ends of the ring at hand, goes on until none waits.
+//! them to the tree, in their order.
 //!
 //! An entry leaves the ring once there is room for its pair, so that want of memory loses none: those that were applied stay
 //! applied, and the rest waits in order.
@@ -10,9 +10,7 @@
 
 mod applying;
 mod built;
-mod catching;
 mod changing;
 
 pub use applying::apply;
 pub use built::Built;
-pub use catching::catch_up;

@@ -1,5 +1,5 @@
 -- What the calls of a side-file leave.
-use Rattle.std.specs.Prelude.{◌≡◌, ℕ, ◌+◌, ◌-◌, ◌≤◌, min, max, List, [], ◌∷◌, ◌++◌, length, take, drop}
+use Rattle.std.specs.Prelude.{◌≡◌, ℕ, ◌+◌, ◌-◌, ◌^◌, ◌<◌, ◌≤◌, min, max, List, [], ◌∷◌, ◌++◌, length, take, drop}
 use Rattle.side_file.specs.declared.entry.Entry.{Entry}
 use Rattle.side_file.specs.SideFileValue.{SideFileValue}
 use Rattle.side_file.specs.Kept.{last_ones}
@@ -8,13 +8,14 @@ use Rattle.side_file.specs.Kept.{last_ones}
 abbrev pub all_appended : SideFileValue → List Entry
 all_appended side = side.fed ++ side.left
 
--- what every side-file keeps: what was fed is what the ring was sent last, and a place never used is known to be free
+-- what every side-file keeps: what was fed is what the ring was sent last, a place never used is known to be free, and all can be counted
 pub record IsSideFile (side : SideFileValue) : Type 0 where
   pub capacity : side.end.capacity ≡ 256
   pub fed_last : last_ones (length side.fed) side.end.sent ≡ side.fed
   pub fed_was_sent : length side.fed ≤ length side.end.sent
   pub spare : side.end.free ≤ side.end.capacity
   pub unused : side.end.capacity ≤ side.end.free + length side.end.sent
+  pub few : length side.fed + length side.left < 2 ^ 64
 
 -- nothing is left, and what was fed is forgotten
 abbrev pub emptied : SideFileValue → SideFileValue

@@ -25,8 +25,6 @@ pub struct SideFile {
     left: VecDeque<Entry>,
     /// How many were fed since the last reset: the last ones that the ring was sent.
     fed: usize,
-    /// How many were ever fed: all that the ring was sent.
-    ever: usize,
     room: usize,
 }
 
@@ -43,7 +41,7 @@ impl Model for SideFile {
 
     ghost view = { λ side. record { fed = last_ones side.fed (sent side.producer); left = side.left.items; room = side.room; end = put_end side.producer } };
 
-    ghost invariant = { λ side. IsKept (producer_capacity side.producer) (length (sent side.producer)) side.ever side.fed
+    ghost invariant = { λ side. IsKept (producer_capacity side.producer) (length (sent side.producer)) side.fed
         (length side.left.items) side.room (deque_capacity side.left) };
 }
 
@@ -61,7 +59,6 @@ impl SideFile {
             producer,
             left: VecDeque::new(alloc),
             fed: 0,
-            ever: 0,
             room: 0,
         };
         Ok((side, consumer))
@@ -97,7 +94,7 @@ impl SideFile {
     }
 
     /// Makes room for that many more entries; takes no memory where the room is there. Memory is also the answer where the
-    /// entries of all time would be more than `usize` counts.
+    /// entries since the last reset would be more than `usize` counts.
     pub fn reserve(&mut self, n: usize) -> Result<(), Fault>
         ensures reserved { Answered None (Reserves n) self.old result self.new }
         ensures succeeds { n ≤ self.old.room → IsOk result }
@@ -105,7 +102,7 @@ impl SideFile {
         if n <= self.room {
             return Ok(());
         }
-        if usize::MAX - self.ever - self.left() < n {
+        if usize::MAX - self.fed - self.left() < n {
             return Err(Fault::Memory);
         }
         self.left.reserve(n)?;
@@ -136,15 +133,14 @@ impl SideFile {
         let count = most.min(self.producer.slots());
         move_first(&mut self.left, &mut self.producer, count);
         self.fed += count;
-        self.ever += count;
         count
     }
 
-    /// How many entries were ever fed, those before a reset too.
+    /// How many entries were fed since the last reset.
     pub fn fed(&self) -> usize
-        ensures { result ≡ length self.now.end.sent }
+        ensures { result ≡ length self.now.fed }
     {
-        self.ever
+        self.fed
     }
 
     /// How many entries aren't fed yet.

@@ -1,9 +1,14 @@
-use Rattle.std.proofs.Common.{rules, ◌≡◌, ◌≤◌, ◌<◌, ◌+◌, [], List, length, take, length-take, ap, arith}
+use Rattle.std.proofs.Common.{rules, Result, Ok, Err, OnErr, ◌≡◌, ◌≤◌, ◌<◌, ◌+◌, [], List, length, take, length-take, ap, arith}
 use Rattle.std.proofs.lemmas.List.{nil_from_length}
 use Rattle.rtrb.specs.Ring.{known_items}
 use Rattle.side_file.specs.declared.entry.Entry.{Entry}
 use Rattle.catch_up.proofs.Taking.{looked_taken, taken_waits, so_far_then}
 use Rattle.catch_up.proofs.applying.apply.Goals as goal
+
+-- what holds anyhow holds of an error
+on_err : {X E P : Type 0} → (answer : Result X E) → P → OnErr answer P
+on_err (Ok x) p = tt
+on_err (Err e) p = p
 
 pub returns-in_err-take_next : goal.returns-in_err-take_next
 returns-in_err-take_next c =
@@ -17,6 +22,7 @@ returns-in_err-take_next c =
       most = omega (arith, so_far.count, c.loop-test.true, c.min-count.ensures);
       count = search rules;
       all = search rules;
+      short = on_err c.from_residual.result (omega (arith, so_far.count, c.loop-test.true, c.min-count.ensures));
       memory = search rules;
     }
 
@@ -43,5 +49,6 @@ returns c =
       all = λ few. nil_from_length (known_items c.loop.ring) (
         omega (arith, few, so_far.count, c.loop.auto, c.loop-test.false, c.loop.invariant.rest, c.min-count.ensures, c.slots.ensures.value)
       );
+      short = search rules;
       memory = search rules;
     }

@@ -1,8 +1,10 @@
 use Rattle.std.proofs.Common.{◌≡◌, length, All, map, None, Option, IfSome, ap, sym, ◌∙◌, subst}
-use Rattle.run_spool.specs.Spools.{AreSorted}
+use Rattle.run_spool.specs.Spools.{AreSorted, all_pairs}
+use Rattle.run_merge.specs.Merging.{all_runs}
+use Rattle.builder_core.specs.Working.{AreEachOnce}
 use Rattle.builder_core.specs.Holding.{SpoolValue}
 use Rattle.builder_core.specs.Builds.{LiveValue, BuildingValue, WorkValue}
-use Rattle.builder_core.proofs.Loaded.{put_inside, runs_sorted, works_after_load, loads_after, wanted_first}
+use Rattle.builder_core.proofs.Loaded.{put_inside, runs_sorted, each_once, works_after_load, loads_after, wanted_first}
 use Rattle.builder_core.proofs.Takes.{spoiled_after}
 use Rattle.builder_core.proofs.live.Live.load.Goals as goal
 
@@ -10,8 +12,20 @@ pub load-requires-clause-sorted : goal.load-requires-clause-sorted
 load-requires-clause-sorted g c =
     let may = c.requires.runs in
     let building : BuildingValue = c.args.building.now in
-    subst (λ (o : Option WorkValue). IfSome o (λ work. work.tree ≡ None → All AreSorted (map (λ (s : SpoolValue). s.runs) building.spools))) (sym may.runs.work_is)
+    subst (λ (o : Option WorkValue). IfSome o (λ work. work.built ≡ None → All AreSorted (map (λ (s : SpoolValue). s.runs) building.spools))) (sym may.runs.work_is)
     (λ none. runs_sorted c.args.self.now building may.build may.work may.runs may.fine)
+
+pub load-requires-clause-once : goal.load-requires-clause-once
+load-requires-clause-once g c =
+    let may = c.requires.runs in
+    let live : LiveValue = c.args.self.now in
+    let building : BuildingValue = c.args.building.now in
+    let put = put_inside _ live may.build c.self.view_is may.runs.build_is c.self.invariant.3 in
+    let rings : length live.pages ≡ 16 = sym (ap (λ (l : LiveValue). length l.pages) c.self.view_is) ∙ c.self.invariant.5.sixteen in
+    let sixteen : length building.workers ≡ 16 = sym (ap (λ (v : BuildingValue). length v.workers) c.building.view_is) ∙ c.building.invariant.0.sixteen in
+    subst (λ (o : Option WorkValue). IfSome o (λ work. work.built ≡ None
+    → AreEachOnce (all_pairs (all_runs (map (λ (s : SpoolValue). s.runs) building.spools))))) (sym may.runs.work_is)
+    (λ none. each_once live building may.build may.work may.runs may.fine put rings sixteen may.quiet may.all none)
 
 pub returns-clause-loaded : goal.returns-clause-loaded
 returns-clause-loaded g c =

@@ -25,7 +25,7 @@ use Rattle.builder_core.proofs.Starts.{few_workers, fresh_is}
 use Rattle.builder_core.proofs.live.Live.start.Goals as goal
 
 abbrev opened : ℕ → KeySpecValue → ℕ → ℕ → CutsValue → BuildState
-opened number spec workers records cuts = build_over number spec workers records cuts []
+opened number spec workers records cuts = build_over number spec workers records cuts [] 0
 
 pub invariant_of-self : goal.invariant_of-self
 invariant_of-self g c =
@@ -62,7 +62,7 @@ invariant_of-building g c =
           (take_end c.empty_side.new.end)
           (put_ends_started g.T.Table.pages g.T.Table.side inside.pages.items c.restart_all.new.pages.items inside.side.end c.empty_side.new.side.end c.self.invariant.5
           c.restart_all.ensures.rings c.empty_side.ensures.ring)
-          c.restart_all.ensures.workers c.empty_side.ensures.drained.same_ring,
+          c.restart_all.ensures.workers c.empty_side.ensures.same_ring,
       λ given none. absurd (cc),
     )
 
@@ -96,9 +96,9 @@ returns-clause-works g c =
     ap (λ (l : LiveValue). dealing_refusal (pages_written l.state.heap.log) plan.dealing) c.self.view_is ∙ c.in_ok-spec.ensures.ranges in
     let build : c.in_ok-build.build ≡ opened (inside.builds + 1) spec plan.workers c.records.result c.in_ok-cuts.cuts =
     c.in_ok-build.ensures.ok ∙ ap (λ s. opened (inside.builds + 1) s plan.workers c.records.result c.in_ok-cuts.cuts) c.in_ok-clone-2.ensures.same in
-    let work : c.in_ok-work.work ≡ fresh spec.kinds spec plan.workers =
-    c.in_ok-work.ensures.ok ∙ ap (λ s. fresh c.schema-schema.result.now s plan.workers) c.in_ok-clone.ensures.same
-    ∙ ap (λ kinds. fresh kinds spec plan.workers) (c.schema-schema.ensures ∙ sym columns) in
+    let work : c.in_ok-work.work ≡ fresh (inside.builds + 1) spec.kinds spec plan.workers =
+    c.in_ok-work.ensures.ok ∙ ap (λ s. fresh (inside.builds + 1) c.schema-schema.result.now s plan.workers) c.in_ok-clone.ensures.same
+    ∙ ap (λ kinds. fresh (inside.builds + 1) kinds spec plan.workers) (c.schema-schema.ensures ∙ sym columns) in
     let now : BuildingValue = c.args.building.now in
     let counts = few_workers c.args.self.now.state (length (spools_state now.given now.spools).left) plan c.in_ok-spec.ensures.counts in
     let spools : List SpoolValue = map (spool_value g.S.Spool.runs g.S.Spool.open_run g.S.Spool.stake) c.building.inside.spools.items in
@@ -108,7 +108,7 @@ returns-clause-works g c =
     (started_follows heap.schema heap.log c.in_ok-build.build (inside.builds + 1) spec plan.workers c.records.result c.pages-pages.result c.in_ok-cuts.cuts plan.dealing build
     c.records.ensures c.in_ok-cuts.ensures.ok c.pages-pages.ensures.pages columns c.pages-pages.ensures.limit fit
     (few_workers c.args.self.now.state _ plan c.in_ok-spec.ensures.counts).0)
-    columns (subst (AreOfBuilds inside.builds) (sym c.restart_all.ensures.sent) c.self.invariant.4) c.restart_all.ensures.workers c.empty_side.ensures.drained
+    columns (subst (AreOfBuilds inside.builds) (sym c.restart_all.ensures.sent) c.self.invariant.4) c.restart_all.ensures.workers c.empty_side.ensures.same_ring c.empty_side.ensures.drained
     lent.0 lent.1
 
 pub returns-clause-started : goal.returns-clause-started
@@ -137,7 +137,7 @@ returns-clause-started g c =
     let work : work_state c.restart_all.new.workers.items (Some c.in_ok-work.work) ≡ fresh_work plan =
     ap (λ (ws : List WorkerValue). work_state ws (Some c.in_ok-work.work)) c.restart_all.ensures.workers
     ∙ ap (λ (w : WorkValue). work_state (map (begun_on (inside.builds + 1)) new_pages) (Some w))
-    (c.in_ok-work.ensures.ok ∙ ap (λ s. fresh c.schema-schema.result.now s plan.workers) c.in_ok-clone.ensures.same)
+    (c.in_ok-work.ensures.ok ∙ ap (λ s. fresh (inside.builds + 1) c.schema-schema.result.now s plan.workers) c.in_ok-clone.ensures.same)
     ∙ fresh_is plan c.schema-schema.result.now spec (inside.builds + 1) new_pages few one in
     let spools : List SpoolValue = map (spool_value g.S.Spool.runs g.S.Spool.open_run g.S.Spool.stake) c.building.inside.spools.items in
     let now : BuildingValue = c.args.building.now in

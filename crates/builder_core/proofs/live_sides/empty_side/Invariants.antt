@@ -1,7 +1,7 @@
 use Rattle.std.proofs.Common.{◌≡◌, ◌+◌, ◌++◌, length}
 use Rattle.rtrb.specs.Ring.{received, known_items}
 use Rattle.side_file.specs.Ends.{ring_take}
-use Rattle.builder_core.proofs.live_builds.empty_side.Given as goal
+use Rattle.builder_core.proofs.live_sides.empty_side.Given as goal
 
 abbrev pub invariant-loop : goal.invariant-loop
 invariant-loop l = record {

@@ -1,6 +1,6 @@
 use Rattle.std.proofs.Common.{◌∙◌}
 use Rattle.builder_core.proofs.Merges.{ended_same}
-use Rattle.builder_core.proofs.merging.merged_pairs.Goals as goal
+use Rattle.builder_core.proofs.merging.merged_tree.Goals as goal
 
 pub returns-clause-ended : goal.returns-clause-ended
 returns-clause-ended g c =

@@ -1,7 +1,7 @@
 use Rattle.std.proofs.Common.{subst}
 use Rattle.keybytes.specs.Pairs.{HaveKeysOf, AreInColumnOrder}
 use Rattle.builder_core.specs.CoreState.{ReadyValue}
-use Rattle.builder_core.proofs.ready_index.ReadyIndex.pairs.Goals as goal
+use Rattle.builder_core.proofs.ready_index.ReadyIndex.tree.Goals as goal
 
 pub returns-clause-keys : goal.returns-clause-keys
 returns-clause-keys c = subst (λ (index : ReadyValue). HaveKeysOf index.spec index.pairs) c.self.view_is c.self.invariant.keys
