@@ -1,10 +1,9 @@
 -- Entries that are taken and applied, one after another.
-use Rattle.std.proofs.Common.{◌≡◌, ℕ, ◌+◌, List, [], ◌++◌, length, length-append, append_assoc, append-nil, refl, sym, ap, ◌∙◌, arith, rules, subst}
+use Rattle.std.proofs.Common.{◌≡◌, ℕ, ◌+◌, List, [], ◌++◌, length, length-append, append_assoc, append-nil, sym, ap, ◌∙◌, arith, rules, subst}
 use Rattle.std.specs.declared.alloc.Global.{Global}
 use Rattle.rtrb.specs.declared.consumer.Consumer.{Consumer}
 use Rattle.rtrb.specs.Ring.{received, known_items, ConsumerLooked}
 use Rattle.keybytes.specs.Pairs.{set_of}
-use Rattle.side_file.specs.Ends.{ring_take}
 use Rattle.side_file.specs.declared.entry.Entry.{Entry}
 use Rattle.visibility.specs.Applied.{apply_entries}
 use Rattle.visibility.proofs.Changes.{apply-append}
@@ -35,7 +34,7 @@ module _ {P : Type 0} where
     known = (
       first.known.0 ++ then.known.0,
       sym (append_assoc (known_items a) first.known.0 then.known.0) ∙ ap (λ xs. xs ++ then.known.0) first.known.1
-      ∙ append_assoc es (known_items b) then.known.0 ∙ ap (λ xs. es ++ xs) then.known.1 ∙ sym (append_assoc es fs (known_items c)),
+          ∙ append_assoc es (known_items b) then.known.0 ∙ ap (λ xs. es ++ xs) then.known.1 ∙ sym (append_assoc es fs (known_items c)),
     );
   }
 

@@ -2,13 +2,14 @@
 ghost use Rattle.std.specs.Prelude.{◌≡◌, map, IfOk};
 ghost use Rattle.side_file.specs.Ends.{ring_take};
 
-use catch_up::{Built, catch_up, make_room};
+use catch_up::{Built, apply};
 use keybytes::Fault;
 use rtrb::Consumer;
-use side_file::{Entry, SideFile};
+use side_file::{Entry, RING_ENTRIES, SideFile};
 use std::alloc::{AllocError, Global};
 
-/// A side-file, with the other end of its ring. What is refused for want of memory is tried once more: it has changed nothing.
+/// A side-file, with the other end of its ring. What is refused for want of memory is tried once more: it has lost
+/// nothing.
 #[derive(Drop)]
 pub struct BothEnds {
     side: SideFile,
@@ -41,6 +42,10 @@ impl BothEnds {
         self.side.reset();
     }
 
+    pub fn fed(&self) -> usize {
+        self.side.fed()
+    }
+
     pub fn left(&self) -> usize {
         self.side.left()
     }
@@ -59,11 +64,19 @@ impl BothEnds {
         self.consumer.pop().ok()
     }
 
-    pub fn catch_up(&mut self, built: &mut Built) -> Result<(), Fault> {
-        if make_room(built, &mut self.side, &mut self.consumer).is_err() {
-            make_room(built, &mut self.side, &mut self.consumer)?;
+    /// Takes at most `k` entries out of the ring and applies them.
+    pub fn apply(&mut self, built: &mut Built, k: usize) -> Result<usize, Fault> {
+        apply(built, &mut self.consumer, k)
+    }
+
+    /// Feeds and applies as much as a ring holds, that many times.
+    pub fn take_turns(&mut self, built: &mut Built, turns: usize) -> Result<(), Fault> {
+        for _ in 0..turns {
+            self.feed(RING_ENTRIES);
+            if self.apply(built, RING_ENTRIES).is_err() {
+                self.apply(built, RING_ENTRIES)?;
+            }
         }
-        catch_up(built, &mut self.side, &mut self.consumer);
         Ok(())
     }
 }

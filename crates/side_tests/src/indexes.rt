@@ -1,5 +1,6 @@
 //! Indexes that are brought up to date by the entries of their side-files.
 use crate::both_ends::BothEnds;
+use btree::Tree;
 use catch_up::Built;
 use keybytes::{Fault, Key, Rid};
 use side_file::{Entry, Op};
@@ -49,7 +50,16 @@ fn entry(alloc: Global, short: Short) -> Result<Entry, Fault> {
 }
 
 fn empty(alloc: Global, build: u64) -> Built {
-    Built::new(build, Vec::new(alloc))
+    Built::new(build, Tree::new(alloc))
+}
+
+/// The pages of the pairs, in order.
+fn pages(alloc: Global, built: &Built) -> Result<Vec<u32>, Fault> {
+    let mut pages = Vec::new(alloc);
+    for pair in built.tree().iter() {
+        pages.push(pair.rid.page)?;
+    }
+    Ok(pages)
 }
 
 /// The pages of an index of build 7, once all entries are applied. The first entry is in the ring by then.
@@ -60,13 +70,8 @@ fn caught_up(alloc: Global, entries: &[Short]) -> Result<Vec<u32>, Fault> {
     }
     both.feed(1);
     let mut built = empty(alloc, 7);
-    both.catch_up(&mut built)?;
-    let pages = built
-        .pairs()
-        .iter()
-        .map(|pair| pair.rid.page)
-        .collect(alloc)?;
-    Ok(pages)
+    both.take_turns(&mut built, 1)?;
+    pages(alloc, &built)
 }
 
 #[test]
@@ -78,7 +83,7 @@ fn take_the_entries_of_their_build(rt: HostRuntime) -> Result<(), Fail> {
     Ok(())
 }
 
-/// More entries than a ring has room for, the greatest key first.
+/// Four times what a ring has room for, and a little less: the greatest key first.
 #[test]
 fn take_a_thousand_entries(rt: HostRuntime) -> Result<(), Fail> {
     let alloc = rt.alloc();
@@ -87,10 +92,34 @@ fn take_a_thousand_entries(rt: HostRuntime) -> Result<(), Fail> {
         both.append(entry(alloc, (3, Op::Insert, b'a', 1000 - page))?)?;
     }
     let mut built = empty(alloc, 3);
-    both.catch_up(&mut built)?;
+    both.take_turns(&mut built, 3)?;
+    assert!(rt; both.left() == 232 && built.tree().len() == 768);
+    both.take_turns(&mut built, 1)?;
     assert!(rt; both.left() == 0 && both.in_ring() == 0 && built.build() == 3);
-    let pairs = built.into_pairs();
-    assert!(rt; pairs.len() == 1000 && matches!(pairs.first(), Some(pair) if pair.rid.page == 1));
+    let tree = built.into_tree();
+    assert!(rt;
+        tree.len() == 1000 && matches!(tree.iter().next(), Some(pair) if pair.rid.page == 1)
+    );
+    Ok(())
+}
+
+/// One entry of another build is among five that are in the ring, and a sixth is left.
+#[test]
+fn take_no_more_than_asked(rt: HostRuntime) -> Result<(), Fail> {
+    let alloc = rt.alloc();
+    let mut both = BothEnds::new(alloc)?;
+    for (build, page) in [(7, 0), (6, 1), (7, 2), (7, 3), (7, 4), (7, 5)] {
+        both.append(entry(alloc, (build, Op::Insert, b'a', page))?)?;
+    }
+    both.feed(5);
+    let mut built = empty(alloc, 7);
+    assert!(rt;
+        both.apply(&mut built, 3)? == 3 && pages(alloc, &built)?.as_slice() == [0, 2].as_slice()
+    );
+    assert!(rt;
+        both.apply(&mut built, 9)? == 2 && both.apply(&mut built, 9)? == 0 && both.left() == 1
+    );
+    assert!(rt; pages(alloc, &built)?.as_slice() == [0, 2, 3, 4].as_slice());
     Ok(())
 }
 
@@ -101,8 +130,8 @@ fn ten_entries(alloc: Global) -> Result<bool, Fault> {
         both.append(entry(alloc, (7, Op::Insert, b'a', page))?)?;
     }
     let mut built = empty(alloc, 7);
-    both.catch_up(&mut built)?;
-    Ok(built.pairs().len() == 10)
+    both.take_turns(&mut built, 1)?;
+    Ok(built.tree().len() == 10)
 }
 
 #[test]

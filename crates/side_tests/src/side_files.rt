@@ -60,10 +60,13 @@ fn a_reset_drops_what_is_left(rt: HostRuntime) -> Result<(), Fail> {
     let mut both = BothEnds::new(alloc)?;
     append_all(&mut both, alloc, 5)?;
     assert!(rt; both.feed(2) == 2 && both.pages_left(alloc)?.as_slice() == [2, 3, 4].as_slice());
+    assert!(rt; both.fed() == 2);
     both.reset();
-    assert!(rt; both.left() == 0 && both.in_ring() == 2);
+    assert!(rt; both.left() == 0 && both.fed() == 0 && both.in_ring() == 2);
     append_all(&mut both, alloc, 1)?;
-    assert!(rt; both.pages_left(alloc)?.as_slice() == [0].as_slice() && both.feed(9) == 1);
+    assert!(rt;
+        both.pages_left(alloc)?.as_slice() == [0].as_slice() && both.feed(9) == 1 && both.fed() == 1
+    );
     assert!(rt;
         takes_all(&mut both, alloc, 0, 2) && takes(&mut both, alloc, 0) && both.in_ring() == 0
     );

@@ -47,8 +47,8 @@ returns c =
       most = omega (arith, so_far.count, c.loop.auto, c.min-count.ensures);
       count = search rules;
       all = λ few. nil_from_length (known_items c.loop.ring) (
-        omega (arith, few, so_far.count, c.loop.auto, c.loop-test.false, c.loop.invariant.rest, c.min-count.ensures, c.slots.ensures.value)
-      );
+          omega (arith, few, so_far.count, c.loop.auto, c.loop-test.false, c.loop.invariant.rest, c.min-count.ensures, c.slots.ensures.value)
+          );
       short = search rules;
       memory = search rules;
     }
