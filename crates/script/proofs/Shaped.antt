@@ -7,7 +7,7 @@ use Rattle.script.specs.Lines.{SpellLine, SpellParts, SpellTable, SpellsLabel, n
 use Rattle.script.specs.Shapes.{Fit, HasShape, IsRemark, IsSpelled, parts_of, repeated_of, written}
 use Rattle.script.specs.declared.command.Command.{Command}
 use Rattle.script.specs.declared.command.Command.TheVariants.{Row, Begin, Insert, Update, Delete, Undo, Commit, Get, Start as StartCommand, Scan, Digest, Seal}
-use Rattle.script.specs.declared.command.Command.TheVariants.{Load, Switch, Abandon, Side, Pairs, Rest}
+use Rattle.script.specs.declared.command.Command.TheVariants.{Load, Feed, Apply, Switch, Abandon, Side, Pairs, Rest}
 use Rattle.script.specs.declared.command_name.CommandName.{CommandName}
 use Rattle.script.specs.declared.command_name.CommandName.TheVariants as name
 use Rattle.script.specs.declared.line.Line.{Line}
@@ -93,6 +93,8 @@ command_fits fields (Scan range worker) spelled = two_fit SpellsNumber part.Numb
 command_fits fields (Digest worker) spelled = one_fits SpellsNumber part.Number number_part fields worker spelled
 command_fits fields (Seal worker) spelled = one_fits SpellsNumber part.Number number_part fields worker spelled
 command_fits fields (Load index) spelled = one_fits SpellsNumber part.Number number_part fields index spelled
+command_fits fields (Feed index most) spelled = two_fit SpellsNumber part.Number number_part fields index most spelled
+command_fits fields (Apply index most) spelled = two_fit SpellsNumber part.Number number_part fields index most spelled
 command_fits [] Switch spelled = tt
 command_fits (f ∷ fs) Switch spelled = cc
 command_fits [] Abandon spelled = tt
@@ -127,6 +129,8 @@ named text =
     else if bytes_eq text (codes "digest") then name.Digest
     else if bytes_eq text (codes "seal") then name.Seal
     else if bytes_eq text (codes "load") then name.Load
+    else if bytes_eq text (codes "feed") then name.Feed
+    else if bytes_eq text (codes "apply") then name.Apply
     else if bytes_eq text (codes "switch") then name.Switch
     else if bytes_eq text (codes "abandon") then name.Abandon
     else if bytes_eq text (codes "side") then name.Side
@@ -149,6 +153,8 @@ named_written name.Scan = refl
 named_written name.Digest = refl
 named_written name.Seal = refl
 named_written name.Load = refl
+named_written name.Feed = refl
+named_written name.Apply = refl
 named_written name.Switch = refl
 named_written name.Abandon = refl
 named_written name.Side = refl
@@ -175,6 +181,8 @@ begins_plain name.Scan = refl
 begins_plain name.Digest = refl
 begins_plain name.Seal = refl
 begins_plain name.Load = refl
+begins_plain name.Feed = refl
+begins_plain name.Apply = refl
 begins_plain name.Switch = refl
 begins_plain name.Abandon = refl
 begins_plain name.Side = refl
@@ -200,6 +208,8 @@ not_table (Scan range worker) is = cc
 not_table (Digest worker) is = cc
 not_table (Seal worker) is = cc
 not_table (Load index) is = cc
+not_table (Feed index most) is = cc
+not_table (Apply index most) is = cc
 not_table Switch is = cc
 not_table Abandon is = cc
 not_table (Side index) is = cc

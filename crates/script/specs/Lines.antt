@@ -9,7 +9,7 @@ use Rattle.script.specs.declared.line.Line.{Line}
 use Rattle.script.specs.declared.line.Line.TheVariants.{PassedOver, Table as TableLine, Command as CommandLine}
 use Rattle.script.specs.declared.command.Command.{Command}
 use Rattle.script.specs.declared.command.Command.TheVariants.{Row, Begin, Insert, Update, Delete, Undo, Commit, Get, Start as StartCommand, Scan, Digest, Seal}
-use Rattle.script.specs.declared.command.Command.TheVariants.{Load, Switch, Abandon, Side, Pairs, Rest}
+use Rattle.script.specs.declared.command.Command.TheVariants.{Load, Feed, Apply, Switch, Abandon, Side, Pairs, Rest}
 use Rattle.script.specs.declared.command_name.CommandName.{CommandName}
 use Rattle.script.specs.declared.command_name.CommandName.TheVariants as name
 use Rattle.script.specs.declared.start.Start.{Start}
@@ -64,6 +64,8 @@ name_of (Scan range worker) = name.Scan
 name_of (Digest worker) = name.Digest
 name_of (Seal worker) = name.Seal
 name_of (Load index) = name.Load
+name_of (Feed index most) = name.Feed
+name_of (Apply index most) = name.Apply
 name_of Switch = name.Switch
 name_of Abandon = name.Abandon
 name_of (Side index) = name.Side
@@ -85,6 +87,8 @@ SpellParts fields (Scan range worker) = AllZip SpellsNumber fields (range ∷ wo
 SpellParts fields (Digest worker) = AllZip SpellsNumber fields (worker ∷ [])
 SpellParts fields (Seal worker) = AllZip SpellsNumber fields (worker ∷ [])
 SpellParts fields (Load index) = AllZip SpellsNumber fields (index ∷ [])
+SpellParts fields (Feed index most) = AllZip SpellsNumber fields (index ∷ most ∷ [])
+SpellParts fields (Apply index most) = AllZip SpellsNumber fields (index ∷ most ∷ [])
 SpellParts fields Switch = fields ≡ []
 SpellParts fields Abandon = fields ≡ []
 SpellParts fields (Side index) = AllZip SpellsNumber fields (index ∷ [])

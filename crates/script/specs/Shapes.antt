@@ -7,7 +7,7 @@ use Rattle.keybytes.specs.declared.rid.Rid.{Rid}
 use Rattle.script.specs.Fields.{is_label, SpellsCell, SpellsDealing, SpellsKind, SpellsNumber, SpellsRid, SpellsSpec}
 use Rattle.script.specs.declared.command_name.CommandName.{CommandName}
 use Rattle.script.specs.declared.command_name.CommandName.TheVariants.{Table, Row, Begin, Insert, Update, Delete, Undo, Commit, Get, Start, Scan, Digest, Seal}
-use Rattle.script.specs.declared.command_name.CommandName.TheVariants.{Load, Switch, Abandon, Side, Pairs, Rest}
+use Rattle.script.specs.declared.command_name.CommandName.TheVariants.{Load, Feed, Apply, Switch, Abandon, Side, Pairs, Rest}
 use Rattle.script.specs.declared.dealing.Dealing.{Dealing}
 use Rattle.script.specs.declared.part.Part.{Part}
 use Rattle.script.specs.declared.part.Part.TheVariants as part
@@ -29,6 +29,8 @@ written Scan = codes "scan"
 written Digest = codes "digest"
 written Seal = codes "seal"
 written Load = codes "load"
+written Feed = codes "feed"
+written Apply = codes "apply"
 written Switch = codes "switch"
 written Abandon = codes "abandon"
 written Side = codes "side"
@@ -51,6 +53,8 @@ parts_of Scan = part.Number ∷ part.Number ∷ []
 parts_of Digest = part.Number ∷ []
 parts_of Seal = part.Number ∷ []
 parts_of Load = part.Number ∷ []
+parts_of Feed = part.Number ∷ part.Number ∷ []
+parts_of Apply = part.Number ∷ part.Number ∷ []
 parts_of Switch = []
 parts_of Abandon = []
 parts_of Side = part.Number ∷ []
@@ -73,6 +77,8 @@ repeated_of Scan = None
 repeated_of Digest = None
 repeated_of Seal = None
 repeated_of Load = None
+repeated_of Feed = None
+repeated_of Apply = None
 repeated_of Switch = None
 repeated_of Abandon = None
 repeated_of Side = None

@@ -52,6 +52,16 @@ pub enum Command {
     Load {
         index: usize,
     },
+    /// Moves entries of an index into its ring, that many at most.
+    Feed {
+        index: usize,
+        most: usize,
+    },
+    /// Takes entries out of the ring of an index and applies them, that many at most.
+    Apply {
+        index: usize,
+        most: usize,
+    },
     Switch,
     /// Gives the build up.
     Abandon,

@@ -21,6 +21,8 @@ pub enum CommandName {
     Digest,
     Seal,
     Load,
+    Feed,
+    Apply,
     Switch,
     Abandon,
     Side,
@@ -48,6 +50,8 @@ impl CommandName {
             "digest" => CommandName::Digest,
             "seal" => CommandName::Seal,
             "load" => CommandName::Load,
+            "feed" => CommandName::Feed,
+            "apply" => CommandName::Apply,
             "switch" => CommandName::Switch,
             "abandon" => CommandName::Abandon,
             "side" => CommandName::Side,
@@ -70,7 +74,10 @@ impl CommandName {
             CommandName::Delete => &[Part::Label, Part::Rid],
             CommandName::Get => &[Part::Rid],
             CommandName::Start => &[Part::Number, Part::Number, Part::Dealing, Part::Spec],
-            CommandName::Scan => &[Part::Number, Part::Number],
+            CommandName::Scan | CommandName::Feed | CommandName::Apply => &[
+                Part::Number,
+                Part::Number,
+            ],
             CommandName::Digest
             | CommandName::Seal
             | CommandName::Load
@@ -120,6 +127,8 @@ impl CommandName {
             CommandName::Digest => "digest,W",
             CommandName::Seal => "seal,W",
             CommandName::Load => "load,I",
+            CommandName::Feed => "feed,I,K",
+            CommandName::Apply => "apply,I,K",
             CommandName::Switch => "switch",
             CommandName::Abandon => "abandon",
             CommandName::Side => "side,I",

@@ -129,6 +129,14 @@ fn named(alloc: Global, name: CommandName, fields: &[&str]) -> Result<Line, Reco
         CommandName::Load => Command::Load {
             index: only_count(fields)?,
         },
+        CommandName::Feed => {
+            let (index, most) = two_counts(fields)?;
+            Command::Feed { index, most }
+        }
+        CommandName::Apply => {
+            let (index, most) = two_counts(fields)?;
+            Command::Apply { index, most }
+        }
         CommandName::Switch => {
             none(fields)?;
             Command::Switch

@@ -4,7 +4,7 @@ use script::Script;
 use std::test::Fail;
 
 /// Bad scripts, each with what is said of it.
-const EXPLAINED: [(&[u8], &str); 27] = [
+const EXPLAINED: [(&[u8], &str); 29] = [
     (
         b"table,2,int\nrow,x\n",
         "record 2 is bad: field 2, \"x\", is no cell (~, a number, =text, true or false)",
@@ -56,7 +56,7 @@ const EXPLAINED: [(&[u8], &str); 27] = [
     (
         b"table,2,int\nfly\n",
         "record 2 is bad: field 1, \"fly\", is no command (table, row, begin, insert, update, delete, undo, commit, get, start, \
-            scan, digest, seal, load, switch, abandon, side, pairs or rest)",
+            scan, digest, seal, load, feed, apply, switch, abandon, side, pairs or rest)",
     ),
     (
         b"table,2,int\nupdate,A,0.0\n",
@@ -101,6 +101,14 @@ const EXPLAINED: [(&[u8], &str); 27] = [
     (
         b"table,2,int\nscan,0\n",
         "record 2 is bad: it has too few fields (scan,R,W)",
+    ),
+    (
+        b"table,2,int\nfeed,0\n",
+        "record 2 is bad: it has too few fields (feed,I,K)",
+    ),
+    (
+        b"table,2,int\napply,0,1,2\n",
+        "record 2 is bad: it has too many fields (apply,I,K)",
     ),
     (
         b"table,2,int\ndelete,A,0.65536\n",

@@ -4,7 +4,7 @@ use script::{Script, ScriptError};
 use std::test::Fail;
 
 /// Records that are taken, each behind a record `table`.
-const TAKEN: [&str; 29] = [
+const TAKEN: [&str; 31] = [
     "row,0,007,-5,-0,9223372036854775807,-9223372036854775808",
     "row,~,=,=~,=a b,true,false",
     "row,\"=a,b\"",
@@ -25,6 +25,8 @@ const TAKEN: [&str; 29] = [
     "digest,0",
     "seal,00000000000000000001",
     "load,0",
+    "feed,0,1",
+    "apply,4294967295,00",
     "switch",
     "pairs,0",
     "rest,u:12;4294967295",
@@ -37,7 +39,7 @@ const TAKEN: [&str; 29] = [
 ];
 
 /// Records that are bad, each behind a record `table`.
-const BAD: [&str; 94] = [
+const BAD: [&str; 101] = [
     "\"\"",
     ",row",
     " row,1",
@@ -127,6 +129,13 @@ const BAD: [&str; 94] = [
     "seal",
     "seal,-1",
     "load,1.0",
+    "feed,0",
+    "feed,0,1,2",
+    "feed,0,+1",
+    "feed,0;1",
+    "apply",
+    "apply,0,",
+    "apply,0,4294967296",
     "switch,0",
     "switch,",
     "pairs",
