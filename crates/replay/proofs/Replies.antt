@@ -7,10 +7,10 @@ use Rattle.builder_core.specs.CoreState.{CoreState}
 use Rattle.builder_core.specs.Steps.{Does, Step}
 use Rattle.heap_log.specs.declared.outcome.Outcome.{Outcome}
 use Rattle.builder_core.specs.declared.event.Event.{Event}
-use Rattle.builder_core.specs.declared.event.Event.TheVariants.{Begin, Insert, Update, Delete, Undo, Commit, Start, Scan, Digest, Seal, Load, Switch, Abandon}
+use Rattle.builder_core.specs.declared.event.Event.TheVariants.{Begin, Insert, Update, Delete, Undo, Commit, Start, Scan, Digest, Seal, Load, Feed, Apply, Switch, Abandon}
 use Rattle.builder_core.specs.declared.plan.Plan.{Plan}
 use Rattle.builder_core.specs.declared.reply.Reply.{Reply}
-use Rattle.builder_core.specs.declared.reply.Reply.TheVariants.{Begun, Written, Undone, Committed, Started, Scanned, Digested, Sealed, Loaded, Switched}
+use Rattle.builder_core.specs.declared.reply.Reply.TheVariants.{Begun, Written, Undone, Committed, Started, Scanned, Digested, Sealed, Loaded, Fed, Applied, Switched}
 use Rattle.builder_core.specs.declared.reply.Reply.TheVariants.{Abandoned, Refused}
 use Rattle.replay.specs.Leasing.{KeepsBuild}
 
@@ -66,6 +66,8 @@ record IsNone (other : Reply) : Type 0 where
   digested : (images : ℕ) → other ≡ Digested images → ⊥
   sealed : (images : ℕ) → other ≡ Sealed images → ⊥
   loaded : (pairs : ℕ) → other ≡ Loaded pairs → ⊥
+  fed : (entries : ℕ) → other ≡ Fed entries → ⊥
+  applied : (entries : ℕ) → other ≡ Applied entries → ⊥
 
 done_so : (event : Event) (old new : CoreState) (other : Reply) → KeepsBuild event → Does old event other new → IsNone other → ⊥
 done_so Begin old new other keeps done none = none.begun _ done.1
@@ -79,6 +81,8 @@ done_so (Scan range worker) old new other keeps done none = none.scanned _ done.
 done_so (Digest worker) old new other keeps done none = none.digested _ done.1
 done_so (Seal worker) old new other keeps done none = none.sealed _ done.1
 done_so (Load index) old new other keeps done none = none.loaded _ done.1
+done_so (Feed index most) old new other keeps done none = none.fed _ done.1
+done_so (Apply index most) old new other keeps done none = none.applied _ done.1
 done_so Switch old new other keeps done none = absurd keeps
 done_so Abandon old new other keeps done none = absurd keeps
 
@@ -87,8 +91,9 @@ pub kept : (event : Event) (old new : CoreState) (other : Reply) → KeepsBuild 
     → ((txn : ℕ) → other ≡ Begun txn → ⊥) → ((number : ℕ) (rid : Rid) → other ≡ Written number rid → ⊥)
     → ((number left : ℕ) → other ≡ Undone number left → ⊥) → ((number : ℕ) → other ≡ Committed number → ⊥)
     → ((page : ℕ) → other ≡ Scanned page → ⊥) → ((images : ℕ) → other ≡ Digested images → ⊥) → ((images : ℕ) → other ≡ Sealed images → ⊥)
-    → ((pairs : ℕ) → other ≡ Loaded pairs → ⊥) → ((fault : Fault) → other ≡ Refused fault → ⊥) → ⊥
-kept event old new other keeps (inl refused) a b c d e f g h not_refused = not_refused refused.0 refused.1
-kept event old new other keeps (inr done) a b c d e f g h not_refused =
+    → ((pairs : ℕ) → other ≡ Loaded pairs → ⊥) → ((entries : ℕ) → other ≡ Fed entries → ⊥) → ((entries : ℕ) → other ≡ Applied entries → ⊥)
+    → ((fault : Fault) → other ≡ Refused fault → ⊥) → ⊥
+kept event old new other keeps (inl refused) a b c d e f g h i j not_refused = not_refused refused.0 refused.1
+kept event old new other keeps (inr done) a b c d e f g h i j not_refused =
     done_so event old new other keeps done.1
-    (record { begun = a; written = b; undone = c; committed = d; scanned = e; digested = f; sealed = g; loaded = h })
+    (record { begun = a; written = b; undone = c; committed = d; scanned = e; digested = f; sealed = g; loaded = h; fed = i; applied = j })

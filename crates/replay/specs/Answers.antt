@@ -19,7 +19,7 @@ use Rattle.builder_core.specs.declared.reply.Reply.{Reply}
 use Rattle.builder_core.specs.declared.reply.Reply.TheVariants as reply
 use Rattle.script.specs.declared.command.Command.{Command}
 use Rattle.script.specs.declared.command.Command.TheVariants.{Row, Begin, Insert, Update, Delete, Undo, Commit, Get, Start as StartCommand, Scan, Digest}
-use Rattle.script.specs.declared.command.Command.TheVariants.{Seal, Load, Switch, Abandon, Side, Pairs, Rest}
+use Rattle.script.specs.declared.command.Command.TheVariants.{Seal, Load, Feed, Apply, Switch, Abandon, Side, Pairs, Rest}
 use Rattle.script.specs.declared.start.Start.{Start}
 use Rattle.replay.specs.Labels.{named}
 use Rattle.replay.specs.Leasing.{EndsBuild, FailsToStart, StartsOver}
@@ -40,6 +40,8 @@ answer_to (reply.Scanned page) = answer.Number page
 answer_to (reply.Digested images) = answer.Number images
 answer_to (reply.Sealed images) = answer.Number images
 answer_to (reply.Loaded pairs) = answer.Number pairs
+answer_to (reply.Fed entries) = answer.Number entries
+answer_to (reply.Applied entries) = answer.Number entries
 answer_to (reply.Switched number verdicts) = answer.Switched number verdicts 0
 answer_to reply.Abandoned = answer.Abandoned 0
 answer_to (reply.Refused fault) = answer.Refused fault
@@ -151,6 +153,8 @@ CarriesOut labels (Scan range worker) old given new = Happens (event.Scan range 
 CarriesOut labels (Digest worker) old given new = Happens (event.Digest worker) old given new
 CarriesOut labels (Seal worker) old given new = Happens (event.Seal worker) old given new
 CarriesOut labels (Load index) old given new = Happens (event.Load index) old given new
+CarriesOut labels (Feed index most) old given new = Happens (event.Feed index most) old given new
+CarriesOut labels (Apply index most) old given new = Happens (event.Apply index most) old given new
 CarriesOut labels Switch old given new = Decides old given new
 CarriesOut labels Abandon old given new = GivesUp old given new
 CarriesOut labels (Side index) old given new = ListsSide index old given new

@@ -12,7 +12,7 @@ use Rattle.builder_core.specs.CoreState.{CoreState, SpoolsState, idle, opening}
 use Rattle.builder_core.specs.Holding.{spools_in}
 use Rattle.builder_core.specs.Steps.{Step}
 use Rattle.builder_core.specs.declared.event.Event.{Event}
-use Rattle.builder_core.specs.declared.event.Event.TheVariants.{Begin, Insert, Update, Delete, Undo, Commit, Start, Scan, Digest, Seal, Load, Switch, Abandon}
+use Rattle.builder_core.specs.declared.event.Event.TheVariants.{Begin, Insert, Update, Delete, Undo, Commit, Start, Scan, Digest, Seal, Load, Feed, Apply, Switch, Abandon}
 use Rattle.builder_core.specs.declared.plan.Plan.{Plan}
 use Rattle.builder_core.specs.declared.reply.Reply.{Reply}
 use Rattle.builder_core.specs.declared.reply.Reply.TheVariants.{Refused}
@@ -98,5 +98,7 @@ KeepsBuild (Scan range worker) = Unit {0}
 KeepsBuild (Digest worker) = Unit {0}
 KeepsBuild (Seal worker) = Unit {0}
 KeepsBuild (Load index) = Unit {0}
+KeepsBuild (Feed index most) = Unit {0}
+KeepsBuild (Apply index most) = Unit {0}
 KeepsBuild Switch = ⊥
 KeepsBuild Abandon = ⊥

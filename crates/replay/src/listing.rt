@@ -8,6 +8,7 @@ ghost use Rattle.replay.specs.Listings.{ListsPair, ListsEntry};
 
 use crate::entry_line::EntryLine;
 use crate::pair_line::PairLine;
+use btree::Tree;
 use builder_core::{Entry, Pair};
 use keybytes::{Fault, KeySpec};
 use std::alloc::Global;
@@ -21,13 +22,34 @@ pub fn pair_lines(alloc: Global, spec: &KeySpec, pairs: &[Pair]) -> Result<Vec<P
 {
     let mut lines = Vec::with_capacity(alloc, pairs.len())?;
     for pair in pairs {
-        let cells = spec.cells(&pair.key)?;
-        lines.push(PairLine {
-            cells,
-            rid: pair.rid,
-        })?;
+        lines.push(pair_line(spec, pair)?)?;
     }
     Ok(lines)
+}
+
+/// The pairs of a tree as they are printed.
+pub fn tree_lines(alloc: Global, spec: &KeySpec, tree: &Tree) -> Result<Vec<PairLine>, Fault>
+    requires { HaveKeysOf spec.now tree.now.pairs }
+    ensures lists { IfOk result (λ lines. AllZip (ListsPair spec.now) tree.now.pairs lines.items) }
+    ensures memory { IfErr result (λ fault. fault ≡ Fault.Memory) }
+{
+    let mut lines = Vec::with_capacity(alloc, tree.len())?;
+    for pair in tree.iter() {
+        lines.push(pair_line(spec, pair)?)?;
+    }
+    Ok(lines)
+}
+
+fn pair_line(spec: &KeySpec, pair: &Pair) -> Result<PairLine, Fault>
+    requires { IsKeyOf spec.now pair.now.key }
+    ensures lists { IfOk result (λ line. ListsPair spec.now pair.now line) }
+    ensures memory { IfErr result (λ fault. fault ≡ Fault.Memory) }
+{
+    let cells = spec.cells(&pair.key)?;
+    Ok(PairLine {
+        cells,
+        rid: pair.rid,
+    })
 }
 
 /// The entries of a side-file as they are printed.

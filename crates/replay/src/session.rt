@@ -16,7 +16,7 @@ use crate::answer::Answer;
 use crate::bench::Bench;
 use crate::entry_line::EntryLine;
 use crate::labels::Labels;
-use crate::listing::{entry_lines, pair_lines};
+use crate::listing::{entry_lines, pair_lines, tree_lines};
 use crate::plan::{dealing_of, is_in_limits};
 use crate::status::Status;
 use crate::txn::{begin, put, take_back};
@@ -81,6 +81,8 @@ impl Session {
             Command::Digest { worker } => step(bench, Event::Digest { worker }),
             Command::Seal { worker } => step(bench, Event::Seal { worker }),
             Command::Load { index } => step(bench, Event::Load { index }),
+            Command::Feed { index, most } => step(bench, Event::Feed { index, most }),
+            Command::Apply { index, most } => step(bench, Event::Apply { index, most }),
             Command::Switch => self.switch(bench),
             Command::Abandon => self.abandon(bench),
             Command::Side { index } => self.side(bench.core(), index),
@@ -269,7 +271,7 @@ impl Session {
         ensures { Answers (state_of core.now self.now) (Command.Pairs number) result (state_of core.now self.now) }
     {
         let index = core.ready(number)?;
-        let lines = pair_lines(self.alloc, index.spec(), index.pairs())?;
+        let lines = tree_lines(self.alloc, index.spec(), index.tree())?;
         Ok(Answer::Pairs { lines })
     }
 
@@ -309,7 +311,9 @@ fn step<T: Table>(bench: &mut Bench<T>, event: Event) -> Result<Answer, Fault>
         Reply::Committed { number: count }
         | Reply::Digested { images: count }
         | Reply::Sealed { images: count }
-        | Reply::Loaded { pairs: count } => Answer::Number {
+        | Reply::Loaded { pairs: count }
+        | Reply::Fed { entries: count }
+        | Reply::Applied { entries: count } => Answer::Number {
             number: count as u64,
         },
         Reply::Refused { fault } => return Err(fault),

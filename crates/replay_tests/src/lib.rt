@@ -6,6 +6,8 @@ mod case;
 #[cfg(test)]
 mod faulty;
 #[cfg(test)]
+mod many_entries;
+#[cfg(test)]
 mod printed;
 #[cfg(test)]
 mod scripts;

@@ -2,6 +2,7 @@
 
 mod bad_scripts;
 mod builds;
+mod catching_up;
 mod tables;
 mod transactions;
 mod while_in_use;
@@ -11,12 +12,13 @@ use crate::printed::Printed;
 use std::alloc::{AllocError, Global};
 use std::test::Fail;
 
-fn cases() -> [&'static [Case]; 5] {
+fn cases() -> [&'static [Case]; 6] {
     [
         &tables::CASES,
         &transactions::CASES,
         &builds::CASES,
         &while_in_use::CASES,
+        &catching_up::CASES,
         &bad_scripts::CASES,
     ]
 }

@@ -1,0 +1,80 @@
+//! Scripts of many updates of one row beside a build that has scanned it: each leaves two entries.
+use crate::printed::Printed;
+use std::alloc::{AllocError, Global};
+use std::test::Fail;
+
+/// How many updates there are, the records behind them, and how their answers end.
+const CASES: [(u32, &str, &str); 2] = [
+    (
+        129,
+        "feed,0,300
+feed,0,1
+apply,0,2
+feed,0,9
+side,0
+apply,0,300
+switch
+pairs,0
+",
+        "137,ok,256
+138,ok,0
+139,ok,2
+140,ok,2
+141,ok,0
+142,ok,256
+143,ok,132,ready:0
+143,pages,0
+144,ok,1
+144,pair,129,0.0
+",
+    ),
+    (
+        512,
+        "insert,A,0
+switch
+feed,0,1
+switch
+apply,0,1
+switch
+pairs,0
+",
+        "520,ok,515,0.1
+521,refused,49,Behind,1025
+522,ok,1
+523,refused,49,Behind,1025
+524,ok,1
+525,ok,516,ready:0
+525,pages,0
+526,ok,2
+526,pair,0,0.1
+526,pair,512,0.0
+",
+    ),
+];
+
+/// The script of a loaded build, of so many updates and of the records behind them.
+fn script(alloc: Global, updates: u32, behind: &str) -> Result<String, AllocError> {
+    let mut script = String::from_str(
+        alloc,
+        "table,255,int\nrow,0\nstart,1,4,1,n:0\nscan,0,0\nseal,0\nload,0\nbegin,A\n",
+    )?;
+    for value in 0..updates {
+        script.push_str("update,A,0.0,")?;
+        let value = format!(in alloc; "{}\n", value + 1)?;
+        script.push_str(value.as_str())?;
+    }
+    script.push_str(behind)?;
+    Ok(script)
+}
+
+#[test]
+fn are_fed_and_applied(rt: HostRuntime) -> Result<(), Fail> {
+    for (updates, behind, end) in &CASES {
+        let script = script(rt.alloc(), *updates, behind)?;
+        let printed = Printed::by_replay(rt.alloc(), script.as_bytes());
+        let (out, err, status) = printed.parts();
+        assert!(rt; out.ends_with(end), "{updates}: {out}");
+        assert_eq!(rt; (err, status), ("", 0));
+    }
+    Ok(())
+}
