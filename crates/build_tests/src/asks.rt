@@ -49,6 +49,9 @@ pub enum Ask {
     /// By that worker.
     SealBy(usize),
     Load,
+    /// So many entries of that index at most.
+    Feed(usize, usize),
+    Apply(usize, usize),
     Switch,
     Abandon,
 }
@@ -110,6 +113,8 @@ pub fn event(alloc: Global, ask: Ask) -> Result<Event, Fault> {
         Ask::Seal => Ok(Event::Seal { worker: 0 }),
         Ask::SealBy(worker) => Ok(Event::Seal { worker }),
         Ask::Load => Ok(Event::Load { index: 0 }),
+        Ask::Feed(index, most) => Ok(Event::Feed { index, most }),
+        Ask::Apply(index, most) => Ok(Event::Apply { index, most }),
         Ask::Switch => Ok(Event::Switch),
         Ask::Abandon => Ok(Event::Abandon),
         _ => change(alloc, ask),
@@ -127,6 +132,7 @@ pub fn numbers_in(reply: &Reply) -> Result<(usize, usize), Fault> {
         Reply::Scanned { page } => Ok((*page as usize, 0)),
         Reply::Digested { images } | Reply::Sealed { images } => Ok((*images, 0)),
         Reply::Loaded { pairs } => Ok((*pairs, 0)),
+        Reply::Fed { entries } | Reply::Applied { entries } => Ok((*entries, 0)),
         Reply::Switched { number, .. } => Ok((*number, 0)),
         Reply::Abandoned => Ok((0, 0)),
         Reply::Refused { fault } => Err(*fault),

@@ -3,7 +3,7 @@ ghost use Rattle.std.specs.Prelude.{◌≡◌, map};
 ghost use Rattle.build_tests.specs.Owing.{IsOwed};
 
 use crate::asks::{Ask, answer, schema, spec, workers_of};
-use crate::entries::are_entries;
+use crate::entries::{are_entries, has_entries};
 use crate::kept::Kept;
 use crate::kind::Kind;
 use crate::pools::{QUOTA, new_pool};
@@ -26,6 +26,9 @@ pub enum Call {
     Begins(usize),
     /// A transaction inserts so many rows.
     Rows(i64),
+    /// At most so many entries are applied, and so many are where memory doesn't run out. Where it does, the rest of them is
+    /// when it is asked once more.
+    Applies(usize, usize),
     /// So many pages of the first range are copied, each taken by worker 0 before the next.
     Pages(usize),
     Get(Rid, Result<Option<i64>, Fault>),
@@ -49,7 +52,7 @@ fn answer_again<S: Spool, T: Table>(
 /// Whether the first index is on the table's column, and has the pairs of the three rows.
 fn are_ready<S: Spool, T: Table>(stand: &Stand<S, T>) -> Result<bool, Fault> {
     let index = stand.core().ready(0)?;
-    Ok(are_entries(index.pairs()) && index.spec().columns() == &[0][..])
+    Ok(has_entries(index.tree()) && index.spec().columns() == &[0][..])
 }
 
 fn number_at<S: Spool, T: Table>(stand: &mut Stand<S, T>, rid: Rid) -> Result<Option<i64>, Fault> {
@@ -100,6 +103,21 @@ fn copies<S: Spool, T: Table>(
     Ok(true)
 }
 
+fn applies<S: Spool, T: Table>(
+    stand: &mut Stand<S, T>,
+    alloc: Global,
+    most: usize,
+    count: usize,
+) -> Result<bool, Fault> {
+    match answer(stand, alloc, Ask::Apply(0, most)) {
+        Err(Fault::Memory) => {
+            let (rest, _) = answer(stand, alloc, Ask::Apply(0, most))?;
+            Ok(0 < rest && rest <= count)
+        }
+        told => Ok(told == Ok((count, 0))),
+    }
+}
+
 /// Whether it is so; want of memory is passed on.
 fn is_unless_wanting<X: PartialEq + Drop>(
     told: Result<X, Fault>,
@@ -139,6 +157,7 @@ fn is_answered<S: Spool, T: Table, K: Kind<S>>(
         Call::Left(ask, answer) => is_unless_wanting(answer_again(stand, alloc, *ask), answer),
         Call::Begins(count) => begins(stand, alloc, *count),
         Call::Rows(count) => inserts(stand, alloc, *count),
+        Call::Applies(most, count) => applies(stand, alloc, *most, *count),
         Call::Pages(count) => copies(stand, alloc, *count),
         Call::Get(rid, answer) => Ok(number_at(stand, *rid) == *answer),
         Call::Rest(answer) => {

@@ -1,6 +1,7 @@
 //! The pairs of three rows.
 
 use crate::asks::FIRST;
+use btree::Tree;
 use builder_core::Pair;
 use keybytes::Rid;
 
@@ -26,12 +27,26 @@ const ENTRIES: &[Entry] = &[
     },
 ];
 
+fn is_entry(entry: &Entry, pair: &Pair) -> bool {
+    pair.key.bytes() == entry.key && pair.rid == entry.rid
+}
+
 /// Whether the pairs are those of the three rows.
 pub fn are_entries(pairs: &[Pair]) -> bool {
     for (entry, pair) in ENTRIES.iter().zip(pairs) {
-        if pair.key.bytes() != entry.key || pair.rid != entry.rid {
+        if !is_entry(entry, pair) {
             return false;
         }
     }
     pairs.len() == ENTRIES.len()
+}
+
+/// Whether those of a tree are.
+pub fn has_entries(tree: &Tree) -> bool {
+    for (entry, pair) in ENTRIES.iter().zip(tree.iter()) {
+        if !is_entry(entry, pair) {
+            return false;
+        }
+    }
+    tree.len() == ENTRIES.len()
 }

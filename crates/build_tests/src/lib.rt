@@ -10,6 +10,8 @@ mod calls;
 #[cfg(test)]
 mod entries;
 #[cfg(test)]
+mod fed;
+#[cfg(test)]
 mod kept;
 #[cfg(test)]
 mod kind;

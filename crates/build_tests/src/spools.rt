@@ -100,7 +100,7 @@ const DIGEST_WANTS_A_PAGE: [Call; 5] = [
 ];
 
 /// A spoiled build can only be given up.
-const SPOILED: [Call; 13] = [
+const SPOILED: [Call; 16] = [
     Call::Building(true),
     Call::Event(Ask::Scan, Err(Fault::NoPage)),
     Call::Event(Ask::ScanIn(1), Err(Fault::BadCount)),
@@ -108,6 +108,9 @@ const SPOILED: [Call; 13] = [
     Call::Event(Ask::Digest(1), Err(Fault::BadCount)),
     Call::Event(Ask::Seal, Err(Fault::NoPage)),
     Call::Event(Ask::Load, Err(Fault::NoPage)),
+    Call::Event(Ask::Feed(0, 9), Ok((0, 0))),
+    Call::Event(Ask::Apply(0, 9), Err(Fault::NoPage)),
+    Call::Event(Ask::Apply(1, 9), Err(Fault::BadCount)),
     Call::Event(Ask::Switch, Err(Fault::NoPage)),
     Call::Left(Ask::StartEven(1), Err(Fault::BuildRunning)),
     Call::Event(Ask::Abandon, Ok((0, 0))),
