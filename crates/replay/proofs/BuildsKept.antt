@@ -1,18 +1,19 @@
 -- What an event leaves of the build that runs and of the pages that are leased for it.
-use Rattle.std.proofs.Common.{◌≡◌, ℕ, ◌+◌, true, false, List, length, Option, Some, None, inl, inr, refl, sym, ap, subst, ◌∙◌}
+use Rattle.std.proofs.Common.{◌≡◌, ◌<◌, ℕ, ◌+◌, true, false, List, length, Option, Some, None, inl, inr, refl, sym, ap, subst, ◌∙◌}
 use Rattle.std.specs.Prelude.{is_some}
 use Rattle.keybytes.specs.declared.fault.Fault.{Fault}
 use Rattle.keybytes.specs.declared.fault.Fault.TheVariants.{NoBuild}
 use Rattle.heap_log.specs.declared.outcome.Outcome.{Outcome}
 use Rattle.heap_table.specs.HeapState.{HeapState}
-use Rattle.builder_core.specs.CoreState.{CoreState, LiveState, BuildState, WorkState, SpoolsState, idle, live_with_heap, opening, with_heap, with_live}
-use Rattle.builder_core.specs.Steps.{AfterWant, Does, OnBuild, Step, after_digest, after_load, after_scan, after_seal, after_switch_in, build_cause, index_at, load_refusal, next_copies, pairs_copied, refusal, spoiled_by, verdicts_on, worker_refusal}
+use Rattle.builder_core.specs.CoreState.{CoreState, LiveState, BuildState, IndexState, WorkState, SpoolsState, idle, live_with_heap, opening, with_heap, with_live}
+use Rattle.builder_core.specs.Steps.{AfterWant, AreFurther, CatchesUp, Does, OnBuild, Step, after_apply, after_digest, after_feed, after_load, after_scan, after_seal, after_switch_in}
+use Rattle.builder_core.specs.Steps.{build_cause, load_refusal, next_applied, next_copies, next_fed, pairs_copied, refusal, spoiled_by, verdicts_on, worker_refusal}
 use Rattle.builder_core.specs.Ranges.{next_page}
-use Rattle.builder_core.specs.Workers.{waiting}
+use Rattle.builder_core.specs.Workers.{index_at, waiting}
 use Rattle.std.specs.List.{slice_get}
 use Rattle.std.specs.Prelude.{if◌then◌else◌}
 use Rattle.builder_core.specs.declared.event.Event.{Event}
-use Rattle.builder_core.specs.declared.event.Event.TheVariants.{Begin, Insert, Update, Delete, Undo, Commit, Start, Scan, Digest, Seal, Load, Switch, Abandon}
+use Rattle.builder_core.specs.declared.event.Event.TheVariants.{Begin, Insert, Update, Delete, Undo, Commit, Start, Scan, Digest, Seal, Load, Feed, Apply, Switch, Abandon}
 use Rattle.builder_core.specs.declared.plan.Plan.{Plan}
 use Rattle.builder_core.specs.declared.reply.Reply.{Reply}
 use Rattle.builder_core.specs.declared.reply.Reply.TheVariants.{Abandoned, Refused, Started, Switched}
@@ -62,6 +63,36 @@ on_work : (old new : CoreState) (build : Option BuildState) (Told : BuildState �
 on_work old new None Told work is on = absurd on
 on_work old new (Some b) Told work is on = at_work old new b (work b) is on.1
 
+-- so many entries were applied before memory was wanted
+on_some : (old new : CoreState) (build : Option BuildState) (Few : BuildState → ℕ → Type 0) (work : ℕ → WorkState) → old.live.build ≡ build
+    → OnBuild build (λ b. (count : ℕ) × Few b count × (new ≡ record old { work = work count })) → IsKept old new
+on_some old new None Few work is on = absurd on
+on_some old new (Some b) Few work is (count, few, same) = at_work old new b (work count) is same
+
+-- the build has fed more entries
+on_feed : (old new : CoreState) (build : Option BuildState) (Told : BuildState → Type 0) (fed : BuildState → BuildState) → old.live.build ≡ build
+    → OnBuild build (λ b. Told b × (new ≡ with_live old (record old.live { build = Some (fed b) }))) → IsKept old new
+on_feed old new None Told fed is on = absurd on
+on_feed old new (Some b) Told fed is on = record {
+  build = ap (λ (s : CoreState). is_some s.live.build) on.1 ∙ sym (ap is_some is);
+  work = λ none. absurd (none_runs b old.live.build is none);
+  spools = ap (λ (s : CoreState). s.spools) on.1;
+}
+
+-- a switch has fed and applied entries before memory was wanted
+on_catch_up : (old new : CoreState) → CatchesUp old new → IsKept old new
+on_catch_up old new on = caught old.live.build refl on where
+  caught : (build : Option BuildState) → old.live.build ≡ build
+      → OnBuild build (λ b. (fed : List ℕ) × (indexes : List IndexState) × AreFurther b old.live.heap.log old.work.indexes fed indexes
+      × (new ≡ record old { live = record old.live { build = Some (record b { fed = fed }) }; work = record old.work { indexes = indexes } }))
+      → IsKept old new
+  caught None is on = absurd on
+  caught (Some b) is (fed, indexes, further, same) = record {
+    build = ap (λ (s : CoreState). is_some s.live.build) same ∙ sym (ap is_some is);
+    work = λ none. absurd (none_runs b old.live.build is none);
+    spools = ap (λ (s : CoreState). s.spools) same;
+  }
+
 -- the build is spoiled
 on_want : (old new : CoreState) (build : Option BuildState) (cause : BuildState → Option Fault) (fault : Fault) → old.live.build ≡ build
     → build_cause build cause ≡ None → new ≡ spoiled_by fault old → IsKept old new
@@ -85,6 +116,10 @@ done_keeps (Load index) old new told keeps (pairs, is, does) =
     on_work old new old.live.build
     (λ b. pairs ≡ (if (index_at old.work index).loaded then 0 else pairs_copied b old.live.heap.log (slice_get b.specs index)))
     (λ b. after_load old.work index) refl does
+done_keeps (Feed index most) old new told keeps (count, is, does) =
+    on_feed old new old.live.build (λ b. count ≡ next_fed b old.live.heap.log old.work index most) (λ b. after_feed b index count) refl does
+done_keeps (Apply index most) old new told keeps (count, is, does) =
+    on_work old new old.live.build (λ b. count ≡ next_applied b old.work index most) (λ b. after_apply old.work index count) refl does
 done_keeps Switch old new told keeps done = absurd keeps
 done_keeps Abandon old new told keeps done = absurd keeps
 
@@ -104,6 +139,9 @@ want_keeps (Seal worker) old new fault keeps none after =
     on_want old new old.live.build (λ b. worker_refusal b old.work worker) fault refl none after
 want_keeps (Load index) old new fault keeps none after =
     on_want old new old.live.build (λ b. load_refusal b old index) fault refl none after.1
+want_keeps (Feed index most) old new fault keeps none after = absurd after
+want_keeps (Apply index most) old new fault keeps none after =
+    on_some old new old.live.build (λ b count. count < next_applied b old.work index most) (λ count. after_apply old.work index count) refl after
 want_keeps Switch old new fault keeps none after = absurd keeps
 want_keeps Abandon old new fault keeps none after = absurd keeps
 
@@ -156,16 +194,21 @@ pub resting : (leases : Option LeasesValue) (s : CoreState) → s.live.build ≡
 resting None s none rest = rest
 resting (Some leases) s none leasing = absurd (let both : true ≡ false = sym leasing.build ∙ ap is_some none in cc)
 
--- a refused start, and what stays refused behind a switch, change nothing
+-- a refused start, and a build that isn't given up, change nothing
 pub start_refused : (old new : CoreState) (plan : Plan) (fault : Fault) → Step old (Start plan) (Refused fault) new → new ≡ old
 start_refused old new plan fault (inl (other, is, inl (cause, same))) = same
 start_refused old new plan fault (inl (other, is, inr (none, want, after))) = after
 start_refused old new plan fault (inr (none, (pages, is, does))) = absurd (let both : Refused fault ≡ Started pages = is in cc)
 
-pub switch_refused : (old new : CoreState) (fault : Fault) → Step old Switch (Refused fault) new → new ≡ old
-switch_refused old new fault (inl (other, is, inl (cause, same))) = same
-switch_refused old new fault (inl (other, is, inr (none, want, after))) = after
-switch_refused old new fault (inr (none, (told, is, does))) = absurd (let both : Refused fault ≡ Switched told.0 told.1 = is in cc)
+switch_keeps : (old new : CoreState) (fault : Fault) → Step old Switch (Refused fault) new → IsKept old new
+switch_keeps old new fault (inl (other, is, inl (cause, same))) = unchanged old new same
+switch_keeps old new fault (inl (other, is, inr (none, want, after))) = on_catch_up old new after
+switch_keeps old new fault (inr (none, (told, is, does))) = absurd (let both : Refused fault ≡ Switched told.0 told.1 = is in cc)
+
+-- a switch that is refused leaves the pages leased
+pub switch_refused : (leases : Option LeasesValue) (old new : CoreState) (fault : Fault) → Step old Switch (Refused fault) new
+    → LeasesFollow leases old → LeasesFollow leases new
+switch_refused leases old new fault step before = follows leases old new (switch_keeps old new fault step) before
 
 pub abandon_refused : (old new : CoreState) (fault : Fault) → Step old Abandon (Refused fault) new → new ≡ old
 abandon_refused old new fault (inl (other, is, inl (cause, same))) = same
