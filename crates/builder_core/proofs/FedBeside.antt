@@ -1,5 +1,5 @@
 -- What feeding leaves with both ends of the side-file's ring at hand.
-use Rattle.std.proofs.Common.{◌≡◌, ℕ, ◌+◌, ◌-◌, ◌<◌, ◌≤◌, false, true, List, [], ◌∷◌, length, min, Option, Some, None, Result, Ok, Err, IfOk, IfErr, OnOk, OnErr, refl, sym}
+use Rattle.std.proofs.Common.{◌≡◌, ℕ, ◌+◌, ◌-◌, ◌<◌, ◌≤◌, Bool, false, true, List, [], ◌∷◌, length, min, Option, Some, None, Result, Ok, Err, IfOk, IfErr, OnOk, OnErr, refl, sym}
 use Rattle.std.proofs.Common.{ap, ◌∙◌, subst, arith}
 use Rattle.std.specs.Prelude.{nat_le}
 use Rattle.std.specs.List.{slice_get}
@@ -24,7 +24,7 @@ side_cause None index = refl
 side_cause (Some b) index = refl
 
 -- how far its index is, as callers see it, whether it is spoiled or not
-indexes_seen : (o : Option Fault) (workers : List WorkerValue) (w : WorkValue) → (state_unless o workers w).indexes ≡ index_state w ∷ []
+pub indexes_seen : (o : Option Fault) (workers : List WorkerValue) (w : WorkValue) → (state_unless o workers w).indexes ≡ index_state w ∷ []
 indexes_seen None workers w = refl
 indexes_seen (Some fault) workers w = refl
 
@@ -50,9 +50,9 @@ least_is most left room fits = both (min-le_left most room) where
 -- the only index has the number 0
 only_index : (b : BuildState) (spec : KeySpecValue) (index : ℕ) → b.specs ≡ spec ∷ [] → side_refusal (Some b) index ≡ None → index ≡ 0
 only_index b spec index one free = by_test (nat_le 1 index) refl (ap (λ (specs : List KeySpecValue). cause_if (nat_le (length specs) index) BadCount) (sym one) ∙ free) where
-  by_test : (t : _) → nat_le 1 index ≡ t → cause_if t BadCount ≡ None → index ≡ 0
+  by_test : (t : Bool) → nat_le 1 index ≡ t → cause_if t BadCount ≡ None → index ≡ 0
   by_test true is none = absurd (cc)
-  by_test false is none = omega (arith, is)
+  by_test false is none = grind (arith, is)
 
 module _
     (live new_live : LiveValue) (building mid : BuildingValue) (looked : SideIsLooked live building new_live mid) where

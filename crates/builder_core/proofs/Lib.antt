@@ -2,6 +2,7 @@ pub mod ApplyCauses
 pub mod Applying
 pub mod IndexApplied
 pub mod AtWork
+pub mod CatchingUp
 pub mod Copies
 pub mod CopyPairs
 pub mod Distinct

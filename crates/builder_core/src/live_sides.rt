@@ -36,7 +36,7 @@ impl<T: Table> Live<T> {
     }
 
     /// How many entries wait in the side-file's ring, with both its ends at hand.
-    fn look_at_side<S: Spool>(&mut self, building: &mut Building<S, T>) -> usize
+    pub(crate) fn look_at_side<S: Spool>(&mut self, building: &mut Building<S, T>) -> usize
         ensures looked { SideIsLooked self.old building.old self.new building.new }
         ensures sees { SeesSide result self.new.side building.new.side }
         ensures fed { IfSome self.new.state.build (λ b. AreFedEntries self.new.state.heap.log b self.new.side) }
