@@ -201,6 +201,7 @@ fed_entries log b side has kept = record {
       let sum = length-append side.fed side.left in
       let many = length-map es put in
       omega (arith, now, all, sum, many);
+  counts = has.count ∙ ap (λ n. n ∷ []) (sym (fed_now log b side has));
 }
 
 -- of the build that runs, if one does

@@ -1,10 +1,14 @@
+pub mod ApplyCauses
 pub mod Applying
+pub mod IndexApplied
 pub mod AtWork
+pub mod CatchingUp
 pub mod Copies
 pub mod CopyPairs
 pub mod Distinct
 pub mod EntrySteps
 pub mod Examples
+pub mod FedBeside
 pub mod Feeding
 pub mod Following
 pub mod Kits

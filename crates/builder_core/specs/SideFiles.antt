@@ -55,6 +55,7 @@ pub record AreFedEntries (log : List LogRec) (b : BuildState) (put : PutEnd Entr
   pub entries : (spec : KeySpecValue) → b.specs ≡ spec ∷ []
       → last_ones (fed_to b 0) put.sent ≡ map (entry_of b.number) (take (fed_to b 0) (side_entries (scanning_of b spec) log))
   pub there : (spec : KeySpecValue) → b.specs ≡ spec ∷ [] → fed_to b 0 ≤ length (side_entries (scanning_of b spec) log)
+  pub counts : b.fed ≡ fed_to b 0 ∷ []
 
 -- both ends of the side-file's ring were looked at, and nothing was put or taken
 pub record HasLookedAtSide (put : PutEnd Entry) (end : TakeEnd Entry) (new_put : PutEnd Entry) (new_end : TakeEnd Entry) : Type 0 where

@@ -2,7 +2,7 @@
 ghost use Rattle.std.specs.Prelude.{◌≡◌, [], ℕ, None, Some, IsSome, IfSome, IfOk, IfErr, OnOk, OnErr, MatchResult};
 ghost use Rattle.rtrb.specs.Ring.{received};
 ghost use Rattle.side_file.specs.Ends.{ring_take};
-ghost use Rattle.builder_core.specs.Builds.{BuildingValue, core_state, cause_of, WorksOn, SideIsLooked, HasFed};
+ghost use Rattle.builder_core.specs.Builds.{BuildingValue, BuildFollows, core_state, cause_of, WorksOn, SideIsLooked, HasFed};
 ghost use Rattle.builder_core.specs.SideFiles.{SeesSide, AreFedEntries, side_refusal};
 ghost use Rattle.builder_core.specs.Steps.{Feeds, Applies, AppliesSome};
 ghost use Rattle.builder_core.specs.declared.event.Event.{Event};
@@ -36,10 +36,11 @@ impl<T: Table> Live<T> {
     }
 
     /// How many entries wait in the side-file's ring, with both its ends at hand.
-    fn look_at_side<S: Spool>(&mut self, building: &mut Building<S, T>) -> usize
+    pub(crate) fn look_at_side<S: Spool>(&mut self, building: &mut Building<S, T>) -> usize
         ensures looked { SideIsLooked self.old building.old self.new building.new }
         ensures sees { SeesSide result self.new.side building.new.side }
         ensures fed { IfSome self.new.state.build (λ b. AreFedEntries self.new.state.heap.log b self.new.side) }
+        ensures follows { BuildFollows self.new.state.heap.schema self.new.state.heap.log self.new.state.build }
     {
         let waiting = self.side.beside(&mut building.side_end);
         self.side.laws();

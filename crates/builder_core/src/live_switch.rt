@@ -66,12 +66,15 @@ impl<T: Table> Live<T> {
         ensures all { OnOk result (OnBuild self.new.state.build
             (λ b. all_unapplied b self.new.state.heap.log b.specs (core_state self.new building.new).work.indexes ≡ 0)) }
         ensures works { WorksOn self.new building.new }
+        ensures still { cause_of self.new building.new (Event.Apply 0 256) ≡ None }
         ensures memory { IfErr result (λ fault. fault ≡ Fault.Memory) }
     {
+        // Both ends of the ring then know what waits in it.
+        self.look_at_side(building);
         while self.unapplied(building) > 0 {
-            if self.feed_beside(0, RING_ENTRIES, building).is_err() {
+            let Ok(_moved) = self.feed_beside(0, RING_ENTRIES, building) else {
                 unreachable!()
-            }
+            };
             self.apply(RING_ENTRIES, building)?;
         }
         Ok(())

@@ -5,7 +5,8 @@ ghost use Rattle.building.specs.WorkerValue.{WorkerValue};
 ghost use Rattle.building.specs.declared.copied.Copied.{Copied};
 ghost use Rattle.builder_core.specs.Builds.{core_state, cause_of, put_refusal, HasLooked, SeesRing, MayWork, MayLoad, WorksOn};
 ghost use Rattle.builder_core.specs.Rings.{all_sent, AreDone, IsUnfinished, PagesFollow};
-ghost use Rattle.builder_core.specs.Steps.{Waits, Digests, Seals, Loads, index_at, spoiled_by, IsWorkWant};
+ghost use Rattle.builder_core.specs.Steps.{Waits, Digests, Seals, Loads, spoiled_by, IsWorkWant};
+ghost use Rattle.builder_core.specs.Workers.{index_at};
 ghost use Rattle.builder_core.specs.declared.event.Event.{Event};
 
 use crate::rings::{first_loud, waiting};
@@ -182,7 +183,7 @@ impl<T: Table> Live<T> {
     pub(crate) fn load<S: Spool>(&self, building: &mut Building<S, T>) -> Result<usize, Fault>
         requires works { WorksOn self.now building.old }
         requires runs { MayLoad self.now building.old 0 }
-        ensures first { OnErr result ((index_at (core_state self.now building.old).work 0).loaded ≡ false) }
+        ensures first { OnErr result ((index_at (core_state self.now building.old).work.indexes 0).loaded ≡ false) }
         ensures loaded { IfOk result (λ pairs. Loads 0 (core_state self.now building.old) pairs (core_state self.now building.new)) }
         ensures spoiled { IfErr result (λ fault. core_state self.now building.new ≡ spoiled_by fault (core_state self.now building.old)) }
         ensures works { WorksOn self.now building.new }

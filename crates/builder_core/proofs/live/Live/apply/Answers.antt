@@ -1,12 +1,43 @@
-use Rattle.std.proofs.Common.{rules, ◌≡◌, [], ℕ, None, Some, IsSome, IfOk, IfErr, OnOk, OnErr, MatchResult, ◌+◌, ◌-◌, ◌*◌, ◌<◌, ◌≤◌, length, ◌/◌, ◌%◌, Bool, true, false, nat_eq, nat_lt, List, ◌∷◌, ◌++◌, slice_index_or, slice_set, bit_and, bit_or, Fits, w8, w32, w64, Bor, MutBor}
-use Rattle.rtrb.specs.Ring.{received}
-use Rattle.side_file.specs.Ends.{ring_take}
-use Rattle.builder_core.specs.Builds.{BuildingValue, core_state, cause_of, WorksOn, SideIsLooked, HasFed}
-use Rattle.builder_core.specs.SideFiles.{SeesSide, side_refusal}
-use Rattle.builder_core.specs.Steps.{Feeds, Applies, AppliesSome}
-use Rattle.builder_core.specs.declared.event.Event.{Event}
+use Rattle.builder_core.specs.Builds.{LiveValue, BuildingValue, core_state}
+use Rattle.builder_core.proofs.ApplyCauses.{applies_next, can_apply_next, applies_all, applies_some, works_after_apply}
+use Rattle.builder_core.proofs.Feeding.{state_side_looked}
 use Rattle.builder_core.proofs.live.Live.apply.Goals as goal
 
--- src/live_sides.rt:90:5
+pub apply-requires : goal.apply-requires
+apply-requires g c =
+    let live : LiveValue = c.args.self.now in
+    let building : BuildingValue = c.args.building.now in
+    let looked = c.look_at_side-waiting in
+    let next = applies_next live looked.new.self building looked.new.building looked.result c.args.most looked.ensures.follows c.requires.works c.requires.runs
+    looked.ensures.looked looked.ensures.sees looked.ensures.fed in
+    can_apply_next looked.new.self looked.new.building looked.result c.args.most c.min.result next c.min.ensures
+
+pub returns-clause-applied : goal.returns-clause-applied
+returns-clause-applied g c =
+    let live : LiveValue = c.args.self.now in
+    let building : BuildingValue = c.args.building.now in
+    let looked = c.look_at_side-waiting in
+    let next = applies_next live looked.new.self building looked.new.building looked.result c.args.most looked.ensures.follows c.requires.works c.requires.runs
+    looked.ensures.looked looked.ensures.sees looked.ensures.fed in
+    applies_all looked.new.self looked.new.building looked.result c.args.most c.min.result next c.min.ensures (core_state live building)
+    (state_side_looked live looked.new.self building looked.new.building looked.ensures.looked) c.apply.new.self c.apply.result c.apply.ensures.applied
+
+pub returns-clause-some : goal.returns-clause-some
+returns-clause-some g c =
+    let live : LiveValue = c.args.self.now in
+    let building : BuildingValue = c.args.building.now in
+    let looked = c.look_at_side-waiting in
+    let next = applies_next live looked.new.self building looked.new.building looked.result c.args.most looked.ensures.follows c.requires.works c.requires.runs
+    looked.ensures.looked looked.ensures.sees looked.ensures.fed in
+    applies_some looked.new.self looked.new.building looked.result c.args.most c.min.result next c.min.ensures (core_state live building)
+    (state_side_looked live looked.new.self building looked.new.building looked.ensures.looked) c.apply.new.self c.apply.result c.apply.ensures.some
+
 pub returns-clause-works : goal.returns-clause-works
-returns-clause-works g c = ?
+returns-clause-works g c =
+    let live : LiveValue = c.args.self.now in
+    let building : BuildingValue = c.args.building.now in
+    let looked = c.look_at_side-waiting in
+    let next = applies_next live looked.new.self building looked.new.building looked.result c.args.most looked.ensures.follows c.requires.works c.requires.runs
+    looked.ensures.looked looked.ensures.sees looked.ensures.fed in
+    works_after_apply looked.new.self looked.new.building looked.result c.args.most c.min.result next c.min.ensures c.apply.new.self c.apply.result
+    c.apply.ensures.applied c.apply.ensures.some

@@ -1,49 +1,85 @@
-use Rattle.std.proofs.Common.{rules, ◌≡◌, ◌+◌, ◌∷◌, [], length, None, Some, IsSome, IfOk, IfErr, OnOk, OnErr, MatchResult, vec_len, vec_capacity, ◌<◌, ℕ, ◌-◌, ◌*◌, ◌≤◌, ◌/◌, ◌%◌, Bool, true, false, nat_eq, nat_lt, List, ◌++◌, slice_index_or, slice_set, bit_and, bit_or, Fits, w8, w32, w64, Bor, MutBor}
-use Rattle.heap_log.specs.declared.outcome.Outcome.{Outcome}
-use Rattle.heap_table.specs.HeapState.{after_switch}
-use Rattle.heap_table.specs.Pages.{KeepsRows}
-use Rattle.builder_core.specs.Builds.{core_state, cause_of, WorksOn}
-use Rattle.builder_core.specs.Steps.{Switches, OnBuild, CatchesUp, IsRefused}
-use Rattle.builder_core.specs.Workers.{all_unapplied}
-use Rattle.builder_core.specs.declared.event.Event.{Event}
+use Rattle.std.proofs.Common.{◌≡◌, ◌<◌, ℕ, Option, None, IfOk, OnErr, ap, ◌∙◌, subst}
+use Rattle.builder_core.specs.Builds.{LiveValue, BuildingValue, core_state, WorksOn}
+use Rattle.builder_core.specs.CoreState.{BuildState, CoreState}
+use Rattle.builder_core.specs.Steps.{OnBuild, AppliesSome, CatchesUp}
+use Rattle.builder_core.proofs.ApplyCauses.{applies_next}
+use Rattle.builder_core.proofs.CatchingUp.{OneFurther, no_further, catches_up, runs_on, applies_on, fed_further, applied_further, some_further, fewer_left, left_of, left_seen}
+use Rattle.builder_core.proofs.Feeding.{state_side_looked, works_side_looked}
+use Rattle.builder_core.proofs.Taken.{on_err}
 use Rattle.builder_core.proofs.live.Live.catch_up.Goals as goal
 
--- src/live_switch.rt:71:9
 pub loop-self-init : goal.loop-self-init
-loop-self-init g c = ?
+loop-self-init g c =
+    let live : LiveValue = c.args.self.now in
+    let building : BuildingValue = c.args.building.now in
+    let looked = c.look_at_side in
+    let state = state_side_looked live looked.new.self building looked.new.building looked.ensures.looked in
+    let next = applies_next live looked.new.self building looked.new.building looked.result 256 looked.ensures.follows c.requires.works c.requires.runs
+    looked.ensures.looked looked.ensures.sees looked.ensures.fed in
+    record {
+      further = subst (λ (s : CoreState). OneFurther s (core_state looked.new.self looked.new.building)) state
+          (no_further looked.new.self looked.new.building next.may.build next.may.work next.may.runs next.fed);
+      works = works_side_looked live looked.new.self building looked.new.building looked.ensures.looked c.requires.works;
+    }
 
--- src/live_switch.rt:71:15
 pub unapplied-requires-clause-works : goal.unapplied-requires-clause-works
-unapplied-requires-clause-works g c = ?
+unapplied-requires-clause-works g c = c.loop-self.invariant.works
 
--- src/live_switch.rt:71:15
 pub unapplied-requires-clause-runs : goal.unapplied-requires-clause-runs
-unapplied-requires-clause-runs g c = ?
+unapplied-requires-clause-runs g c =
+    runs_on (core_state c.args.self.now c.args.building.now) (core_state c.loop-self.self c.loop-self.building) c.loop-self.invariant.further
 
--- src/live_switch.rt:72:16
 pub feed_beside-requires : goal.feed_beside-requires
-feed_beside-requires g c = ?
+feed_beside-requires g c = c.loop-self.invariant.works
 
--- src/live_switch.rt:75:13
 pub apply-requires-clause-runs : goal.apply-requires-clause-runs
-apply-requires-clause-runs g c = ?
+apply-requires-clause-runs g c =
+    let start = core_state c.args.self.now c.args.building.now in
+    let fed = core_state c.feed_beside.new.self c.feed_beside.new.building in
+    let further = fed_further start (core_state c.loop-self.self c.loop-self.building) fed 256 c.in-Ok._moved c.loop-self.invariant.further c.in-Ok.ensures.fed in
+    applies_on start fed 256 further ∙ c.requires.runs
 
--- src/live_switch.rt:71:9
 pub loop-self-smaller : goal.loop-self-smaller
-loop-self-smaller g c = ?
+loop-self-smaller g c =
+    let mid = core_state c.loop-self.self c.loop-self.building in
+    let some : 0 < left_of mid = subst (λ n. 0 < n) (left_seen mid c.unapplied.result c.unapplied.ensures) c.loop-self-test.true in
+    fewer_left (core_state c.args.self.now c.args.building.now) mid (core_state c.feed_beside.new.self c.feed_beside.new.building)
+    (core_state c.apply.new.self c.apply.new.building) c.in-Ok._moved c.in_ok-apply.field-0 c.loop-self.invariant.further some c.in-Ok.ensures.fed
+    c.in_ok-apply.ensures.applied
 
--- src/live_switch.rt:71:9
 pub loop-self-preserved : goal.loop-self-preserved
-loop-self-preserved g c = ?
+loop-self-preserved g c =
+    let start = core_state c.args.self.now c.args.building.now in
+    let fed = core_state c.feed_beside.new.self c.feed_beside.new.building in
+    let further = fed_further start (core_state c.loop-self.self c.loop-self.building) fed 256 c.in-Ok._moved c.loop-self.invariant.further c.in-Ok.ensures.fed in
+    record {
+      further = applied_further start fed (core_state c.apply.new.self c.apply.new.building) 256 c.in_ok-apply.field-0 further c.in_ok-apply.ensures.applied;
+      works = c.in_ok-apply.ensures.works;
+    }
 
--- src/live_switch.rt:75:13
 pub returns-in_err-apply-clause-further : goal.returns-in_err-apply-clause-further
-returns-in_err-apply-clause-further g c = ?
+returns-in_err-apply-clause-further g c =
+    let start = core_state c.args.self.now c.args.building.now in
+    let fed = core_state c.feed_beside.new.self c.feed_beside.new.building in
+    let further = fed_further start (core_state c.loop-self.self c.loop-self.building) fed 256 c.in-Ok._moved c.loop-self.invariant.further c.in-Ok.ensures.fed in
+    catches_up start (core_state c.apply.new.self c.apply.new.building)
+    (some_further start fed (core_state c.apply.new.self c.apply.new.building) 256 further c.in_err-apply.ensures.some)
 
--- src/live_switch.rt:62:5
 pub returns-clause-further : goal.returns-clause-further
-returns-clause-further g c = ?
+returns-clause-further g c =
+    catches_up (core_state c.args.self.now c.args.building.now) (core_state c.loop-self.self c.loop-self.building) c.loop-self.invariant.further
 
--- src/live_switch.rt:62:5
 pub returns-clause-works : goal.returns-clause-works
-returns-clause-works g c = ?
+returns-clause-works g c = c.loop-self.invariant.works
+
+pub returns-in_err-apply-clause-still : goal.returns-in_err-apply-clause-still
+returns-in_err-apply-clause-still g c =
+    let start = core_state c.args.self.now c.args.building.now in
+    let fed = core_state c.feed_beside.new.self c.feed_beside.new.building in
+    let further = fed_further start (core_state c.loop-self.self c.loop-self.building) fed 256 c.in-Ok._moved c.loop-self.invariant.further c.in-Ok.ensures.fed in
+    applies_on start (core_state c.apply.new.self c.apply.new.building) 256
+    (some_further start fed (core_state c.apply.new.self c.apply.new.building) 256 further c.in_err-apply.ensures.some) ∙ c.requires.runs
+
+pub returns-clause-still : goal.returns-clause-still
+returns-clause-still g c =
+    applies_on (core_state c.args.self.now c.args.building.now) (core_state c.loop-self.self c.loop-self.building) 256 c.loop-self.invariant.further ∙ c.requires.runs

@@ -1,12 +1,34 @@
-use Rattle.std.proofs.Common.{rules, ◌≡◌, [], ℕ, None, Some, IsSome, IfOk, IfErr, OnOk, OnErr, MatchResult, ◌+◌, ◌-◌, ◌*◌, ◌<◌, ◌≤◌, length, ◌/◌, ◌%◌, Bool, true, false, nat_eq, nat_lt, List, ◌∷◌, ◌++◌, slice_index_or, slice_set, bit_and, bit_or, Fits, w8, w32, w64, Bor, MutBor}
-use Rattle.rtrb.specs.Ring.{received}
-use Rattle.side_file.specs.Ends.{ring_take}
-use Rattle.builder_core.specs.Builds.{BuildingValue, core_state, cause_of, WorksOn, SideIsLooked, HasFed}
-use Rattle.builder_core.specs.SideFiles.{SeesSide, side_refusal}
-use Rattle.builder_core.specs.Steps.{Feeds, Applies, AppliesSome}
-use Rattle.builder_core.specs.declared.event.Event.{Event}
+use Rattle.std.proofs.Common.{◌∙◌, ap}
+use Rattle.std.specs.Prelude.{min}
+use Rattle.builder_core.specs.Builds.{LiveValue, BuildingValue}
+use Rattle.builder_core.proofs.FedBeside.{fed_refused, fed_accepted, fed_unchanged, feeds_beside}
+use Rattle.builder_core.proofs.Feeding.{works_side_looked}
 use Rattle.builder_core.proofs.live.Live.feed_beside.Goals as goal
 
--- src/live_sides.rt:47:5
+pub returns-clause-fed : goal.returns-clause-fed
+returns-clause-fed g c =
+    let looked = c.look_at_side-waiting in
+    feeds_beside c.args.self.now looked.new.self c.args.building.now looked.new.building looked.ensures.looked c.requires looked.ensures.follows looked.result
+    looked.ensures.sees c.args.index c.args.most c.min.result c.feed.new.self c.feed.result (c.min.ensures ∙ ap (min c.args.most) c.saturating_sub.ensures)
+    c.feed.ensures.accepted c.feed.ensures.fed
+
+pub returns-clause-unchanged : goal.returns-clause-unchanged
+returns-clause-unchanged g c =
+    let looked = c.look_at_side-waiting in
+    fed_unchanged c.args.self.now looked.new.self c.args.building.now looked.new.building looked.ensures.looked c.feed.new.self c.feed.result c.feed.ensures.unchanged
+
+pub returns-clause-refused : goal.returns-clause-refused
+returns-clause-refused g c =
+    let looked = c.look_at_side-waiting in
+    fed_refused c.args.self.now looked.new.self c.args.building.now looked.new.building looked.ensures.looked c.args.index c.feed.result c.feed.ensures.refused
+
+pub returns-clause-accepted : goal.returns-clause-accepted
+returns-clause-accepted g c =
+    let looked = c.look_at_side-waiting in
+    fed_accepted c.args.self.now looked.new.self c.args.building.now looked.new.building looked.ensures.looked c.args.index c.feed.result c.feed.ensures.accepted
+
 pub returns-clause-works : goal.returns-clause-works
-returns-clause-works g c = ?
+returns-clause-works g c =
+    let looked = c.look_at_side-waiting in
+    c.feed.ensures.works looked.new.building
+    (works_side_looked c.args.self.now looked.new.self c.args.building.now looked.new.building looked.ensures.looked c.requires)
