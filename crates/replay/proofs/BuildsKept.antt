@@ -114,7 +114,7 @@ done_keeps (Seal worker) old new told keeps (images, is, does) =
     on_work old new old.live.build (λ b. images ≡ waiting b old.work worker) (λ b. after_seal b old.work worker) refl does
 done_keeps (Load index) old new told keeps (pairs, is, does) =
     on_work old new old.live.build
-    (λ b. pairs ≡ (if (index_at old.work index).loaded then 0 else pairs_copied b old.live.heap.log (slice_get b.specs index)))
+    (λ b. pairs ≡ (if (index_at old.work.indexes index).loaded then 0 else pairs_copied b old.live.heap.log (slice_get b.specs index)))
     (λ b. after_load old.work index) refl does
 done_keeps (Feed index most) old new told keeps (count, is, does) =
     on_feed old new old.live.build (λ b. count ≡ next_fed b old.live.heap.log old.work index most) (λ b. after_feed b index count) refl does

@@ -6,6 +6,7 @@ use Rattle.keybytes.specs.declared.pair.Pair.{Pair}
 use Rattle.btree.specs.Left.{pairs_left}
 use Rattle.script.proofs.Zips.{zip_push}
 use Rattle.replay.specs.Listings.{ListsPair}
+use Rattle.replay.specs.declared.pair_line.PairLine.{PairLine}
 use Rattle.replay.proofs.listing.tree_lines.Goals as goal
 
 pub loop-pair-init : goal.loop-pair-init
@@ -34,7 +35,7 @@ loop-pair-preserved c =
       (
         before.0 ++ pair ∷ [],
         before.1 ∙ ap (λ xs. before.0 ++ xs) c.in-Some.ensures.steps ∙ sym (append_assoc before.0 (pair ∷ []) rest),
-        subst (AllZip (ListsPair c.args.spec.now) (before.0 ++ pair ∷ [])) (sym c.in_ok-push.ensures.items)
+        subst (AllZip (ListsPair c.args.spec.now) (before.0 ++ pair ∷ [])) (sym {A = List PairLine} c.in_ok-push.ensures.items)
             (zip_push (ListsPair c.args.spec.now) before.0 c.loop-pair.lines.items pair c.in_ok-pair_line.field-0 before.2 c.in_ok-pair_line.ensures.lists),
       ),
     )
