@@ -1,5 +1,5 @@
 -- A change that was made ready and is performed adds its entries.
-use Rattle.std.proofs.Common.{◌≡◌, ℕ, cond, List, [], ◌∷◌, ◌++◌, length, map, Option, Some, None, refl, sym, ap, ◌∙◌, subst}
+use Rattle.std.proofs.Common.{◌≡◌, ℕ, cond, List, [], ◌∷◌, ◌++◌, length, map, Option, Some, None, refl, sym, ap, ◌∙◌, subst, append_assoc}
 use Rattle.std.specs.Prelude.{IsSome, IfSome}
 use Rattle.std.specs.List.{All}
 use Rattle.std.proofs.lemmas.Bool.{false≢true}
@@ -21,6 +21,7 @@ use Rattle.heap_table.specs.HeapValue.{HeapValue}
 use Rattle.heap_table.specs.Pages.{SetsRow}
 use Rattle.heap_table.specs.Ready.{IsReady, IsLawful, IsLawfulChange, after_change, after_ready}
 use Rattle.side_file.specs.Entries.{entry_of}
+use Rattle.side_file.specs.Changes.{all_appended}
 use Rattle.side_file.specs.SideFileValue.{SideFileValue}
 use Rattle.visibility.specs.SideEntries.{SideEntry, changes}
 use Rattle.building.specs.declared.copied.Copied.{Copied}

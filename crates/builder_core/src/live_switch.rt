@@ -75,7 +75,7 @@ impl<T: Table> Live<T> {
             let Ok(_moved) = self.feed_beside(0, RING_ENTRIES, building) else {
                 unreachable!()
             };
-            self.apply(RING_ENTRIES, building)?;
+            self.apply(0, RING_ENTRIES, building)?;
         }
         Ok(())
     }
