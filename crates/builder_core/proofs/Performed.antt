@@ -139,7 +139,7 @@ module _ (h : HeapValue) (ready : Ready) (is : IsReady h ready) (change : IsLawf
         → all_appended new ≡ all_appended old ++ map (entry_of b.number) (noted b spec ready.rid ready.old ready.new)
     appended spec one =
         ap (λ es. es ++ new.left) fed ∙ ap (λ es. old.fed ++ es) (left spec one)
-        ∙ append_assoc old.fed old.left (map (entry_of b.number) (noted b spec ready.rid ready.old ready.new))
+        ∙ sym (append_assoc old.fed old.left (map (entry_of b.number) (noted b spec ready.rid ready.old ready.new)))
 
   -- the side-file of the running build, if one runs, follows the change
   pub side_follows_on :

@@ -70,29 +70,30 @@ done_goes_on s Switch reply new does =
     let on = on_build s.live.build _ does.2 in same_log s new _ (ap (λ (t : CoreState). t.live.heap) on.1.2) (_, refl)
 done_goes_on s Abandon reply new does = keeps_log s new _ does.1 refl
 
--- want leaves rows and spools
+-- what is read of the rows and the spools alone
+abbrev of_both : {X : Type 0} → (HeapState → SpoolsState → X) → CoreState → X
+of_both f s = f s.live.heap s.spools
+
+-- want leaves both
 want_keeps :
     {X : Type 0} (f : HeapState → SpoolsState → X) (s : CoreState) (event : Event) (fault : Fault) (new : CoreState)
     → AfterWant event fault s new → f new.live.heap new.spools ≡ f s.live.heap s.spools
 want_keeps {X} f s event fault new wants = by_event event wants where
-  abbrev of : CoreState → X
-  of t = f t.live.heap t.spools
-
   by_event : (event : Event) → AfterWant event fault s new → f new.live.heap new.spools ≡ f s.live.heap s.spools
-  by_event Begin is = ap of is
-  by_event (Insert txn row) is = ap of is
-  by_event (Update txn rid row) is = ap of is
-  by_event (Delete txn rid) is = ap of is
-  by_event (Undo txn) is = ap of is
-  by_event (Commit txn) is = ap of is
-  by_event (Start plan) is = ap of is
-  by_event (Scan range worker) is = ap of is
-  by_event (Digest worker) is = ap of is.1
-  by_event (Seal worker) is = ap of is
-  by_event (Load index) is = ap of is.1
+  by_event Begin is = ap (of_both f) is
+  by_event (Insert txn row) is = ap (of_both f) is
+  by_event (Update txn rid row) is = ap (of_both f) is
+  by_event (Delete txn rid) is = ap (of_both f) is
+  by_event (Undo txn) is = ap (of_both f) is
+  by_event (Commit txn) is = ap (of_both f) is
+  by_event (Start plan) is = ap (of_both f) is
+  by_event (Scan range worker) is = ap (of_both f) is
+  by_event (Digest worker) is = ap (of_both f) is.1
+  by_event (Seal worker) is = ap (of_both f) is
+  by_event (Load index) is = ap (of_both f) is.1
   by_event (Feed index most) never = absurd never
-  by_event (Apply index most) some = let on = on_build s.live.build _ some in ap of on.1.2
-  by_event Switch caught = let on = on_build s.live.build _ caught in ap of on.1.3
+  by_event (Apply index most) some = let on = on_build s.live.build _ some in ap (of_both f) on.1.2
+  by_event Switch caught = let on = on_build s.live.build _ caught in ap (of_both f) on.1.3
   by_event Abandon never = absurd never
 
 -- a step adds to the log alone
