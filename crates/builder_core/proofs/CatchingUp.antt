@@ -60,15 +60,19 @@ only_at x y (suc i) at = absurd (let bad : None ≡ Some y = at in cc)
 pub catches_up : (s new : CoreState) → OneFurther s new → CatchesUp s new
 catches_up s new it =
     subst (λ (o : Option BuildState). OnBuild o (λ b. (fed : List ℕ) × (indexes : List IndexState) × AreFurther b s.live.heap.log s.work.indexes fed indexes
-    × (new ≡ record s { live = record s.live { build = Some (record b { fed = fed }) }; work = record s.work { indexes = indexes } }))) (sym it.runs)
-    (it.fed ∷ [], record it.index { applied = it.applied } ∷ [], record {
-      fed_many = ap length (sym it.fed_is);
-      indexes_many = ap length (sym it.index_is);
-      each = λ i spec at.
-          let here = only_at it.spec spec i (ap (λ (specs : List KeySpecValue). slice_get specs i) (sym it.one) ∙ at) in
-          rw (here.0, it.fed_is, it.index_is) (subst (λ x. IsFurther (all_entries it.build s.live.heap.log x) it.old_fed it.index it.fed
-          (record it.index { applied = it.applied })) here.1 it.further);
-    }, it.new_is)
+    × (new ≡ record s { live = record s.live { build = Some (record b { fed = fed }) }; work = record s.work { indexes = indexes } }))) (sym it.runs) (
+      it.fed ∷ [],
+      record it.index { applied = it.applied } ∷ [],
+      record {
+        fed_many = ap length (sym it.fed_is);
+        indexes_many = ap length (sym it.index_is);
+        each = λ i spec at.
+            let here = only_at it.spec spec i (ap (λ (specs : List KeySpecValue). slice_get specs i) (sym it.one) ∙ at) in
+            rw (here.0, it.fed_is, it.index_is) (subst (λ x. IsFurther (all_entries it.build s.live.heap.log x) it.old_fed it.index it.fed
+            (record it.index { applied = it.applied })) here.1 it.further);
+      },
+      it.new_is,
+    )
 
 -- the build runs still
 pub runs_on : (s new : CoreState) → OneFurther s new → IsSome new.live.build

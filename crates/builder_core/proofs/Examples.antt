@@ -173,16 +173,16 @@ switched new reply does = does.1 ∙ ap (λ number. Switched number does.0.1) do
 
 -- a seal that wants memory spoils the build, which from then on answers so after the counts
 abbrev spoiled_build : CoreState
-spoiled_build = record before_a_scan { work = spoiled_work Memory }
+spoiled_build = record before_a_scan { work = spoiled_work Memory before_a_scan.work }
 
 spoils : AfterWant (Seal 0) Memory before_a_scan spoiled_build
 spoils = refl
 
 -- and so does one that wants a page
-spoils_without_page : IsRefused before_a_scan (Seal 0) NoPage (record before_a_scan { work = spoiled_work NoPage })
+spoils_without_page : IsRefused before_a_scan (Seal 0) NoPage (record before_a_scan { work = spoiled_work NoPage before_a_scan.work })
 spoils_without_page = inr (refl, inl refl, refl)
 
-page_stays_wanted : refusal (record before_a_scan { work = spoiled_work NoPage }) (Load 0) ≡ Some NoPage
+page_stays_wanted : refusal (record before_a_scan { work = spoiled_work NoPage before_a_scan.work }) (Load 0) ≡ Some NoPage
 page_stays_wanted = refl
 
 -- empty spools start a build, and one with pairs keeps it from starting

@@ -1,5 +1,5 @@
 -- A change that was made ready and is performed adds its entries.
-use Rattle.std.proofs.Common.{◌≡◌, ℕ, cond, List, [], ◌∷◌, ◌++◌, length, map, Option, Some, None, refl, sym, ap, ◌∙◌, subst}
+use Rattle.std.proofs.Common.{◌≡◌, ℕ, cond, List, [], ◌∷◌, ◌++◌, length, map, Option, Some, None, refl, sym, ap, ◌∙◌, subst, append_assoc}
 use Rattle.std.specs.Prelude.{IsSome, IfSome}
 use Rattle.std.specs.List.{All}
 use Rattle.std.proofs.lemmas.Bool.{false≢true}
@@ -21,6 +21,7 @@ use Rattle.heap_table.specs.HeapValue.{HeapValue}
 use Rattle.heap_table.specs.Pages.{SetsRow}
 use Rattle.heap_table.specs.Ready.{IsReady, IsLawful, IsLawfulChange, after_change, after_ready}
 use Rattle.side_file.specs.Entries.{entry_of}
+use Rattle.side_file.specs.Changes.{all_appended}
 use Rattle.side_file.specs.SideFileValue.{SideFileValue}
 use Rattle.visibility.specs.SideEntries.{SideEntry, changes}
 use Rattle.building.specs.declared.copied.Copied.{Copied}
@@ -138,7 +139,7 @@ module _ (h : HeapValue) (ready : Ready) (is : IsReady h ready) (change : IsLawf
         → all_appended new ≡ all_appended old ++ map (entry_of b.number) (noted b spec ready.rid ready.old ready.new)
     appended spec one =
         ap (λ es. es ++ new.left) fed ∙ ap (λ es. old.fed ++ es) (left spec one)
-        ∙ append_assoc old.fed old.left (map (entry_of b.number) (noted b spec ready.rid ready.old ready.new))
+        ∙ sym (append_assoc old.fed old.left (map (entry_of b.number) (noted b spec ready.rid ready.old ready.new)))
 
   -- the side-file of the running build, if one runs, follows the change
   pub side_follows_on :

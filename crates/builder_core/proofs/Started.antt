@@ -1,5 +1,5 @@
 -- What the start of a build leaves.
-use Rattle.std.proofs.Common.{◌≡◌, ℕ, ◌+◌, ◌≤◌, List, [], ◌∷◌, length, map, true, Some, None, refl, sym, ap, ◌∙◌, subst}
+use Rattle.std.proofs.Common.{◌≡◌, ℕ, ◌+◌, ◌≤◌, List, [], ◌∷◌, length, map, true, Some, None, refl, sym, ap, ◌∙◌, subst, ◌++◌, arith, ◌-◌}
 use Rattle.std.proofs.lemmas.List.{length-map}
 use Rattle.keybytes.specs.Keys.{KeySpecValue}
 use Rattle.keybytes.specs.declared.kind.Kind.{Kind}
@@ -85,7 +85,15 @@ started_works live building b w builds spec workers opened cuts build_is work_is
       follows = follows;
       on = rw (b_is, w_is) (fresh_work_on live.state.heap.schema live.state.heap.log new spec.kinds spec workers refl columns refl);
       at_work = record {
-        fed = rw (b_is, w_is) (record { same_ring = ring; waiting = ap (λ es. es ++ last_ones 0 live.side.sent) drained ∙ ap (λ es. live.side.sent ++ es) (drop_all (length live.side.sent) live.side.sent (omega arith)) ∙ append-nil live.side.sent; counted = omega arith; were_sent = omega arith; countable = omega arith });
+        fed = rw (b_is, w_is) (record {
+          same_ring = ring;
+          waiting = ap (λ es. es ++ last_ones 0 live.side.sent) drained
+              ∙ ap (λ es. live.side.sent ++ es) (drop_all (length live.side.sent - 0) live.side.sent (omega arith))
+              ∙ append-nil live.side.sent;
+          counted = omega arith;
+          were_sent = omega arith;
+          countable = omega arith;
+        });
         given = given;
         taking = λ fine. rw (b_is, workers_is) (started_taking builds live.pages before workers);
         kits = λ fine. rw (b_is, w_is, workers_is) (started_kits builds live.pages before spec workers (builds + 1) building.spools many empty);

@@ -17,10 +17,10 @@ use Rattle.heap_table.specs.HeapState.{HeapState, after_step}
 use Rattle.heap_table.specs.TablePairs.{pairs_at_rest}
 use Rattle.heap_table.proofs.TablePairs.{pairs_kept}
 use Rattle.builder_core.specs.declared.event.Event.{Event}
-use Rattle.builder_core.specs.declared.event.Event.TheVariants.{Begin, Insert, Update, Delete, Undo, Commit, Start, Scan, Digest, Seal, Load, Switch, Abandon}
+use Rattle.builder_core.specs.declared.event.Event.TheVariants.{Begin, Insert, Update, Delete, Undo, Commit, Start, Scan, Digest, Seal, Load, Feed, Apply, Switch, Abandon}
 use Rattle.builder_core.specs.declared.reply.Reply.{Reply}
 use Rattle.builder_core.specs.declared.reply.Reply.TheVariants.{Switched, Refused}
-use Rattle.builder_core.specs.CoreState.{CoreState, LiveState, BuildState, ReadyValue}
+use Rattle.builder_core.specs.CoreState.{CoreState, LiveState, BuildState, ReadyValue, SpoolsState}
 use Rattle.builder_core.specs.Headline.{HasPairsAtRest, EachSwitchIsAtRest}
 use Rattle.keybytes.specs.declared.fault.Fault.{Fault}
 use Rattle.spool_ledger.specs.Accounts.{Stake}
@@ -64,33 +64,43 @@ done_goes_on s (Scan range worker) reply new does =
 done_goes_on s (Digest worker) reply new does = let on = on_build s.live.build _ does.2 in keeps_log s new _ on.1.1 refl
 done_goes_on s (Seal worker) reply new does = let on = on_build s.live.build _ does.2 in keeps_log s new _ on.1.1 refl
 done_goes_on s (Load index) reply new does = let on = on_build s.live.build _ does.2 in keeps_log s new _ on.1.1 refl
+done_goes_on s (Feed index most) reply new does = let on = on_build s.live.build _ does.2 in keeps_log s new _ on.1.1 refl
+done_goes_on s (Apply index most) reply new does = let on = on_build s.live.build _ does.2 in keeps_log s new _ on.1.1 refl
 done_goes_on s Switch reply new does =
     let on = on_build s.live.build _ does.2 in same_log s new _ (ap (λ (t : CoreState). t.live.heap) on.1.2) (_, refl)
 done_goes_on s Abandon reply new does = keeps_log s new _ does.1 refl
 
--- what a spoiled build leaves, want leaves
+-- what is read of the rows and the spools alone
+abbrev of_both : {X : Type 0} → (HeapState → SpoolsState → X) → CoreState → X
+of_both f s = f s.live.heap s.spools
+
+-- want leaves both
 want_keeps :
-    {X : Type 0} (f : CoreState → X) (s : CoreState) (event : Event) (fault : Fault) (new : CoreState) → f (spoiled_by fault s) ≡ f s
-    → AfterWant event fault s new → f new ≡ f s
-want_keeps f s Begin fault new same is = ap f is
-want_keeps f s (Insert txn row) fault new same is = ap f is
-want_keeps f s (Update txn rid row) fault new same is = ap f is
-want_keeps f s (Delete txn rid) fault new same is = ap f is
-want_keeps f s (Undo txn) fault new same is = ap f is
-want_keeps f s (Commit txn) fault new same is = ap f is
-want_keeps f s (Start plan) fault new same is = ap f is
-want_keeps f s (Scan range worker) fault new same is = ap f is
-want_keeps f s (Digest worker) fault new same is = ap f is.1 ∙ same
-want_keeps f s (Seal worker) fault new same is = ap f is ∙ same
-want_keeps f s (Load index) fault new same is = ap f is.1 ∙ same
-want_keeps f s Switch fault new same is = ap f is
-want_keeps f s Abandon fault new same never = absurd never
+    {X : Type 0} (f : HeapState → SpoolsState → X) (s : CoreState) (event : Event) (fault : Fault) (new : CoreState)
+    → AfterWant event fault s new → f new.live.heap new.spools ≡ f s.live.heap s.spools
+want_keeps {X} f s event fault new wants = by_event event wants where
+  by_event : (event : Event) → AfterWant event fault s new → f new.live.heap new.spools ≡ f s.live.heap s.spools
+  by_event Begin is = ap (of_both f) is
+  by_event (Insert txn row) is = ap (of_both f) is
+  by_event (Update txn rid row) is = ap (of_both f) is
+  by_event (Delete txn rid) is = ap (of_both f) is
+  by_event (Undo txn) is = ap (of_both f) is
+  by_event (Commit txn) is = ap (of_both f) is
+  by_event (Start plan) is = ap (of_both f) is
+  by_event (Scan range worker) is = ap (of_both f) is
+  by_event (Digest worker) is = ap (of_both f) is.1
+  by_event (Seal worker) is = ap (of_both f) is
+  by_event (Load index) is = ap (of_both f) is.1
+  by_event (Feed index most) never = absurd never
+  by_event (Apply index most) some = let on = on_build s.live.build _ some in ap (of_both f) on.1.2
+  by_event Switch caught = let on = on_build s.live.build _ caught in ap (of_both f) on.1.3
+  by_event Abandon never = absurd never
 
 -- a step adds to the log alone
 step_goes_on : (s : CoreState) (event : Event) (reply : Reply) (new : CoreState) → Step s event reply new → GoesOn s.live.heap.log new.live.heap.log
 step_goes_on s event reply new (inl refused) = elim refused.2 [
   | inl cause ↦ goes_same s.live.heap.log new.live.heap.log (ap (λ (t : CoreState). t.live.heap.log) cause.1)
-  | inr wants ↦ goes_same s.live.heap.log new.live.heap.log (want_keeps (λ (t : CoreState). t.live.heap.log) s event refused.0 new refl wants.2)
+  | inr wants ↦ goes_same s.live.heap.log new.live.heap.log (want_keeps (λ (h : HeapState) (spools : SpoolsState). h.log) s event refused.0 new wants.2)
 ]
 step_goes_on s event reply new (inr done) = done_goes_on s event reply new done.1
 
@@ -118,13 +128,15 @@ done_stakes s (Scan range worker) reply new does = ap stakes_of does.2.1
 done_stakes s (Digest worker) reply new does = let on = on_build s.live.build _ does.2 in ap stakes_of on.1.1
 done_stakes s (Seal worker) reply new does = let on = on_build s.live.build _ does.2 in ap stakes_of on.1.1
 done_stakes s (Load index) reply new does = let on = on_build s.live.build _ does.2 in ap stakes_of on.1.1
+done_stakes s (Feed index most) reply new does = let on = on_build s.live.build _ does.2 in ap stakes_of on.1.1
+done_stakes s (Apply index most) reply new does = let on = on_build s.live.build _ does.2 in ap stakes_of on.1.1
 done_stakes s Switch reply new does = let on = on_build s.live.build _ does.2 in ap stakes_of on.1.2
 done_stakes s Abandon reply new does = ap stakes_of does.1
 
 pub step_stakes : (s : CoreState) (event : Event) (reply : Reply) (new : CoreState) → Step s event reply new → stakes_of new ≡ stakes_of s
 step_stakes s event reply new (inl refused) = elim refused.2 [
   | inl cause ↦ ap stakes_of cause.1
-  | inr wants ↦ want_keeps stakes_of s event refused.0 new refl wants.2
+  | inr wants ↦ want_keeps (λ (h : HeapState) (spools : SpoolsState). spools.stakes) s event refused.0 new wants.2
 ]
 step_stakes s event reply new (inr done) = done_stakes s event reply new done.1
 
@@ -157,6 +169,8 @@ does_switch s (Scan range worker) number verdicts new does = absurd (let bad = d
 does_switch s (Digest worker) number verdicts new does = absurd (let bad = does.1 in cc)
 does_switch s (Seal worker) number verdicts new does = absurd (let bad = does.1 in cc)
 does_switch s (Load index) number verdicts new does = absurd (let bad = does.1 in cc)
+does_switch s (Feed index most) number verdicts new does = absurd (let bad = does.1 in cc)
+does_switch s (Apply index most) number verdicts new does = absurd (let bad = does.1 in cc)
 does_switch s Switch number verdicts new does =
     let on = on_build s.live.build _ does.2 in
     let told : ℕ × List Outcome = does.0 in

@@ -340,7 +340,7 @@ impl<S: Spool, T: Table> Core<S, T> {
         ensures { Answers self.old (Event.Apply index most) result self.new }
     {
         self.live.check_apply(index, &self.building)?;
-        let entries = self.live.apply(most, &mut self.building)?;
+        let entries = self.live.apply(index, most, &mut self.building)?;
         Ok(Reply::Applied { entries })
     }
 

@@ -72,9 +72,9 @@ impl<T: Table> Live<T> {
         building: &Building<S, T>,
     ) -> Result<(), Fault>
         requires { WorksOn self.now building.now }
-        ensures { (most : ℕ) → MatchResult result
-            (λ _. (index ≡ 0) × (cause_of self.now building.now (Event.Apply index most) ≡ None))
-            (λ fault. cause_of self.now building.now (Event.Apply index most) ≡ Some fault) }
+        ensures accepted { OnOk result (cause_of self.now building.now (Event.Apply index 0) ≡ None) }
+        ensures refused { IfErr result (λ fault. cause_of self.now building.now (Event.Apply index 0) ≡ Some fault) }
+        ensures only { OnOk result (index ≡ 0) }
     {
         let Some(work) = building.work() else {
             return Err(Fault::NoBuild);
@@ -93,16 +93,19 @@ impl<T: Table> Live<T> {
     /// before memory was wanted stay applied.
     pub(crate) fn apply<S: Spool>(
         &mut self,
+        index: usize,
         most: usize,
         building: &mut Building<S, T>,
     ) -> Result<usize, Fault>
         requires works { WorksOn self.old building.old }
-        requires runs { cause_of self.old building.old (Event.Apply 0 most) ≡ None }
-        ensures applied { IfOk result (λ count. Applies 0 most (core_state self.old building.old) count (core_state self.new building.new)) }
-        ensures some { OnErr result (AppliesSome 0 most (core_state self.old building.old) (core_state self.new building.new)) }
+        requires only { index ≡ 0 }
+        requires runs { cause_of self.old building.old (Event.Apply index most) ≡ None }
+        ensures applied { IfOk result (λ count. Applies index most (core_state self.old building.old) count (core_state self.new building.new)) }
+        ensures some { OnErr result (AppliesSome index most (core_state self.old building.old) (core_state self.new building.new)) }
         ensures works { WorksOn self.new building.new }
         ensures memory { IfErr result (λ fault. fault ≡ Fault.Memory) }
     {
+        let _only = index;
         let waiting = self.look_at_side(building);
         building.apply(most.min(waiting))
     }

@@ -75,7 +75,7 @@ impl<T: Table> Live<T> {
             let Ok(_moved) = self.feed_beside(0, RING_ENTRIES, building) else {
                 unreachable!()
             };
-            self.apply(RING_ENTRIES, building)?;
+            self.apply(0, RING_ENTRIES, building)?;
         }
         Ok(())
     }
@@ -106,7 +106,8 @@ impl<T: Table> Live<T> {
         let spec = build.into_spec();
         // It tells that its columns make a key, whose bytes are then in the columns' order.
         let _columns = spec.columns();
-        self.ready.push_reserved(ReadyIndex::new(spec, built.into_tree()));
+        self.ready
+            .push_reserved(ReadyIndex::new(spec, built.into_tree()));
         end_spools(&mut building.spools);
         Ok(noted)
     }

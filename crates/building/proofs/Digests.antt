@@ -1,10 +1,9 @@
 -- Digests of a worker, one after another.
-use Rattle.std.proofs.Common.{◌≡◌, ℕ, ◌+◌, ◌*◌, ◌/◌, ◌%◌, ◌≤◌, ◌==◌, true, false, List, [], ◌∷◌, ◌++◌, length, take, drop, append_assoc, refl, sym}
-use Rattle.std.proofs.Common.{◌≢◌, ap, ap₂, ◌∙◌, subst, arith, length-append}
+use Rattle.std.proofs.Common.{◌≡◌, ℕ, ◌+◌, ◌*◌, ◌/◌, ◌%◌, ◌≤◌, List, ◌++◌, length, take, drop, append_assoc, refl, sym}
+use Rattle.std.proofs.Common.{ap, ap₂, ◌∙◌, subst, arith, length-append}
 use Rattle.std.proofs.lemmas.List.{length-take, drop-drop, take-append-drop}
 use Rattle.std.proofs.Math.Nat.{mod-add-div', add-mul-mod_self_right}
 use Rattle.std.proofs.Math.Seq.{take-add}
-use Rattle.std.proofs.lemmas.Bool.Decides.{nat_tests}
 use Rattle.keybytes.specs.declared.kind.Kind.{Kind}
 use Rattle.heap_table.specs.Images.{ImageValue}
 use Rattle.building.specs.declared.copied.Copied.{Copied}
@@ -24,11 +23,6 @@ taking_more n m end =
     let received : (end.received ++ take n end.known) ++ take m (drop n end.known) ≡ end.received ++ take (n + m) end.known =
     append_assoc end.received (take n end.known) (take m (drop n end.known)) ∙ ap (λ xs. end.received ++ xs) (sym (take-add n m end.known)) in
     let known = drop-drop m n end.known in cc
-
--- what was taken and what is seen stay together what they were
-pub taking_in_order : {X : Type 0} (n : ℕ) (end : TakeEnd X) → (after_taking n end).received ++ (after_taking n end).known ≡ end.received ++ end.known
-taking_in_order n end =
-    append_assoc end.received (take n end.known) (drop n end.known) ∙ ap (λ xs. end.received ++ xs) (take-append-drop n end.known)
 
 -- the images of a build among the next n copies, and among the m after them
 pub images_more :
@@ -77,22 +71,6 @@ unfolding worker_of
 same_worker a b build end taken sealed =
     let same : worker_of a.build a.end a.taken a.sealed ≡ worker_of b.build b.end b.taken b.sealed = cc in
     same
-
--- the next copy is of the worker's build, so it has the next images
-pub own_image :
-    (worker : WorkerValue) (copied : Copied) (rest : List Copied) → worker.end.known ≡ copied ∷ rest → copied.build ≡ worker.build
-    → next_images 1 worker ≡ copied.image ∷ []
-own_image worker copied rest known build =
-    let own : (copied.build == worker.build) ≡ true = grind (arith, nat_tests) in
-    rw (known, own) refl
-
--- the next copy is of another build, so it has none of them
-pub other_image :
-    (worker : WorkerValue) (copied : Copied) (rest : List Copied) → worker.end.known ≡ copied ∷ rest → copied.build ≢ worker.build
-    → next_images 1 worker ≡ []
-other_image worker copied rest known build =
-    let other : (copied.build == worker.build) ≡ false = grind (arith, nat_tests) in
-    rw (known, other) refl
 
 -- a digest of n copies, and then one of m
 pub digest_more : (n m : ℕ) (worker : WorkerValue) → after_digest m (after_digest n worker) ≡ after_digest (n + m) worker

@@ -1,32 +1,16 @@
 -- What is held of copies that are taken one after another.
-use Rattle.std.proofs.Common.{◌≡◌, ℕ, ◌+◌, ◌%◌, zero, suc, List, [], ◌∷◌, ◌++◌, All, length, get_or, append-nil, refl, sym, ap, ap₂, ◌∙◌, subst, arith}
+use Rattle.std.proofs.Common.{◌≡◌, ℕ, zero, suc, List, [], ◌∷◌, ◌++◌, All, length, get_or, append-nil, refl, sym, ap₂, ◌∙◌, subst, arith}
 use Rattle.std.specs.Prelude.{IsPermutation}
 use Rattle.std.proofs.lemmas.List.Elements.{All-head, All-tail}
-use Rattle.std.proofs.lemmas.List.Sorted.{IsPermutation-append_right, IsPermutation-refl, IsPermutation-trans}
+use Rattle.std.proofs.lemmas.List.Sorted.{IsPermutation-append_right, IsPermutation-trans}
 use Rattle.keybytes.specs.Keys.{KeySpecValue}
 use Rattle.keybytes.specs.declared.pair.Pair.{Pair}
 use Rattle.heap_table.specs.Images.{ImageValue}
 use Rattle.run_spool.specs.Spools.{all_pairs, with_closed_run}
-use Rattle.run_maker.specs.Making.{Holdings, AddsAt, Takes, Seals, spec_at}
+use Rattle.run_maker.specs.Making.{Holdings, AddsAt, Seals, spec_at}
 use Rattle.run_maker.proofs.Spoolings.{adds_more, all_closed}
 use Rattle.building.specs.Holding.{TakesAll, HoldsMore, held_at}
-use Rattle.building.proofs.ManyPairs.{have_split, one_has}
-
--- of no image nothing is held more
-pub takes_none : (specs : List KeySpecValue) (holdings : Holdings) → TakesAll specs [] holdings holdings
-takes_none specs holdings = λ i lt made have.
-    let held : List Pair = held_at i holdings in
-    let begun : List Pair = get_or holdings.begun i [] in
-    let all : held ++ made ≡ held = ap (λ ps. held ++ ps) have ∙ append-nil held in
-    let count : length begun ≡ length begun + length made = omega (arith, ap length have) in
-    record {
-      all = subst (λ ps. IsPermutation ps held) (sym all) (IsPermutation-refl held);
-      count = ap (λ n. n % 4096) count;
-    }
-
--- one image
-pub takes_one : (specs : List KeySpecValue) (image : ImageValue) (old new : Holdings) → Takes specs image old new → TakesAll specs (image ∷ []) old new
-takes_one specs image old new takes = λ i lt made have. takes i lt made (one_has (spec_at specs i) image made have)
+use Rattle.building.proofs.ManyPairs.{have_split}
 
 -- images, and then more of them
 pub takes_more :
@@ -39,10 +23,10 @@ takes_more specs xs ys start middle end first then = λ i lt made have.
     (get_or end.runs i []) (get_or end.begun i []) (first i lt parts.0 parts.2) (then i lt parts.1 parts.3))
 
 -- where each is empty, so is any
-pub none_begun : (begun : List (List Pair)) (i : ℕ) → All (λ pairs. pairs ≡ []) begun → get_or begun i [] ≡ []
-none_begun [] i all = refl
-none_begun (pairs ∷ begun) zero all = All-head (λ (ps : List Pair). ps ≡ []) pairs begun all
-none_begun (pairs ∷ begun) (suc i) all = none_begun begun i (All-tail (λ (ps : List Pair). ps ≡ []) pairs begun all)
+pub none_at : (begun : List (List Pair)) (i : ℕ) → All (λ pairs. pairs ≡ []) begun → get_or begun i [] ≡ []
+none_at [] i all = refl
+none_at (pairs ∷ begun) zero all = All-head (λ (ps : List Pair). ps ≡ []) pairs begun all
+none_at (pairs ∷ begun) (suc i) all = none_at begun i (All-tail (λ (ps : List Pair). ps ≡ []) pairs begun all)
 
 -- images, and then what is in no run yet is spooled
 pub takes_sealed :
@@ -55,7 +39,7 @@ takes_sealed specs images old middle runs begun takes long seals none = λ i lt 
     let adds = takes i lt made have in
     let spooled = seals i (omega (arith, lt, long)) in
     let after : all_pairs (get_or runs i []) ++ get_or begun i [] ≡ all_pairs old_runs ++ spooled.run =
-    ap₂ (λ (rs : List (List Pair)) (ps : List Pair). all_pairs rs ++ ps) spooled.closed (none_begun begun i none)
+    ap₂ (λ (rs : List (List Pair)) (ps : List Pair). all_pairs rs ++ ps) spooled.closed (none_at begun i none)
     ∙ (append-nil (all_pairs (with_closed_run old_runs spooled.run)) ∙ all_closed old_runs spooled.run) in
     subst (λ ps. IsPermutation (held_at i old ++ made) ps) (sym after)
     (IsPermutation-trans _ _ _ adds.all (IsPermutation-append_right (all_pairs old_runs) old_begun spooled.run spooled.same))

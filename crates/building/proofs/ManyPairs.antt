@@ -1,8 +1,8 @@
 -- The pairs and the rows of several copies, and the images of a build among several copies.
-use Rattle.std.proofs.Common.{◌≡◌, ℕ, ◌==◌, ◌<◌, ◌≤◌, Bool, true, false, if◌then◌else◌, List, [], ◌∷◌, ◌++◌, length, take, drop, map, append_assoc}
-use Rattle.std.proofs.Common.{append-nil, refl, sym, ap, ◌∙◌, subst, arith}
+use Rattle.std.proofs.Common.{◌≡◌, ℕ, ◌==◌, ◌<◌, ◌≤◌, Bool, true, false, if◌then◌else◌, List, [], ◌∷◌, ◌++◌, length, map, append_assoc}
+use Rattle.std.proofs.Common.{refl, sym, ap, ◌∙◌, subst, arith}
 use Rattle.std.specs.Prelude.{Option, filter}
-use Rattle.std.proofs.lemmas.List.{map-append, length-map, take-append-drop}
+use Rattle.std.proofs.lemmas.List.{map-append, length-map}
 use Rattle.std.specs.List.{All}
 use Rattle.std.proofs.lemmas.Bool.Decides.{nat_tests}
 use Rattle.std.proofs.lemmas.List.Elements.{filter-append, All-cons, All-head, All-nil, All-tail}
@@ -14,16 +14,8 @@ use Rattle.keybytes.specs.declared.pair.Pair.{Pair}
 use Rattle.heap_table.specs.Images.{ImageValue}
 use Rattle.building.specs.declared.copied.Copied.{Copied}
 use Rattle.building.specs.Copies.{images_of}
-use Rattle.run_maker.specs.ImagePairs.{HasPairs, HasRows}
+use Rattle.run_maker.specs.ImagePairs.{HasRows}
 use Rattle.building.specs.ImagePairs.{HavePairs, HaveRows, EachHasRows}
-
--- the pairs of one copy
-pub one_has : (spec : KeySpecValue) (image : ImageValue) (made : List Pair) → HavePairs spec (image ∷ []) made → HasPairs spec image made
-one_has spec image made have = subst (HasPairs spec image) (sym (have.4 ∙ (ap (λ ps. have.0 ++ ps) have.3 ∙ append-nil have.0))) have.2
-
--- the one copy's pairs are all
-pub one_have : (spec : KeySpecValue) (image : ImageValue) (made : List Pair) → HasPairs spec image made → HavePairs spec (image ∷ []) made
-one_have spec image made has = (made, [], has, refl, sym (append-nil made))
 
 -- the pairs of copies and of more copies
 pub have_append :
@@ -50,30 +42,6 @@ have_split spec (x ∷ xs) ys made have =
       inner.3,
       have.4 ∙ (ap (λ ps. have.0 ++ ps) inner.4 ∙ sym (append_assoc have.0 inner.0 inner.1)),
     )
-
--- a copy more
-pub have_more :
-    (spec : KeySpecValue) (images : List ImageValue) (image : ImageValue) (a b : List Pair) → HavePairs spec images a → HasPairs spec image b
-    → HavePairs spec (images ++ image ∷ []) (a ++ b)
-have_more spec images image a b have has = have_append spec images (image ∷ []) a b have (one_have spec image b has)
-
--- the first copies have pairs, where all have
-pub have_take :
-    (spec : KeySpecValue) (n : ℕ) (images : List ImageValue) (made : List Pair) → HavePairs spec images made
-    → (a : List Pair) × HavePairs spec (take n images) a
-have_take spec n images made have =
-    let both = subst (λ (xs : List ImageValue). HavePairs spec xs made) (sym (take-append-drop n images)) have in
-    let parts = have_split spec (take n images) (drop n images) made both in
-    (parts.0, parts.2)
-
--- and so have the others
-pub have_drop :
-    (spec : KeySpecValue) (n : ℕ) (images : List ImageValue) (made : List Pair) → HavePairs spec images made
-    → (b : List Pair) × HavePairs spec (drop n images) b
-have_drop spec n images made have =
-    let both = subst (λ (xs : List ImageValue). HavePairs spec xs made) (sym (take-append-drop n images)) have in
-    let parts = have_split spec (take n images) (drop n images) made both in
-    (parts.1, parts.3)
 
 -- the images of a build among more copies
 pub images-append : (build : ℕ) (xs ys : List Copied) → images_of build (xs ++ ys) ≡ images_of build xs ++ images_of build ys

@@ -181,5 +181,6 @@ returns-clause-works g c = λ building works.
       workers = workers_put pages inside.side.end building b c.note.new.self building.work c.args.worker old.sent copied
           (set (set pages c.args.worker looked) c.args.worker new)
           (subst (λ (o : Option BuildState). WorkersFollow pages inside.side.end building o building.work) c.in-Some.is before.workers) sent_there all number
-          (ap (λ (x : BuildState). x.number) c.note.ensures.noted) (ap (λ (x : BuildState). x.workers) c.note.ensures.noted);
+          (ap (λ (x : BuildState). x.number) c.note.ensures.noted) (ap (λ (x : BuildState). x.workers) c.note.ensures.noted)
+          (ap (λ (x : BuildState). x.fed) c.note.ensures.noted);
     }

@@ -138,7 +138,7 @@ returns-clause-started g c =
     ap (λ (ws : List WorkerValue). work_state ws (Some c.in_ok-work.work)) c.restart_all.ensures.workers
     ∙ ap (λ (w : WorkValue). work_state (map (begun_on (inside.builds + 1)) new_pages) (Some w))
     (c.in_ok-work.ensures.ok ∙ ap (λ s. fresh (inside.builds + 1) c.schema-schema.result.now s plan.workers) c.in_ok-clone.ensures.same)
-    ∙ fresh_is plan c.schema-schema.result.now spec (inside.builds + 1) new_pages few one in
+    ∙ fresh_is plan c.schema-schema.result.now spec (inside.builds + 1) (inside.builds + 1) new_pages few one in
     let spools : List SpoolValue = map (spool_value g.S.Spool.runs g.S.Spool.open_run g.S.Spool.stake) c.building.inside.spools.items in
     let now : BuildingValue = c.args.building.now in
     let lent : spools_state true spools ≡ all_given (spools_state now.given now.spools) =
