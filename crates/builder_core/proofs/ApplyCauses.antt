@@ -1,16 +1,15 @@
 -- Why no entries are applied to the index of a build, and what is known where nothing is in the way.
-use Rattle.std.proofs.Common.{◌≡◌, ℕ, ◌<◌, ◌≤◌, Bool, true, false, List, [], ◌∷◌, length, min, Option, Some, None, Result, Ok, Err, IfOk, OnErr, refl, sym, ap, ◌∙◌, subst, arith}
+use Rattle.std.proofs.Common.{◌≡◌, ℕ, ◌<◌, ◌≤◌, Bool, true, false, List, [], ◌∷◌, min, Option, Some, None, Result, Ok, Err, IfOk, OnErr, refl, sym, ap, ◌∙◌, subst, arith}
 use Rattle.std.specs.Prelude.{is_some, not, IfSome}
-use Rattle.std.proofs.lemmas.Bool.{false≢true}
 use Rattle.std.proofs.Math.Nat.{min-le_right}
 use Rattle.keybytes.specs.Faults.{first_cause}
 use Rattle.keybytes.specs.Keys.{KeySpecValue}
 use Rattle.keybytes.specs.declared.fault.Fault.{Fault}
 use Rattle.keybytes.specs.declared.fault.Fault.TheVariants.{NoBuild, NotLoaded}
 use Rattle.building.specs.WorkerValue.{WorkerValue}
-use Rattle.builder_core.specs.Builds.{LiveValue, BuildingValue, WorkValue, IsRunning, WorksOn, MayApply, SideIsLooked, BuildFollows, IsWorkOf, state_unless}
+use Rattle.builder_core.specs.Builds.{LiveValue, BuildingValue, WorkValue, WorksOn, MayApply, SideIsLooked, BuildFollows, IsWorkOf, state_unless}
 use Rattle.builder_core.specs.Builds.{work_state, core_state, cause_of}
-use Rattle.builder_core.specs.CoreState.{BuildState, LiveState, WorkState, CoreState}
+use Rattle.builder_core.specs.CoreState.{BuildState, WorkState, CoreState}
 use Rattle.builder_core.specs.SideFiles.{AreFedEntries, SeesSide}
 use Rattle.builder_core.specs.Steps.{OnBuild, Applies, AppliesSome, refusal, build_cause, cause_if, apply_refusal, index_refusal, next_applied, after_apply}
 use Rattle.builder_core.specs.Working.{CanApply, HasApplied}

@@ -1,16 +1,14 @@
 -- A build whose index catches up: how far it is, as callers see it.
-use Rattle.std.proofs.Common.{◌≡◌, ℕ, zero, suc, ◌+◌, ◌-◌, ◌<◌, ◌≤◌, Bool, true, false, List, [], ◌∷◌, length, min, get_or, Option, Some, None, refl, sym, ap, ◌∙◌, subst, arith}
-use Rattle.std.specs.Prelude.{IsSome, not}
+use Rattle.std.proofs.Common.{◌≡◌, ℕ, zero, suc, ◌+◌, ◌-◌, ◌<◌, ◌≤◌, List, [], ◌∷◌, length, min, Option, Some, None, refl, sym, ap, ◌∙◌, subst, arith}
+use Rattle.std.specs.Prelude.{IsSome}
 use Rattle.std.specs.List.{slice_get}
 use Rattle.std.proofs.Math.Nat.{min-le_left, min-le_right, le-min}
 use Rattle.std.proofs.lemmas.Option.{same_Some}
-use Rattle.keybytes.specs.Faults.{first_cause}
 use Rattle.keybytes.specs.Keys.{KeySpecValue}
-use Rattle.heap_log.specs.declared.record.LogRec.{LogRec}
 use Rattle.builder_core.specs.Builds.{LiveValue, BuildingValue, WorkValue, IsRunning, work_state, core_state, index_state}
-use Rattle.builder_core.specs.CoreState.{BuildState, IndexState, LiveState, WorkState, CoreState}
+use Rattle.builder_core.specs.CoreState.{BuildState, IndexState, CoreState}
 use Rattle.builder_core.specs.SideFiles.{AreFedEntries}
-use Rattle.builder_core.specs.Steps.{OnBuild, Feeds, Applies, AppliesSome, CatchesUp, AreFurther, IsFurther, refusal, build_cause, apply_refusal, next_fed, next_applied}
+use Rattle.builder_core.specs.Steps.{OnBuild, Feeds, Applies, AppliesSome, CatchesUp, AreFurther, IsFurther, refusal, build_cause, apply_refusal}
 use Rattle.builder_core.specs.Workers.{all_entries, all_unapplied, fed_to, in_ring, unfed}
 use Rattle.builder_core.specs.declared.event.Event.TheVariants.{Apply}
 use Rattle.builder_core.proofs.FedBeside.{indexes_seen}

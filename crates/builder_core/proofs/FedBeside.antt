@@ -1,17 +1,16 @@
 -- What feeding leaves with both ends of the side-file's ring at hand.
-use Rattle.std.proofs.Common.{◌≡◌, ℕ, ◌+◌, ◌-◌, ◌<◌, ◌≤◌, Bool, false, true, List, [], ◌∷◌, length, min, Option, Some, None, Result, Ok, Err, IfOk, IfErr, OnOk, OnErr, refl, sym}
+use Rattle.std.proofs.Common.{◌≡◌, ℕ, ◌-◌, ◌≤◌, Bool, false, true, List, [], ◌∷◌, length, min, Option, Some, None, Result, Ok, Err, IfOk, IfErr, OnOk, OnErr, refl, sym}
 use Rattle.std.proofs.Common.{ap, ◌∙◌, subst, arith}
 use Rattle.std.specs.Prelude.{nat_le}
 use Rattle.std.specs.List.{slice_get}
 use Rattle.std.proofs.Math.Nat.{min-le_left, min-le_right, le-min}
-use Rattle.std.proofs.lemmas.Bool.{false≢true}
 use Rattle.keybytes.specs.Keys.{KeySpecValue}
 use Rattle.keybytes.specs.declared.fault.Fault.{Fault}
 use Rattle.keybytes.specs.declared.fault.Fault.TheVariants.{BadCount}
 use Rattle.building.specs.WorkerValue.{WorkerValue}
-use Rattle.builder_core.specs.Builds.{LiveValue, BuildingValue, WorkValue, IsRunning, WorksOn, BuildFollows, SideIsLooked, HasFed, least_fed, state_unless, work_state}
+use Rattle.builder_core.specs.Builds.{LiveValue, BuildingValue, WorkValue, WorksOn, BuildFollows, SideIsLooked, HasFed, least_fed, state_unless, work_state}
 use Rattle.builder_core.specs.Builds.{core_state, index_state, IsWorkOf}
-use Rattle.builder_core.specs.CoreState.{BuildState, IndexState, LiveState, WorkState, CoreState}
+use Rattle.builder_core.specs.CoreState.{BuildState, IndexState, LiveState, CoreState}
 use Rattle.builder_core.specs.SideFiles.{SeesSide, side_refusal}
 use Rattle.builder_core.specs.Steps.{OnBuild, Feeds, build_cause, cause_if, index_refusal, next_fed, after_feed}
 use Rattle.builder_core.specs.Workers.{fed_to, in_ring, unfed}

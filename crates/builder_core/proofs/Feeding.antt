@@ -1,5 +1,5 @@
 -- The side-file's ring of a build: it is looked at, entries go into it, and from it to the index.
-use Rattle.std.proofs.Common.{◌≡◌, ℕ, ◌+◌, ◌-◌, ◌<◌, ◌≤◌, ◌^◌, true, List, [], ◌∷◌, ◌++◌, length, map, set, get_or, take, drop, min, Option, Some, None, refl}
+use Rattle.std.proofs.Common.{◌≡◌, ℕ, ◌+◌, ◌-◌, ◌<◌, ◌≤◌, ◌^◌, List, [], ◌∷◌, ◌++◌, length, map, set, get_or, take, drop, Option, Some, None}
 use Rattle.std.proofs.Common.{sym, ap, ◌∙◌, subst, arith, length-append, length-drop, length-take, append_assoc}
 use Rattle.std.specs.List.{All}
 use Rattle.keybytes.specs.Keys.{IsKeyOf}
@@ -18,7 +18,7 @@ use Rattle.side_file.specs.SideFileValue.{SideFileValue}
 use Rattle.side_file.specs.declared.entry.Entry.{Entry}
 use Rattle.building.specs.TakeEnd.{TakeEnd}
 use Rattle.building.specs.declared.copied.Copied.{Copied}
-use Rattle.builder_core.specs.Builds.{LiveValue, BuildingValue, WorkValue, IsBuildOf, IsWorkOf, WorkersFollow, WorksOn, IsRunning, SideIsLooked, core_state}
+use Rattle.builder_core.specs.Builds.{LiveValue, BuildingValue, WorkValue, IsBuildOf, IsWorkOf, WorkersFollow, WorksOn, SideIsLooked, core_state}
 use Rattle.builder_core.specs.CoreState.{BuildState, scanning_of}
 use Rattle.builder_core.specs.SideFiles.{IsFed, HasEntries, SideFollows, AreFedEntries, HasLookedAtSide, SeesSide}
 use Rattle.builder_core.specs.Steps.{after_feed}

@@ -1,14 +1,12 @@
 -- What entries that are applied leave of the index of a build, and of its work.
-use Rattle.std.proofs.Common.{◌≡◌, ℕ, ◌+◌, ◌-◌, ◌<◌, ◌≤◌, true, List, [], ◌∷◌, ◌++◌, length, map, take, drop, min, append_assoc, Option, Some, None, refl, sym, ap, ◌∙◌}
+use Rattle.std.proofs.Common.{◌≡◌, ℕ, ◌+◌, ◌-◌, ◌≤◌, true, List, [], ◌∷◌, ◌++◌, length, map, take, drop, append_assoc, Some, None, refl, sym, ap, ◌∙◌}
 use Rattle.std.proofs.Common.{subst, arith, take-add, take-take, take-append-drop, drop-drop}
 use Rattle.std.specs.Prelude.{is_some}
 use Rattle.std.specs.FinMap.{keys}
 use Rattle.std.specs.FinSet.{FinSet}
-use Rattle.std.proofs.lemmas.Bool.{false≢true}
 use Rattle.std.proofs.lemmas.List.{take-map, drop-map}
 use Rattle.std.proofs.lemmas.Option.{same_Some}
 use Rattle.keybytes.specs.Pairs.{AreOrdered, pair_cmp, set_of}
-use Rattle.keybytes.specs.declared.fault.Fault.{Fault}
 use Rattle.keybytes.specs.declared.pair.Pair.{Pair}
 use Rattle.side_file.specs.Entries.{entry_of}
 use Rattle.side_file.specs.Kept.{last_ones}
@@ -16,7 +14,7 @@ use Rattle.side_file.specs.declared.entry.Entry.{Entry}
 use Rattle.visibility.specs.Applied.{apply_entries}
 use Rattle.visibility.specs.SideEntries.{SideEntry}
 use Rattle.visibility.proofs.Changes.{apply-append}
-use Rattle.catch_up.specs.Built.{BuiltValue, told_to}
+use Rattle.catch_up.specs.Built.{told_to}
 use Rattle.catch_up.proofs.Telling.{told_entries}
 use Rattle.builder_core.specs.Builds.{LiveValue, BuildingValue, WorkValue, IsRunning, IsCaughtUpTo, IsWorkOn, WorksOn, work_state, core_state, index_state}
 use Rattle.builder_core.specs.CoreState.{BuildState, IndexState, WorkState, scanning_of}

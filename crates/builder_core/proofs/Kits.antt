@@ -1,5 +1,5 @@
 -- The makers and spools of a build's workers, as their rings are looked at and as they take what was put.
-use Rattle.std.proofs.Common.{◌≡◌, ℕ, zero, suc, ◌+◌, ◌<◌, ◌&&◌, Bool, true, false, List, [], ◌∷◌, All, map, set, replicate, length, get_or, Some, refl, sym}
+use Rattle.std.proofs.Common.{◌≡◌, ℕ, zero, suc, ◌+◌, ◌<◌, Bool, true, false, List, [], ◌∷◌, All, map, set, length, get_or, Some, refl, sym}
 use Rattle.std.proofs.Common.{ap, ap₂, ◌∙◌, subst, inl, inr, arith}
 use Rattle.std.specs.Prelude.{◌==◌, None}
 use Rattle.std.specs.List.{slice_get, list_all}
@@ -11,7 +11,7 @@ use Rattle.keybytes.specs.Keys.{KeySpecValue}
 use Rattle.keybytes.specs.declared.kind.Kind.{Kind}
 use Rattle.keybytes.specs.declared.pair.Pair.{Pair}
 use Rattle.run_spool.specs.Spools.{NoneEmpty, holds_nothing}
-use Rattle.run_maker.specs.Making.{MakerValue, AreReady}
+use Rattle.run_maker.specs.Making.{MakerValue}
 use Rattle.side_file.specs.Ends.{PutEnd}
 use Rattle.building.specs.Holding.{HoldsPairs, HoldsOpen}
 use Rattle.building.specs.Taking.{received_images, unsealed_images}

@@ -9,7 +9,7 @@ use Rattle.heap_table.specs.HeapState.{HeapState, after_switch}
 use Rattle.heap_table.specs.TablePairs.{pairs_at_rest}
 use Rattle.catch_up.specs.Built.{BuiltValue}
 use Rattle.builder_core.specs.Builds.{LiveValue, BuildingValue, WorkValue, IsRunning, work_state, core_state, index_state}
-use Rattle.builder_core.specs.CoreState.{BuildState, IndexState, LiveState, ReadyValue, CoreState, WorkState, SpoolsState, idle, scanning_of}
+use Rattle.builder_core.specs.CoreState.{BuildState, IndexState, LiveState, ReadyValue, CoreState, SpoolsState, idle, scanning_of}
 use Rattle.builder_core.specs.Holding.{spools_state}
 use Rattle.builder_core.specs.SideEntries.{side_entries}
 use Rattle.builder_core.specs.Steps.{OnBuild, Switches, CatchesUp, AreFurther, ready_from, index_now, after_switch_in, verdicts_on}

@@ -24,7 +24,7 @@ use Rattle.builder_core.specs.CoreState.{CoreState, LiveState, BuildState, Ready
 use Rattle.builder_core.specs.Headline.{HasPairsAtRest, EachSwitchIsAtRest}
 use Rattle.keybytes.specs.declared.fault.Fault.{Fault}
 use Rattle.spool_ledger.specs.Accounts.{Stake}
-use Rattle.builder_core.specs.Steps.{Step, Run, Does, AfterWant, spoiled_by, OnBuild, ready_from, index_now, after_switch_in, verdicts_on}
+use Rattle.builder_core.specs.Steps.{Step, Run, Does, AfterWant, OnBuild, ready_from, index_now, after_switch_in, verdicts_on}
 
 -- the second log is the first, and more
 abbrev pub GoesOn : List LogRec → List LogRec → Type 0

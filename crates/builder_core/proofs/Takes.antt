@@ -19,13 +19,13 @@ use Rattle.building.specs.WorkerValue.{WorkerValue}
 use Rattle.building.specs.declared.copied.Copied.{Copied}
 use Rattle.building.proofs.ManyPairs.{images-append, have_split}
 use Rattle.building.proofs.Taking.{digested_taking, sealed_taking, digested_holds, sealed_holds, digested_open, sealed_open}
-use Rattle.run_maker.specs.ImagePairs.{HasPairs, HasRows}
+use Rattle.run_maker.specs.ImagePairs.{HasRows}
 use Rattle.builder_core.specs.Builds.{LiveValue, BuildingValue, WorkValue, IsRunning, IsWorkOn, WorksOn, worker_state, index_state, state_unless, work_state}
 use Rattle.builder_core.specs.Builds.{core_state}
 use Rattle.builder_core.specs.SideFiles.{IsFed}
 use Rattle.builder_core.specs.Workers.{fed_to}
 use Rattle.builder_core.specs.CoreState.{BuildState, WorkState, SpoolsState, scanning_of, spoiled_work}
-use Rattle.builder_core.specs.Holding.{SpoolValue, Kit, IsFit, Digested, Sealed, begun_of, spools_state}
+use Rattle.builder_core.specs.Holding.{Kit, IsFit, Digested, Sealed, begun_of, spools_state}
 use Rattle.builder_core.specs.Rings.{all_sent, ArePut, HasPut, PagesFollow}
 use Rattle.builder_core.specs.Scanning.{pairs_at_scan}
 use Rattle.builder_core.specs.Steps.{spoiled_by}
@@ -40,10 +40,9 @@ use Rattle.builder_core.proofs.Works.{makers_work_on, spoiled_work_on}
 use Rattle.heap_table.specs.Images.{ImageValue}
 use Rattle.keybytes.specs.Keys.{KeySpecValue}
 use Rattle.std.proofs.lemmas.List.{take-append-drop}
-use Rattle.std.specs.Prelude.{All, drop}
+use Rattle.std.specs.Prelude.{drop}
 use Rattle.std.proofs.lemmas.List.Elements.{All-nil, All-cons}
 use Rattle.keybytes.specs.declared.cell.Cell.{Cell}
-use Rattle.keybytes.specs.declared.kind.Kind.{Kind}
 
 -- where images have pairs they have rows
 have_rows : (spec : KeySpecValue) (images : List ImageValue) (made : List Pair) → HavePairs spec images made → HaveRows spec.kinds images

@@ -1,4 +1,4 @@
-use Rattle.std.proofs.Common.{◌≡◌, ◌∙◌, List, map, Ok, IfOk, IsPermutation, sym, subst}
+use Rattle.std.proofs.Common.{◌≡◌, ◌∙◌, List, map, IfOk, IsPermutation, sym, subst}
 use Rattle.keybytes.specs.Pairs.{AreOrdered}
 use Rattle.keybytes.specs.declared.pair.Pair.{Pair}
 use Rattle.heap_table.proofs.PairsAtRest.{InOrder}

@@ -1,5 +1,4 @@
-use Rattle.std.proofs.Common.{◌≡◌, ◌+◌, ◌<◌, ◌≤◌, ℕ, length, Option, Some, OnErr, refl, sym, ap, ◌∙◌, subst, arith}
-use Rattle.builder_core.specs.Builds.{BuildingValue, WorkValue}
+use Rattle.std.proofs.Common.{◌≡◌, ◌+◌, OnErr, refl, subst, arith}
 use Rattle.builder_core.specs.Working.{HasApplied}
 use Rattle.builder_core.proofs.Applying.{applied_more, applied_none, can_go_on, stays_built}
 use Rattle.builder_core.proofs.Taken.{on_err}

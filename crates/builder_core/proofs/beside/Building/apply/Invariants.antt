@@ -1,4 +1,3 @@
-use Rattle.std.proofs.Common.{◌≤◌}
 use Rattle.builder_core.specs.Working.{HasApplied}
 use Rattle.builder_core.proofs.beside.Building.apply.Given as goal
 

@@ -1,8 +1,6 @@
-use Rattle.std.proofs.Common.{◌≡◌, [], refl, OnOk, ◌+◌, ◌<◌, ◌≤◌, ℕ, length, Option, Some, Err, sym, ap, ◌∙◌, OnErr, subst, arith}
+use Rattle.std.proofs.Common.{◌≡◌, [], refl, OnOk, ◌+◌, ◌<◌, ◌≤◌, length, sym, OnErr, subst, arith}
 use Rattle.rtrb.specs.Ring.{known_items}
-use Rattle.building.specs.TakeEnd.{take_end}
-use Rattle.builder_core.specs.Builds.{BuildingValue, WorkValue}
-use Rattle.builder_core.specs.Working.{HasApplied}
+use Rattle.builder_core.specs.Builds.{BuildingValue}
 use Rattle.builder_core.proofs.Applying.{has_applied, one_taken}
 use Rattle.builder_core.proofs.Taken.{on_err}
 use Rattle.builder_core.proofs.beside.Building.apply_next.Goals as goal

@@ -1,4 +1,4 @@
-use Rattle.std.proofs.Common.{◌∙◌, List, length, All, map, Some, sym, ap, subst, arith}
+use Rattle.std.proofs.Common.{◌∙◌, List, length, All, map, sym, ap, subst}
 use Rattle.std.specs.Prelude.{IsPermutation}
 use Rattle.std.proofs.lemmas.Bool.{false≢true}
 use Rattle.keybytes.specs.Pairs.{AreOrdered}

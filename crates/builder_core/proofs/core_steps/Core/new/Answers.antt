@@ -1,6 +1,6 @@
 use Rattle.std.proofs.Common.{◌∙◌, ap}
 use Rattle.builder_core.specs.Builds.{LiveValue, core_state}
-use Rattle.builder_core.specs.CoreState.{SpoolsState, abandoned, opening}
+use Rattle.builder_core.specs.CoreState.{abandoned, opening}
 use Rattle.builder_core.proofs.Kits.{spools_handed}
 use Rattle.builder_core.proofs.core_steps.Core.new.Goals as goal
 

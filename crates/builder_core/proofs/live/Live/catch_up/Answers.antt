@@ -1,11 +1,9 @@
-use Rattle.std.proofs.Common.{◌≡◌, ◌<◌, ℕ, Option, None, IfOk, OnErr, ap, ◌∙◌, subst}
-use Rattle.builder_core.specs.Builds.{LiveValue, BuildingValue, core_state, WorksOn}
-use Rattle.builder_core.specs.CoreState.{BuildState, CoreState}
-use Rattle.builder_core.specs.Steps.{OnBuild, AppliesSome, CatchesUp}
+use Rattle.std.proofs.Common.{◌<◌, ◌∙◌, subst}
+use Rattle.builder_core.specs.Builds.{LiveValue, BuildingValue, core_state}
+use Rattle.builder_core.specs.CoreState.{CoreState}
 use Rattle.builder_core.proofs.ApplyCauses.{applies_next}
 use Rattle.builder_core.proofs.CatchingUp.{OneFurther, no_further, catches_up, runs_on, applies_on, fed_further, applied_further, some_further, fewer_left, left_of, left_seen}
 use Rattle.builder_core.proofs.Feeding.{state_side_looked, works_side_looked}
-use Rattle.builder_core.proofs.Taken.{on_err}
 use Rattle.builder_core.proofs.live.Live.catch_up.Goals as goal
 
 pub loop-self-init : goal.loop-self-init

@@ -1,4 +1,3 @@
-use Rattle.std.proofs.Common.{ℕ}
 use Rattle.builder_core.specs.Builds.{core_state, WorksOn}
 use Rattle.builder_core.proofs.CatchingUp.{OneFurther, left_of}
 use Rattle.builder_core.proofs.live.Live.catch_up.Given as goal

@@ -1,14 +1,10 @@
-use Rattle.std.proofs.Common.{◌≡◌, ℕ, ◌+◌, ◌<◌, ◌^◌, List, [], ◌∷◌, Option, Some, sym, ap, ◌∙◌, subst, arith}
-use Rattle.side_file.specs.Changes.{all_appended}
-use Rattle.side_file.specs.Ends.{PutEnd, RingId}
-use Rattle.building.specs.declared.copied.Copied.{Copied}
+use Rattle.std.proofs.Common.{ℕ, [], ◌∷◌, Option, Some, sym, ap, ◌∙◌, subst}
+use Rattle.side_file.specs.Ends.{RingId}
 use Rattle.heap_table.specs.HeapState.{HeapState}
 use Rattle.builder_core.specs.Builds.{LiveValue, IsBuildOf, IsWorkOf, BuildFollows, WorkersFollow, WorksOn}
-use Rattle.builder_core.specs.CoreState.{BuildState, LiveState}
+use Rattle.builder_core.specs.CoreState.{BuildState}
 use Rattle.builder_core.specs.Rings.{all_sent, HasPut, PagesFollow}
 use Rattle.builder_core.specs.SideFiles.{HasEntries, SideFollows}
-use Rattle.builder_core.specs.Steps.{after_feed}
-use Rattle.builder_core.specs.Workers.{fed_to}
 use Rattle.builder_core.proofs.Feeding.{entries_fed, fed_countable, follow_fed, build_fed, work_fed}
 use Rattle.builder_core.proofs.live.Live.feed.Goals as goal
 

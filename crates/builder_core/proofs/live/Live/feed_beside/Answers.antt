@@ -1,6 +1,5 @@
 use Rattle.std.proofs.Common.{◌∙◌, ap}
 use Rattle.std.specs.Prelude.{min}
-use Rattle.builder_core.specs.Builds.{LiveValue, BuildingValue}
 use Rattle.builder_core.proofs.FedBeside.{fed_refused, fed_accepted, fed_unchanged, feeds_beside}
 use Rattle.builder_core.proofs.Feeding.{works_side_looked}
 use Rattle.builder_core.proofs.live.Live.feed_beside.Goals as goal

@@ -1,4 +1,4 @@
-use Rattle.std.proofs.Common.{◌≡◌, ◌∷◌, [], ap, ◌∙◌, sym, subst, arith}
+use Rattle.std.proofs.Common.{◌∷◌, [], ap, ◌∙◌, arith}
 use Rattle.side_file.specs.Ends.{RingId}
 use Rattle.builder_core.proofs.Feeding.{fed_if_running}
 use Rattle.builder_core.proofs.SideKept.{side_stays}

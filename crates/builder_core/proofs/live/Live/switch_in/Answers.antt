@@ -1,4 +1,4 @@
-use Rattle.std.proofs.Common.{rules, ◌≡◌, ◌∙◌, ◌+◌, ◌++◌, ◌∷◌, [], ℕ, List, length, map, true, Some, ap, sym, subst}
+use Rattle.std.proofs.Common.{◌≡◌, ◌∙◌, ◌+◌, ◌++◌, ◌∷◌, [], ℕ, List, length, map, true, ap, sym, subst}
 use Rattle.std.specs.Prelude.{is_some}
 use Rattle.std.proofs.lemmas.Bool.{false≢true}
 use Rattle.std.proofs.lemmas.Option.{same_Some}
@@ -13,11 +13,10 @@ use Rattle.heap_table.specs.Kept.{RowsFit}
 use Rattle.heap_table.specs.TablePairs.{index_pairs, pairs_at_rest}
 use Rattle.catch_up.specs.Built.{BuiltValue}
 use Rattle.building.specs.TakeEnd.{take_end}
-use Rattle.builder_core.specs.Builds.{LiveValue, BuildingValue, WorkValue, BuildFollows, IsRunning, core_state, cause_of, work_state}
+use Rattle.builder_core.specs.Builds.{LiveValue, BuildingValue, WorkValue, BuildFollows, IsRunning, core_state, work_state}
 use Rattle.builder_core.specs.CoreState.{BuildState, ReadyValue, CoreState}
 use Rattle.builder_core.specs.Holding.{spool_value, spools_state}
 use Rattle.builder_core.specs.Steps.{Switches}
-use Rattle.builder_core.specs.declared.event.Event.{Event}
 use Rattle.builder_core.proofs.ApplyCauses.{may_apply}
 use Rattle.builder_core.proofs.Following.{follow_more}
 use Rattle.builder_core.proofs.OneWorker.{ended_stakes}
