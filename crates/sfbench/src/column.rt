@@ -1,0 +1,60 @@
+ghost use Rattle.std.specs.Prelude.{◌≡◌, ◌≤◌, IfSome};
+ghost use Rattle.sfbench.specs.Columns.{IsMeasured, key_size, kind_of};
+
+use keybytes::{Kind, TEXT_MAX};
+use std::fmt;
+
+/// A column of the table that is measured.
+#[derive(Clone, Copy, Debug, PartialEq, Eq)]
+pub enum Column {
+    Int,
+    /// With the number of bytes of each of its texts.
+    Text(usize),
+}
+
+impl Column {
+    /// Reads `int`, or `text:` with a number of bytes from 1 to [`TEXT_MAX`].
+    pub fn parse(text: &str) -> Option<Column>
+        ensures { IfSome result IsMeasured }
+    {
+        if text == "int" {
+            return Some(Column::Int);
+        }
+        let length: usize = text.strip_prefix("text:")?.parse().ok()?;
+        if length < 1 || length > TEXT_MAX {
+            return None;
+        }
+        Some(Column::Text(length))
+    }
+
+    /// What its cells are.
+    pub fn kind(self) -> Kind
+        ensures { result ≡ kind_of self }
+    {
+        match self {
+            Column::Int => Kind::Int,
+            Column::Text(_) => Kind::Text,
+        }
+    }
+
+    /// The number of bytes of its cells in a key: a tag, and the number or the text with its two bytes of end mark.
+    pub fn key_size(self) -> usize
+        requires { IsMeasured self }
+        ensures size { result ≡ key_size self }
+        ensures limit { result ≤ 103 }
+    {
+        match self {
+            Column::Int => 9,
+            Column::Text(length) => length + 3,
+        }
+    }
+}
+
+impl fmt::Display for Column {
+    fn fmt<W: fmt::Write>(&self, f: &mut fmt::Formatter<W>) -> fmt::Result {
+        match self {
+            Column::Int => f.write_str("int"),
+            Column::Text(length) => write!(f, "text:{length}"),
+        }
+    }
+}
