@@ -1,5 +1,5 @@
 -- How many pages of a spool the pairs of a worker take.
-use Rattle.std.specs.Prelude.{◌≡◌, ℕ, ◌+◌, ◌*◌, ◌/◌, ◌%◌, ◌≤◌, ◌<◌, Bool, nat_le}
+use Rattle.std.specs.Prelude.{ℕ, ◌+◌, ◌*◌, ◌/◌, ◌%◌, ◌==◌, Bool, if◌then◌else◌, nat_le}
 
 -- how many times so many are taken out of that many, the last time perhaps fewer
 abbrev pub times : ℕ → ℕ → ℕ

@@ -55,7 +55,7 @@ fn random_cell(alloc: Global, rng: &mut SmallRng, column: Column) -> Result<Cell
     match column {
         Column::Int => Ok(Cell::Int(rng.random())),
         Column::Text(length) => {
-            let text = Alphanumeric.sample_string(alloc, rng, length)?;
+            let text = Alphanumeric.sample_string(alloc, rng, usize::from(length))?;
             Ok(Cell::Text(Text::new(text)))
         }
     }

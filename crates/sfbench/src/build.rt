@@ -241,12 +241,10 @@ pub fn compare<T: Table>(
 
 /// The place of the first pair that the other list doesn't have there.
 fn first_difference(pairs: &[Pair], others: &[Pair]) -> usize {
-    let mut place = 0;
-    for (pair, other) in pairs.iter().zip(others) {
+    for (place, (pair, other)) in pairs.iter().zip(others).enumerate() {
         if pair != other {
             return place;
         }
-        place += 1;
     }
-    place
+    pairs.len().min(others.len())
 }

@@ -3,6 +3,7 @@
 use crate::column::Column;
 use crate::options::{Options, key_size};
 use crate::spool_pages::workers_for;
+use builder_core::WORKERS_MAX;
 use clap::error::ErrorKind;
 use clap::{Arg, ArgAction, ArgMatches, Command, Error, value_parser};
 use std::alloc::{AllocError, Global};
@@ -78,6 +79,9 @@ fn options(matches: &ArgMatches<'_>, columns: Vec<Column>) -> Option<Options> {
         Some(workers) => workers,
         None => workers_for(rows, key_size(columns.as_slice()))?,
     };
+    if !(1..=WORKERS_MAX).contains(&workers) {
+        return None;
+    }
     Some(Options {
         rows,
         columns,

@@ -61,11 +61,22 @@ fn scan_each<T: Table>(
     stretches: &mut [Stretch],
 ) -> Result<(), Failure> {
     for (worker, stretch) in stretches.iter_mut().enumerate() {
-        for _ in 0..COPIES_MAX.min(stretch.left()) {
-            build::scan(core, worker)?;
-            stretch.next += 1;
-        }
+        scan_some(core, worker, stretch)?;
     }
+    Ok(())
+}
+
+/// Fills a worker's ring.
+fn scan_some<T: Table>(
+    core: &mut Core<PlainSpool, T>,
+    worker: usize,
+    stretch: &mut Stretch,
+) -> Result<(), Failure> {
+    let end = stretch.end.min(stretch.next.saturating_add(COPIES_MAX));
+    for _ in stretch.next..end {
+        build::scan(core, worker)?;
+    }
+    stretch.next = stretch.next.max(end);
     Ok(())
 }
 

@@ -18,6 +18,9 @@ pub fn look_up<T: Table>(
 ) -> Result<Figure, Failure> {
     let rt = bench.rt;
     let pairs = build::pairs(core, 0)?;
+    if pairs.is_empty() {
+        return Err(Failure::Differs(0, 0));
+    }
     let mut watch = Watch::new();
     let count = bench.options.rows.min(LOOK_UPS_MAX);
     let start = Instant::now(rt)?;

@@ -1,7 +1,6 @@
-ghost use Rattle.std.specs.Prelude.{◌≡◌, ◌≤◌, ◌<◌, All};
+ghost use Rattle.std.specs.Prelude.{◌≤◌, ◌<◌};
 
 use crate::column::Column;
-use std::marker::Model;
 
 /// What is to be measured.
 #[derive(Drop)]
@@ -20,13 +19,14 @@ pub struct Options {
     pub seed: u64,
     /// Whether the figures are printed as comma-separated records.
     pub csv: bool,
+    pub ghost some: { 0 < workers },
+    pub ghost most: { workers ≤ 16 },
 }
 
 impl Options {
     /// The bytes of the longest key of an index: each is on one column.
     pub fn key_size(&self) -> usize
-        requires { All IsMeasured self.now.columns.items }
-        ensures { result ≤ 103 }
+        ensures { result ≤ 258 }
     {
         key_size(self.columns.as_slice())
     }
@@ -34,8 +34,7 @@ impl Options {
 
 /// The bytes of the longest key on one of these columns.
 pub fn key_size(columns: &[Column]) -> usize
-    requires { All IsMeasured columns.now }
-    ensures { result ≤ 103 }
+    ensures { result ≤ 258 }
 {
     let mut longest = 0;
     for column in columns {

@@ -17,7 +17,7 @@ const FIXED_SIZE: usize = 8;
 
 /// The pages that so many pairs take, whose keys have that many bytes.
 fn pages_for(key_size: usize, pairs: usize) -> usize
-    requires key { key_size ≤ 103 }
+    requires key { key_size ≤ 258 }
     requires pairs { pairs ≤ 8589934592 }
     ensures { result ≡ pages_for key_size pairs }
 {
@@ -36,7 +36,7 @@ fn share(rows: u32, workers: usize) -> usize
 /// The pages that a spool is given for the part of one of so many workers: what its pairs take, and no more than a spool may have.
 pub fn quota(rows: u32, key_size: usize, workers: usize) -> usize
     requires workers { 0 < workers }
-    requires key { key_size ≤ 103 }
+    requires key { key_size ≤ 258 }
     ensures { result ≤ 1024 }
 {
     pages_for(key_size, share(rows, workers)).min(QUOTA_MAX)
@@ -45,7 +45,7 @@ pub fn quota(rows: u32, key_size: usize, workers: usize) -> usize
 /// Whether the pairs of one of so many workers find room in a spool.
 fn fits(rows: u32, key_size: usize, workers: usize) -> bool
     requires workers { 0 < workers }
-    requires key { key_size ≤ 103 }
+    requires key { key_size ≤ 258 }
     ensures { result ≡ fits rows key_size workers }
 {
     pages_for(key_size, share(rows, workers)) <= QUOTA_MAX
@@ -53,7 +53,7 @@ fn fits(rows: u32, key_size: usize, workers: usize) -> bool
 
 /// The fewest workers whose spools have room for the pairs of so many rows, if a build may have as many.
 pub fn workers_for(rows: u32, key_size: usize) -> Option<usize>
-    requires { key_size ≤ 103 }
+    requires { key_size ≤ 258 }
     ensures enough { MatchOption result Unit (λ workers. (0 < workers) × (workers ≤ 16) × (fits rows key_size workers ≡ true)) }
     ensures fewest { (fewer : ℕ) → 0 < fewer → MatchOption result (fewer ≤ 16) (λ workers. fewer < workers) → fits rows key_size fewer ≡ false }
 {

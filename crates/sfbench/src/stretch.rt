@@ -21,7 +21,8 @@ impl Stretch {
 
 /// So many pages, dealt evenly to so many workers.
 pub fn deal(alloc: Global, pages: u32, workers: usize) -> Result<Vec<Stretch>, AllocError>
-    requires { 0 < workers }
+    requires some { 0 < workers }
+    requires most { workers ≤ 16 }
 {
     let mut stretches = Vec::with_capacity(alloc, workers)?;
     let mut begin = 0;

@@ -8,6 +8,7 @@ use crate::watch::Watch;
 use builder_core::{Core, Table};
 use keybytes::{Rid, Row};
 use rand::RngExt;
+use rand::seq::IndexedRandom;
 use run_spool::PlainSpool;
 use std::time::Instant;
 
@@ -80,7 +81,7 @@ impl Updates {
 
     /// A row of any worker's pages; ahead of its scan once enough were behind.
     fn pick(&mut self, bench: &mut Bench<'_>, stretches: &[Stretch]) -> Option<Rid> {
-        let stretch = stretches[bench.rng.random_range(0..stretches.len())];
+        let stretch = stretches.choose(&mut bench.rng)?;
         let begin = if self.behind < BEHIND_MAX {
             stretch.begin
         } else {
