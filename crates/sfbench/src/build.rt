@@ -123,7 +123,9 @@ fn spec<T: Table>(
     alloc: Global,
     core: &Core<PlainSpool, T>,
     index: usize,
-) -> Result<KeySpec, Failure> {
+) -> Result<KeySpec, Failure>
+    ensures { IfOk result (λ spec. spec.kinds ≡ core.now.live.heap.schema) }
+{
     let schema = core.schema();
     let column = index % schema.kinds().len();
     match KeySpec::new(alloc, schema, vec![in alloc; column]?, false) {

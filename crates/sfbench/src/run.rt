@@ -15,6 +15,7 @@ use crate::stretch::{self, Stretch};
 use crate::updates::Updates;
 use crate::watch::Watch;
 use builder_core::{Core, Parts, Table};
+use heap_table::PAGES_MAX;
 use run_spool::PlainSpool;
 use std::marker::Brand;
 use std::time::Instant;
@@ -47,7 +48,8 @@ fn measure<T: Table>(
     let rt = bench.rt;
     let rows = bench.options.rows;
     let (pages, fill) = fill(bench, core)?;
-    let mut stretches = stretch::deal(rt.alloc(), pages.len() as u32, bench.options.workers)?;
+    let count = pages.len().min(PAGES_MAX as usize) as u32;
+    let mut stretches = stretch::deal(rt.alloc(), count, bench.options.workers)?;
     let mut changes = Updates::new(pages, copying::turns(stretches.as_slice()));
     let updates_alone = update_alone(bench, core, stretches.as_slice(), &mut changes)?;
     let start = start(bench, core, stretches.as_slice())?;
