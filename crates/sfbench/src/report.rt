@@ -12,6 +12,9 @@ use std::time::Duration;
 /// The names of the fields of a comma-separated record.
 const FIELDS: [&str; 5] = ["phase", "seconds", "rows", "rows_a_second", "peak_kib"];
 
+/// A phase that took fewer milliseconds is told without its rows a second, which would say nothing.
+const LEAST_MILLIS: u64 = 1;
+
 /// Prints the figures, a line a phase.
 pub fn print<W: Write + Drop>(
     alloc: Global,
@@ -33,28 +36,29 @@ fn print_table<W: Write + Drop>(
     figures: &Figures,
 ) -> io::Result<()> {
     let Options {
-        workers,
         indexes,
+        workers,
+        writes,
         seed,
         ..
     } = options;
     let rows = grouped(alloc, u128::from(options.rows))?;
+    let columns = columns(alloc, options)?;
     writeln!(
         out,
-        "{rows} rows of {}, seed {seed}: {indexes} index, {workers} workers",
-        columns(alloc, options)?
+        "{rows} rows of {columns}, indexes {indexes}, workers {workers}, writes {writes}, seed {seed}"
     )?;
     writeln!(
         out,
         "{:<16}{:>10}{:>16}{:>12}",
-        "", "seconds", "rows a second", "peak MiB"
+        "phase", "seconds", "rows a second", "peak MiB"
     )?;
     for (phase, figure) in figures.lines() {
         if let Some(figure) = figure {
             print_line(alloc, &mut out, phase, &figure)?;
         }
     }
-    writeln!(out, "the index has the pairs that the table gives")
+    writeln!(out, "each index has the pairs that the table gives")
 }
 
 /// The columns as they are asked for.
@@ -77,8 +81,8 @@ fn print_line<W: Write>(
 ) -> io::Result<()> {
     let seconds = seconds(alloc, figure.spent)?;
     let rate = match figure.rate() {
-        Some(rate) => grouped(alloc, rate)?,
-        None => String::new(alloc),
+        Some(rate) if figure.spent >= Duration::from_millis(LEAST_MILLIS) => grouped(alloc, rate)?,
+        _ => String::new(alloc),
     };
     let peak = match figure.peak {
         Some(peak) => grouped(alloc, u128::from(peak / 1024))?,
