@@ -1,5 +1,5 @@
 //! All that is asked of the core: a table to measure on, its changes, and the steps of a build.
-ghost use Rattle.std.specs.Prelude.{◌≡◌, IfOk, OnOk, Some, ℕ, ◌≤◌, All};
+ghost use Rattle.std.specs.Prelude.{◌≡◌, IfOk, ◌≤◌, All};
 ghost use Rattle.spool_ledger.specs.Accounts.{IsWhole};
 ghost use Rattle.builder_core.specs.Steps.{Does};
 

@@ -1,5 +1,5 @@
 //! A run: one phase after the other, and the comparison of the index with the table.
-ghost use Rattle.std.specs.Prelude.{◌≡◌, ◌<◌};
+ghost use Rattle.std.specs.Prelude.{◌≡◌};
 
 use crate::bench::Bench;
 use crate::build;

@@ -1,5 +1,5 @@
 //! The pages of a build, dealt to its workers.
-ghost use Rattle.std.specs.Prelude.{◌≡◌, ◌≤◌, ◌<◌};
+ghost use Rattle.std.specs.Prelude.{◌≤◌, ◌<◌};
 
 use std::alloc::{AllocError, Global};
 
