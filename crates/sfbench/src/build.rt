@@ -1,0 +1,252 @@
+//! All that is asked of the core: a table to measure on, its changes, and the steps of a build.
+ghost use Rattle.std.specs.Prelude.{◌≡◌, IfOk, ◌≤◌, All};
+ghost use Rattle.spool_ledger.specs.Accounts.{IsWhole};
+ghost use Rattle.builder_core.specs.Steps.{Does};
+
+use crate::column::Column;
+use crate::failure::Failure;
+use builder_core::{Core, Dealing, Event, Pair, Parts, Plan, Reply, Table};
+use heap_table::{Heap, PAGES_MAX, SLOTS_MAX};
+use keybytes::{Fault, KeySpec, Kind, Rid, Row, Schema};
+use run_spool::PlainSpool;
+use spool_ledger::{Account, Pool};
+use std::alloc::Global;
+
+/// No build has more workers, each with a spool for each of its indexes, of which no table has more.
+const SPOOLS_MAX: usize = 512;
+
+/// An empty table of these columns, with as many rows a page as a page may have.
+pub fn table(alloc: Global, columns: &[Column]) -> Result<Parts, Failure> {
+    let mut kinds = Vec::with_capacity(alloc, columns.len())?;
+    for column in columns {
+        kinds.push(column.kind())?;
+    }
+    match parts(alloc, kinds) {
+        Ok(parts) => Ok(parts),
+        Err(fault) => Err(Failure::Refused("the table", fault)),
+    }
+}
+
+fn parts(alloc: Global, kinds: Vec<Kind>) -> Result<Parts, Fault> {
+    let heap = Heap::new(alloc, Schema::new(kinds)?, SLOTS_MAX, PAGES_MAX)?;
+    match Parts::new(alloc, heap) {
+        Ok(parts) => Ok(parts),
+        Err((_, fault)) => Err(fault),
+    }
+}
+
+/// What an event is answered. It is named as `step` where the core refuses it.
+fn ask<T: Table>(
+    core: &mut Core<PlainSpool, T>,
+    step: &'static str,
+    event: Event,
+) -> Result<Reply, Failure>
+    ensures { IfOk result (λ reply. Does core.old event reply core.new) }
+{
+    match core.step(event) {
+        Reply::Refused { fault } => Err(Failure::Refused(step, fault)),
+        reply => Ok(reply),
+    }
+}
+
+/// A transaction puts rows in, and answers where they stand.
+pub fn insert_all<T: Table>(
+    alloc: Global,
+    core: &mut Core<PlainSpool, T>,
+    rows: Vec<Row>,
+) -> Result<Vec<Rid>, Failure> {
+    let mut rids = Vec::with_capacity(alloc, rows.len())?;
+    let txn = begin(core)?;
+    for row in rows {
+        rids.push(insert(core, txn, row)?)?;
+    }
+    commit(core, txn)?;
+    Ok(rids)
+}
+
+/// A transaction gives rows other values.
+pub fn update_all<T: Table>(
+    core: &mut Core<PlainSpool, T>,
+    updates: Vec<(Rid, Row)>,
+) -> Result<(), Failure> {
+    let txn = begin(core)?;
+    for (rid, row) in updates {
+        update(core, txn, rid, row)?;
+    }
+    commit(core, txn)
+}
+
+fn begin<T: Table>(core: &mut Core<PlainSpool, T>) -> Result<u64, Failure> {
+    let Reply::Begun { txn } = ask(core, "a transaction", Event::Begin)? else {
+        unreachable!()
+    };
+    Ok(txn)
+}
+
+fn insert<T: Table>(core: &mut Core<PlainSpool, T>, txn: u64, row: Row) -> Result<Rid, Failure> {
+    let Reply::Written { rid, .. } = ask(core, "an insert", Event::Insert { txn, row })? else {
+        unreachable!()
+    };
+    Ok(rid)
+}
+
+fn update<T: Table>(
+    core: &mut Core<PlainSpool, T>,
+    txn: u64,
+    rid: Rid,
+    row: Row,
+) -> Result<(), Failure> {
+    ask(core, "an update", Event::Update { txn, rid, row })?;
+    Ok(())
+}
+
+fn commit<T: Table>(core: &mut Core<PlainSpool, T>, txn: u64) -> Result<(), Failure> {
+    ask(core, "a commit", Event::Commit { txn })?;
+    Ok(())
+}
+
+/// What makes the keys of the indexes that are built: the first is on the first column, the second on the second, and so on, around.
+pub fn specs<T: Table>(
+    alloc: Global,
+    core: &Core<PlainSpool, T>,
+    indexes: usize,
+) -> Result<Vec<KeySpec>, Failure> {
+    let mut specs = Vec::with_capacity(alloc, indexes)?;
+    for index in 0..indexes {
+        specs.push(spec(alloc, core, index)?)?;
+    }
+    Ok(specs)
+}
+
+/// What makes the keys of the index of that number, from 0.
+fn spec<T: Table>(
+    alloc: Global,
+    core: &Core<PlainSpool, T>,
+    index: usize,
+) -> Result<KeySpec, Failure>
+    ensures { IfOk result (λ spec. spec.kinds ≡ core.now.live.heap.schema) }
+{
+    let schema = core.schema();
+    let column = index % schema.kinds().len();
+    match KeySpec::new(alloc, schema, vec![in alloc; column]?, false) {
+        Ok(spec) => Ok(spec),
+        Err(fault) => Err(Failure::Refused("the key of an index", fault)),
+    }
+}
+
+/// A spool for each worker and index, each with a quota of that many pages.
+fn spools(alloc: Global, count: usize, quota: usize) -> Result<Vec<PlainSpool>, Fault>
+    requires count { count ≤ 512 }
+    requires quota { quota ≤ 1024 }
+{
+    let quotas = vec![in alloc; quota as u32; count]?;
+    let mut pool = Pool::new(alloc, 0, (count * quota) as u32)?;
+    let accounts = pool.split(alloc, quotas.as_slice())?;
+    spools_over(alloc, accounts)
+}
+
+fn spools_over(alloc: Global, accounts: Vec<Account>) -> Result<Vec<PlainSpool>, Fault>
+    requires { All IsWhole accounts.items }
+{
+    let mut spools = Vec::with_capacity(alloc, accounts.len())?;
+    for account in accounts {
+        match PlainSpool::new(alloc, account) {
+            Ok(spool) => spools.push(spool)?,
+            Err((_, fault)) => return Err(fault),
+        }
+    }
+    Ok(spools)
+}
+
+/// A build starts over new spools, each worker with the pages up to its end.
+pub fn start<T: Table>(
+    alloc: Global,
+    core: &mut Core<PlainSpool, T>,
+    indexes: usize,
+    quota: usize,
+    ends: Vec<u32>,
+) -> Result<(), Failure>
+    requires { quota ≤ 1024 }
+{
+    let plan = Plan {
+        specs: specs(alloc, core, indexes)?,
+        workers: ends.len(),
+        dealing: Dealing::Ends(ends),
+        tries: 1,
+        keep_pairs: false,
+    };
+    let count = plan.workers.saturating_mul(indexes).min(SPOOLS_MAX);
+    match spools(alloc, count, quota) {
+        Ok(spools) => core.exchange_spools(spools),
+        Err(fault) => return Err(Failure::Refused("the spools of a build", fault)),
+    };
+    ask(core, "the start of the build", Event::Start { plan })?;
+    Ok(())
+}
+
+/// Copies the next page of that worker's.
+pub fn scan<T: Table>(core: &mut Core<PlainSpool, T>, worker: usize) -> Result<(), Failure> {
+    let range = worker;
+    ask(core, "a scan", Event::Scan { range, worker })?;
+    Ok(())
+}
+
+/// The worker takes the next copy.
+pub fn digest<T: Table>(core: &mut Core<PlainSpool, T>, worker: usize) -> Result<(), Failure> {
+    ask(core, "a digest", Event::Digest { worker })?;
+    Ok(())
+}
+
+/// The worker takes all copies that are left, and closes its run.
+pub fn seal<T: Table>(core: &mut Core<PlainSpool, T>, worker: usize) -> Result<(), Failure> {
+    ask(core, "a seal", Event::Seal { worker })?;
+    Ok(())
+}
+
+/// Puts the pairs of an index in order.
+pub fn load<T: Table>(core: &mut Core<PlainSpool, T>, index: usize) -> Result<(), Failure> {
+    ask(core, "a load", Event::Load { index })?;
+    Ok(())
+}
+
+/// Makes the indexes ready.
+pub fn switch<T: Table>(core: &mut Core<PlainSpool, T>) -> Result<(), Failure> {
+    ask(core, "the switch", Event::Switch)?;
+    Ok(())
+}
+
+/// The pairs of a ready index.
+pub fn pairs<T: Table>(core: &Core<PlainSpool, T>, index: usize) -> Result<&[Pair], Failure> {
+    match core.ready(index) {
+        Ok(ready) => Ok(ready.pairs()),
+        Err(fault) => Err(Failure::Refused("the pairs of an index", fault)),
+    }
+}
+
+/// Compares a ready index with the pairs that the table gives now.
+pub fn compare<T: Table>(
+    alloc: Global,
+    core: &mut Core<PlainSpool, T>,
+    index: usize,
+) -> Result<(), Failure> {
+    let spec = spec(alloc, core, index)?;
+    let rest = match core.rest(&spec) {
+        Ok(rest) => rest,
+        Err(fault) => return Err(Failure::Refused("the pairs at rest", fault)),
+    };
+    let pairs = pairs(core, index)?;
+    if pairs == rest.as_slice() {
+        return Ok(());
+    }
+    Err(Failure::Differs(index, first_difference(pairs, rest.as_slice())))
+}
+
+/// The place of the first pair that the other list doesn't have there.
+fn first_difference(pairs: &[Pair], others: &[Pair]) -> usize {
+    for (place, (pair, other)) in pairs.iter().zip(others).enumerate() {
+        if pair != other {
+            return place;
+        }
+    }
+    pairs.len().min(others.len())
+}

@@ -1,0 +1,44 @@
+use crate::bench::Bench;
+use crate::build;
+use crate::failure::Failure;
+use crate::figure::Figure;
+use crate::watch::Watch;
+use builder_core::{Core, Table};
+use keybytes::Rid;
+use run_spool::PlainSpool;
+use std::time::Instant;
+
+/// The rows that one transaction puts in.
+const ROWS_OF_A_TRANSACTION: u32 = 1_000;
+
+/// Fills the table with random rows. Answers how many stand on each of its pages, too.
+pub fn fill<T: Table>(
+    bench: &mut Bench<'_>,
+    core: &mut Core<PlainSpool, T>,
+) -> Result<(Vec<u16>, Figure), Failure> {
+    let rt = bench.rt;
+    let rows = bench.options.rows;
+    let mut watch = Watch::new();
+    let mut pages = Vec::new(rt.alloc());
+    for done in (0..rows).step_by(ROWS_OF_A_TRANSACTION as usize) {
+        bench.progress.show(rt, "fill", done, rows)?;
+        let count = ROWS_OF_A_TRANSACTION.min(rows - done);
+        let batch = bench.rows(count as usize)?;
+        let start = Instant::now(rt)?;
+        let rids = build::insert_all(rt.alloc(), core, batch)?;
+        watch.add(rt, start)?;
+        note(&mut pages, rids.as_slice())?;
+    }
+    Ok((pages, Figure::new(rt, &watch, rows)))
+}
+
+/// Counts the rows on the pages where they stand. No page comes before the one below it.
+fn note(pages: &mut Vec<u16>, rids: &[Rid]) -> Result<(), Failure> {
+    for rid in rids {
+        match pages.get_mut(rid.page as usize) {
+            Some(rows) => *rows = rows.saturating_add(1),
+            None => pages.push(1)?,
+        }
+    }
+    Ok(())
+}

@@ -1,0 +1,44 @@
+ghost use Rattle.std.specs.Prelude.{◌≤◌, ◌<◌};
+
+use crate::column::Column;
+
+/// What is to be measured.
+#[derive(Drop)]
+pub struct Options {
+    /// How many rows the table has.
+    pub rows: u32,
+    /// Its columns.
+    pub columns: Vec<Column>,
+    /// How many indexes the build makes.
+    pub indexes: usize,
+    /// How many workers make their pairs.
+    pub workers: usize,
+    /// How many updates are made before the build, and as many while its pages are copied.
+    pub writes: u32,
+    /// What the rows are drawn by.
+    pub seed: u64,
+    /// Whether the figures are printed as comma-separated records.
+    pub csv: bool,
+    pub ghost some: { 0 < workers },
+    pub ghost most: { workers ≤ 16 },
+}
+
+impl Options {
+    /// The bytes of the longest key of an index: each is on one column.
+    pub fn key_size(&self) -> usize
+        ensures { result ≤ 258 }
+    {
+        key_size(self.columns.as_slice())
+    }
+}
+
+/// The bytes of the longest key on one of these columns.
+pub fn key_size(columns: &[Column]) -> usize
+    ensures { result ≤ 258 }
+{
+    let mut longest = 0;
+    for column in columns {
+        longest = longest.max(column.key_size());
+    }
+    longest
+}

@@ -1,0 +1,91 @@
+//! A small run with what it prints, and the words that are refused.
+
+use crate::command_line;
+use crate::peak::peak_in;
+use crate::report::print;
+use crate::run::run;
+use std::alloc::Global;
+use std::str;
+use std::test::Fail;
+
+/// The phases of a run with updates, in the order in which they are printed.
+const PHASES: &str =
+    "phase;fill;updates alone;start;scan;digest;updates;seal;load;switch;build;look-ups;";
+
+/// Runs that, and answers the first field of each record that it prints.
+fn phases(rt: &HostRuntime, words: &[&str]) -> Result<String, Fail> {
+    let alloc = rt.alloc();
+    let options = command_line::read(alloc, words)?;
+    let figures = run(rt, &options)?;
+    let mut out = Vec::new(alloc);
+    print(alloc, &mut out, &options, &figures)?;
+    let mut phases = String::new(alloc);
+    for line in str::from_utf8(out.as_slice())?.lines() {
+        phases.push_str(line.split(',').next().unwrap_or("?"))?;
+        phases.push(';')?;
+    }
+    Ok(phases)
+}
+
+#[test]
+fn a_small_run(rt: HostRuntime) -> Result<(), Fail> {
+    let words = [
+        "sfbench",
+        "--rows",
+        "1000",
+        "--columns",
+        "int,text:20",
+        "--writes",
+        "100",
+        "--seed",
+        "7",
+        "--workers",
+        "2",
+        "--csv",
+    ];
+    assert_eq!(rt; phases(&rt, words.as_slice())?.as_str(), PHASES);
+    Ok(())
+}
+
+/// Whether the words ask for nothing that can be run.
+fn are_refused(alloc: Global, words: &[&str]) -> bool {
+    match command_line::read(alloc, words) {
+        Ok(_) => false,
+        Err(error) => error.use_stderr() && error.exit_code() == 2,
+    }
+}
+
+#[test]
+fn words_that_are_refused(rt: HostRuntime) {
+    let refused: [&[&str]; 8] = [
+        &["sfbench", "fast"],
+        &["sfbench", "--rows", "0"],
+        &["sfbench", "--rows", "100000000"],
+        &["sfbench", "--columns", "real"],
+        &["sfbench", "--columns", "text:0"],
+        &["sfbench", "--columns", "int,text:101"],
+        &["sfbench", "--workers", "17"],
+        &["sfbench", "--indexes", "0"],
+    ];
+    for words in refused {
+        assert!(rt; are_refused(rt.alloc(), words), "{words:?}");
+    }
+}
+
+/// The core builds one index at a time, so far.
+#[test]
+fn two_indexes(rt: HostRuntime) -> Result<(), Fail> {
+    let words = ["sfbench", "--rows", "10", "--indexes", "2"];
+    let options = command_line::read(rt.alloc(), words.as_slice())?;
+    assert!(rt; run(&rt, &options).is_err());
+    Ok(())
+}
+
+#[test]
+fn the_peak_of_memory(rt: HostRuntime) {
+    assert_eq!(rt;
+        peak_in("Name:\tx\nVmPeak:\t  20 kB\nVmHWM:\t  12 kB\n"),
+        Some(12)
+    );
+    assert_eq!(rt; peak_in("VmPeak:\t  20 kB\n"), None);
+}

@@ -1,0 +1,101 @@
+//! Updates of rows, before a build and beside one.
+
+use crate::bench::Bench;
+use crate::build;
+use crate::failure::Failure;
+use crate::stretch::Stretch;
+use crate::watch::Watch;
+use builder_core::{Core, Table};
+use keybytes::{Rid, Row};
+use rand::RngExt;
+use rand::seq::IndexedRandom;
+use run_spool::PlainSpool;
+use std::time::Instant;
+
+/// A switch applies at most 1,024 entries, and an update behind a scan makes two. Beyond that updates go to rows ahead of the scans.
+const BEHIND_MAX: u32 = 512;
+
+/// The updates of a run: where its rows stand, and how many were made.
+#[derive(Drop)]
+pub struct Updates {
+    /// How many rows stand on each page.
+    pages: Vec<u16>,
+    /// In how many parts all of them are made.
+    parts: u32,
+    made: u32,
+    behind: u32,
+    pub watch: Watch,
+}
+
+impl Updates {
+    /// None is made yet of those that are to be made in so many parts.
+    pub fn new(pages: Vec<u16>, parts: u32) -> Updates {
+        Updates {
+            pages,
+            parts,
+            made: 0,
+            behind: 0,
+            watch: Watch::new(),
+        }
+    }
+
+    /// Begins to count anew.
+    pub fn restart(&mut self) {
+        self.made = 0;
+        self.behind = 0;
+        self.watch = Watch::new();
+    }
+
+    /// Makes the updates of that part in one transaction, of rows on pages that are to be copied or are.
+    pub fn make<T: Table>(
+        &mut self,
+        bench: &mut Bench<'_>,
+        core: &mut Core<PlainSpool, T>,
+        stretches: &[Stretch],
+        part: u32,
+    ) -> Result<(), Failure> {
+        let due = self.due(bench.options.writes, part);
+        if self.made >= due {
+            return Ok(());
+        }
+        let mut updates = Vec::with_capacity(bench.rt.alloc(), (due - self.made) as usize)?;
+        for _ in self.made..due {
+            if let Some(rid) = self.pick(bench, stretches) {
+                updates.push((rid, bench.row()?))?;
+            }
+        }
+        self.made = due;
+        let start = Instant::now(bench.rt)?;
+        build::update_all(core, updates)?;
+        self.watch.add(bench.rt, start)?;
+        Ok(())
+    }
+
+    /// How many of all updates are to be made by the end of that part.
+    fn due(&self, all: u32, part: u32) -> u32 {
+        if part >= self.parts {
+            return all;
+        }
+        (u64::from(all) * (u64::from(part) + 1) / u64::from(self.parts)) as u32
+    }
+
+    /// A row of any worker's pages; ahead of its scan once enough were behind.
+    fn pick(&mut self, bench: &mut Bench<'_>, stretches: &[Stretch]) -> Option<Rid> {
+        let stretch = stretches.choose(&mut bench.rng)?;
+        let begin = if self.behind < BEHIND_MAX {
+            stretch.begin
+        } else {
+            stretch.next
+        };
+        if begin >= stretch.end {
+            return None;
+        }
+        let page = bench.rng.random_range(begin..stretch.end);
+        let rows = *self.pages.get(page as usize)?;
+        if page < stretch.next {
+            self.behind += 1;
+        }
+        let slot = bench.rng.random_range(0..rows.max(1));
+        Some(Rid { page, slot })
+    }
+}
