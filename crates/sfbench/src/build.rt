@@ -5,6 +5,7 @@ ghost use Rattle.builder_core.specs.Steps.{Does};
 
 use crate::column::Column;
 use crate::failure::Failure;
+use btree::Tree;
 use builder_core::{Core, Dealing, Event, Pair, Parts, Plan, Reply, Table};
 use heap_table::{Heap, PAGES_MAX, SLOTS_MAX};
 use keybytes::{Fault, KeySpec, Kind, Rid, Row, Schema};
@@ -215,10 +216,10 @@ pub fn switch<T: Table>(core: &mut Core<PlainSpool, T>) -> Result<(), Failure> {
     Ok(())
 }
 
-/// The pairs of a ready index.
-pub fn pairs<T: Table>(core: &Core<PlainSpool, T>, index: usize) -> Result<&[Pair], Failure> {
+/// The tree of a ready index.
+pub fn tree<T: Table>(core: &Core<PlainSpool, T>, index: usize) -> Result<&Tree, Failure> {
     match core.ready(index) {
-        Ok(ready) => Ok(ready.pairs()),
+        Ok(ready) => Ok(ready.tree()),
         Err(fault) => Err(Failure::Refused("the pairs of an index", fault)),
     }
 }
@@ -234,19 +235,19 @@ pub fn compare<T: Table>(
         Ok(rest) => rest,
         Err(fault) => return Err(Failure::Refused("the pairs at rest", fault)),
     };
-    let pairs = pairs(core, index)?;
-    if pairs == rest.as_slice() {
-        return Ok(());
+    match first_difference(tree(core, index)?, rest.as_slice()) {
+        None => Ok(()),
+        Some(place) => Err(Failure::Differs(index, place)),
     }
-    Err(Failure::Differs(index, first_difference(pairs, rest.as_slice())))
 }
 
-/// The place of the first pair that the other list doesn't have there.
-fn first_difference(pairs: &[Pair], others: &[Pair]) -> usize {
-    for (place, (pair, other)) in pairs.iter().zip(others).enumerate() {
-        if pair != other {
-            return place;
+/// The place of the first pair that the list doesn't have there, if they differ.
+fn first_difference(tree: &Tree, others: &[Pair]) -> Option<usize> {
+    let mut pairs = tree.iter();
+    for (place, other) in others.iter().enumerate() {
+        if pairs.next() != Some(other) {
+            return Some(place);
         }
     }
-    pairs.len().min(others.len())
+    pairs.next().map(|_| others.len())
 }

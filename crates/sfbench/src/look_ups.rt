@@ -3,7 +3,7 @@ use crate::build;
 use crate::failure::Failure;
 use crate::figure::Figure;
 use crate::watch::Watch;
-use builder_core::{Core, Table};
+use builder_core::{Core, Pair, Table};
 use rand::RngExt;
 use run_spool::PlainSpool;
 use std::time::Instant;
@@ -17,7 +17,8 @@ pub fn look_up<T: Table>(
     core: &Core<PlainSpool, T>,
 ) -> Result<Figure, Failure> {
     let rt = bench.rt;
-    let pairs = build::pairs(core, 0)?;
+    let tree = build::tree(core, 0)?;
+    let pairs: Vec<&Pair> = tree.iter().collect(rt.alloc())?;
     if pairs.is_empty() {
         return Err(Failure::Differs(0, 0));
     }
@@ -26,7 +27,8 @@ pub fn look_up<T: Table>(
     let start = Instant::now(rt)?;
     for _ in 0..count {
         let place = bench.rng.random_range(0..pairs.len());
-        if pairs.binary_search(&pairs[place]) != Ok(place) {
+        let pair = pairs[place];
+        if !tree.contains(&pair.key, pair.rid) {
             return Err(Failure::Differs(0, place));
         }
     }
