@@ -5,14 +5,14 @@ use Rattle.replay.specs.declared.answer.Answer.TheVariants.{Pairs}
 use Rattle.replay.proofs.KeyedPairs.{keyed_by, listed_by}
 use Rattle.replay.proofs.session.Session.pairs.Goals as goal
 
-pub pair_lines-requires : goal.pair_lines-requires
-pair_lines-requires g c = keyed_by _ _ _ _ c.spec.ensures c.pairs.ensures.pairs c.pairs.ensures.keys
+pub tree_lines-requires : goal.tree_lines-requires
+tree_lines-requires g c = keyed_by _ _ _ _ c.spec.ensures c.tree.ensures.pairs c.tree.ensures.keys
 
 pub returns : goal.returns
 returns g c =
     let index = c.in_ok-index.index.now in
     let lines = c.in_ok-lines.lines in
-    let listed = listed_by index.spec _ index.pairs _ lines.items c.spec.ensures c.pairs.ensures.pairs c.in_ok-lines.ensures.lists in
+    let listed = listed_by index.spec _ index.pairs _ lines.items c.spec.ensures c.tree.ensures.pairs c.in_ok-lines.ensures.lists in
     record {
       core = (refl, inl (subst (λ (found : Option ReadyValue). ListsReady found (Pairs lines)) (sym c.in_ok-index.ensures.index) (lines, refl, listed)));
       labels = refl;
