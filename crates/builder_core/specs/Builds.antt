@@ -300,7 +300,7 @@ pub record SideIsLooked (live : LiveValue) (building : BuildingValue) (new_live 
   pub taken : new_building ≡ record building { side = new_building.side }
   pub looked : HasLookedAtSide live.side building.side new_live.side new_building.side
 
--- the most entries that one call feeds: at most so many, at most a ring's, and as many as are left
+-- the entries that a feed moves where they find room: at most so many, at most a ring's, and as many as are left
 abbrev pub least_fed : BuildState → List LogRec → ℕ → ℕ → ℕ
 least_fed b log index most = min most (min ring_most (unfed b log index (slice_get b.specs index)))
 

@@ -1,4 +1,5 @@
--- What was put to the workers of a build, and what they have done with it.
+-- What was put to the workers of a build, and what they have done with it; and how many entries of each index's side-file there are, were
+-- fed and were applied.
 use Rattle.std.specs.Prelude.{ℕ, ◌+◌, ◌-◌, ◌%◌, Bool, false, ◌&&◌, not, ◌==◌, List, [], ◌∷◌, filter, length, take, drop, flat_map, get_or, Option, Some, None}
 use Rattle.std.specs.List.{range_with_len, position, list_all}
 use Rattle.keybytes.specs.Keys.{KeySpecValue}
@@ -52,7 +53,7 @@ unloaded_index work = position (λ index. not index.loaded) work.indexes
 abbrev pub all_entries : BuildState → List LogRec → KeySpecValue → ℕ
 all_entries b log spec = length (side_entries (scanning_of b spec) log)
 
--- how many of them its pairs have not applied
+-- how many of them were not applied to its pairs
 abbrev pub unapplied : BuildState → List LogRec → KeySpecValue → IndexState → ℕ
 unapplied b log spec index = all_entries b log spec - index.applied
 
@@ -62,7 +63,7 @@ all_unapplied b log [] indexes = 0
 all_unapplied b log (spec ∷ specs) [] = 0
 all_unapplied b log (spec ∷ specs) (index ∷ indexes) = unapplied b log spec index + all_unapplied b log specs indexes
 
--- how many of them went into the ring
+-- how many of an index's entries went into the ring
 abbrev pub fed_to : BuildState → ℕ → ℕ
 fed_to b index = get_or b.fed index 0
 

@@ -161,7 +161,7 @@ impl<S: Spool, T: Table> Core<S, T> {
     }
 
     /// Does one event. A refused one changes nothing, but for want of memory or of a page in a digest, a seal or a load, which
-    /// spoils the build.
+    /// spoils the build, and for want of memory in an apply or a switch, which leaves the entries before it applied.
     pub fn step(&mut self, event: Event) -> Reply
         ensures step { Step self.old event result self.new }
         ensures stakes { self.new.spools.stakes ≡ self.old.spools.stakes }

@@ -47,7 +47,8 @@ pub enum Event {
     /// At most so many entries that wait in the ring are applied to the pairs of the index. [`Fault::NoBuild`], [`Fault::BadCount`],
     /// [`Fault::NotLoaded`]. Those that were applied before memory was wanted stay applied.
     Apply { index: usize, most: usize },
-    /// The indexes of the build become ready, and the build ends. [`Fault::NoBuild`], [`Fault::NotScanned`],
+    /// The entries that are left are applied, the indexes of the build become ready, and the build ends. Entries that were applied
+    /// before memory was wanted stay applied, and it can be asked for again. [`Fault::NoBuild`], [`Fault::NotScanned`],
     /// [`Fault::NotLoaded`]; [`Fault::Behind`] while more than 1,024 entries of the side-file are left to apply.
     Switch,
     /// The build is given up. [`Fault::NoBuild`].

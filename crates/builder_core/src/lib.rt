@@ -4,7 +4,7 @@
 //! the table's pages, makes the pairs of key and RID of their rows, puts the pairs in order, and is then switched in:
 //! from there on the index is ready. Why an event is refused and what it does otherwise is said once, by `refusal` and `Does`
 //! of `specs/Steps.antt`; a refused event changes nothing, unless memory or pages ran out in the midst of a build's work, which
-//! spoils that build.
+//! spoils that build, or memory while entries were applied to an index: those before then stay applied.
 //!
 //! [`Parts`] are a heap with the rings for all its builds, and [`Parts::open`] gives them the name of a [`Table`]: [`Live`] is then
 //! the table with its ready indexes, and [`Ends`] are the ends of the rings that stand beside it. [`Core`] is both, with the build

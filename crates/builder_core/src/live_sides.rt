@@ -1,4 +1,4 @@
-//! The side-file of a build: its entries go into its ring, and from there to the index, with both ends of the ring at hand.
+//! The side-file of a build: its entries go into its ring, and from there to the index.
 ghost use Rattle.std.specs.Prelude.{◌≡◌, [], ℕ, None, Some, IsSome, IfSome, IfOk, IfErr, OnOk, OnErr, MatchResult};
 ghost use Rattle.rtrb.specs.Ring.{received};
 ghost use Rattle.side_file.specs.Ends.{ring_take};

@@ -80,9 +80,10 @@ impl<T: Table> Live<T> {
         Ok(())
     }
 
-    /// Applies the entries that are left, makes the indexes of the build ready, and ends it and its spools; answered with the number of the log record, and what became of each
-    /// index. [`Fault::NoBuild`], the fault of a spoiled build, [`Fault::NotScanned`], [`Fault::NotLoaded`],
-    /// [`Fault::Behind`]. Where memory is wanted, entries that were applied stay applied, and it can be called again.
+    /// Applies the entries that are left, makes the indexes of the build ready, and ends it and its spools; answered with the
+    /// number of the log record, and what became of each index. [`Fault::NoBuild`], the fault of a spoiled build,
+    /// [`Fault::NotScanned`], [`Fault::NotLoaded`], [`Fault::Behind`]. Where memory is wanted, entries that were applied stay
+    /// applied, and it can be called again.
     pub fn switch_in<S: Spool>(
         &mut self,
         building: &mut Building<S, T>,
