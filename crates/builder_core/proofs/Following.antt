@@ -3,6 +3,7 @@ use Rattle.std.proofs.Common.{◌≡◌, ◌⊎◌, inl, inr, ℕ, List, [], ◌
 use Rattle.std.proofs.lemmas.List.Elements.{All-weaker, All-push}
 use Rattle.keybytes.specs.Answered.{Answered}
 use Rattle.keybytes.specs.declared.fault.Fault.{Fault}
+use Rattle.keybytes.specs.declared.kind.Kind.{Kind}
 use Rattle.heap_log.specs.declared.record.LogRec.{LogRec}
 use Rattle.heap_table.specs.Calls.{OnState, Commits}
 use Rattle.heap_table.specs.HeapState.{HeapState, txn_refusal, after_commit}
@@ -13,7 +14,7 @@ use Rattle.heap_table.proofs.TablePairs.{pairs_kept}
 use Rattle.building.specs.declared.copied.Copied.{Copied}
 use Rattle.builder_core.specs.Builds.{WorkValue, BuildFollows, IsWorkOf}
 use Rattle.builder_core.specs.Rings.{PagesFollow}
-use Rattle.builder_core.specs.CoreState.{BuildState, ReadyValue, FollowTable}
+use Rattle.builder_core.specs.CoreState.{BuildState, ReadyValue, AreOfColumns, FollowTable}
 use Rattle.heap_log.specs.declared.record.LogRec.TheVariants.{Commit}
 use Rattle.side_file.specs.SideFileValue.{SideFileValue}
 use Rattle.builder_core.specs.SideFiles.{SideFollows}
@@ -36,6 +37,13 @@ follow_more old new ready index keeps is here =
     All-push (λ index. index.pairs ≡ pairs_at_rest index.spec new) ready index (follow_kept old new ready keeps is)
     (here ∙ sym (pairs_kept index.spec old new keeps.live))
 
+-- it is of the table's columns, as the others are
+pub columns_more :
+    (kinds new : List Kind) (ready : List ReadyValue) (index : ReadyValue) → new ≡ kinds → AreOfColumns kinds ready → index.spec.kinds ≡ kinds
+    → AreOfColumns new (ready ++ index ∷ [])
+columns_more kinds new ready index same are here =
+    subst (λ (ks : List Kind). AreOfColumns ks (ready ++ index ∷ [])) (sym same) (All-push (λ index. index.spec.kinds ≡ kinds) ready index are here)
+
 -- what a commit leaves of the table: it is done, or nothing changed
 pub committed :
     (old new : HeapValue) (txn : ℕ) (answer : Result ℕ Fault) → Answered (txn_refusal old.state txn) (OnState (Commits txn)) old answer new
@@ -51,6 +59,13 @@ pub commit_follows :
 commit_follows old new txn build (inl done) is =
     subst (λ (h : HeapState). BuildFollows h.schema h.log build) (sym done) (build_kept old.schema old.log (Commit txn) build is)
 commit_follows old new txn build (inr refused) is = subst (λ (h : HeapState). BuildFollows h.schema h.log build) (sym refused) is
+
+-- and the ready indexes are of its columns
+pub commit_columns :
+    (old new : HeapState) (txn : ℕ) (ready : List ReadyValue) → (new ≡ after_commit old txn) ⊎ (new ≡ old)
+    → AreOfColumns old.schema ready → AreOfColumns new.schema ready
+commit_columns old new txn ready (inl done) are = subst (λ (h : HeapState). AreOfColumns h.schema ready) (sym done) are
+commit_columns old new txn ready (inr refused) are = subst (λ (h : HeapState). AreOfColumns h.schema ready) (sym refused) are
 
 -- its work is its own
 pub commit_works :

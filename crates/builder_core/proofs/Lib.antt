@@ -28,6 +28,7 @@ pub mod Performed
 pub mod Places
 pub mod Puts
 pub mod RangeScans
+pub mod ReadyFollow
 pub mod Refusals
 pub mod Runs
 pub mod ScanCauses

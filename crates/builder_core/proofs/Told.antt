@@ -5,16 +5,16 @@ use Rattle.keybytes.specs.declared.fault.Fault.{Fault}
 use Rattle.heap_table.specs.HeapState.{HeapState}
 use Rattle.builder_core.specs.Builds.{LiveValue, BuildingValue, core_state}
 use Rattle.builder_core.specs.CoreState.{CoreState}
-use Rattle.builder_core.specs.Steps.{OnHeap, OnLive, Tells, Answers, Does, Step, refusal}
+use Rattle.builder_core.specs.Steps.{OnRows, OnLive, Tells, Answers, Does, Step, refusal}
 use Rattle.builder_core.specs.declared.event.Event.{Event}
 use Rattle.builder_core.specs.declared.reply.Reply.{Reply}
 use Rattle.builder_core.specs.declared.reply.Reply.TheVariants.{Refused}
 
 pub tells_on_live :
     {R : Type 0} (tell : R → Reply) (Does : HeapState → R → HeapState → Type 0) (s : CoreState) (live new : LiveValue) (building : BuildingValue) (answer : R)
-    → core_state live building ≡ s → OnHeap Does live.state answer new.state → Tells tell (OnLive (OnHeap Does)) s (tell answer) (core_state new building)
+    → core_state live building ≡ s → OnRows Does live.state answer new.state → Tells tell (OnLive (OnRows Does)) s (tell answer) (core_state new building)
 tells_on_live tell Does s live new building answer is does =
-    subst (λ (t : CoreState). Tells tell (OnLive (OnHeap Does)) t (tell answer) (core_state new building)) is (answer, refl, (does, refl))
+    subst (λ (t : CoreState). Tells tell (OnLive (OnRows Does)) t (tell answer) (core_state new building)) is (answer, refl, (does, refl))
 
 -- what is answered is a step
 pub stepped :

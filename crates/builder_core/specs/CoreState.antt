@@ -6,6 +6,7 @@ use Rattle.std.specs.List.{All}
 use Rattle.keybytes.specs.Keys.{KeySpecValue}
 use Rattle.keybytes.specs.Pairs.{HaveKeysOf, AreInColumnOrder}
 use Rattle.keybytes.specs.declared.fault.Fault.{Fault}
+use Rattle.keybytes.specs.declared.kind.Kind.{Kind}
 use Rattle.keybytes.specs.declared.pair.Pair.{Pair}
 use Rattle.heap_log.specs.declared.record.LogRec.{LogRec}
 use Rattle.heap_table.specs.HeapState.{HeapState, after_visit}
@@ -120,6 +121,10 @@ after_visits heap (suc n) = after_visit (after_visits heap n)
 -- each ready index has the pairs of the rows that stand
 abbrev pub FollowTable : List LogRec → List ReadyValue → Type 0
 FollowTable log ready = All (λ index. index.pairs ≡ pairs_at_rest index.spec log) ready
+
+-- each ready index is of a table with these columns
+abbrev pub AreOfColumns : List Kind → List ReadyValue → Type 0
+AreOfColumns kinds ready = All (λ index. index.spec.kinds ≡ kinds) ready
 
 -- the ready indexes follow the table
 abbrev pub ReadyFollowTable : LiveState → Type 0

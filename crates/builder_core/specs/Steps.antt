@@ -36,7 +36,7 @@ cause_if test fault = if test then Some fault else None
 
 -- Writes, undos and commits.
 
--- a call of the heap, as a step of the table with its indexes
+-- a call of the heap that leaves the rows as they are, as a step of the table with its indexes
 abbrev pub OnHeap : {R : Type 0} → (HeapState → R → HeapState → Type 0) → LiveState → R → LiveState → Type 0
 OnHeap Does live answer new = Does live.heap answer new.heap × (new ≡ live_with_heap live new.heap)
 
@@ -44,13 +44,18 @@ OnHeap Does live answer new = Does live.heap answer new.heap × (new ≡ live_wi
 abbrev pub OnLive : {R : Type 0} → (LiveState → R → LiveState → Type 0) → CoreState → R → CoreState → Type 0
 OnLive Does s answer new = Does s.live answer new.live × (new ≡ with_live s new.live)
 
--- whether an index is ready
-abbrev pub is_indexed : LiveState → Bool
-is_indexed live = nat_lt 0 (length live.ready)
+-- an index with the pairs of the rows that stand
+abbrev pub index_now : List LogRec → KeySpecValue → ReadyValue
+index_now log spec = record { spec = spec; pairs = pairs_at_rest spec log }
 
--- a row is changed only while no index is ready, as yet
-abbrev pub unless_indexed : LiveState → Option Fault → Option Fault
-unless_indexed live cause = first_cause (cause_if (is_indexed live) BuildRunning) cause
+-- the ready indexes, each with the pairs of the rows that stand
+abbrev pub ready_now : List LogRec → List ReadyValue → List ReadyValue
+ready_now log ready = map (λ index. index_now log index.spec) ready
+
+-- a call of the heap that changes a row, as a step of the table: each ready index has the pairs of the rows that then stand
+abbrev pub OnRows : {R : Type 0} → (HeapState → R → HeapState → Type 0) → LiveState → R → LiveState → Type 0
+OnRows Does live answer new =
+    Does live.heap answer new.heap × (new ≡ record live { heap = new.heap; ready = ready_now new.heap.log live.ready })
 
 -- Start.
 
@@ -293,10 +298,6 @@ ready_from number count = map Ready (range_with_len number count)
 abbrev pub verdicts_on : LiveState → BuildState → List Outcome
 verdicts_on live b = ready_from (length live.ready) (length b.specs)
 
--- an index with the pairs of the rows that stand
-abbrev pub index_now : List LogRec → KeySpecValue → ReadyValue
-index_now log spec = record { spec = spec; pairs = pairs_at_rest spec log }
-
 -- the indexes of the build are ready, with the pairs of the rows that stand, and no build runs
 abbrev pub after_switch_in : LiveState → BuildState → LiveState
 after_switch_in live b = record live {
@@ -343,10 +344,10 @@ Abandons s new = new ≡ opening s.live s.spools
 -- why an event is refused: the first of its causes
 abbrev pub refusal : CoreState → Event → Option Fault
 refusal s Begin = begin_refusal s.live.heap
-refusal s (Insert txn row) = unless_indexed s.live (insert_refusal s.live.heap txn row)
-refusal s (Update txn rid row) = unless_indexed s.live (update_refusal s.live.heap txn rid row)
-refusal s (Delete txn rid) = unless_indexed s.live (delete_refusal s.live.heap txn rid)
-refusal s (Undo txn) = unless_indexed s.live (undo_refusal s.live.heap txn)
+refusal s (Insert txn row) = insert_refusal s.live.heap txn row
+refusal s (Update txn rid row) = update_refusal s.live.heap txn rid row
+refusal s (Delete txn rid) = delete_refusal s.live.heap txn rid
+refusal s (Undo txn) = undo_refusal s.live.heap txn
 refusal s (Commit txn) = txn_refusal s.live.heap txn
 refusal s (Start plan) = start_refusal s.live s.spools plan
 refusal s (Scan range worker) = build_cause s.live.build (λ b. scan_refusal b s.work range worker)
@@ -365,10 +366,10 @@ Tells {R} told Does s reply new = (answer : R) × (reply ≡ told answer) × Doe
 -- what an event does that is not refused: its reply, and the state that it leaves
 abbrev pub Does : CoreState → Event → Reply → CoreState → Type 0
 Does s Begin reply new = Tells Begun (OnLive (OnHeap Begins)) s reply new
-Does s (Insert txn row) reply new = Tells (λ w. Written w.0 w.1) (OnLive (OnHeap (Inserts txn row))) s reply new
-Does s (Update txn rid row) reply new = Tells (λ w. Written w.0 w.1) (OnLive (OnHeap (Updates txn rid row))) s reply new
-Does s (Delete txn rid) reply new = Tells (λ w. Written w.0 w.1) (OnLive (OnHeap (Deletes txn rid))) s reply new
-Does s (Undo txn) reply new = Tells (λ undone. Undone undone.number undone.left) (OnLive (OnHeap (Undoes txn))) s reply new
+Does s (Insert txn row) reply new = Tells (λ w. Written w.0 w.1) (OnLive (OnRows (Inserts txn row))) s reply new
+Does s (Update txn rid row) reply new = Tells (λ w. Written w.0 w.1) (OnLive (OnRows (Updates txn rid row))) s reply new
+Does s (Delete txn rid) reply new = Tells (λ w. Written w.0 w.1) (OnLive (OnRows (Deletes txn rid))) s reply new
+Does s (Undo txn) reply new = Tells (λ undone. Undone undone.number undone.left) (OnLive (OnRows (Undoes txn))) s reply new
 Does s (Commit txn) reply new = Tells Committed (OnLive (OnHeap (Commits txn))) s reply new
 Does s (Start plan) reply new = Tells Started (Starts plan) s reply new
 Does s (Scan range worker) reply new = Tells Scanned (OnLive (Scans range worker)) s reply new

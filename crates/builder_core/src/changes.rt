@@ -1,10 +1,10 @@
-//! A change of a row, done together with what it means for the index of the running build.
+//! A change of a row, done together with what it means for the index of the running build and for those that are ready.
 ghost use Rattle.std.specs.Prelude.{◌≡◌, ◌+◌, ◌++◌, ◌∷◌, ◌≤◌, List, [], length, map, Some, None, ℕ, true, IsSome, IfSome, IfOk, IfErr, OnOk, OnErr, Option};
-ghost use Rattle.std.specs.Option.{option_map};
 ghost use Rattle.keybytes.specs.Cells.{fits};
-ghost use Rattle.keybytes.specs.Keys.{KeySpecValue, key_of};
+ghost use Rattle.keybytes.specs.Keys.{KeySpecValue};
 ghost use Rattle.heap_log.specs.Standing.{standing_count};
 ghost use Rattle.heap_table.specs.HeapState.{after_write, after_undo};
+ghost use Rattle.heap_table.specs.Pages.{SetsRow};
 ghost use Rattle.heap_table.specs.Ready.{IsReady, after_ready, answer_of};
 ghost use Rattle.visibility.specs.SideEntries.{entries_of_change};
 ghost use Rattle.side_file.specs.Entries.{entry_of};
@@ -12,24 +12,16 @@ ghost use Rattle.builder_core.specs.Builds.{WorkValue, BuildFollows, IsWorkOf};
 ghost use Rattle.building.specs.declared.copied.Copied.{Copied};
 ghost use Rattle.builder_core.specs.Rings.{PagesFollow};
 ghost use Rattle.builder_core.specs.SideFiles.{noted, SideFollows};
+ghost use Rattle.builder_core.specs.CoreState.{AreOfColumns, FollowTable};
+ghost use Rattle.builder_core.specs.Steps.{ready_now};
 
+use crate::ReadyIndex;
+use crate::ready_changes::{change_tree, key_of, ready_change};
 use crate::table_scan::TableScan;
 use heap_table::{Heap, Performed, Ready, Undone};
-use keybytes::{Fault, Key, KeySpec, Rid, Row};
+use keybytes::{Fault, Rid, Row};
 use side_file::{Entry, Op, SideFile};
 use visibility::{Change, entries};
-
-/// The key of a row, if there is one.
-fn key_of(spec: &KeySpec, row: &Option<Row>) -> Result<Option<Key>, Fault>
-    requires { IfSome row.now (λ cells. fits spec.now.kinds cells ≡ true) }
-    ensures ok { IfOk result (λ key. key ≡ option_map (key_of spec.now) row.now) }
-    ensures memory { IfErr result (λ fault. fault ≡ Fault.Memory) }
-{
-    match row {
-        Some(row) => Ok(Some(spec.key(row)?)),
-        None => Ok(None),
-    }
-}
 
 /// What a change means for the build's index, as far as the build has scanned by now.
 fn change_of(
@@ -105,6 +97,7 @@ fn perform(
     requires build { BuildFollows heap.old.state.schema heap.old.state.log build.now }
     requires side { SideFollows heap.old.state.log build.now side.old }
     ensures performed { OnOk result (heap.new.state ≡ after_ready heap.old.state ready) }
+    ensures rows { OnOk result (SetsRow heap.old.state.log ready.rid ready.new heap.new.state.log) }
     ensures answer { IfOk result (λ done. done ≡ answer_of heap.new.state ready.txn ready.rid ready.undone) }
     ensures follows { BuildFollows heap.new.state.schema heap.new.state.log build.now }
     ensures put { (builds : ℕ) (all : List (List Copied)) → PagesFollow heap.old.state.schema heap.old.state.log builds build.now all
@@ -121,8 +114,49 @@ fn perform(
     Ok(heap.perform(ready))
 }
 
+/// Does a change that was made ready, in each ready index too. The memory for an index is taken before the table is changed, and the
+/// index is changed after it, when nothing more is wanted; for want of memory nothing changes.
+fn perform_with(
+    indexes: &mut [ReadyIndex],
+    heap: &mut Heap,
+    side: &mut SideFile,
+    build: &Option<TableScan>,
+    ready: Ready,
+) -> Result<Performed, Fault>
+    requires ready { IsReady heap.old ready }
+    requires columns { AreOfColumns heap.old.state.schema indexes.old }
+    requires follow { FollowTable heap.old.state.log indexes.old }
+    requires build { BuildFollows heap.old.state.schema heap.old.state.log build.now }
+    requires side { SideFollows heap.old.state.log build.now side.old }
+    ensures performed { OnOk result (heap.new.state ≡ after_ready heap.old.state ready) }
+    ensures rows { OnOk result (SetsRow heap.old.state.log ready.rid ready.new heap.new.state.log) }
+    ensures answer { IfOk result (λ done. done ≡ answer_of heap.new.state ready.txn ready.rid ready.undone) }
+    ensures ready { OnOk result (indexes.new ≡ ready_now heap.new.state.log indexes.old) }
+    ensures kept { OnErr result (indexes.new ≡ indexes.old) }
+    ensures follows { BuildFollows heap.new.state.schema heap.new.state.log build.now }
+    ensures put { (builds : ℕ) (all : List (List Copied)) → PagesFollow heap.old.state.schema heap.old.state.log builds build.now all
+        → PagesFollow heap.new.state.schema heap.new.state.log builds build.now all }
+    ensures works { (work : Option WorkValue) → IsWorkOf heap.old.state.schema heap.old.state.log build.now work
+        → IsWorkOf heap.new.state.schema heap.new.state.log build.now work }
+    ensures noted { SideFollows heap.new.state.log build.now side.new }
+    ensures end { side.new.end ≡ side.old.end }
+    ensures unchanged { OnErr result (heap.new ≡ heap.old) }
+    ensures memory { IfErr result (λ fault. fault ≡ Fault.Memory) }
+{
+    let Some((index, rest)) = indexes.split_first_mut() else {
+        return perform(heap, side, build, ready);
+    };
+    heap.laws();
+    let rid = ready.rid;
+    let change = ready_change(&index.spec, &mut index.tree, &ready)?;
+    let done = perform_with(rest, heap, side, build, ready)?;
+    change_tree(&mut index.tree, rid, change);
+    Ok(done)
+}
+
 /// Does a write that was made ready; answered with its record's number and the RID.
 pub fn write(
+    indexes: &mut [ReadyIndex],
     heap: &mut Heap,
     side: &mut SideFile,
     build: &Option<TableScan>,
@@ -130,11 +164,15 @@ pub fn write(
 ) -> Result<(usize, Rid), Fault>
     requires ready { IsReady heap.old ready }
     requires write { ready.undone ≡ None }
+    requires columns { AreOfColumns heap.old.state.schema indexes.old }
+    requires follow { FollowTable heap.old.state.log indexes.old }
     requires build { BuildFollows heap.old.state.schema heap.old.state.log build.now }
     requires side { SideFollows heap.old.state.log build.now side.old }
     ensures written { OnOk result (heap.new.state ≡ after_write heap.old.state ready.txn ready.rid ready.new) }
     ensures number { IfOk result (λ written. written.0 ≡ length heap.new.state.log) }
     ensures rid { IfOk result (λ written. written.1 ≡ ready.rid) }
+    ensures ready { OnOk result (indexes.new ≡ ready_now heap.new.state.log indexes.old) }
+    ensures kept { OnErr result (indexes.new ≡ indexes.old) }
     ensures follows { BuildFollows heap.new.state.schema heap.new.state.log build.now }
     ensures put { (builds : ℕ) (all : List (List Copied)) → PagesFollow heap.old.state.schema heap.old.state.log builds build.now all
         → PagesFollow heap.new.state.schema heap.new.state.log builds build.now all }
@@ -145,7 +183,7 @@ pub fn write(
     ensures unchanged { OnErr result (heap.new ≡ heap.old) }
     ensures memory { IfErr result (λ fault. fault ≡ Fault.Memory) }
 {
-    let Performed::Written { number, rid } = perform(heap, side, build, ready)? else {
+    let Performed::Written { number, rid } = perform_with(indexes, heap, side, build, ready)? else {
         unreachable!()
     };
     Ok((number, rid))
@@ -153,6 +191,7 @@ pub fn write(
 
 /// Does an undo that was made ready.
 pub fn undo(
+    indexes: &mut [ReadyIndex],
     heap: &mut Heap,
     side: &mut SideFile,
     build: &Option<TableScan>,
@@ -160,11 +199,15 @@ pub fn undo(
 ) -> Result<Undone, Fault>
     requires ready { IsReady heap.old ready }
     requires undo { IsSome ready.undone }
+    requires columns { AreOfColumns heap.old.state.schema indexes.old }
+    requires follow { FollowTable heap.old.state.log indexes.old }
     requires build { BuildFollows heap.old.state.schema heap.old.state.log build.now }
     requires side { SideFollows heap.old.state.log build.now side.old }
     ensures undone { OnOk result ((n : ℕ) → ready.undone ≡ Some n → heap.new.state ≡ after_undo heap.old.state ready.txn n) }
     ensures number { IfOk result (λ undone. undone.number ≡ length heap.new.state.log) }
     ensures left { IfOk result (λ undone. undone.left ≡ standing_count heap.new.state.log ready.txn) }
+    ensures ready { OnOk result (indexes.new ≡ ready_now heap.new.state.log indexes.old) }
+    ensures kept { OnErr result (indexes.new ≡ indexes.old) }
     ensures follows { BuildFollows heap.new.state.schema heap.new.state.log build.now }
     ensures put { (builds : ℕ) (all : List (List Copied)) → PagesFollow heap.old.state.schema heap.old.state.log builds build.now all
         → PagesFollow heap.new.state.schema heap.new.state.log builds build.now all }
@@ -175,7 +218,7 @@ pub fn undo(
     ensures unchanged { OnErr result (heap.new ≡ heap.old) }
     ensures memory { IfErr result (λ fault. fault ≡ Fault.Memory) }
 {
-    let Performed::Undone(undone) = perform(heap, side, build, ready)? else {
+    let Performed::Undone(undone) = perform_with(indexes, heap, side, build, ready)? else {
         unreachable!()
     };
     Ok(undone)

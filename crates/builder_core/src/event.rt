@@ -3,25 +3,23 @@ use keybytes::{Rid, Row};
 
 /// What is asked of a table and of its index build.
 ///
-/// Behind what each event does stand the faults that refuse it: where several have their cause, the first is answered. A row is
-/// changed only while no index is ready, for now. [`Fault::Memory`] is answered only where none of them has its cause, and so is
+/// Behind what each event does stand the faults that refuse it: where several have their cause, the first is answered. Each ready
+/// index follows a write and an undo. [`Fault::Memory`] is answered only where none of them has its cause, and so is
 /// [`Fault::NoPage`] of a digest or a seal, where a spool had no room for a pair. In a digest, a seal or a load either spoils the
 /// build: a scan, a digest, a seal, a load, an apply and a switch are then refused so, right behind [`Fault::NoBuild`] and [`Fault::BadCount`].
 #[derive(Debug, Drop)]
 pub enum Event {
     /// A transaction begins. [`Fault::TooManyTxns`].
     Begin,
-    /// The transaction inserts a row. [`Fault::BuildRunning`], [`Fault::NoSuchTxn`], [`Fault::TxnEnding`], [`Fault::RowShape`],
-    /// [`Fault::TableFull`].
+    /// The transaction inserts a row. [`Fault::NoSuchTxn`], [`Fault::TxnEnding`], [`Fault::RowShape`], [`Fault::TableFull`].
     Insert { txn: u64, row: Row },
-    /// The transaction gives a RID another row. [`Fault::BuildRunning`], [`Fault::NoSuchTxn`], [`Fault::TxnEnding`],
-    /// [`Fault::RowShape`], [`Fault::RowHeld`], [`Fault::NoSuchRow`], [`Fault::PageFull`].
+    /// The transaction gives a RID another row. [`Fault::NoSuchTxn`], [`Fault::TxnEnding`], [`Fault::RowShape`], [`Fault::RowHeld`],
+    /// [`Fault::NoSuchRow`], [`Fault::PageFull`].
     Update { txn: u64, rid: Rid, row: Row },
-    /// The transaction takes the row at a RID away. [`Fault::BuildRunning`], [`Fault::NoSuchTxn`], [`Fault::TxnEnding`],
-    /// [`Fault::RowHeld`], [`Fault::NoSuchRow`].
+    /// The transaction takes the row at a RID away. [`Fault::NoSuchTxn`], [`Fault::TxnEnding`], [`Fault::RowHeld`],
+    /// [`Fault::NoSuchRow`].
     Delete { txn: u64, rid: Rid },
-    /// The transaction's newest standing write is undone; from then on it can only be undone further.
-    /// [`Fault::BuildRunning`], [`Fault::NoSuchTxn`].
+    /// The transaction's newest standing write is undone; from then on it can only be undone further. [`Fault::NoSuchTxn`].
     Undo { txn: u64 },
     /// The transaction ends, and keeps its writes. [`Fault::NoSuchTxn`], [`Fault::TxnEnding`].
     Commit { txn: u64 },

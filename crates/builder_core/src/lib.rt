@@ -28,6 +28,7 @@ mod live_writes;
 mod merging;
 mod parts;
 mod plan;
+mod ready_changes;
 mod ready_index;
 mod reply;
 mod rest;

@@ -40,7 +40,7 @@ pub struct Live<T: Table> {
 }
 
 impl<T: Table> Model for Live<T> {
-    ghost use Rattle.builder_core.specs.CoreState.{FollowTable};
+    ghost use Rattle.builder_core.specs.CoreState.{AreOfColumns, FollowTable};
     ghost use Rattle.builder_core.specs.Builds.{LiveValue, BuildFollows};
     ghost use Rattle.builder_core.specs.Rings.{all_sent, ArePutEnds, AreOfBuilds, PagesFollow};
     ghost use Rattle.builder_core.specs.SideFiles.{SideFollows};
@@ -56,7 +56,8 @@ impl<T: Table> Model for Live<T> {
     ghost invariant = { λ live. FollowTable live.heap.state.log live.ready.items × BuildFollows live.heap.state.schema live.heap.state.log live.build
         × SideFollows live.heap.state.log live.build live.side
         × PagesFollow live.heap.state.schema live.heap.state.log live.builds live.build (all_sent live.pages.items)
-        × AreOfBuilds live.builds (all_sent live.pages.items) × ArePutEnds T.pages T.side live.pages.items live.side.end };
+        × AreOfBuilds live.builds (all_sent live.pages.items) × ArePutEnds T.pages T.side live.pages.items live.side.end
+        × AreOfColumns live.heap.state.schema live.ready.items };
 }
 
 impl<T: Table> Live<T> {

@@ -9,8 +9,8 @@ use std::marker::Model;
 /// An index that is ready: its specification, and its pairs in order.
 #[derive(Drop)]
 pub struct ReadyIndex {
-    spec: KeySpec,
-    tree: Tree,
+    pub(crate) spec: KeySpec,
+    pub(crate) tree: Tree,
 }
 
 impl Model for ReadyIndex {

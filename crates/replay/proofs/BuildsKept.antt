@@ -5,7 +5,7 @@ use Rattle.keybytes.specs.declared.fault.Fault.{Fault}
 use Rattle.keybytes.specs.declared.fault.Fault.TheVariants.{NoBuild}
 use Rattle.heap_log.specs.declared.outcome.Outcome.{Outcome}
 use Rattle.heap_table.specs.HeapState.{HeapState}
-use Rattle.builder_core.specs.CoreState.{CoreState, LiveState, BuildState, IndexState, WorkState, SpoolsState, idle, live_with_heap, opening, with_heap, with_live}
+use Rattle.builder_core.specs.CoreState.{CoreState, LiveState, BuildState, IndexState, WorkState, SpoolsState, idle, opening, with_heap, with_live}
 use Rattle.builder_core.specs.Steps.{AfterWant, AreFurther, CatchesUp, Does, OnBuild, Step, after_apply, after_digest, after_feed, after_load, after_scan, after_seal, after_switch_in}
 use Rattle.builder_core.specs.Steps.{build_cause, load_refusal, next_applied, next_copies, next_fed, pairs_copied, refusal, spoiled_by, verdicts_on, worker_refusal}
 use Rattle.builder_core.specs.Ranges.{next_page}
@@ -28,10 +28,10 @@ record IsKept (old new : CoreState) : Type 0 where
 unchanged : (old new : CoreState) → new ≡ old → IsKept old new
 unchanged old new same = subst (IsKept old) (sym same) (record { build = refl; work = λ _. refl; spools = refl })
 
--- only the heap has changed
-on_heap : (old new : CoreState) → new.live ≡ live_with_heap old.live new.live.heap → new ≡ with_live old new.live → IsKept old new
-on_heap old new live same = record {
-  build = ap (λ (live : LiveState). is_some live.build) live;
+-- the rows have changed, and the ready indexes, or the heap alone
+on_table : (old new : CoreState) → new.live.build ≡ old.live.build → new ≡ with_live old new.live → IsKept old new
+on_table old new build same = record {
+  build = ap is_some build;
   work = λ _. ap (λ (s : CoreState). s.work) same;
   spools = ap (λ (s : CoreState). s.spools) same;
 }
@@ -100,12 +100,12 @@ on_want old new None cause fault is none same = absurd (let both : Some NoBuild 
 on_want old new (Some b) cause fault is none same = at_work old new b (spoiled_by fault old).work is same
 
 done_keeps : (event : Event) (old new : CoreState) (told : Reply) → KeepsBuild event → Does old event told new → IsKept old new
-done_keeps Begin old new told keeps (answer, is, does) = on_heap old new does.0.1 does.1
-done_keeps (Insert txn row) old new told keeps (answer, is, does) = on_heap old new does.0.1 does.1
-done_keeps (Update txn rid row) old new told keeps (answer, is, does) = on_heap old new does.0.1 does.1
-done_keeps (Delete txn rid) old new told keeps (answer, is, does) = on_heap old new does.0.1 does.1
-done_keeps (Undo txn) old new told keeps (answer, is, does) = on_heap old new does.0.1 does.1
-done_keeps (Commit txn) old new told keeps (answer, is, does) = on_heap old new does.0.1 does.1
+done_keeps Begin old new told keeps (answer, is, does) = on_table old new (ap (λ (live : LiveState). live.build) does.0.1) does.1
+done_keeps (Insert txn row) old new told keeps (answer, is, does) = on_table old new (ap (λ (live : LiveState). live.build) does.0.1) does.1
+done_keeps (Update txn rid row) old new told keeps (answer, is, does) = on_table old new (ap (λ (live : LiveState). live.build) does.0.1) does.1
+done_keeps (Delete txn rid) old new told keeps (answer, is, does) = on_table old new (ap (λ (live : LiveState). live.build) does.0.1) does.1
+done_keeps (Undo txn) old new told keeps (answer, is, does) = on_table old new (ap (λ (live : LiveState). live.build) does.0.1) does.1
+done_keeps (Commit txn) old new told keeps (answer, is, does) = on_table old new (ap (λ (live : LiveState). live.build) does.0.1) does.1
 done_keeps (Start plan) old new told keeps done = absurd keeps
 done_keeps (Scan range worker) old new told keeps (page, is, does) = on_scan old new old.live.build range worker page refl does.0 does.1
 done_keeps (Digest worker) old new told keeps (images, is, does) =

@@ -53,8 +53,8 @@ pub fn put<T: Table>(bench: &mut Bench<T>, txn: u64, row: Row) -> Result<Rid, Fa
     Ok(rid)
 }
 
-/// Undoes the transaction's writes until it has ended. Where an undo is refused, because a build runs, an index is ready
-/// or memory is wanting, the transaction stays open.
+/// Undoes the transaction's writes until it has ended. Where an undo is refused, because memory is wanting, the transaction stays
+/// open.
 pub fn take_back<T: Table>(bench: &mut Bench<T>, txn: u64)
     ensures { (more : ℕ) × TakesBack more bench.old txn bench.new }
 {

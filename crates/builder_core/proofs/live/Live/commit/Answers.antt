@@ -2,7 +2,7 @@ use Rattle.std.proofs.Common.{sym, subst}
 use Rattle.heap_table.specs.HeapState.{HeapState}
 use Rattle.builder_core.specs.Builds.{LiveValue, WorksOn}
 use Rattle.builder_core.specs.Rings.{all_sent}
-use Rattle.builder_core.proofs.Following.{follow_kept, committed, commit_follows, commit_pages, commit_side, commit_works}
+use Rattle.builder_core.proofs.Following.{follow_kept, committed, commit_columns, commit_follows, commit_pages, commit_side, commit_works}
 use Rattle.builder_core.proofs.live.Live.commit.Goals as goal
 
 pub invariant_of-self : goal.invariant_of-self
@@ -16,6 +16,7 @@ invariant_of-self g c =
       commit_pages old.heap.state new c.args.txn old.builds old.build (all_sent old.pages.items) done c.self.invariant.1 c.self.invariant.3,
       c.self.invariant.4,
       c.self.invariant.5,
+      commit_columns old.heap.state new c.args.txn old.ready.items done c.self.invariant.6,
     )
 
 pub returns-clause-works : goal.returns-clause-works

@@ -8,7 +8,7 @@ use Rattle.heap_table.specs.Pages.{pages_written}
 use Rattle.side_file.specs.Ends.{PutEnd}
 use Rattle.building.specs.declared.copied.Copied.{Copied}
 use Rattle.builder_core.specs.Builds.{LiveValue, BuildFollows, IsBuildOf, IsWorkOf, WorkersFollow, WorksOn, full_refusal, put_refusal}
-use Rattle.builder_core.specs.CoreState.{BuildState, LiveState, FollowTable}
+use Rattle.builder_core.specs.CoreState.{BuildState, LiveState, AreOfColumns, FollowTable}
 use Rattle.builder_core.specs.Rings.{all_sent, AreOfBuilds, HasPut, PagesFollow}
 use Rattle.builder_core.specs.Ranges.{next_page}
 use Rattle.builder_core.specs.SideFiles.{HasEntries, SideFollows}
@@ -142,6 +142,7 @@ invariant_of-self-2 g c =
       put_ends_set g.T.Table.pages g.T.Table.side (set pages c.args.worker looked) inside.side.end c.args.worker new at
           (put_ends_set g.T.Table.pages g.T.Table.side pages inside.side.end c.args.worker looked old c.self.invariant.5 c.index_mut.ensures.value c.has_room.ensures.looked.ring)
           c.index_mut-2.ensures.value ring,
+      subst (λ (h : HeapState). AreOfColumns h.schema inside.ready.items) (sym c.copy_page.ensures.visited) c.self.invariant.6,
     )
 
 pub returns-clause-works : goal.returns-clause-works

@@ -18,7 +18,7 @@ use Rattle.builder_core.specs.CoreState.{BuildState, ReadyValue, CoreState}
 use Rattle.builder_core.specs.Holding.{spool_value, spools_state}
 use Rattle.builder_core.specs.Steps.{Switches}
 use Rattle.builder_core.proofs.ApplyCauses.{may_apply}
-use Rattle.builder_core.proofs.Following.{follow_more}
+use Rattle.builder_core.proofs.Following.{follow_more, columns_more}
 use Rattle.builder_core.proofs.OneWorker.{ended_stakes}
 use Rattle.builder_core.proofs.Refusals.{running_inside}
 use Rattle.builder_core.proofs.SwitchIn.{columns_are, pairs_are, switches, switched_from}
@@ -75,7 +75,11 @@ invariant_of-self-2 g c =
     ∙ pairs_are live building b w run spec c.into_spec-spec.ensures c.in-Some.built c.in-Some.ensures c.in_ok-catch_up.ensures.all in
     let made : c.new.result.pairs ≡ pairs_at_rest c.new.result.spec heap.log =
     c.new.ensures.pairs ∙ pairs ∙ ap (λ (l : LiveValue). pairs_at_rest spec l.state.heap.log) (sym c.self.view_is)
-    ∙ sym (ap (λ s. pairs_at_rest s heap.log) c.new.ensures.spec) in (
+    ∙ sym (ap (λ s. pairs_at_rest s heap.log) c.new.ensures.spec) in
+    let columns : c.new.result.spec.kinds ≡ heap.schema =
+    ap (λ (s : KeySpecValue). s.kinds) c.new.ensures.spec
+    ∙ columns_are live building b w run spec c.into_spec-spec.ensures c.in-Some.built c.in-Some.ensures c.in_ok-catch_up.ensures.all
+    ∙ ap (λ (l : LiveValue). l.state.heap.schema) (sym c.self.view_is) in (
       rw (c.push_reserved.ensures.items, c.in_ok-noted.ensures.ready)
           (follow_more heap.log c.note_ready.new.heap.state.log c.self.inside.ready.items c.new.result c.in_ok-noted.ensures.rows c.self.invariant.0 made),
       rw c.take.ensures.after tt,
@@ -83,6 +87,9 @@ invariant_of-self-2 g c =
       rw c.take.ensures.after tt,
       c.self.invariant.4,
       c.self.invariant.5,
+      rw (c.push_reserved.ensures.items, c.in_ok-noted.ensures.ready)
+          (columns_more heap.schema c.note_ready.new.heap.state.schema c.self.inside.ready.items c.new.result
+          (ap (λ (h : HeapState). h.schema) c.in_ok-noted.ensures.noted) c.self.invariant.6 columns),
     )
 
 pub returns-clause-switched : goal.returns-clause-switched

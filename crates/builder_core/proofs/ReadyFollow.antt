@@ -1,0 +1,91 @@
+-- A ready index follows a change of a row: its pairs are those of the rows that stand before and after.
+use Rattle.std.proofs.Common.{◌≡◌, true, List, [], ◌∷◌, Option, sym, ap, ◌∙◌, refl, subst, inl, inr}
+use Rattle.std.specs.FinMap.{contains_key, keys}
+use Rattle.std.specs.FinSet.{FinSet}
+use Rattle.std.proofs.lemmas.Bool.{cases_Bool, false≢true}
+use Rattle.std.proofs.lemmas.List.Elements.{All-map, All-weaker}
+use Rattle.std.proofs.lemmas.List.Folds.{map_fixed}
+use Rattle.keybytes.proofs.ColumnOrder.{column_order}
+use Rattle.keybytes.proofs.PairSets.{is_pair, same_members}
+use Rattle.keybytes.proofs.SameRids.{same_rid-true, same_rid-refl}
+use Rattle.keybytes.specs.Keys.{KeySpecValue, are_key_columns}
+use Rattle.keybytes.specs.Pairs.{pair_cmp, pair_with, set_of, AreOrdered, HaveKeysOf, AreInColumnOrder}
+use Rattle.keybytes.specs.Rids.{same_rid}
+use Rattle.keybytes.specs.declared.cell.Cell.{Cell}
+use Rattle.keybytes.specs.declared.kind.Kind.{Kind}
+use Rattle.keybytes.specs.declared.pair.Pair.{Pair}
+use Rattle.keybytes.specs.declared.rid.Rid.{Rid}
+use Rattle.heap_log.specs.Standing.{live_at}
+use Rattle.heap_log.specs.declared.record.LogRec.{LogRec}
+use Rattle.heap_table.proofs.KeysAtRest.{keys_at_rest}
+use Rattle.heap_table.proofs.TablePairs.{own_pair, contains-index_pairs}
+use Rattle.heap_table.specs.Kept.{RowsFit}
+use Rattle.heap_table.specs.Pages.{SetsRow}
+use Rattle.heap_table.specs.TablePairs.{pair_at, index_pairs, pairs_at_rest}
+use Rattle.visibility.proofs.Changes.{Turns, changes_turn}
+use Rattle.visibility.specs.Applied.{apply_entries}
+use Rattle.visibility.specs.SideEntries.{SideEntry, changes}
+use Rattle.builder_core.proofs.TableBuilds.{set_of-keys}
+use Rattle.builder_core.specs.CoreState.{ReadyValue, IsIndex, FollowTable, AreOfColumns}
+use Rattle.builder_core.specs.Steps.{index_now, ready_now}
+
+module _ (spec : KeySpecValue) (log new : List LogRec) (rid : Rid) (cells : Option (List Cell)) (sets : SetsRow log rid cells new) where
+  -- what the new row changes at its RID
+  abbrev row_changes : List SideEntry
+  row_changes = changes (pair_at spec log rid) (pair_with spec rid cells)
+
+  row_turns : Turns rid (pair_with spec rid cells) row_changes (index_pairs spec log)
+  row_turns =
+      changes_turn rid (pair_at spec log rid) (pair_with spec rid cells) (index_pairs spec log) (own_pair spec rid (live_at log rid)) (own_pair spec rid cells)
+      (λ q at. contains-index_pairs spec log q ∙ ap (λ r. is_pair (pair_at spec log r) q) at)
+
+  row_members : (q : Pair) → contains_key (apply_entries row_changes (index_pairs spec log)) q ≡ contains_key (index_pairs spec new) q
+  row_members q = elim (cases_Bool (same_rid rid q.rid)) [
+    | inl here ↦
+        let at : q.rid ≡ rid = sym (same_rid-true rid q.rid here) in
+        row_turns.here q at
+        ∙ sym (contains-index_pairs spec new q ∙ ap (λ r. is_pair (pair_at spec new r) q) at
+        ∙ ap (λ (row : Option (List Cell)). is_pair (pair_with spec rid row) q) sets.here)
+    | inr there ↦
+        let other = λ (e : q.rid ≡ rid). false≢true (sym there ∙ ap (same_rid rid) e ∙ same_rid-refl rid) in
+        row_turns.elsewhere q other ∙ contains-index_pairs spec log q
+        ∙ sym (contains-index_pairs spec new q ∙ ap (λ (row : Option (List Cell)). is_pair (pair_with spec q.rid row) q) (sets.elsewhere q.rid other))
+  ]
+
+  -- applied to the pairs of the rows that stood, it leaves those of the rows that stand
+  pub index_follows :
+      (old : Option (List Cell)) (pairs left : List Pair) (entries : List SideEntry) → old ≡ live_at log rid → pairs ≡ pairs_at_rest spec log
+      → entries ≡ changes (pair_with spec rid old) (pair_with spec rid cells) → set_of left ≡ apply_entries entries (set_of pairs) → AreOrdered left
+      → left ≡ pairs_at_rest spec new
+  index_follows old pairs left entries stood at_rest made applied order =
+      let before : set_of pairs ≡ index_pairs spec log = ap set_of at_rest ∙ set_of-keys (index_pairs spec log) in
+      let same : entries ≡ row_changes = made ∙ ap (λ (row : Option (List Cell)). changes (pair_with spec rid row) (pair_with spec rid cells)) stood in
+      order
+      ∙ ap keys (applied ∙ ap (apply_entries entries) before ∙ ap (λ es. apply_entries es (index_pairs spec log)) same
+      ∙ same_members (apply_entries row_changes (index_pairs spec log)) (index_pairs spec new) row_members)
+
+-- the pairs of the rows that stand are those of an index
+pub rest_is_index :
+    (spec : KeySpecValue) (kinds : List Kind) (log : List LogRec) (pairs : List Pair) → spec.kinds ≡ kinds → RowsFit kinds log
+    → are_key_columns spec.kinds spec.columns ≡ true → pairs ≡ pairs_at_rest spec log → IsIndex spec pairs
+rest_is_index spec kinds log pairs columns rows key at_rest = record {
+  keys = subst (HaveKeysOf spec) (sym at_rest) (keys_at_rest spec kinds log columns rows);
+  order = subst (AreInColumnOrder spec) (sym at_rest) (column_order spec (index_pairs spec log) key);
+}
+
+-- the ready indexes with the pairs of the rows that stand follow the table
+pub now_follow : (log : List LogRec) (ready : List ReadyValue) → FollowTable log (ready_now log ready)
+now_follow log ready =
+    All-map (λ (index : ReadyValue). index.pairs ≡ pairs_at_rest index.spec log) (λ (index : ReadyValue). index_now log index.spec) ready (λ k d below. refl)
+
+-- they are of the same columns
+pub now_of_columns : (kinds : List Kind) (log : List LogRec) (ready : List ReadyValue) → AreOfColumns kinds ready → AreOfColumns kinds (ready_now log ready)
+now_of_columns kinds log ready are =
+    All-map (λ (index : ReadyValue). index.spec.kinds ≡ kinds) (λ (index : ReadyValue). index_now log index.spec) ready are
+
+-- those that follow it already stay as they are
+pub already_now : (log : List LogRec) (ready : List ReadyValue) → FollowTable log ready → ready_now log ready ≡ ready
+already_now log ready follow =
+    map_fixed (λ (index : ReadyValue). index_now log index.spec) ready
+    (All-weaker (λ (index : ReadyValue). index.pairs ≡ pairs_at_rest index.spec log) (λ (index : ReadyValue). index_now log index.spec ≡ index)
+    (λ index same. ap (λ (pairs : List Pair). record { spec = index.spec; pairs = pairs }) (sym same)) ready follow)
