@@ -62,8 +62,9 @@ const REFUSED: [Call; 13] = [
     Call::Building(false),
 ];
 
-/// A row comes ahead of the scan, which then copies it, and is taken back behind it; another one changes.
-const IN_USE: [Call; 15] = [
+/// A row comes ahead of the scan, which then copies it, and is taken back behind it; another one changes. Once the index is ready one
+/// comes and is taken back.
+const IN_USE: [Call; 18] = [
     Call::Event(Ask::Start(&[2]), Ok((2, 0))),
     Call::Event(Ask::Scan, Ok((0, 0))),
     Call::Event(Ask::Begin, Ok((4, 0))),
@@ -77,7 +78,10 @@ const IN_USE: [Call; 15] = [
     Call::Event(Ask::Switch, Ok((11, 0))),
     Call::Ready(Ok(true)),
     Call::Event(Ask::Begin, Ok((5, 0))),
-    Call::Event(Ask::Insert(5, 9), Err(Fault::BuildRunning)),
+    Call::Event(Ask::Insert(5, 9), Ok((12, 1))),
+    Call::Ready(Ok(false)),
+    Call::Event(Ask::Undo(5), Ok((13, 0))),
+    Call::Ready(Ok(true)),
     Call::Rest(Ok(true)),
 ];
 

@@ -3,7 +3,7 @@ ghost use Rattle.std.specs.Prelude.{◌≡◌, map};
 ghost use Rattle.build_tests.specs.Owing.{IsOwed};
 
 use crate::asks::{Ask, answer, schema, spec, workers_of};
-use crate::entries::{are_entries, has_entries};
+use crate::entries::{are_entries, has_entries, has_pairs};
 use crate::kept::Kept;
 use crate::kind::Kind;
 use crate::pools::{QUOTA, new_pool};
@@ -34,6 +34,10 @@ pub enum Call {
     Get(Rid, Result<Option<i64>, Fault>),
     Rest(Result<bool, Fault>),
     Ready(Result<bool, Fault>),
+    /// So many indexes become ready, one build after another.
+    Indexes(usize),
+    /// So many indexes are ready, and each has the pairs of the table as it is now.
+    Follow(usize),
     Building(bool),
 }
 
@@ -118,6 +122,21 @@ fn applies<S: Spool, T: Table>(
     }
 }
 
+/// Whether so many indexes are ready, each with the pairs of the table as it is now.
+fn follow<S: Spool, T: Table>(
+    stand: &mut Stand<S, T>,
+    alloc: Global,
+    count: usize,
+) -> Result<bool, Fault> {
+    let pairs = stand.rest(&spec(alloc)?)?;
+    for number in 0..count {
+        if !has_pairs(stand.core().ready(number)?.tree(), &pairs) {
+            return Ok(false);
+        }
+    }
+    Ok(stand.core().ready(count).is_err())
+}
+
 /// Whether it is so; want of memory is passed on.
 fn is_unless_wanting<X: PartialEq + Drop>(
     told: Result<X, Fault>,
@@ -140,6 +159,32 @@ fn renew<S: Spool, T: Table, K: Kind<S>>(
         Some(workers) if !stand.core().is_building() => stand.renew(alloc, kind, workers),
         _ => Ok(()),
     }
+}
+
+/// The steps of a build by one worker over two pages.
+const BUILD: [Ask; 6] = [
+    Ask::StartEven(1),
+    Ask::Scan,
+    Ask::Scan,
+    Ask::Seal,
+    Ask::Load,
+    Ask::Switch,
+];
+
+fn indexes<S: Spool, T: Table, K: Kind<S>>(
+    stand: &mut Stand<S, T>,
+    alloc: Global,
+    kind: &K,
+    count: usize,
+) -> Result<bool, Fault> {
+    for number in 0..count {
+        for ask in BUILD {
+            renew(stand, alloc, kind, ask)?;
+            answer(stand, alloc, ask)?;
+        }
+        stand.core().ready(number)?;
+    }
+    Ok(true)
 }
 
 /// Whether it is answered so. Want of memory is passed on where a second event of the same kind doesn't help.
@@ -165,6 +210,8 @@ fn is_answered<S: Spool, T: Table, K: Kind<S>>(
             is_unless_wanting(told.map(|pairs| are_entries(&pairs)), answer)
         }
         Call::Ready(answer) => Ok(are_ready(stand) == *answer),
+        Call::Indexes(count) => indexes(stand, alloc, kind, *count),
+        Call::Follow(count) => follow(stand, alloc, *count),
         Call::Building(answer) => Ok(stand.core().is_building() == *answer),
     }
 }

@@ -1,4 +1,4 @@
-//! The pairs of three rows.
+//! The pairs of an index: those of three rows, or others.
 
 use crate::asks::FIRST;
 use btree::Tree;
@@ -49,4 +49,14 @@ pub fn has_entries(tree: &Tree) -> bool {
         }
     }
     tree.len() == ENTRIES.len()
+}
+
+/// Whether a tree has these pairs, in order.
+pub fn has_pairs(tree: &Tree, pairs: &[Pair]) -> bool {
+    for (pair, other) in tree.iter().zip(pairs) {
+        if pair != other {
+            return false;
+        }
+    }
+    tree.len() == pairs.len()
 }

@@ -12,6 +12,8 @@ mod entries;
 #[cfg(test)]
 mod fed;
 #[cfg(test)]
+mod following;
+#[cfg(test)]
 mod kept;
 #[cfg(test)]
 mod kind;

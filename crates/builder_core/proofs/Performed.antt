@@ -49,7 +49,7 @@ log_grows : (s : HeapState) (txn : ℕ) (rid : Rid) (undone : Option ℕ) (new :
 log_grows s txn rid None new = refl
 log_grows s txn rid (Some n) new = refl
 
-schema_stays : (s : HeapState) (txn : ℕ) (rid : Rid) (undone : Option ℕ) (new : Option (List Cell)) → (after_change s txn rid undone new).schema ≡ s.schema
+pub schema_stays : (s : HeapState) (txn : ℕ) (rid : Rid) (undone : Option ℕ) (new : Option (List Cell)) → (after_change s txn rid undone new).schema ≡ s.schema
 schema_stays s txn rid None new = refl
 schema_stays s txn rid (Some n) new = refl
 

@@ -3,7 +3,7 @@ use Rattle.std.proofs.Common.{◌≡◌, true, List, [], ◌∷◌, Option, sym,
 use Rattle.std.specs.FinMap.{contains_key, keys}
 use Rattle.std.specs.FinSet.{FinSet}
 use Rattle.std.proofs.lemmas.Bool.{cases_Bool, false≢true}
-use Rattle.std.proofs.lemmas.List.Elements.{All-map, All-weaker}
+use Rattle.std.proofs.lemmas.List.Elements.{All-head, All-map, All-weaker}
 use Rattle.std.proofs.lemmas.List.Folds.{map_fixed}
 use Rattle.keybytes.proofs.ColumnOrder.{column_order}
 use Rattle.keybytes.proofs.PairSets.{is_pair, same_members}
@@ -53,16 +53,31 @@ module _ (spec : KeySpecValue) (log new : List LogRec) (rid : Rid) (cells : Opti
   ]
 
   -- applied to the pairs of the rows that stood, it leaves those of the rows that stand
-  pub index_follows :
+  row_follows :
       (old : Option (List Cell)) (pairs left : List Pair) (entries : List SideEntry) → old ≡ live_at log rid → pairs ≡ pairs_at_rest spec log
       → entries ≡ changes (pair_with spec rid old) (pair_with spec rid cells) → set_of left ≡ apply_entries entries (set_of pairs) → AreOrdered left
       → left ≡ pairs_at_rest spec new
-  index_follows old pairs left entries stood at_rest made applied order =
+  row_follows old pairs left entries stood at_rest made applied order =
       let before : set_of pairs ≡ index_pairs spec log = ap set_of at_rest ∙ set_of-keys (index_pairs spec log) in
       let same : entries ≡ row_changes = made ∙ ap (λ (row : Option (List Cell)). changes (pair_with spec rid row) (pair_with spec rid cells)) stood in
       order
       ∙ ap keys (applied ∙ ap (apply_entries entries) before ∙ ap (λ es. apply_entries es (index_pairs spec log)) same
       ∙ same_members (apply_entries row_changes (index_pairs spec log)) (index_pairs spec new) row_members)
+
+  -- so does the first of the ready indexes
+  pub first_follows :
+      (index : ReadyValue) (rest indexes : List ReadyValue) (old : Option (List Cell)) (pairs left : List Pair) (entries : List SideEntry)
+      → indexes ≡ index ∷ rest → FollowTable log indexes → spec ≡ index.spec → pairs ≡ index.pairs → old ≡ live_at log rid
+      → entries ≡ changes (pair_with spec rid old) (pair_with spec rid cells) → set_of left ≡ apply_entries entries (set_of pairs) → AreOrdered left
+      → left ≡ pairs_at_rest spec new
+  first_follows index rest indexes old pairs left entries is follow same had stood made applied order =
+      let at_rest : index.pairs ≡ pairs_at_rest index.spec log =
+      All-head (λ (x : ReadyValue). x.pairs ≡ pairs_at_rest x.spec log) index rest (subst (FollowTable log) is follow) in
+      row_follows old pairs left entries stood (had ∙ at_rest ∙ ap (λ s. pairs_at_rest s log) (sym same)) made applied order
+
+-- it is of the columns that all are of
+pub first_columns : (kinds : List Kind) (index : ReadyValue) (rest indexes : List ReadyValue) → indexes ≡ index ∷ rest → AreOfColumns kinds indexes → index.spec.kinds ≡ kinds
+first_columns kinds index rest indexes is are = All-head (λ (x : ReadyValue). x.spec.kinds ≡ kinds) index rest (subst (AreOfColumns kinds) is are)
 
 -- the pairs of the rows that stand are those of an index
 pub rest_is_index :
@@ -89,3 +104,13 @@ already_now log ready follow =
     map_fixed (λ (index : ReadyValue). index_now log index.spec) ready
     (All-weaker (λ (index : ReadyValue). index.pairs ≡ pairs_at_rest index.spec log) (λ (index : ReadyValue). index_now log index.spec ≡ index)
     (λ index same. ap (λ (pairs : List Pair). record { spec = index.spec; pairs = pairs }) (sym same)) ready follow)
+
+-- the first ready index and the others have the pairs of the rows that stand, so all have
+pub all_now :
+    (log : List LogRec) (index : ReadyValue) (rest indexes : List ReadyValue) (spec : KeySpecValue) (pairs : List Pair) (others : List ReadyValue)
+    → indexes ≡ index ∷ rest → spec ≡ index.spec → pairs ≡ pairs_at_rest spec log → others ≡ ready_now log rest
+    → record { spec = spec; pairs = pairs } ∷ others ≡ ready_now log indexes
+all_now log index rest indexes spec pairs others is same at_rest follow =
+    let one : KeySpecValue → List Pair → ReadyValue = λ s ps. record { spec = s; pairs = ps } in
+    ap (λ ps. one spec ps ∷ others) at_rest ∙ ap (λ s. index_now log s ∷ others) same
+    ∙ ap (λ rs. index_now log index.spec ∷ rs) follow ∙ sym (ap (ready_now log) is)

@@ -151,6 +151,9 @@ fn perform_with(
     let change = ready_change(&index.spec, &mut index.tree, &ready)?;
     let done = perform_with(rest, heap, side, build, ready)?;
     change_tree(&mut index.tree, rid, change);
+    // The rows that stand fit the columns of the index, which make a key.
+    heap.laws();
+    let _columns = index.spec.columns();
     Ok(done)
 }
 

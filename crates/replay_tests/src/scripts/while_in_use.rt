@@ -2,7 +2,7 @@
 
 use crate::case::Case;
 
-pub const CASES: [Case; 6] = [
+pub const CASES: [Case; 7] = [
     Case {
         name: "an update ahead of the scan",
         script: b"table,1,int
@@ -181,6 +181,7 @@ switch
 pairs,0
 insert,B,8
 rest,n:0
+pairs,0
 ",
         out: "1,ok
 2,ok,0.0
@@ -209,12 +210,52 @@ rest,n:0
 21,pages,0
 22,ok,1
 22,pair,7,0.1
-23,refused,40,BuildRunning
-24,ok,1
+23,ok,8,0.2
+24,ok,2
 24,pair,7,0.1
+24,pair,8,0.2
+25,ok,2
+25,pair,7,0.1
+25,pair,8,0.2
 ",
         err: "",
         status: 0,
-        check: "script: 24 records, all good\n",
+        check: "script: 25 records, all good\n",
+    },
+    Case {
+        name: "an undo behind the switch",
+        script: b"table,4,int
+row,1
+start,1,4,1,n:0
+scan,0,0
+seal,0
+load,0
+begin,A
+insert,A,2
+switch
+pairs,0
+undo,A
+pairs,0
+",
+        out: "1,ok
+2,ok,0.0
+3,ok,1
+4,ok,0
+5,ok,1
+6,ok,1
+7,ok,2
+8,ok,3,0.1
+9,ok,4,ready:0
+9,pages,0
+10,ok,2
+10,pair,1,0.0
+10,pair,2,0.1
+11,ok,5,0
+12,ok,1
+12,pair,1,0.0
+",
+        err: "",
+        status: 0,
+        check: "script: 12 records, all good\n",
     },
 ];
