@@ -1,5 +1,6 @@
 -- The ready indexes and the build after a call of the table.
 use Rattle.std.proofs.Common.{◌≡◌, ◌⊎◌, inl, inr, ℕ, List, [], ◌∷◌, ◌++◌, Option, Result, Ok, Err, sym, ap, ◌∙◌, subst}
+use Rattle.std.specs.List.{All}
 use Rattle.std.proofs.lemmas.List.Elements.{All-weaker, All-push}
 use Rattle.keybytes.specs.Answered.{Answered}
 use Rattle.keybytes.specs.declared.fault.Fault.{Fault}
@@ -14,7 +15,7 @@ use Rattle.heap_table.proofs.TablePairs.{pairs_kept}
 use Rattle.building.specs.declared.copied.Copied.{Copied}
 use Rattle.builder_core.specs.Builds.{WorkValue, BuildFollows, IsWorkOf}
 use Rattle.builder_core.specs.Rings.{PagesFollow}
-use Rattle.builder_core.specs.CoreState.{BuildState, ReadyValue, AreOfColumns, FollowTable}
+use Rattle.builder_core.specs.CoreState.{BuildState, ReadyValue, AreIndexesOf, FollowTable}
 use Rattle.heap_log.specs.declared.record.LogRec.TheVariants.{Commit}
 use Rattle.side_file.specs.SideFileValue.{SideFileValue}
 use Rattle.builder_core.specs.SideFiles.{SideFollows}
@@ -24,25 +25,22 @@ use Rattle.builder_core.proofs.Puts.{pages_kept}
 use Rattle.builder_core.proofs.TableBuilds.{build_kept, work_kept}
 
 -- a change that keeps the rows keeps the ready indexes
-pub follow_kept : (old new : List LogRec) (ready : List ReadyValue) → KeepsRows old new → FollowTable old ready → FollowTable new ready
+follow_kept : (old new : List LogRec) (ready : List ReadyValue) → KeepsRows old new → FollowTable old ready → FollowTable new ready
 follow_kept old new ready keeps is =
     All-weaker (λ index. index.pairs ≡ pairs_at_rest index.spec old) (λ index. index.pairs ≡ pairs_at_rest index.spec new)
     (λ index e. e ∙ sym (pairs_kept index.spec old new keeps.live)) ready is
 
 -- one more index is ready
-pub follow_more :
-    (old new : List LogRec) (ready : List ReadyValue) (index : ReadyValue) → KeepsRows old new → FollowTable old ready → index.pairs ≡ pairs_at_rest index.spec old
-    → FollowTable new (ready ++ index ∷ [])
-follow_more old new ready index keeps is here =
-    All-push (λ index. index.pairs ≡ pairs_at_rest index.spec new) ready index (follow_kept old new ready keeps is)
-    (here ∙ sym (pairs_kept index.spec old new keeps.live))
-
--- it is of the table's columns, as the others are
-pub columns_more :
-    (kinds new : List Kind) (ready : List ReadyValue) (index : ReadyValue) → new ≡ kinds → AreOfColumns kinds ready → index.spec.kinds ≡ kinds
-    → AreOfColumns new (ready ++ index ∷ [])
-columns_more kinds new ready index same are here =
-    subst (λ (ks : List Kind). AreOfColumns ks (ready ++ index ∷ [])) (sym same) (All-push (λ index. index.spec.kinds ≡ kinds) ready index are here)
+pub indexes_more :
+    (kinds new_kinds : List Kind) (old new : List LogRec) (ready : List ReadyValue) (index : ReadyValue) → new_kinds ≡ kinds → KeepsRows old new
+    → AreIndexesOf kinds old ready → index.spec.kinds ≡ kinds → index.pairs ≡ pairs_at_rest index.spec old
+    → AreIndexesOf new_kinds new (ready ++ index ∷ [])
+indexes_more kinds new_kinds old new ready index same keeps are columns here = record {
+  columns = subst (λ (ks : List Kind). All (λ x. x.spec.kinds ≡ ks) (ready ++ index ∷ [])) (sym same)
+      (All-push (λ index. index.spec.kinds ≡ kinds) ready index are.columns columns);
+  follow = All-push (λ index. index.pairs ≡ pairs_at_rest index.spec new) ready index (follow_kept old new ready keeps are.follow)
+      (here ∙ sym (pairs_kept index.spec old new keeps.live));
+}
 
 -- what a commit leaves of the table: it is done, or nothing changed
 pub committed :
@@ -52,20 +50,22 @@ committed old new txn (Ok number) (free, done) = inl done.1
 committed old new txn (Err fault) (inl caused) = inr (ap (λ (h : HeapValue). h.state) caused.1)
 committed old new txn (Err fault) (inr wants) = inr (ap (λ (h : HeapValue). h.state) wants.2)
 
--- either way the build is one of the table
+-- either way the ready indexes are the table's
+pub commit_indexes :
+    (old new : HeapState) (txn : ℕ) (ready : List ReadyValue) → (new ≡ after_commit old txn) ⊎ (new ≡ old) → KeepsRows old.log new.log
+    → AreIndexesOf old.schema old.log ready → AreIndexesOf new.schema new.log ready
+commit_indexes old new txn ready done keeps are = record { columns = columns done; follow = follow_kept old.log new.log ready keeps are.follow } where
+  columns : (new ≡ after_commit old txn) ⊎ (new ≡ old) → All (λ index. index.spec.kinds ≡ new.schema) ready
+  columns (inl is) = subst (λ (h : HeapState). All (λ index. index.spec.kinds ≡ h.schema) ready) (sym is) are.columns
+  columns (inr is) = subst (λ (h : HeapState). All (λ index. index.spec.kinds ≡ h.schema) ready) (sym is) are.columns
+
+-- the build is one of the table
 pub commit_follows :
     (old new : HeapState) (txn : ℕ) (build : Option BuildState) → (new ≡ after_commit old txn) ⊎ (new ≡ old)
     → BuildFollows old.schema old.log build → BuildFollows new.schema new.log build
 commit_follows old new txn build (inl done) is =
     subst (λ (h : HeapState). BuildFollows h.schema h.log build) (sym done) (build_kept old.schema old.log (Commit txn) build is)
 commit_follows old new txn build (inr refused) is = subst (λ (h : HeapState). BuildFollows h.schema h.log build) (sym refused) is
-
--- and the ready indexes are of its columns
-pub commit_columns :
-    (old new : HeapState) (txn : ℕ) (ready : List ReadyValue) → (new ≡ after_commit old txn) ⊎ (new ≡ old)
-    → AreOfColumns old.schema ready → AreOfColumns new.schema ready
-commit_columns old new txn ready (inl done) are = subst (λ (h : HeapState). AreOfColumns h.schema ready) (sym done) are
-commit_columns old new txn ready (inr refused) are = subst (λ (h : HeapState). AreOfColumns h.schema ready) (sym refused) are
 
 -- its work is its own
 pub commit_works :

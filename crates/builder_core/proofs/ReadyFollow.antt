@@ -1,7 +1,9 @@
 -- A ready index follows a change of a row: its pairs are those of the rows that stand before and after.
-use Rattle.std.proofs.Common.{◌≡◌, true, List, [], ◌∷◌, Option, sym, ap, ◌∙◌, refl, subst, inl, inr}
+use Rattle.std.proofs.Common.{◌≡◌, ℕ, true, List, [], ◌∷◌, ◌++◌, length, take, drop, Option, sym, ap, ◌∙◌, refl, subst, inl, inr}
 use Rattle.std.specs.FinMap.{contains_key, keys}
 use Rattle.std.specs.FinSet.{FinSet}
+use Rattle.std.specs.List.{All}
+use Rattle.std.proofs.Math.Seq.{take-append_seam}
 use Rattle.std.proofs.lemmas.Bool.{cases_Bool, false≢true}
 use Rattle.std.proofs.lemmas.List.Elements.{All-head, All-map, All-weaker}
 use Rattle.std.proofs.lemmas.List.Folds.{map_fixed}
@@ -19,6 +21,7 @@ use Rattle.heap_log.specs.Standing.{live_at}
 use Rattle.heap_log.specs.declared.record.LogRec.{LogRec}
 use Rattle.heap_table.proofs.KeysAtRest.{keys_at_rest}
 use Rattle.heap_table.proofs.TablePairs.{own_pair, contains-index_pairs}
+use Rattle.heap_table.specs.HeapState.{HeapState}
 use Rattle.heap_table.specs.Kept.{RowsFit}
 use Rattle.heap_table.specs.Pages.{SetsRow}
 use Rattle.heap_table.specs.TablePairs.{pair_at, index_pairs, pairs_at_rest}
@@ -26,7 +29,7 @@ use Rattle.visibility.proofs.Changes.{Turns, changes_turn}
 use Rattle.visibility.specs.Applied.{apply_entries}
 use Rattle.visibility.specs.SideEntries.{SideEntry, changes}
 use Rattle.builder_core.proofs.TableBuilds.{set_of-keys}
-use Rattle.builder_core.specs.CoreState.{ReadyValue, IsIndex, FollowTable, AreOfColumns}
+use Rattle.builder_core.specs.CoreState.{ReadyValue, IsIndex, FollowTable, AreIndexesOf}
 use Rattle.builder_core.specs.Steps.{index_now, ready_now}
 
 module _ (spec : KeySpecValue) (log new : List LogRec) (rid : Rid) (cells : Option (List Cell)) (sets : SetsRow log rid cells new) where
@@ -76,8 +79,10 @@ module _ (spec : KeySpecValue) (log new : List LogRec) (rid : Rid) (cells : Opti
       row_follows old pairs left entries stood (had ∙ at_rest ∙ ap (λ s. pairs_at_rest s log) (sym same)) made applied order
 
 -- it is of the columns that all are of
-pub first_columns : (kinds : List Kind) (index : ReadyValue) (rest indexes : List ReadyValue) → indexes ≡ index ∷ rest → AreOfColumns kinds indexes → index.spec.kinds ≡ kinds
-first_columns kinds index rest indexes is are = All-head (λ (x : ReadyValue). x.spec.kinds ≡ kinds) index rest (subst (AreOfColumns kinds) is are)
+pub first_columns :
+    (kinds : List Kind) (log : List LogRec) (index : ReadyValue) (rest indexes : List ReadyValue) → indexes ≡ index ∷ rest → AreIndexesOf kinds log indexes
+    → index.spec.kinds ≡ kinds
+first_columns kinds log index rest indexes is are = All-head (λ (x : ReadyValue). x.spec.kinds ≡ kinds) index rest (subst (AreIndexesOf kinds log) is are).columns
 
 -- the pairs of the rows that stand are those of an index
 pub rest_is_index :
@@ -88,15 +93,21 @@ rest_is_index spec kinds log pairs columns rows key at_rest = record {
   order = subst (AreInColumnOrder spec) (sym at_rest) (column_order spec (index_pairs spec log) key);
 }
 
--- the ready indexes with the pairs of the rows that stand follow the table
-pub now_follow : (log : List LogRec) (ready : List ReadyValue) → FollowTable log (ready_now log ready)
-now_follow log ready =
-    All-map (λ (index : ReadyValue). index.pairs ≡ pairs_at_rest index.spec log) (λ (index : ReadyValue). index_now log index.spec) ready (λ k d below. refl)
+-- a slice that is as long as it was is the vector's whole contents
+pub whole_slice : (len : ℕ) (new old : List ReadyValue) → length new ≡ len → take len (new ++ drop (length new) old) ≡ new
+whole_slice len new old same = ap (λ n. take n (new ++ drop (length new) old)) (sym same) ∙ take-append_seam new (drop (length new) old)
 
--- they are of the same columns
-pub now_of_columns : (kinds : List Kind) (log : List LogRec) (ready : List ReadyValue) → AreOfColumns kinds ready → AreOfColumns kinds (ready_now log ready)
-now_of_columns kinds log ready are =
-    All-map (λ (index : ReadyValue). index.spec.kinds ≡ kinds) (λ (index : ReadyValue). index_now log index.spec) ready are
+-- the ready indexes with the pairs of the rows that then stand are those of the table
+pub written_indexes :
+    (old new : HeapState) (ready left : List ReadyValue) → new.schema ≡ old.schema → left ≡ ready_now new.log ready → AreIndexesOf old.schema old.log ready
+    → AreIndexesOf new.schema new.log left
+written_indexes old new ready left same is are =
+    let now : ReadyValue → ReadyValue = λ index. index_now new.log index.spec in
+    subst (AreIndexesOf new.schema new.log) (sym is) (record {
+      columns = subst (λ (kinds : List Kind). All (λ (index : ReadyValue). index.spec.kinds ≡ kinds) (ready_now new.log ready)) (sym same)
+          (All-map (λ (index : ReadyValue). index.spec.kinds ≡ old.schema) now ready are.columns);
+      follow = All-map (λ (index : ReadyValue). index.pairs ≡ pairs_at_rest index.spec new.log) now ready (λ k d below. refl);
+    })
 
 -- those that follow it already stay as they are
 pub already_now : (log : List LogRec) (ready : List ReadyValue) → FollowTable log ready → ready_now log ready ≡ ready

@@ -122,9 +122,10 @@ after_visits heap (suc n) = after_visit (after_visits heap n)
 abbrev pub FollowTable : List LogRec → List ReadyValue → Type 0
 FollowTable log ready = All (λ index. index.pairs ≡ pairs_at_rest index.spec log) ready
 
--- each ready index is of a table with these columns
-abbrev pub AreOfColumns : List Kind → List ReadyValue → Type 0
-AreOfColumns kinds ready = All (λ index. index.spec.kinds ≡ kinds) ready
+-- so it has, and it is of a table with these columns
+pub record AreIndexesOf (kinds : List Kind) (log : List LogRec) (ready : List ReadyValue) : Type 0 where
+  pub columns : All (λ index. index.spec.kinds ≡ kinds) ready
+  pub follow : FollowTable log ready
 
 -- the ready indexes follow the table
 abbrev pub ReadyFollowTable : LiveState → Type 0

@@ -12,7 +12,7 @@ ghost use Rattle.builder_core.specs.Builds.{WorkValue, BuildFollows, IsWorkOf};
 ghost use Rattle.building.specs.declared.copied.Copied.{Copied};
 ghost use Rattle.builder_core.specs.Rings.{PagesFollow};
 ghost use Rattle.builder_core.specs.SideFiles.{noted, SideFollows};
-ghost use Rattle.builder_core.specs.CoreState.{AreOfColumns, FollowTable};
+ghost use Rattle.builder_core.specs.CoreState.{AreIndexesOf};
 ghost use Rattle.builder_core.specs.Steps.{ready_now};
 
 use crate::ReadyIndex;
@@ -124,8 +124,7 @@ fn perform_with(
     ready: Ready,
 ) -> Result<Performed, Fault>
     requires ready { IsReady heap.old ready }
-    requires columns { AreOfColumns heap.old.state.schema indexes.old }
-    requires follow { FollowTable heap.old.state.log indexes.old }
+    requires indexes { AreIndexesOf heap.old.state.schema heap.old.state.log indexes.old }
     requires build { BuildFollows heap.old.state.schema heap.old.state.log build.now }
     requires side { SideFollows heap.old.state.log build.now side.old }
     ensures performed { OnOk result (heap.new.state ≡ after_ready heap.old.state ready) }
@@ -159,7 +158,7 @@ fn perform_with(
 
 /// Does a write that was made ready; answered with its record's number and the RID.
 pub fn write(
-    indexes: &mut [ReadyIndex],
+    indexes: &mut Vec<ReadyIndex>,
     heap: &mut Heap,
     side: &mut SideFile,
     build: &Option<TableScan>,
@@ -167,15 +166,15 @@ pub fn write(
 ) -> Result<(usize, Rid), Fault>
     requires ready { IsReady heap.old ready }
     requires write { ready.undone ≡ None }
-    requires columns { AreOfColumns heap.old.state.schema indexes.old }
-    requires follow { FollowTable heap.old.state.log indexes.old }
+    requires indexes { AreIndexesOf heap.old.state.schema heap.old.state.log indexes.old.items }
     requires build { BuildFollows heap.old.state.schema heap.old.state.log build.now }
     requires side { SideFollows heap.old.state.log build.now side.old }
     ensures written { OnOk result (heap.new.state ≡ after_write heap.old.state ready.txn ready.rid ready.new) }
     ensures number { IfOk result (λ written. written.0 ≡ length heap.new.state.log) }
     ensures rid { IfOk result (λ written. written.1 ≡ ready.rid) }
-    ensures ready { OnOk result (indexes.new ≡ ready_now heap.new.state.log indexes.old) }
-    ensures kept { OnErr result (indexes.new ≡ indexes.old) }
+    ensures ready { OnOk result (indexes.new.items ≡ ready_now heap.new.state.log indexes.old.items) }
+    ensures kept { OnErr result (indexes.new.items ≡ indexes.old.items) }
+    ensures indexes { AreIndexesOf heap.new.state.schema heap.new.state.log indexes.new.items }
     ensures follows { BuildFollows heap.new.state.schema heap.new.state.log build.now }
     ensures put { (builds : ℕ) (all : List (List Copied)) → PagesFollow heap.old.state.schema heap.old.state.log builds build.now all
         → PagesFollow heap.new.state.schema heap.new.state.log builds build.now all }
@@ -194,7 +193,7 @@ pub fn write(
 
 /// Does an undo that was made ready.
 pub fn undo(
-    indexes: &mut [ReadyIndex],
+    indexes: &mut Vec<ReadyIndex>,
     heap: &mut Heap,
     side: &mut SideFile,
     build: &Option<TableScan>,
@@ -202,15 +201,15 @@ pub fn undo(
 ) -> Result<Undone, Fault>
     requires ready { IsReady heap.old ready }
     requires undo { IsSome ready.undone }
-    requires columns { AreOfColumns heap.old.state.schema indexes.old }
-    requires follow { FollowTable heap.old.state.log indexes.old }
+    requires indexes { AreIndexesOf heap.old.state.schema heap.old.state.log indexes.old.items }
     requires build { BuildFollows heap.old.state.schema heap.old.state.log build.now }
     requires side { SideFollows heap.old.state.log build.now side.old }
     ensures undone { OnOk result ((n : ℕ) → ready.undone ≡ Some n → heap.new.state ≡ after_undo heap.old.state ready.txn n) }
     ensures number { IfOk result (λ undone. undone.number ≡ length heap.new.state.log) }
     ensures left { IfOk result (λ undone. undone.left ≡ standing_count heap.new.state.log ready.txn) }
-    ensures ready { OnOk result (indexes.new ≡ ready_now heap.new.state.log indexes.old) }
-    ensures kept { OnErr result (indexes.new ≡ indexes.old) }
+    ensures ready { OnOk result (indexes.new.items ≡ ready_now heap.new.state.log indexes.old.items) }
+    ensures kept { OnErr result (indexes.new.items ≡ indexes.old.items) }
+    ensures indexes { AreIndexesOf heap.new.state.schema heap.new.state.log indexes.new.items }
     ensures follows { BuildFollows heap.new.state.schema heap.new.state.log build.now }
     ensures put { (builds : ℕ) (all : List (List Copied)) → PagesFollow heap.old.state.schema heap.old.state.log builds build.now all
         → PagesFollow heap.new.state.schema heap.new.state.log builds build.now all }

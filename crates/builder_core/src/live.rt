@@ -40,7 +40,7 @@ pub struct Live<T: Table> {
 }
 
 impl<T: Table> Model for Live<T> {
-    ghost use Rattle.builder_core.specs.CoreState.{AreOfColumns, FollowTable};
+    ghost use Rattle.builder_core.specs.CoreState.{AreIndexesOf};
     ghost use Rattle.builder_core.specs.Builds.{LiveValue, BuildFollows};
     ghost use Rattle.builder_core.specs.Rings.{all_sent, ArePutEnds, AreOfBuilds, PagesFollow};
     ghost use Rattle.builder_core.specs.SideFiles.{SideFollows};
@@ -53,11 +53,11 @@ impl<T: Table> Model for Live<T> {
       side = live.side.end;
     } };
 
-    ghost invariant = { λ live. FollowTable live.heap.state.log live.ready.items × BuildFollows live.heap.state.schema live.heap.state.log live.build
+    ghost invariant = { λ live. AreIndexesOf live.heap.state.schema live.heap.state.log live.ready.items
+        × BuildFollows live.heap.state.schema live.heap.state.log live.build
         × SideFollows live.heap.state.log live.build live.side
         × PagesFollow live.heap.state.schema live.heap.state.log live.builds live.build (all_sent live.pages.items)
-        × AreOfBuilds live.builds (all_sent live.pages.items) × ArePutEnds T.pages T.side live.pages.items live.side.end
-        × AreOfColumns live.heap.state.schema live.ready.items };
+        × AreOfBuilds live.builds (all_sent live.pages.items) × ArePutEnds T.pages T.side live.pages.items live.side.end };
 }
 
 impl<T: Table> Live<T> {

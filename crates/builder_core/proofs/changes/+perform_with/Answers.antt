@@ -17,10 +17,10 @@ invariant_of-index-2 t c =
     let same : spec ≡ index.spec = ap (λ (x : ReadyValue). x.spec) c.index.view_is in
     let had = c.ready_change.ensures.pairs ∙ ap (λ (x : ReadyValue). x.pairs) c.index.view_is in
     let left = first_follows spec old.log new.log ready.rid ready.new c.in_ok-done.ensures.rows index c.in-Some.rest.now c.args.indexes.now ready.old
-    c.ready_change.new.tree.pairs c.change_tree.new.tree.pairs (entries_of_change ready.rid c.in_ok-change.change) c.in-Some.ensures.cases.0 c.requires.follow
+    c.ready_change.new.tree.pairs c.change_tree.new.tree.pairs (entries_of_change ready.rid c.in_ok-change.change) c.in-Some.ensures.cases.0 c.requires.indexes.follow
     same had c.requires.ready.old c.in_ok-change.ensures.change c.change_tree.ensures.changed c.change_tree.ensures.order in
     let columns = ap (λ (s : KeySpecValue). s.kinds) same
-    ∙ first_columns old.schema index c.in-Some.rest.now c.args.indexes.now c.in-Some.ensures.cases.0 c.requires.columns
+    ∙ first_columns old.schema old.log index c.in-Some.rest.now c.args.indexes.now c.in-Some.ensures.cases.0 c.requires.indexes
     ∙ sym (ap (λ (h : HeapState). h.schema) c.in_ok-done.ensures.performed ∙ schema_stays old ready.txn ready.rid ready.undone ready.new) in
     rest_is_index spec new.schema new.log c.change_tree.new.tree.pairs columns c.laws-2.ensures.rows c.columns-columns.ensures.key left
 
@@ -34,7 +34,7 @@ returns-clause-ready t c =
     let same : spec ≡ index.spec = ap (λ (x : ReadyValue). x.spec) c.index.view_is in
     let had = c.ready_change.ensures.pairs ∙ ap (λ (x : ReadyValue). x.pairs) c.index.view_is in
     let left = first_follows spec old.log new.log ready.rid ready.new c.in_ok-done.ensures.rows index c.in-Some.rest.now c.args.indexes.now ready.old
-    c.ready_change.new.tree.pairs c.change_tree.new.tree.pairs (entries_of_change ready.rid c.in_ok-change.change) c.in-Some.ensures.cases.0 c.requires.follow
+    c.ready_change.new.tree.pairs c.change_tree.new.tree.pairs (entries_of_change ready.rid c.in_ok-change.change) c.in-Some.ensures.cases.0 c.requires.indexes.follow
     same had c.requires.ready.old c.in_ok-change.ensures.change c.change_tree.ensures.changed c.change_tree.ensures.order in
     all_now new.log index c.in-Some.rest.now c.args.indexes.now spec c.change_tree.new.tree.pairs c.perform_with.new.indexes c.in-Some.ensures.cases.0 same left
     c.in_ok-done.ensures.ready

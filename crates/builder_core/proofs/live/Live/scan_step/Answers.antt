@@ -8,7 +8,7 @@ use Rattle.heap_table.specs.Pages.{pages_written}
 use Rattle.side_file.specs.Ends.{PutEnd}
 use Rattle.building.specs.declared.copied.Copied.{Copied}
 use Rattle.builder_core.specs.Builds.{LiveValue, BuildFollows, IsBuildOf, IsWorkOf, WorkersFollow, WorksOn, full_refusal, put_refusal}
-use Rattle.builder_core.specs.CoreState.{BuildState, LiveState, AreOfColumns, FollowTable}
+use Rattle.builder_core.specs.CoreState.{AreIndexesOf, BuildState, LiveState}
 use Rattle.builder_core.specs.Rings.{all_sent, AreOfBuilds, HasPut, PagesFollow}
 use Rattle.builder_core.specs.Ranges.{next_page}
 use Rattle.builder_core.specs.SideFiles.{HasEntries, SideFollows}
@@ -127,7 +127,7 @@ invariant_of-self-2 g c =
     let ring : new.ring ≡ at.ring = c.put.ensures.ring in
     let copied_build : BuildState =
     record b { scans = b.scans ++ record { worker = c.args.worker; page = c.in-Ok.page; records = c.records-records.result } ∷ [] } in (
-      subst (λ (h : HeapState). FollowTable h.log inside.ready.items) (sym c.copy_page.ensures.visited) c.self.invariant.0,
+      subst (λ (h : HeapState). AreIndexesOf h.schema h.log inside.ready.items) (sym c.copy_page.ensures.visited) c.self.invariant.0,
       subst (λ (h : HeapState). IsBuildOf h.schema h.log c.note.new.self) (sym c.copy_page.ensures.visited) (subst (IsBuildOf heap.schema heap.log) (sym c.note.ensures.noted) more),
       subst (λ (h : HeapState). HasEntries h.log c.note.new.self inside.side) (sym c.copy_page.ensures.visited)
           (subst (λ x. HasEntries heap.log x inside.side) (sym c.note.ensures.noted)
@@ -142,7 +142,6 @@ invariant_of-self-2 g c =
       put_ends_set g.T.Table.pages g.T.Table.side (set pages c.args.worker looked) inside.side.end c.args.worker new at
           (put_ends_set g.T.Table.pages g.T.Table.side pages inside.side.end c.args.worker looked old c.self.invariant.5 c.index_mut.ensures.value c.has_room.ensures.looked.ring)
           c.index_mut-2.ensures.value ring,
-      subst (λ (h : HeapState). AreOfColumns h.schema inside.ready.items) (sym c.copy_page.ensures.visited) c.self.invariant.6,
     )
 
 pub returns-clause-works : goal.returns-clause-works

@@ -18,7 +18,7 @@ use Rattle.builder_core.specs.CoreState.{BuildState, ReadyValue, CoreState}
 use Rattle.builder_core.specs.Holding.{spool_value, spools_state}
 use Rattle.builder_core.specs.Steps.{Switches}
 use Rattle.builder_core.proofs.ApplyCauses.{may_apply}
-use Rattle.builder_core.proofs.Following.{follow_more, columns_more}
+use Rattle.builder_core.proofs.Following.{indexes_more}
 use Rattle.builder_core.proofs.OneWorker.{ended_stakes}
 use Rattle.builder_core.proofs.Refusals.{running_inside}
 use Rattle.builder_core.proofs.SwitchIn.{columns_are, pairs_are, switches, switched_from}
@@ -79,17 +79,16 @@ invariant_of-self-2 g c =
     let columns : c.new.result.spec.kinds ≡ heap.schema =
     ap (λ (s : KeySpecValue). s.kinds) c.new.ensures.spec
     ∙ columns_are live building b w run spec c.into_spec-spec.ensures c.in-Some.built c.in-Some.ensures c.in_ok-catch_up.ensures.all
-    ∙ ap (λ (l : LiveValue). l.state.heap.schema) (sym c.self.view_is) in (
+    ∙ ap (λ (l : LiveValue). l.state.heap.schema) (sym c.self.view_is) in
+    let same = ap (λ (h : HeapState). h.schema) c.in_ok-noted.ensures.noted in (
       rw (c.push_reserved.ensures.items, c.in_ok-noted.ensures.ready)
-          (follow_more heap.log c.note_ready.new.heap.state.log c.self.inside.ready.items c.new.result c.in_ok-noted.ensures.rows c.self.invariant.0 made),
+          (indexes_more heap.schema c.note_ready.new.heap.state.schema heap.log c.note_ready.new.heap.state.log c.self.inside.ready.items c.new.result same
+          c.in_ok-noted.ensures.rows c.self.invariant.0 columns made),
       rw c.take.ensures.after tt,
       rw c.take.ensures.after tt,
       rw c.take.ensures.after tt,
       c.self.invariant.4,
       c.self.invariant.5,
-      rw (c.push_reserved.ensures.items, c.in_ok-noted.ensures.ready)
-          (columns_more heap.schema c.note_ready.new.heap.state.schema c.self.inside.ready.items c.new.result
-          (ap (λ (h : HeapState). h.schema) c.in_ok-noted.ensures.noted) c.self.invariant.6 columns),
     )
 
 pub returns-clause-switched : goal.returns-clause-switched
