@@ -1,5 +1,5 @@
 -- A ready index follows a change of a row: its pairs are those of the rows that stand before and after.
-use Rattle.std.proofs.Common.{◌≡◌, ℕ, true, List, [], ◌∷◌, ◌++◌, length, take, drop, Option, sym, ap, ◌∙◌, refl, subst, inl, inr}
+use Rattle.std.proofs.Common.{◌≡◌, ℕ, true, List, [], ◌∷◌, ◌++◌, length, take, drop, Option, None, Result, Ok, Err, sym, ap, ◌∙◌, refl, subst, inl, inr}
 use Rattle.std.specs.FinMap.{contains_key, keys}
 use Rattle.std.specs.FinSet.{FinSet}
 use Rattle.std.specs.List.{All}
@@ -10,27 +10,32 @@ use Rattle.std.proofs.lemmas.List.Folds.{map_fixed}
 use Rattle.keybytes.proofs.ColumnOrder.{column_order}
 use Rattle.keybytes.proofs.PairSets.{is_pair, same_members}
 use Rattle.keybytes.proofs.SameRids.{same_rid-true, same_rid-refl}
+use Rattle.keybytes.specs.Answered.{Answered}
 use Rattle.keybytes.specs.Keys.{KeySpecValue, are_key_columns}
 use Rattle.keybytes.specs.Pairs.{pair_cmp, pair_with, set_of, AreOrdered, HaveKeysOf, AreInColumnOrder}
 use Rattle.keybytes.specs.Rids.{same_rid}
 use Rattle.keybytes.specs.declared.cell.Cell.{Cell}
+use Rattle.keybytes.specs.declared.fault.Fault.{Fault}
 use Rattle.keybytes.specs.declared.kind.Kind.{Kind}
 use Rattle.keybytes.specs.declared.pair.Pair.{Pair}
 use Rattle.keybytes.specs.declared.rid.Rid.{Rid}
-use Rattle.heap_log.specs.Standing.{live_at}
+use Rattle.heap_log.specs.Standing.{live_at, newest_standing}
 use Rattle.heap_log.specs.declared.record.LogRec.{LogRec}
 use Rattle.heap_table.proofs.KeysAtRest.{keys_at_rest}
 use Rattle.heap_table.proofs.TablePairs.{own_pair, contains-index_pairs}
-use Rattle.heap_table.specs.HeapState.{HeapState}
+use Rattle.heap_table.specs.Calls.{OnState, Undoes}
+use Rattle.heap_table.specs.HeapState.{HeapState, after_step, undo_refusal}
+use Rattle.heap_table.specs.HeapValue.{HeapValue}
 use Rattle.heap_table.specs.Kept.{RowsFit}
 use Rattle.heap_table.specs.Pages.{SetsRow}
 use Rattle.heap_table.specs.TablePairs.{pair_at, index_pairs, pairs_at_rest}
+use Rattle.heap_table.specs.declared.undone.Undone.{Undone}
 use Rattle.visibility.proofs.Changes.{Turns, changes_turn}
 use Rattle.visibility.specs.Applied.{apply_entries}
 use Rattle.visibility.specs.SideEntries.{SideEntry, changes}
 use Rattle.builder_core.proofs.TableBuilds.{set_of-keys}
-use Rattle.builder_core.specs.CoreState.{ReadyValue, IsIndex, FollowTable, AreIndexesOf}
-use Rattle.builder_core.specs.Steps.{index_now, ready_now}
+use Rattle.builder_core.specs.CoreState.{ReadyValue, LiveState, IsIndex, FollowTable, AreIndexesOf, live_with_heap}
+use Rattle.builder_core.specs.Steps.{OnRows, index_now, ready_now}
 
 module _ (spec : KeySpecValue) (log new : List LogRec) (rid : Rid) (cells : Option (List Cell)) (sets : SetsRow log rid cells new) where
   -- what the new row changes at its RID
@@ -125,3 +130,23 @@ all_now log index rest indexes spec pairs others is same at_rest follow =
     let one : KeySpecValue → List Pair → ReadyValue = λ s ps. record { spec = s; pairs = ps } in
     ap (λ ps. one spec ps ∷ others) at_rest ∙ ap (λ s. index_now log s ∷ others) same
     ∙ ap (λ rs. index_now log index.spec ∷ rs) follow ∙ sym (ap (ready_now log) is)
+
+pub by_state :
+    {R : Type 0} (cause : Option Fault) (Does : HeapState → R → HeapState → Type 0) (old new : HeapValue) (answer : Result R Fault)
+    → Answered cause (OnState Does) old answer new → Answered cause Does old.state answer new.state
+by_state cause Does old new (Ok told) does = does
+by_state cause Does old new (Err fault) (inl caused) = inl (caused.0, ap (λ (h : HeapValue). h.state) caused.1)
+by_state cause Does old new (Err fault) (inr wants) = inr (wants.0, wants.1, ap (λ (h : HeapValue). h.state) wants.2)
+
+-- a transaction that has no write to undo ends, and the ready indexes stay as they are
+pub ends_without :
+    (live : LiveState) (new : HeapState) (txn : ℕ) (answer : Result Undone Fault) → newest_standing live.heap.log txn ≡ None
+    → FollowTable live.heap.log live.ready → Answered (undo_refusal live.heap txn) (Undoes txn) live.heap answer new
+    → Answered (undo_refusal live.heap txn) (OnRows (Undoes txn)) live answer (live_with_heap live new)
+ends_without live new txn (Ok undone) none follow does =
+    let same : new.log ≡ live.heap.log = ap (λ (h : HeapState). h.log) does.1.2 ∙ ap (λ o. (after_step live.heap txn o).log) none in
+    let ready : live.ready ≡ ready_now new.log live.ready =
+    sym (ap (λ l. ready_now l live.ready) same ∙ already_now live.heap.log live.ready follow) in
+    (does.0, (does.1, ap (λ rs. record live { heap = new; ready = rs }) ready))
+ends_without live new txn (Err fault) none follow (inl caused) = inl (caused.0, ap (live_with_heap live) caused.1)
+ends_without live new txn (Err fault) none follow (inr wants) = inr (wants.0, wants.1, ap (live_with_heap live) wants.2)
