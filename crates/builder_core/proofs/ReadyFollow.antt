@@ -1,7 +1,6 @@
 -- A ready index follows a change of a row: its pairs are those of the rows that stand before and after.
-use Rattle.std.proofs.Common.{◌≡◌, ℕ, true, List, [], ◌∷◌, ◌++◌, length, take, drop, Option, None, Result, Ok, Err, sym, ap, ◌∙◌, refl, subst, inl, inr}
+use Rattle.std.proofs.Common.{◌≡◌, ℕ, true, List, ◌∷◌, ◌++◌, length, take, drop, Option, None, Result, Ok, Err, sym, ap, ◌∙◌, refl, subst, inl, inr}
 use Rattle.std.specs.FinMap.{contains_key, keys}
-use Rattle.std.specs.FinSet.{FinSet}
 use Rattle.std.specs.List.{All}
 use Rattle.std.proofs.Math.Seq.{take-append_seam}
 use Rattle.std.proofs.lemmas.Bool.{cases_Bool, false≢true}
@@ -12,7 +11,7 @@ use Rattle.keybytes.proofs.PairSets.{is_pair, same_members}
 use Rattle.keybytes.proofs.SameRids.{same_rid-true, same_rid-refl}
 use Rattle.keybytes.specs.Answered.{Answered}
 use Rattle.keybytes.specs.Keys.{KeySpecValue, are_key_columns}
-use Rattle.keybytes.specs.Pairs.{pair_cmp, pair_with, set_of, AreOrdered, HaveKeysOf, AreInColumnOrder}
+use Rattle.keybytes.specs.Pairs.{pair_with, set_of, AreOrdered, HaveKeysOf, AreInColumnOrder}
 use Rattle.keybytes.specs.Rids.{same_rid}
 use Rattle.keybytes.specs.declared.cell.Cell.{Cell}
 use Rattle.keybytes.specs.declared.fault.Fault.{Fault}

@@ -45,7 +45,13 @@ impl<T: Table> Live<T> {
         ensures works { (building : BuildingValue) → WorksOn self.old building → WorksOn self.new building }
     {
         let ready = self.heap.ready_insert(txn, row)?;
-        changes::write(&mut self.ready, &mut self.heap, &mut self.side, &self.build, ready)
+        changes::write(
+            &mut self.ready,
+            &mut self.heap,
+            &mut self.side,
+            &self.build,
+            ready,
+        )
     }
 
     /// The transaction gives a RID another row. Refused as [`heap_table::Heap::update`].
@@ -54,7 +60,13 @@ impl<T: Table> Live<T> {
         ensures works { (building : BuildingValue) → WorksOn self.old building → WorksOn self.new building }
     {
         let ready = self.heap.ready_update(txn, rid, row)?;
-        changes::write(&mut self.ready, &mut self.heap, &mut self.side, &self.build, ready)
+        changes::write(
+            &mut self.ready,
+            &mut self.heap,
+            &mut self.side,
+            &self.build,
+            ready,
+        )
     }
 
     /// The transaction takes the row at a RID away. Refused as [`heap_table::Heap::delete`].
@@ -63,7 +75,13 @@ impl<T: Table> Live<T> {
         ensures works { (building : BuildingValue) → WorksOn self.old building → WorksOn self.new building }
     {
         let ready = self.heap.ready_delete(txn, rid)?;
-        changes::write(&mut self.ready, &mut self.heap, &mut self.side, &self.build, ready)
+        changes::write(
+            &mut self.ready,
+            &mut self.heap,
+            &mut self.side,
+            &self.build,
+            ready,
+        )
     }
 
     /// The transaction's newest standing write is undone: a change like any other, which each ready index follows, and of which the
@@ -73,7 +91,13 @@ impl<T: Table> Live<T> {
         ensures works { (building : BuildingValue) → WorksOn self.old building → WorksOn self.new building }
     {
         match self.heap.ready_undo(txn)? {
-            Some(ready) => changes::undo(&mut self.ready, &mut self.heap, &mut self.side, &self.build, ready),
+            Some(ready) => changes::undo(
+                &mut self.ready,
+                &mut self.heap,
+                &mut self.side,
+                &self.build,
+                ready,
+            ),
             None => self.heap.undo_step(txn),
         }
     }

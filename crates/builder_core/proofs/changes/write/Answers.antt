@@ -1,4 +1,4 @@
-use Rattle.std.proofs.Common.{ap, ◌∙◌, arith, sym}
+use Rattle.std.proofs.Common.{ap, ◌∙◌, arith}
 use Rattle.heap_table.specs.HeapState.{HeapState}
 use Rattle.builder_core.proofs.Performed.{schema_stays}
 use Rattle.builder_core.proofs.ReadyFollow.{whole_slice, written_indexes}
