@@ -5,24 +5,10 @@ use crate::builds::ROWS;
 use crate::calls::{Call, differing};
 use keybytes::{Fault, Rid};
 
-/// A row comes, the one at 0.0 changes its key, keeps it, and goes.
-const WRITTEN: [Call; 12] = [
-    Call::Event(Ask::Begin, Ok((4, 0))),
-    Call::Event(Ask::Insert(4, 9), Ok((9, 1))),
-    Call::Follow(2),
-    Call::Event(Ask::Update(4, 8), Ok((10, 0))),
-    Call::Follow(2),
-    Call::Event(Ask::Update(4, 8), Ok((11, 0))),
-    Call::Follow(2),
-    Call::Event(Ask::Delete(4), Ok((12, 0))),
-    Call::Follow(2),
-    Call::Get(FIRST, Err(Fault::NoSuchRow)),
-    Call::Event(Ask::Commit(4), Ok((13, 0))),
-    Call::Follow(2),
-];
-
-/// An insert, an update to another key and to the same one, and a delete are undone one by one, till the transaction has ended.
-const ROLLED_BACK: [Call; 17] = [
+/// Beside two ready indexes an insert, an update to another key and to the same one, and a delete are undone one by one, till the
+/// transaction has ended.
+const ROLLED_BACK: [Call; 18] = [
+    Call::Indexes(2),
     Call::Event(Ask::Begin, Ok((4, 0))),
     Call::Event(Ask::Insert(4, 3), Ok((9, 1))),
     Call::Event(Ask::Update(4, 1), Ok((10, 0))),
@@ -43,15 +29,33 @@ const ROLLED_BACK: [Call; 17] = [
 ];
 
 /// What is refused leaves the indexes as they are, and so does the end of a transaction that wrote nothing.
-const REFUSED: [Call; 9] = [
+const REFUSED: [Call; 11] = [
     Call::Event(Ask::Insert(9, 1), Err(Fault::NoSuchTxn)),
-    Call::Event(Ask::Begin, Ok((4, 0))),
     Call::Event(Ask::Begin, Ok((5, 0))),
-    Call::Event(Ask::Update(4, 8), Ok((9, 0))),
-    Call::Event(Ask::Delete(5), Err(Fault::RowHeld(4))),
+    Call::Event(Ask::Begin, Ok((6, 0))),
+    Call::Event(Ask::Update(5, 8), Ok((17, 0))),
+    Call::Event(Ask::Delete(6), Err(Fault::RowHeld(5))),
     Call::Follow(2),
-    Call::Event(Ask::Undo(5), Ok((0, 0))),
-    Call::Event(Ask::Undo(5), Err(Fault::NoSuchTxn)),
+    Call::Event(Ask::Undo(6), Ok((0, 0))),
+    Call::Event(Ask::Undo(6), Err(Fault::NoSuchTxn)),
+    Call::Follow(2),
+    Call::Event(Ask::Undo(5), Ok((18, 0))),
+    Call::Ready(Ok(true)),
+];
+
+/// A row comes, the one at 0.0 changes its key, keeps it, and goes.
+const WRITTEN: [Call; 12] = [
+    Call::Event(Ask::Begin, Ok((7, 0))),
+    Call::Event(Ask::Insert(7, 9), Ok((19, 1))),
+    Call::Follow(2),
+    Call::Event(Ask::Update(7, 8), Ok((20, 0))),
+    Call::Follow(2),
+    Call::Event(Ask::Update(7, 8), Ok((21, 0))),
+    Call::Follow(2),
+    Call::Event(Ask::Delete(7), Ok((22, 0))),
+    Call::Follow(2),
+    Call::Get(FIRST, Err(Fault::NoSuchRow)),
+    Call::Event(Ask::Commit(7), Ok((23, 0))),
     Call::Follow(2),
 ];
 
@@ -59,37 +63,35 @@ const REFUSED: [Call; 9] = [
 const BUILT_BESIDE: [Call; 14] = [
     Call::Event(Ask::Start(&[2]), Ok((2, 0))),
     Call::Event(Ask::Scan, Ok((0, 0))),
-    Call::Event(Ask::Begin, Ok((4, 0))),
-    Call::Event(Ask::Insert(4, 9), Ok((9, 1))),
-    Call::Event(Ask::Update(4, 8), Ok((10, 0))),
+    Call::Event(Ask::Begin, Ok((8, 0))),
+    Call::Event(Ask::Insert(8, 4), Ok((24, 0))),
+    Call::Event(Ask::Update(8, 8), Ok((25, 0))),
     Call::Follow(2),
     Call::Event(Ask::Scan, Ok((1, 0))),
     Call::Event(Ask::Seal, Ok((2, 0))),
-    Call::Event(Ask::Load, Ok((4, 0))),
-    Call::Event(Ask::Undo(4), Ok((11, 1))),
-    Call::Event(Ask::Switch, Ok((12, 0))),
+    Call::Event(Ask::Load, Ok((3, 0))),
+    Call::Event(Ask::Undo(8), Ok((26, 1))),
+    Call::Event(Ask::Switch, Ok((27, 0))),
     Call::Follow(3),
-    Call::Event(Ask::Undo(4), Ok((13, 0))),
+    Call::Event(Ask::Undo(8), Ok((28, 0))),
     Call::Follow(3),
 ];
 
-const TWO_INDEXES: [Call; 1] = [Call::Indexes(2)];
-
-const CASES: [&[Call]; 4] = [&WRITTEN, &ROLLED_BACK, &REFUSED, &BUILT_BESIDE];
-
 #[test]
-fn two_ready_indexes(rt: HostRuntime) {
-    for calls in CASES {
-        let other = differing(rt.alloc(), &[&ROWS, &TWO_INDEXES, calls]);
-        assert_eq!(rt; other, Ok(None));
-    }
+fn writes_beside_ready_indexes(rt: HostRuntime) {
+    let other = differing(
+        rt.alloc(),
+        &[&ROWS, &ROLLED_BACK, &REFUSED, &WRITTEN, &BUILT_BESIDE],
+    );
+    assert_eq!(rt; other, Ok(None));
 }
 
 /// A write or an undo that was refused for want of memory is asked for once more.
 #[test]
-fn two_ready_indexes_where_memory_may_run_out(rt: HostRuntime) {
-    for calls in CASES {
-        let other = differing(rt.alloc(), &[&ROWS, &TWO_INDEXES, calls]);
-        assert!(rt; other == Ok(None) || other == Err(Fault::Memory));
-    }
+fn writes_beside_ready_indexes_where_memory_may_run_out(rt: HostRuntime) {
+    let other = differing(
+        rt.alloc(),
+        &[&ROWS, &ROLLED_BACK, &REFUSED, &WRITTEN, &BUILT_BESIDE],
+    );
+    assert!(rt; other == Ok(None) || other == Err(Fault::Memory));
 }
