@@ -5,7 +5,7 @@ use Rattle.std.specs.List.{slice_get}
 use Rattle.std.proofs.Math.Nat.{min-le_left, min-le_right, le-min}
 use Rattle.std.proofs.lemmas.Option.{same_Some}
 use Rattle.keybytes.specs.Keys.{KeySpecValue}
-use Rattle.builder_core.specs.Builds.{LiveValue, BuildingValue, WorkValue, IsRunning, work_state, core_state, index_state}
+use Rattle.builder_core.specs.Builds.{LiveValue, BuildingValue, WorkValue, IsRunning, work_state, core_state, index_state, first_spec}
 use Rattle.builder_core.specs.CoreState.{BuildState, IndexState, CoreState}
 use Rattle.builder_core.specs.SideFiles.{AreFedEntries}
 use Rattle.builder_core.specs.Steps.{OnBuild, Feeds, Applies, AppliesSome, CatchesUp, AreFurther, IsFurther, refusal, build_cause, apply_refusal}
@@ -198,14 +198,15 @@ pub no_further :
     (live : LiveValue) (building : BuildingValue) (b : BuildState) (w : WorkValue) → IsRunning live building b w → AreFedEntries live.state.heap.log b live.side
     → OneFurther (core_state live building) (core_state live building)
 no_further live building b w run fed =
+    let one = only_first live.state.heap.schema live.state.heap.log b w run.follows run.on in
     let index : (work_state building.workers building.work).indexes ≡ index_state w ∷ [] =
     ap (λ (o : Option WorkValue). (work_state building.workers o).indexes) run.work_is ∙ indexes_seen w.spoiled building.workers w in
     let s : CoreState = core_state live building in
     record {
       build = b;
       runs = run.build_is;
-      spec = w.spec;
-      one = run.on.specs;
+      spec = first_spec w;
+      one = one;
       old_fed = fed_to b 0;
       fed_is = fed.counts;
       index = index_state w;
@@ -217,7 +218,7 @@ no_further live building b w run fed =
         fed_more = omega arith;
         applied_more = omega arith;
         applied_were_fed = run.at_work.fed.counted;
-        fed_were_there = fed.there w.spec run.on.specs;
+        fed_were_there = fed.there (first_spec w) one;
       };
       new_is =
           ap (λ (o : Option BuildState). record s { live = record s.live { build = o } }) (run.build_is ∙ ap (λ (f : List ℕ). Some (record b { fed = f })) fed.counts)

@@ -11,7 +11,7 @@ use Rattle.std.proofs.Math.Nat.{suc-mul}
 use Rattle.std.proofs.Math.Seq.{drop-append_seam, take-append_seam, drop-append-add}
 use Rattle.builder_core.specs.Columns.{own_spools, with_own, every, with_every, column}
 use Rattle.builder_core.proofs.Columns.{one_more, every_at, at_changed}
-use Rattle.builder_core.proofs.Places.{all_at, all_from}
+use Rattle.builder_core.proofs.Places.{all_at, all_from, there_is}
 
 -- what is behind the first so many
 pub at_behind : {X : Type 0} (m : ℕ) (xs : List X) (i : ℕ) → slice_get (drop m xs) i ≡ slice_get xs (m + i)
@@ -119,6 +119,15 @@ map_with_own f n k own xs =
 pub with_same : {X : Type 0} (n k : ℕ) (xs : List X) → with_own n k (own_spools n k xs) xs ≡ xs
 with_same n k xs = ap (λ l. take (k * n) xs ++ l) (take-append-drop n (drop (k * n) xs)) ∙ take-append-drop (k * n) xs
 
+-- what stands in a place of them stands in a place of all
+pub own_there :
+    {X : Type 0} (n k : ℕ) (xs : List X) (j : ℕ) (x : X) → slice_get (own_spools n k xs) j ≡ Some x → (j < n) × (slice_get xs (k * n + j) ≡ Some x)
+own_there n k xs j x at =
+    let within = slice_get_within (own_spools n k xs) j x at in
+    let first = length-take n (drop (k * n) xs) in
+    let less : j < n = omega (arith, within, first) in
+    (less, sym (at_first n (drop (k * n) xs) j less ∙ at_behind (k * n) xs j) ∙ at)
+
 -- what holds of all that a worker has holds of them where some of all are changed
 pub own_changed :
     {X : Type 0} (P : X → Type 0) (f : X → X) → ((x : X) → P x → P (f x)) → (n k m i : ℕ) (xs : List X)
@@ -126,11 +135,47 @@ pub own_changed :
 own_changed P f same n k m i xs all =
     let new : List _ = with_every f m i xs in
     all_from P (own_spools n k new) (λ j y at.
-    let less : j < n = let within = slice_get_within (own_spools n k new) j y at in let first = length-take n (drop (k * n) new) in omega (arith, within, first) in
-    let there : slice_get new (k * n + j) ≡ Some y = sym (at_first n (drop (k * n) new) j less ∙ at_behind (k * n) new j) ∙ at in
-    let it = at_changed f m i xs (k * n + j) y there in
-    let old : P it.0 = all_at P (own_spools n k xs) j it.0 all (at_first n (drop (k * n) xs) j less ∙ at_behind (k * n) xs j ∙ it.1) in
+    let there = own_there n k new j y at in
+    let it = at_changed f m i xs (k * n + j) y there.1 in
+    let old : P it.0 = all_at P (own_spools n k xs) j it.0 all (at_first n (drop (k * n) xs) j there.0 ∙ at_behind (k * n) xs j ∙ it.1) in
     elim it.2 [
       | inl kept ↦ subst P (sym kept) old
       | inr changed ↦ subst P (sym changed) (same it.0 old)
     ])
+
+-- the worker of a place
+worker_below : (n k i count : ℕ) → k * n + i < count * n → k < count
+worker_below n k i count less = elim (cases_lt k count) [
+  | inl below ↦ below
+  | inr past ↦ let more = mul-le count n k n past (omega arith) in absurd (omega (arith, less, more))
+]
+
+-- the elements of an index are those of so many workers
+module _ {X : Type 0} (n count index : ℕ) (xs : List X) (less : index < n) (all : length xs ≡ count * n) where
+  pub column_there : (k : ℕ) (x : X) → slice_get (column index n xs) k ≡ Some x → (k < count) × (slice_get (own_spools n k xs) index ≡ Some x)
+  column_there k x at =
+      let own : slice_get (own_spools n k xs) index ≡ Some x = own_at n k xs index less ∙ at in
+      let within = slice_get_within xs (k * n + index) x (own_there n k xs index x own).1 in
+      (worker_below n k index count (omega (arith, within, all)), own)
+
+  column_at : (k : ℕ) → k < count → (x : X) × (slice_get (column index n xs) k ≡ Some x)
+  column_at k few =
+      let enough = enough_for n k count few in
+      let many = own_many n k xs (omega (arith, enough, all)) in
+      let it = there_is (own_spools n k xs) index (omega (arith, many, less)) in
+      (it.0, sym (own_at n k xs index less) ∙ it.1)
+
+  pub column_many : length (column index n xs) ≡ count
+  column_many = elim (cases_lt (length (column index n xs)) count) [
+    | inl few ↦
+        let it = column_at (length (column index n xs)) few in
+        let within = slice_get_within (column index n xs) (length (column index n xs)) it.0 it.1 in
+        absurd (omega (arith, within))
+    | inr enough ↦ elim (cases_lt count (length (column index n xs))) [
+      | inl more ↦
+          let it = there_is (column index n xs) count more in
+          let within = (column_there count it.0 it.1).0 in
+          absurd (omega (arith, within))
+      | inr not_more ↦ omega (arith, enough, not_more)
+    ]
+  ]
