@@ -1,11 +1,12 @@
-use Rattle.std.proofs.Common.{rules, ◌≡◌, ℕ, ◌<◌, ◌≤◌, ◌⊎◌, OnOk, [], All, length, map, false, None, Some, IfSome, IfOk, IfErr, OnErr, MatchOption, ◌+◌, ◌-◌, ◌*◌, ◌/◌, ◌%◌, Bool, true, nat_eq, nat_lt, List, ◌∷◌, ◌++◌, slice_index_or, slice_set, bit_and, bit_or, Fits, w8, w32, w64, Bor, MutBor}
-use Rattle.std.specs.List.{list_all}
-use Rattle.building.specs.Work.{after_seal}
-use Rattle.builder_core.specs.Builds.{given_up}
-use Rattle.builder_core.specs.Holding.{spool_value, spools_state, Digested, Sealed}
-use Rattle.builder_core.specs.Working.{CanTake, HasTaken, one_copy, all_copies, CanLoad, HasLoaded, CanApply, HasApplied, IsSpoiled}
+use Rattle.std.proofs.Common.{map}
+use Rattle.builder_core.specs.Holding.{spool_value}
+use Rattle.builder_core.proofs.LeftBeside.{same_seen, spoiled_after}
 use Rattle.builder_core.proofs.beside.Building.digest.Goals as goal
 
--- src/beside.rt:175:17
 pub returns-in-Err-clause-spoiled : goal.returns-in-Err-clause-spoiled
-returns-in-Err-clause-spoiled g c = ?
+returns-in-Err-clause-spoiled g c =
+    let spool = g.S.Spool in
+    let taken = c.digest_at in
+    spoiled_after c.args.self.now _ c.in-Some.work _ c.self.view_is c.in-Some.is c.work.view_is c.in-Err.fault taken.new.workers.items taken.new.makers.items
+    (map (spool_value spool.runs spool.open_run spool.stake) taken.new.spools.items)
+    (same_seen spool.runs spool.open_run spool.stake taken.new.spools.items c.self.inside.spools.items taken.ensures.stakes)
