@@ -17,7 +17,6 @@ use Rattle.builder_core.specs.declared.event.Event.TheVariants.{Apply}
 use Rattle.builder_core.proofs.Feeding.{works_side_looked, state_side_looked}
 use Rattle.builder_core.proofs.IndexApplied.{ring_is, can_apply, works_applied, state_applied}
 use Rattle.builder_core.proofs.Refusals.{running}
-use Rattle.builder_core.proofs.Works.{only_first}
 
 -- the only index of a build is there
 pub index_there : (b : BuildState) (spec : KeySpecValue) → b.specs ≡ spec ∷ [] → index_refusal b 0 ≡ None
@@ -50,7 +49,7 @@ may_apply live building most follows works free = by_build live.state.build buil
       (subst (IsWorkOf live.state.heap.schema live.state.heap.log live.state.build) held works.work))
   by_build (Some b) (Some w) is held =
       let run = running live building b w is held follows works in
-      let known = fine_by b (first_spec w) w building.workers (only_first live.state.heap.schema live.state.heap.log b w run.follows run.on) w.spoiled
+      let known = fine_by b (first_spec w) w building.workers run.on.only w.spoiled
       (ap (λ (x : Option WorkValue). apply_refusal b (work_of x) 0) (sym held) ∙ ap (λ (p : Option BuildState). build_cause p (λ a. apply_refusal a (work_of building.work) 0)) (sym is) ∙ free) in
       record { build = b; work = w; runs = run; fine = known.0; loaded = known.1 }
 

@@ -198,7 +198,6 @@ pub no_further :
     (live : LiveValue) (building : BuildingValue) (b : BuildState) (w : WorkValue) → IsRunning live building b w → AreFedEntries live.state.heap.log b live.side
     → OneFurther (core_state live building) (core_state live building)
 no_further live building b w run fed =
-    let one = only_first live.state.heap.schema live.state.heap.log b w run.follows run.on in
     let index : (work_state building.workers building.work).indexes ≡ index_state w ∷ [] =
     ap (λ (o : Option WorkValue). (work_state building.workers o).indexes) run.work_is ∙ indexes_seen w.spoiled building.workers w in
     let s : CoreState = core_state live building in
@@ -206,7 +205,7 @@ no_further live building b w run fed =
       build = b;
       runs = run.build_is;
       spec = first_spec w;
-      one = one;
+      one = run.on.only;
       old_fed = fed_to b 0;
       fed_is = fed.counts;
       index = index_state w;
@@ -218,7 +217,7 @@ no_further live building b w run fed =
         fed_more = omega arith;
         applied_more = omega arith;
         applied_were_fed = run.at_work.fed.counted;
-        fed_were_there = fed.there (first_spec w) one;
+        fed_were_there = fed.there (first_spec w) run.on.only;
       };
       new_is =
           ap (λ (o : Option BuildState). record s { live = record s.live { build = o } }) (run.build_is ∙ ap (λ (f : List ℕ). Some (record b { fed = f })) fed.counts)

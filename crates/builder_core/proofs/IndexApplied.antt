@@ -27,7 +27,6 @@ use Rattle.builder_core.specs.Working.{CanApply, HasApplied}
 use Rattle.builder_core.proofs.Feeding.{waiting_in_ring}
 use Rattle.builder_core.proofs.Refusals.{state_of, state_is, works_with}
 use Rattle.builder_core.proofs.TableBuilds.{set_of-keys}
-use Rattle.builder_core.proofs.Works.{only_first}
 
 -- a set in order is ordered
 pub set_ordered : (s : FinSet pair_cmp) (pairs : List Pair) → pairs ≡ keys s → AreOrdered pairs
@@ -48,9 +47,6 @@ last_dropped n k xs few there =
 module _
     (live : LiveValue) (building : BuildingValue) (b : BuildState) (w : WorkValue) (run : IsRunning live building b w) (fine : w.spoiled ≡ None)
     (loaded : is_some w.built ≡ true) (fed : AreFedEntries live.state.heap.log b live.side) (waiting : ℕ) (sees : SeesSide waiting live.side building.side) where
-  one : b.specs ≡ first_spec w ∷ []
-  one = only_first live.state.heap.schema live.state.heap.log b w run.follows run.on
-
   abbrev here : Scanning
   here = scanning_of b (first_spec w)
 
@@ -64,7 +60,7 @@ module _
   put = entry_of b.number
 
   fed_there : fed_to b 0 ≤ length entries
-  fed_there = fed.there (first_spec w) one
+  fed_there = fed.there (first_spec w) run.on.only
 
   seen_is : (building.side.known ≡ last_ones (fed_to b 0 - w.applied) live.side.sent) × (waiting ≡ fed_to b 0 - w.applied)
   seen_is = waiting_in_ring (fed_to b 0) w.applied waiting live.side building.side run.at_work.fed sees
@@ -99,7 +95,7 @@ module _
     taken_are =
         ap (take count) (seen_is.0
         ∙ sym (last_dropped (fed_to b 0) w.applied live.side.sent run.at_work.fed.counted run.at_work.fed.were_sent)
-        ∙ ap (drop w.applied) (fed.entries (first_spec w) one)
+        ∙ ap (drop w.applied) (fed.entries (first_spec w) run.on.only)
         ∙ drop-map put w.applied (take (fed_to b 0) entries))
         ∙ take-map put count (drop w.applied (take (fed_to b 0) entries))
 
@@ -137,6 +133,7 @@ module _
     work_on = record {
       number = run.on.number;
       specs = run.on.specs;
+      only = run.on.only;
       columns = run.on.columns;
       workers = run.on.workers;
       all = λ e. run.on.all loaded;
@@ -179,7 +176,7 @@ module _
             };
             given = run.at_work.given;
             taking = λ f. run.at_work.taking fine;
-            kits = λ f. record { equipped = kits.equipped; opened = kits.opened; holding = λ none. absurd (cc) };
+            kits = λ f. record { equipped = kits.equipped; opened = kits.opened; holding = λ index spec at none. absurd (cc) };
           };
         }))
 

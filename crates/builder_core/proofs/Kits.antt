@@ -26,9 +26,9 @@ use Rattle.builder_core.specs.Holding.{SpoolValue, Kit, IsFit, AreEquipped, Hold
 use Rattle.builder_core.specs.Holding.{ended_spool, ended_column, spool_value, spools_state, spools_in}
 use Rattle.builder_core.specs.Rings.{all_sent, begun_on, AreOfBuilds}
 use Rattle.builder_core.proofs.AtWork.{of_earlier}
-use Rattle.builder_core.proofs.Columns.{length-changed}
-use Rattle.builder_core.proofs.OwnSpools.{own_many, own_there, own_written, own_elsewhere, own_changed, length-written, enough_for}
-use Rattle.builder_core.proofs.Places.{at_set, set_there, set_elsewhere, same_at, at_map, map_at, mapped, replicate_at, all_at, all_from, no_pair, all_mapped, mapped_all, mapped_of, below}
+use Rattle.builder_core.proofs.Columns.{length-changed, every_elsewhere}
+use Rattle.builder_core.proofs.OwnSpools.{own_at, own_many, own_there, own_written, own_elsewhere, own_changed, length-written, enough_for}
+use Rattle.builder_core.proofs.Places.{at_set, set_there, set_elsewhere, same_at, at_map, map_at, mapped, replicate_at, all_at, all_from, no_pair, read_same, all_mapped, mapped_all, mapped_of, below}
 
 module _ (index : ℕ) (spec : KeySpecValue) (count : ℕ) where
   -- rings that were looked at leave what is held
@@ -221,6 +221,21 @@ own_ended :
 own_ended P f none n k m i spools all =
     mapped_all P f (own_spools n k (with_every ended_spool m i spools))
     (own_changed (λ s. P (f s)) ended_spool (λ s old. none s) n k m i spools (all_mapped P f (own_spools n k spools) all))
+
+-- and the spools of another index hold what they held
+pub holding_elsewhere :
+    (n i j : ℕ) (spec : KeySpecValue) (count : ℕ) (workers : List WorkerValue) (makers : List MakerValue) (spools : List SpoolValue) → i < n → j < n
+    → (j ≡ i → ⊥) → AreHolding j spec n count workers makers spools → AreHolding j spec n count workers makers (ended_column i n spools)
+holding_elsewhere n i j spec count workers makers spools there here other holding k worker maker less at made =
+    let runs : SpoolValue → List (List Pair) = λ s. s.runs in
+    let new : List SpoolValue = own_spools n k (ended_column i n spools) in
+    let old : List SpoolValue = own_spools n k spools in
+    let same : slice_get new j ≡ slice_get old j =
+    own_at n k (ended_column i n spools) j here
+    ∙ ap (λ (l : List SpoolValue). slice_get l k) (every_elsewhere ended_spool (n - 1) j i spools (omega (arith, here)) (omega (arith, there)) other)
+    ∙ sym (own_at n k spools j here) in
+    subst (λ (rs : List (List Pair)). HoldsPairs spec (received_images worker) rs (get_or maker.begun j [])) (sym (read_same runs new old j same))
+    (holding k worker maker less at made)
 
 -- once the pairs of an index are in order, and its spools ended, the kits are as fit
 pub kits_sorted :

@@ -41,7 +41,7 @@ use Rattle.std.specs.Ordering.{eq_by_cmp}
 use Rattle.keybytes.specs.Pairs.{pair_cmp}
 use Rattle.keybytes.proofs.PairSets.{pairs_total}
 use Rattle.builder_core.proofs.Distinct.{scanned_distinct}
-use Rattle.builder_core.proofs.Works.{only_first, sorted_work_on}
+use Rattle.builder_core.proofs.Works.{sorted_work_on}
 
 -- an index whose pairs are in order is loaded
 loaded_index : (w : WorkValue) → is_some w.built ≡ true → index_state w ≡ record (index_state w) { loaded = true }
@@ -160,8 +160,7 @@ module _
   load_answer x = if (index_at before.indexes 0).loaded then 0 else pairs_copied x live.state.heap.log (slice_get x.specs 0)
 
   first_there : slice_get w.specs 0 ≡ Some (first_spec w)
-  first_there = ap (λ (specs : List KeySpecValue). slice_get specs 0)
-      (sym run.on.specs ∙ only_first live.state.heap.schema live.state.heap.log b w run.follows run.on)
+  first_there = ap (λ (specs : List KeySpecValue). slice_get specs 0) (sym run.on.specs ∙ run.on.only)
 
   abbrev first_pairs : List Pair
   first_pairs = scanned_pairs (scanning_of b (first_spec w)) live.state.heap.log

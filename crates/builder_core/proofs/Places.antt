@@ -3,11 +3,11 @@ use Rattle.std.proofs.Common.{◌≡◌, ℕ, zero, suc, ◌<◌, ◌⊎◌, Lis
 use Rattle.std.proofs.Common.{arith}
 use Rattle.std.specs.Prelude.{replicate}
 use Rattle.std.specs.List.{All, slice_get}
-use Rattle.std.specs.Option.{option_map}
+use Rattle.std.specs.Option.{option_map, unwrap_or}
 use Rattle.std.proofs.Math.Seq.{map-set_same}
 use Rattle.std.proofs.lemmas.List.{get_or-map, get_or-set_same, get_or_default, length-map, length-set}
 use Rattle.std.proofs.lemmas.List.Elements.{All-head, All-tail, All-nil, All-cons}
-use Rattle.std.proofs.lemmas.Option.{same_Some, slice_get-map, slice_get-get_or}
+use Rattle.std.proofs.lemmas.Option.{same_Some, slice_get-map, slice_get-get_or, unwrap_or-slice_get}
 
 -- where one place was written, each has what was written, or what it had
 pub at_set :
@@ -125,3 +125,11 @@ no_pair (x ∷ xs) (suc k) all = no_pair xs k (All-tail (λ y. y ≡ []) x xs al
 -- and lists that are empty in each place
 pub no_pairs : {X : Type 0} (xs : List (List X)) → ((k : ℕ) → k < length xs → get_or xs k [] ≡ []) → All (λ x. x ≡ []) xs
 no_pairs xs each k d less = get_or_default xs k d [] less ∙ each k less
+
+-- what is read by f at a place of two lists that have the same there
+pub read_same :
+    {X Y : Type 0} (f : X → List Y) (xs ys : List X) (k : ℕ) → slice_get xs k ≡ slice_get ys k → get_or (map f xs) k [] ≡ get_or (map f ys) k []
+read_same f xs ys k same =
+    sym (unwrap_or-slice_get (map f xs) k [])
+    ∙ ap (λ (o : Option _). unwrap_or o []) (slice_get-map f xs k ∙ ap (option_map f) same ∙ sym (slice_get-map f ys k))
+    ∙ unwrap_or-slice_get (map f ys) k []

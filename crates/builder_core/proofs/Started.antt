@@ -85,7 +85,7 @@ started_works live building b w builds spec workers opened cuts build_is work_is
       build_is = build_is;
       work_is = work_is;
       follows = follows;
-      on = rw (b_is, w_is) (fresh_work_on live.state.heap.schema live.state.heap.log new live.state.heap.schema (spec ∷ []) workers refl all refl);
+      on = rw (b_is, w_is) (fresh_work_on live.state.heap.schema live.state.heap.log new live.state.heap.schema (spec ∷ []) workers refl refl all refl);
       at_work = record {
         fed = rw (b_is, w_is) (record {
           same_ring = ring;

@@ -16,17 +16,13 @@ use Rattle.builder_core.specs.Steps.{OnBuild, Switches, CatchesUp, AreFurther, r
 use Rattle.builder_core.specs.Workers.{all_unapplied}
 use Rattle.builder_core.proofs.FedBeside.{indexes_seen}
 use Rattle.builder_core.proofs.TableBuilds.{only_same, columns_for, switched_pairs}
-use Rattle.builder_core.proofs.Works.{only_first}
 
 module _
     (live : LiveValue) (building : BuildingValue) (b : BuildState) (w : WorkValue) (run : IsRunning live building b w)
     (spec : KeySpecValue) (one : b.specs ≡ spec ∷ []) (built : BuiltValue) (is : w.built ≡ Some built)
     (all : OnBuild live.state.build (λ b. all_unapplied b live.state.heap.log b.specs (work_state building.workers building.work).indexes ≡ 0)) where
-  first : b.specs ≡ first_spec w ∷ []
-  first = only_first live.state.heap.schema live.state.heap.log b w run.follows run.on
-
   spec_is : first_spec w ≡ spec
-  spec_is = only_same (first_spec w) spec (sym first ∙ one)
+  spec_is = only_same (first_spec w) spec (sym run.on.only ∙ one)
 
   -- the index is of the table's columns, and has the pairs of the rows that stand
   pub columns_are : spec.kinds ≡ live.state.heap.schema
@@ -39,7 +35,7 @@ module _
       let sum : all_unapplied b live.state.heap.log (first_spec w ∷ []) (index_state w ∷ []) ≡ 0 =
       ap (all_unapplied b live.state.heap.log (first_spec w ∷ []))
       (sym (ap (λ (o : Option WorkValue). (work_state building.workers o).indexes) run.work_is ∙ indexes_seen w.spoiled building.workers w))
-      ∙ ap (λ (specs : List KeySpecValue). all_unapplied b live.state.heap.log specs (work_state building.workers building.work).indexes) (sym first)
+      ∙ ap (λ (specs : List KeySpecValue). all_unapplied b live.state.heap.log specs (work_state building.workers building.work).indexes) (sym run.on.only)
       ∙ none in
       omega (arith, sum)
 

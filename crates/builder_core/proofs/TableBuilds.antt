@@ -27,7 +27,7 @@ use Rattle.builder_core.proofs.NextPages.{some_of, next_below, next_unscanned, n
 use Rattle.builder_core.proofs.RangeScans.{few_scans}
 use Rattle.builder_core.proofs.Seen.{scan_at}
 use Rattle.builder_core.proofs.SideFollows.{leaves_index}
-use Rattle.builder_core.proofs.Works.{only_first, scanned_work_on}
+use Rattle.builder_core.proofs.Works.{scanned_work_on}
 
 -- a build of that index starts over those ranges
 pub started_build :
@@ -89,6 +89,7 @@ work_grown :
 work_grown kinds log rec b work build is = record {
   number = is.number;
   specs = is.specs;
+  only = is.only;
   columns = is.columns;
   workers = is.workers;
   all = is.all;
@@ -145,7 +146,7 @@ switched_pairs kinds log b work built build is loaded all =
     let whole : AllScanned here = all_copied b (is.all (ap is_some loaded)) build.cuts in
     is.loaded built loaded
     ∙ ap (λ es. keys (apply_entries es (set_of (scanned_pairs here log)))) (take_all work.applied (side_entries here log) all)
-    ∙ ap keys (leaves_index here log (scanned_for kinds log b build (first_spec work) (only_first kinds log b work build is)) whole)
+    ∙ ap keys (leaves_index here log (scanned_for kinds log b build (first_spec work) is.only) whole)
 
 -- the page that comes next is one of the table's
 pub next_written : (kinds : List Kind) (log : List LogRec) (b : BuildState) (range page : ℕ) → IsBuildOf kinds log b → next_page b range ≡ Some page → page < pages_written log

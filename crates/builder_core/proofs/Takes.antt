@@ -105,7 +105,7 @@ module _
   -- it can read the rows of the copies that it sees
   pub can_read : (n : ℕ) → HaveRows its_kit.0.schema (next_images n it)
   can_read n =
-      let some : 0 < length w.specs = let one = ap length (sym run.on.specs ∙ run.follows.one_index) in omega (arith, one) in
+      let some : 0 < length w.specs = let one = ap length (sym run.on.specs ∙ run.on.only) in omega (arith, one) in
       let first = there_is w.specs 0 some in
       let next = have_next n 0 first.0 first.1 in
       subst (λ (kinds : List Kind). HaveRows kinds (next_images n it))

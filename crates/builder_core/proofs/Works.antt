@@ -13,7 +13,7 @@ use Rattle.std.proofs.lemmas.List.Sorted.{list_any-IsPermutation}
 use Rattle.keybytes.specs.Pairs.{AreOrdered, pair_cmp, set_of}
 use Rattle.keybytes.proofs.PairSets.{contains-set_of, same_members}
 use Rattle.run_maker.specs.Making.{MakerValue, spec_at}
-use Rattle.builder_core.specs.Builds.{WorkValue, IsBuildOf, IsWorkOn, IsCaughtUpTo, after_sort, first_spec, fresh}
+use Rattle.builder_core.specs.Builds.{WorkValue, IsWorkOn, IsCaughtUpTo, after_sort, first_spec, fresh}
 use Rattle.builder_core.specs.CoreState.{BuildState, scanning_of}
 use Rattle.builder_core.specs.Ranges.{open_range}
 use Rattle.builder_core.specs.Scanning.{Scanning, scanned_pairs}
@@ -21,10 +21,11 @@ use Rattle.builder_core.proofs.ScanSteps.{scan_now}
 
 pub fresh_work_on :
     (kinds : List Kind) (log : List LogRec) (b : BuildState) (columns : List Kind) (specs : List KeySpecValue) (workers : ℕ) → b.specs ≡ specs
-    → All (λ spec. spec.kinds ≡ kinds) specs → workers ≡ b.workers → IsWorkOn kinds log b (fresh b.number columns specs workers)
-fresh_work_on kinds log b columns specs workers are same count = record {
+    → b.specs ≡ spec_at specs 0 ∷ [] → All (λ spec. spec.kinds ≡ kinds) specs → workers ≡ b.workers → IsWorkOn kinds log b (fresh b.number columns specs workers)
+fresh_work_on kinds log b columns specs workers are one same count = record {
   number = refl;
   specs = are;
+  only = one;
   columns = same;
   workers = count;
   all = λ e. absurd (false≢true e);
@@ -34,13 +35,6 @@ fresh_work_on kinds log b columns specs workers are same count = record {
   of_build = λ built e. absurd (cc);
 }
 
--- the only index of a build is its first
-pub only_first :
-    (kinds : List Kind) (log : List LogRec) (b : BuildState) (w : WorkValue) → IsBuildOf kinds log b → IsWorkOn kinds log b w → b.specs ≡ first_spec w ∷ []
-only_first kinds log b w follows on =
-    let one : w.specs ≡ follows.spec ∷ [] = sym on.specs ∙ follows.one_index in
-    follows.one_index ∙ ap (λ (spec : KeySpecValue). spec ∷ []) (sym (ap (λ (specs : List KeySpecValue). spec_at specs 0) one))
-
 -- its makers went on
 pub makers_work_on :
     (kinds : List Kind) (log : List LogRec) (b : BuildState) (work : WorkValue) (makers : List MakerValue) → IsWorkOn kinds log b work
@@ -48,6 +42,7 @@ pub makers_work_on :
 makers_work_on kinds log b work makers is = record {
   number = is.number;
   specs = is.specs;
+  only = is.only;
   columns = is.columns;
   workers = is.workers;
   all = is.all;
@@ -69,6 +64,7 @@ pub scanned_work_on :
 scanned_work_on kinds log b work worker page is more = record {
   number = is.number;
   specs = is.specs;
+  only = is.only;
   columns = is.columns;
   workers = is.workers;
   all = λ e. absurd (more (is.all e));
@@ -87,6 +83,7 @@ pub spoiled_work_on :
 spoiled_work_on kinds log b work fault is = record {
   number = is.number;
   specs = is.specs;
+  only = is.only;
   columns = is.columns;
   workers = is.workers;
   all = is.all;
@@ -110,6 +107,7 @@ pub sorted_work_on :
 sorted_work_on kinds log b work made pairs is all none whole moved ordered = record {
   number = is.number;
   specs = is.specs;
+  only = is.only;
   columns = is.columns;
   workers = is.workers;
   all = λ e. all;

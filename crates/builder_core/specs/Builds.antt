@@ -184,6 +184,8 @@ first_spec work = spec_at work.specs 0
 pub record IsWorkOn (kinds : List Kind) (log : List LogRec) (b : BuildState) (work : WorkValue) : Type 0 where
   pub number : work.build ≡ b.number
   pub specs : b.specs ≡ work.specs
+  -- there is one, as yet
+  pub only : b.specs ≡ first_spec work ∷ []
   pub columns : All (λ spec. spec.kinds ≡ kinds) work.specs
   pub workers : work.workers ≡ b.workers
   -- its pairs are in order only once no page is left to copy
