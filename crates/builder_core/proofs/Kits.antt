@@ -22,13 +22,13 @@ use Rattle.building.specs.declared.copied.Copied.{Copied}
 use Rattle.building.proofs.Taking.{start_holds, start_open}
 use Rattle.builder_core.specs.Builds.{WorkValue, HaveKits, fresh}
 use Rattle.builder_core.specs.Columns.{own_spools, with_own, with_every}
-use Rattle.builder_core.specs.Holding.{SpoolValue, Kit, IsFit, AreEquipped, HoldsAt, AreHolding, AreOpen, holdings, kit_of, runs_of, open_runs_of, fresh_maker}
+use Rattle.builder_core.specs.Holding.{SpoolValue, Kit, IsFit, AreEquipped, HoldsAt, AreHolding, AreOpen, holdings, kit_of, runs_of, fresh_maker}
 use Rattle.builder_core.specs.Holding.{ended_spool, ended_column, spool_value, spools_state, spools_in}
 use Rattle.builder_core.specs.Rings.{all_sent, begun_on, AreOfBuilds}
 use Rattle.builder_core.proofs.AtWork.{of_earlier}
 use Rattle.builder_core.proofs.Columns.{length-changed, every_elsewhere}
 use Rattle.builder_core.proofs.OwnSpools.{own_at, own_many, own_there, own_written, own_elsewhere, own_changed, length-written, enough_for}
-use Rattle.builder_core.proofs.Places.{at_set, set_there, set_elsewhere, same_at, at_map, map_at, mapped, replicate_at, all_at, all_from, no_pair, read_same, all_mapped, mapped_all, mapped_of, below}
+use Rattle.builder_core.proofs.Places.{at_set, set_there, set_elsewhere, same_at, at_map, mapped, replicate_at, no_pair, read_same, all_mapped, mapped_all, mapped_of, below}
 
 module _ (index : ℕ) (spec : KeySpecValue) (count : ℕ) where
   -- rings that were looked at leave what is held

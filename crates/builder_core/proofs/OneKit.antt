@@ -1,5 +1,5 @@
 -- One worker with its kit, among all workers, makers and spools.
-use Rattle.std.proofs.Common.{◌≡◌, ℕ, ◌+◌, ◌*◌, ◌<◌, ◌≤◌, List, [], ◌++◌, All, map, set, get_or, length, take, drop, Option, Result, Ok, Some}
+use Rattle.std.proofs.Common.{◌≡◌, ℕ, ◌+◌, ◌*◌, ◌<◌, ◌≤◌, List, ◌++◌, All, map, set, get_or, length, take, drop, Option, Result, Ok, Some}
 use Rattle.std.proofs.Common.{Err, IfOk, refl, sym, ap, ap₂, ◌∙◌, subst, arith}
 use Rattle.std.specs.List.{slice_get}
 use Rattle.std.proofs.lemmas.List.{take_at, length-map}
@@ -13,7 +13,7 @@ use Rattle.run_maker.specs.Making.{MakerValue, AreReady, Holdings}
 use Rattle.building.specs.ImagePairs.{HaveRows}
 use Rattle.building.specs.Work.{next_images, after_digest}
 use Rattle.building.specs.WorkerValue.{WorkerValue}
-use Rattle.builder_core.specs.Columns.{own_spools, with_own}
+use Rattle.builder_core.specs.Columns.{with_own}
 use Rattle.builder_core.specs.Holding.{SpoolValue, Kit, IsFit, holdings, kit_of, runs_of, open_runs_of, stakes_of, spool_value}
 use Rattle.builder_core.specs.Working.{CanTakeAt, HasTakenAt}
 use Rattle.builder_core.proofs.OwnSpools.{map_own, map_with_own, with_same, length-written}

@@ -1,9 +1,9 @@
 -- The elements for one index, as they are taken out one after another, and put back.
-use Rattle.std.proofs.Common.{◌≡◌, ℕ, suc, ◌+◌, ◌-◌, ◌*◌, ◌<◌, ◌≤◌, List, [], ◌∷◌, ◌++◌, length, get_or, Some, refl, sym, ap, ◌∙◌, arith, append-nil, append_assoc, length-append}
+use Rattle.std.proofs.Common.{◌≡◌, ℕ, suc, ◌+◌, ◌-◌, ◌*◌, ◌<◌, ◌≤◌, List, [], ◌∷◌, ◌++◌, length, get_or, Some, sym, ap, ◌∙◌, arith, append_assoc}
 use Rattle.std.specs.List.{slice_get, remove, insert}
 use Rattle.std.proofs.lemmas.Option.{slice_get-get_or}
 use Rattle.std.proofs.Math.Nat.{mul-suc, suc-mul}
-use Rattle.builder_core.specs.Columns.{every, all_but, column, other_columns}
+use Rattle.builder_core.specs.Columns.{every, all_but}
 use Rattle.builder_core.proofs.Columns.{every_removed, all_but_removed, every_behind, all_but_behind, every_put, all_but_put}
 use Rattle.builder_core.proofs.OwnSpools.{enough_for}
 

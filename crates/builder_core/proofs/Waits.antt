@@ -1,7 +1,7 @@
 -- What waits for a worker, and what it has not sealed, by what its ring was sent.
-use Rattle.std.proofs.Common.{◌≡◌, ℕ, zero, suc, ◌+◌, ◌-◌, ◌%◌, ◌<◌, ◌==◌, Bool, true, false, List, [], ◌∷◌, ◌++◌, length, map, take, take_all, drop}
+use Rattle.std.proofs.Common.{◌≡◌, ℕ, zero, suc, ◌+◌, ◌-◌, ◌%◌, ◌<◌, ◌==◌, Bool, true, List, [], ◌∷◌, ◌++◌, length, map, take, take_all, drop}
 use Rattle.std.proofs.Common.{get_or, Some, refl, sym, ap, ◌∙◌, subst, arith, length-append}
-use Rattle.std.specs.Prelude.{◌&&◌, flat_map, IsPermutation}
+use Rattle.std.specs.Prelude.{flat_map, IsPermutation}
 use Rattle.std.proofs.lemmas.List.Sorted.{IsPermutation-sym}
 use Rattle.run_spool.specs.Spools.{all_pairs}
 use Rattle.run_maker.specs.Making.{MakerValue}

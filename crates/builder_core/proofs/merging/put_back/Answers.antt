@@ -1,4 +1,4 @@
-use Rattle.std.proofs.Common.{◌≡◌, ◌<◌, ◌∙◌, ◌+◌, ◌*◌, ◌-◌, ◌++◌, ◌∷◌, [], length, List, ℕ, ap, sym, subst, arith, append-nil, length-append}
+use Rattle.std.proofs.Common.{◌≡◌, ◌<◌, ◌∙◌, ◌+◌, ◌*◌, ◌-◌, ◌++◌, ◌∷◌, [], length, List, ℕ, ap, subst, arith, append-nil, length-append}
 use Rattle.std.specs.List.{insert}
 use Rattle.builder_core.specs.Columns.{every, all_but}
 use Rattle.builder_core.proofs.TakenOut.{own_back, others_back, none_left, all_left}

@@ -1,4 +1,4 @@
-use Rattle.std.proofs.Common.{◌≡◌, ◌∙◌, ◌+◌, ◌*◌, ◌-◌, ◌++◌, ◌∷◌, [], length, List, ap, sym, arith, append-nil}
+use Rattle.std.proofs.Common.{◌≡◌, ◌∙◌, ◌+◌, ◌*◌, ◌-◌, ◌++◌, [], ap, sym, arith, append-nil}
 use Rattle.builder_core.specs.Columns.{every, all_but}
 use Rattle.builder_core.proofs.TakenOut.{own_taken, others_taken, none_left, all_left}
 use Rattle.builder_core.proofs.merging.take_out.Goals as goal

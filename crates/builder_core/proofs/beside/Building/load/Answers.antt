@@ -1,4 +1,4 @@
-use Rattle.std.proofs.Common.{◌≡◌, ◌∙◌, ◌*◌, ℕ, List, length, All, map, sym, ap, subst, arith}
+use Rattle.std.proofs.Common.{◌≡◌, ◌∙◌, ℕ, List, length, All, map, sym, ap, subst, arith}
 use Rattle.std.specs.Prelude.{IsPermutation}
 use Rattle.std.proofs.lemmas.Bool.{false≢true}
 use Rattle.keybytes.specs.Pairs.{AreOrdered}
@@ -7,7 +7,7 @@ use Rattle.run_spool.specs.Spools.{AreSorted, all_pairs}
 use Rattle.run_merge.specs.Merging.{all_runs}
 use Rattle.builder_core.specs.Builds.{BuildingValue, WorkValue}
 use Rattle.builder_core.specs.Columns.{column}
-use Rattle.builder_core.specs.Holding.{SpoolValue, pairs_in, spool_value, ended_column}
+use Rattle.builder_core.specs.Holding.{SpoolValue, spool_value, ended_column}
 use Rattle.builder_core.specs.Working.{AreEachOnce}
 use Rattle.builder_core.proofs.LeftBeside.{column_seen, same_seen, spoiled_after, left_sorted, can_load, no_tree}
 use Rattle.builder_core.proofs.beside.Building.load.Goals as goal
