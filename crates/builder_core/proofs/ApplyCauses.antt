@@ -7,7 +7,7 @@ use Rattle.keybytes.specs.Keys.{KeySpecValue}
 use Rattle.keybytes.specs.declared.fault.Fault.{Fault}
 use Rattle.keybytes.specs.declared.fault.Fault.TheVariants.{NoBuild, NotLoaded}
 use Rattle.building.specs.WorkerValue.{WorkerValue}
-use Rattle.builder_core.specs.Builds.{LiveValue, BuildingValue, WorkValue, WorksOn, MayApply, SideIsLooked, BuildFollows, IsWorkOf, state_unless}
+use Rattle.builder_core.specs.Builds.{LiveValue, BuildingValue, WorkValue, WorksOn, MayApply, SideIsLooked, BuildFollows, IsWorkOf, first_spec, state_unless}
 use Rattle.builder_core.specs.Builds.{work_state, core_state, cause_of}
 use Rattle.builder_core.specs.CoreState.{BuildState, WorkState, CoreState}
 use Rattle.builder_core.specs.SideFiles.{AreFedEntries, SeesSide}
@@ -49,7 +49,7 @@ may_apply live building most follows works free = by_build live.state.build buil
       (subst (IsWorkOf live.state.heap.schema live.state.heap.log live.state.build) held works.work))
   by_build (Some b) (Some w) is held =
       let run = running live building b w is held follows works in
-      let known = fine_by b w.spec w building.workers run.on.specs w.spoiled
+      let known = fine_by b (first_spec w) w building.workers run.on.only w.spoiled
       (ap (λ (x : Option WorkValue). apply_refusal b (work_of x) 0) (sym held) ∙ ap (λ (p : Option BuildState). build_cause p (λ a. apply_refusal a (work_of building.work) 0)) (sym is) ∙ free) in
       record { build = b; work = w; runs = run; fine = known.0; loaded = known.1 }
 

@@ -5,7 +5,7 @@ use Rattle.std.specs.List.{slice_get}
 use Rattle.std.proofs.Math.Nat.{min-le_left, min-le_right, le-min}
 use Rattle.std.proofs.lemmas.Option.{same_Some}
 use Rattle.keybytes.specs.Keys.{KeySpecValue}
-use Rattle.builder_core.specs.Builds.{LiveValue, BuildingValue, WorkValue, IsRunning, work_state, core_state, index_state}
+use Rattle.builder_core.specs.Builds.{LiveValue, BuildingValue, WorkValue, IsRunning, work_state, core_state, index_state, first_spec}
 use Rattle.builder_core.specs.CoreState.{BuildState, IndexState, CoreState}
 use Rattle.builder_core.specs.SideFiles.{AreFedEntries}
 use Rattle.builder_core.specs.Steps.{OnBuild, Feeds, Applies, AppliesSome, CatchesUp, AreFurther, IsFurther, refusal, build_cause, apply_refusal}
@@ -204,8 +204,8 @@ no_further live building b w run fed =
     record {
       build = b;
       runs = run.build_is;
-      spec = w.spec;
-      one = run.on.specs;
+      spec = first_spec w;
+      one = run.on.only;
       old_fed = fed_to b 0;
       fed_is = fed.counts;
       index = index_state w;
@@ -217,7 +217,7 @@ no_further live building b w run fed =
         fed_more = omega arith;
         applied_more = omega arith;
         applied_were_fed = run.at_work.fed.counted;
-        fed_were_there = fed.there w.spec run.on.specs;
+        fed_were_there = fed.there (first_spec w) run.on.only;
       };
       new_is =
           ap (λ (o : Option BuildState). record s { live = record s.live { build = o } }) (run.build_is ∙ ap (λ (f : List ℕ). Some (record b { fed = f })) fed.counts)

@@ -172,6 +172,7 @@ work_fed kinds log b count None is = is
 work_fed kinds log b count (Some w) is = record {
   number = is.number;
   specs = is.specs;
+  only = is.only;
   columns = is.columns;
   workers = is.workers;
   all = is.all;

@@ -16,7 +16,7 @@ use Rattle.visibility.specs.SideEntries.{SideEntry}
 use Rattle.visibility.proofs.Changes.{apply-append}
 use Rattle.catch_up.specs.Built.{told_to}
 use Rattle.catch_up.proofs.Telling.{told_entries}
-use Rattle.builder_core.specs.Builds.{LiveValue, BuildingValue, WorkValue, IsRunning, IsCaughtUpTo, IsWorkOn, WorksOn, work_state, core_state, index_state}
+use Rattle.builder_core.specs.Builds.{LiveValue, BuildingValue, WorkValue, IsRunning, IsCaughtUpTo, IsWorkOn, WorksOn, work_state, core_state, index_state, first_spec}
 use Rattle.builder_core.specs.CoreState.{BuildState, IndexState, WorkState, scanning_of}
 use Rattle.builder_core.specs.Scanning.{Scanning, scanned_pairs}
 use Rattle.builder_core.specs.SideEntries.{side_entries}
@@ -48,7 +48,7 @@ module _
     (live : LiveValue) (building : BuildingValue) (b : BuildState) (w : WorkValue) (run : IsRunning live building b w) (fine : w.spoiled ≡ None)
     (loaded : is_some w.built ≡ true) (fed : AreFedEntries live.state.heap.log b live.side) (waiting : ℕ) (sees : SeesSide waiting live.side building.side) where
   abbrev here : Scanning
-  here = scanning_of b w.spec
+  here = scanning_of b (first_spec w)
 
   abbrev entries : List SideEntry
   entries = side_entries here live.state.heap.log
@@ -60,7 +60,7 @@ module _
   put = entry_of b.number
 
   fed_there : fed_to b 0 ≤ length entries
-  fed_there = fed.there w.spec run.on.specs
+  fed_there = fed.there (first_spec w) run.on.only
 
   seen_is : (building.side.known ≡ last_ones (fed_to b 0 - w.applied) live.side.sent) × (waiting ≡ fed_to b 0 - w.applied)
   seen_is = waiting_in_ring (fed_to b 0) w.applied waiting live.side building.side run.at_work.fed sees
@@ -95,7 +95,7 @@ module _
     taken_are =
         ap (take count) (seen_is.0
         ∙ sym (last_dropped (fed_to b 0) w.applied live.side.sent run.at_work.fed.counted run.at_work.fed.were_sent)
-        ∙ ap (drop w.applied) (fed.entries w.spec run.on.specs)
+        ∙ ap (drop w.applied) (fed.entries (first_spec w) run.on.only)
         ∙ drop-map put w.applied (take (fed_to b 0) entries))
         ∙ take-map put count (drop w.applied (take (fed_to b 0) entries))
 
@@ -133,6 +133,7 @@ module _
     work_on = record {
       number = run.on.number;
       specs = run.on.specs;
+      only = run.on.only;
       columns = run.on.columns;
       workers = run.on.workers;
       all = λ e. run.on.all loaded;
@@ -175,7 +176,7 @@ module _
             };
             given = run.at_work.given;
             taking = λ f. run.at_work.taking fine;
-            kits = λ f. record { equipped = kits.equipped; opened = kits.opened; holding = λ none. absurd (cc) };
+            kits = λ f. record { equipped = kits.equipped; opened = kits.opened; holding = λ index spec at none. absurd (cc) };
           };
         }))
 

@@ -1,16 +1,17 @@
 -- The makers and spools of a build's workers, as their rings are looked at and as they take what was put.
-use Rattle.std.proofs.Common.{◌≡◌, ℕ, zero, suc, ◌+◌, ◌<◌, Bool, true, false, List, [], ◌∷◌, All, map, set, length, get_or, Some, refl, sym}
+use Rattle.std.proofs.Common.{◌≡◌, ℕ, zero, suc, ◌+◌, ◌*◌, ◌<◌, ◌≤◌, Bool, true, false, List, [], ◌∷◌, All, map, set, length, get_or, Some, refl, sym}
 use Rattle.std.proofs.Common.{ap, ap₂, ◌∙◌, subst, inl, inr, arith}
-use Rattle.std.specs.Prelude.{◌==◌, None}
+use Rattle.std.specs.Prelude.{◌==◌, ◌-◌, None, Option, replicate}
 use Rattle.std.specs.List.{slice_get, list_all}
 use Rattle.std.proofs.lemmas.Bool.{and_parts, eqb-true}
-use Rattle.std.proofs.lemmas.List.{length-map, length-set, length-replicate, get_or_default, nil_from_length}
+use Rattle.std.proofs.lemmas.List.{length-map, length-set, length-replicate, nil_from_length}
 use Rattle.std.proofs.lemmas.Option.{same_Some}
-use Rattle.std.proofs.lemmas.List.Elements.{All-nil, All-cons, All-head, All-tail}
+use Rattle.std.proofs.lemmas.List.Elements.{All-nil, All-head, All-tail}
+use Rattle.spool_ledger.specs.Accounts.{Stake}
 use Rattle.keybytes.specs.Keys.{KeySpecValue}
 use Rattle.keybytes.specs.declared.kind.Kind.{Kind}
 use Rattle.keybytes.specs.declared.pair.Pair.{Pair}
-use Rattle.run_spool.specs.Spools.{NoneEmpty, holds_nothing}
+use Rattle.run_spool.specs.Spools.{AreSorted, NoneEmpty, holds_nothing}
 use Rattle.run_maker.specs.Making.{MakerValue}
 use Rattle.side_file.specs.Ends.{PutEnd}
 use Rattle.building.specs.Holding.{HoldsPairs, HoldsOpen}
@@ -20,78 +21,30 @@ use Rattle.building.specs.WorkerValue.{WorkerValue}
 use Rattle.building.specs.declared.copied.Copied.{Copied}
 use Rattle.building.proofs.Taking.{start_holds, start_open}
 use Rattle.builder_core.specs.Builds.{WorkValue, HaveKits, fresh}
-use Rattle.builder_core.specs.Holding.{SpoolValue, Kit, IsFit, AreEquipped, AreHolding, AreOpen, begun_of, fresh_maker, ended_spool, spool_value, spools_state, spools_in}
-use Rattle.spool_ledger.specs.Accounts.{Stake}
-use Rattle.std.specs.Prelude.{Option}
+use Rattle.builder_core.specs.Columns.{own_spools, with_own, with_every}
+use Rattle.builder_core.specs.Holding.{SpoolValue, Kit, IsFit, AreEquipped, HoldsAt, AreHolding, AreOpen, holdings, kit_of, runs_of, fresh_maker}
+use Rattle.builder_core.specs.Holding.{ended_spool, ended_column, spool_value, spools_state, spools_in}
 use Rattle.builder_core.specs.Rings.{all_sent, begun_on, AreOfBuilds}
 use Rattle.builder_core.proofs.AtWork.{of_earlier}
-use Rattle.builder_core.proofs.Places.{at_set, set_there, set_elsewhere, same_at, at_map, mapped, replicate_at}
+use Rattle.builder_core.proofs.Columns.{length-changed, every_elsewhere}
+use Rattle.builder_core.proofs.OwnSpools.{own_at, own_many, own_there, own_written, own_elsewhere, own_changed, length-written, enough_for}
+use Rattle.builder_core.proofs.Places.{at_set, set_there, set_elsewhere, same_at, at_map, mapped, replicate_at, no_pair, read_same, all_mapped, mapped_all, mapped_of, below}
 
-abbrev IsBegun : List Pair → Type 0
-IsBegun begun = begun ≡ []
-
--- a maker of one index that has no pair begun has no run open
-pub none_begun : (maker : MakerValue) → length maker.begun ≡ 1 → begun_of maker ≡ [] → All (λ begun. begun ≡ []) maker.begun
-none_begun maker one none k d less =
-    let first : k ≡ 0 = omega (arith, one, less) in
-    ap (λ (n : ℕ). get_or maker.begun n d) first ∙ get_or_default maker.begun 0 d [] (omega (arith, one)) ∙ none
-
--- and where it has none open it has none begun
-pub begun_none : (maker : MakerValue) → length maker.begun ≡ 1 → All (λ begun. begun ≡ []) maker.begun → begun_of maker ≡ []
-begun_none maker one all = all 0 [] (omega (arith, one))
-
-module _ (spec : KeySpecValue) (count : ℕ) where
+module _ (index : ℕ) (spec : KeySpecValue) (count : ℕ) where
   -- rings that were looked at leave what is held
   holding_looked :
-      (old new : List WorkerValue) (makers : List MakerValue) (spools : List SpoolValue) → map (knowing []) new ≡ map (knowing []) old
-      → AreHolding spec count old makers spools → AreHolding spec count new makers spools
-  holding_looked old new makers spools same holding k worker maker spool less at made lent =
+      (indexes : ℕ) (old new : List WorkerValue) (makers : List MakerValue) (spools : List SpoolValue) → map (knowing []) new ≡ map (knowing []) old
+      → AreHolding index spec indexes count old makers spools → AreHolding index spec indexes count new makers spools
+  holding_looked indexes old new makers spools same holding k worker maker less at made =
       let it = same_at (knowing []) old new k worker (sym same) at in
-      subst (λ (v : WorkerValue). HoldsPairs spec (received_images v) spool.runs (begun_of maker)) it.2 (holding k it.0 maker spool less it.1 made lent)
+      subst (λ (v : WorkerValue). HoldsAt index spec (received_images v) (holdings (kit_of indexes k maker spools))) it.2 (holding k it.0 maker less it.1 made)
 
   open_looked :
-      (old new : List WorkerValue) (makers : List MakerValue) → map (knowing []) new ≡ map (knowing []) old → AreOpen spec count old makers
-      → AreOpen spec count new makers
+      (old new : List WorkerValue) (makers : List MakerValue) → map (knowing []) new ≡ map (knowing []) old → AreOpen index spec count old makers
+      → AreOpen index spec count new makers
   open_looked old new makers same opened k worker maker less at made =
       let it = same_at (knowing []) old new k worker (sym same) at in
-      subst (λ (v : WorkerValue). HoldsOpen spec (unsealed_images v) (begun_of maker)) it.2 (opened k it.0 maker less it.1 made)
-
-  -- one worker changed, and its kit with it
-  module _ (workers : List WorkerValue) (makers : List MakerValue) (spools : List SpoolValue) (i : ℕ) (new : WorkerValue) (after : Kit) where
-    holding_set :
-        AreHolding spec count workers makers spools → HoldsPairs spec (received_images new) after.spool.runs (begun_of after.maker)
-        → AreHolding spec count (set workers i new) (set makers i after.maker) (set spools i after.spool)
-    holding_set holding own k worker maker spool less at made lent = elim (at_set workers i new k worker at) [
-      | inl it ↦
-          let its_maker : maker ≡ after.maker = set_there makers i after.maker k maker made it.0 in
-          let its_spool : spool ≡ after.spool = set_there spools i after.spool k spool lent it.0 in
-          rw (it.1, its_maker, its_spool) own
-      | inr it ↦ holding k worker maker spool less it.1 (set_elsewhere makers i after.maker k maker made it.0) (set_elsewhere spools i after.spool k spool lent it.0)
-    ]
-
-    open_set :
-        AreOpen spec count workers makers → HoldsOpen spec (unsealed_images new) (begun_of after.maker)
-        → AreOpen spec count (set workers i new) (set makers i after.maker)
-    open_set opened own k worker maker less at made = elim (at_set workers i new k worker at) [
-      | inl it ↦
-          let its_maker : maker ≡ after.maker = set_there makers i after.maker k maker made it.0 in
-          rw (it.1, its_maker) own
-      | inr it ↦ opened k worker maker less it.1 (set_elsewhere makers i after.maker k maker made it.0)
-    ]
-
-    equipped_set :
-        AreEquipped spec.kinds spec count makers spools → IsFit spec.kinds spec after
-        → AreEquipped spec.kinds spec count (set makers i after.maker) (set spools i after.spool)
-    equipped_set equipped fit = record {
-      makers_many = length-set makers i after.maker ∙ equipped.makers_many;
-      spools_many = length-set spools i after.spool ∙ equipped.spools_many;
-      fit = λ k maker spool made lent. elim (at_set makers i after.maker k maker made) [
-        | inl it ↦
-            let its_spool : spool ≡ after.spool = set_there spools i after.spool k spool lent it.0 in
-            rw (it.1, its_spool) fit
-        | inr it ↦ equipped.fit k maker spool it.1 (set_elsewhere spools i after.spool k spool lent it.0)
-      ];
-    }
+      subst (λ (v : WorkerValue). HoldsOpen spec (unsealed_images v) (get_or maker.begun index [])) it.2 (opened k it.0 maker less it.1 made)
 
 -- rings that were looked at leave the kits
 pub kits_looked :
@@ -99,21 +52,81 @@ pub kits_looked :
     → HaveKits count old spools w → HaveKits count new spools w
 kits_looked count old new spools w same kits = record {
   equipped = kits.equipped;
-  opened = open_looked w.spec count old new w.makers same kits.opened;
-  holding = λ none. holding_looked w.spec count old new w.makers spools same (kits.holding none);
+  opened = λ index spec at. open_looked index spec count old new w.makers same (kits.opened index spec at);
+  holding = λ index spec at none. holding_looked index spec count (length w.specs) old new w.makers spools same (kits.holding index spec at none);
 }
+
+-- one worker changed, and its kit with it
+module _
+    (specs : List KeySpecValue) (count : ℕ) (workers : List WorkerValue) (makers : List MakerValue) (spools : List SpoolValue) (i : ℕ) (new : WorkerValue)
+    (after : Kit) (fit : IsFit specs after) (enough : i * length specs + length specs ≤ length spools) where
+  abbrev given_back : List SpoolValue
+  given_back = with_own (length specs) i after.spools spools
+
+  kit_there : (k : ℕ) (maker : MakerValue) → slice_get (set makers i after.maker) k ≡ Some maker → k ≡ i → kit_of (length specs) k maker given_back ≡ after
+  kit_there k maker made same =
+      ap₂ (λ (m : MakerValue) (own : List SpoolValue). record { maker = m; spools = own }) (set_there makers i after.maker k maker made same)
+      (ap (λ (j : ℕ). own_spools (length specs) j given_back) same ∙ own_written (length specs) i after.spools spools fit.spools_many enough)
+
+  kit_elsewhere : (k : ℕ) (maker : MakerValue) → (k ≡ i → ⊥) → kit_of (length specs) k maker given_back ≡ kit_of (length specs) k maker spools
+  kit_elsewhere k maker other =
+      ap (λ (own : List SpoolValue). record { maker = maker; spools = own })
+      (own_elsewhere (length specs) i k after.spools spools fit.spools_many enough other)
+
+  holding_set :
+      (index : ℕ) (spec : KeySpecValue) → AreHolding index spec (length specs) count workers makers spools
+      → HoldsAt index spec (received_images new) (holdings after)
+      → AreHolding index spec (length specs) count (set workers i new) (set makers i after.maker) given_back
+  holding_set index spec holding own k worker maker less at made = elim (at_set workers i new k worker at) [
+    | inl it ↦
+        subst (λ (kit : Kit). HoldsAt index spec (received_images worker) (holdings kit)) (sym (kit_there k maker made it.0))
+        (subst (λ (v : WorkerValue). HoldsAt index spec (received_images v) (holdings after)) (sym it.1) own)
+    | inr it ↦
+        subst (λ (kit : Kit). HoldsAt index spec (received_images worker) (holdings kit)) (sym (kit_elsewhere k maker it.0))
+        (holding k worker maker less it.1 (set_elsewhere makers i after.maker k maker made it.0))
+  ]
+
+  open_set :
+      (index : ℕ) (spec : KeySpecValue) → AreOpen index spec count workers makers → HoldsOpen spec (unsealed_images new) (get_or after.maker.begun index [])
+      → AreOpen index spec count (set workers i new) (set makers i after.maker)
+  open_set index spec opened own k worker maker less at made = elim (at_set workers i new k worker at) [
+    | inl it ↦
+        let its_maker : maker ≡ after.maker = set_there makers i after.maker k maker made it.0 in
+        rw (it.1, its_maker) own
+    | inr it ↦ opened k worker maker less it.1 (set_elsewhere makers i after.maker k maker made it.0)
+  ]
+
+  equipped_set : AreEquipped specs count makers spools → AreEquipped specs count (set makers i after.maker) given_back
+  equipped_set equipped = record {
+    makers_many = length-set makers i after.maker ∙ equipped.makers_many;
+    spools_many = length-written (length specs) i after.spools spools fit.spools_many enough ∙ equipped.spools_many;
+    fit = λ k maker made. elim (at_set makers i after.maker k maker made) [
+      | inl it ↦ subst (IsFit specs) (sym (kit_there k maker made it.0)) fit
+      | inr it ↦ subst (IsFit specs) (sym (kit_elsewhere k maker it.0)) (equipped.fit k maker it.1)
+    ];
+  }
+
+-- a worker's spools are there
+pub lent_to : (specs : List KeySpecValue) (count k : ℕ) (makers : List MakerValue) (spools : List SpoolValue) → AreEquipped specs count makers spools → k < count
+    → k * length specs + length specs ≤ length spools
+lent_to specs count k makers spools equipped less = let enough = enough_for (length specs) k count less in omega (arith, enough, equipped.spools_many)
 
 -- a worker took something, and its kit has it
 pub kits_set :
-    (count : ℕ) (workers : List WorkerValue) (spools : List SpoolValue) (w : WorkValue) (i : ℕ) (new : WorkerValue) (after : Kit)
-    → HaveKits count workers spools w → IsFit w.spec.kinds w.spec after → HoldsOpen w.spec (unsealed_images new) (begun_of after.maker)
-    → (w.built ≡ None → HoldsPairs w.spec (received_images new) after.spool.runs (begun_of after.maker))
-    → HaveKits count (set workers i new) (set spools i after.spool) (record w { makers = set w.makers i after.maker })
-kits_set count workers spools w i new after kits fit opened held = record {
-  equipped = equipped_set w.spec count workers w.makers spools i new after kits.equipped fit;
-  opened = open_set w.spec count workers w.makers spools i new after kits.opened opened;
-  holding = λ none. holding_set w.spec count workers w.makers spools i new after (kits.holding none) (held none);
-}
+    (count : ℕ) (workers : List WorkerValue) (spools : List SpoolValue) (w : WorkValue) (i : ℕ) (new : WorkerValue) (after : Kit) → i < count
+    → HaveKits count workers spools w → IsFit w.specs after
+    → ((index : ℕ) (spec : KeySpecValue) → slice_get w.specs index ≡ Some spec → HoldsOpen spec (unsealed_images new) (get_or after.maker.begun index []))
+    → ((index : ℕ) (spec : KeySpecValue) → slice_get w.specs index ≡ Some spec → w.built ≡ None → HoldsAt index spec (received_images new) (holdings after))
+    → HaveKits count (set workers i new) (with_own (length w.specs) i after.spools spools) (record w { makers = set w.makers i after.maker })
+kits_set count workers spools w i new after less kits fit opened held =
+    let enough = lent_to w.specs count i w.makers spools kits.equipped less in
+    record {
+      equipped = equipped_set w.specs count workers w.makers spools i new after fit enough kits.equipped;
+      opened = λ index spec at.
+          open_set w.specs count workers w.makers spools i new after fit enough index spec (kits.opened index spec at) (opened index spec at);
+      holding = λ index spec at none.
+          holding_set w.specs count workers w.makers spools i new after fit enough index spec (kits.holding index spec at none) (held index spec at none);
+    }
 
 -- spools that hold nothing
 pub each_empty :
@@ -130,72 +143,131 @@ each_empty (s ∷ ss) all (suc k) spool at =
     let both = and_parts (holds_nothing s.runs s.open_run) (list_all (λ is_empty. is_empty) (map (λ (s : SpoolValue). holds_nothing s.runs s.open_run) ss)) all in
     each_empty ss both.1 k spool at
 
--- a fresh maker with an empty spool is fit
+-- no pair of an index
+abbrev nothing : KeySpecValue → List Pair
+nothing spec = []
+
+-- where nothing is begun
+module _ (specs : List KeySpecValue) where
+  nothing_of : (P : List Pair → Type 0) → P [] → All P (map nothing specs)
+  nothing_of P none = mapped_of P nothing specs (λ k spec at. none)
+
+  nothing_begun : (index : ℕ) → get_or (map nothing specs) index [] ≡ []
+  nothing_begun index = no_pair (map nothing specs) index (nothing_of (λ begun. begun ≡ []) refl)
+
+-- of each of these spools
+abbrev AreEmpty : List SpoolValue → Type 0
+AreEmpty spools = (k : ℕ) (spool : SpoolValue) → slice_get spools k ≡ Some spool → (spool.runs ≡ []) × (spool.open_run ≡ [])
+
+own_empty : (n k : ℕ) (spools : List SpoolValue) → AreEmpty spools → AreEmpty (own_spools n k spools)
+own_empty n k spools empty j spool at = empty (k * n + j) spool (own_there n k spools j spool at).1
+
+-- a fresh maker with empty spools is fit
 fresh_fit :
-    (kinds : List Kind) (spec : KeySpecValue) (kit : Kit) → kit.maker ≡ fresh_maker kinds spec → kit.spool.runs ≡ [] → kit.spool.open_run ≡ [] → IsFit kinds spec kit
-fresh_fit kinds spec kit fresh runs none = record {
-  schema = ap (λ (m : MakerValue). m.schema) fresh;
-  specs = ap (λ (m : MakerValue). m.specs) fresh;
-  one_index = ap (λ (m : MakerValue). length m.begun) fresh;
-  short = rw fresh (omega arith);
-  ready = rw (runs, none) (record {
-    none_empty = All-cons NoneEmpty [] [] (All-nil (λ (run : List Pair). 0 < length run)) (All-nil NoneEmpty);
-    open_none = All-cons IsBegun [] [] refl (All-nil IsBegun);
-  });
-  sorted = rw runs (All-nil _);
+    (kinds : List Kind) (specs : List KeySpecValue) (kit : Kit) → All (λ spec. spec.kinds ≡ kinds) specs → kit.maker ≡ fresh_maker kinds specs
+    → length kit.spools ≡ length specs → AreEmpty kit.spools → IsFit specs kit
+fresh_fit kinds specs kit columns fresh many empty = record {
+  columns = rw fresh columns;
+  indexes = ap (λ (m : MakerValue). m.specs) fresh;
+  begun_many = ap (λ (m : MakerValue). length m.begun) fresh ∙ length-map specs nothing;
+  short = rw fresh (nothing_of specs (λ begun. length begun < 4096) (omega arith));
+  spools_many = many;
+  ready = record {
+    none_empty = mapped_of NoneEmpty (λ (s : SpoolValue). s.runs) kit.spools
+        (λ k s at. subst NoneEmpty (sym (empty k s at).0) (All-nil (λ (run : List Pair). 0 < length run)));
+    open_none = mapped_of (λ (begun : List Pair). begun ≡ []) (λ (s : SpoolValue). s.open_run) kit.spools (λ k s at. (empty k s at).1);
+  };
+  sorted = mapped_of AreSorted (λ (s : SpoolValue). s.runs) kit.spools (λ k s at. subst AreSorted (sym (empty k s at).0) (All-nil _));
 }
 
 -- a build begins with fresh makers and empty spools
 pub started_kits :
-    (builds : ℕ) (pages : List (PutEnd Copied)) (before : AreOfBuilds builds (all_sent pages)) (spec : KeySpecValue) (count number : ℕ) (spools : List SpoolValue)
-    → length spools ≡ count → ((k : ℕ) (spool : SpoolValue) → slice_get spools k ≡ Some spool → (spool.runs ≡ []) × (spool.open_run ≡ []))
-    → HaveKits count (map (begun_on (builds + 1)) pages) spools (fresh number spec.kinds spec count)
-started_kits builds pages before spec count number spools many empty = record {
+    (builds : ℕ) (pages : List (PutEnd Copied)) (before : AreOfBuilds builds (all_sent pages)) (kinds : List Kind) (specs : List KeySpecValue) (count number : ℕ)
+    (spools : List SpoolValue) → All (λ spec. spec.kinds ≡ kinds) specs → length spools ≡ count * length specs
+    → ((k : ℕ) (spool : SpoolValue) → slice_get spools k ≡ Some spool → (spool.runs ≡ []) × (spool.open_run ≡ []))
+    → HaveKits count (map (begun_on (builds + 1)) pages) spools (fresh number kinds specs count)
+started_kits builds pages before kinds specs count number spools columns many empty = record {
   equipped = record {
-    makers_many = length-replicate count (fresh_maker spec.kinds spec);
+    makers_many = length-replicate count (fresh_maker kinds specs);
     spools_many = many;
-    fit = λ k maker spool made lent.
-        fresh_fit spec.kinds spec (record { maker = maker; spool = spool }) (replicate_at count (fresh_maker spec.kinds spec) k maker made)
-        (empty k spool lent).0 (empty k spool lent).1;
+    fit = λ k maker made.
+        let less : k < count = let within = below (replicate count (fresh_maker kinds specs)) k maker made in omega (arith, within, length-replicate count (fresh_maker kinds specs)) in
+        let enough = enough_for (length specs) k count less in
+        fresh_fit kinds specs (kit_of (length specs) k maker spools) columns (replicate_at count (fresh_maker kinds specs) k maker made)
+        (own_many (length specs) k spools (omega (arith, enough, many))) (own_empty (length specs) k spools empty);
   };
-  opened = λ k worker maker less at made.
+  opened = λ index spec is k worker maker less at made.
       let it = at_map (begun_on (builds + 1)) pages k worker at in
-      let fresh_one : maker ≡ fresh_maker spec.kinds spec = replicate_at count (fresh_maker spec.kinds spec) k maker made in
-      rw fresh_one (subst (λ (v : WorkerValue). HoldsOpen spec (unsealed_images v) []) it.2
+      let fresh_one : maker ≡ fresh_maker kinds specs = replicate_at count (fresh_maker kinds specs) k maker made in
+      let none : get_or maker.begun index [] ≡ [] = ap (λ (m : MakerValue). get_or m.begun index []) fresh_one ∙ nothing_begun specs index in
+      rw none (subst (λ (v : WorkerValue). HoldsOpen spec (unsealed_images v) []) it.2
       (start_open (builds + 1) spec (record { ring = it.0.ring; received = it.0.sent; known = [] }) (of_earlier builds pages before k it.0 it.1)));
-  holding = λ none k worker maker spool less at made lent.
+  holding = λ index spec is none k worker maker less at made.
       let it = at_map (begun_on (builds + 1)) pages k worker at in
-      let fresh_one : maker ≡ fresh_maker spec.kinds spec = replicate_at count (fresh_maker spec.kinds spec) k maker made in
-      rw (fresh_one, (empty k spool lent).0) (subst (λ (v : WorkerValue). HoldsPairs spec (received_images v) [] []) it.2
+      let fresh_one : maker ≡ fresh_maker kinds specs = replicate_at count (fresh_maker kinds specs) k maker made in
+      let begun : get_or maker.begun index [] ≡ [] = ap (λ (m : MakerValue). get_or m.begun index []) fresh_one ∙ nothing_begun specs index in
+      let own : List SpoolValue = own_spools (length specs) k spools in
+      let runs : get_or (runs_of own) index [] ≡ [] =
+      no_pair (runs_of own) index (mapped_of (λ (rs : List (List Pair)). rs ≡ []) (λ (s : SpoolValue). s.runs) own
+      (λ j s there. (own_empty (length specs) k spools empty j s there).0)) in
+      rw (begun, runs) (subst (λ (v : WorkerValue). HoldsPairs spec (received_images v) [] []) it.2
       (start_holds (builds + 1) spec (record { ring = it.0.ring; received = it.0.sent; known = [] }) (of_earlier builds pages before k it.0 it.1)));
 }
 
--- once the pairs are in order, and the spools ended, the kits are as fit
+-- what holds of what a worker's spools have, and of none, holds of it where the spools of an index are ended
+own_ended :
+    {Y : Type 0} (P : Y → Type 0) (f : SpoolValue → Y) → ((s : SpoolValue) → P (f (ended_spool s))) → (n k m i : ℕ) (spools : List SpoolValue)
+    → All P (map f (own_spools n k spools)) → All P (map f (own_spools n k (with_every ended_spool m i spools)))
+own_ended P f none n k m i spools all =
+    mapped_all P f (own_spools n k (with_every ended_spool m i spools))
+    (own_changed (λ s. P (f s)) ended_spool (λ s old. none s) n k m i spools (all_mapped P f (own_spools n k spools) all))
+
+-- and the spools of another index hold what they held
+pub holding_elsewhere :
+    (n i j : ℕ) (spec : KeySpecValue) (count : ℕ) (workers : List WorkerValue) (makers : List MakerValue) (spools : List SpoolValue) → i < n → j < n
+    → (j ≡ i → ⊥) → AreHolding j spec n count workers makers spools → AreHolding j spec n count workers makers (ended_column i n spools)
+holding_elsewhere n i j spec count workers makers spools there here other holding k worker maker less at made =
+    let runs : SpoolValue → List (List Pair) = λ s. s.runs in
+    let new : List SpoolValue = own_spools n k (ended_column i n spools) in
+    let old : List SpoolValue = own_spools n k spools in
+    let same : slice_get new j ≡ slice_get old j =
+    own_at n k (ended_column i n spools) j here
+    ∙ ap (λ (l : List SpoolValue). slice_get l k) (every_elsewhere ended_spool (n - 1) j i spools (omega (arith, here)) (omega (arith, there)) other)
+    ∙ sym (own_at n k spools j here) in
+    subst (λ (rs : List (List Pair)). HoldsPairs spec (received_images worker) rs (get_or maker.begun j [])) (sym (read_same runs new old j same))
+    (holding k worker maker less at made)
+
+-- once the pairs of an index are in order, and its spools ended, the kits are as fit
 pub kits_sorted :
-    (count : ℕ) (workers : List WorkerValue) (spools : List SpoolValue) (w sorted : WorkValue) → HaveKits count workers spools w → sorted.spec ≡ w.spec
-    → sorted.makers ≡ w.makers → (sorted.built ≡ None → ⊥) → HaveKits count workers (map ended_spool spools) sorted
-kits_sorted count workers spools w sorted kits same_spec same_makers some = record {
-  equipped = rw (same_spec, same_makers) (record {
-    makers_many = kits.equipped.makers_many;
-    spools_many = length-map spools ended_spool ∙ kits.equipped.spools_many;
-    fit = λ k maker spool made lent.
-        let it = at_map ended_spool spools k spool lent in
-        let was = kits.equipped.fit k maker it.0 made it.1 in
-        subst (λ (v : SpoolValue). IsFit w.spec.kinds w.spec (record { maker = maker; spool = v })) it.2 (record {
-          schema = was.schema;
-          specs = was.specs;
-          one_index = was.one_index;
-          short = was.short;
-          ready = record {
-            none_empty = All-cons NoneEmpty [] [] (All-nil (λ (run : List Pair). 0 < length run)) (All-nil NoneEmpty);
-            open_none = All-cons IsBegun [] [] refl (All-nil IsBegun);
-          };
-          sorted = All-nil _;
-        });
-  });
-  opened = rw (same_spec, same_makers) kits.opened;
-  holding = λ none. absurd (some none);
-}
+    (count : ℕ) (workers : List WorkerValue) (spools : List SpoolValue) (index : ℕ) (w sorted : WorkValue) → HaveKits count workers spools w
+    → sorted.specs ≡ w.specs → sorted.makers ≡ w.makers → (sorted.built ≡ None → ⊥)
+    → HaveKits count workers (ended_column index (length w.specs) spools) sorted
+kits_sorted count workers spools index w sorted kits same_specs same_makers some =
+    let n : ℕ = length w.specs in
+    record {
+      equipped = rw (same_specs, same_makers) (record {
+        makers_many = kits.equipped.makers_many;
+        spools_many = length-changed ended_spool (n - 1) index spools ∙ kits.equipped.spools_many;
+        fit = λ k maker made.
+            let was = kits.equipped.fit k maker made in
+            let less : k < count = let within = below w.makers k maker made in omega (arith, within, kits.equipped.makers_many) in
+            let enough = lent_to w.specs count k w.makers spools kits.equipped less in
+            record {
+              columns = was.columns;
+              indexes = was.indexes;
+              begun_many = was.begun_many;
+              short = was.short;
+              spools_many = own_many n k (ended_column index n spools) (omega (arith, enough, length-changed ended_spool (n - 1) index spools));
+              ready = record {
+                none_empty = own_ended NoneEmpty (λ (s : SpoolValue). s.runs) (λ s. All-nil (λ (run : List Pair). 0 < length run)) n k (n - 1) index spools was.ready.none_empty;
+                open_none = own_ended (λ (begun : List Pair). begun ≡ []) (λ (s : SpoolValue). s.open_run) (λ s. refl) n k (n - 1) index spools was.ready.open_none;
+              };
+              sorted = own_ended AreSorted (λ (s : SpoolValue). s.runs) (λ s. All-nil _) n k (n - 1) index spools was.sorted;
+            };
+      });
+      opened = rw (same_specs, same_makers) kits.opened;
+      holding = λ i spec at none. absurd (some none);
+    }
 
 -- spools of any kind that were ended
 pub ended_values :

@@ -1,20 +1,21 @@
 -- What a call leaves beside a table, put together from what its parts left.
-use Rattle.std.proofs.Common.{◌≡◌, ℕ, Bool, false, ◌&&◌, List, [], ◌∷◌, All, map, Option, Some, None, refl, sym, ap, ◌∙◌, subst}
-use Rattle.std.specs.Prelude.{IfSome, is_some}
+use Rattle.std.proofs.Common.{◌≡◌, ℕ, ◌-◌, ◌*◌, ◌<◌, length, Bool, false, ◌&&◌, List, [], ◌∷◌, All, map, Option, Some, None, refl, sym, ap, ◌∙◌, subst}
+use Rattle.std.specs.Prelude.{is_some}
 use Rattle.std.specs.List.{list_all}
 use Rattle.spool_ledger.specs.Accounts.{Stake}
 use Rattle.keybytes.specs.Keys.{KeySpecValue}
 use Rattle.keybytes.specs.declared.fault.Fault.{Fault}
 use Rattle.keybytes.specs.declared.pair.Pair.{Pair}
 use Rattle.heap_table.specs.Images.{ImageValue}
-use Rattle.run_spool.specs.Spools.{AreSorted, all_pairs, holds_nothing}
-use Rattle.run_merge.specs.Merging.{all_runs}
+use Rattle.run_spool.specs.Spools.{AreSorted, holds_nothing}
 use Rattle.run_maker.specs.Making.{MakerValue}
 use Rattle.building.specs.WorkerValue.{WorkerValue}
 use Rattle.catch_up.specs.Built.{BuiltValue}
 use Rattle.builder_core.specs.Builds.{BuildingValue, WorkValue, after_sort}
-use Rattle.builder_core.specs.Holding.{SpoolValue, Kit, spool_value, spools_state, ended_spool}
-use Rattle.builder_core.specs.Working.{AreEachOnce, CanTake, CanTakeAt, HasTaken, HasTakenAt, IsSpoiled}
+use Rattle.builder_core.specs.Columns.{column}
+use Rattle.builder_core.specs.Holding.{SpoolValue, Kit, runs_of, pairs_in, spool_value, spools_state, ended_column}
+use Rattle.builder_core.specs.Working.{AreEachOnce, CanLoad, CanTake, CanTakeAt, HasTaken, HasTakenAt, IsSpoiled}
+use Rattle.builder_core.proofs.Columns.{every_map}
 use Rattle.builder_core.proofs.OneWorker.{the_work}
 use Rattle.builder_core.proofs.Places.{mapped}
 
@@ -31,6 +32,11 @@ module _ {S : Type 0} (runs : S → List (List Pair)) (open_run : S → List Pai
   pub runs_seen : (spools : List S) → map runs spools ≡ map (λ (s : SpoolValue). s.runs) (map (spool_value runs open_run stake) spools)
   runs_seen spools = sym (mapped (spool_value runs open_run stake) (λ (s : SpoolValue). s.runs) spools)
 
+  -- the runs of the spools of an index
+  pub column_seen : (index indexes : ℕ) (spools : List S) → runs_of (column index indexes (map (spool_value runs open_run stake) spools)) ≡ map runs (column index indexes spools)
+  column_seen index indexes spools =
+      ap runs_of (every_map (spool_value runs open_run stake) (indexes - 1) index spools) ∙ sym (runs_seen (column index indexes spools))
+
   pub same_seen :
       (a b : List S) → map stake a ≡ map stake b
       → map (λ (s : SpoolValue). s.stake) (map (spool_value runs open_run stake) a)
@@ -46,6 +52,13 @@ module _ {S : Type 0} (runs : S → List (List Pair)) (open_run : S → List Pai
       let empty : SpoolValue → Bool = λ s. holds_nothing s.runs s.open_run in
       rw none (each_tested (λ (s : S). holds_nothing (runs s) (open_run s)) spools
       ∙ ap (list_all (λ is_empty. is_empty)) (sym (mapped (spool_value runs open_run stake) empty spools)))
+
+-- what is asked of work and spools for a load of an index
+pub record CanSort (index : ℕ) (work : WorkValue) (spools : List SpoolValue) : Type 0 where
+  pub there : index < length work.specs
+  pub lent : length spools ≡ work.workers * length work.specs
+  pub sorted : work.built ≡ None → All AreSorted (runs_of (column index (length work.specs) spools))
+  pub once : work.built ≡ None → AreEachOnce (pairs_in (column index (length work.specs) spools))
 
 -- the work of the build that runs, as it was seen
 module _ (old seen : BuildingValue) (work held : WorkValue) (same : seen ≡ old) (runs : seen.work ≡ Some work) (is : held ≡ work) where
@@ -67,46 +80,36 @@ module _ (old seen : BuildingValue) (work held : WorkValue) (same : seen ≡ old
     left = rw (same, is) refl;
   }
 
-  -- its pairs are put in order
+  -- the pairs of an index are put in order
   pub left_sorted :
-      (spools : List SpoolValue) (built : BuiltValue) → spools ≡ map ended_spool seen.spools → built.build ≡ held.build
+      (index : ℕ) (spools : List SpoolValue) (built : BuiltValue) → spools ≡ ended_column index (length work.specs) seen.spools → built.build ≡ held.build
       → record seen { spools = spools; work = Some (record held { built = Some built }) }
-      ≡ record old { spools = map ended_spool old.spools; work = Some (after_sort work built.pairs) }
-  left_sorted spools built ended number = rw (ended, same, is) (ap of_build (number ∙ ap (λ (w : WorkValue). w.build) is)) where
+      ≡ record old { spools = ended_column index (length work.specs) old.spools; work = Some (after_sort work built.pairs) }
+  left_sorted index spools built ended number = rw (ended, same, is) (ap of_build (number ∙ ap (λ (w : WorkValue). w.build) is)) where
     of_build : ℕ → BuildingValue
     of_build n = record old {
-      spools = map ended_spool old.spools;
+      spools = ended_column index (length work.specs) old.spools;
       work = Some (record work { built = Some (record { build = n; pairs = built.pairs }) });
     }
 
-  -- the runs of its spools are in order, where its pairs aren't yet
-  pub runs_sorted :
-      IfSome old.work (λ w. w.built ≡ None → All AreSorted (map (λ (s : SpoolValue). s.runs) old.spools)) → work.built ≡ None
-      → All AreSorted (map (λ (s : SpoolValue). s.runs) seen.spools)
-  runs_sorted all none =
-      let here = subst (λ (o : Option WorkValue). IfSome o (λ w. w.built ≡ None → All AreSorted (map (λ (s : SpoolValue). s.runs) old.spools))) its_work all in
-      subst (λ (b : BuildingValue). All AreSorted (map (λ (s : SpoolValue). s.runs) b.spools)) (sym same) (here none)
-
-  -- and no pair is there twice
-  pub runs_once :
-      IfSome old.work (λ w. w.built ≡ None → AreEachOnce (all_pairs (all_runs (map (λ (s : SpoolValue). s.runs) old.spools)))) → work.built ≡ None
-      → AreEachOnce (all_pairs (all_runs (map (λ (s : SpoolValue). s.runs) seen.spools)))
-  runs_once all none =
-      let here = subst (λ (o : Option WorkValue). IfSome o (λ w. w.built ≡ None
-      → AreEachOnce (all_pairs (all_runs (map (λ (s : SpoolValue). s.runs) old.spools))))) its_work all in
-      subst (λ (b : BuildingValue). AreEachOnce (all_pairs (all_runs (map (λ (s : SpoolValue). s.runs) b.spools)))) (sym same) (here none)
+  -- its pairs can be put in order
+  pub can_load : (index : ℕ) → CanLoad index old → CanSort index work seen.spools
+  can_load index can =
+      let it : can.work ≡ work = the_work old.work can.work work can.runs its_work in
+      let here : CanSort index can.work old.spools = record { there = can.there; lent = can.lent; sorted = can.sorted; once = can.once } in
+      subst (λ (b : BuildingValue). CanSort index work b.spools) (sym same) (subst (λ (w : WorkValue). CanSort index w old.spools) it here)
 
   -- a worker takes some of its copies
   module _ (worker : ℕ) (count : WorkerValue → ℕ) where
-    pub can_take : CanTake worker count old → CanTakeAt work.spec worker count seen.workers held.makers seen.spools
+    pub can_take : CanTake worker count old → CanTakeAt work.specs worker count seen.workers held.makers seen.spools
     can_take can =
         let it : can.work ≡ work = the_work old.work can.work work can.runs its_work in
-        rw (same, is) (subst (λ (w : WorkValue). CanTakeAt w.spec worker count old.workers w.makers old.spools) it can.can)
+        rw (same, is) (subst (λ (w : WorkValue). CanTakeAt w.specs worker count old.workers w.makers old.spools) it can.can)
 
     pub taken_after :
-        (closing : WorkerValue → WorkerValue) (Spools : KeySpecValue → List ImageValue → Kit → Kit → Type 0) (images : ℕ) (workers : List WorkerValue)
+        (closing : WorkerValue → WorkerValue) (Spools : List KeySpecValue → List ImageValue → Kit → Kit → Type 0) (images : ℕ) (workers : List WorkerValue)
         (makers : List MakerValue) (spools : List SpoolValue)
-        → HasTakenAt work.spec worker count closing Spools seen.workers held.makers seen.spools images workers makers spools
+        → HasTakenAt work.specs worker count closing Spools seen.workers held.makers seen.spools images workers makers spools
         → HasTaken worker count closing Spools old images (record seen { workers = workers; spools = spools; work = Some (record held { makers = makers }) })
     taken_after closing Taken images workers makers spools taken = record {
       work = work;
@@ -114,8 +117,8 @@ module _ (old seen : BuildingValue) (work held : WorkValue) (same : seen ≡ old
       workers = workers;
       makers = makers;
       spools = spools;
-      taken = subst (λ (b : BuildingValue). HasTakenAt work.spec worker count closing Taken b.workers work.makers b.spools images workers makers spools) same
-          (subst (λ (w : WorkValue). HasTakenAt work.spec worker count closing Taken seen.workers w.makers seen.spools images workers makers spools) is taken);
+      taken = subst (λ (b : BuildingValue). HasTakenAt work.specs worker count closing Taken b.workers work.makers b.spools images workers makers spools) same
+          (subst (λ (w : WorkValue). HasTakenAt work.specs worker count closing Taken seen.workers w.makers seen.spools images workers makers spools) is taken);
       left = rw (same, is) refl;
     }
 

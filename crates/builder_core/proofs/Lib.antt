@@ -3,6 +3,7 @@ pub mod Applying
 pub mod IndexApplied
 pub mod AtWork
 pub mod CatchingUp
+pub mod Columns
 pub mod Copies
 pub mod CopyPairs
 pub mod Distinct
@@ -23,6 +24,7 @@ pub mod NextPages
 pub mod OneKit
 pub mod OneRing
 pub mod OneWorker
+pub mod OwnSpools
 pub mod Partition
 pub mod Performed
 pub mod Places
@@ -46,6 +48,7 @@ pub mod SwitchIn
 pub mod Switching
 pub mod TableBuilds
 pub mod Taken
+pub mod TakenOut
 pub mod Takes
 pub mod Told
 pub mod Waits

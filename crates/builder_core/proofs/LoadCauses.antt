@@ -1,13 +1,12 @@
 -- Why the pairs of an index are not put in order.
-use Rattle.std.proofs.Common.{◌≡◌, ℕ, zero-add, ◌+◌, ◌<◌, ◌≤◌, Bool, true, false, List, [], ◌∷◌, length, take, Option, Some, None, sym, ap, ◌∙◌, arith, inl}
+use Rattle.std.proofs.Common.{◌≡◌, ℕ, zero-add, ◌+◌, ◌<◌, ◌≤◌, Bool, true, false, List, length, take, Option, Some, None, sym, ap, ◌∙◌, arith, inl}
 use Rattle.std.proofs.Common.{inr}
-use Rattle.std.specs.Prelude.{nat_le, not}
+use Rattle.std.specs.Prelude.{not}
 use Rattle.std.specs.List.{slice_get, range_with_len}
 use Rattle.std.specs.Option.{option_map}
-use Rattle.std.proofs.lemmas.Bool.{cases_Bool}
+use Rattle.std.proofs.lemmas.Bool.{cases_Bool, lt-leb}
 use Rattle.std.proofs.lemmas.List.{length-map, length-take}
 use Rattle.keybytes.specs.Faults.{first_cause}
-use Rattle.keybytes.specs.Keys.{KeySpecValue}
 use Rattle.keybytes.specs.declared.fault.Fault.{Fault}
 use Rattle.keybytes.specs.declared.fault.Fault.TheVariants.{BadCount, NotScanned, NotSealed}
 use Rattle.run_maker.specs.Making.{MakerValue}
@@ -26,9 +25,9 @@ use Rattle.builder_core.proofs.Refusals.{state_is, worker_there}
 use Rattle.builder_core.proofs.Waits.{quiet_is, is_quiet-quiet}
 
 -- the cause, by what comes into it
-abbrev load_with : List KeySpecValue → Option Fault → Option ℕ → Option ℕ → Option Fault
-load_with specs spoiled range loud =
-    first_cause (cause_if (nat_le (length specs) 0) BadCount) (first_cause spoiled (first_cause (option_map NotScanned range) (option_map NotSealed loud)))
+abbrev load_with : Bool → Option Fault → Option ℕ → Option ℕ → Option Fault
+load_with past spoiled range loud =
+    first_cause (cause_if past BadCount) (first_cause spoiled (first_cause (option_map NotScanned range) (option_map NotSealed loud)))
 
 module _
     (live : LiveValue) (building : BuildingValue) (b : BuildState) (w : WorkValue) (run : IsRunning live building b w) (fine : w.spoiled ≡ None)
@@ -36,31 +35,26 @@ module _
   abbrev work : WorkState
   work = work_state building.workers building.work
 
-  -- so many makers and spools as the build has workers
+  -- so many makers as the build has workers
   makers_many : length w.makers ≡ b.workers
   makers_many = (run.at_work.kits fine).equipped.makers_many
 
-  spools_many : length building.spools ≡ b.workers
-  spools_many = (run.at_work.kits fine).equipped.spools_many
-
   module _ (k : ℕ) (sent : List Copied) (worker : WorkerValue) (maker : MakerValue) (less : k < b.workers)
       (there : slice_get (all_sent live.pages) k ≡ Some sent) (at : slice_get building.workers k ≡ Some worker) (made : slice_get w.makers k ≡ Some maker) where
-    one_index : length maker.begun ≡ 1
-    one_index =
-        let spool = there_is building.spools k (omega (arith, less, spools_many)) in
-        ((run.at_work.kits fine).equipped.fit k maker spool.0 made spool.1).one_index
+    begun_many : length maker.begun ≡ length w.specs
+    begun_many = ((run.at_work.kits fine).equipped.fit k maker made).begun_many
 
     -- whether it is quiet is what callers see
     quiet_at : IsDone sent worker maker → is_quiet b live.state.heap.log k (worker_at work k) ≡ true
     quiet_at quiet =
         ap (is_quiet b live.state.heap.log k) (worker_there live building b w run fine put k less worker at)
-        ∙ quiet_is live.state.heap.schema live.state.heap.log b w.spec k sent worker run.on.columns (put k sent there)
-        (run.at_work.taking fine k sent worker less there at) maker one_index ((run.at_work.kits fine).opened k worker maker less at made) run.on.specs quiet
+        ∙ quiet_is live.state.heap.schema live.state.heap.log b k sent worker (put k sent there) (run.at_work.taking fine k sent worker less there at) w.specs
+        run.on.columns maker begun_many (λ index spec is. (run.at_work.kits fine).opened index spec is k worker maker less at made) run.on.specs quiet
 
     quiet_there : is_quiet b live.state.heap.log k (worker_at work k) ≡ true → IsDone sent worker maker
     quiet_there is =
-        is_quiet-quiet live.state.heap.schema live.state.heap.log b w.spec k sent worker run.on.columns (put k sent there)
-        (run.at_work.taking fine k sent worker less there at) maker one_index ((run.at_work.kits fine).opened k worker maker less at made) run.on.specs
+        is_quiet-quiet live.state.heap.schema live.state.heap.log b k sent worker (put k sent there) (run.at_work.taking fine k sent worker less there at) w.specs
+        run.on.columns maker begun_many (λ index spec at_it. (run.at_work.kits fine).opened index spec at_it k worker maker less at made) run.on.specs
         (sym (ap (is_quiet b live.state.heap.log k) (worker_there live building b w run fine put k less worker at)) ∙ is)
 
   module _ (rings : length live.pages ≡ 16) (sixteen : length building.workers ≡ 16) where
@@ -107,26 +101,26 @@ module _
         ∙ first_left is_loud 0 b.workers k (λ n low. not_loud n k low (omega (arith, less)) quiet) less (loud_there k less loud)
         ∙ ap (λ n. Some n) (zero-add k)
 
-    -- it depends on the workers alone
+    -- it depends on the workers alone, where the index is there
     load_cause :
-        (loud : Option ℕ) → open_range b ≡ None → loud_worker b live.state.heap.log work ≡ loud
-        → build_cause live.state.build (λ x. load_refusal x (core_state live building) 0) ≡ option_map NotSealed loud
-    load_cause loud all is =
-        ap (λ (o : Option BuildState). build_cause o (λ x. load_refusal x (core_state live building) 0)) run.build_is
-        ∙ ap (λ (specs : List KeySpecValue). load_with specs work.spoiled (open_range b) (loud_worker b live.state.heap.log work)) run.on.specs
-        ∙ ap (λ (s : WorkState). load_with (w.spec ∷ []) s.spoiled (open_range b) (loud_worker b live.state.heap.log work))
-        (state_is building w run.work_is fine)
-        ∙ ap (λ (o : Option ℕ). load_with (w.spec ∷ []) None o (loud_worker b live.state.heap.log work)) all
-        ∙ ap (load_with (w.spec ∷ []) None None) is
+        (index : ℕ) (loud : Option ℕ) → index < length b.specs → open_range b ≡ None → loud_worker b live.state.heap.log work ≡ loud
+        → build_cause live.state.build (λ x. load_refusal x (core_state live building) index) ≡ option_map NotSealed loud
+    load_cause index loud there all is =
+        ap (λ (o : Option BuildState). build_cause o (λ x. load_refusal x (core_state live building) index)) run.build_is
+        ∙ ap (λ (past : Bool). load_with past work.spoiled (open_range b) (loud_worker b live.state.heap.log work)) (lt-leb (length b.specs) index there)
+        ∙ ap (λ (s : WorkState). load_with false s.spoiled (open_range b) (loud_worker b live.state.heap.log work)) (state_is building w run.work_is fine)
+        ∙ ap (λ (o : Option ℕ). load_with false None o (loud_worker b live.state.heap.log work)) all
+        ∙ ap (load_with false None None) is
 
     -- where all are quiet nothing is against it
     pub load_free :
-        open_range b ≡ None → AreDone b.workers (all_sent live.pages) building.workers w.makers
-        → build_cause live.state.build (λ x. load_refusal x (core_state live building) 0) ≡ None
-    load_free all quiet = load_cause None all (none_loud quiet)
+        (index : ℕ) → index < length b.specs → open_range b ≡ None → AreDone b.workers (all_sent live.pages) building.workers w.makers
+        → build_cause live.state.build (λ x. load_refusal x (core_state live building) index) ≡ None
+    load_free index there all quiet = load_cause index None there all (none_loud quiet)
 
     -- the first that isn't is the cause
     pub load_loud :
-        (k : ℕ) → open_range b ≡ None → k < b.workers → AreDone k (all_sent live.pages) building.workers w.makers → IsUnfinished k (all_sent live.pages) building.workers w.makers
-        → build_cause live.state.build (λ x. load_refusal x (core_state live building) 0) ≡ Some (NotSealed k)
-    load_loud k all less quiet loud = load_cause (Some k) all (first_loud k less quiet loud)
+        (index k : ℕ) → index < length b.specs → open_range b ≡ None → k < b.workers → AreDone k (all_sent live.pages) building.workers w.makers
+        → IsUnfinished k (all_sent live.pages) building.workers w.makers
+        → build_cause live.state.build (λ x. load_refusal x (core_state live building) index) ≡ Some (NotSealed k)
+    load_loud index k there all less quiet loud = load_cause index (Some k) there all (first_loud k less quiet loud)

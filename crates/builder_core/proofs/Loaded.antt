@@ -1,19 +1,20 @@
 -- What a load leaves, as callers see it.
-use Rattle.std.proofs.Common.{◌≡◌, ℕ, ◌<◌, true, List, [], ◌∷◌, ◌++◌, length, take, take_all, Option, Some, None, Result, Ok, Err, IfOk, IfErr, IfSome, OnErr}
-use Rattle.std.proofs.Common.{false, if◌then◌else◌, refl, sym, ap, ◌∙◌, subst, arith}
+use Rattle.std.proofs.Common.{◌≡◌, ℕ, ◌-◌, ◌*◌, ◌<◌, true, List, [], ◌∷◌, ◌++◌, length, get_or, take, take_all, Option, Some, None, Result, Ok, Err, IfOk, IfErr, IfSome, OnErr}
+use Rattle.std.proofs.Common.{false, if◌then◌else◌, refl, sym, ap, ap₂, ◌∙◌, subst, arith}
 use Rattle.std.specs.Prelude.{is_some, flat_map, IsPermutation}
 use Rattle.std.specs.List.{slice_get}
 use Rattle.std.proofs.lemmas.List.{append-nil}
 use Rattle.std.proofs.lemmas.List.Sorted.{IsPermutation-trans, IsPermutation-sym, length_permutation}
-use Rattle.std.proofs.lemmas.Option.{same_Some}
+use Rattle.std.proofs.lemmas.Option.{same_Some, get_or_from_slice_get}
 use Rattle.keybytes.specs.Keys.{KeySpecValue}
 use Rattle.keybytes.specs.declared.fault.Fault.{Fault}
 use Rattle.keybytes.specs.declared.pair.Pair.{Pair}
 use Rattle.side_file.specs.Ends.{PutEnd}
 use Rattle.building.specs.declared.copied.Copied.{Copied}
-use Rattle.builder_core.specs.Builds.{LiveValue, BuildingValue, WorkValue, IsRunning, WorksOn, work_state, core_state, index_state, after_sort}
+use Rattle.builder_core.specs.Builds.{LiveValue, BuildingValue, WorkValue, IsRunning, WorksOn, work_state, core_state, index_state, after_sort, first_spec}
 use Rattle.builder_core.specs.CoreState.{BuildState, IndexState, WorkState, SpoolsState, scanning_of}
-use Rattle.builder_core.specs.Holding.{SpoolValue, begun_of, ended_spool, spools_state}
+use Rattle.builder_core.specs.Columns.{own_spools, column}
+use Rattle.builder_core.specs.Holding.{SpoolValue, runs_of, pairs_in, ended_spool, ended_column, spools_state}
 use Rattle.run_spool.specs.Spools.{AreSorted, all_pairs}
 use Rattle.run_merge.specs.Merging.{all_runs}
 use Rattle.std.specs.Prelude.{All, map}
@@ -24,11 +25,13 @@ use Rattle.builder_core.specs.Scanning.{pairs_at_scan, scanned_pairs}
 use Rattle.builder_core.specs.Steps.{OnBuild, Loads, pairs_copied, after_load}
 use Rattle.builder_core.specs.Workers.{put_to, index_at}
 use Rattle.catch_up.specs.Built.{BuiltValue}
-use Rattle.builder_core.specs.Working.{AreEachOnce, HasLoaded, HasSorted, IsSpoiled}
+use Rattle.builder_core.specs.Working.{AreEachOnce, CanLoad, HasLoaded, HasSorted, IsSpoiled}
 use Rattle.builder_core.specs.declared.scan.Scan.{Scan}
-use Rattle.builder_core.proofs.Kits.{begun_none, kits_sorted}
+use Rattle.builder_core.proofs.Columns.{kept_changed}
+use Rattle.builder_core.proofs.Kits.{kits_sorted}
+use Rattle.builder_core.proofs.OwnSpools.{column_there, column_many}
 use Rattle.builder_core.proofs.Partition.{parts_together}
-use Rattle.builder_core.proofs.Places.{there_is, map_at, at_map, mapped, all_from, below}
+use Rattle.builder_core.proofs.Places.{there_is, map_at, below, all_at, mapped_of, all_mapped, no_pair}
 use Rattle.builder_core.proofs.Refusals.{state_of, state_is, works_with}
 use Rattle.builder_core.proofs.Takes.{spoiled_works, put_of}
 use Rattle.builder_core.proofs.Waits.{waits, held_pairs}
@@ -44,22 +47,23 @@ use Rattle.builder_core.proofs.Works.{sorted_work_on}
 loaded_index : (w : WorkValue) → is_some w.built ≡ true → index_state w ≡ record (index_state w) { loaded = true }
 loaded_index w some = ap (λ b. record { loaded = b; applied = w.applied }) some
 
--- the runs of each spool of a build are in order
+-- the runs of each spool of an index are in order
 pub runs_sorted :
     (live : LiveValue) (building : BuildingValue) (b : BuildState) (w : WorkValue) → IsRunning live building b w → w.spoiled ≡ None
-    → All AreSorted (map (λ (s : SpoolValue). s.runs) building.spools)
-runs_sorted live building b w run fine =
+    → (index : ℕ) → index < length w.specs → All AreSorted (runs_of (column index (length w.specs) building.spools))
+runs_sorted live building b w run fine index less =
     let equipped = (run.at_work.kits fine).equipped in
-    all_from AreSorted (map (λ (s : SpoolValue). s.runs) building.spools) (λ k runs at.
-    let spool = at_map (λ (s : SpoolValue). s.runs) building.spools k runs at in
-    let less : k < length building.spools = below building.spools k spool.0 spool.1 in
-    let maker = there_is w.makers k (omega (arith, less, equipped.makers_many, equipped.spools_many)) in
-    subst AreSorted spool.2 (equipped.fit k maker.0 spool.0 maker.1 spool.1).sorted)
+    let n : ℕ = length w.specs in
+    mapped_of AreSorted (λ (s : SpoolValue). s.runs) (column index n building.spools) (λ k spool at.
+    let there = column_there n b.workers index building.spools less equipped.spools_many k spool at in
+    let maker = there_is w.makers k (omega (arith, there.0, equipped.makers_many)) in
+    all_at (λ (s : SpoolValue). AreSorted s.runs) (own_spools n k building.spools) index spool
+    (all_mapped AreSorted (λ (s : SpoolValue). s.runs) (own_spools n k building.spools) (equipped.fit k maker.0 maker.1).sorted) there.1)
 
 -- the pairs of all runs of spools, spool by spool
 pairs_by_spool :
     (spools : List SpoolValue)
-    → all_pairs (all_runs (map (λ (s : SpoolValue). s.runs) spools)) ≡ flat_map (λ (s : SpoolValue). all_pairs s.runs) spools
+    → pairs_in spools ≡ flat_map (λ (s : SpoolValue). all_pairs s.runs) spools
 pairs_by_spool [] = refl
 pairs_by_spool (s ∷ ss) =
     flat_map-append (λ (run : List Pair). run) s.runs (all_runs (map (λ (s : SpoolValue). s.runs) ss)) ∙ ap (λ ps. all_pairs s.runs ++ ps) (pairs_by_spool ss)
@@ -77,66 +81,99 @@ module _
     (live : LiveValue) (building : BuildingValue) (b : BuildState) (w : WorkValue) (run : IsRunning live building b w) (fine : w.spoiled ≡ None)
     (put : ArePut live.state.heap.schema live.state.heap.log b (all_sent live.pages)) (rings : length live.pages ≡ 16) (sixteen : length building.workers ≡ 16)
     (quiet : AreDone b.workers (all_sent live.pages) building.workers w.makers) (all : open_range b ≡ None) where
+  -- one index
+  module _ (index : ℕ) (spec : KeySpecValue) (is : slice_get w.specs index ≡ Some spec) where
+    abbrev scanned : List Pair
+    scanned = scanned_pairs (scanning_of b spec) live.state.heap.log
+
+    abbrev own : List SpoolValue
+    own = column index (length w.specs) building.spools
+
+    index_there : index < length w.specs
+    index_there = below w.specs index spec is
+
+    -- the spool of a quiet worker holds the pairs of all pages that were copied for it
+    own_pairs :
+        w.built ≡ None → (k : ℕ) (spool : SpoolValue) → k < b.workers → slice_get own k ≡ Some spool
+        → IsPermutation (all_pairs spool.runs) (flat_map (pairs_at_scan (scanning_of b spec) live.state.heap.log) (put_to b k))
+    own_pairs none k spool less lent =
+        let kits = run.at_work.kits fine in
+        let columns = all_at (λ (s : KeySpecValue). s.kinds ≡ live.state.heap.schema) w.specs index spec run.on.columns is in
+        let end = there_is live.pages k (omega (arith, less, run.follows.few_workers, rings)) in
+        let it = there_is building.workers k (omega (arith, less, run.follows.few_workers, sixteen)) in
+        let maker = there_is w.makers k (omega (arith, less, kits.equipped.makers_many)) in
+        let sent : List Copied = end.0.sent in
+        let there : slice_get (all_sent live.pages) k ≡ Some sent = map_at (λ (e : PutEnd Copied). e.sent) live.pages k end.0 end.1 in
+        let done = quiet k sent it.0 maker.0 less there it.1 maker.1 in
+        let taking = run.at_work.taking fine k sent it.0 less there it.1 in
+        let taken : it.0.end.received ++ [] ≡ sent = append-nil it.0.end.received ∙ done.taken in
+        let rest = waits live.state.heap.schema live.state.heap.log b k sent it.0 (put k sent there) taking [] taken in
+        let its : List SpoolValue = own_spools (length w.specs) k building.spools in
+        let own_one = (column_there (length w.specs) b.workers index building.spools index_there kits.equipped.spools_many k spool lent).1 in
+        let runs : get_or (runs_of its) index [] ≡ spool.runs =
+        get_or_from_slice_get (runs_of its) index spool.runs [] (map_at (λ (s : SpoolValue). s.runs) its index spool own_one) in
+        let begun : get_or maker.0.begun index [] ≡ [] = no_pair maker.0.begun index done.closed in
+        let held = held_pairs live.state.heap.schema live.state.heap.log b k sent it.0 (put k sent there) taking spec columns (get_or (runs_of its) index [])
+        (get_or maker.0.begun index []) (kits.holding index spec is none k it.0 maker.0 less it.1 maker.1) in
+        let closed : all_pairs (get_or (runs_of its) index []) ++ get_or maker.0.begun index [] ≡ all_pairs spool.runs =
+        ap₂ (λ (rs : List (List Pair)) (ps : List Pair). all_pairs rs ++ ps) runs begun ∙ append-nil (all_pairs spool.runs) in
+        let whole : take it.0.taken (put_to b k) ≡ put_to b k = take_all it.0.taken (put_to b k) (omega (arith, rest)) in
+        subst (λ (scans : List Scan). IsPermutation (all_pairs spool.runs) (flat_map (pairs_at_scan (scanning_of b spec) live.state.heap.log) scans)) whole
+        (subst (λ (ps : List Pair). IsPermutation ps (flat_map (pairs_at_scan (scanning_of b spec) live.state.heap.log) (take it.0.taken (put_to b k)))) closed held)
+
+    -- all together hold those of all pages
+    together : w.built ≡ None → IsPermutation (pairs_in own) scanned
+    together none =
+        let many = column_many (length w.specs) b.workers index building.spools index_there (run.at_work.kits fine).equipped.spools_many in
+        let all : take b.workers own ≡ own = take_all b.workers own (omega (arith, many)) in
+        let each : flat_map (λ (s : SpoolValue). all_pairs s.runs) (take b.workers own) ≡ pairs_in own =
+        ap (flat_map (λ (s : SpoolValue). all_pairs s.runs)) all ∙ sym (pairs_by_spool own) in
+        subst (λ (ps : List Pair). IsPermutation ps scanned) each
+        (parts_together (λ (s : SpoolValue). all_pairs s.runs) (λ (s : Scan). s.worker) (pairs_at_scan (scanning_of b spec) live.state.heap.log) b.scans
+        own b.workers (omega (arith, many)) run.follows.for_workers (own_pairs none))
+
+    -- none of them is there twice
+    pub each_once : w.built ≡ None → AreEachOnce (pairs_in own)
+    each_once none =
+        IsDistinct-IsPermutation (eq_by_cmp pair_cmp) (eq_by_cmp_equiv pairs_total).symm scanned (pairs_in own)
+        (IsPermutation-sym (pairs_in own) scanned (together none))
+        (scanned_distinct (scanning_of b spec) live.state.heap.log b.scans run.follows.scanned.once)
+
+  -- an index of the build can be loaded
+  pub can_load : (index : ℕ) → index < length w.specs → CanLoad index building
+  can_load index less =
+      let it = there_is w.specs index less in
+      record {
+        work = w;
+        runs = run.work_is;
+        there = less;
+        lent = (run.at_work.kits fine).equipped.spools_many ∙ ap (λ (n : ℕ). n * length w.specs) (sym run.on.workers);
+        sorted = λ none. runs_sorted live building b w run fine index less;
+        once = λ none. each_once index it.0 it.1 none;
+      }
+
   abbrev before : WorkState
   before = work_state building.workers building.work
 
-  abbrev scanned : List Pair
-  scanned = scanned_pairs (scanning_of b w.spec) live.state.heap.log
-
-  -- what a load of that build answers
+  -- what a load of that build's index answers
   abbrev load_answer : BuildState → ℕ
   load_answer x = if (index_at before.indexes 0).loaded then 0 else pairs_copied x live.state.heap.log (slice_get x.specs 0)
 
-  -- the spool of a quiet worker holds the pairs of all pages that were copied for it
-  own_pairs :
-      w.built ≡ None → (k : ℕ) (spool : SpoolValue) → k < b.workers → slice_get building.spools k ≡ Some spool
-      → IsPermutation (all_pairs spool.runs) (flat_map (pairs_at_scan (scanning_of b w.spec) live.state.heap.log) (put_to b k))
-  own_pairs none k spool less lent =
-      let kits = run.at_work.kits fine in
-      let end = there_is live.pages k (omega (arith, less, run.follows.few_workers, rings)) in
-      let it = there_is building.workers k (omega (arith, less, run.follows.few_workers, sixteen)) in
-      let maker = there_is w.makers k (omega (arith, less, kits.equipped.makers_many)) in
-      let sent : List Copied = end.0.sent in
-      let there : slice_get (all_sent live.pages) k ≡ Some sent = map_at (λ (e : PutEnd Copied). e.sent) live.pages k end.0 end.1 in
-      let done = quiet k sent it.0 maker.0 less there it.1 maker.1 in
-      let taking = run.at_work.taking fine k sent it.0 less there it.1 in
-      let taken : it.0.end.received ++ [] ≡ sent = append-nil it.0.end.received ∙ done.taken in
-      let rest = waits live.state.heap.schema live.state.heap.log b w.spec k sent it.0 run.on.columns (put k sent there) taking [] taken in
-      let fit = kits.equipped.fit k maker.0 spool maker.1 lent in
-      let held = held_pairs live.state.heap.schema live.state.heap.log b w.spec k sent it.0 run.on.columns (put k sent there) taking spool.runs (begun_of maker.0)
-      (kits.holding none k it.0 maker.0 spool less it.1 maker.1 lent) in
-      let closed : all_pairs spool.runs ++ begun_of maker.0 ≡ all_pairs spool.runs =
-      ap (λ ps. all_pairs spool.runs ++ ps) (begun_none maker.0 fit.one_index done.closed) ∙ append-nil (all_pairs spool.runs) in
-      let whole : take it.0.taken (put_to b k) ≡ put_to b k = take_all it.0.taken (put_to b k) (omega (arith, rest)) in
-      subst (λ (scans : List Scan). IsPermutation (all_pairs spool.runs) (flat_map (pairs_at_scan (scanning_of b w.spec) live.state.heap.log) scans)) whole
-      (subst (λ (ps : List Pair). IsPermutation ps (flat_map (pairs_at_scan (scanning_of b w.spec) live.state.heap.log) (take it.0.taken (put_to b k)))) closed held)
+  first_there : slice_get w.specs 0 ≡ Some (first_spec w)
+  first_there = ap (λ (specs : List KeySpecValue). slice_get specs 0) (sym run.on.specs ∙ run.on.only)
+
+  abbrev first_pairs : List Pair
+  first_pairs = scanned_pairs (scanning_of b (first_spec w)) live.state.heap.log
 
   abbrev made : List Pair
-  made = all_pairs (all_runs (map (λ (s : SpoolValue). s.runs) building.spools))
+  made = pairs_in (column 0 (length w.specs) building.spools)
 
-  -- all together hold those of all pages
-  together : w.built ≡ None → IsPermutation made scanned
-  together none =
-      let many = (run.at_work.kits fine).equipped.spools_many in
-      let all : take b.workers building.spools ≡ building.spools = take_all b.workers building.spools (omega (arith, many)) in
-      let each : flat_map (λ (s : SpoolValue). all_pairs s.runs) (take b.workers building.spools) ≡ made =
-      ap (flat_map (λ (s : SpoolValue). all_pairs s.runs)) all ∙ sym (pairs_by_spool building.spools) in
-      subst (λ (ps : List Pair). IsPermutation ps scanned) each
-      (parts_together (λ (s : SpoolValue). all_pairs s.runs) (λ (s : Scan). s.worker) (pairs_at_scan (scanning_of b w.spec) live.state.heap.log) b.scans
-      building.spools b.workers (omega (arith, many)) run.follows.for_workers (own_pairs none))
-
-  -- none of them is there twice
-  pub each_once : w.built ≡ None → AreEachOnce made
-  each_once none =
-      IsDistinct-IsPermutation (eq_by_cmp pair_cmp) (eq_by_cmp_equiv pairs_total).symm scanned made (IsPermutation-sym made scanned (together none))
-      (scanned_distinct (scanning_of b w.spec) live.state.heap.log b.scans run.follows.scanned.once)
-
-  module _ (new : BuildingValue) (count : ℕ) (none : w.built ≡ None) (done : HasSorted w building count new) where
+  module _ (new : BuildingValue) (count : ℕ) (none : w.built ≡ None) (done : HasSorted 0 w building count new) where
     abbrev sorted : WorkValue
     sorted = after_sort w done.pairs
 
     abbrev left : BuildingValue
-    left = record building { spools = map ended_spool building.spools; work = Some sorted }
+    left = record building { spools = ended_column 0 (length w.specs) building.spools; work = Some sorted }
 
     sorted_works : WorksOn live new
     sorted_works =
@@ -145,20 +182,20 @@ module _
           build_is = run.build_is;
           work_is = refl;
           follows = run.follows;
-          on = sorted_work_on live.state.heap.schema live.state.heap.log b w made done.pairs run.on all none (together none)
+          on = sorted_work_on live.state.heap.schema live.state.heap.log b w made done.pairs run.on all none (together 0 (first_spec w) first_there none)
               done.moved done.ordered;
           at_work = record {
             fed = run.at_work.fed;
             given = run.at_work.given;
             taking = λ f. run.at_work.taking fine;
-            kits = λ f. kits_sorted b.workers building.workers building.spools w sorted (run.at_work.kits fine) refl refl (λ no_tree. absurd (cc));
+            kits = λ f. kits_sorted b.workers building.workers building.spools 0 w sorted (run.at_work.kits fine) refl refl (λ no_tree. absurd (cc));
           };
         }))
 
-    counted : count ≡ length scanned
+    counted : count ≡ length first_pairs
     counted =
-        done.counted ∙ length_permutation scanned done.pairs
-        (IsPermutation-trans scanned made done.pairs (IsPermutation-sym made scanned (together none)) done.moved)
+        done.counted ∙ length_permutation first_pairs done.pairs
+        (IsPermutation-trans first_pairs made done.pairs (IsPermutation-sym made first_pairs (together 0 (first_spec w) first_there none)) done.moved)
 
     state_left : work_state left.workers left.work ≡ after_load before 0
     state_left =
@@ -167,11 +204,12 @@ module _
 
     -- the spools are given, as they were
     spools_left : spools_state left.given left.spools ≡ spools_state building.given building.spools
-    spools_left = rw run.at_work.given (ap (λ stakes. record { stakes = stakes; left = [] }) (mapped ended_spool (λ (s : SpoolValue). s.stake) building.spools))
+    spools_left = rw run.at_work.given (ap (λ stakes. record { stakes = stakes; left = [] }) (kept_changed ended_spool (λ (s : SpoolValue). s.stake) (λ s. refl) (length w.specs - 1) 0 building.spools))
 
     answer_is : count ≡ load_answer b
     answer_is =
         counted
+        ∙ ap (pairs_copied b live.state.heap.log) (sym first_there)
         ∙ ap (λ (specs : List KeySpecValue). pairs_copied b live.state.heap.log (slice_get specs 0)) (sym run.on.specs)
         ∙ ap (λ (o : Option BuiltValue). if is_some o then 0 else pairs_copied b live.state.heap.log (slice_get b.specs 0)) (sym none)
         ∙ ap (λ (s : WorkState). if (index_at s.indexes 0).loaded then 0 else pairs_copied b live.state.heap.log (slice_get b.specs 0))
@@ -201,12 +239,12 @@ module _
       (sym run.build_is)
       (rw loaded is, ap (λ (s : WorkState). record { live = live.state; work = s; spools = spools_state building.given building.spools }) state)
 
-  module _ (new : BuildingValue) (count : ℕ) (done : HasLoaded building count new) where
+  module _ (new : BuildingValue) (count : ℕ) (done : HasLoaded 0 building count new) where
     same : done.work ≡ w
     same = same_Some done.work w (sym done.runs ∙ run.work_is)
 
-    first : w.built ≡ None → HasSorted w building count new
-    first = subst (λ (v : WorkValue). v.built ≡ None → HasSorted v building count new) same done.first
+    first : w.built ≡ None → HasSorted 0 w building count new
+    first = subst (λ (v : WorkValue). v.built ≡ None → HasSorted 0 v building count new) same done.first
 
     again : is_some w.built ≡ true → (count ≡ 0) × (new ≡ building)
     again = subst (λ (v : WorkValue). is_some v.built ≡ true → (count ≡ 0) × (new ≡ building)) same done.again
@@ -224,13 +262,13 @@ module _
 
   -- whatever the load answered, all goes on
   pub works_after_load :
-      (new : BuildingValue) (answer : Result ℕ Fault) → IfOk answer (λ count. HasLoaded building count new) → IfErr answer (λ fault. IsSpoiled fault building new)
+      (new : BuildingValue) (answer : Result ℕ Fault) → IfOk answer (λ count. HasLoaded 0 building count new) → IfErr answer (λ fault. IsSpoiled fault building new)
       → WorksOn live new
   works_after_load new (Ok count) done spoiled = loaded_works new count done w.built refl
   works_after_load new (Err fault) done spoiled = spoiled_works live fault building new b w run spoiled
 
   pub loads_after :
-      (new : BuildingValue) (answer : Result ℕ Fault) → IfOk answer (λ count. HasLoaded building count new)
+      (new : BuildingValue) (answer : Result ℕ Fault) → IfOk answer (λ count. HasLoaded 0 building count new)
       → IfOk answer (λ count. Loads 0 (core_state live building) count (core_state live new))
   loads_after new (Ok count) done = loaded_loads new count done w.built refl
   loads_after new (Err fault) done = tt

@@ -1,5 +1,5 @@
 -- Spools whose pairs are put in order, and that are then ended.
-use Rattle.std.proofs.Common.{◌≡◌, List, [], ◌∷◌, All, map, Option, sym, ap, ◌∙◌}
+use Rattle.std.proofs.Common.{◌≡◌, ℕ, ◌-◌, List, [], ◌∷◌, All, map, Option, sym, ap, ◌∙◌}
 use Rattle.std.specs.List.Sorted.{IsSorted}
 use Rattle.std.proofs.lemmas.List.Elements.{All-nil, All-head, All-tail, All-append}
 use Rattle.spool_ledger.specs.Accounts.{Stake}
@@ -7,7 +7,9 @@ use Rattle.keybytes.specs.Pairs.{pair_cmp}
 use Rattle.keybytes.specs.declared.pair.Pair.{Pair}
 use Rattle.run_spool.specs.Spools.{AreSorted}
 use Rattle.run_merge.specs.Merging.{all_runs}
+use Rattle.builder_core.specs.Columns.{column, other_columns}
 use Rattle.builder_core.specs.Holding.{SpoolValue, spool_value, ended_spool}
+use Rattle.builder_core.proofs.Columns.{every_map, all_but_map, same_parts}
 use Rattle.builder_core.specs.Working.{AreEachOnce}
 use Rattle.std.specs.FinMap.{keys}
 use Rattle.std.specs.Prelude.{IsPermutation}
@@ -42,3 +44,13 @@ pub once_ordered : (made pairs : List Pair) → AreEachOnce made → IsPermutati
 once_ordered made pairs once moved sorted =
     let is : pairs ≡ keys (set_of made) = sorted_set made pairs once moved sorted in
     is ∙ ap keys (sym (set_of-keys (set_of made))) ∙ ap (λ ps. keys (set_of ps)) (sym is)
+
+-- a list is told by what its elements of an index are, and those of the others
+pub put_together :
+    {X Y : Type 0} (f : X → Y) (index indexes : ℕ) (old new own : List X) → column index indexes new ≡ own
+    → other_columns index indexes new ≡ other_columns index indexes old → (all : List Y) → column index indexes all ≡ map f own
+    → other_columns index indexes all ≡ other_columns index indexes (map f old) → map f new ≡ all
+put_together f index indexes old new own is others all all_own all_others =
+    let between : ℕ = indexes - 1 in
+    same_parts between index (map f new) all (every_map f between index new ∙ ap (map f) is ∙ sym all_own)
+    (all_but_map f between index new ∙ ap (map f) others ∙ sym (all_but_map f between index old) ∙ sym all_others)

@@ -1,17 +1,19 @@
 -- What stands beside a table, where one worker changes.
-use Rattle.std.proofs.Common.{◌≡◌, ℕ, List, map, set, get_or, [], true, Option, Some, refl, sym, ap, ◌∙◌}
-use Rattle.std.specs.List.{slice_get}
-use Rattle.std.proofs.lemmas.Option.{get_or_from_slice_get, same_Some}
+use Rattle.std.proofs.Common.{◌≡◌, ℕ, List, map, [], true, Option, Some, sym, ap, ◌∙◌}
+use Rattle.std.proofs.lemmas.Option.{same_Some}
 use Rattle.side_file.specs.Ends.{RingId}
+use Rattle.spool_ledger.specs.Accounts.{Stake}
 use Rattle.side_file.specs.declared.entry.Entry.{Entry}
 use Rattle.building.specs.TakeEnd.{TakeEnd}
 use Rattle.building.specs.Work.{knowing}
 use Rattle.building.specs.WorkerValue.{WorkerValue}
 use Rattle.builder_core.specs.Builds.{BuildingValue, WorkValue}
-use Rattle.builder_core.specs.Holding.{SpoolValue, ended_spool, spools_state}
+use Rattle.builder_core.specs.Columns.{own_spools, with_own}
+use Rattle.builder_core.specs.Holding.{SpoolValue, ended_spool, stakes_of, spools_state}
 use Rattle.builder_core.specs.Rings.{AreTakeEnds, take_rings}
 use Rattle.builder_core.proofs.Looks.{takes_looked}
-use Rattle.builder_core.proofs.Places.{kept, as_long, mapped}
+use Rattle.builder_core.proofs.OwnSpools.{map_own, map_with_own, with_same}
+use Rattle.builder_core.proofs.Places.{as_long, mapped}
 
 -- workers that take from the same rings
 pub ends_same :
@@ -32,14 +34,16 @@ ends_looked page_rings side_ring workers new side are same = ends_same page_ring
 pub the_work : (o : Option WorkValue) (a b : WorkValue) → o ≡ Some a → o ≡ Some b → a ≡ b
 the_work o a b one other = same_Some a b (sym one ∙ other)
 
--- a spool that keeps its stake, among those that a build was given
+-- spools of a worker that keep their stakes, among those that a build was given
 pub same_stakes :
-    (building : BuildingValue) → building.given ≡ true → (k : ℕ) (old new : SpoolValue) → slice_get building.spools k ≡ Some old → new.stake ≡ old.stake
-    → spools_state building.given (set building.spools k new) ≡ spools_state building.given building.spools
-same_stakes building given k old new at same =
-    let there : old ≡ get_or building.spools k old = sym (get_or_from_slice_get building.spools k old old at) in
-    let stakes = kept (λ (s : SpoolValue). s.stake) building.spools (map (λ (s : SpoolValue). s.stake) building.spools) k new old refl
-    (same ∙ ap (λ (s : SpoolValue). s.stake) there) in
+    (building : BuildingValue) → building.given ≡ true → (n k : ℕ) (own : List SpoolValue) → stakes_of own ≡ stakes_of (own_spools n k building.spools)
+    → spools_state building.given (with_own n k own building.spools) ≡ spools_state building.given building.spools
+same_stakes building given n k own same =
+    let stake : SpoolValue → Option Stake = λ s. s.stake in
+    let stakes : stakes_of (with_own n k own building.spools) ≡ stakes_of building.spools =
+    map_with_own stake n k own building.spools
+    ∙ ap (λ (l : List (Option Stake)). with_own n k l (map stake building.spools)) (same ∙ sym (map_own stake n k building.spools))
+    ∙ with_same n k (map stake building.spools) in
     rw given (ap (λ all. record { stakes = all; left = [] }) stakes)
 
 -- spools that are ended, where a build was given them

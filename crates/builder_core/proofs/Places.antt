@@ -3,11 +3,11 @@ use Rattle.std.proofs.Common.{◌≡◌, ℕ, zero, suc, ◌<◌, ◌⊎◌, Lis
 use Rattle.std.proofs.Common.{arith}
 use Rattle.std.specs.Prelude.{replicate}
 use Rattle.std.specs.List.{All, slice_get}
-use Rattle.std.specs.Option.{option_map}
+use Rattle.std.specs.Option.{option_map, unwrap_or}
 use Rattle.std.proofs.Math.Seq.{map-set_same}
-use Rattle.std.proofs.lemmas.List.{get_or-map, get_or-set_same, length-map, length-set}
+use Rattle.std.proofs.lemmas.List.{get_or-map, get_or-set_same, get_or_default, length-map, length-set}
 use Rattle.std.proofs.lemmas.List.Elements.{All-head, All-tail, All-nil, All-cons}
-use Rattle.std.proofs.lemmas.Option.{same_Some, slice_get-map, slice_get-get_or}
+use Rattle.std.proofs.lemmas.Option.{same_Some, slice_get-map, slice_get-get_or, unwrap_or-slice_get}
 
 -- where one place was written, each has what was written, or what it had
 pub at_set :
@@ -104,3 +104,32 @@ below (y ∷ ys) (suc i) x at = let less = below ys i x at in omega (arith, less
 pub all_from : {X : Type 0} (P : X → Type 0) (xs : List X) → ((k : ℕ) (x : X) → slice_get xs k ≡ Some x → P x) → All P xs
 all_from P [] each = All-nil P
 all_from P (x ∷ xs) each = All-cons P x xs (each 0 x refl) (all_from P xs (λ k y at. each (suc k) y at))
+
+-- what holds of each place holds of what is made of it
+pub mapped_of : {X Y : Type 0} (P : Y → Type 0) (f : X → Y) (xs : List X) → ((k : ℕ) (x : X) → slice_get xs k ≡ Some x → P (f x)) → All P (map f xs)
+mapped_of P f xs each = all_from P (map f xs) (λ k y at. let it = at_map f xs k y at in subst P it.2 (each k it.0 it.1))
+
+pub mapped_all : {X Y : Type 0} (P : Y → Type 0) (f : X → Y) (xs : List X) → All (λ x. P (f x)) xs → All P (map f xs)
+mapped_all P f xs all = mapped_of P f xs (λ k x at. all_at (λ y. P (f y)) xs k x all at)
+
+-- and the other way round
+pub all_mapped : {X Y : Type 0} (P : Y → Type 0) (f : X → Y) (xs : List X) → All P (map f xs) → All (λ x. P (f x)) xs
+all_mapped P f xs all = all_from (λ x. P (f x)) xs (λ k x at. all_at P (map f xs) k (f x) all (map_at f xs k x at))
+
+-- a place of lists that are all empty
+pub no_pair : {X : Type 0} (xs : List (List X)) (k : ℕ) → All (λ x. x ≡ []) xs → get_or xs k [] ≡ []
+no_pair [] k all = refl
+no_pair (x ∷ xs) zero all = All-head (λ y. y ≡ []) x xs all
+no_pair (x ∷ xs) (suc k) all = no_pair xs k (All-tail (λ y. y ≡ []) x xs all)
+
+-- and lists that are empty in each place
+pub no_pairs : {X : Type 0} (xs : List (List X)) → ((k : ℕ) → k < length xs → get_or xs k [] ≡ []) → All (λ x. x ≡ []) xs
+no_pairs xs each k d less = get_or_default xs k d [] less ∙ each k less
+
+-- what is read by f at a place of two lists that have the same there
+pub read_same :
+    {X Y : Type 0} (f : X → List Y) (xs ys : List X) (k : ℕ) → slice_get xs k ≡ slice_get ys k → get_or (map f xs) k [] ≡ get_or (map f ys) k []
+read_same f xs ys k same =
+    sym (unwrap_or-slice_get (map f xs) k [])
+    ∙ ap (λ (o : Option _). unwrap_or o []) (slice_get-map f xs k ∙ ap (option_map f) same ∙ sym (slice_get-map f ys k))
+    ∙ unwrap_or-slice_get (map f ys) k []

@@ -73,7 +73,7 @@ module _
     pub waiting_is : (known : List Copied) → worker.end.received ++ known ≡ sent → waiting b work k ≡ length known
     waiting_is known in_order =
         ap (λ s. length (put_to b k) - s.taken) (worker_there k less worker at)
-        ∙ waits live.state.heap.schema live.state.heap.log b w.spec k sent worker run.on.columns (put k sent there)
+        ∙ waits live.state.heap.schema live.state.heap.log b k sent worker (put k sent there)
         (run.at_work.taking fine k sent worker less there at) known in_order
 
 -- to give a running build up nothing is in the way

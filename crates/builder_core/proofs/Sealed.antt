@@ -13,7 +13,7 @@ use Rattle.building.specs.declared.copied.Copied.{Copied}
 use Rattle.building.proofs.Taking.{next_count, sent_count}
 use Rattle.builder_core.specs.Builds.{LiveValue, BuildingValue, WorkValue, IsRunning, SeesRing, WorksOn, worker_state, work_state, core_state, index_state}
 use Rattle.builder_core.specs.CoreState.{BuildState, WorkerState, WorkState, SpoolsState}
-use Rattle.builder_core.specs.Holding.{SpoolValue, Sealed, spools_state}
+use Rattle.builder_core.specs.Holding.{SpoolValue, Sealed, kit_of, spools_state}
 use Rattle.builder_core.specs.Rings.{all_sent, ArePut}
 use Rattle.builder_core.specs.Steps.{OnBuild, Seals, after_seal as sealed}
 use Rattle.builder_core.specs.Workers.{put_to, waiting}
@@ -32,8 +32,8 @@ module _
   same_work : taken.work ≡ w
   same_work = same_Some taken.work w (sym taken.runs ∙ run.work_is)
 
-  at_it : HasTakenAt w.spec k all_copies after_seal Sealed building.workers w.makers building.spools images taken.workers taken.makers taken.spools
-  at_it = subst (λ (v : WorkValue). HasTakenAt v.spec k all_copies after_seal Sealed building.workers v.makers building.spools images taken.workers taken.makers taken.spools)
+  at_it : HasTakenAt w.specs k all_copies after_seal Sealed building.workers w.makers building.spools images taken.workers taken.makers taken.spools
+  at_it = subst (λ (v : WorkValue). HasTakenAt v.specs k all_copies after_seal Sealed building.workers v.makers building.spools images taken.workers taken.makers taken.spools)
       same_work taken.taken
 
   same_it : at_it.it ≡ it
@@ -43,7 +43,7 @@ module _
   last = after_seal (after_digest (all_copies it) it)
 
   abbrev changed : BuildingValue
-  changed = going_on live building b w run fine put k sent it less there at in_order at_it.kit at_it.after at_it.maker at_it.spool at_it.fit (all_copies it) last
+  changed = going_on live building b w run fine put k sent it less there at in_order at_it.maker at_it.after at_it.made at_it.fit (all_copies it) last
 
   left : new ≡ changed
   left =
@@ -61,8 +61,8 @@ module _
   pub sealed_on : WorksOn live new
   sealed_on =
       subst (WorksOn live) (sym left)
-      (sealed_works live building b w run fine put k sent it less there at in_order at_it.kit at_it.after at_it.maker at_it.spool at_it.fit (all_copies it)
-      (subst (λ (v : WorkerValue). Sealed w.spec (next_images (all_copies v) v) at_it.kit at_it.after) same_it at_it.spools_more))
+      (sealed_works live building b w run fine put k sent it less there at in_order at_it.maker at_it.after at_it.made at_it.fit (all_copies it)
+      (subst (λ (v : WorkerValue). Sealed w.specs (next_images (all_copies v) v) (kit_of (length w.specs) k at_it.maker building.spools) at_it.after) same_it at_it.spools_more))
 
   -- it took all that waited
   all : length (next_images (all_copies it) it) ≡ length it.end.known
@@ -96,7 +96,7 @@ module _
 
   -- the spools are given, as they were
   spools_are : spools_state changed.given changed.spools ≡ spools_state building.given building.spools
-  spools_are = same_stakes building run.at_work.given k at_it.kit.spool at_it.after.spool at_it.spool at_it.stake
+  spools_are = same_stakes building run.at_work.given (length w.specs) k at_it.after.spools at_it.stakes
 
   pub seals : Seals k (core_state live building) images (core_state live new)
   seals =

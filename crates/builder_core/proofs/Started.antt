@@ -1,6 +1,7 @@
 -- What the start of a build leaves.
-use Rattle.std.proofs.Common.{◌≡◌, ℕ, ◌+◌, ◌≤◌, List, [], ◌∷◌, length, map, true, Some, None, refl, sym, ap, ◌∙◌, subst, ◌++◌, arith, ◌-◌}
+use Rattle.std.proofs.Common.{◌≡◌, ℕ, ◌+◌, ◌*◌, ◌≤◌, List, [], ◌∷◌, length, map, true, Some, None, refl, sym, ap, ◌∙◌, subst, ◌++◌, arith, ◌-◌}
 use Rattle.std.proofs.lemmas.List.{length-map}
+use Rattle.std.proofs.lemmas.List.Elements.{All-cons, All-nil}
 use Rattle.keybytes.specs.Keys.{KeySpecValue}
 use Rattle.keybytes.specs.declared.kind.Kind.{Kind}
 use Rattle.heap_log.specs.declared.record.LogRec.{LogRec}
@@ -73,17 +74,18 @@ module _
 pub started_works :
     (live : LiveValue) (building : BuildingValue) (b : BuildState) (w : WorkValue) (builds : ℕ) (spec : KeySpecValue) (workers opened : ℕ) (cuts : CutsValue)
     → live.state.build ≡ Some b → building.work ≡ Some w → building.given ≡ true → b ≡ build_over (builds + 1) spec workers opened cuts [] 0
-    → w ≡ fresh (builds + 1) spec.kinds spec workers → IsBuildOf live.state.heap.schema live.state.heap.log b → spec.kinds ≡ live.state.heap.schema
+    → w ≡ fresh (builds + 1) live.state.heap.schema (spec ∷ []) workers → IsBuildOf live.state.heap.schema live.state.heap.log b → spec.kinds ≡ live.state.heap.schema
     → AreOfBuilds builds (all_sent live.pages) → building.workers ≡ map (begun_on (builds + 1)) live.pages
-    → live.side.ring ≡ building.side.ring → building.side.received ≡ live.side.sent → length building.spools ≡ workers
+    → live.side.ring ≡ building.side.ring → building.side.received ≡ live.side.sent → length building.spools ≡ workers * length (spec ∷ [])
     → ((k : ℕ) (spool : SpoolValue) → slice_get building.spools k ≡ Some spool → (spool.runs ≡ []) × (spool.open_run ≡ [])) → WorksOn live building
 started_works live building b w builds spec workers opened cuts build_is work_is given b_is w_is follows columns before workers_is ring drained many empty =
     let new : BuildState = build_over (builds + 1) spec workers opened cuts [] 0 in
+    let all = All-cons (λ (s : KeySpecValue). s.kinds ≡ live.state.heap.schema) spec [] columns (All-nil (λ (s : KeySpecValue). s.kinds ≡ live.state.heap.schema)) in
     works_with live building b w (record {
       build_is = build_is;
       work_is = work_is;
       follows = follows;
-      on = rw (b_is, w_is) (fresh_work_on live.state.heap.schema live.state.heap.log new spec.kinds spec workers refl columns refl);
+      on = rw (b_is, w_is) (fresh_work_on live.state.heap.schema live.state.heap.log new live.state.heap.schema (spec ∷ []) workers refl refl all refl);
       at_work = record {
         fed = rw (b_is, w_is) (record {
           same_ring = ring;
@@ -96,6 +98,6 @@ started_works live building b w builds spec workers opened cuts build_is work_is
         });
         given = given;
         taking = λ fine. rw (b_is, workers_is) (started_taking builds live.pages before workers);
-        kits = λ fine. rw (b_is, w_is, workers_is) (started_kits builds live.pages before spec workers (builds + 1) building.spools many empty);
+        kits = λ fine. rw (b_is, w_is, workers_is) (started_kits builds live.pages before live.state.heap.schema (spec ∷ []) workers (builds + 1) building.spools all many empty);
       };
     })

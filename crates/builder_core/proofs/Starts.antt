@@ -148,9 +148,10 @@ at_first build (end ∷ ends) = All-cons IsFirst (begun_on build end) (map (begu
 
 -- its work is that of so many workers on one index
 pub fresh_is :
-    (plan : Plan) (kinds : List Kind) (spec : KeySpecValue) (build number : ℕ) (pages : List (PutEnd Copied)) → plan.workers ≤ length pages → plan.specs.items ≡ spec ∷ []
-    → work_state (map (begun_on build) pages) (Some (fresh number kinds spec plan.workers)) ≡ fresh_work plan
-fresh_is plan kinds spec build number pages few one =
+    (plan : Plan) (kinds : List Kind) (specs : List KeySpecValue) (spec : KeySpecValue) (build number : ℕ) (pages : List (PutEnd Copied))
+    → plan.workers ≤ length pages → plan.specs.items ≡ spec ∷ []
+    → work_state (map (begun_on build) pages) (Some (fresh number kinds specs plan.workers)) ≡ fresh_work plan
+fresh_is plan kinds specs spec build number pages few one =
     let states : map worker_state (take plan.workers (map (begun_on build) pages)) ≡ replicate plan.workers (record { taken = 0; sealed = 0 }) =
     repeated worker_state plan.workers (map (begun_on build) pages) (record { taken = 0; sealed = 0 }) (omega (arith, few, length-map pages (begun_on build))) (at_first build pages) in
     rw (one, states) refl

@@ -8,34 +8,34 @@ use Rattle.heap_log.specs.declared.outcome.Outcome.TheVariants.{Ready}
 use Rattle.heap_table.specs.HeapState.{HeapState, after_switch}
 use Rattle.heap_table.specs.TablePairs.{pairs_at_rest}
 use Rattle.catch_up.specs.Built.{BuiltValue}
-use Rattle.builder_core.specs.Builds.{LiveValue, BuildingValue, WorkValue, IsRunning, work_state, core_state, index_state}
+use Rattle.builder_core.specs.Builds.{LiveValue, BuildingValue, WorkValue, IsRunning, work_state, core_state, index_state, first_spec}
 use Rattle.builder_core.specs.CoreState.{BuildState, IndexState, LiveState, ReadyValue, CoreState, SpoolsState, idle, scanning_of}
 use Rattle.builder_core.specs.Holding.{spools_state}
 use Rattle.builder_core.specs.SideEntries.{side_entries}
 use Rattle.builder_core.specs.Steps.{OnBuild, Switches, CatchesUp, AreFurther, ready_from, index_now, after_switch_in, verdicts_on}
 use Rattle.builder_core.specs.Workers.{all_unapplied}
 use Rattle.builder_core.proofs.FedBeside.{indexes_seen}
-use Rattle.builder_core.proofs.TableBuilds.{only_same, switched_pairs}
+use Rattle.builder_core.proofs.TableBuilds.{only_same, columns_for, switched_pairs}
 
 module _
     (live : LiveValue) (building : BuildingValue) (b : BuildState) (w : WorkValue) (run : IsRunning live building b w)
     (spec : KeySpecValue) (one : b.specs ≡ spec ∷ []) (built : BuiltValue) (is : w.built ≡ Some built)
     (all : OnBuild live.state.build (λ b. all_unapplied b live.state.heap.log b.specs (work_state building.workers building.work).indexes ≡ 0)) where
-  spec_is : w.spec ≡ spec
-  spec_is = only_same w.spec spec (sym run.on.specs ∙ one)
+  spec_is : first_spec w ≡ spec
+  spec_is = only_same (first_spec w) spec (sym run.on.only ∙ one)
 
   -- the index is of the table's columns, and has the pairs of the rows that stand
   pub columns_are : spec.kinds ≡ live.state.heap.schema
-  columns_are = sym (ap (λ (s : KeySpecValue). s.kinds) spec_is) ∙ run.on.columns
+  columns_are = columns_for live.state.heap.schema live.state.heap.log b run.follows spec one
 
-  all_applied : length (side_entries (scanning_of b w.spec) live.state.heap.log) ≤ w.applied
+  all_applied : length (side_entries (scanning_of b (first_spec w)) live.state.heap.log) ≤ w.applied
   all_applied =
       let none : all_unapplied b live.state.heap.log b.specs (work_state building.workers building.work).indexes ≡ 0 =
       subst (λ (o : Option BuildState). OnBuild o (λ x. all_unapplied x live.state.heap.log x.specs (work_state building.workers building.work).indexes ≡ 0)) run.build_is all in
-      let sum : all_unapplied b live.state.heap.log (w.spec ∷ []) (index_state w ∷ []) ≡ 0 =
-      ap (all_unapplied b live.state.heap.log (w.spec ∷ []))
+      let sum : all_unapplied b live.state.heap.log (first_spec w ∷ []) (index_state w ∷ []) ≡ 0 =
+      ap (all_unapplied b live.state.heap.log (first_spec w ∷ []))
       (sym (ap (λ (o : Option WorkValue). (work_state building.workers o).indexes) run.work_is ∙ indexes_seen w.spoiled building.workers w))
-      ∙ ap (λ (specs : List KeySpecValue). all_unapplied b live.state.heap.log specs (work_state building.workers building.work).indexes) (sym run.on.specs)
+      ∙ ap (λ (specs : List KeySpecValue). all_unapplied b live.state.heap.log specs (work_state building.workers building.work).indexes) (sym run.on.only)
       ∙ none in
       omega (arith, sum)
 

@@ -12,7 +12,7 @@ use Rattle.keybytes.specs.declared.kind.Kind.{Kind}
 use Rattle.heap_log.specs.declared.record.LogRec.{LogRec}
 use Rattle.heap_table.specs.Pages.{pages_written}
 use Rattle.heap_table.specs.TablePairs.{pairs_at_rest}
-use Rattle.builder_core.specs.Builds.{WorkValue, IsBuildOf, IsWorkOn, IsWorkOf, BuildFollows, build_over}
+use Rattle.builder_core.specs.Builds.{WorkValue, IsBuildOf, IsWorkOn, IsWorkOf, BuildFollows, build_over, first_spec}
 use Rattle.builder_core.specs.CoreState.{BuildState, scanning_of}
 use Rattle.scan_range.specs.Cuts.{are_cuts}
 use Rattle.builder_core.specs.Ranges.{next_page}
@@ -89,6 +89,7 @@ work_grown :
 work_grown kinds log rec b work build is = record {
   number = is.number;
   specs = is.specs;
+  only = is.only;
   columns = is.columns;
   workers = is.workers;
   all = is.all;
@@ -102,7 +103,7 @@ work_grown kinds log rec b work build is = record {
   of_build = is.of_build;
 } where
   here : Scanning
-  here = scanning_of b work.spec
+  here = scanning_of b (first_spec work)
 
   grows : side_entries here (log ++ rec ∷ []) ≡ side_entries here log ++ entries_of here log rec
   grows = more_entries here log rec build.scanned.opened
@@ -139,13 +140,13 @@ set_of-keys s = same_members (set_of (keys s)) s (λ q. contains-set_of (keys s)
 -- once the side-file is applied to the scanned pairs, they are the pairs at rest
 pub switched_pairs :
     (kinds : List Kind) (log : List LogRec) (b : BuildState) (work : WorkValue) (built : BuiltValue) → IsBuildOf kinds log b → IsWorkOn kinds log b work
-    → work.built ≡ Some built → length (side_entries (scanning_of b work.spec) log) ≤ work.applied → built.pairs ≡ pairs_at_rest work.spec log
+    → work.built ≡ Some built → length (side_entries (scanning_of b (first_spec work)) log) ≤ work.applied → built.pairs ≡ pairs_at_rest (first_spec work) log
 switched_pairs kinds log b work built build is loaded all =
-    let here : Scanning = scanning_of b work.spec in
+    let here : Scanning = scanning_of b (first_spec work) in
     let whole : AllScanned here = all_copied b (is.all (ap is_some loaded)) build.cuts in
     is.loaded built loaded
     ∙ ap (λ es. keys (apply_entries es (set_of (scanned_pairs here log)))) (take_all work.applied (side_entries here log) all)
-    ∙ ap keys (leaves_index here log (scanned_for kinds log b build work.spec is.specs) whole)
+    ∙ ap keys (leaves_index here log (scanned_for kinds log b build (first_spec work) is.only) whole)
 
 -- the page that comes next is one of the table's
 pub next_written : (kinds : List Kind) (log : List LogRec) (b : BuildState) (range page : ℕ) → IsBuildOf kinds log b → next_page b range ≡ Some page → page < pages_written log

@@ -13,7 +13,7 @@ use Rattle.building.specs.declared.copied.Copied.{Copied}
 use Rattle.building.proofs.Taking.{next_count}
 use Rattle.builder_core.specs.Builds.{LiveValue, BuildingValue, WorkValue, IsRunning, SeesRing, WorksOn, worker_state, work_state, core_state, index_state}
 use Rattle.builder_core.specs.CoreState.{BuildState, WorkerState, WorkState, SpoolsState}
-use Rattle.builder_core.specs.Holding.{SpoolValue, Digested, spools_state}
+use Rattle.builder_core.specs.Holding.{SpoolValue, Digested, kit_of, spools_state}
 use Rattle.builder_core.specs.Rings.{all_sent, ArePut}
 use Rattle.builder_core.specs.Steps.{OnBuild, Waits, Digests, next_copies, after_digest as digested}
 use Rattle.builder_core.specs.Workers.{waiting, worker_at}
@@ -32,14 +32,14 @@ module _
   same_work : taken.work ≡ w
   same_work = same_Some taken.work w (sym taken.runs ∙ run.work_is)
 
-  at_it : HasTakenAt w.spec k one_copy (λ v. v) Digested building.workers w.makers building.spools images taken.workers taken.makers taken.spools
-  at_it = subst (λ (v : WorkValue). HasTakenAt v.spec k one_copy (λ x. x) Digested building.workers v.makers building.spools images taken.workers taken.makers taken.spools)
+  at_it : HasTakenAt w.specs k one_copy (λ v. v) Digested building.workers w.makers building.spools images taken.workers taken.makers taken.spools
+  at_it = subst (λ (v : WorkValue). HasTakenAt v.specs k one_copy (λ x. x) Digested building.workers v.makers building.spools images taken.workers taken.makers taken.spools)
       same_work taken.taken
 
   same_it : at_it.it ≡ it
   same_it = same_Some at_it.it it (sym at_it.there ∙ at)
 
-  left : new ≡ going_on live building b w run fine put k sent it less there at in_order at_it.kit at_it.after at_it.maker at_it.spool at_it.fit 1 (after_digest 1 it)
+  left : new ≡ going_on live building b w run fine put k sent it less there at in_order at_it.maker at_it.after at_it.made at_it.fit 1 (after_digest 1 it)
   left =
       taken.left ∙ ap (λ (v : WorkValue). record building { workers = taken.workers; spools = taken.spools; work = Some (record v { makers = taken.makers }) }) same_work
       ∙ ap (λ (ws : List WorkerValue). record building { workers = ws; spools = taken.spools; work = Some (record w { makers = taken.makers }) })
@@ -55,8 +55,8 @@ module _
   pub taken_works : WorksOn live new
   taken_works =
       subst (WorksOn live) (sym left)
-      (digested_works live building b w run fine put k sent it less there at in_order at_it.kit at_it.after at_it.maker at_it.spool at_it.fit 1
-      (subst (λ (v : WorkerValue). Digested w.spec (next_images 1 v) at_it.kit at_it.after) same_it at_it.spools_more))
+      (digested_works live building b w run fine put k sent it less there at in_order at_it.maker at_it.after at_it.made at_it.fit 1
+      (subst (λ (v : WorkerValue). Digested w.specs (next_images 1 v) (kit_of (length w.specs) k at_it.maker building.spools) at_it.after) same_it at_it.spools_more))
 
   one : length (next_images 1 it) ≡ 1
   one = next_count b.number sent it (run.at_work.taking fine k sent it less there at) 1 in_order some
@@ -82,7 +82,7 @@ module _
         counted n = record { taken = it.taken + n; sealed = it.sealed }
 
   abbrev changed : BuildingValue
-  changed = going_on live building b w run fine put k sent it less there at in_order at_it.kit at_it.after at_it.maker at_it.spool at_it.fit 1 (after_digest 1 it)
+  changed = going_on live building b w run fine put k sent it less there at in_order at_it.maker at_it.after at_it.made at_it.fit 1 (after_digest 1 it)
 
   abbrev with_states : List WorkerState → WorkState
   with_states states = record { workers = states; indexes = index_state w ∷ []; spoiled = None }
@@ -96,7 +96,7 @@ module _
 
   -- the spools are given, as they were
   spools_are : spools_state changed.given changed.spools ≡ spools_state building.given building.spools
-  spools_are = same_stakes building run.at_work.given k at_it.kit.spool at_it.after.spool at_it.spool at_it.stake
+  spools_are = same_stakes building run.at_work.given (length w.specs) k at_it.after.spools at_it.stakes
 
   pub digests : Digests k (core_state live building) images (core_state live new)
   digests =

@@ -1,14 +1,16 @@
 -- A worker of a running build takes copies.
-use Rattle.std.proofs.Common.{◌≡◌, ℕ, ◌<◌, List, [], ◌∷◌, ◌++◌, map, take, set, Option, Some, None, refl, sym, ap, ◌∙◌}
-use Rattle.std.proofs.Common.{subst, arith}
+use Rattle.std.proofs.Common.{◌≡◌, ℕ, ◌+◌, ◌*◌, ◌<◌, ◌≤◌, List, [], ◌∷◌, ◌++◌, length, map, take, set, get_or, Option, Some, None, refl, sym, ap, ◌∙◌}
+use Rattle.std.proofs.Common.{false, subst, arith}
 use Rattle.std.specs.Prelude.{flat_map, IsPermutation, Result, Ok, Err, IfErr}
 use Rattle.std.specs.List.{slice_get}
 use Rattle.std.proofs.lemmas.List.{map-set}
 use Rattle.std.proofs.Math.Seq.{take-set-lt}
-use Rattle.std.proofs.lemmas.Option.{same_Some}
+use Rattle.std.proofs.lemmas.Option.{same_Some, get_or_from_slice_get}
 use Rattle.keybytes.specs.declared.fault.Fault.{Fault}
 use Rattle.keybytes.specs.declared.pair.Pair.{Pair}
 use Rattle.run_spool.specs.Spools.{all_pairs}
+use Rattle.keybytes.specs.declared.kind.Kind.{Kind}
+use Rattle.run_maker.specs.Making.{MakerValue, spec_at}
 use Rattle.run_maker.specs.Spooling.{Adds}
 use Rattle.building.specs.Copies.{images_of}
 use Rattle.building.specs.Holding.{HoldsPairs, HoldsOpen}
@@ -25,7 +27,8 @@ use Rattle.builder_core.specs.Builds.{core_state}
 use Rattle.builder_core.specs.SideFiles.{IsFed}
 use Rattle.builder_core.specs.Workers.{fed_to}
 use Rattle.builder_core.specs.CoreState.{BuildState, WorkState, SpoolsState, scanning_of, spoiled_work}
-use Rattle.builder_core.specs.Holding.{Kit, IsFit, Digested, Sealed, begun_of, spools_state}
+use Rattle.builder_core.specs.Columns.{with_own}
+use Rattle.builder_core.specs.Holding.{Kit, IsFit, HoldsAt, Digested, Sealed, holdings, kit_of, runs_of, spools_state}
 use Rattle.builder_core.specs.Rings.{all_sent, ArePut, HasPut, PagesFollow}
 use Rattle.builder_core.specs.Scanning.{pairs_at_scan}
 use Rattle.builder_core.specs.Steps.{spoiled_by}
@@ -33,8 +36,8 @@ use Rattle.builder_core.specs.Workers.{put_to}
 use Rattle.builder_core.specs.Working.{IsSpoiled}
 use Rattle.builder_core.proofs.AtWork.{taking_set}
 use Rattle.builder_core.proofs.CopyPairs.{copies_pairs}
-use Rattle.builder_core.proofs.Kits.{kits_set}
-use Rattle.builder_core.proofs.Places.{there_is}
+use Rattle.builder_core.proofs.Kits.{kits_set, lent_to}
+use Rattle.builder_core.proofs.Places.{there_is, all_at, below, no_pair}
 use Rattle.builder_core.proofs.Refusals.{works_with}
 use Rattle.builder_core.proofs.Works.{makers_work_on, spoiled_work_on}
 use Rattle.heap_table.specs.Images.{ImageValue}
@@ -80,38 +83,52 @@ module _
   taking : IsTaking b.number sent it
   taking = run.at_work.taking fine k sent it less there at
 
-  -- the pairs of the copies that it sees
-  have_next : (n : ℕ) → (made : List Pair) × HavePairs w.spec (next_images n it) made
-  have_next n =
-      let made : List Pair = flat_map (pairs_at_scan (scanning_of b w.spec) live.state.heap.log) (put_to b k) in
-      let have = copies_pairs (scanning_of b w.spec) live.state.heap.schema live.state.heap.log (put_to b k) (images_of b.number sent) run.on.columns (put k sent there) in
-      have_seen w.spec n it sent made in_order (subst (λ (build : ℕ). HavePairs w.spec (images_of build sent) made) (sym taking.of_build) have)
+  -- the pairs of the copies that it sees, for each index
+  have_next : (n index : ℕ) (spec : KeySpecValue) → slice_get w.specs index ≡ Some spec → (made : List Pair) × HavePairs spec (next_images n it) made
+  have_next n index spec is =
+      let made : List Pair = flat_map (pairs_at_scan (scanning_of b spec) live.state.heap.log) (put_to b k) in
+      let columns = all_at (λ (s : KeySpecValue). s.kinds ≡ live.state.heap.schema) w.specs index spec run.on.columns is in
+      let have = copies_pairs (scanning_of b spec) live.state.heap.schema live.state.heap.log (put_to b k) (images_of b.number sent) columns (put k sent there) in
+      have_seen spec n it sent made in_order (subst (λ (build : ℕ). HavePairs spec (images_of build sent) made) (sym taking.of_build) have)
 
-  -- it can read the rows of the copies that it sees
-  pub can_read : (n : ℕ) → HaveRows w.spec.kinds (next_images n it)
-  can_read n = let next = have_next n in have_rows w.spec (next_images n it) next.0 next.1
-
-  -- its kit is there, and fit
-  pub its_kit : (kit : Kit) × (slice_get w.makers k ≡ Some kit.maker) × (slice_get building.spools k ≡ Some kit.spool) × IsFit w.spec.kinds w.spec kit
+  -- its maker is there, and with its spools a fit kit
+  pub its_kit : (maker : MakerValue) × (slice_get w.makers k ≡ Some maker) × IsFit w.specs (kit_of (length w.specs) k maker building.spools)
   its_kit =
       let equipped = (run.at_work.kits fine).equipped in
       let maker = there_is w.makers k (omega (arith, less, equipped.makers_many)) in
-      let spool = there_is building.spools k (omega (arith, less, equipped.spools_many)) in
-      (record { maker = maker.0; spool = spool.0 }, maker.1, spool.1, equipped.fit k maker.0 spool.0 maker.1 spool.1)
+      (maker.0, maker.1, equipped.fit k maker.0 maker.1)
 
-  module _ (kit after : Kit) (made_by : slice_get w.makers k ≡ Some kit.maker) (lent : slice_get building.spools k ≡ Some kit.spool)
-      (fit : IsFit w.spec.kinds w.spec after) (n : ℕ) where
+  -- so are its spools
+  pub its_spools : k * length w.specs + length w.specs ≤ length building.spools
+  its_spools = lent_to w.specs b.workers k w.makers building.spools (run.at_work.kits fine).equipped less
+
+  -- it can read the rows of the copies that it sees
+  pub can_read : (n : ℕ) → HaveRows its_kit.0.schema (next_images n it)
+  can_read n =
+      let some : 0 < length w.specs = let one = ap length (sym run.on.specs ∙ run.on.only) in omega (arith, one) in
+      let first = there_is w.specs 0 some in
+      let next = have_next n 0 first.0 first.1 in
+      subst (λ (kinds : List Kind). HaveRows kinds (next_images n it))
+      (all_at (λ (s : KeySpecValue). s.kinds ≡ its_kit.0.schema) w.specs 0 first.0 its_kit.2.columns first.1)
+      (have_rows first.0 (next_images n it) next.0 next.1)
+
+  module _ (maker : MakerValue) (after : Kit) (made_by : slice_get w.makers k ≡ Some maker) (fit : IsFit w.specs after) (n : ℕ) where
+    abbrev kit : Kit
+    kit = kit_of (length w.specs) k maker building.spools
+
     -- the build goes on with a worker that took these, and its kit
     abbrev pub going_on : WorkerValue → BuildingValue
     going_on new = record building {
       workers = set building.workers k new;
-      spools = set building.spools k after.spool;
+      spools = with_own (length w.specs) k after.spools building.spools;
       work = Some (record w { makers = set w.makers k after.maker });
     }
 
     goes_on :
-        (new : WorkerValue) → IsTaking b.number sent new → HoldsOpen w.spec (unsealed_images new) (begun_of after.maker)
-        → (w.built ≡ None → HoldsPairs w.spec (received_images new) after.spool.runs (begun_of after.maker)) → WorksOn live (going_on new)
+        (new : WorkerValue) → IsTaking b.number sent new
+        → ((index : ℕ) (spec : KeySpecValue) → slice_get w.specs index ≡ Some spec → HoldsOpen spec (unsealed_images new) (get_or after.maker.begun index []))
+        → ((index : ℕ) (spec : KeySpecValue) → slice_get w.specs index ≡ Some spec → w.built ≡ None → HoldsAt index spec (received_images new) (holdings after))
+        → WorksOn live (going_on new)
     goes_on new own opened held =
         works_with live (going_on new) b (record w { makers = set w.makers k after.maker })
         (record {
@@ -124,40 +141,83 @@ module _
             given = run.at_work.given;
             taking = λ f. taking_set b.number b.workers (all_sent live.pages) building.workers k new (run.at_work.taking fine)
                 (λ s is. subst (λ (x : List Copied). IsTaking b.number x new) (same_Some sent s (sym there ∙ is)) own);
-            kits = λ f. kits_set b.workers building.workers building.spools w k new after (run.at_work.kits fine) fit opened held;
+            kits = λ f. kits_set b.workers building.workers building.spools w k new after less (run.at_work.kits fine) fit opened held;
           };
         })
 
-    abbrev old_begun : List Pair
-    old_begun = begun_of kit.maker
+    -- an index, with what is held of it before and after
+    module _ (index : ℕ) (spec : KeySpecValue) (is : slice_get w.specs index ≡ Some spec) where
+      abbrev old_runs : List (List Pair)
+      old_runs = get_or (runs_of kit.spools) index []
 
-    opened_before : HoldsOpen w.spec (unsealed_images it) old_begun
-    opened_before = (run.at_work.kits fine).opened k it kit.maker less at made_by
+      abbrev old_begun : List Pair
+      old_begun = get_or maker.begun index []
 
-    held_before : w.built ≡ None → HoldsPairs w.spec (received_images it) kit.spool.runs old_begun
-    held_before none = (run.at_work.kits fine).holding none k it kit.maker kit.spool less at made_by lent
+      abbrev new_runs : List (List Pair)
+      new_runs = get_or (runs_of after.spools) index []
 
-    pub digested_works : Digested w.spec (next_images n it) kit after → WorksOn live (going_on (after_digest n it))
+      abbrev new_begun : List Pair
+      new_begun = get_or after.maker.begun index []
+
+      index_there : index < length w.specs
+      index_there = below w.specs index spec is
+
+      opened_before : HoldsOpen spec (unsealed_images it) old_begun
+      opened_before = (run.at_work.kits fine).opened index spec is k it maker less at made_by
+
+      held_before : w.built ≡ None → HoldsPairs spec (received_images it) old_runs old_begun
+      held_before none = (run.at_work.kits fine).holding index spec is none k it maker less at made_by
+
+      -- the pairs that it makes of the copies
+      abbrev made : List Pair
+      made = (have_next n index spec is).0
+
+      of_index : HavePairs (spec_at w.specs index) (next_images n it) made
+      of_index =
+          subst (λ (s : KeySpecValue). HavePairs s (next_images n it) made)
+          (sym (get_or_from_slice_get w.specs index spec (record { kinds = []; columns = []; unique = false }) is)) (have_next n index spec is).1
+
+      adds : Digested w.specs (next_images n it) kit after → Adds made old_runs old_begun new_runs new_begun
+      adds digested = digested index index_there made of_index
+
+      digested_opened : Digested w.specs (next_images n it) kit after → HoldsOpen spec (unsealed_images (after_digest n it)) new_begun
+      digested_opened digested =
+          digested_open spec n it old_runs old_begun new_runs new_begun made taking.taken taking.sealed_was_taken opened_before (have_next n index spec is).1
+          (adds digested) (fit.short index [] (omega (arith, index_there, fit.begun_many)))
+
+      digested_held : Digested w.specs (next_images n it) kit after → w.built ≡ None → HoldsPairs spec (received_images (after_digest n it)) new_runs new_begun
+      digested_held digested none =
+          digested_holds spec n it old_runs old_begun new_runs new_begun made (held_before none) (have_next n index spec is).1 (adds digested)
+
+      -- once it sealed none is in no run
+      closed : Sealed w.specs (next_images n it) kit after → new_begun ≡ []
+      closed sealed = no_pair after.maker.begun index sealed.1
+
+      sealed_all : Sealed w.specs (next_images n it) kit after → IsPermutation ((all_pairs old_runs ++ old_begun) ++ made) (all_pairs new_runs ++ [])
+      sealed_all sealed =
+          subst (λ (ps : List Pair). IsPermutation ((all_pairs old_runs ++ old_begun) ++ made) (all_pairs new_runs ++ ps)) (closed sealed)
+          (sealed.0 index index_there made of_index)
+
+      sealed_held :
+          Sealed w.specs (next_images n it) kit after → w.built ≡ None
+          → HoldsPairs spec (received_images (after_seal (after_digest n it))) new_runs new_begun
+      sealed_held sealed none =
+          subst (HoldsPairs spec (received_images (after_seal (after_digest n it))) new_runs) (sym (closed sealed))
+          (sealed_holds spec n it old_runs old_begun new_runs made (held_before none) (have_next n index spec is).1 (sealed_all sealed))
+
+      sealed_opened : Sealed w.specs (next_images n it) kit after → HoldsOpen spec (unsealed_images (after_seal (after_digest n it))) new_begun
+      sealed_opened sealed =
+          subst (HoldsOpen spec (unsealed_images (after_seal (after_digest n it)))) (sym (closed sealed)) (sealed_open spec n it taking.taken)
+
+    pub digested_works : Digested w.specs (next_images n it) kit after → WorksOn live (going_on (after_digest n it))
     digested_works digested =
-        let next = have_next n in
-        let adds : Adds next.0 kit.spool.runs old_begun after.spool.runs (begun_of after.maker) = digested 0 (omega arith) next.0 next.1 in
-        goes_on (after_digest n it) (digested_taking b.number sent it taking n in_order)
-        (digested_open w.spec n it kit.spool.runs old_begun after.spool.runs (begun_of after.maker) next.0 taking.taken taking.sealed_was_taken opened_before
-        next.1 adds fit.short)
-        (λ none. digested_holds w.spec n it kit.spool.runs old_begun after.spool.runs (begun_of after.maker) next.0 (held_before none) next.1 adds)
+        goes_on (after_digest n it) (digested_taking b.number sent it taking n in_order) (λ index spec is. digested_opened index spec is digested)
+        (λ index spec is none. digested_held index spec is digested none)
 
-    pub sealed_works : Sealed w.spec (next_images n it) kit after → WorksOn live (going_on (after_seal (after_digest n it)))
+    pub sealed_works : Sealed w.specs (next_images n it) kit after → WorksOn live (going_on (after_seal (after_digest n it)))
     sealed_works sealed =
-        let next = have_next n in
-        let taken = digested_taking b.number sent it taking n in_order in
-        let more : IsPermutation ((all_pairs kit.spool.runs ++ old_begun) ++ next.0) (all_pairs after.spool.runs ++ begun_of after.maker) =
-        sealed.0 0 (omega arith) next.0 next.1 in
-        let all : IsPermutation ((all_pairs kit.spool.runs ++ old_begun) ++ next.0) (all_pairs after.spool.runs ++ []) =
-        subst (λ (ps : List Pair). IsPermutation ((all_pairs kit.spool.runs ++ old_begun) ++ next.0) (all_pairs after.spool.runs ++ ps)) sealed.1 more in
-        goes_on (after_seal (after_digest n it)) (sealed_taking b.number sent (after_digest n it) taken)
-        (subst (HoldsOpen w.spec (unsealed_images (after_seal (after_digest n it)))) (sym sealed.1) (sealed_open w.spec n it taking.taken))
-        (λ none. subst (HoldsPairs w.spec (received_images (after_seal (after_digest n it))) after.spool.runs) (sym sealed.1)
-        (sealed_holds w.spec n it kit.spool.runs old_begun after.spool.runs next.0 (held_before none) next.1 all))
+        goes_on (after_seal (after_digest n it)) (sealed_taking b.number sent (after_digest n it) (digested_taking b.number sent it taking n in_order))
+        (λ index spec is. sealed_opened index spec is sealed) (λ index spec is none. sealed_held index spec is sealed none)
 
 -- what was put for the running build
 pub put_of :

@@ -1,11 +1,11 @@
 -- What waits for a worker, and what it has not sealed, by what its ring was sent.
-use Rattle.std.proofs.Common.{◌≡◌, ℕ, zero, suc, ◌+◌, ◌-◌, ◌%◌, ◌<◌, ◌==◌, Bool, true, false, List, [], ◌∷◌, ◌++◌, length, map, take, take_all, drop}
+use Rattle.std.proofs.Common.{◌≡◌, ℕ, zero, suc, ◌+◌, ◌-◌, ◌%◌, ◌<◌, ◌==◌, Bool, true, List, [], ◌∷◌, ◌++◌, length, map, take, take_all, drop}
 use Rattle.std.proofs.Common.{get_or, Some, refl, sym, ap, ◌∙◌, subst, arith, length-append}
-use Rattle.std.specs.Prelude.{◌&&◌, flat_map, IsPermutation}
+use Rattle.std.specs.Prelude.{flat_map, IsPermutation}
 use Rattle.std.proofs.lemmas.List.Sorted.{IsPermutation-sym}
 use Rattle.run_spool.specs.Spools.{all_pairs}
 use Rattle.run_maker.specs.Making.{MakerValue}
-use Rattle.std.specs.List.{slice_get, list_all}
+use Rattle.std.specs.List.{All, slice_get, list_all}
 use Rattle.std.proofs.lemmas.Bool.{and_parts, and_from, eq-eqb, eqb-true}
 use Rattle.std.proofs.lemmas.List.{append_cancel_left, take-append-le, nil_from_length, append-nil}
 use Rattle.std.proofs.lemmas.Option.{same_Some}
@@ -29,9 +29,8 @@ use Rattle.builder_core.specs.Scanning.{AreCopies, pairs_at_scan}
 use Rattle.builder_core.specs.Workers.{put_to, unsealed_pairs, fill_runs, is_quiet}
 use Rattle.builder_core.specs.declared.scan.Scan.{Scan}
 use Rattle.builder_core.proofs.Copies.{copies_count}
-use Rattle.builder_core.specs.Holding.{begun_of}
 use Rattle.builder_core.proofs.CopyPairs.{copies_pairs}
-use Rattle.builder_core.proofs.Kits.{begun_none, none_begun}
+use Rattle.builder_core.proofs.Places.{all_at, there_is, no_pair, no_pairs}
 
 -- the first copies, and the others
 copies_take : (kinds : List Kind) (log : List LogRec) (n : ℕ) (scans : List Scan) (images : List ImageValue) → AreCopies kinds log scans images → AreCopies kinds log (take n scans) (take n images)
@@ -48,9 +47,15 @@ copies_drop kinds log (suc n) [] (i ∷ is) copies = absurd copies
 copies_drop kinds log (suc n) (s ∷ ss) [] copies = absurd copies
 copies_drop kinds log (suc n) (s ∷ ss) (i ∷ is) copies = copies_drop kinds log n ss is copies.1
 
-and_true : (b : Bool) → (b && true) ≡ b
-and_true true = refl
-and_true false = refl
+-- what passes of all, and of each
+all_pass : {X : Type 0} (test : X → Bool) (xs : List X) → ((k : ℕ) (x : X) → slice_get xs k ≡ Some x → test x ≡ true) → list_all test xs ≡ true
+all_pass test [] each = refl
+all_pass test (x ∷ xs) each = and_from (test x) (list_all test xs) (each 0 x refl) (all_pass test xs (λ k y at. each (suc k) y at))
+
+each_passes : {X : Type 0} (test : X → Bool) (xs : List X) → list_all test xs ≡ true → (k : ℕ) (x : X) → slice_get xs k ≡ Some x → test x ≡ true
+each_passes test [] all k x at = absurd (cc)
+each_passes test (y ∷ ys) all zero x at = ap test (sym (same_Some y x at)) ∙ (and_parts (test y) (list_all test ys) all).0
+each_passes test (y ∷ ys) all (suc k) x at = each_passes test ys (and_parts (test y) (list_all test ys) all).1 k x at
 
 -- the state of a worker among those of all
 pub state_at :
@@ -62,8 +67,7 @@ state_at (suc count) zero (w ∷ ws) worker other less at = ap worker_state (sam
 state_at (suc count) (suc k) (w ∷ ws) worker other less at = state_at count k ws worker other (omega (arith, less)) at
 
 module _
-    (kinds : List Kind) (log : List LogRec) (b : BuildState) (spec : KeySpecValue) (k : ℕ) (sent : List Copied) (worker : WorkerValue)
-    (columns : spec.kinds ≡ kinds) (copies : AreCopies kinds log (put_to b k) (images_of b.number sent)) (taking : IsTaking b.number sent worker) where
+    (kinds : List Kind) (log : List LogRec) (b : BuildState) (k : ℕ) (sent : List Copied) (worker : WorkerValue) (copies : AreCopies kinds log (put_to b k) (images_of b.number sent)) (taking : IsTaking b.number sent worker) where
   -- the images that it received, and the others
   parts : images_of b.number sent ≡ received_images worker ++ images_of b.number taking.rest
   parts =
@@ -95,49 +99,62 @@ module _
       let all = sent_count b.number sent worker taking known in_order in
       omega (arith, count, all)
 
-  -- the pairs that its kit holds
-  pub held_pairs :
-      (runs : List (List Pair)) (begun : List Pair) → HoldsPairs spec (received_images worker) runs begun
-      → IsPermutation (all_pairs runs ++ begun) (flat_map (pairs_at_scan (scanning_of b spec) log) (take worker.taken (put_to b k)))
-  held_pairs runs begun held =
-      let same = have_same spec (received_images worker) held.made _ held.have
-      (copies_pairs (scanning_of b spec) kinds log (take worker.taken (put_to b k)) (received_images worker) columns received_copies) in
-      IsPermutation-sym _ (all_pairs runs ++ begun) (subst (λ (ps : List Pair). IsPermutation ps (all_pairs runs ++ begun)) same held.all)
+  module _ (spec : KeySpecValue) (columns : spec.kinds ≡ kinds) where
+    -- the pairs that its kit holds
+    pub held_pairs :
+        (runs : List (List Pair)) (begun : List Pair) → HoldsPairs spec (received_images worker) runs begun
+        → IsPermutation (all_pairs runs ++ begun) (flat_map (pairs_at_scan (scanning_of b spec) log) (take worker.taken (put_to b k)))
+    held_pairs runs begun held =
+        let same = have_same spec (received_images worker) held.made _ held.have
+        (copies_pairs (scanning_of b spec) kinds log (take worker.taken (put_to b k)) (received_images worker) columns received_copies) in
+        IsPermutation-sym _ (all_pairs runs ++ begun) (subst (λ (ps : List Pair). IsPermutation ps (all_pairs runs ++ begun)) same held.all)
 
-  module _ (maker : MakerValue) (opened : HoldsOpen spec (unsealed_images worker) (begun_of maker)) where
-    unsealed : opened.last ≡ unsealed_pairs b log k (worker_state worker) spec
-    unsealed =
+    -- how many of them are in no run yet
+    begun_is :
+        (begun : List Pair) → HoldsOpen spec (unsealed_images worker) begun
+        → length begun ≡ length (unsealed_pairs b log k (worker_state worker) spec) % 4096
+    begun_is begun opened =
+        let unsealed : opened.last ≡ unsealed_pairs b log k (worker_state worker) spec =
         have_same spec (unsealed_images worker) opened.last _ opened.since_seal
         (copies_pairs (scanning_of b spec) kinds log (drop worker.sealed (take worker.taken (put_to b k))) (unsealed_images worker) columns
-        (copies_drop kinds log worker.sealed (take worker.taken (put_to b k)) (received_images worker) received_copies))
+        (copies_drop kinds log worker.sealed (take worker.taken (put_to b k)) (received_images worker) received_copies)) in
+        opened.open_run ∙ ap (λ (ps : List Pair). length ps % 4096) unsealed
 
-    begun_is : length (begun_of maker) ≡ length (unsealed_pairs b log k (worker_state worker) spec) % 4096
-    begun_is = opened.open_run ∙ ap (λ (ps : List Pair). length ps % 4096) unsealed
+  module _
+      (specs : List KeySpecValue) (columns : All (λ spec. spec.kinds ≡ kinds) specs) (maker : MakerValue) (many : length maker.begun ≡ length specs)
+      (opened : (index : ℕ) (spec : KeySpecValue) → slice_get specs index ≡ Some spec → HoldsOpen spec (unsealed_images worker) (get_or maker.begun index []))
+      (are : b.specs ≡ specs) where
+    abbrev fills : KeySpecValue → Bool
+    fills spec = fill_runs (unsealed_pairs b log k (worker_state worker) spec)
 
-  only_spec : b.specs ≡ spec ∷ [] → list_all (λ s. fill_runs (unsealed_pairs b log k (worker_state worker) s)) b.specs ≡ fill_runs (unsealed_pairs b log k (worker_state worker) spec)
-  only_spec one = ap (list_all (λ s. fill_runs (unsealed_pairs b log k (worker_state worker) s))) one ∙ and_true (fill_runs (unsealed_pairs b log k (worker_state worker) spec))
+    open_is :
+        (index : ℕ) (spec : KeySpecValue) → slice_get specs index ≡ Some spec
+        → length (get_or maker.begun index []) ≡ length (unsealed_pairs b log k (worker_state worker) spec) % 4096
+    open_is index spec at = begun_is spec (all_at (λ s. s.kinds ≡ kinds) specs index spec columns at) (get_or maker.begun index []) (opened index spec at)
 
-  module _ (maker : MakerValue) (one_index : length maker.begun ≡ 1) (opened : HoldsOpen spec (unsealed_images worker) (begun_of maker)) where
-    -- a worker that took all, and whose run is closed, is quiet
-    pub quiet_is : b.specs ≡ spec ∷ [] → IsDone sent worker maker → is_quiet b log k (worker_state worker) ≡ true
-    quiet_is one quiet =
+    -- a worker that took all, and whose runs are closed, is quiet
+    pub quiet_is : IsDone sent worker maker → is_quiet b log k (worker_state worker) ≡ true
+    quiet_is quiet =
         let none : taking.rest ≡ [] = append_cancel_left worker.end.received taking.rest [] (taking.in_order ∙ sym quiet.taken ∙ sym (append-nil worker.end.received)) in
         let all : worker.taken ≡ length (put_to b k) = let rest = ap (λ (cs : List Copied). length (images_of b.number cs)) none in omega (arith, counted, rest) in
-        let closed : (length (unsealed_pairs b log k (worker_state worker) spec) % 4096 == 0) ≡ true =
+        let closed : list_all fills specs ≡ true =
+        all_pass fills specs (λ index spec at.
         eq-eqb (length (unsealed_pairs b log k (worker_state worker) spec) % 4096) 0
-        (sym (begun_is maker opened) ∙ ap (λ (ps : List Pair). length ps) (begun_none maker one_index quiet.closed)) in
-        and_from (worker.taken == length (put_to b k)) (list_all (λ s. fill_runs (unsealed_pairs b log k (worker_state worker) s)) b.specs)
-        (eq-eqb worker.taken (length (put_to b k)) all) (only_spec one ∙ closed)
+        (sym (open_is index spec at) ∙ ap (λ (ps : List Pair). length ps) (no_pair maker.begun index quiet.closed))) in
+        and_from (worker.taken == length (put_to b k)) (list_all fills b.specs) (eq-eqb worker.taken (length (put_to b k)) all) (ap (list_all fills) are ∙ closed)
 
     -- and only such a one
-    pub is_quiet-quiet : b.specs ≡ spec ∷ [] → is_quiet b log k (worker_state worker) ≡ true → IsDone sent worker maker
-    is_quiet-quiet one is =
-        let both = and_parts (worker.taken == length (put_to b k)) (list_all (λ s. fill_runs (unsealed_pairs b log k (worker_state worker) s)) b.specs) is in
+    pub is_quiet-quiet : is_quiet b log k (worker_state worker) ≡ true → IsDone sent worker maker
+    is_quiet-quiet is =
+        let both = and_parts (worker.taken == length (put_to b k)) (list_all fills b.specs) is in
         let all : worker.taken ≡ length (put_to b k) = eqb-true worker.taken (length (put_to b k)) both.0 in
         let own = own_images b.number taking.rest taking.own in
         let none : taking.rest ≡ [] = nil_from_length taking.rest (omega (arith, all, counted, own)) in
         record {
           taken = sym (append-nil worker.end.received) ∙ ap (λ cs. worker.end.received ++ cs) (sym none) ∙ taking.in_order;
-          closed = none_begun maker one_index (nil_from_length (begun_of maker)
-              (begun_is maker opened ∙ eqb-true (length (unsealed_pairs b log k (worker_state worker) spec) % 4096) 0 (sym (only_spec one) ∙ both.1)));
+          closed = no_pairs maker.begun (λ index less.
+              let it = there_is specs index (omega (arith, less, many)) in
+              let full = each_passes fills specs (ap (list_all fills) (sym are) ∙ both.1) index it.0 it.1 in
+              nil_from_length (get_or maker.begun index [])
+              (open_is index it.0 it.1 ∙ eqb-true (length (unsealed_pairs b log k (worker_state worker) it.0) % 4096) 0 full));
         }

@@ -1,6 +1,6 @@
 -- The work of a build, as pages are copied and as its pairs are put in order.
 use Rattle.std.proofs.Common.{◌≡◌, ℕ, true, List, [], ◌∷◌, ◌++◌, Option, Some, None, refl, sym, ap, ◌∙◌, subst, arith}
-use Rattle.std.specs.Prelude.{is_some, IsPermutation}
+use Rattle.std.specs.Prelude.{is_some, All, IsPermutation}
 use Rattle.std.proofs.lemmas.Bool.{false≢true}
 use Rattle.keybytes.specs.Keys.{KeySpecValue}
 use Rattle.keybytes.specs.declared.fault.Fault.{Fault}
@@ -12,19 +12,20 @@ use Rattle.std.specs.Ordering.{eq_by_cmp}
 use Rattle.std.proofs.lemmas.List.Sorted.{list_any-IsPermutation}
 use Rattle.keybytes.specs.Pairs.{AreOrdered, pair_cmp, set_of}
 use Rattle.keybytes.proofs.PairSets.{contains-set_of, same_members}
-use Rattle.run_maker.specs.Making.{MakerValue}
-use Rattle.builder_core.specs.Builds.{WorkValue, IsWorkOn, IsCaughtUpTo, after_sort, fresh}
+use Rattle.run_maker.specs.Making.{MakerValue, spec_at}
+use Rattle.builder_core.specs.Builds.{WorkValue, IsWorkOn, IsCaughtUpTo, after_sort, first_spec, fresh}
 use Rattle.builder_core.specs.CoreState.{BuildState, scanning_of}
 use Rattle.builder_core.specs.Ranges.{open_range}
 use Rattle.builder_core.specs.Scanning.{Scanning, scanned_pairs}
 use Rattle.builder_core.proofs.ScanSteps.{scan_now}
 
 pub fresh_work_on :
-    (kinds : List Kind) (log : List LogRec) (b : BuildState) (columns : List Kind) (spec : KeySpecValue) (workers : ℕ) → b.specs ≡ spec ∷ []
-    → spec.kinds ≡ kinds → workers ≡ b.workers → IsWorkOn kinds log b (fresh b.number columns spec workers)
-fresh_work_on kinds log b columns spec workers specs same count = record {
+    (kinds : List Kind) (log : List LogRec) (b : BuildState) (columns : List Kind) (specs : List KeySpecValue) (workers : ℕ) → b.specs ≡ specs
+    → b.specs ≡ spec_at specs 0 ∷ [] → All (λ spec. spec.kinds ≡ kinds) specs → workers ≡ b.workers → IsWorkOn kinds log b (fresh b.number columns specs workers)
+fresh_work_on kinds log b columns specs workers are one same count = record {
   number = refl;
-  specs = specs;
+  specs = are;
+  only = one;
   columns = same;
   workers = count;
   all = λ e. absurd (false≢true e);
@@ -41,6 +42,7 @@ pub makers_work_on :
 makers_work_on kinds log b work makers is = record {
   number = is.number;
   specs = is.specs;
+  only = is.only;
   columns = is.columns;
   workers = is.workers;
   all = is.all;
@@ -62,6 +64,7 @@ pub scanned_work_on :
 scanned_work_on kinds log b work worker page is more = record {
   number = is.number;
   specs = is.specs;
+  only = is.only;
   columns = is.columns;
   workers = is.workers;
   all = λ e. absurd (more (is.all e));
@@ -80,6 +83,7 @@ pub spoiled_work_on :
 spoiled_work_on kinds log b work fault is = record {
   number = is.number;
   specs = is.specs;
+  only = is.only;
   columns = is.columns;
   workers = is.workers;
   all = is.all;
@@ -98,11 +102,12 @@ same_set made pairs moved =
 -- the pairs are in order
 pub sorted_work_on :
     (kinds : List Kind) (log : List LogRec) (b : BuildState) (work : WorkValue) (made pairs : List Pair) → IsWorkOn kinds log b work
-    → open_range b ≡ None → work.built ≡ None → IsPermutation made (scanned_pairs (scanning_of b work.spec) log) → IsPermutation made pairs
+    → open_range b ≡ None → work.built ≡ None → IsPermutation made (scanned_pairs (scanning_of b (first_spec work)) log) → IsPermutation made pairs
     → AreOrdered pairs → IsWorkOn kinds log b (after_sort work pairs)
 sorted_work_on kinds log b work made pairs is all none whole moved ordered = record {
   number = is.number;
   specs = is.specs;
+  only = is.only;
   columns = is.columns;
   workers = is.workers;
   all = λ e. all;
@@ -110,7 +115,7 @@ sorted_work_on kinds log b work made pairs is all none whole moved ordered = rec
   there = is.there;
   loaded = λ built t.
       let same : pairs ≡ built.pairs = cc in
-      let here : Scanning = scanning_of b work.spec in
+      let here : Scanning = scanning_of b (first_spec work) in
       let scanned : List Pair = scanned_pairs here log in
       subst (IsCaughtUpTo work.applied here log) same
       (subst (λ (n : ℕ). IsCaughtUpTo n here log pairs) (sym (is.none_before none))

@@ -2,7 +2,7 @@
 use Rattle.std.specs.Prelude.{◌≡◌, ℕ, ◌+◌, ◌==◌, ◌<◌, ◌≤◌, Bool, List, [], ◌∷◌, ◌++◌, length, map, min, take, replicate, is_some, true, Option}
 use Rattle.std.specs.Prelude.{Some, None}
 use Rattle.std.specs.FinMap.{keys}
-use Rattle.std.specs.List.{slice_get}
+use Rattle.std.specs.List.{All, slice_get}
 use Rattle.keybytes.specs.Faults.{first_cause}
 use Rattle.keybytes.specs.Keys.{KeySpecValue}
 use Rattle.keybytes.specs.Pairs.{set_of}
@@ -12,7 +12,7 @@ use Rattle.keybytes.specs.declared.kind.Kind.{Kind}
 use Rattle.keybytes.specs.declared.pair.Pair.{Pair}
 use Rattle.heap_log.specs.declared.record.LogRec.{LogRec}
 use Rattle.heap_table.specs.HeapState.{HeapState}
-use Rattle.run_maker.specs.Making.{MakerValue}
+use Rattle.run_maker.specs.Making.{MakerValue, spec_at}
 use Rattle.scan_range.specs.Cuts.{CutsValue, are_cuts}
 use Rattle.scan_range.specs.Ranges.{RangesValue, is_passed}
 use Rattle.side_file.specs.Ends.{PutEnd, RingId}
@@ -46,11 +46,12 @@ pub record LiveValue : Type 0 where
 abbrev pub value_with_heap : LiveValue → HeapState → LiveValue
 value_with_heap live heap = record live { state = live_with_heap live.state heap }
 
--- the work of a build of one index
+-- the work of a build
 pub record WorkValue : Type 0 where
   -- the number of the build
   pub build : ℕ
-  pub spec : KeySpecValue
+  -- what makes the keys of its indexes
+  pub specs : List KeySpecValue
   -- how many of the workers it has
   pub workers : ℕ
   -- what makes the pairs of each of them
@@ -62,12 +63,12 @@ pub record WorkValue : Type 0 where
   pub spoiled : Option Fault
 
 -- the work of the build with that number by so many workers, on rows of these columns, that has done nothing
-abbrev pub fresh : ℕ → List Kind → KeySpecValue → ℕ → WorkValue
-fresh build kinds spec workers = record {
+abbrev pub fresh : ℕ → List Kind → List KeySpecValue → ℕ → WorkValue
+fresh build kinds specs workers = record {
   build = build;
-  spec = spec;
+  specs = specs;
   workers = workers;
-  makers = replicate workers (fresh_maker kinds spec);
+  makers = replicate workers (fresh_maker kinds specs);
   built = None;
   applied = 0;
   spoiled = None;
@@ -175,19 +176,25 @@ BuildFollows kinds log (Some b) = IsBuildOf kinds log b
 abbrev pub IsCaughtUpTo : ℕ → Scanning → List LogRec → List Pair → Type 0
 IsCaughtUpTo applied b log pairs = pairs ≡ keys (apply_entries (take applied (side_entries b log)) (set_of (scanned_pairs b log)))
 
+-- what makes the keys of the first index
+abbrev pub first_spec : WorkValue → KeySpecValue
+first_spec work = spec_at work.specs 0
+
 -- it is the work of that build
 pub record IsWorkOn (kinds : List Kind) (log : List LogRec) (b : BuildState) (work : WorkValue) : Type 0 where
   pub number : work.build ≡ b.number
-  pub specs : b.specs ≡ work.spec ∷ []
-  pub columns : work.spec.kinds ≡ kinds
+  pub specs : b.specs ≡ work.specs
+  -- there is one, as yet
+  pub only : b.specs ≡ first_spec work ∷ []
+  pub columns : All (λ spec. spec.kinds ≡ kinds) work.specs
   pub workers : work.workers ≡ b.workers
   -- its pairs are in order only once no page is left to copy
   pub all : is_some work.built ≡ true → open_range b ≡ None
   -- no entry was applied before, nor one that the side-file has not
   pub none_before : work.built ≡ None → work.applied ≡ 0
-  pub there : work.applied ≤ length (side_entries (scanning_of b work.spec) log)
+  pub there : work.applied ≤ length (side_entries (scanning_of b (first_spec work)) log)
   -- in order they are the index's, with that number
-  pub loaded : (built : BuiltValue) → work.built ≡ Some built → IsCaughtUpTo work.applied (scanning_of b work.spec) log built.pairs
+  pub loaded : (built : BuiltValue) → work.built ≡ Some built → IsCaughtUpTo work.applied (scanning_of b (first_spec work)) log built.pairs
   pub of_build : (built : BuiltValue) → work.built ≡ Some built → built.build ≡ b.number
 
 -- there is work exactly where a build runs, and it is that build's
@@ -199,9 +206,10 @@ IsWorkOf kinds log (Some b) (Some work) = IsWorkOn kinds log b work
 
 -- what the makers and spools of so many workers hold of the copies that these took: their pairs, until they are in order
 pub record HaveKits (count : ℕ) (workers : List WorkerValue) (spools : List SpoolValue) (work : WorkValue) : Type 0 where
-  pub equipped : AreEquipped work.spec.kinds work.spec count work.makers spools
-  pub opened : AreOpen work.spec count workers work.makers
-  pub holding : work.built ≡ None → AreHolding work.spec count workers work.makers spools
+  pub equipped : AreEquipped work.specs count work.makers spools
+  pub opened : (index : ℕ) (spec : KeySpecValue) → slice_get work.specs index ≡ Some spec → AreOpen index spec count workers work.makers
+  pub holding : (index : ℕ) (spec : KeySpecValue) → slice_get work.specs index ≡ Some spec → work.built ≡ None
+      → AreHolding index spec (length work.specs) count workers work.makers spools
 
 -- the entries that were fed and not applied wait in the side-file's ring, the build has the spools, and its workers are at work on what
 -- their rings were sent; of a spoiled build only the first two are known

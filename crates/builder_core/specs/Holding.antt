@@ -1,16 +1,18 @@
 -- What the makers and the spools of a build's workers hold.
-use Rattle.std.specs.Prelude.{◌≡◌, ℕ, ◌<◌, Bool, if◌then◌else◌, List, [], ◌∷◌, map, length, get_or, Option, Some}
-use Rattle.std.specs.List.{slice_get}
+use Rattle.std.specs.Prelude.{◌≡◌, ℕ, ◌-◌, ◌*◌, ◌<◌, Bool, if◌then◌else◌, List, [], map, length, get_or, Option, Some}
+use Rattle.std.specs.List.{All, slice_get}
 use Rattle.keybytes.specs.Keys.{KeySpecValue}
 use Rattle.keybytes.specs.declared.kind.Kind.{Kind}
 use Rattle.keybytes.specs.declared.pair.Pair.{Pair}
 use Rattle.heap_table.specs.Images.{ImageValue}
 use Rattle.spool_ledger.specs.Accounts.{Stake}
-use Rattle.run_spool.specs.Spools.{AreSorted, holds_nothing}
+use Rattle.run_spool.specs.Spools.{AreSorted, all_pairs, holds_nothing}
+use Rattle.run_merge.specs.Merging.{all_runs}
 use Rattle.run_maker.specs.Making.{MakerValue, AreReady, Holdings}
 use Rattle.building.specs.Holding.{TakesAll, HoldsMore, HoldsPairs, HoldsOpen}
 use Rattle.building.specs.Taking.{received_images, unsealed_images}
 use Rattle.building.specs.WorkerValue.{WorkerValue}
+use Rattle.builder_core.specs.Columns.{own_spools, with_every}
 use Rattle.builder_core.specs.CoreState.{SpoolsState}
 
 -- what callers see of a spool: its closed runs, its open run, and pool and quota of the account behind it, if there is one
@@ -38,55 +40,78 @@ spools_state given spools = record {
 abbrev pub spools_in : {S : Type 0} → (S → List (List Pair)) → (S → List Pair) → (S → Option Stake) → List S → SpoolsState
 spools_in runs open_run stake spools = record { stakes = map stake spools; left = map (λ spool. holds_nothing (runs spool) (open_run spool)) spools }
 
--- the maker of a worker, with the spool of its one index
+-- the maker of a worker, with its spools, one for each index
 pub record Kit : Type 0 where
   pub maker : MakerValue
-  pub spool : SpoolValue
+  pub spools : List SpoolValue
 
--- the pairs of the index that are in no run yet
-abbrev pub begun_of : MakerValue → List Pair
-begun_of maker = get_or maker.begun 0 []
+-- the closed runs of each of these spools, and their open runs
+abbrev pub runs_of : List SpoolValue → List (List (List Pair))
+runs_of spools = map (λ spool. spool.runs) spools
+
+abbrev pub open_runs_of : List SpoolValue → List (List Pair)
+open_runs_of spools = map (λ spool. spool.open_run) spools
+
+-- the pairs of all their closed runs
+abbrev pub pairs_in : List SpoolValue → List Pair
+pairs_in spools = all_pairs (all_runs (runs_of spools))
+
+-- pools and quotas of the accounts behind them
+abbrev pub stakes_of : List SpoolValue → List (Option Stake)
+stakes_of spools = map (λ spool. spool.stake) spools
 
 -- what a kit holds
 abbrev pub holdings : Kit → Holdings
-holdings kit = record { runs = kit.spool.runs ∷ []; begun = kit.maker.begun }
+holdings kit = record { runs = runs_of kit.spools; begun = kit.maker.begun }
 
 -- a maker that has made nothing
-abbrev pub fresh_maker : List Kind → KeySpecValue → MakerValue
-fresh_maker kinds spec = record { schema = kinds; specs = spec ∷ []; begun = [] ∷ [] }
+abbrev pub fresh_maker : List Kind → List KeySpecValue → MakerValue
+fresh_maker kinds specs = record { schema = kinds; specs = specs; begun = map (λ _. []) specs }
 
--- a kit makes pairs by that specification, of rows of these columns, and its spool may take runs
-pub record IsFit (kinds : List Kind) (spec : KeySpecValue) (kit : Kit) : Type 0 where
-  pub schema : kit.maker.schema ≡ kinds
-  pub specs : kit.maker.specs ≡ spec ∷ []
-  pub one_index : length kit.maker.begun ≡ 1
-  pub short : length (begun_of kit.maker) < 4096
-  pub ready : AreReady (kit.spool.runs ∷ []) (kit.spool.open_run ∷ [])
-  pub sorted : AreSorted kit.spool.runs
+-- a kit makes pairs by these specifications, of rows of their columns, and its spools, one for each, may take runs
+pub record IsFit (specs : List KeySpecValue) (kit : Kit) : Type 0 where
+  pub columns : All (λ spec. spec.kinds ≡ kit.maker.schema) specs
+  pub indexes : kit.maker.specs ≡ specs
+  pub begun_many : length kit.maker.begun ≡ length specs
+  pub short : All (λ begun. length begun < 4096) kit.maker.begun
+  pub spools_many : length kit.spools ≡ length specs
+  pub ready : AreReady (runs_of kit.spools) (open_runs_of kit.spools)
+  pub sorted : All AreSorted (runs_of kit.spools)
 
 -- what a digest of these images makes of a kit
-abbrev pub Digested : KeySpecValue → List ImageValue → Kit → Kit → Type 0
-Digested spec images old new = TakesAll (spec ∷ []) images (holdings old) (holdings new)
+abbrev pub Digested : List KeySpecValue → List ImageValue → Kit → Kit → Type 0
+Digested specs images old new = TakesAll specs images (holdings old) (holdings new)
 
 -- what a seal makes of it
-abbrev pub Sealed : KeySpecValue → List ImageValue → Kit → Kit → Type 0
-Sealed spec images old new = HoldsMore (spec ∷ []) images (holdings old) (holdings new) × (begun_of new.maker ≡ [])
+abbrev pub Sealed : List KeySpecValue → List ImageValue → Kit → Kit → Type 0
+Sealed specs images old new = HoldsMore specs images (holdings old) (holdings new) × All (λ begun. begun ≡ []) new.maker.begun
+
+-- that maker, and the spools of its worker
+abbrev pub kit_of : ℕ → ℕ → MakerValue → List SpoolValue → Kit
+kit_of indexes worker maker spools = record { maker = maker; spools = own_spools indexes worker spools }
+
+-- all spools, where those of an index are ended
+abbrev pub ended_column : ℕ → ℕ → List SpoolValue → List SpoolValue
+ended_column index indexes spools = with_every ended_spool (indexes - 1) index spools
 
 -- each of so many workers has a fit kit
-pub record AreEquipped (kinds : List Kind) (spec : KeySpecValue) (count : ℕ) (makers : List MakerValue) (spools : List SpoolValue) : Type 0 where
+pub record AreEquipped (specs : List KeySpecValue) (count : ℕ) (makers : List MakerValue) (spools : List SpoolValue) : Type 0 where
   pub makers_many : length makers ≡ count
-  pub spools_many : length spools ≡ count
-  pub fit : (k : ℕ) (maker : MakerValue) (spool : SpoolValue) → slice_get makers k ≡ Some maker → slice_get spools k ≡ Some spool
-      → IsFit kinds spec (record { maker = maker; spool = spool })
+  pub spools_many : length spools ≡ count * length specs
+  pub fit : (k : ℕ) (maker : MakerValue) → slice_get makers k ≡ Some maker → IsFit specs (kit_of (length specs) k maker spools)
 
--- so many workers hold the pairs of the copies that they took
-abbrev pub AreHolding : KeySpecValue → ℕ → List WorkerValue → List MakerValue → List SpoolValue → Type 0
-AreHolding spec count workers makers spools =
-    (k : ℕ) (worker : WorkerValue) (maker : MakerValue) (spool : SpoolValue) → k < count → slice_get workers k ≡ Some worker
-    → slice_get makers k ≡ Some maker → slice_get spools k ≡ Some spool → HoldsPairs spec (received_images worker) spool.runs (begun_of maker)
+-- index i is held with the pairs of these images
+abbrev pub HoldsAt : ℕ → KeySpecValue → List ImageValue → Holdings → Type 0
+HoldsAt i spec images holdings = HoldsPairs spec images (get_or holdings.runs i []) (get_or holdings.begun i [])
+
+-- of an index so many workers hold the pairs of the copies that they took
+abbrev pub AreHolding : ℕ → KeySpecValue → ℕ → ℕ → List WorkerValue → List MakerValue → List SpoolValue → Type 0
+AreHolding index spec indexes count workers makers spools =
+    (k : ℕ) (worker : WorkerValue) (maker : MakerValue) → k < count → slice_get workers k ≡ Some worker → slice_get makers k ≡ Some maker
+    → HoldsAt index spec (received_images worker) (holdings (kit_of indexes k maker spools))
 
 -- and have in no run yet what they took since they last sealed, whole runs aside
-abbrev pub AreOpen : KeySpecValue → ℕ → List WorkerValue → List MakerValue → Type 0
-AreOpen spec count workers makers =
+abbrev pub AreOpen : ℕ → KeySpecValue → ℕ → List WorkerValue → List MakerValue → Type 0
+AreOpen index spec count workers makers =
     (k : ℕ) (worker : WorkerValue) (maker : MakerValue) → k < count → slice_get workers k ≡ Some worker → slice_get makers k ≡ Some maker
-    → HoldsOpen spec (unsealed_images worker) (begun_of maker)
+    → HoldsOpen spec (unsealed_images worker) (get_or maker.begun index [])

@@ -1,4 +1,5 @@
 pub mod Builds
+pub mod Columns
 pub mod CoreState
 pub mod Headline
 pub mod Holding

@@ -1,6 +1,6 @@
 -- What the workers of a build do, and the entries that are applied to its index, and what that leaves beside the table.
-use Rattle.std.specs.Prelude.{◌≡◌, ℕ, ◌+◌, ◌^◌, ◌<◌, ◌≤◌, List, ◌++◌, length, map, set, take, drop, is_some, true, Some, None, IsPermutation}
-use Rattle.std.specs.List.{slice_get, IsDistinct}
+use Rattle.std.specs.Prelude.{◌≡◌, ℕ, ◌+◌, ◌*◌, ◌^◌, ◌<◌, ◌≤◌, List, ◌++◌, length, set, take, drop, is_some, true, Some, None, IsPermutation}
+use Rattle.std.specs.List.{All, slice_get, IsDistinct}
 use Rattle.std.specs.Ordering.{eq_by_cmp}
 use Rattle.keybytes.specs.Keys.{KeySpecValue}
 use Rattle.keybytes.specs.declared.fault.Fault.{Fault}
@@ -11,56 +11,55 @@ use Rattle.visibility.specs.Applied.{apply_entries}
 use Rattle.catch_up.specs.Built.{BuiltValue, told_to}
 use Rattle.building.specs.TakeEnd.{TakeEnd}
 use Rattle.heap_table.specs.Images.{ImageValue}
-use Rattle.run_spool.specs.Spools.{all_pairs}
+use Rattle.run_spool.specs.Spools.{AreSorted}
 use Rattle.run_maker.specs.Making.{MakerValue}
-use Rattle.run_merge.specs.Merging.{all_runs}
 use Rattle.building.specs.ImagePairs.{HaveRows}
 use Rattle.building.specs.Work.{next_images, after_digest}
 use Rattle.building.specs.WorkerValue.{WorkerValue}
 use Rattle.builder_core.specs.Builds.{BuildingValue, WorkValue, after_sort}
-use Rattle.builder_core.specs.Holding.{SpoolValue, Kit, IsFit, ended_spool}
+use Rattle.builder_core.specs.Columns.{own_spools, with_own, column}
+use Rattle.builder_core.specs.Holding.{SpoolValue, Kit, IsFit, runs_of, pairs_in, stakes_of, kit_of, ended_column}
 
 -- a worker, with its kit, can spool the pairs of so many of the copies that it sees in its ring
 pub record CanTakeAt
-    (spec : KeySpecValue) (worker : ℕ) (count : WorkerValue → ℕ) (workers : List WorkerValue) (makers : List MakerValue) (spools : List SpoolValue)
+    (specs : List KeySpecValue) (worker : ℕ) (count : WorkerValue → ℕ) (workers : List WorkerValue) (makers : List MakerValue) (spools : List SpoolValue)
     : Type 0 where
   pub it : WorkerValue
   pub there : slice_get workers worker ≡ Some it
-  pub kit : Kit
-  pub maker : slice_get makers worker ≡ Some kit.maker
-  pub spool : slice_get spools worker ≡ Some kit.spool
-  pub fit : IsFit spec.kinds spec kit
+  pub maker : MakerValue
+  pub made : slice_get makers worker ≡ Some maker
+  pub lent : worker * length specs + length specs ≤ length spools
+  pub fit : IsFit specs (kit_of (length specs) worker maker spools)
   pub seen : count it ≤ length it.end.known
-  pub rows : HaveRows spec.kinds (next_images (count it) it)
+  pub rows : HaveRows maker.schema (next_images (count it) it)
 
--- the worker took these copies, with that effect on its kit; at a seal it then closed its run. Answered with how many were of its build
+-- the worker took these copies, with that effect on its kit; at a seal it then closed its runs. Answered with how many were of its build
 pub record HasTakenAt
-    (spec : KeySpecValue) (worker : ℕ) (count : WorkerValue → ℕ) (closing : WorkerValue → WorkerValue)
-    (Spools : KeySpecValue → List ImageValue → Kit → Kit → Type 0) (workers : List WorkerValue) (makers : List MakerValue) (spools : List SpoolValue)
+    (specs : List KeySpecValue) (worker : ℕ) (count : WorkerValue → ℕ) (closing : WorkerValue → WorkerValue)
+    (Spools : List KeySpecValue → List ImageValue → Kit → Kit → Type 0) (workers : List WorkerValue) (makers : List MakerValue) (spools : List SpoolValue)
     (images : ℕ) (new_workers : List WorkerValue) (new_makers : List MakerValue) (new_spools : List SpoolValue)
     : Type 0 where
   pub it : WorkerValue
   pub there : slice_get workers worker ≡ Some it
-  pub kit : Kit
-  pub maker : slice_get makers worker ≡ Some kit.maker
-  pub spool : slice_get spools worker ≡ Some kit.spool
+  pub maker : MakerValue
+  pub made : slice_get makers worker ≡ Some maker
   pub counted : images ≡ length (next_images (count it) it)
   pub after : Kit
-  pub fit : IsFit spec.kinds spec after
-  pub stake : after.spool.stake ≡ kit.spool.stake
-  pub spools_more : Spools spec (next_images (count it) it) kit after
+  pub fit : IsFit specs after
+  pub stakes : stakes_of after.spools ≡ stakes_of (own_spools (length specs) worker spools)
+  pub spools_more : Spools specs (next_images (count it) it) (kit_of (length specs) worker maker spools) after
   pub workers_are : new_workers ≡ set workers worker (closing (after_digest (count it) it))
   pub makers_are : new_makers ≡ set makers worker after.maker
-  pub spools_are : new_spools ≡ set spools worker after.spool
+  pub spools_are : new_spools ≡ with_own (length specs) worker after.spools spools
 
 -- the same of a worker of the build that runs
 pub record CanTake (worker : ℕ) (count : WorkerValue → ℕ) (building : BuildingValue) : Type 0 where
   pub work : WorkValue
   pub runs : building.work ≡ Some work
-  pub can : CanTakeAt work.spec worker count building.workers work.makers building.spools
+  pub can : CanTakeAt work.specs worker count building.workers work.makers building.spools
 
 pub record HasTaken
-    (worker : ℕ) (count : WorkerValue → ℕ) (closing : WorkerValue → WorkerValue) (Spools : KeySpecValue → List ImageValue → Kit → Kit → Type 0)
+    (worker : ℕ) (count : WorkerValue → ℕ) (closing : WorkerValue → WorkerValue) (Spools : List KeySpecValue → List ImageValue → Kit → Kit → Type 0)
     (old : BuildingValue) (images : ℕ) (new : BuildingValue)
     : Type 0 where
   pub work : WorkValue
@@ -68,7 +67,7 @@ pub record HasTaken
   pub workers : List WorkerValue
   pub makers : List MakerValue
   pub spools : List SpoolValue
-  pub taken : HasTakenAt work.spec worker count closing Spools old.workers work.makers old.spools images workers makers spools
+  pub taken : HasTakenAt work.specs worker count closing Spools old.workers work.makers old.spools images workers makers spools
   pub left : new ≡ record old { workers = workers; spools = spools; work = Some (record work { makers = makers }) }
 
 -- how many copies a worker takes at a digest
@@ -86,27 +85,36 @@ pub record IsSpoiled (fault : Fault) (old new : BuildingValue) : Type 0 where
   pub workers : List WorkerValue
   pub makers : List MakerValue
   pub spools : List SpoolValue
-  pub stakes : map (λ (spool : SpoolValue). spool.stake) spools ≡ map (λ (spool : SpoolValue). spool.stake) old.spools
+  pub stakes : stakes_of spools ≡ stakes_of old.spools
   pub left : new ≡ record old { workers = workers; spools = spools; work = Some (record work { makers = makers; spoiled = Some fault }) }
 
--- the pairs of all spools are put in order; answered with their number
-pub record HasSorted (work : WorkValue) (old : BuildingValue) (count : ℕ) (new : BuildingValue) : Type 0 where
+-- the pairs of the index's spools are put in order, and these spools ended; answered with the number of pairs
+pub record HasSorted (index : ℕ) (work : WorkValue) (old : BuildingValue) (count : ℕ) (new : BuildingValue) : Type 0 where
   pub pairs : List Pair
-  pub moved : IsPermutation (all_pairs (all_runs (map (λ (spool : SpoolValue). spool.runs) old.spools))) pairs
+  pub moved : IsPermutation (pairs_in (column index (length work.specs) old.spools)) pairs
   pub ordered : AreOrdered pairs
   pub counted : count ≡ length pairs
-  pub left : new ≡ record old { spools = map ended_spool old.spools; work = Some (after_sort work pairs) }
+  pub left : new ≡ record old { spools = ended_column index (length work.specs) old.spools; work = Some (after_sort work pairs) }
 
 -- no pair is there twice
 abbrev pub AreEachOnce : List Pair → Type 0
 AreEachOnce pairs = IsDistinct (eq_by_cmp pair_cmp) pairs
 
--- a load: the pairs are put in order, or were so before
-pub record HasLoaded (old : BuildingValue) (count : ℕ) (new : BuildingValue) : Type 0 where
+-- the pairs of an index can be put in order: each run is, and no pair is there twice
+pub record CanLoad (index : ℕ) (building : BuildingValue) : Type 0 where
+  pub work : WorkValue
+  pub runs : building.work ≡ Some work
+  pub there : index < length work.specs
+  pub lent : length building.spools ≡ work.workers * length work.specs
+  pub sorted : work.built ≡ None → All AreSorted (runs_of (column index (length work.specs) building.spools))
+  pub once : work.built ≡ None → AreEachOnce (pairs_in (column index (length work.specs) building.spools))
+
+-- a load of an index: its pairs are put in order, or were so before
+pub record HasLoaded (index : ℕ) (old : BuildingValue) (count : ℕ) (new : BuildingValue) : Type 0 where
   pub work : WorkValue
   pub runs : old.work ≡ Some work
   pub again : is_some work.built ≡ true → (count ≡ 0) × (new ≡ old)
-  pub first : work.built ≡ None → HasSorted work old count new
+  pub first : work.built ≡ None → HasSorted index work old count new
 
 -- the next entries that the side-file's ring is seen to have can be applied, so many of them
 pub record CanApply (count : ℕ) (building : BuildingValue) : Type 0 where

@@ -1,12 +1,10 @@
 //! What stands beside a table.
-ghost use Rattle.std.specs.Prelude.{◌≡◌, ℕ, ◌<◌, ◌≤◌, ◌⊎◌, OnOk, [], All, length, map, false, None, Some, IsSome, IfSome, IfOk, IfErr, OnErr, MatchOption};
+ghost use Rattle.std.specs.Prelude.{◌≡◌, ℕ, ◌<◌, ◌≤◌, ◌⊎◌, OnOk, [], All, length, map, false, None, Some, IfSome, IfOk, IfErr, OnErr, MatchOption};
 ghost use Rattle.std.specs.List.{list_all};
-ghost use Rattle.run_spool.specs.Spools.{AreSorted, all_pairs};
-ghost use Rattle.run_merge.specs.Merging.{all_runs};
 ghost use Rattle.building.specs.Work.{after_seal};
 ghost use Rattle.builder_core.specs.Builds.{given_up};
 ghost use Rattle.builder_core.specs.Holding.{spool_value, spools_state, Digested, Sealed};
-ghost use Rattle.builder_core.specs.Working.{CanTake, HasTaken, one_copy, all_copies, AreEachOnce, HasLoaded, CanApply, HasApplied, IsSpoiled};
+ghost use Rattle.builder_core.specs.Working.{CanTake, HasTaken, one_copy, all_copies, CanLoad, HasLoaded, CanApply, HasApplied, IsSpoiled};
 
 use crate::ending::end_spools;
 use crate::merging::merged_tree;
@@ -165,6 +163,7 @@ impl<S: Spool, T: Table> Building<S, T> {
             unreachable!()
         };
         let images = match digest_at(
+            &work.specs,
             &mut self.workers,
             &mut work.makers,
             &mut self.spools,
@@ -179,7 +178,7 @@ impl<S: Spool, T: Table> Building<S, T> {
         Ok(images)
     }
 
-    /// Lets a worker take all copies that it has seen, and close its run. Want of memory or of a page spoils the build.
+    /// Lets a worker take all copies that it has seen, and close its runs. Want of memory or of a page spoils the build.
     pub(crate) fn seal(&mut self, worker: usize) -> Result<usize, Fault>
         requires { CanTake worker all_copies self.old }
         ensures taken { IfOk result (λ images. HasTaken worker all_copies after_seal Sealed self.old images self.new) }
@@ -190,6 +189,7 @@ impl<S: Spool, T: Table> Building<S, T> {
             unreachable!()
         };
         let images = match seal_at(
+            &work.specs,
             &mut self.workers,
             &mut work.makers,
             &mut self.spools,
@@ -204,13 +204,11 @@ impl<S: Spool, T: Table> Building<S, T> {
         Ok(images)
     }
 
-    /// Puts the pairs of all spools in order, and answers how many there are; 0 where they are in order already. Want of memory
+    /// Puts the pairs of an index in order, and answers how many there are; 0 where they are in order already. Want of memory
     /// spoils the build.
-    pub(crate) fn load(&mut self, alloc: Global) -> Result<usize, Fault>
-        requires runs { IsSome self.old.work }
-        requires sorted { IfSome self.old.work (λ work. work.built ≡ None → All AreSorted (map (λ spool. spool.runs) self.old.spools)) }
-        requires once { IfSome self.old.work (λ work. work.built ≡ None → AreEachOnce (all_pairs (all_runs (map (λ spool. spool.runs) self.old.spools)))) }
-        ensures loaded { IfOk result (λ count. HasLoaded self.old count self.new) }
+    pub(crate) fn load(&mut self, alloc: Global, index: usize) -> Result<usize, Fault>
+        requires { CanLoad index self.old }
+        ensures loaded { IfOk result (λ count. HasLoaded index self.old count self.new) }
         ensures first { OnErr result (IfSome self.old.work (λ work. work.built ≡ None)) }
         ensures spoiled { IfErr result (λ fault. IsSpoiled fault self.old self.new) }
         ensures memory { IfErr result (λ fault. fault ≡ Fault.Memory) }
@@ -221,7 +219,13 @@ impl<S: Spool, T: Table> Building<S, T> {
         if work.is_loaded() {
             return Ok(0);
         }
-        let tree = match merged_tree(alloc, &mut self.spools) {
+        let tree = match merged_tree(
+            alloc,
+            &mut self.spools,
+            index,
+            work.specs.len(),
+            work.workers,
+        ) {
             Ok(tree) => tree,
             Err(fault) => {
                 work.spoiled = Some(fault);

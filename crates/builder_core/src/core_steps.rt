@@ -325,7 +325,7 @@ impl<S: Spool, T: Table> Core<S, T> {
         ensures { Answers self.old (Event.Load index) result self.new }
     {
         self.live.check_load(index, &mut self.building)?;
-        let pairs = self.live.load(&mut self.building)?;
+        let pairs = self.live.load(index, &mut self.building)?;
         Ok(Reply::Loaded { pairs })
     }
 

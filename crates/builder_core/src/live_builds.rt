@@ -16,7 +16,7 @@ use crate::live_sides::empty_side;
 use crate::parts::WORKERS_MAX;
 use crate::rings::restart_all;
 use crate::table_scan::TableScan;
-use crate::work::Work;
+use crate::work::{Work, copied_specs};
 use crate::{Building, Dealing, Live, Plan, Table};
 use building::Copied;
 use heap_table::PageImage;
@@ -82,7 +82,8 @@ impl<T: Table> Live<T> {
         let cuts = dealt_cuts(self.alloc, &plan.dealing, pages)?;
         let schema = self.heap.schema();
         let number = self.builds + 1;
-        let work = Work::new(self.alloc, number, schema, spec.clone()?, plan.workers)?;
+        let specs = copied_specs(self.alloc, &plan.specs)?;
+        let work = Work::new(self.alloc, number, schema, specs, plan.workers)?;
         let build = TableScan::new(
             self.alloc,
             number,

@@ -130,7 +130,7 @@ impl<T: Table> Live<T> {
         building.digest(worker)
     }
 
-    /// Lets the worker take all copies that wait and close its run, and answers how many it took. Want of
+    /// Lets the worker take all copies that wait and close its runs, and answers how many it took. Want of
     /// memory or of a page spoils the build.
     pub(crate) fn seal<S: Spool>(
         &mut self,
@@ -178,19 +178,23 @@ impl<T: Table> Live<T> {
         }
     }
 
-    /// Puts the pairs in order that the workers made, and answers how many there are; 0 where they are in order already. Want of
-    /// memory spoils the build.
-    pub(crate) fn load<S: Spool>(&self, building: &mut Building<S, T>) -> Result<usize, Fault>
+    /// Puts the pairs of the index in order that the workers made, and answers how many there are; 0 where they are in order
+    /// already. Want of memory spoils the build.
+    pub(crate) fn load<S: Spool>(
+        &self,
+        index: usize,
+        building: &mut Building<S, T>,
+    ) -> Result<usize, Fault>
         requires works { WorksOn self.now building.old }
-        requires runs { MayLoad self.now building.old 0 }
-        ensures first { OnErr result ((index_at (core_state self.now building.old).work.indexes 0).loaded ≡ false) }
-        ensures loaded { IfOk result (λ pairs. Loads 0 (core_state self.now building.old) pairs (core_state self.now building.new)) }
+        requires runs { MayLoad self.now building.old index }
+        ensures first { OnErr result ((index_at (core_state self.now building.old).work.indexes index).loaded ≡ false) }
+        ensures loaded { IfOk result (λ pairs. Loads index (core_state self.now building.old) pairs (core_state self.now building.new)) }
         ensures spoiled { IfErr result (λ fault. core_state self.now building.new ≡ spoiled_by fault (core_state self.now building.old)) }
         ensures works { WorksOn self.now building.new }
         ensures memory { IfErr result (λ fault. fault ≡ Fault.Memory) }
     {
         // That there are 16 workers is known once their field is reached.
         let _workers = &building.workers;
-        building.load(self.alloc)
+        building.load(self.alloc, index)
     }
 }

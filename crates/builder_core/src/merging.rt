@@ -1,9 +1,10 @@
-//! The pairs of all spools in a tree.
-ghost use Rattle.std.specs.Prelude.{◌≡◌, All, map, IfOk, IfErr, OnOk, IsPermutation};
+//! The pairs of an index's spools in a tree.
+ghost use Rattle.std.specs.Prelude.{◌≡◌, ℕ, ◌+◌, ◌*◌, ◌<◌, ◌≤◌, All, map, length, IfOk, IfErr, OnOk, OnErr, IsPermutation, vec_len, vec_capacity};
 ghost use Rattle.heap_table.proofs.PairsAtRest.{InOrder};
 ghost use Rattle.run_spool.specs.Spools.{AreSorted, all_pairs};
 ghost use Rattle.run_merge.specs.Merging.{all_runs};
-ghost use Rattle.builder_core.specs.Holding.{spool_value, ended_spool};
+ghost use Rattle.builder_core.specs.Columns.{column, other_columns};
+ghost use Rattle.builder_core.specs.Holding.{spool_value, ended_spool, ended_column};
 ghost use Rattle.builder_core.specs.Working.{AreEachOnce};
 
 use crate::ending::end_spools;
@@ -13,25 +14,100 @@ use keybytes::{Fault, Pair};
 use run_merge::merge;
 use run_spool::Spool;
 use std::alloc::Global;
-use std::mem::replace;
 
-/// Makes a tree of the pairs of all closed runs, and then ends the spools. Want of memory may lose some of the pairs, and ends
-/// no spool.
-pub fn merged_tree<S: Spool>(alloc: Global, spools: &mut Vec<S>) -> Result<Tree, Fault>
-    requires sorted { All AreSorted (map S.runs spools.old.items) }
-    requires once { AreEachOnce (all_pairs (all_runs (map S.runs spools.old.items))) }
-    ensures all { IfOk result (λ tree. IsPermutation (all_pairs (all_runs (map S.runs spools.old.items))) tree.pairs) }
+/// Makes a tree of the pairs of all closed runs of an index's spools, one of each of so many workers, and then ends these spools;
+/// those of the other indexes stay as they are. Want of memory may lose some of the pairs, and ends no spool.
+pub fn merged_tree<S: Spool>(
+    alloc: Global,
+    spools: &mut Vec<S>,
+    index: usize,
+    indexes: usize,
+    workers: usize,
+) -> Result<Tree, Fault>
+    requires there { index < indexes }
+    requires all { length spools.old.items ≡ workers * indexes }
+    requires sorted { All AreSorted (map S.runs (column index indexes spools.old.items)) }
+    requires once { AreEachOnce (all_pairs (all_runs (map S.runs (column index indexes spools.old.items)))) }
+    ensures all { IfOk result (λ tree. IsPermutation (all_pairs (all_runs (map S.runs (column index indexes spools.old.items)))) tree.pairs) }
     ensures ended { OnOk result (map (spool_value S.runs S.open_run S.stake) spools.new.items
-        ≡ map ended_spool (map (spool_value S.runs S.open_run S.stake) spools.old.items)) }
+        ≡ ended_column index indexes (map (spool_value S.runs S.open_run S.stake) spools.old.items)) }
     ensures stakes { map S.stake spools.new.items ≡ map S.stake spools.old.items }
     ensures memory { IfErr result (λ fault. fault ≡ Fault.Memory) }
 {
-    let lent = replace(spools, Vec::new(alloc));
-    let (pairs, back) = merge_all(alloc, lent);
-    *spools = back;
-    let tree = load(alloc, &mut pairs?.into_iter())?;
-    end_spools(spools);
-    Ok(tree)
+    let own = take_out(alloc, spools, index, indexes, workers)?;
+    let (tree, own) = tree_of(alloc, own);
+    put_back(spools, own, index, indexes, workers);
+    tree
+}
+
+/// Takes the spools of an index out of those of so many workers. Where there is no memory for them all stay.
+fn take_out<S: Spool>(
+    alloc: Global,
+    spools: &mut Vec<S>,
+    index: usize,
+    indexes: usize,
+    workers: usize,
+) -> Result<Vec<S>, Fault>
+    requires there { index < indexes }
+    requires all { length spools.old.items ≡ workers * indexes }
+    ensures own { IfOk result (λ own. own.items ≡ column index indexes spools.old.items) }
+    ensures others { OnOk result (spools.new.items ≡ other_columns index indexes spools.old.items) }
+    ensures many { IfOk result (λ own. length own.items ≡ workers) }
+    ensures all { OnOk result (length spools.new.items + workers ≡ workers * indexes) }
+    ensures room { OnOk result (workers * indexes ≤ vec_capacity spools.new) }
+    ensures unchanged { OnErr result (spools.new ≡ spools.old) }
+    ensures memory { IfErr result (λ fault. fault ≡ Fault.Memory) }
+{
+    let mut own = Vec::with_capacity(alloc, workers)?;
+    for worker in 0..workers {
+        own.push_reserved(spools.remove(worker * (indexes - 1) + index));
+    }
+    Ok(own)
+}
+
+/// Puts the spools of an index back among those of the others. Takes no memory.
+fn put_back<S: Spool>(
+    spools: &mut Vec<S>,
+    mut own: Vec<S>,
+    index: usize,
+    indexes: usize,
+    workers: usize,
+)
+    requires there { index < indexes }
+    requires many { length own.items ≡ workers }
+    requires all { length spools.old.items + workers ≡ workers * indexes }
+    requires room { workers * indexes ≤ vec_capacity spools.old }
+    ensures own { column index indexes spools.new.items ≡ own.items }
+    ensures others { other_columns index indexes spools.new.items ≡ spools.old.items }
+{
+    while let Some(spool) = own.pop() {
+        let Ok(()) = spools.insert(own.len() * (indexes - 1) + index, spool) else {
+            unreachable!()
+        };
+    }
+}
+
+/// Makes a tree of the pairs of all closed runs of the spools, which are handed back, ended if there is a tree.
+fn tree_of<S: Spool>(alloc: Global, spools: Vec<S>) -> (Result<Tree, Fault>, Vec<S>)
+    requires sorted { All AreSorted (map S.runs spools.items) }
+    requires once { AreEachOnce (all_pairs (all_runs (map S.runs spools.items))) }
+    ensures all { IfOk result.0 (λ tree. IsPermutation (all_pairs (all_runs (map S.runs spools.items))) tree.pairs) }
+    ensures ended { OnOk result.0 (map (spool_value S.runs S.open_run S.stake) result.1.items
+        ≡ map ended_spool (map (spool_value S.runs S.open_run S.stake) spools.items)) }
+    ensures stakes { map S.stake result.1.items ≡ map S.stake spools.items }
+    ensures memory { IfErr result.0 (λ fault. fault ≡ Fault.Memory) }
+{
+    let (pairs, mut back) = merge_all(alloc, spools);
+    let pairs = match pairs {
+        Ok(pairs) => pairs,
+        Err(fault) => return (Err(fault), back),
+    };
+    let tree = match load(alloc, &mut pairs.into_iter()) {
+        Ok(tree) => tree,
+        Err(fault) => return (Err(fault), back),
+    };
+    end_spools(&mut back);
+    (Ok(tree), back)
 }
 
 /// Merges the pairs of all closed runs of the spools, which are handed back.

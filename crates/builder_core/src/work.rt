@@ -1,7 +1,7 @@
 //! The work of a build.
 ghost use Rattle.builder_core.specs.Builds.{fresh};
 ghost use Rattle.builder_core.specs.Holding.{fresh_maker};
-ghost use Rattle.std.specs.Prelude.{◌≡◌, replicate, is_some, None, Some, IfOk, IfErr, MatchResult};
+ghost use Rattle.std.specs.Prelude.{◌≡◌, All, replicate, is_some, None, Some, IfOk, IfErr, MatchResult};
 
 use catch_up::Built;
 use keybytes::{Fault, KeySpec, Schema};
@@ -9,11 +9,11 @@ use run_maker::Maker;
 use std::alloc::Global;
 use std::marker::Model;
 
-/// The work of a build of one index.
+/// The work of a build.
 #[derive(Drop)]
 pub struct Work {
     pub(crate) build: u64,
-    pub(crate) spec: KeySpec,
+    pub(crate) specs: Vec<KeySpec>,
     pub(crate) workers: usize,
     pub(crate) makers: Vec<Maker>,
     pub(crate) built: Option<Built>,
@@ -28,7 +28,7 @@ impl Model for Work {
 
     ghost view = { λ work. record {
       build = work.build;
-      spec = work.spec;
+      specs = work.specs.items;
       workers = work.workers;
       makers = work.makers.items;
       built = work.built;
@@ -43,17 +43,17 @@ impl Work {
         alloc: Global,
         build: u64,
         schema: &Schema,
-        spec: KeySpec,
+        specs: Vec<KeySpec>,
         workers: usize,
     ) -> Result<Work, Fault>
-        requires { spec.kinds ≡ schema.now }
-        ensures ok { IfOk result (λ work. work ≡ fresh build schema.now spec workers) }
+        requires { All (λ spec. spec.kinds ≡ schema.now) specs.items }
+        ensures ok { IfOk result (λ work. work ≡ fresh build schema.now specs.items workers) }
         ensures memory { IfErr result (λ fault. fault ≡ Fault.Memory) }
     {
         Ok(Work {
-            makers: new_makers(alloc, schema, &spec, workers)?,
+            makers: new_makers(alloc, schema, &specs, workers)?,
             build,
-            spec,
+            specs,
             workers,
             built: None,
             applied: 0,
@@ -97,17 +97,29 @@ impl Work {
 fn new_makers(
     alloc: Global,
     schema: &Schema,
-    spec: &KeySpec,
+    specs: &[KeySpec],
     workers: usize,
 ) -> Result<Vec<Maker>, Fault>
-    requires { spec.now.kinds ≡ schema.now }
-    ensures ok { IfOk result (λ makers. makers.items ≡ replicate workers (fresh_maker schema.now spec.now)) }
+    requires { All (λ spec. spec.kinds ≡ schema.now) specs.now }
+    ensures ok { IfOk result (λ makers. makers.items ≡ replicate workers (fresh_maker schema.now specs.now)) }
     ensures memory { IfErr result (λ fault. fault ≡ Fault.Memory) }
 {
     let mut makers = Vec::with_capacity(alloc, workers)?;
     for _ in 0..workers {
-        let specs = vec![in alloc; spec.clone()?]?;
-        makers.push_reserved(Maker::new(alloc, schema.clone()?, specs)?);
+        let own = copied_specs(alloc, specs)?;
+        makers.push_reserved(Maker::new(alloc, schema.clone()?, own)?);
     }
     Ok(makers)
+}
+
+/// Copies of these specifications.
+pub fn copied_specs(alloc: Global, specs: &[KeySpec]) -> Result<Vec<KeySpec>, Fault>
+    ensures same { IfOk result (λ copies. copies.items ≡ specs.now) }
+    ensures memory { IfErr result (λ fault. fault ≡ Fault.Memory) }
+{
+    let mut copies = Vec::with_capacity(alloc, specs.len())?;
+    for spec in specs {
+        copies.push_reserved(spec.clone()?);
+    }
+    Ok(copies)
 }

@@ -1,4 +1,4 @@
-use Rattle.std.proofs.Common.{◌≡◌, ◌∙◌, [], All, map, length, take, drop, refl, sym, ap, subst, arith}
+use Rattle.std.proofs.Common.{◌≡◌, ◌∙◌, ◌*◌, [], All, map, length, take, drop, refl, ap, arith}
 use Rattle.std.proofs.lemmas.Result.{IfOk-at_ok}
 use Rattle.run_maker.specs.Making.{MakerValue, AreReady, Holdings}
 use Rattle.building.specs.Holding.{HoldsMore}
@@ -7,31 +7,44 @@ use Rattle.building.specs.WorkerValue.{WorkerValue}
 use Rattle.builder_core.specs.Holding.{Sealed}
 use Rattle.builder_core.specs.Rings.{take_rings}
 use Rattle.builder_core.specs.Working.{all_copies}
-use Rattle.builder_core.proofs.Kits.{begun_none}
-use Rattle.builder_core.proofs.OneKit.{if_ok, lent_ready, lent_many, its_rows, has_taken}
+use Rattle.builder_core.proofs.OneKit.{if_ok, lent_ready, lent_many, its_rows, has_taken, stakes_back}
 use Rattle.builder_core.proofs.Places.{kept}
 use Rattle.builder_core.proofs.taking.seal_at.Goals as goal
 
 pub seal-taken-requires-clause-rows : goal.seal-taken-requires-clause-rows
 seal-taken-requires-clause-rows g c =
-    its_rows g.S.Spool.runs g.S.Spool.open_run g.S.Spool.stake c.requires.0 c.args.worker all_copies c.args.workers.now.items c.args.makers.now.items
-    c.args.spools.now.items c.requires.1 c.split_at_mut-own.result.0.now
-    (c.split_at_mut-own.ensures.front ∙ ap (take 1) (c.split_at_mut-rest.ensures.back ∙ ap (drop c.args.worker) c.as_mut_slice.ensures.value))
-    c.index_mut-maker.result.now c.index_mut-maker.ensures.value c.index_mut.result.now
-    c.index_mut.ensures.value
+    its_rows g.S.Spool.runs g.S.Spool.open_run g.S.Spool.stake c.args.specs.now c.args.worker all_copies c.args.workers.now.items c.args.makers.now.items
+    c.args.spools.now.items c.requires c.split_at_mut-own.result.0.now
+    (c.split_at_mut-own.ensures.front ∙ ap (take (length c.args.specs.now))
+    (c.split_at_mut-rest.ensures.back ∙ ap (drop (c.args.worker * length c.args.specs.now)) c.as_mut_slice.ensures.value))
+    c.index_mut-maker.result.now c.index_mut-maker.ensures.value c.index_mut.result.now c.index_mut.ensures.value
 
 pub seal-taken-requires-clause-spools : goal.seal-taken-requires-clause-spools
 seal-taken-requires-clause-spools g c =
-    lent_many g.S.Spool.runs g.S.Spool.open_run g.S.Spool.stake c.requires.0 c.args.worker all_copies c.args.workers.now.items c.args.makers.now.items
-    c.args.spools.now.items c.requires.1 c.split_at_mut-own.result.0.now
-    (c.split_at_mut-own.ensures.front ∙ ap (take 1) (c.split_at_mut-rest.ensures.back ∙ ap (drop c.args.worker) c.as_mut_slice.ensures.value))
+    lent_many g.S.Spool.runs g.S.Spool.open_run g.S.Spool.stake c.args.specs.now c.args.worker all_copies c.args.workers.now.items c.args.makers.now.items
+    c.args.spools.now.items c.requires c.split_at_mut-own.result.0.now
+    (c.split_at_mut-own.ensures.front ∙ ap (take (length c.args.specs.now))
+    (c.split_at_mut-rest.ensures.back ∙ ap (drop (c.args.worker * length c.args.specs.now)) c.as_mut_slice.ensures.value))
     c.index_mut-maker.result.now c.index_mut-maker.ensures.value
 
 pub seal-taken-requires-clause-ready : goal.seal-taken-requires-clause-ready
 seal-taken-requires-clause-ready g c =
-    lent_ready g.S.Spool.runs g.S.Spool.open_run g.S.Spool.stake c.requires.0 c.args.worker all_copies c.args.workers.now.items c.args.makers.now.items
-    c.args.spools.now.items c.requires.1 c.split_at_mut-own.result.0.now
-    (c.split_at_mut-own.ensures.front ∙ ap (take 1) (c.split_at_mut-rest.ensures.back ∙ ap (drop c.args.worker) c.as_mut_slice.ensures.value))
+    lent_ready g.S.Spool.runs g.S.Spool.open_run g.S.Spool.stake c.args.specs.now c.args.worker all_copies c.args.workers.now.items c.args.makers.now.items
+    c.args.spools.now.items c.requires c.split_at_mut-own.result.0.now
+    (c.split_at_mut-own.ensures.front ∙ ap (take (length c.args.specs.now))
+    (c.split_at_mut-rest.ensures.back ∙ ap (drop (c.args.worker * length c.args.specs.now)) c.as_mut_slice.ensures.value))
+
+pub returns-clause-stakes : goal.returns-clause-stakes
+returns-clause-stakes g c =
+    let n = length c.args.specs.now in
+    let rest = c.split_at_mut-rest.ensures.back ∙ ap (drop (c.args.worker * n)) c.as_mut_slice.ensures.value in
+    stakes_back g.S.Spool.runs g.S.Spool.open_run g.S.Spool.stake c.args.specs.now c.args.worker all_copies c.args.workers.now.items c.args.makers.now.items
+    c.args.spools.now.items c.requires c.split_at_mut-own.result.0.now
+    (c.split_at_mut-own.ensures.front ∙ ap (take (length c.args.specs.now))
+    (c.split_at_mut-rest.ensures.back ∙ ap (drop (c.args.worker * length c.args.specs.now)) c.as_mut_slice.ensures.value))
+    c.seal-taken.new.spools c.seal-taken.ensures.stakes c.args.spools.now.len c.split_at_mut-rest.result.0.now c.split_at_mut-own.result.1.now _
+    (omega (arith, c.args.spools.now.ok)) (c.split_at_mut-rest.ensures.front ∙ ap (take (c.args.worker * n)) c.as_mut_slice.ensures.value)
+    (c.split_at_mut-own.ensures.back ∙ ap (drop n) rest)
 
 pub returns-clause-rings : goal.returns-clause-rings
 returns-clause-rings g c =
@@ -46,24 +59,21 @@ returns-clause-taken g c =
     let maker : MakerValue = c.index_mut-maker.result.now in
     let taken = c.seal-taken.ensures in
     let runs = g.S.Spool.runs in
+    let n = length c.args.specs.now in
     let own = c.split_at_mut-own.result.0.now in
     let left = c.seal-taken.new.spools in
     let before : Holdings = record { runs = map runs own; begun = maker.begun } in
     let behind : Holdings = record { runs = map runs left; begun = new.begun } in
-    let rest = c.split_at_mut-rest.ensures.back ∙ ap (drop c.args.worker) c.as_mut_slice.ensures.value in
-    if_ok c.seal-taken.result _ (λ images ok spec can.
-    has_taken runs g.S.Spool.open_run g.S.Spool.stake spec c.args.worker all_copies c.args.workers.now.items c.args.makers.now.items
-    c.args.spools.now.items can own (c.split_at_mut-own.ensures.front ∙ ap (take 1) rest) maker c.index_mut-maker.ensures.value it c.index_mut.ensures.value
-    new left taken.schema taken.specs c.laws.ensures.begun c.laws.ensures.short
+    let rest = c.split_at_mut-rest.ensures.back ∙ ap (drop (c.args.worker * n)) c.as_mut_slice.ensures.value in
+    if_ok c.seal-taken.result _ (λ images ok.
+    has_taken runs g.S.Spool.open_run g.S.Spool.stake c.args.specs.now c.args.worker all_copies c.args.workers.now.items c.args.makers.now.items
+    c.args.spools.now.items c.requires own (c.split_at_mut-own.ensures.front ∙ ap (take n) rest) maker c.index_mut-maker.ensures.value it
+    c.index_mut.ensures.value new left taken.schema taken.specs c.laws.ensures.begun c.laws.ensures.short
     (IfOk-at_ok (λ _. AreReady (map runs left) (map g.S.Spool.open_run left)) ok taken.ready) taken.sorted taken.stakes
-    after_seal HoldsMore Sealed (λ images kit one same all. (
-      all,
-      begun_none kit.maker one
-          (subst (λ (m : MakerValue). All (λ begun. begun ≡ []) m.begun) (sym same) (IfOk-at_ok (λ _. All (λ begun. begun ≡ []) new.begun) ok taken.closed)),
-    ))
+    after_seal HoldsMore Sealed (λ images all. (all, IfOk-at_ok (λ _. All (λ begun. begun ≡ []) new.begun) ok taken.closed))
     (IfOk-at_ok (λ _. HoldsMore maker.specs (next_images (all_copies it) it) before behind) ok taken.holds)
     images (IfOk-at_ok (λ n. n ≡ length (next_images (all_copies it) it)) ok taken.count)
     c.seal-taken.new.self (IfOk-at_ok (λ _. c.seal-taken.new.self ≡ after_seal (after_digest (all_copies it) it)) ok taken.taken)
     c.args.spools.now.len c.split_at_mut-rest.result.0.now c.split_at_mut-own.result.1.now _ (omega (arith, c.args.spools.now.ok))
-    (c.split_at_mut-rest.ensures.front ∙ ap (take c.args.worker) c.as_mut_slice.ensures.value)
-    (c.split_at_mut-own.ensures.back ∙ ap (drop 1) rest))
+    (c.split_at_mut-rest.ensures.front ∙ ap (take (c.args.worker * n)) c.as_mut_slice.ensures.value)
+    (c.split_at_mut-own.ensures.back ∙ ap (drop n) rest))

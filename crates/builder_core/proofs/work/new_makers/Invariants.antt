@@ -5,6 +5,6 @@ use Rattle.builder_core.proofs.work.new_makers.Given as goal
 
 abbrev pub invariant-loop : goal.invariant-loop
 invariant-loop l = record {
-  made : l.makers.items ≡ replicate l.counter (fresh_maker l.schema l.spec);
+  made : l.makers.items ≡ replicate l.counter (fresh_maker l.schema l.specs);
   room : l.workers ≤ vec_capacity l.makers;
 }

@@ -1,8 +1,6 @@
 use Rattle.std.proofs.Common.{map}
-use Rattle.building.specs.Work.{after_seal}
-use Rattle.builder_core.specs.Holding.{Sealed, spool_value}
-use Rattle.builder_core.specs.Working.{all_copies}
-use Rattle.builder_core.proofs.LeftBeside.{same_seen, spoiled_after, can_take, taken_after}
+use Rattle.builder_core.specs.Holding.{spool_value}
+use Rattle.builder_core.proofs.LeftBeside.{same_seen, spoiled_after}
 use Rattle.builder_core.proofs.beside.Building.seal.Goals as goal
 
 pub returns-in-Err-clause-spoiled : goal.returns-in-Err-clause-spoiled
@@ -12,12 +10,3 @@ returns-in-Err-clause-spoiled g c =
     spoiled_after c.args.self.now _ c.in-Some.work _ c.self.view_is c.in-Some.is c.work.view_is c.in-Err.fault taken.new.workers.items taken.new.makers.items
     (map (spool_value spool.runs spool.open_run spool.stake) taken.new.spools.items)
     (same_seen spool.runs spool.open_run spool.stake taken.new.spools.items c.self.inside.spools.items taken.ensures.stakes)
-
-pub returns-clause-taken : goal.returns-clause-taken
-returns-clause-taken g c =
-    let spool = g.S.Spool in
-    let taken = c.seal_at in
-    taken_after c.args.self.now _ c.in-Some.work _ c.self.view_is c.in-Some.is c.work.view_is c.args.worker all_copies after_seal Sealed c.in-Ok.images
-    taken.new.workers.items taken.new.makers.items (map (spool_value spool.runs spool.open_run spool.stake) taken.new.spools.items)
-    (c.in-Ok.ensures.taken c.in-Some.work.spec
-    (can_take c.args.self.now _ c.in-Some.work _ c.self.view_is c.in-Some.is c.work.view_is c.args.worker all_copies c.requires))

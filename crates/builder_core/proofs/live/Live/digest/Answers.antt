@@ -7,7 +7,7 @@ use Rattle.builder_core.specs.CoreState.{CoreState}
 use Rattle.builder_core.specs.Steps.{Waits, Digests, spoiled_by}
 use Rattle.builder_core.proofs.Looked.{works_looked, state_looked, runs_looked}
 use Rattle.builder_core.proofs.Places.{map_at}
-use Rattle.builder_core.proofs.Takes.{can_read, its_kit, put_of, spoiled_after}
+use Rattle.builder_core.proofs.Takes.{can_read, its_kit, its_spools, put_of, spoiled_after}
 use Rattle.builder_core.proofs.Taken.{works_after, digests_after, digests_none, waits_some, on_err}
 use Rattle.builder_core.proofs.live.Live.digest.Goals as goal
 
@@ -30,10 +30,10 @@ digest-requires g c =
       can = record {
         it = sees.it;
         there = sees.there;
-        kit = kit.0;
-        maker = kit.1;
-        spool = kit.2;
-        fit = kit.3;
+        maker = kit.0;
+        made = kit.1;
+        lent = its_spools live building may.build may.work run may.fine put c.args.worker sees.end.sent sees.it may.there there sees.there sees.in_order;
+        fit = kit.2;
         seen = omega (arith, sees.seen, c.if-look-eq0.false);
         rows = can_read live building may.build may.work run may.fine put c.args.worker sees.end.sent sees.it may.there there sees.there sees.in_order 1;
       };

@@ -1,31 +1,22 @@
-use Rattle.std.proofs.Common.{◌≡◌, length, All, map, None, Option, IfSome, ap, sym, ◌∙◌, subst}
-use Rattle.run_spool.specs.Spools.{AreSorted, all_pairs}
-use Rattle.run_merge.specs.Merging.{all_runs}
-use Rattle.builder_core.specs.Working.{AreEachOnce}
-use Rattle.builder_core.specs.Holding.{SpoolValue}
-use Rattle.builder_core.specs.Builds.{LiveValue, BuildingValue, WorkValue}
-use Rattle.builder_core.proofs.Loaded.{put_inside, runs_sorted, each_once, works_after_load, loads_after, wanted_first}
+use Rattle.std.proofs.Common.{◌≡◌, ◌<◌, ◌∙◌, ℕ, false, length, IfOk, OnErr, ap, sym, subst, arith}
+use Rattle.builder_core.specs.Builds.{LiveValue, BuildingValue, core_state}
+use Rattle.builder_core.specs.Steps.{Loads}
+use Rattle.builder_core.specs.Workers.{index_at}
+use Rattle.builder_core.specs.Working.{HasLoaded}
+use Rattle.builder_core.proofs.Loaded.{put_inside, can_load, works_after_load, loads_after, wanted_first}
 use Rattle.builder_core.proofs.Takes.{spoiled_after}
 use Rattle.builder_core.proofs.live.Live.load.Goals as goal
 
-pub load-requires-clause-sorted : goal.load-requires-clause-sorted
-load-requires-clause-sorted g c =
-    let may = c.requires.runs in
-    let building : BuildingValue = c.args.building.now in
-    subst (λ (o : Option WorkValue). IfSome o (λ work. work.built ≡ None → All AreSorted (map (λ (s : SpoolValue). s.runs) building.spools))) (sym may.runs.work_is)
-    (λ none. runs_sorted c.args.self.now building may.build may.work may.runs may.fine)
-
-pub load-requires-clause-once : goal.load-requires-clause-once
-load-requires-clause-once g c =
+pub load-requires : goal.load-requires
+load-requires g c =
     let may = c.requires.runs in
     let live : LiveValue = c.args.self.now in
     let building : BuildingValue = c.args.building.now in
     let put = put_inside _ live may.build c.self.view_is may.runs.build_is c.self.invariant.3 in
     let rings : length live.pages ≡ 16 = sym (ap (λ (l : LiveValue). length l.pages) c.self.view_is) ∙ c.self.invariant.5.sixteen in
     let sixteen : length building.workers ≡ 16 = sym (ap (λ (v : BuildingValue). length v.workers) c.building.view_is) ∙ c.building.invariant.0.sixteen in
-    subst (λ (o : Option WorkValue). IfSome o (λ work. work.built ≡ None
-    → AreEachOnce (all_pairs (all_runs (map (λ (s : SpoolValue). s.runs) building.spools))))) (sym may.runs.work_is)
-    (λ none. each_once live building may.build may.work may.runs may.fine put rings sixteen may.quiet may.all none)
+    let there : c.args.index < length may.work.specs = let one = ap length (sym may.runs.on.specs ∙ may.runs.follows.one_index) in omega (arith, one, may.only) in
+    can_load live building may.build may.work may.runs may.fine put rings sixteen may.quiet may.all c.args.index there
 
 pub returns-clause-loaded : goal.returns-clause-loaded
 returns-clause-loaded g c =
@@ -35,8 +26,9 @@ returns-clause-loaded g c =
     let put = put_inside _ live may.build c.self.view_is may.runs.build_is c.self.invariant.3 in
     let rings : length live.pages ≡ 16 = sym (ap (λ (l : LiveValue). length l.pages) c.self.view_is) ∙ c.self.invariant.5.sixteen in
     let sixteen : length building.workers ≡ 16 = sym (ap (λ (v : BuildingValue). length v.workers) c.building.view_is) ∙ c.building.invariant.0.sixteen in
-    loads_after live building may.build may.work may.runs may.fine put rings sixteen may.quiet may.all
-    c.load.new.self c.load.result c.load.ensures.loaded
+    subst (λ (i : ℕ). IfOk c.load.result (λ pairs. Loads i (core_state live building) pairs (core_state live c.load.new.self))) (sym may.only)
+    (loads_after live building may.build may.work may.runs may.fine put rings sixteen may.quiet may.all c.load.new.self c.load.result
+    (subst (λ (i : ℕ). IfOk c.load.result (λ count. HasLoaded i building count c.load.new.self)) may.only c.load.ensures.loaded))
 
 pub returns-clause-works : goal.returns-clause-works
 returns-clause-works g c =
@@ -46,8 +38,8 @@ returns-clause-works g c =
     let put = put_inside _ live may.build c.self.view_is may.runs.build_is c.self.invariant.3 in
     let rings : length live.pages ≡ 16 = sym (ap (λ (l : LiveValue). length l.pages) c.self.view_is) ∙ c.self.invariant.5.sixteen in
     let sixteen : length building.workers ≡ 16 = sym (ap (λ (v : BuildingValue). length v.workers) c.building.view_is) ∙ c.building.invariant.0.sixteen in
-    works_after_load live building may.build may.work may.runs may.fine put rings sixteen may.quiet may.all
-    c.load.new.self c.load.result c.load.ensures.loaded c.load.ensures.spoiled
+    works_after_load live building may.build may.work may.runs may.fine put rings sixteen may.quiet may.all c.load.new.self c.load.result
+    (subst (λ (i : ℕ). IfOk c.load.result (λ count. HasLoaded i building count c.load.new.self)) may.only c.load.ensures.loaded) c.load.ensures.spoiled
 
 pub returns-clause-first : goal.returns-clause-first
 returns-clause-first g c =
@@ -57,7 +49,8 @@ returns-clause-first g c =
     let put = put_inside _ live may.build c.self.view_is may.runs.build_is c.self.invariant.3 in
     let rings : length live.pages ≡ 16 = sym (ap (λ (l : LiveValue). length l.pages) c.self.view_is) ∙ c.self.invariant.5.sixteen in
     let sixteen : length building.workers ≡ 16 = sym (ap (λ (v : BuildingValue). length v.workers) c.building.view_is) ∙ c.building.invariant.0.sixteen in
-    wanted_first live building may.build may.work may.runs may.fine put rings sixteen may.quiet may.all c.load.result c.load.ensures.first
+    subst (λ (i : ℕ). OnErr c.load.result ((index_at (core_state live building).work.indexes i).loaded ≡ false)) (sym may.only)
+    (wanted_first live building may.build may.work may.runs may.fine put rings sixteen may.quiet may.all c.load.result c.load.ensures.first)
 
 pub returns-clause-spoiled : goal.returns-clause-spoiled
 returns-clause-spoiled g c =

@@ -9,7 +9,7 @@ use Rattle.builder_core.specs.Working.{all_copies}
 use Rattle.builder_core.proofs.Looked.{state_looked, runs_looked}
 use Rattle.builder_core.proofs.Places.{map_at}
 use Rattle.builder_core.proofs.Sealed.{works_after_seal, seals_after}
-use Rattle.builder_core.proofs.Takes.{can_read, its_kit, put_of, spoiled_after}
+use Rattle.builder_core.proofs.Takes.{can_read, its_kit, its_spools, put_of, spoiled_after}
 use Rattle.builder_core.proofs.live.Live.seal.Goals as goal
 
 pub seal-requires : goal.seal-requires
@@ -28,10 +28,10 @@ seal-requires g c =
       can = record {
         it = sees.it;
         there = sees.there;
-        kit = kit.0;
-        maker = kit.1;
-        spool = kit.2;
-        fit = kit.3;
+        maker = kit.0;
+        made = kit.1;
+        lent = its_spools live building may.build may.work run may.fine put c.args.worker sees.end.sent sees.it may.there there sees.there sees.in_order;
+        fit = kit.2;
         seen = omega arith;
         rows = can_read live building may.build may.work run may.fine put c.args.worker sees.end.sent sees.it may.there there sees.there sees.in_order (all_copies sees.it);
       };

@@ -27,15 +27,18 @@ use Rattle.builder_core.proofs.live.Live.start.Goals as goal
 abbrev opened : ℕ → KeySpecValue → ℕ → ℕ → CutsValue → BuildState
 opened number spec workers records cuts = build_over number spec workers records cuts [] 0
 
+some_none : {X : Type 0} (x : X) → Some x ≡ None → ⊥
+some_none x e = cc
+
 pub invariant_of-self : goal.invariant_of-self
 invariant_of-self g c =
     let inside = c.self.inside in
     let heap = inside.heap.state in
     let plan = c.args.plan.now in
-    let spec : KeySpecValue = c.in_ok-clone-2.field-0 in
+    let spec : KeySpecValue = c.in_ok-clone.field-0 in
     let build : BuildState = c.in_ok-build.build in
     let columns : spec.kinds ≡ heap.schema =
-    ap (λ (s : KeySpecValue). s.kinds) c.in_ok-clone-2.ensures.same ∙ c.in_ok-spec.ensures.columns ∙ sym (ap (λ (l : LiveValue). l.state.heap.schema) c.self.view_is) in
+    ap (λ (s : KeySpecValue). s.kinds) c.in_ok-clone.ensures.same ∙ c.in_ok-spec.ensures.columns ∙ sym (ap (λ (l : LiveValue). l.state.heap.schema) c.self.view_is) in
     let fit : dealing_refusal (pages_written heap.log) plan.dealing ≡ None =
     ap (λ (l : LiveValue). dealing_refusal (pages_written l.state.heap.log) plan.dealing) c.self.view_is ∙ c.in_ok-spec.ensures.ranges in
     let is : build ≡ build_on (inside.builds + 1) spec plan.workers heap.log plan.dealing =
@@ -63,7 +66,7 @@ invariant_of-building g c =
           (put_ends_started g.T.Table.pages g.T.Table.side inside.pages.items c.restart_all.new.pages.items inside.side.end c.empty_side.new.side.end c.self.invariant.5
           c.restart_all.ensures.rings c.empty_side.ensures.ring)
           c.restart_all.ensures.workers c.empty_side.ensures.same_ring,
-      λ given none. absurd (cc),
+      λ given none. absurd (some_none _ none),
     )
 
 -- the spools that the plan's workers have
@@ -71,14 +74,14 @@ given_spools :
     (building : BuildingValue) (spools : List SpoolValue) (plan : Plan) (spec : KeySpecValue) → spools ≡ building.spools
     → length (spools_state building.given building.spools).left ≡ plan.workers * length plan.specs.items → plan.specs.items ≡ spec ∷ [] → 1 ≤ plan.workers
     → list_all (λ is_empty. is_empty) (spools_state building.given building.spools).left ≡ true
-    → (length spools ≡ plan.workers) × ((k : ℕ) (spool : SpoolValue) → slice_get spools k ≡ Some spool → (spool.runs ≡ []) × (spool.open_run ≡ []))
+    → (length spools ≡ plan.workers * length (spec ∷ [])) × ((k : ℕ) (spool : SpoolValue) → slice_get spools k ≡ Some spool → (spool.runs ≡ []) × (spool.open_run ≡ []))
 given_spools building spools plan spec same many one some empty =
     let workers : length (spools_state building.given building.spools).left ≡ plan.workers * 1 =
     many ∙ ap (λ (specs : List KeySpecValue). plan.workers * length specs) one in
     rw same (by_given building.given workers empty) where
       by_given :
           (given : Bool) → length (spools_state given building.spools).left ≡ plan.workers * 1 → list_all (λ is_empty. is_empty) (spools_state given building.spools).left ≡ true
-          → (length building.spools ≡ plan.workers)
+          → (length building.spools ≡ plan.workers * length (spec ∷ []))
           × ((k : ℕ) (spool : SpoolValue) → slice_get building.spools k ≡ Some spool → (spool.runs ≡ []) × (spool.open_run ≡ []))
       by_given true n all = absurd (omega (arith, n, some))
       by_given false n all =
@@ -95,10 +98,11 @@ returns-clause-works g c =
     let fit : dealing_refusal (pages_written heap.log) plan.dealing ≡ None =
     ap (λ (l : LiveValue). dealing_refusal (pages_written l.state.heap.log) plan.dealing) c.self.view_is ∙ c.in_ok-spec.ensures.ranges in
     let build : c.in_ok-build.build ≡ opened (inside.builds + 1) spec plan.workers c.records.result c.in_ok-cuts.cuts =
-    c.in_ok-build.ensures.ok ∙ ap (λ s. opened (inside.builds + 1) s plan.workers c.records.result c.in_ok-cuts.cuts) c.in_ok-clone-2.ensures.same in
-    let work : c.in_ok-work.work ≡ fresh (inside.builds + 1) spec.kinds spec plan.workers =
-    c.in_ok-work.ensures.ok ∙ ap (λ s. fresh (inside.builds + 1) c.schema-schema.result.now s plan.workers) c.in_ok-clone.ensures.same
-    ∙ ap (λ kinds. fresh (inside.builds + 1) kinds spec plan.workers) (c.schema-schema.ensures ∙ sym columns) in
+    c.in_ok-build.ensures.ok ∙ ap (λ s. opened (inside.builds + 1) s plan.workers c.records.result c.in_ok-cuts.cuts) c.in_ok-clone.ensures.same in
+    let specs : c.in_ok-specs.specs.items ≡ spec ∷ [] = c.in_ok-specs.ensures.same ∙ c.deref.ensures.value ∙ c.in_ok-spec.ensures.spec in
+    let work : c.in_ok-work.work ≡ fresh (inside.builds + 1) heap.schema (spec ∷ []) plan.workers =
+    c.in_ok-work.ensures.ok ∙ ap (λ ss. fresh (inside.builds + 1) c.schema-schema.result.now ss plan.workers) specs
+    ∙ ap (λ kinds. fresh (inside.builds + 1) kinds (spec ∷ []) plan.workers) c.schema-schema.ensures in
     let now : BuildingValue = c.args.building.now in
     let counts = few_workers c.args.self.now.state (length (spools_state now.given now.spools).left) plan c.in_ok-spec.ensures.counts in
     let spools : List SpoolValue = map (spool_value g.S.Spool.runs g.S.Spool.open_run g.S.Spool.stake) c.building.inside.spools.items in
@@ -123,7 +127,7 @@ returns-clause-started g c =
     let cuts_of : ℕ → CutsValue = λ n. record { pages = n; ends = dealt_ends n plan.dealing } in
     let build : c.in_ok-build.build ≡ started live plan =
     c.in_ok-build.ensures.ok
-    ∙ ap (λ s. opened (inside.builds + 1) s plan.workers c.records.result c.in_ok-cuts.cuts) c.in_ok-clone-2.ensures.same
+    ∙ ap (λ s. opened (inside.builds + 1) s plan.workers c.records.result c.in_ok-cuts.cuts) c.in_ok-clone.ensures.same
     ∙ ap (λ n. opened (n + 1) spec plan.workers c.records.result c.in_ok-cuts.cuts) (ap (λ (l : LiveValue). l.state.builds) c.self.view_is)
     ∙ ap (λ n. opened (live.builds + 1) spec plan.workers n c.in_ok-cuts.cuts) log
     ∙ ap (opened (live.builds + 1) spec plan.workers (length live.heap.log)) (c.in_ok-cuts.ensures.ok ∙ ap cuts_of pages)
@@ -137,8 +141,8 @@ returns-clause-started g c =
     let work : work_state c.restart_all.new.workers.items (Some c.in_ok-work.work) ≡ fresh_work plan =
     ap (λ (ws : List WorkerValue). work_state ws (Some c.in_ok-work.work)) c.restart_all.ensures.workers
     ∙ ap (λ (w : WorkValue). work_state (map (begun_on (inside.builds + 1)) new_pages) (Some w))
-    (c.in_ok-work.ensures.ok ∙ ap (λ s. fresh (inside.builds + 1) c.schema-schema.result.now s plan.workers) c.in_ok-clone.ensures.same)
-    ∙ fresh_is plan c.schema-schema.result.now spec (inside.builds + 1) (inside.builds + 1) new_pages few one in
+    c.in_ok-work.ensures.ok
+    ∙ fresh_is plan c.schema-schema.result.now c.in_ok-specs.specs.items spec (inside.builds + 1) (inside.builds + 1) new_pages few one in
     let spools : List SpoolValue = map (spool_value g.S.Spool.runs g.S.Spool.open_run g.S.Spool.stake) c.building.inside.spools.items in
     let now : BuildingValue = c.args.building.now in
     let lent : spools_state true spools ≡ all_given (spools_state now.given now.spools) =
