@@ -7,6 +7,7 @@
 
 mod images;
 mod maker;
+mod nearing;
 mod open_run;
 mod rows;
 mod sealing;
