@@ -7,10 +7,10 @@
 
 mod images;
 mod maker;
-mod nearing;
 mod open_run;
 mod rows;
 mod sealing;
+mod sorting;
 mod spooling;
 
 pub use maker::Maker;

@@ -1,9 +1,11 @@
-//! A step before the sort of a run, by the numbers with which its keys begin.
+//! The sort of a run.
 //!
 //! Numbers are sorted much faster than pairs. So each key gives its first bytes as a number, which is sorted with the pair's
 //! place in its low bits, and the pairs are moved after it. The sort of the pairs then mostly finds them in order: where two keys
 //! give one number, it does the rest.
-ghost use Rattle.std.specs.Prelude.{IsPermutation};
+ghost use Rattle.std.specs.Prelude.{◌≡◌, IsPermutation, length};
+ghost use Rattle.std.specs.List.Sorted.{IsSorted};
+ghost use Rattle.keybytes.specs.Pairs.{pair_cmp};
 
 use crate::open_run::RUN_PAIRS;
 use keybytes::{Key, Pair};
@@ -23,8 +25,8 @@ fn head(key: &Key) -> u64 {
     }
 }
 
-/// The numbers of the pairs' keys, less the least of them, and moved up until the greatest has its highest bit set; in place of the low bits
-/// the pair's place.
+/// The numbers of the pairs' keys, less the least of them, and moved up until the greatest has its highest bit set, with the
+/// pair's place in the low bits.
 fn numbers(alloc: Global, pairs: &[Pair]) -> Result<Vec<u64>, AllocError> {
     let mut numbers = Vec::with_capacity(alloc, pairs.len())?;
     let mut least = u64::MAX;
@@ -78,11 +80,21 @@ fn move_to(pairs: &mut [Pair], goals: &mut [usize])
     }
 }
 
-/// Brings the pairs of a run near their order. Where there is no memory for that, nothing is changed.
-pub(crate) fn bring_near(pairs: &mut Vec<Pair>)
+/// Brings the pairs near their order. Where there is no memory for the numbers, nothing is moved.
+fn bring_near(pairs: &mut Vec<Pair>)
     ensures { IsPermutation pairs.old.items pairs.new.items }
 {
     if let Ok(mut goals) = goals(*pairs.allocator(), pairs) {
         move_to(pairs, &mut goals);
     }
+}
+
+/// Sorts the pairs of a run.
+pub(crate) fn sort(pairs: &mut Vec<Pair>)
+    ensures permutation { IsPermutation pairs.old.items pairs.new.items }
+    ensures len { length pairs.new.items ≡ length pairs.old.items }
+    ensures sorted { IsSorted pair_cmp pairs.new.items }
+{
+    bring_near(pairs);
+    pairs.sort_unstable();
 }
