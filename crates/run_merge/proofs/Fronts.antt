@@ -1,16 +1,15 @@
 -- Heads are in the order of the numbers at their fronts.
-use Rattle.std.proofs.Common.{◌≡◌, ℕ, ◌<◌, List, Ordering, Less, Equal, Greater, nat_cmp, false, refl, sym, ap, ◌∙◌, arith}
+use Rattle.std.proofs.Common.{◌≡◌, ℕ, ◌<◌, List, Ordering, Less, Equal, Greater, nat_cmp, false, refl, ap, ◌∙◌, arith}
 use Rattle.std.specs.Prelude.{Option, Some, None}
 use Rattle.std.specs.Ordering.{MatchOrdering, ordering_then, is_lt}
 use Rattle.std.specs.Cmp.Lexicographic.{slice_cmp}
 use Rattle.std.proofs.lemmas.Cmp.{ranked}
 use Rattle.byteorder.specs.Endian.{big_number}
 use Rattle.keybytes.proofs.Heads.{numbers_decide}
-use Rattle.keybytes.specs.Pairs.{pair_cmp}
 use Rattle.keybytes.specs.Rids.{rid_cmp}
 use Rattle.keybytes.specs.declared.pair.Pair.{Pair}
 use Rattle.run_merge.specs.Fronts.{IsNumber, HasFront}
-use Rattle.run_merge.specs.Leading.{is_ahead, is_before}
+use Rattle.run_merge.specs.Leading.{is_ahead}
 
 is_greater : (m n : ℕ) (o : Ordering) → MatchOrdering o (m < n) (m ≡ n) (n < m) → n < m → o ≡ Greater
 is_greater m n Less is above = absurd (omega (arith, is, above))

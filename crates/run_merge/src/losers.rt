@@ -18,11 +18,8 @@ fn game(heads: &[Head], one: usize, other: usize) -> (usize, usize, u64)
     ensures compares { result.2 ≤ 1 }
 {
     let (won, compares) = winner(heads, one, other);
-    if won == one {
-        (one, other, compares)
-    } else {
-        (other, one, compares)
-    }
+    // (the other one of the two, by no branch: who wins can't be foretold)
+    (won, one + other - won, compares)
 }
 
 // Plays the games on the way from a leaf to the root, and tells how many comparisons of pairs they took.

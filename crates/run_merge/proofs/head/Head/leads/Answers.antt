@@ -1,6 +1,5 @@
-use Rattle.std.proofs.Common.{◌≡◌, ◌<◌, ◌≤◌, false, subst, arith}
+use Rattle.std.proofs.Common.{◌<◌, ◌≤◌, arith}
 use Rattle.std.proofs.lemmas.Bool.Decides.{nat_tests}
-use Rattle.run_merge.specs.Leading.{is_ahead}
 use Rattle.run_merge.proofs.Fronts.{fronts_lead}
 use Rattle.run_merge.proofs.head.Head.leads.Goals as goal
 
