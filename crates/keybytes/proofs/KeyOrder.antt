@@ -28,7 +28,7 @@ ordering_then-Equal Less = refl
 ordering_then-Equal Equal = refl
 ordering_then-Equal Greater = refl
 
-ordering_then-assoc : (a b c : Ordering) → ordering_then a (ordering_then b c) ≡ ordering_then (ordering_then a b) c
+pub ordering_then-assoc : (a b c : Ordering) → ordering_then a (ordering_then b c) ≡ ordering_then (ordering_then a b) c
 ordering_then-assoc Less b c = refl
 ordering_then-assoc Equal b c = refl
 ordering_then-assoc Greater b c = refl
@@ -66,12 +66,12 @@ digits_match c a b p q Equal Equal in_p in_q h l = rw (h, l) refl
 digits_match c a b p q Equal Greater in_p in_q h l = rw h (omega arith)
 digits_match c a b p q Greater low in_p in_q h l = omega (arith, mul-add-lt b c q a h in_q)
 
-one_above : (k : ℕ) → 0 < 256 ^ k
+pub one_above : (k : ℕ) → 0 < 256 ^ k
 one_above zero = lit< tt
 one_above (suc k) = rw (pow-suc 256 k) (omega (arith, one_above k))
 
 -- two numbers of two digits compare by the high digits, then by the low ones
-nat_cmp-digits : (c a b p q : ℕ) → p < c → q < c → nat_cmp (a * c + p) (b * c + q) ≡ ordering_then (nat_cmp a b) (nat_cmp p q)
+pub nat_cmp-digits : (c a b p q : ℕ) → p < c → q < c → nat_cmp (a * c + p) (b * c + q) ≡ ordering_then (nat_cmp a b) (nat_cmp p q)
 nat_cmp-digits c a b p q in_p in_q =
     sym (nat_cmp_is _ _ _ (digits_match c a b p q (nat_cmp a b) (nat_cmp p q) in_p in_q (ranked a b _ refl) (ranked p q _ refl)))
 

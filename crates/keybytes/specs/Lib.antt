@@ -1,6 +1,7 @@
 pub mod Answered
 pub mod Cells
 pub mod Faults
+pub mod Heads
 pub mod KeyRoom
 pub mod Keys
 pub mod Pairs

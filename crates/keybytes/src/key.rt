@@ -1,6 +1,10 @@
 ghost use Rattle.std.specs.Prelude.{◌≡◌, ◌+◌, ◌≤◌, ◌++◌, [], length, take, IsOk, IfOk, IfErr, OnOk, OnErr};
+ghost use Rattle.std.specs.Ordering.{nat_cmp};
+ghost use Rattle.std.specs.Cmp.Lexicographic.{slice_cmp};
+ghost use Rattle.keybytes.specs.Heads.{AreBytes};
 
 use crate::{Fault, KEY_COLUMNS_MAX, TEXT_MAX};
+use byteorder::{BigEndian, ByteOrder};
 use smallvec::SmallVec;
 use std::alloc::Global;
 use std::cmp::Ordering;
@@ -13,6 +17,9 @@ const _: () = prove!(KEY_MAX == KEY_COLUMNS_MAX * (1 + 2 * TEXT_MAX + 2));
 
 /// The bytes that a key keeps in place; a longer key lies in memory of its own.
 pub const KEY_INLINE: usize = 24;
+
+/// The bytes that are compared as one number.
+const HEAD: usize = 8;
 
 /// The bytes of a key, at most [`KEY_MAX`], in the order of lists of bytes. Contracts see the list of the bytes.
 #[derive(Debug, Drop)]
@@ -129,6 +136,35 @@ impl Ord for Key {
     ghost matches_eq = { λ key other. texts_ties key other };
 
     fn cmp(&self, other: &Self) -> Ordering {
-        self.bytes().cmp(&other.bytes())
+        compare(self.bytes(), other.bytes())
     }
+}
+
+/// Compares lists of bytes.
+#[inline]
+fn compare(bytes: &[u8], others: &[u8]) -> Ordering
+    ensures { result ≡ slice_cmp nat_cmp bytes.now others.now }
+{
+    if bytes.len() < HEAD || others.len() < HEAD {
+        return bytes.cmp(&others);
+    }
+    compare_long(bytes, others)
+}
+
+/// Compares lists of bytes. The first bytes are compared as one number, which mostly decides.
+#[inline]
+fn compare_long(bytes: &[u8], others: &[u8]) -> Ordering
+    requires long { 8 ≤ length bytes.now }
+    requires other_long { 8 ≤ length others.now }
+    requires bytes { AreBytes bytes.now }
+    requires other_bytes { AreBytes others.now }
+    ensures { result ≡ slice_cmp nat_cmp bytes.now others.now }
+{
+    let number = BigEndian::read_u64(bytes);
+    let other = BigEndian::read_u64(others);
+    if number != other {
+        return number.cmp(&other);
+    }
+    let (rest, other_rest) = (&bytes[HEAD..], &others[HEAD..]);
+    rest.cmp(&other_rest)
 }

@@ -40,8 +40,10 @@ pub fn add_cell(key: &mut Key, cell: &Cell) -> Result<(), Fault>
     match cell {
         Cell::Null => key.add(&[NULL]),
         Cell::Int(number) => {
-            key.add(&[VALUE])?;
-            key.add(&number.cast_unsigned().wrapping_add(SIGN).to_be_bytes())
+            let mut bytes = [VALUE; 1 + INT_LEN];
+            let raised = number.cast_unsigned().wrapping_add(SIGN);
+            BigEndian::write_u64(&mut bytes[1..], raised);
+            key.add(&bytes)
         }
         Cell::Text(text) => {
             key.add(&[VALUE])?;

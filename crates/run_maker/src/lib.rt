@@ -10,6 +10,7 @@ mod maker;
 mod open_run;
 mod rows;
 mod sealing;
+mod sorting;
 mod spooling;
 
 pub use maker::Maker;

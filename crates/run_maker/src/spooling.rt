@@ -2,6 +2,7 @@ ghost use Rattle.std.specs.Prelude.{◌≡◌, ◌<◌, ◌⊎◌, [], IfErr, On
 ghost use Rattle.run_spool.specs.Spools.{NoneEmpty, AreSorted};
 ghost use Rattle.run_maker.specs.Spooling.{Spooled};
 
+use crate::sorting::sort;
 use keybytes::{Fault, Pair};
 use run_spool::Spool;
 
@@ -20,7 +21,7 @@ pub(crate) fn spool_run<S: Spool>(pairs: &mut Vec<Pair>, spool: &mut S) -> Resul
     ensures stake { S.stake spool.new ≡ S.stake spool.old }
     ensures no_page { IfErr result (λ fault. fault ≡ Fault.NoPage) }
 {
-    pairs.sort_unstable();
+    sort(pairs);
     // (the first is taken from the end, so that the memory stays here)
     pairs.reverse();
     while let Some(pair) = pairs.pop() {

@@ -1,3 +1,4 @@
+pub mod Fronts
 pub mod Games
 pub mod InOrder
 pub mod Numbers

@@ -1,3 +1,4 @@
+pub mod Fronts
 pub mod Leading
 pub mod Losers
 pub mod Merging

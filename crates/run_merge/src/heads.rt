@@ -1,6 +1,7 @@
 ghost use Rattle.std.specs.Prelude.{◌≡◌, ◌<◌, ◌≤◌, ◌+◌, ◌-◌, ◌^◌, ℕ, None, IfOk, IfErr, MatchOption, length, get_or, set};
 ghost use Rattle.run_merge.specs.Leading.{AllDone, IsFirst};
 
+use crate::head::Head;
 use crate::losers::{losers_of, replay};
 use crate::tournament::{leaves, play_all};
 use keybytes::{Fault, Pair};
@@ -12,7 +13,7 @@ use std::mem;
 /// were made so far.
 #[derive(Drop)]
 pub(crate) struct Heads {
-    heads: Vec<Option<Pair>>,
+    heads: Vec<Head>,
     nodes: Vec<usize>,
     compares: u64,
 }
@@ -31,7 +32,7 @@ impl Model for Heads {
 
 impl Heads {
     /// Takes the heads, with at most one comparison fewer than there are heads.
-    pub(crate) fn new(alloc: Global, heads: Vec<Option<Pair>>) -> Result<Heads, Fault>
+    pub(crate) fn new(alloc: Global, heads: Vec<Head>) -> Result<Heads, Fault>
         ensures heads { IfOk result (λ new. new.heads ≡ heads.items) }
         ensures compares { IfOk result (λ new. new.compares ≤ length heads.items - 1) }
         ensures memory { IfErr result (λ fault. fault ≡ Fault.Memory) }
@@ -54,7 +55,7 @@ impl Heads {
             return None;
         }
         let first = self.nodes[0];
-        if self.heads[first].is_none() {
+        if self.heads[first].pair().is_none() {
             return None;
         }
         Some(first)
@@ -68,10 +69,11 @@ impl Heads {
         ensures compares { (d : ℕ) → length self.old.heads ≤ 2 ^ d → self.new.compares ≤ self.old.compares + d }
     {
         let first = self.nodes[0];
-        let given = mem::replace(&mut self.heads[first], head);
+        let next = Head::new(head);
+        let given = mem::replace(&mut self.heads[first], next);
         let compares = replay(&mut self.nodes, &self.heads, first);
         self.compares = self.compares.saturating_add(compares);
-        given
+        given.into_pair()
     }
 
     /// How many comparisons of two pairs were made so far; it stays at the greatest number.

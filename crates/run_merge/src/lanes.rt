@@ -2,6 +2,7 @@ ghost use Rattle.std.specs.Prelude.{◌≡◌, ◌≤◌, ◌+◌, ◌-◌, ◌^
 ghost use Rattle.run_spool.specs.Spools.{AreSorted};
 ghost use Rattle.run_merge.specs.Merging.{has_pair, all_runs, Gives, IsMerge};
 
+use crate::head::Head;
 use crate::heads::Heads;
 use crate::spool_runs::{advance, head, run_count};
 use keybytes::{Fault, Pair};
@@ -46,7 +47,7 @@ impl Lanes {
         for run in 0..run_count(spools)? {
             if let Some(pair) = head(alloc, spools, run)? {
                 runs.push(run)?;
-                heads.push(Some(pair))?;
+                heads.push(Head::new(Some(pair)))?;
             }
         }
         Ok(Lanes {

@@ -8,6 +8,7 @@
 //! than the tree has levels.
 #![tactic(auto)]
 
+mod head;
 mod heads;
 mod lanes;
 mod losers;

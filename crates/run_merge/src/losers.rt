@@ -4,12 +4,13 @@ ghost use Rattle.std.specs.Prelude.{◌≡◌, ◌<◌, ◌≤◌, ◌+◌, ◌^
 ghost use Rattle.run_merge.specs.Tournaments.{IsWinner, IsWon};
 ghost use Rattle.run_merge.specs.Losers.{IsLost, IsReplay};
 
+use crate::head::Head;
 use crate::tournament::winner;
-use keybytes::{Fault, Pair};
+use keybytes::Fault;
 use std::alloc::Global;
 
 // Who wins the game between two heads and who loses it, and how many comparisons of pairs that took.
-fn game(heads: &[Option<Pair>], one: usize, other: usize) -> (usize, usize, u64)
+fn game(heads: &[Head], one: usize, other: usize) -> (usize, usize, u64)
     requires one { one < length heads.now }
     requires other { other < length heads.now }
     ensures winner { IsWinner heads.now result.0 one other }
@@ -17,15 +18,12 @@ fn game(heads: &[Option<Pair>], one: usize, other: usize) -> (usize, usize, u64)
     ensures compares { result.2 ≤ 1 }
 {
     let (won, compares) = winner(heads, one, other);
-    if won == one {
-        (one, other, compares)
-    } else {
-        (other, one, compares)
-    }
+    // (the other one of the two, by no branch: who wins can't be foretold)
+    (won, one + other - won, compares)
 }
 
 // Plays the games on the way from a leaf to the root, and tells how many comparisons of pairs they took.
-pub(crate) fn replay(nodes: &mut [usize], heads: &[Option<Pair>], leaf: usize) -> u64
+pub(crate) fn replay(nodes: &mut [usize], heads: &[Head], leaf: usize) -> u64
     requires leaf { leaf < length heads.now }
     requires replay { IsReplay heads.now nodes.old (length heads.now + leaf) leaf }
     ensures lost { IsLost heads.now nodes.new }
@@ -46,11 +44,7 @@ pub(crate) fn replay(nodes: &mut [usize], heads: &[Option<Pair>], leaf: usize) -
 }
 
 // The losers of games of which the winners are known.
-pub(crate) fn losers_of(
-    alloc: Global,
-    heads: &[Option<Pair>],
-    wins: &[usize],
-) -> Result<Vec<usize>, Fault>
+pub(crate) fn losers_of(alloc: Global, heads: &[Head], wins: &[usize]) -> Result<Vec<usize>, Fault>
     requires { IsWon heads.now wins.now }
     ensures lost { IfOk result (λ nodes. IsLost heads.now nodes.items) }
     ensures memory { IfErr result (λ fault. fault ≡ Fault.Memory) }

@@ -4,31 +4,27 @@
 ghost use Rattle.std.specs.Prelude.{◌≡◌, ◌<◌, ◌≤◌, ◌+◌, ◌-◌, ◌*◌, ℕ, IfOk, IfErr, length};
 ghost use Rattle.run_merge.specs.Tournaments.{IsWinner, IsPlayed, HasLeaves, IsWon};
 
-use keybytes::{Fault, Pair};
+use crate::head::Head;
+use keybytes::Fault;
 use std::alloc::Global;
 
 // Which of two heads is given first, and how many comparisons of pairs that took.
-pub(crate) fn winner(heads: &[Option<Pair>], left: usize, right: usize) -> (usize, u64)
+pub(crate) fn winner(heads: &[Head], left: usize, right: usize) -> (usize, u64)
     requires left { left < length heads.now }
     requires right { right < length heads.now }
     ensures winner { IsWinner heads.now result.0 left right }
     ensures compares { result.1 ≤ 1 }
 {
-    match (&heads[left], &heads[right]) {
-        (Some(pair), Some(other)) => {
-            if other.cmp(pair).is_lt() {
-                (right, 1)
-            } else {
-                (left, 1)
-            }
-        }
-        (Some(_), None) => (left, 0),
-        (None, _) => (right, 0),
+    let (leads, compares) = heads[left].leads(&heads[right]);
+    if leads {
+        (left, compares)
+    } else {
+        (right, compares)
     }
 }
 
 // Plays the game at a node, and tells how many comparisons of pairs that took.
-fn play(nodes: &mut [usize], heads: &[Option<Pair>], node: usize) -> u64
+fn play(nodes: &mut [usize], heads: &[Head], node: usize) -> u64
     requires some { 0 < node }
     requires node { node < length heads.now }
     requires tree { HasLeaves heads.now nodes.old }
@@ -44,7 +40,7 @@ fn play(nodes: &mut [usize], heads: &[Option<Pair>], node: usize) -> u64
 }
 
 // Plays all games, and tells how many comparisons of pairs they took.
-pub(crate) fn play_all(nodes: &mut [usize], heads: &[Option<Pair>]) -> u64
+pub(crate) fn play_all(nodes: &mut [usize], heads: &[Head]) -> u64
     requires tree { HasLeaves heads.now nodes.old }
     ensures won { IsWon heads.now nodes.new }
     ensures compares { result ≤ length heads.now - 1 }
@@ -59,7 +55,7 @@ pub(crate) fn play_all(nodes: &mut [usize], heads: &[Option<Pair>]) -> u64
 }
 
 // The nodes of a tree over so many heads, with no game played yet.
-pub(crate) fn leaves(alloc: Global, heads: &[Option<Pair>]) -> Result<Vec<usize>, Fault>
+pub(crate) fn leaves(alloc: Global, heads: &[Head]) -> Result<Vec<usize>, Fault>
     ensures tree { IfOk result (λ nodes. HasLeaves heads.now nodes.items) }
     ensures memory { IfErr result (λ fault. fault ≡ Fault.Memory) }
 {

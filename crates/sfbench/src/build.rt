@@ -210,6 +210,30 @@ pub fn load<T: Table>(core: &mut Core<PlainSpool, T>, index: usize) -> Result<()
     Ok(())
 }
 
+/// Feeds the ring of an index with at most so many entries of its side-file. Answers how many they were.
+pub fn feed<T: Table>(
+    core: &mut Core<PlainSpool, T>,
+    index: usize,
+    most: usize,
+) -> Result<usize, Failure> {
+    let Reply::Fed { entries } = ask(core, "a feed", Event::Feed { index, most })? else {
+        unreachable!()
+    };
+    Ok(entries)
+}
+
+/// Applies at most so many entries of its ring to an index. Answers how many they were.
+pub fn apply<T: Table>(
+    core: &mut Core<PlainSpool, T>,
+    index: usize,
+    most: usize,
+) -> Result<usize, Failure> {
+    let Reply::Applied { entries } = ask(core, "an apply", Event::Apply { index, most })? else {
+        unreachable!()
+    };
+    Ok(entries)
+}
+
 /// Makes the indexes ready.
 pub fn switch<T: Table>(core: &mut Core<PlainSpool, T>) -> Result<(), Failure> {
     ask(core, "the switch", Event::Switch)?;

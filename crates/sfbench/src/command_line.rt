@@ -24,7 +24,8 @@ The phases of a run:
   updates        rows are updated between the copies (with --writes)
   seal           each worker takes its last copies and sorts its last run
   load           the runs are merged
-  switch         the changes of the side-file are applied, and the index is ready
+  catch-up       entries of the side-file are applied, until 255 are left at most (with --writes)
+  switch         the entries that are left are applied, and the index is ready
   build          start to switch, without the updates
   look-ups       pairs of the index, in no order, are looked for in it
 

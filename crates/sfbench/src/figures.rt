@@ -19,7 +19,9 @@ pub struct Figures {
     pub seal: Figure,
     /// The runs were merged.
     pub load: Figure,
-    /// The changes of the side-file were applied, and the index was made ready.
+    /// Entries of the side-file were applied, where writes are asked for.
+    pub catch_up: Option<Figure>,
+    /// The entries that were left were applied, and the index was made ready.
     pub switch: Figure,
     /// Pairs were looked for in the index.
     pub look_ups: Figure,
@@ -27,7 +29,7 @@ pub struct Figures {
 
 impl Figures {
     /// The names of the phases, in their order, each with its figure if it has one.
-    pub fn lines(&self) -> [(&'static str, Option<Figure>); 11] {
+    pub fn lines(&self) -> [(&'static str, Option<Figure>); 12] {
         [
             ("fill", Some(self.fill)),
             ("updates alone", self.updates_alone),
@@ -37,6 +39,7 @@ impl Figures {
             ("updates", self.updates),
             ("seal", Some(self.seal)),
             ("load", Some(self.load)),
+            ("catch-up", self.catch_up),
             ("switch", Some(self.switch)),
             ("build", Some(self.build())),
             ("look-ups", Some(self.look_ups)),
@@ -48,6 +51,9 @@ impl Figures {
         let mut build = self.switch;
         for phase in [self.start, self.scan, self.digest, self.seal, self.load] {
             build.spent = build.spent.saturating_add(phase.spent);
+        }
+        if let Some(catch_up) = self.catch_up {
+            build.spent = build.spent.saturating_add(catch_up.spent);
         }
         build
     }

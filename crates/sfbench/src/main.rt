@@ -6,6 +6,7 @@
 
 mod bench;
 mod build;
+mod catching_up;
 mod column;
 mod command_line;
 mod copying;

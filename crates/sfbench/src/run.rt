@@ -3,6 +3,7 @@ ghost use Rattle.std.specs.Prelude.{◌≡◌};
 
 use crate::bench::Bench;
 use crate::build;
+use crate::catching_up::catch_up;
 use crate::copying::{self, copy_all};
 use crate::failure::Failure;
 use crate::figure::Figure;
@@ -59,6 +60,7 @@ fn measure<T: Table>(
     let updates = figure_of(bench, &changes);
     let seal = seal(bench, core)?;
     let load = load(bench, core)?;
+    let catch_up = catch_up(bench, core)?;
     let switch = switch(bench, core)?;
     let look_ups = look_up(bench, core)?;
     compare(bench, core)?;
@@ -71,6 +73,7 @@ fn measure<T: Table>(
         updates,
         seal,
         load,
+        catch_up,
         switch,
         look_ups,
     })
@@ -152,7 +155,7 @@ fn load<T: Table>(
     Ok(Figure::new(rt, &watch, bench.options.rows))
 }
 
-/// Makes the indexes ready; what the side-file has is applied before.
+/// Makes the indexes ready; the entries that the catch-up left are applied before.
 fn switch<T: Table>(
     bench: &mut Bench<'_>,
     core: &mut Core<PlainSpool, T>,

@@ -10,7 +10,7 @@ use std::test::Fail;
 
 /// The phases of a run with updates, in the order in which they are printed.
 const PHASES: &str =
-    "phase;fill;updates alone;start;scan;digest;updates;seal;load;switch;build;look-ups;";
+    "phase;fill;updates alone;start;scan;digest;updates;seal;load;catch-up;switch;build;look-ups;";
 
 /// Runs that, and answers the first field of each record that it prints.
 fn phases(rt: &HostRuntime, words: &[&str]) -> Result<String, Fail> {

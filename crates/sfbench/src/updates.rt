@@ -12,9 +12,6 @@ use rand::seq::IndexedRandom;
 use run_spool::PlainSpool;
 use std::time::Instant;
 
-/// A switch applies at most 1,024 entries, and an update behind a scan makes two. Beyond that updates go to rows ahead of the scans.
-const BEHIND_MAX: u32 = 512;
-
 /// The updates of a run: where its rows stand, and how many were made.
 #[derive(Drop)]
 pub struct Updates {
@@ -23,7 +20,6 @@ pub struct Updates {
     /// In how many parts all of them are made.
     parts: u32,
     made: u32,
-    behind: u32,
     pub watch: Watch,
 }
 
@@ -34,7 +30,6 @@ impl Updates {
             pages,
             parts,
             made: 0,
-            behind: 0,
             watch: Watch::new(),
         }
     }
@@ -42,7 +37,6 @@ impl Updates {
     /// Begins to count anew.
     pub fn restart(&mut self) {
         self.made = 0;
-        self.behind = 0;
         self.watch = Watch::new();
     }
 
@@ -79,22 +73,14 @@ impl Updates {
         (u64::from(all) * (u64::from(part) + 1) / u64::from(self.parts)) as u32
     }
 
-    /// A row of any worker's pages; ahead of its scan once enough were behind.
-    fn pick(&mut self, bench: &mut Bench<'_>, stretches: &[Stretch]) -> Option<Rid> {
+    /// A row of any worker's pages.
+    fn pick(&self, bench: &mut Bench<'_>, stretches: &[Stretch]) -> Option<Rid> {
         let stretch = stretches.choose(&mut bench.rng)?;
-        let begin = if self.behind < BEHIND_MAX {
-            stretch.begin
-        } else {
-            stretch.next
-        };
-        if begin >= stretch.end {
+        if stretch.begin >= stretch.end {
             return None;
         }
-        let page = bench.rng.random_range(begin..stretch.end);
+        let page = bench.rng.random_range(stretch.begin..stretch.end);
         let rows = *self.pages.get(page as usize)?;
-        if page < stretch.next {
-            self.behind += 1;
-        }
         let slot = bench.rng.random_range(0..rows.max(1));
         Some(Rid { page, slot })
     }

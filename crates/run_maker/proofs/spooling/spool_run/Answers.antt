@@ -11,9 +11,9 @@ pub returns-clause-sorted : goal.returns-clause-sorted
 returns-clause-sorted g c = λ all.
     let run = g.S.Spool.open_run c.loop-pair.spool in
     let none : c.loop-pair.pairs.items ≡ [] = nil_from_length c.loop-pair.pairs.items (search (rules, c.in_default.ensures.cases)) in
-    let sorted = c.sort_unstable.new.self.items in
+    let sorted = c.sort.new.pairs.items in
     let run_is : run ≡ sorted =
     moved_all run sorted c.reverse.new.self.items c.loop-pair.pairs.items none c.reverse.ensures.items c.loop-pair.invariant.moved in
     let closed = c.end_run.ensures.runs ∙ ap (λ (rs : List (List Pair)). with_closed_run rs run) c.loop-pair.invariant.runs in
-    subst AreSorted (sym closed) (closed_sorted (g.S.Spool.runs c.args.spool.now) run (subst (IsSorted pair_cmp) (sym run_is) c.sort_unstable.ensures.sorted)
+    subst AreSorted (sym closed) (closed_sorted (g.S.Spool.runs c.args.spool.now) run (subst (IsSorted pair_cmp) (sym run_is) c.sort.ensures.sorted)
     all)

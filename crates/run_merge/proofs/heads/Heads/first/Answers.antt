@@ -13,7 +13,7 @@ returns-then-is_none c =
     let some : 0 < length heads = search rules in
     let inside : 0 < length nodes = omega (arith, some, c.self.invariant.long) in
     let root = get_or_read nodes 0 c.index-first.result.now inside c.index-first.ensures 0 in
-    let none : is_some x ≡ false = c.if-is_none.ensures in
+    let none : is_some x ≡ false = ap is_some (sym c.pair.ensures) ∙ c.if-is_none.ensures in
     let at = c.index.ensures ∙ ap (λ (i : ℕ). get_or heads i x) root in
     subst AllDone (ap (λ (v : HeadsValue). v.heads) c.self.view_is) (all_done heads nodes c.self.invariant some x at none)
 
@@ -25,7 +25,7 @@ returns c =
     let some : 0 < length heads = search rules in
     let inside : 0 < length nodes = omega (arith, some, c.self.invariant.long) in
     let root = get_or_read nodes 0 c.index-first.result.now inside c.index-first.ensures 0 in
-    let there : is_some x ≡ true = c.if-is_none.ensures in
+    let there : is_some x ≡ true = ap is_some (sym c.pair.ensures) ∙ c.if-is_none.ensures in
     let value : HeadsValue = record { heads = heads; first = get_or nodes 0 0; compares = c.self.inside.compares } in
     let at = c.index.ensures ∙ ap (λ (i : ℕ). get_or heads i x) root in
     let first : IsFirst value value.first = root_is_first value nodes c.self.invariant some refl x at there in

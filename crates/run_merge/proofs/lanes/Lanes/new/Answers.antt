@@ -1,4 +1,4 @@
-use Rattle.std.proofs.Common.{◌≡◌, ◌+◌, ◌<◌, ◌∙◌, refl, ap, sym, arith, length, get_or, List, [], map}
+use Rattle.std.proofs.Common.{◌≡◌, ◌+◌, ◌<◌, ◌∙◌, refl, ap, sym, arith, length, get_or, List, [], ◌∷◌, ◌++◌, map}
 use Rattle.std.specs.Prelude.{Some}
 use Rattle.std.proofs.lemmas.List.{length_push}
 use Rattle.keybytes.specs.declared.pair.Pair.{Pair}
@@ -34,7 +34,7 @@ loop-run-preserved g c =
       | in-Some+in_ok-push+in_ok-push-2 w ↦
           let first : Some w.in-Some.pair ≡ head_of (get_or runs run []) = sym w.in-Some.is ∙ head in
           let lanes = ap (λ v. v.items) w.runs-is ∙ w.in_ok-push.ensures.items in
-          let heads = ap (λ v. v.items) w.heads-is ∙ w.in_ok-push-2.ensures.items in
+          let heads = ap (λ v. v.items) w.heads-is ∙ w.in_ok-push-2.ensures.items ∙ ap (λ head. c.loop-run.heads.items ++ head ∷ []) w.new.ensures in
           record {
             runs = c.head.ensures.runs ∙ was.runs;
             open_runs = c.head.ensures.open_runs ∙ was.open_runs;
