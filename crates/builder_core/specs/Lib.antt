@@ -1,4 +1,6 @@
 pub mod Builds
+pub mod CatchingUp
+pub mod Changing
 pub mod CoreState
 pub mod Headline
 pub mod Holding

@@ -1,5 +1,5 @@
 //! A change of a row, done together with what it means for the index of the running build.
-ghost use Rattle.std.specs.Prelude.{◌≡◌, ◌+◌, ◌++◌, ◌∷◌, ◌≤◌, List, [], length, map, Some, None, ℕ, true, IsSome, IfSome, IfOk, IfErr, OnOk, OnErr, Option};
+ghost use Rattle.std.specs.Prelude.{◌≡◌, ◌+◌, ◌++◌, ◌∷◌, ◌<◌, ◌≤◌, List, length, map, slice_get, Some, None, ℕ, true, IsSome, IfSome, IfOk, IfErr, OnOk, OnErr, Option};
 ghost use Rattle.std.specs.Option.{option_map};
 ghost use Rattle.keybytes.specs.Cells.{fits};
 ghost use Rattle.keybytes.specs.Keys.{KeySpecValue, key_of};
@@ -8,15 +8,18 @@ ghost use Rattle.heap_table.specs.HeapState.{after_write, after_undo};
 ghost use Rattle.heap_table.specs.Ready.{IsReady, after_ready, answer_of};
 ghost use Rattle.visibility.specs.SideEntries.{entries_of_change};
 ghost use Rattle.side_file.specs.Entries.{entry_of};
+ghost use Rattle.side_file.specs.SideFileValue.{SideFileValue};
 ghost use Rattle.builder_core.specs.Builds.{WorkValue, BuildFollows, IsWorkOf};
 ghost use Rattle.building.specs.declared.copied.Copied.{Copied};
 ghost use Rattle.builder_core.specs.Rings.{PagesFollow};
-ghost use Rattle.builder_core.specs.SideFiles.{noted, SideFollows};
+ghost use Rattle.builder_core.specs.Changing.{FitsBuild, IsChangeOf, AreChangesOf, HaveAppended, HaveNoted, without_room};
+ghost use Rattle.builder_core.specs.SideFiles.{SidesFollow, side_ends};
 
 use crate::table_scan::TableScan;
 use heap_table::{Heap, Performed, Ready, Undone};
 use keybytes::{Fault, Key, KeySpec, Rid, Row};
 use side_file::{Entry, Op, SideFile};
+use std::alloc::Global;
 use visibility::{Change, entries};
 
 /// The key of a row, if there is one.
@@ -31,21 +34,65 @@ fn key_of(spec: &KeySpec, row: &Option<Row>) -> Result<Option<Key>, Fault>
     }
 }
 
-/// What a change means for the build's index, as far as the build has scanned by now.
+/// What a change means for one of the build's indexes, as far as the build has scanned by now.
 fn change_of(
     build: &TableScan,
-    rid: Rid,
-    old: &Option<Row>,
-    new: &Option<Row>,
+    index: usize,
+    ready: &Ready,
 ) -> Result<Change, Fault>
-    requires old_fits { (spec : KeySpecValue) → build.now.specs ≡ spec ∷ [] → IfSome old.now (λ cells. fits spec.kinds cells ≡ true) }
-    requires new_fits { (spec : KeySpecValue) → build.now.specs ≡ spec ∷ [] → IfSome new.now (λ cells. fits spec.kinds cells ≡ true) }
-    ensures ok { IfOk result (λ change. (spec : KeySpecValue) → build.now.specs ≡ spec ∷ []
-        → entries_of_change rid change ≡ noted build.now spec rid old.now new.now) }
+    requires there { index < length build.now.specs }
+    requires fits { FitsBuild ready.now build.now }
+    ensures ok { IfOk result (λ change. IsChangeOf build.now index ready.now change) }
     ensures memory { IfErr result (λ fault. fault ≡ Fault.Memory) }
 {
-    let spec = build.spec();
-    Ok(entries(key_of(spec, old)?, key_of(spec, new)?, build.sees(rid)))
+    let spec = build.spec(index);
+    Ok(entries(
+        key_of(spec, &ready.old)?,
+        key_of(spec, &ready.new)?,
+        build.sees(ready.rid),
+    ))
+}
+
+/// What a change means for each of the build's indexes.
+fn changes_of(alloc: Global, build: &TableScan, ready: &Ready) -> Result<Vec<Change>, Fault>
+    requires fits { FitsBuild ready.now build.now }
+    ensures many { IfOk result (λ changes. length changes.items ≡ length build.now.specs) }
+    ensures ok { IfOk result (λ changes. AreChangesOf build.now ready.now changes.items) }
+    ensures memory { IfErr result (λ fault. fault ≡ Fault.Memory) }
+{
+    let count = build.indexes();
+    let mut changes = Vec::with_capacity(alloc, count)?;
+    for index in 0..count {
+        changes.push_reserved(change_of(build, index, ready)?);
+    }
+    Ok(changes)
+}
+
+/// Makes room for the entries of a change in each of so many side-files.
+fn reserve_each(sides: &mut Vec<SideFile>, count: usize) -> Result<(), Fault>
+    requires { count ≤ length sides.old.items }
+    ensures room { OnOk result ((k : ℕ) (side : SideFileValue) → k < count → slice_get sides.new.items k ≡ Some side → 2 ≤ side.room) }
+    ensures same { map without_room sides.new.items ≡ map without_room sides.old.items }
+    ensures memory { IfErr result (λ fault. fault ≡ Fault.Memory) }
+{
+    for k in 0..count {
+        sides[k].reserve(2)?;
+    }
+    Ok(())
+}
+
+/// Appends the entries of each change to the side-file of its index.
+fn append_each(sides: &mut Vec<SideFile>, build: u64, rid: Rid, changes: Vec<Change>)
+    requires many { length changes.items ≤ length sides.old.items }
+    requires room { (k : ℕ) (side : SideFileValue) → k < length changes.items → slice_get sides.old.items k ≡ Some side → 2 ≤ side.room }
+    ensures appended { HaveAppended build rid changes.items sides.old.items sides.new.items }
+    ensures ends { side_ends sides.new.items ≡ side_ends sides.old.items }
+{
+    let mut k = 0;
+    for change in changes {
+        append(&mut sides[k], build, rid, change);
+        k += 1;
+    }
 }
 
 /// Appends the entries of a change: its delete, then its insert.
@@ -74,36 +121,41 @@ fn append(side: &mut SideFile, build: u64, rid: Rid, change: Change)
     }
 }
 
-/// Makes the entries of a change, and appends them; for want of memory nothing changes.
-fn note(side: &mut SideFile, build: &Option<TableScan>, ready: &Ready) -> Result<(), Fault>
-    requires old_fits { IfSome build.now (λ b. (spec : KeySpecValue) → b.specs ≡ spec ∷ [] → IfSome ready.now.old (λ cells. fits spec.kinds cells ≡ true)) }
-    requires new_fits { IfSome build.now (λ b. (spec : KeySpecValue) → b.specs ≡ spec ∷ [] → IfSome ready.now.new (λ cells. fits spec.kinds cells ≡ true)) }
-    ensures left { OnOk result (IfSome build.now (λ b. (spec : KeySpecValue) → b.specs ≡ spec ∷ []
-        → side.new.left ≡ side.old.left ++ map (entry_of b.number) (noted b spec ready.now.rid ready.now.old ready.now.new))) }
-    ensures unchanged { OnErr result (side.new.left ≡ side.old.left) }
-    ensures fed { side.new.fed ≡ side.old.fed }
-    ensures end { side.new.end ≡ side.old.end }
+/// Makes the entries of a change for each index of the build, and appends them; for want of memory nothing changes.
+fn note(
+    alloc: Global,
+    sides: &mut Vec<SideFile>,
+    build: &Option<TableScan>,
+    ready: &Ready,
+) -> Result<(), Fault>
+    requires fits { IfSome build.now (FitsBuild ready.now) }
+    requires many { IfSome build.now (λ b. length b.specs ≤ length sides.old.items) }
+    ensures noted { OnOk result (IfSome build.now (λ b. HaveNoted b ready.now sides.old.items sides.new.items)) }
+    ensures unchanged { OnErr result (map without_room sides.new.items ≡ map without_room sides.old.items) }
+    ensures ends { side_ends sides.new.items ≡ side_ends sides.old.items }
     ensures memory { IfErr result (λ fault. fault ≡ Fault.Memory) }
 {
     let Some(build) = build else {
         return Ok(());
     };
-    let change = change_of(build, ready.rid, &ready.old, &ready.new)?;
-    side.reserve(2)?;
-    append(side, build.number(), ready.rid, change);
+    let changes = changes_of(alloc, build, ready)?;
+    reserve_each(sides, changes.len())?;
+    append_each(sides, build.number(), ready.rid, changes);
     Ok(())
 }
 
 /// Does a change that was made ready, its entries with it; for want of memory nothing changes.
 fn perform(
     heap: &mut Heap,
-    side: &mut SideFile,
+    alloc: Global,
+    sides: &mut Vec<SideFile>,
     build: &Option<TableScan>,
     ready: Ready,
 ) -> Result<Performed, Fault>
     requires ready { IsReady heap.old ready }
     requires build { BuildFollows heap.old.state.schema heap.old.state.log build.now }
-    requires side { SideFollows heap.old.state.log build.now side.old }
+    requires sides { SidesFollow heap.old.state.log build.now sides.old.items }
+    requires eight { length sides.old.items ≡ 8 }
     ensures performed { OnOk result (heap.new.state ≡ after_ready heap.old.state ready) }
     ensures answer { IfOk result (λ done. done ≡ answer_of heap.new.state ready.txn ready.rid ready.undone) }
     ensures follows { BuildFollows heap.new.state.schema heap.new.state.log build.now }
@@ -111,27 +163,29 @@ fn perform(
         → PagesFollow heap.new.state.schema heap.new.state.log builds build.now all }
     ensures works { (work : Option WorkValue) → IsWorkOf heap.old.state.schema heap.old.state.log build.now work
         → IsWorkOf heap.new.state.schema heap.new.state.log build.now work }
-    ensures noted { SideFollows heap.new.state.log build.now side.new }
-    ensures end { side.new.end ≡ side.old.end }
+    ensures noted { SidesFollow heap.new.state.log build.now sides.new.items }
+    ensures ends { side_ends sides.new.items ≡ side_ends sides.old.items }
     ensures unchanged { OnErr result (heap.new ≡ heap.old) }
     ensures memory { IfErr result (λ fault. fault ≡ Fault.Memory) }
 {
     heap.laws();
-    note(side, build, &ready)?;
+    note(alloc, sides, build, &ready)?;
     Ok(heap.perform(ready))
 }
 
 /// Does a write that was made ready; answered with its record's number and the RID.
 pub fn write(
     heap: &mut Heap,
-    side: &mut SideFile,
+    alloc: Global,
+    sides: &mut Vec<SideFile>,
     build: &Option<TableScan>,
     ready: Ready,
 ) -> Result<(usize, Rid), Fault>
     requires ready { IsReady heap.old ready }
     requires write { ready.undone ≡ None }
     requires build { BuildFollows heap.old.state.schema heap.old.state.log build.now }
-    requires side { SideFollows heap.old.state.log build.now side.old }
+    requires sides { SidesFollow heap.old.state.log build.now sides.old.items }
+    requires eight { length sides.old.items ≡ 8 }
     ensures written { OnOk result (heap.new.state ≡ after_write heap.old.state ready.txn ready.rid ready.new) }
     ensures number { IfOk result (λ written. written.0 ≡ length heap.new.state.log) }
     ensures rid { IfOk result (λ written. written.1 ≡ ready.rid) }
@@ -140,12 +194,12 @@ pub fn write(
         → PagesFollow heap.new.state.schema heap.new.state.log builds build.now all }
     ensures works { (work : Option WorkValue) → IsWorkOf heap.old.state.schema heap.old.state.log build.now work
         → IsWorkOf heap.new.state.schema heap.new.state.log build.now work }
-    ensures noted { SideFollows heap.new.state.log build.now side.new }
-    ensures end { side.new.end ≡ side.old.end }
+    ensures noted { SidesFollow heap.new.state.log build.now sides.new.items }
+    ensures ends { side_ends sides.new.items ≡ side_ends sides.old.items }
     ensures unchanged { OnErr result (heap.new ≡ heap.old) }
     ensures memory { IfErr result (λ fault. fault ≡ Fault.Memory) }
 {
-    let Performed::Written { number, rid } = perform(heap, side, build, ready)? else {
+    let Performed::Written { number, rid } = perform(heap, alloc, sides, build, ready)? else {
         unreachable!()
     };
     Ok((number, rid))
@@ -154,14 +208,16 @@ pub fn write(
 /// Does an undo that was made ready.
 pub fn undo(
     heap: &mut Heap,
-    side: &mut SideFile,
+    alloc: Global,
+    sides: &mut Vec<SideFile>,
     build: &Option<TableScan>,
     ready: Ready,
 ) -> Result<Undone, Fault>
     requires ready { IsReady heap.old ready }
     requires undo { IsSome ready.undone }
     requires build { BuildFollows heap.old.state.schema heap.old.state.log build.now }
-    requires side { SideFollows heap.old.state.log build.now side.old }
+    requires sides { SidesFollow heap.old.state.log build.now sides.old.items }
+    requires eight { length sides.old.items ≡ 8 }
     ensures undone { OnOk result ((n : ℕ) → ready.undone ≡ Some n → heap.new.state ≡ after_undo heap.old.state ready.txn n) }
     ensures number { IfOk result (λ undone. undone.number ≡ length heap.new.state.log) }
     ensures left { IfOk result (λ undone. undone.left ≡ standing_count heap.new.state.log ready.txn) }
@@ -170,12 +226,12 @@ pub fn undo(
         → PagesFollow heap.new.state.schema heap.new.state.log builds build.now all }
     ensures works { (work : Option WorkValue) → IsWorkOf heap.old.state.schema heap.old.state.log build.now work
         → IsWorkOf heap.new.state.schema heap.new.state.log build.now work }
-    ensures noted { SideFollows heap.new.state.log build.now side.new }
-    ensures end { side.new.end ≡ side.old.end }
+    ensures noted { SidesFollow heap.new.state.log build.now sides.new.items }
+    ensures ends { side_ends sides.new.items ≡ side_ends sides.old.items }
     ensures unchanged { OnErr result (heap.new ≡ heap.old) }
     ensures memory { IfErr result (λ fault. fault ≡ Fault.Memory) }
 {
-    let Performed::Undone(undone) = perform(heap, side, build, ready)? else {
+    let Performed::Undone(undone) = perform(heap, alloc, sides, build, ready)? else {
         unreachable!()
     };
     Ok(undone)

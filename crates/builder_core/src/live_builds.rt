@@ -12,7 +12,7 @@ ghost use Rattle.builder_core.specs.Ranges.{dealing_refusal, dealt_ends, next_pa
 ghost use Rattle.builder_core.specs.Rings.{begun_on};
 ghost use Rattle.builder_core.specs.Steps.{Starts, Scans, OnBuild, start_refusal, counts_fit};
 
-use crate::live_sides::empty_side;
+use crate::live_sides::empty_all;
 use crate::parts::WORKERS_MAX;
 use crate::rings::restart_all;
 use crate::table_scan::TableScan;
@@ -86,13 +86,13 @@ impl<T: Table> Live<T> {
         let build = TableScan::new(
             self.alloc,
             number,
-            spec.clone()?,
+            vec![in self.alloc; spec.clone()?]?,
             plan.workers,
             self.heap.records(),
             cuts,
         )?;
         restart_all(&mut self.pages, &mut building.workers, number);
-        empty_side(&mut self.side, &mut building.side_end);
+        empty_all(&mut self.sides, &mut building.side_ends);
         self.builds = number;
         self.build = Some(build);
         building.given = true;

@@ -191,6 +191,6 @@ impl<T: Table> Live<T> {
     {
         // That there are 16 workers is known once their field is reached.
         let _workers = &building.workers;
-        building.load(self.alloc)
+        building.load(self.alloc, 0)
     }
 }

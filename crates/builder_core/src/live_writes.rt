@@ -60,7 +60,7 @@ impl<T: Table> Live<T> {
     {
         self.check_unindexed()?;
         let ready = self.heap.ready_insert(txn, row)?;
-        changes::write(&mut self.heap, &mut self.side, &self.build, ready)
+        changes::write(&mut self.heap, self.alloc, &mut self.sides, &self.build, ready)
     }
 
     /// The transaction gives a RID another row. [`Fault::BuildRunning`] as for an insert; then as
@@ -72,7 +72,7 @@ impl<T: Table> Live<T> {
     {
         self.check_unindexed()?;
         let ready = self.heap.ready_update(txn, rid, row)?;
-        changes::write(&mut self.heap, &mut self.side, &self.build, ready)
+        changes::write(&mut self.heap, self.alloc, &mut self.sides, &self.build, ready)
     }
 
     /// The transaction takes the row at a RID away. [`Fault::BuildRunning`] as for an insert; then as
@@ -84,7 +84,7 @@ impl<T: Table> Live<T> {
     {
         self.check_unindexed()?;
         let ready = self.heap.ready_delete(txn, rid)?;
-        changes::write(&mut self.heap, &mut self.side, &self.build, ready)
+        changes::write(&mut self.heap, self.alloc, &mut self.sides, &self.build, ready)
     }
 
     /// The transaction's newest standing write is undone: a change like any other, of which the running build hears if it sees
@@ -96,7 +96,7 @@ impl<T: Table> Live<T> {
     {
         self.check_unindexed()?;
         match self.heap.ready_undo(txn)? {
-            Some(ready) => changes::undo(&mut self.heap, &mut self.side, &self.build, ready),
+            Some(ready) => changes::undo(&mut self.heap, self.alloc, &mut self.sides, &self.build, ready),
             None => self.heap.undo_step(txn),
         }
     }
