@@ -19,7 +19,7 @@ use Rattle.building.specs.Work.{knowing}
 use Rattle.building.specs.WorkerValue.{WorkerValue}
 use Rattle.building.specs.declared.copied.Copied.{Copied}
 use Rattle.building.proofs.Taking.{start_holds, start_open}
-use Rattle.builder_core.specs.Builds.{WorkValue, HaveKits, fresh}
+use Rattle.builder_core.specs.Builds.{WorkValue, HaveKits, IsUnloaded, fresh}
 use Rattle.builder_core.specs.Holding.{SpoolValue, Kit, IsFit, AreEquipped, AreHolding, AreOpen, begun_of, fresh_maker, ended_spool, spool_value, spools_state, spools_in}
 use Rattle.spool_ledger.specs.Accounts.{Stake}
 use Rattle.std.specs.Prelude.{Option}
@@ -107,7 +107,7 @@ kits_looked count old new spools w same kits = record {
 pub kits_set :
     (count : ℕ) (workers : List WorkerValue) (spools : List SpoolValue) (w : WorkValue) (i : ℕ) (new : WorkerValue) (after : Kit)
     → HaveKits count workers spools w → IsFit w.spec.kinds w.spec after → HoldsOpen w.spec (unsealed_images new) (begun_of after.maker)
-    → (w.built ≡ None → HoldsPairs w.spec (received_images new) after.spool.runs (begun_of after.maker))
+    → (IsUnloaded 0 w → HoldsPairs w.spec (received_images new) after.spool.runs (begun_of after.maker))
     → HaveKits count (set workers i new) (set spools i after.spool) (record w { makers = set w.makers i after.maker })
 kits_set count workers spools w i new after kits fit opened held = record {
   equipped = equipped_set w.spec count workers w.makers spools i new after kits.equipped fit;
@@ -173,7 +173,7 @@ started_kits builds pages before spec count number spools many empty = record {
 -- once the pairs are in order, and the spools ended, the kits are as fit
 pub kits_sorted :
     (count : ℕ) (workers : List WorkerValue) (spools : List SpoolValue) (w sorted : WorkValue) → HaveKits count workers spools w → sorted.spec ≡ w.spec
-    → sorted.makers ≡ w.makers → (sorted.built ≡ None → ⊥) → HaveKits count workers (map ended_spool spools) sorted
+    → sorted.makers ≡ w.makers → (IsUnloaded 0 sorted → ⊥) → HaveKits count workers (map ended_spool spools) sorted
 kits_sorted count workers spools w sorted kits same_spec same_makers some = record {
   equipped = rw (same_spec, same_makers) (record {
     makers_many = kits.equipped.makers_many;

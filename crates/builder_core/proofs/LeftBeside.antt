@@ -1,6 +1,6 @@
 -- What a call leaves beside a table, put together from what its parts left.
-use Rattle.std.proofs.Common.{◌≡◌, ℕ, Bool, false, ◌&&◌, List, [], ◌∷◌, All, map, Option, Some, None, refl, sym, ap, ◌∙◌, subst}
-use Rattle.std.specs.Prelude.{IfSome, is_some}
+use Rattle.std.proofs.Common.{◌≡◌, ℕ, Bool, false, ◌&&◌, List, [], ◌∷◌, All, map, set, Option, Some, None, refl, sym, ap, ◌∙◌, subst}
+use Rattle.std.specs.Prelude.{IfSome}
 use Rattle.std.specs.List.{list_all}
 use Rattle.spool_ledger.specs.Accounts.{Stake}
 use Rattle.keybytes.specs.Keys.{KeySpecValue}
@@ -12,7 +12,7 @@ use Rattle.run_merge.specs.Merging.{all_runs}
 use Rattle.run_maker.specs.Making.{MakerValue}
 use Rattle.building.specs.WorkerValue.{WorkerValue}
 use Rattle.catch_up.specs.Built.{BuiltValue}
-use Rattle.builder_core.specs.Builds.{BuildingValue, WorkValue, after_sort}
+use Rattle.builder_core.specs.Builds.{BuildingValue, WorkValue, IsUnloaded, with_index}
 use Rattle.builder_core.specs.Holding.{SpoolValue, Kit, spool_value, spools_state, ended_spool}
 use Rattle.builder_core.specs.Working.{AreEachOnce, CanTake, CanTakeAt, HasTaken, HasTakenAt, IsSpoiled}
 use Rattle.builder_core.proofs.OneWorker.{the_work}
@@ -69,30 +69,32 @@ module _ (old seen : BuildingValue) (work held : WorkValue) (same : seen ≡ old
 
   -- its pairs are put in order
   pub left_sorted :
-      (spools : List SpoolValue) (built : BuiltValue) → spools ≡ map ended_spool seen.spools → built.build ≡ held.build
-      → record seen { spools = spools; work = Some (record held { built = Some built }) }
-      ≡ record old { spools = map ended_spool old.spools; work = Some (after_sort work built.pairs) }
-  left_sorted spools built ended number = rw (ended, same, is) (ap of_build (number ∙ ap (λ (w : WorkValue). w.build) is)) where
+      (index : ℕ) (spools : List SpoolValue) (built : BuiltValue) → spools ≡ map ended_spool seen.spools → built.build ≡ held.build
+      → record seen { spools = spools; work = Some (record held { indexes = set held.indexes index (record { built = Some built; applied = 0 }) }) }
+      ≡ record old { spools = map ended_spool old.spools; work = Some (with_index work index built.pairs 0) }
+  left_sorted index spools built ended number = rw (ended, same, is) (ap of_build (number ∙ ap (λ (w : WorkValue). w.build) is)) where
     of_build : ℕ → BuildingValue
     of_build n = record old {
       spools = map ended_spool old.spools;
-      work = Some (record work { built = Some (record { build = n; pairs = built.pairs }) });
+      work = Some (record work {
+        indexes = set work.indexes index (record { built = Some (record { build = n; pairs = built.pairs }); applied = 0 });
+      });
     }
 
   -- the runs of its spools are in order, where its pairs aren't yet
   pub runs_sorted :
-      IfSome old.work (λ w. w.built ≡ None → All AreSorted (map (λ (s : SpoolValue). s.runs) old.spools)) → work.built ≡ None
+      (index : ℕ) → IfSome old.work (λ w. IsUnloaded index w → All AreSorted (map (λ (s : SpoolValue). s.runs) old.spools)) → IsUnloaded index work
       → All AreSorted (map (λ (s : SpoolValue). s.runs) seen.spools)
-  runs_sorted all none =
-      let here = subst (λ (o : Option WorkValue). IfSome o (λ w. w.built ≡ None → All AreSorted (map (λ (s : SpoolValue). s.runs) old.spools))) its_work all in
+  runs_sorted index all none =
+      let here = subst (λ (o : Option WorkValue). IfSome o (λ w. IsUnloaded index w → All AreSorted (map (λ (s : SpoolValue). s.runs) old.spools))) its_work all in
       subst (λ (b : BuildingValue). All AreSorted (map (λ (s : SpoolValue). s.runs) b.spools)) (sym same) (here none)
 
   -- and no pair is there twice
   pub runs_once :
-      IfSome old.work (λ w. w.built ≡ None → AreEachOnce (all_pairs (all_runs (map (λ (s : SpoolValue). s.runs) old.spools)))) → work.built ≡ None
+      (index : ℕ) → IfSome old.work (λ w. IsUnloaded index w → AreEachOnce (all_pairs (all_runs (map (λ (s : SpoolValue). s.runs) old.spools)))) → IsUnloaded index work
       → AreEachOnce (all_pairs (all_runs (map (λ (s : SpoolValue). s.runs) seen.spools)))
-  runs_once all none =
-      let here = subst (λ (o : Option WorkValue). IfSome o (λ w. w.built ≡ None
+  runs_once index all none =
+      let here = subst (λ (o : Option WorkValue). IfSome o (λ w. IsUnloaded index w
       → AreEachOnce (all_pairs (all_runs (map (λ (s : SpoolValue). s.runs) old.spools))))) its_work all in
       subst (λ (b : BuildingValue). AreEachOnce (all_pairs (all_runs (map (λ (s : SpoolValue). s.runs) b.spools)))) (sym same) (here none)
 
@@ -118,8 +120,3 @@ module _ (old seen : BuildingValue) (work held : WorkValue) (same : seen ≡ old
           (subst (λ (w : WorkValue). HasTakenAt work.spec worker count closing Taken seen.workers w.makers seen.spools images workers makers spools) is taken);
       left = rw (same, is) refl;
     }
-
--- pairs that aren't in order are in no tree
-pub no_tree : (built : Option BuiltValue) → false ≡ is_some built → built ≡ None
-no_tree None none = refl
-no_tree (Some built) none = absurd (cc)

@@ -89,7 +89,7 @@ module _
 
   -- the spool of a quiet worker holds the pairs of all pages that were copied for it
   own_pairs :
-      w.built ≡ None → (k : ℕ) (spool : SpoolValue) → k < b.workers → slice_get building.spools k ≡ Some spool
+      IsUnloaded 0 w → (k : ℕ) (spool : SpoolValue) → k < b.workers → slice_get building.spools k ≡ Some spool
       → IsPermutation (all_pairs spool.runs) (flat_map (pairs_at_scan (scanning_of b w.spec) live.state.heap.log) (put_to b k))
   own_pairs none k spool less lent =
       let kits = run.at_work.kits fine in
@@ -115,7 +115,7 @@ module _
   made = all_pairs (all_runs (map (λ (s : SpoolValue). s.runs) building.spools))
 
   -- all together hold those of all pages
-  together : w.built ≡ None → IsPermutation made scanned
+  together : IsUnloaded 0 w → IsPermutation made scanned
   together none =
       let many = (run.at_work.kits fine).equipped.spools_many in
       let all : take b.workers building.spools ≡ building.spools = take_all b.workers building.spools (omega (arith, many)) in
@@ -126,7 +126,7 @@ module _
       building.spools b.workers (omega (arith, many)) run.follows.for_workers (own_pairs none))
 
   -- none of them is there twice
-  pub each_once : w.built ≡ None → AreEachOnce made
+  pub each_once : IsUnloaded 0 w → AreEachOnce made
   each_once none =
       IsDistinct-IsPermutation (eq_by_cmp pair_cmp) (eq_by_cmp_equiv pairs_total).symm scanned made (IsPermutation-sym made scanned (together none))
       (scanned_distinct (scanning_of b w.spec) live.state.heap.log b.scans run.follows.scanned.once)
@@ -205,7 +205,7 @@ module _
     same : done.work ≡ w
     same = same_Some done.work w (sym done.runs ∙ run.work_is)
 
-    first : w.built ≡ None → HasSorted w building count new
+    first : IsUnloaded 0 w → HasSorted w building count new
     first = subst (λ (v : WorkValue). v.built ≡ None → HasSorted v building count new) same done.first
 
     again : is_some w.built ≡ true → (count ≡ 0) × (new ≡ building)

@@ -15,7 +15,7 @@ states_looked old new None same = refl
 states_looked old new (Some w) same = by_fault w.spoiled where
   by_fault : (o : Option _) → state_unless o new w ≡ state_unless o old w
   by_fault (Some fault) = refl
-  by_fault None = ap (λ ws. record { workers = ws; indexes = index_state w ∷ []; spoiled = None }) (states_same w.workers old new same)
+  by_fault None = ap (λ ws. record { workers = ws; indexes = map index_state w.indexes; spoiled = None }) (states_same w.workers old new same)
 
 pub state_looked : (live new_live : LiveValue) (building new : BuildingValue) → HasLooked live building new_live new → core_state new_live new ≡ core_state live building
 state_looked live new_live building new looked =

@@ -104,3 +104,17 @@ below (y ∷ ys) (suc i) x at = let less = below ys i x at in omega (arith, less
 pub all_from : {X : Type 0} (P : X → Type 0) (xs : List X) → ((k : ℕ) (x : X) → slice_get xs k ≡ Some x → P x) → All P xs
 all_from P [] each = All-nil P
 all_from P (x ∷ xs) each = All-cons P x xs (each 0 x refl) (all_from P xs (λ k y at. each (suc k) y at))
+
+-- to write what stands there changes nothing
+pub set_same : {X : Type 0} (xs : List X) (i : ℕ) (x : X) → slice_get xs i ≡ Some x → set xs i x ≡ xs
+set_same [] i x at = refl
+set_same (y ∷ ys) zero x at = ap (λ z. z ∷ ys) (sym (same_Some y x at))
+set_same (y ∷ ys) (suc i) x at = ap (λ zs. y ∷ zs) (set_same ys i x at)
+
+-- and what was written elsewhere leaves a place as it is
+pub stays_there : {X : Type 0} (xs : List X) (i : ℕ) (y : X) (k : ℕ) (x : X) → (k ≡ i → ⊥) → slice_get xs k ≡ Some x → slice_get (set xs i y) k ≡ Some x
+stays_there [] i y k x other at = absurd (cc)
+stays_there (z ∷ zs) zero y zero x other at = absurd (other refl)
+stays_there (z ∷ zs) zero y (suc k) x other at = at
+stays_there (z ∷ zs) (suc i) y zero x other at = at
+stays_there (z ∷ zs) (suc i) y (suc k) x other at = stays_there zs i y k x (λ same. other (ap suc same)) at

@@ -1,6 +1,6 @@
 -- The side-file of a build as it starts, as it copies a page more, and as the log grows by a record that changes no row.
-use Rattle.std.proofs.Common.{◌≡◌, ℕ, zero, suc, List, [], ◌∷◌, ◌++◌, length, map, drop, Option, Some, None, refl, sym, ap, ◌∙◌, subst}
-use Rattle.std.proofs.lemmas.List.{append-nil, drop-map}
+use Rattle.std.proofs.Common.{◌≡◌, ℕ, zero, suc, List, [], ◌∷◌, ◌++◌, length, map, drop, Option, Some, None, refl, sym, ap, ◌∙◌, subst, arith, ◌≤◌, length-append}
+use Rattle.std.proofs.lemmas.List.{append-nil, drop-map, length-map}
 use Rattle.std.proofs.Math.Seq.{drop-append_seam}
 use Rattle.std.specs.List.{All}
 use Rattle.std.proofs.lemmas.List.Elements.{All-nil, All-tail}
@@ -18,10 +18,10 @@ use Rattle.builder_core.specs.CoreState.{BuildState, LiveState, scanning_of}
 use Rattle.builder_core.specs.Scanning.{Scanning, opened_scanning, scanned_at}
 use Rattle.builder_core.specs.SideEntries.{entries_of, side_entries}
 use Rattle.builder_core.specs.Changing.{without_room}
-use Rattle.builder_core.specs.SideFiles.{HasEntries, HaveEntries, SidesFollow, AreEntriesLeft, HaveEntryKeys, side_refusal}
+use Rattle.builder_core.specs.SideFiles.{HasEntries, HaveEntries, SidesFollow, AreEntriesLeft, HaveEntryKeys, NoneAhead, side_refusal}
 use Rattle.builder_core.specs.Workers.{fed_to}
-use Rattle.builder_core.proofs.Places.{all_at, same_at}
-use Rattle.std.specs.Prelude.{get_or}
+use Rattle.builder_core.proofs.Places.{all_at, same_at, below, there_is}
+use Rattle.std.specs.Prelude.{get_or, IfSome}
 use Rattle.std.specs.List.{slice_get}
 use Rattle.builder_core.proofs.EntrySteps.{opened_entries, more_entries, same_entries}
 use Rattle.builder_core.proofs.NextPages.{next_unscanned}
@@ -45,7 +45,10 @@ opened_one log b index spec side opened pages scans none left fed = record {
   same = rw (opened, pages, scans) refl
 
 -- none of so many entries that were not fed
-none_at : (specs : List KeySpecValue) (index : ℕ) → get_or (map (λ (spec : KeySpecValue). 0) specs) index 0 ≡ 0
+abbrev none_fed : List KeySpecValue → List ℕ
+none_fed specs = map (λ spec. 0) specs
+
+none_at : (specs : List KeySpecValue) (index : ℕ) → get_or (none_fed specs) index 0 ≡ 0
 none_at [] index = refl
 none_at (spec ∷ specs) zero = refl
 none_at (spec ∷ specs) (suc index) = none_at specs index
@@ -153,3 +156,17 @@ pub sides_with :
     → HaveEntries live.heap.log b sides
 sides_with inside live b sides view_is build_is has =
     subst (λ (l : LiveState). HaveEntries l.heap.log b sides) view_is (subst (λ (o : Option BuildState). SidesFollow inside.heap.log o sides) build_is has)
+
+-- no more was fed than it had
+pub none_ahead :
+    (log : List LogRec) (build : Option BuildState) (sides : List SideFileValue) → SidesFollow log build sides
+    → IfSome build (λ b. length b.specs ≤ length sides) → IfSome build (NoneAhead log)
+none_ahead log None sides has many = tt
+none_ahead log (Some b) sides has many = λ index spec at.
+    let less = below b.specs index spec at in
+    let side = there_is sides index (omega (arith, less, many)) in
+    let its = has index spec side.0 at side.1 in
+    let all = ap length its.entries in
+    let sum = length-append side.0.fed side.0.left in
+    let same = length-map (side_entries (scanning_of b spec) log) (entry_of b.number) in
+    omega (arith, its.count, all, sum, same)

@@ -28,7 +28,7 @@ use Rattle.visibility.specs.SideEntries.{SideEntry, delete, insert, changes}
 use Rattle.builder_core.specs.SideEntries.{entries_for, entries_of, entries_from, side_entries}
 use Rattle.builder_core.proofs.SideFollows.{leaves_visible, entries_have_effect}
 use Rattle.builder_core.proofs.Places.{all_from}
-use Rattle.builder_core.proofs.TableBuilds.{no_spec}
+use Rattle.builder_core.proofs.ScanSteps.{no_spec}
 
 by_later : (count n : ℕ) (o : Option ℕ) → count ≤ n → is_by count o ≡ true → is_by n o ≡ true
 by_later count n None more e = absurd (false≢true e)

@@ -23,7 +23,7 @@ use Rattle.std.specs.List.{slice_get}
 use Rattle.std.proofs.lemmas.List.{take-append-le, length-map}
 use Rattle.catch_up.specs.Built.{BuiltValue}
 use Rattle.builder_core.proofs.EntrySteps.{more_entries}
-use Rattle.builder_core.proofs.ScanSteps.{opened_scanned, more_scanned, pairs_kept, scan_now, scan_scanned, pages_grow}
+use Rattle.builder_core.proofs.ScanSteps.{no_spec, opened_scanned, more_scanned, pairs_kept, scan_now, scan_scanned, pages_grow}
 use Rattle.builder_core.proofs.Places.{all_at}
 use Rattle.builder_core.proofs.NextPages.{some_of, next_below, next_unscanned, no_page, all_copied}
 use Rattle.builder_core.proofs.RangeScans.{few_scans}
@@ -61,10 +61,6 @@ scanned_build kinds log b range worker page is next for = record {
   for_workers = All-push (λ scan. scan.worker < b.workers) b.scans (scan_now worker page log) is.for_workers for;
   scanned = λ spec. scan_scanned (scanning_of b spec) worker page log (is.scanned spec) (next_below b range page next is.cuts) (next_unscanned b range page next);
 }
-
--- which pages were read is the same for each index, and so for this one
-pub no_spec : KeySpecValue
-no_spec = record { kinds = []; cols = []; unique = false }
 
 -- it has no more scans than pages
 pub scans_within : (kinds : List Kind) (log : List LogRec) (b : BuildState) → IsBuildOf kinds log b → length b.scans ≤ b.pages
@@ -131,10 +127,6 @@ work_kept kinds log rec None None build is = tt
 work_kept kinds log rec None (Some w) build is = is
 work_kept kinds log rec (Some b) None build is = is
 work_kept kinds log rec (Some b) (Some w) build is = work_grown kinds log rec b w build is
-
--- lists of one specification
-pub only_same : (a b : KeySpecValue) → a ∷ [] ≡ b ∷ [] → a ≡ b
-only_same a b e = cc
 
 -- a specification of the build is of the table's columns
 pub columns_at :

@@ -20,7 +20,7 @@ use Rattle.building.specs.declared.copied.Copied.{Copied}
 use Rattle.building.proofs.ManyPairs.{images-append, have_split}
 use Rattle.building.proofs.Taking.{digested_taking, sealed_taking, digested_holds, sealed_holds, digested_open, sealed_open}
 use Rattle.run_maker.specs.ImagePairs.{HasRows}
-use Rattle.builder_core.specs.Builds.{LiveValue, BuildingValue, WorkValue, IsRunning, IsWorkOn, WorksOn, worker_state, index_state, state_unless, work_state}
+use Rattle.builder_core.specs.Builds.{LiveValue, BuildingValue, WorkValue, IsRunning, IsWorkOn, IsUnloaded, AreFed, WorksOn, worker_state, index_state, state_unless, work_state}
 use Rattle.builder_core.specs.Builds.{core_state}
 use Rattle.builder_core.specs.SideFiles.{IsFed}
 use Rattle.builder_core.specs.Workers.{fed_to}
@@ -111,7 +111,7 @@ module _
 
     goes_on :
         (new : WorkerValue) → IsTaking b.number sent new → HoldsOpen w.spec (unsealed_images new) (begun_of after.maker)
-        → (w.built ≡ None → HoldsPairs w.spec (received_images new) after.spool.runs (begun_of after.maker)) → WorksOn live (going_on new)
+        → (IsUnloaded 0 w → HoldsPairs w.spec (received_images new) after.spool.runs (begun_of after.maker)) → WorksOn live (going_on new)
     goes_on new own opened held =
         works_with live (going_on new) b (record w { makers = set w.makers k after.maker })
         (record {
@@ -134,7 +134,7 @@ module _
     opened_before : HoldsOpen w.spec (unsealed_images it) old_begun
     opened_before = (run.at_work.kits fine).opened k it kit.maker less at made_by
 
-    held_before : w.built ≡ None → HoldsPairs w.spec (received_images it) kit.spool.runs old_begun
+    held_before : IsUnloaded 0 w → HoldsPairs w.spec (received_images it) kit.spool.runs old_begun
     held_before none = (run.at_work.kits fine).holding none k it kit.maker kit.spool less at made_by lent
 
     pub digested_works : Digested w.spec (next_images n it) kit after → WorksOn live (going_on (after_digest n it))
@@ -185,13 +185,13 @@ spoiled_works live fault building new b w run spoiled =
       follows = run.follows;
       on = spoiled_work_on live.state.heap.schema live.state.heap.log b (record spoiled.work { makers = spoiled.makers }) fault
           (makers_work_on live.state.heap.schema live.state.heap.log b spoiled.work spoiled.makers on);
-      at_work = record { fed = subst (λ (x : WorkValue). IsFed (fed_to b 0) x.applied live.side building.side) same run.at_work.fed; given = run.at_work.given; taking = λ f. absurd (cc); kits = λ f. absurd (cc) };
+      at_work = record { fed = subst (λ (x : WorkValue). AreFed b x.indexes live.sides building.sides) same run.at_work.fed; given = run.at_work.given; taking = λ f. absurd (cc); kits = λ f. absurd (cc) };
     }))
 
 -- callers see of it what its index applied
 still_spoiled :
     (fault : Fault) (o : Option Fault) (workers : List WorkerValue) (w : WorkValue)
-    → spoiled_work fault (state_unless o workers w) ≡ record { workers = []; indexes = index_state w ∷ []; spoiled = Some fault }
+    → spoiled_work fault (state_unless o workers w) ≡ record { workers = []; indexes = map index_state w.indexes; spoiled = Some fault }
 still_spoiled fault None workers w = refl
 still_spoiled fault (Some other) workers w = refl
 
@@ -209,7 +209,7 @@ spoiled_state live fault building new b w run spoiled =
     ∙ ap (λ (s : WorkState). record { live = live.state; work = s; spools = spools_state building.given building.spools })
     (sym (ap (λ (o : Option WorkValue). spoiled_work fault (work_state building.workers o)) run.work_is ∙ still_spoiled fault w.spoiled building.workers w)) where
       spoiled_as : WorkValue → WorkState
-      spoiled_as x = record { workers = []; indexes = index_state x ∷ []; spoiled = Some fault }
+      spoiled_as x = record { workers = []; indexes = map index_state x.indexes; spoiled = Some fault }
 
 -- whatever was answered, callers see it where the build is spoiled
 pub spoiled_after :

@@ -39,6 +39,7 @@ pub record IndexIsFurther (index : ℕ) (s new : CoreState) : Type 0 where
   pub runs : s.live.build ≡ Some build
   pub spec : KeySpecValue
   pub at : slice_get build.specs index ≡ Some spec
+  pub counted : index < length build.fed
   pub old : IndexState
   pub there : slice_get s.work.indexes index ≡ Some old
   pub fed : ℕ

@@ -60,6 +60,10 @@ pub record IsFed (fed applied : ℕ) (put : PutEnd Entry) (end : TakeEnd Entry) 
   pub were_sent : fed ≤ length put.sent
   pub countable : fed < 2 ^ 64
 
+-- no more entries of an index were fed than its side-file had
+abbrev pub NoneAhead : List LogRec → BuildState → Type 0
+NoneAhead log b = (index : ℕ) (spec : KeySpecValue) → slice_get b.specs index ≡ Some spec → fed_to b index ≤ length (side_entries (scanning_of b spec) log)
+
 -- the entries of an index that were fed are the first of its side-file, and the last that its ring was sent
 pub record AreFedEntries (log : List LogRec) (b : BuildState) (index : ℕ) (spec : KeySpecValue) (put : PutEnd Entry) : Type 0 where
   pub entries : last_ones (fed_to b index) put.sent ≡ map (entry_of b.number) (take (fed_to b index) (side_entries (scanning_of b spec) log))

@@ -10,7 +10,7 @@ ghost use Rattle.builder_core.specs.Builds.{BuildFollows, value_with_heap};
 ghost use Rattle.builder_core.specs.Rings.{all_sent, ArePutEnds, AreOfBuilds};
 ghost use Rattle.builder_core.specs.Invariant.{BuildIsSound, EachPageOnce};
 ghost use Rattle.std.specs.VecDeque.Iter.{deque_iter_rest};
-ghost use Rattle.builder_core.specs.SideFiles.{AreEntriesLeft, HaveEntryKeys, side_refusal, side_ends};
+ghost use Rattle.builder_core.specs.SideFiles.{AreEntriesLeft, HaveEntryKeys, NoneAhead, side_refusal, side_ends};
 ghost use Rattle.builder_core.specs.CoreState.{abandoned, after_visits, ReadyFollowTable};
 
 use crate::live_sides::reset_all;
@@ -119,7 +119,10 @@ impl<T: Table> Live<T> {
     pub(crate) fn build(&self) -> Option<&TableScan>
         ensures build { MatchOption result (self.now.state.build ≡ None) (λ build. self.now.state.build ≡ Some build.now) }
         ensures follows { BuildFollows self.now.state.heap.schema self.now.state.heap.log self.now.state.build }
+        ensures fed { IfSome self.now.state.build (NoneAhead self.now.state.heap.log) }
+        ensures sides { length self.now.sides ≡ 8 }
     {
+        let _sides = &self.sides;
         self.build.as_ref()
     }
 

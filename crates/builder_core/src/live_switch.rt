@@ -92,6 +92,8 @@ impl<T: Table> Live<T> {
         let Some(build) = self.build() else {
             unreachable!()
         };
+        // That there is a ring for each index is known once their field is reached.
+        let _ends = &building.side_ends;
         for index in 0..build.indexes() {
             self.catch_up_one(index, building)?;
         }
@@ -105,12 +107,15 @@ impl<T: Table> Live<T> {
         building: &mut Building<S, T>,
     ) -> Result<(), Fault>
         requires works { WorksOn self.old building.old }
+        requires few { index < 8 }
         requires runs { cause_of self.old building.old (Event.Apply index 256) ≡ None }
         ensures further { IndexIsFurther index (core_state self.old building.old) (core_state self.new building.new) }
         ensures all { OnOk result (left_at index (core_state self.new building.new) ≡ 0) }
         ensures works { WorksOn self.new building.new }
         ensures memory { IfErr result (λ fault. fault ≡ Fault.Memory) }
     {
+        // Both ends of its ring then know what waits in it.
+        self.look_at_side(index, building);
         while self.unapplied_of(index, building) > 0 {
             let Ok(_moved) = self.feed_beside(index, RING_ENTRIES, building) else {
                 unreachable!()
