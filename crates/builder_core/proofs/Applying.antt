@@ -1,5 +1,5 @@
 -- Entries that are taken from the side-file's ring and applied to the index, one after another.
-use Rattle.std.proofs.Common.{◌≡◌, ℕ, ◌+◌, ◌<◌, ◌≤◌, ◌^◌, true, List, [], ◌∷◌, ◌++◌, length, take, drop, set, set-set, append_assoc, Option, Some, None, refl, sym, ap, ap₂, ◌∙◌, arith}
+use Rattle.std.proofs.Common.{◌≡◌, ℕ, ◌+◌, ◌<◌, ◌≤◌, ◌^◌, true, List, [], ◌∷◌, ◌++◌, length, map, get_or, take, drop, set, set-set, append_assoc, Option, Some, None, refl, sym, ap, ap₂, ◌∙◌, subst, arith}
 use Rattle.std.proofs.Common.{length-append, length-drop, take-add, drop-drop}
 use Rattle.std.proofs.lemmas.List.{append-nil, take-append-le, drop-append-le}
 use Rattle.std.proofs.lemmas.Option.{same_Some}
@@ -17,7 +17,8 @@ use Rattle.building.specs.TakeEnd.{TakeEnd, take_end}
 use Rattle.builder_core.specs.Builds.{BuildingValue, WorkValue, IndexValue, with_index}
 use Rattle.keybytes.specs.declared.pair.Pair.{Pair}
 use Rattle.std.specs.List.{slice_get}
-use Rattle.builder_core.proofs.Places.{below, here_set, set_same}
+use Rattle.std.proofs.lemmas.List.{length-map, map-set}
+use Rattle.builder_core.proofs.Places.{at_index, below, here_set, map_at, set_same}
 use Rattle.std.specs.Prelude.{is_some}
 use Rattle.builder_core.specs.Working.{IsTakingEntries, CanApply, HasApplied}
 use Rattle.std.proofs.lemmas.Bool.{false≢true}
@@ -79,6 +80,55 @@ has_applied index old new taking ring ring_new entries count after side taken ap
         });
       }) (applied.build ∙ taking.of_build);
     }
+
+-- the same, where the index and the end of its ring were found in their places
+module _
+    {P : Type 0} (index : ℕ) (old seen : BuildingValue) (work held : WorkValue) (it : IndexValue) (built : BuiltValue) (applied : ℕ)
+    (ends : List (Consumer Entry Global P)) (ring : Consumer Entry Global P) (same : seen ≡ old) (runs : seen.work ≡ Some work) (is : held ≡ work)
+    (it_at : it ≡ get_or held.indexes index it) (it_is : record { built = Some built; applied = applied } ≡ it) (sides : seen.sides ≡ map take_end ends)
+    (ring_at : ring ≡ get_or ends index ring) (taking : IsTakingEntries index old) where
+  work_is : taking.work ≡ held
+  work_is = same_Some taking.work held (sym taking.runs ∙ ap (λ (b : BuildingValue). b.work) (sym same) ∙ runs ∙ ap Some (sym is))
+
+  index_is : taking.it ≡ it
+  index_is =
+      same_Some taking.it it
+      (sym taking.there ∙ ap (λ (w : WorkValue). slice_get w.indexes index) work_is
+      ∙ at_index held.indexes index it it_at (subst (λ (w : WorkValue). index < length w.indexes) work_is (below taking.work.indexes index taking.it taking.there)))
+
+  its_sides : old.sides ≡ map take_end ends
+  its_sides = ap (λ (b : BuildingValue). b.sides) (sym same) ∙ sides
+
+  pub end_is : taking.end ≡ take_end ring
+  end_is =
+      let less : index < length (map take_end ends) =
+      subst (λ (es : List (TakeEnd Entry)). index < length es) its_sides (below old.sides index taking.end taking.at) in
+      same_Some taking.end (take_end ring)
+      (sym taking.at ∙ ap (λ (es : List (TakeEnd Entry)). slice_get es index) its_sides
+      ∙ map_at take_end ends index ring (at_index ends index ring ring_at (omega (arith, less, length-map ends take_end))))
+
+  built_is : taking.built ≡ built
+  built_is = same_Some taking.built built (sym taking.loaded ∙ ap (λ (i : IndexValue). i.built) (index_is ∙ sym it_is))
+
+  applied_is : taking.it.applied ≡ applied
+  applied_is = ap (λ (i : IndexValue). i.applied) (index_is ∙ sym it_is)
+
+  pub applied_next :
+      (ring_new : Consumer Entry Global P) (entries : List Entry) (count sum : ℕ) (after : BuiltValue) → Taken entries ring ring_new → Applied entries built after
+      → AreOrdered after.pairs → count ≡ length entries → count ≤ length (take_end ring).known → sum ≡ applied + count
+      → HasApplied index old count (record seen {
+        sides = map take_end (set ends index ring_new);
+        work = Some (record held { indexes = set held.indexes index (record { built = Some after; applied = sum }) });
+      })
+  applied_next ring_new entries count sum after taken done ordered many few total =
+      has_applied index old _ taking ring ring_new entries count after end_is taken (subst (λ (b : BuiltValue). Applied entries b after) (sym built_is) done) ordered many few
+      (ap (λ (b : BuildingValue). with_both b (map take_end (set ends index ring_new)) held sum) same
+      ∙ ap (λ (es : List (TakeEnd Entry)). with_both old es held sum)
+      (map-set take_end ends index ring_new ∙ ap (λ (es : List (TakeEnd Entry)). set es index (take_end ring_new)) (sym its_sides))
+      ∙ ap (λ (v : WorkValue). with_both old (set old.sides index (take_end ring_new)) v sum) (sym work_is)
+      ∙ ap (with_both old (set old.sides index (take_end ring_new)) taking.work) (total ∙ ap (λ n. n + count) (sym applied_is))) where
+        with_both : BuildingValue → List (TakeEnd Entry) → WorkValue → ℕ → BuildingValue
+        with_both b es v n = record b { sides = es; work = Some (record v { indexes = set v.indexes index (record { built = Some after; applied = n }) }) }
 
 module _ (index : ℕ) (old mid : BuildingValue) (m : ℕ) (first : HasApplied index old m mid) where
   -- the index as these entries leave it

@@ -74,7 +74,7 @@ pub record AppliesNext (index waiting : ℕ) (live : LiveValue) (building : Buil
   pub sees : SeesSide waiting put end
 
 -- whatever is told of one index is of the same
-same_taking :
+pub same_taking :
     (index : ℕ) (building : BuildingValue) (x y : IsTakingEntries index building) → (x.work ≡ y.work) × (x.it ≡ y.it) × (x.built ≡ y.built) × (x.end ≡ y.end)
 same_taking index building x y =
     let work : x.work ≡ y.work = same_Some x.work y.work (sym x.runs ∙ y.runs) in

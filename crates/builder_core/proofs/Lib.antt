@@ -6,6 +6,7 @@ pub mod CatchingUp
 pub mod Copies
 pub mod CopyPairs
 pub mod Distinct
+pub mod Emptied
 pub mod EntrySteps
 pub mod Examples
 pub mod FedBeside
@@ -20,6 +21,7 @@ pub mod Looks
 pub mod Making
 pub mod Merges
 pub mod NextPages
+pub mod Noting
 pub mod OneKit
 pub mod OneRing
 pub mod OneWorker

@@ -1,5 +1,5 @@
 -- A change that was made ready and is performed adds its entries.
-use Rattle.std.proofs.Common.{◌≡◌, ℕ, cond, true, List, [], ◌∷◌, ◌++◌, length, map, Option, Some, None, refl, sym, ap, ◌∙◌, subst, append_assoc, arith}
+use Rattle.std.proofs.Common.{◌≡◌, ◌≤◌, ℕ, cond, true, List, [], ◌∷◌, ◌++◌, length, map, Option, Some, None, refl, sym, ap, ◌∙◌, subst, append_assoc, arith}
 use Rattle.std.specs.Prelude.{IsSome, IfSome}
 use Rattle.std.specs.List.{All, slice_get}
 use Rattle.std.proofs.lemmas.Bool.{false≢true}
@@ -158,13 +158,22 @@ module _ (h : HeapValue) (ready : Ready) (is : IsReady h ready) (change : IsLawf
       let old = there_is olds index (omega (arith, less, many)) in
       side_on b index spec old.0 new is_of at (has index spec old.0 at old.1) (noted index spec old.0 new at old.1 there)
 
-  -- its rows fit the columns of each index
-  pub fits_build : (build : Option BuildState) → BuildFollows h.state.schema log build → IfSome build (FitsBuild ready)
-  fits_build None is_of = tt
-  fits_build (Some b) is_of = All-weaker (λ (spec : KeySpecValue). spec.kinds ≡ h.state.schema) (FitsColumns ready) (λ spec columns. record {
-    old = fits_of ready.old (subst (λ k. IfSome ready.old (IsTableRow k)) (sym columns) change.old_fits);
-    new = fits_of ready.new (subst (λ k. IfSome ready.new (IsTableRow k)) (sym columns) change.new_fits);
-  }) b.specs is_of.columns where
-    fits_of : {kinds : List Kind} (row : Option (List Cell)) → IfSome row (IsTableRow kinds) → IfSome row (λ cells. fits kinds cells ≡ true)
-    fits_of None is = tt
-    fits_of (Some cells) is = is.1
+fits_of : (kinds : List Kind) (row : Option (List Cell)) → IfSome row (IsTableRow kinds) → IfSome row (λ cells. fits kinds cells ≡ true)
+fits_of kinds None is = tt
+fits_of kinds (Some cells) is = is.1
+
+-- the rows of a change fit the columns of each index
+pub fits_build :
+    (h : HeapState) (ready : Ready) → IsLawfulChange h ready → (build : Option BuildState) → BuildFollows h.schema h.log build → IfSome build (FitsBuild ready)
+fits_build h ready change None is_of = tt
+fits_build h ready change (Some b) is_of = All-weaker (λ (spec : KeySpecValue). spec.kinds ≡ h.schema) (FitsColumns ready) (λ spec columns. record {
+  old = fits_of spec.kinds ready.old (subst (λ k. IfSome ready.old (IsTableRow k)) (sym columns) change.old_fits);
+  new = fits_of spec.kinds ready.new (subst (λ k. IfSome ready.new (IsTableRow k)) (sym columns) change.new_fits);
+}) b.specs is_of.columns
+
+-- a build has no more indexes than there are side-files
+pub few_specs :
+    (h : HeapState) (build : Option BuildState) (sides : List SideFileValue) → BuildFollows h.schema h.log build → length sides ≡ 8
+    → IfSome build (λ b. length b.specs ≤ length sides)
+few_specs h None sides is_of eight = tt
+few_specs h (Some b) sides is_of eight = omega (arith, is_of.few_indexes, eight)

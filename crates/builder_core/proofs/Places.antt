@@ -118,3 +118,7 @@ stays_there (z ∷ zs) zero y zero x other at = absurd (other refl)
 stays_there (z ∷ zs) zero y (suc k) x other at = at
 stays_there (z ∷ zs) (suc i) y zero x other at = at
 stays_there (z ∷ zs) (suc i) y (suc k) x other at = stays_there zs i y k x (λ same. other (ap suc same)) at
+
+-- a place that is told by what stands there otherwise
+pub at_index : {X : Type 0} (xs : List X) (i : ℕ) (x : X) → x ≡ get_or xs i x → i < length xs → slice_get xs i ≡ Some x
+at_index xs i x is less = slice_get-get_or xs i x less ∙ ap Some (sym is)

@@ -45,10 +45,10 @@ opened_one log b index spec side opened pages scans none left fed = record {
   same = rw (opened, pages, scans) refl
 
 -- none of so many entries that were not fed
-abbrev none_fed : List KeySpecValue → List ℕ
+abbrev pub none_fed : List KeySpecValue → List ℕ
 none_fed specs = map (λ spec. 0) specs
 
-none_at : (specs : List KeySpecValue) (index : ℕ) → get_or (none_fed specs) index 0 ≡ 0
+pub none_at : (specs : List KeySpecValue) (index : ℕ) → get_or (none_fed specs) index 0 ≡ 0
 none_at [] index = refl
 none_at (spec ∷ specs) zero = refl
 none_at (spec ∷ specs) (suc index) = none_at specs index

@@ -49,8 +49,8 @@ SidesFollow log None sides = Unit {0}
 SidesFollow log (Some b) sides = HaveEntries log b sides
 
 -- the ends of these side-files' rings that put
-abbrev pub side_ends : List SideFileValue → List (PutEnd Entry)
-side_ends sides = map (λ side. side.end) sides
+abbrev pub put_ends : List SideFileValue → List (PutEnd Entry)
+put_ends sides = map (λ side. side.end) sides
 
 -- both ends are of one ring, and of so many entries that it was sent last, all but so many wait in it
 pub record IsFed (fed applied : ℕ) (put : PutEnd Entry) (end : TakeEnd Entry) : Type 0 where

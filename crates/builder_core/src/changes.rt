@@ -13,7 +13,7 @@ ghost use Rattle.builder_core.specs.Builds.{WorkValue, BuildFollows, IsWorkOf};
 ghost use Rattle.building.specs.declared.copied.Copied.{Copied};
 ghost use Rattle.builder_core.specs.Rings.{PagesFollow};
 ghost use Rattle.builder_core.specs.Changing.{FitsBuild, IsChangeOf, AreChangesOf, HaveAppended, HaveNoted, without_room};
-ghost use Rattle.builder_core.specs.SideFiles.{SidesFollow, side_ends};
+ghost use Rattle.builder_core.specs.SideFiles.{SidesFollow, put_ends};
 
 use crate::table_scan::TableScan;
 use heap_table::{Heap, Performed, Ready, Undone};
@@ -86,7 +86,7 @@ fn append_each(sides: &mut Vec<SideFile>, build: u64, rid: Rid, changes: Vec<Cha
     requires many { length changes.items ≤ length sides.old.items }
     requires room { (k : ℕ) (side : SideFileValue) → k < length changes.items → slice_get sides.old.items k ≡ Some side → 2 ≤ side.room }
     ensures appended { HaveAppended build rid changes.items sides.old.items sides.new.items }
-    ensures ends { side_ends sides.new.items ≡ side_ends sides.old.items }
+    ensures ends { put_ends sides.new.items ≡ put_ends sides.old.items }
 {
     let mut k = 0;
     for change in changes {
@@ -132,7 +132,7 @@ fn note(
     requires many { IfSome build.now (λ b. length b.specs ≤ length sides.old.items) }
     ensures noted { OnOk result (IfSome build.now (λ b. HaveNoted b ready.now sides.old.items sides.new.items)) }
     ensures unchanged { OnErr result (map without_room sides.new.items ≡ map without_room sides.old.items) }
-    ensures ends { side_ends sides.new.items ≡ side_ends sides.old.items }
+    ensures ends { put_ends sides.new.items ≡ put_ends sides.old.items }
     ensures memory { IfErr result (λ fault. fault ≡ Fault.Memory) }
 {
     let Some(build) = build else {
@@ -164,7 +164,7 @@ fn perform(
     ensures works { (work : Option WorkValue) → IsWorkOf heap.old.state.schema heap.old.state.log build.now work
         → IsWorkOf heap.new.state.schema heap.new.state.log build.now work }
     ensures noted { SidesFollow heap.new.state.log build.now sides.new.items }
-    ensures ends { side_ends sides.new.items ≡ side_ends sides.old.items }
+    ensures ends { put_ends sides.new.items ≡ put_ends sides.old.items }
     ensures unchanged { OnErr result (heap.new ≡ heap.old) }
     ensures memory { IfErr result (λ fault. fault ≡ Fault.Memory) }
 {
@@ -195,7 +195,7 @@ pub fn write(
     ensures works { (work : Option WorkValue) → IsWorkOf heap.old.state.schema heap.old.state.log build.now work
         → IsWorkOf heap.new.state.schema heap.new.state.log build.now work }
     ensures noted { SidesFollow heap.new.state.log build.now sides.new.items }
-    ensures ends { side_ends sides.new.items ≡ side_ends sides.old.items }
+    ensures ends { put_ends sides.new.items ≡ put_ends sides.old.items }
     ensures unchanged { OnErr result (heap.new ≡ heap.old) }
     ensures memory { IfErr result (λ fault. fault ≡ Fault.Memory) }
 {
@@ -227,7 +227,7 @@ pub fn undo(
     ensures works { (work : Option WorkValue) → IsWorkOf heap.old.state.schema heap.old.state.log build.now work
         → IsWorkOf heap.new.state.schema heap.new.state.log build.now work }
     ensures noted { SidesFollow heap.new.state.log build.now sides.new.items }
-    ensures ends { side_ends sides.new.items ≡ side_ends sides.old.items }
+    ensures ends { put_ends sides.new.items ≡ put_ends sides.old.items }
     ensures unchanged { OnErr result (heap.new ≡ heap.old) }
     ensures memory { IfErr result (λ fault. fault ≡ Fault.Memory) }
 {

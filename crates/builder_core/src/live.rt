@@ -10,7 +10,7 @@ ghost use Rattle.builder_core.specs.Builds.{BuildFollows, value_with_heap};
 ghost use Rattle.builder_core.specs.Rings.{all_sent, ArePutEnds, AreOfBuilds};
 ghost use Rattle.builder_core.specs.Invariant.{BuildIsSound, EachPageOnce};
 ghost use Rattle.std.specs.VecDeque.Iter.{deque_iter_rest};
-ghost use Rattle.builder_core.specs.SideFiles.{AreEntriesLeft, HaveEntryKeys, NoneAhead, side_refusal, side_ends};
+ghost use Rattle.builder_core.specs.SideFiles.{AreEntriesLeft, HaveEntryKeys, NoneAhead, side_refusal, put_ends};
 ghost use Rattle.builder_core.specs.CoreState.{abandoned, after_visits, ReadyFollowTable};
 
 use crate::live_sides::reset_all;
@@ -44,20 +44,20 @@ impl<T: Table> Model for Live<T> {
     ghost use Rattle.builder_core.specs.CoreState.{FollowTable};
     ghost use Rattle.builder_core.specs.Builds.{LiveValue, BuildFollows};
     ghost use Rattle.builder_core.specs.Rings.{all_sent, ArePutEnds, AreOfBuilds, PagesFollow};
-    ghost use Rattle.builder_core.specs.SideFiles.{SidesFollow, side_ends};
+    ghost use Rattle.builder_core.specs.SideFiles.{SidesFollow, put_ends};
 
     ghost Value = { LiveValue };
 
     ghost view = { λ live. record {
       state = record { heap = live.heap.state; ready = live.ready.items; builds = live.builds; build = live.build };
       pages = live.pages.items;
-      sides = side_ends live.sides.items;
+      sides = put_ends live.sides.items;
     } };
 
     ghost invariant = { λ live. FollowTable live.heap.state.log live.ready.items × BuildFollows live.heap.state.schema live.heap.state.log live.build
         × SidesFollow live.heap.state.log live.build live.sides.items
         × PagesFollow live.heap.state.schema live.heap.state.log live.builds live.build (all_sent live.pages.items)
-        × AreOfBuilds live.builds (all_sent live.pages.items) × ArePutEnds T.pages T.sides live.pages.items (side_ends live.sides.items) };
+        × AreOfBuilds live.builds (all_sent live.pages.items) × ArePutEnds T.pages T.sides live.pages.items (put_ends live.sides.items) };
 }
 
 impl<T: Table> Live<T> {
@@ -69,11 +69,11 @@ impl<T: Table> Live<T> {
         sides: Vec<SideFile>,
     ) -> Live<T>
         requires unused { AreOfBuilds 0 (all_sent pages.items) }
-        requires ends { ArePutEnds T.pages T.sides pages.items (side_ends sides.items) }
+        requires ends { ArePutEnds T.pages T.sides pages.items (put_ends sides.items) }
         ensures { result ≡ record {
           state = record { heap = heap.state; ready = []; builds = 0; build = None };
           pages = pages.items;
-          sides = side_ends sides.items;
+          sides = put_ends sides.items;
         } }
     {
         Live {

@@ -4,7 +4,7 @@ ghost use Rattle.side_file.specs.Ends.{ring_take};
 ghost use Rattle.building.specs.TakeEnd.{take_end};
 ghost use Rattle.builder_core.specs.Builds.{BuildingValue, BuildFollows, core_state, cause_of, WorksOn, SideIsLooked, SeesSideAt, HasFed};
 ghost use Rattle.builder_core.specs.Rings.{side_rings, taken_rings, drained_end};
-ghost use Rattle.builder_core.specs.SideFiles.{AreFedEntries, side_refusal, side_ends};
+ghost use Rattle.builder_core.specs.SideFiles.{AreFedEntries, side_refusal, put_ends};
 ghost use Rattle.builder_core.specs.Steps.{Feeds, Applies, AppliesSome};
 ghost use Rattle.builder_core.specs.declared.event.Event.{Event};
 
@@ -118,7 +118,7 @@ impl<T: Table> Live<T> {
 
 /// Drops all entries that were not fed.
 pub fn reset_all(sides: &mut Vec<SideFile>)
-    ensures { side_ends sides.new.items ≡ side_ends sides.old.items }
+    ensures { put_ends sides.new.items ≡ put_ends sides.old.items }
 {
     for side in sides.iter_mut() {
         side.reset();
@@ -127,10 +127,10 @@ pub fn reset_all(sides: &mut Vec<SideFile>)
 
 /// Drops all entries of each side-file, those in its ring too.
 pub fn empty_all(sides: &mut Vec<SideFile>, ends: &mut Vec<Consumer<Entry>>)
-    requires { side_rings (side_ends sides.old.items) ≡ taken_rings (map take_end ends.old.items) }
+    requires { side_rings (put_ends sides.old.items) ≡ taken_rings (map take_end ends.old.items) }
     ensures left { All (λ side. (side.left ≡ []) × (side.fed ≡ [])) sides.new.items }
-    ensures rings { side_rings (side_ends sides.new.items) ≡ side_rings (side_ends sides.old.items) }
-    ensures drained { map take_end ends.new.items ≡ map drained_end (side_ends sides.new.items) }
+    ensures rings { side_rings (put_ends sides.new.items) ≡ side_rings (put_ends sides.old.items) }
+    ensures drained { map take_end ends.new.items ≡ map drained_end (put_ends sides.new.items) }
 {
     for index in 0..sides.len() {
         empty_side(&mut sides[index], &mut ends[index]);

@@ -1,7 +1,7 @@
 ghost use Rattle.std.specs.Prelude.{◌≡◌, [], None, length, map, IfOk, IfErr};
 ghost use Rattle.building.specs.TakeEnd.{take_end};
 ghost use Rattle.builder_core.specs.Rings.{put_rings, take_rings, side_rings, taken_rings, all_sent, AreOfBuilds};
-ghost use Rattle.builder_core.specs.SideFiles.{side_ends};
+ghost use Rattle.builder_core.specs.SideFiles.{put_ends};
 
 use crate::{Ends, Live, Table};
 use building::{PagePutter, Worker, page_ring};
@@ -36,18 +36,18 @@ impl Model for Parts {
 
     ghost use Rattle.std.specs.Prelude.{map};
     ghost use Rattle.building.specs.TakeEnd.{take_end};
-    ghost use Rattle.builder_core.specs.SideFiles.{side_ends};
+    ghost use Rattle.builder_core.specs.SideFiles.{put_ends};
     ghost use Rattle.builder_core.specs.Rings.{put_rings, side_rings, all_sent, ArePutEnds, AreTakeEnds, AreOfBuilds};
 
     ghost view = { λ parts. record {
       heap = parts.heap.state;
       pages = put_rings parts.pages.items;
-      sides = side_rings (side_ends parts.sides.items);
+      sides = side_rings (put_ends parts.sides.items);
     } };
 
-    ghost invariant = { λ parts. ArePutEnds (put_rings parts.pages.items) (side_rings (side_ends parts.sides.items)) parts.pages.items
-        (side_ends parts.sides.items)
-        × AreTakeEnds (put_rings parts.pages.items) (side_rings (side_ends parts.sides.items)) parts.workers.items (map take_end parts.side_ends.items)
+    ghost invariant = { λ parts. ArePutEnds (put_rings parts.pages.items) (side_rings (put_ends parts.sides.items)) parts.pages.items
+        (put_ends parts.sides.items)
+        × AreTakeEnds (put_rings parts.pages.items) (side_rings (put_ends parts.sides.items)) parts.workers.items (map take_end parts.side_ends.items)
         × AreOfBuilds 0 (all_sent parts.pages.items) };
 }
 
@@ -119,7 +119,7 @@ fn page_rings(alloc: Global) -> Result<(Vec<PagePutter>, Vec<Worker>), Fault>
 
 /// New side-files, each with the other end of its ring.
 fn entry_rings(alloc: Global) -> Result<(Vec<SideFile>, Vec<Consumer<Entry>>), Fault>
-    ensures rings { IfOk result (λ rings. side_rings (side_ends rings.0.items) ≡ taken_rings (map take_end rings.1.items)) }
+    ensures rings { IfOk result (λ rings. side_rings (put_ends rings.0.items) ≡ taken_rings (map take_end rings.1.items)) }
     ensures eight { IfOk result (λ rings. length rings.0.items ≡ 8) }
     ensures memory { IfErr result (λ fault. fault ≡ Fault.Memory) }
 {

@@ -1,32 +1,33 @@
-use Rattle.std.proofs.Common.{◌∷◌, [], ap, ◌∙◌, arith}
-use Rattle.side_file.specs.Ends.{RingId}
-use Rattle.builder_core.proofs.Feeding.{fed_if_running}
-use Rattle.builder_core.proofs.SideKept.{side_stays}
+use Rattle.std.proofs.Common.{rules, ◌≡◌, ◌<◌, [], None, Some, All, map, slice_get, IfSome, IfOk, IfErr, OnOk, OnErr, ℕ, ◌+◌, ◌-◌, ◌*◌, ◌≤◌, length, ◌/◌, ◌%◌, Bool, true, false, nat_eq, nat_lt, List, ◌∷◌, ◌++◌, slice_index_or, slice_set, bit_and, bit_or, Fits, w8, w32, w64, Bor, MutBor}
+use Rattle.side_file.specs.Ends.{ring_take}
+use Rattle.building.specs.TakeEnd.{take_end}
+use Rattle.builder_core.specs.Builds.{BuildingValue, BuildFollows, core_state, cause_of, WorksOn, SideIsLooked, SeesSideAt, HasFed}
+use Rattle.builder_core.specs.Rings.{side_rings, taken_rings, drained_end}
+use Rattle.builder_core.specs.SideFiles.{AreFedEntries, side_refusal, put_ends}
+use Rattle.builder_core.specs.Steps.{Feeds, Applies, AppliesSome}
+use Rattle.builder_core.specs.declared.event.Event.{Event}
 use Rattle.builder_core.proofs.live.Live.look_at_side.Goals as goal
 
+-- src/live_sides.rt:52:13
+pub beside-waiting-requires : goal.beside-waiting-requires
+beside-waiting-requires g c = ?
+
+-- src/live_sides.rt:39:5
 pub invariant_of-self : goal.invariant_of-self
-invariant_of-self g c =
-    let looks = c.beside-waiting.ensures.looks in
-    let ends = c.self.invariant.5 in (
-      c.self.invariant.0,
-      c.self.invariant.1,
-      side_stays c.self.inside.heap.state.log c.self.inside.build c.self.inside.side c.beside-waiting.new.self c.self.invariant.2 looks.left looks.fed,
-      c.self.invariant.3,
-      c.self.invariant.4,
-      record { pages_are = ends.pages_are; side_is = ap (λ (r : RingId). r ∷ []) looks.ring ∙ ends.side_is; sixteen = ends.sixteen },
-    )
+invariant_of-self g c = ?
 
+-- src/live_sides.rt:39:5
+pub invariant_of-building : goal.invariant_of-building
+invariant_of-building g c = ?
+
+-- src/live_sides.rt:39:5
+pub returns-clause-looked : goal.returns-clause-looked
+returns-clause-looked g c = ?
+
+-- src/live_sides.rt:39:5
 pub returns-clause-sees : goal.returns-clause-sees
-returns-clause-sees g c = record {
-  in_order = c.beside-waiting.ensures.in_order;
-  counted = c.beside-waiting.ensures.value;
-  free = omega (arith, c.beside-waiting.ensures.free, c.laws.ensures.capacity);
-}
+returns-clause-sees g c = ?
 
+-- src/live_sides.rt:39:5
 pub returns-clause-fed : goal.returns-clause-fed
-returns-clause-fed g c =
-    let looks = c.beside-waiting.ensures.looks in
-    let log = c.self.inside.heap.state.log in
-    let build = c.self.inside.build in
-    fed_if_running log build c.beside-waiting.new.self
-    (side_stays log build c.self.inside.side c.beside-waiting.new.self c.self.invariant.2 looks.left looks.fed) c.laws.ensures
+returns-clause-fed g c = ?
