@@ -24,7 +24,7 @@ use Rattle.builder_core.specs.CoreState.{BuildState, scanning_of}
 use Rattle.builder_core.specs.SideFiles.{IsFed, HasEntries, HaveEntries, SidesFollow, AreFedEntries, HasLookedAtSide, SeesSide}
 use Rattle.builder_core.proofs.Places.{at_set, set_there, set_elsewhere}
 use Rattle.builder_core.specs.Steps.{after_feed}
-use Rattle.builder_core.specs.Workers.{fed_to}
+use Rattle.builder_core.specs.Workers.{fed_to, unfed}
 
 -- looking at the ring
 
@@ -225,6 +225,18 @@ work_fed kinds log b index count (Some w) is = record {
       record { all = on.all; none_before = on.none_before; there = on.there; loaded = on.loaded; of_build = on.of_build };
 }
 
+-- no more was fed than there was
+pub fed_entries_there :
+    (log : List LogRec) (b : BuildState) (index : ℕ) (spec : KeySpecValue) (side : SideFileValue) → HasEntries log b index spec side
+    → fed_to b index ≤ length (side_entries (scanning_of b spec) log)
+fed_entries_there log b index spec side has =
+    let put : SideEntry → Entry = entry_of b.number in
+    let es : List SideEntry = side_entries (scanning_of b spec) log in
+    let all = ap length has.entries in
+    let sum = length-append side.fed side.left in
+    let many = length-map es put in
+    omega (arith, has.count, all, sum, many)
+
 -- the fed entries are the first ones of the side-file, and the last that the ring was sent
 pub fed_entries :
     (log : List LogRec) (b : BuildState) (index : ℕ) (spec : KeySpecValue) (side : SideFileValue) → HasEntries log b index spec side → IsSideFile side
@@ -238,13 +250,7 @@ fed_entries log b index spec side has kept = record {
       ∙ ap (take (length side.fed)) has.entries
       ∙ take-map put (length side.fed) es
       ∙ ap (λ n. map put (take n es)) (sym has.count);
-  there =
-      let put : SideEntry → Entry = entry_of b.number in
-      let es : List SideEntry = side_entries (scanning_of b spec) log in
-      let all = ap length has.entries in
-      let sum = length-append side.fed side.left in
-      let many = length-map es put in
-      omega (arith, has.count, all, sum, many);
+  there = fed_entries_there log b index spec side has;
 }
 
 -- of the build that runs, if one does
@@ -257,3 +263,16 @@ fed_if_running log (Some b) index sides side has there kept = by_spec (slice_get
   by_spec : (o : Option KeySpecValue) → slice_get b.specs index ≡ o → IfSome o (λ spec. AreFedEntries log b index spec side.end)
   by_spec None is = tt
   by_spec (Some spec) is = fed_entries log b index spec side (has index spec side is there) kept
+
+-- what isn't fed is left
+pub left_unfed :
+    (log : List LogRec) (b : BuildState) (index : ℕ) (spec : KeySpecValue) (side : SideFileValue) → slice_get b.specs index ≡ Some spec
+    → HasEntries log b index spec side → unfed b log index (slice_get b.specs index) ≡ length side.left
+left_unfed log b index spec side at has =
+    let put : SideEntry → Entry = entry_of b.number in
+    let es : List SideEntry = side_entries (scanning_of b spec) log in
+    let all = ap length has.entries in
+    let sum = length-append side.fed side.left in
+    let many = length-map es put in
+    let count : length es - fed_to b index ≡ length side.left = omega (arith, has.count, all, sum, many) in
+    ap (unfed b log index) at ∙ count

@@ -37,6 +37,7 @@ pub mod ScanExamples
 pub mod ScanSteps
 pub mod Sealed
 pub mod Seen
+pub mod SideEnds
 pub mod SideFollows
 pub mod SideKept
 pub mod SideKeys

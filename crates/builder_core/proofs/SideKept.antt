@@ -83,15 +83,17 @@ same_one kinds log rec b index spec side nothing build has = record {
   count = has.count;
 }
 
--- what room a side-file has changes none of its entries
-stays_one :
-    (log : List LogRec) (b : BuildState) (index : ℕ) (spec : KeySpecValue) (old new : SideFileValue) → without_room new ≡ without_room old
+-- a side-file with the same entries
+pub stays_one :
+    (log : List LogRec) (b : BuildState) (index : ℕ) (spec : KeySpecValue) (old new : SideFileValue) → new.fed ≡ old.fed → new.left ≡ old.left
     → HasEntries log b index spec old → HasEntries log b index spec new
-stays_one log b index spec old new same has = record {
-  entries = ap all_appended same ∙ has.entries;
-  keys = subst (All (λ entry. IsKeyOf spec entry.key)) (sym (ap all_appended same)) has.keys;
-  count = has.count ∙ ap (λ (s : SideFileValue). length s.fed) (sym same);
-}
+stays_one log b index spec old new fed left has = record {
+  entries = same ∙ has.entries;
+  keys = subst (All (λ entry. IsKeyOf spec entry.key)) (sym same) has.keys;
+  count = has.count ∙ ap length (sym fed);
+} where
+  same : all_appended new ≡ all_appended old
+  same = rw (fed, left) refl
 
 -- room for more entries changes none
 pub sides_stay :
@@ -100,7 +102,7 @@ pub sides_stay :
 sides_stay log None olds news has same = tt
 sides_stay log (Some b) olds news has same = λ index spec side at there.
     let old = same_at without_room olds news index side (sym same) there in
-    stays_one log b index spec old.0 side (sym old.2) (has index spec old.0 at old.1)
+    stays_one log b index spec old.0 side (ap (λ (s : SideFileValue). s.fed) (sym old.2)) (ap (λ (s : SideFileValue). s.left) (sym old.2)) (has index spec old.0 at old.1)
 
 -- a record that changes no row appends nothing
 pub sides_plain :

@@ -34,6 +34,8 @@ impl<T: Table> Live<T> {
         let Some(work) = building.work() else {
             unreachable!()
         };
+        // That there is a ring for each index is known once their field is reached.
+        let _ends = &building.side_ends;
         let side = &self.sides[index];
         side.laws();
         side.left() + (side.fed() - work.applied(index))

@@ -1,33 +1,93 @@
-use Rattle.std.proofs.Common.{rules, ◌≡◌, ◌<◌, [], None, Some, All, map, slice_get, IfSome, IfOk, IfErr, OnOk, OnErr, ℕ, ◌+◌, ◌-◌, ◌*◌, ◌≤◌, length, ◌/◌, ◌%◌, Bool, true, false, nat_eq, nat_lt, List, ◌∷◌, ◌++◌, slice_index_or, slice_set, bit_and, bit_or, Fits, w8, w32, w64, Bor, MutBor}
-use Rattle.side_file.specs.Ends.{ring_take}
+use Rattle.std.proofs.Common.{rules, ◌≡◌, ◌<◌, length, set, refl, sym, ap, ◌∙◌, subst, arith, Option, Some}
+use Rattle.std.specs.Prelude.{IfSome}
+use Rattle.std.specs.List.{slice_get}
+use Rattle.keybytes.specs.Keys.{KeySpecValue}
+use Rattle.side_file.specs.Ends.{PutEnd}
+use Rattle.side_file.specs.SideFileValue.{SideFileValue}
+use Rattle.side_file.specs.declared.entry.Entry.{Entry}
 use Rattle.building.specs.TakeEnd.{take_end}
-use Rattle.builder_core.specs.Builds.{BuildingValue, BuildFollows, core_state, cause_of, WorksOn, SideIsLooked, SeesSideAt, HasFed}
-use Rattle.builder_core.specs.Rings.{side_rings, taken_rings, drained_end}
-use Rattle.builder_core.specs.SideFiles.{AreFedEntries, side_refusal, put_ends}
-use Rattle.builder_core.specs.Steps.{Feeds, Applies, AppliesSome}
-use Rattle.builder_core.specs.declared.event.Event.{Event}
+use Rattle.builder_core.specs.Builds.{LiveValue, BuildingValue, SideIsLooked}
+use Rattle.builder_core.specs.SideFiles.{AreFedEntries, HasLookedAtSide, SeesSide, put_ends}
+use Rattle.builder_core.proofs.Feeding.{fed_if_running}
+use Rattle.builder_core.proofs.Places.{at_index, here_set, map_at}
+use Rattle.builder_core.proofs.SideEnds.{sides_looked, put_ends_stay, take_ends_stay, eight_sides, eight_ends, paired, side_is_looked, sees_side}
 use Rattle.builder_core.proofs.live.Live.look_at_side.Goals as goal
 
--- src/live_sides.rt:52:13
 pub beside-waiting-requires : goal.beside-waiting-requires
-beside-waiting-requires g c = ?
+beside-waiting-requires g c =
+    let sides = c.self.inside.sides.items in
+    let ends = c.building.inside.side_ends.items in
+    let many = eight_sides _ _ _ sides c.self.invariant.5 in
+    let eight = eight_ends _ _ _ ends c.building.invariant.0 in
+    paired g.T.Table.sides sides ends c.args.index c.index_mut-side.result.now c.index_mut.result.now c.self.invariant.5.sides_are c.building.invariant.0.sides_are
+    (omega (arith, many, c.requires)) (omega (arith, eight, c.requires)) c.index_mut-side.ensures.value c.index_mut.ensures.value
 
--- src/live_sides.rt:39:5
 pub invariant_of-self : goal.invariant_of-self
-invariant_of-self g c = ?
+invariant_of-self g c =
+    let looks = c.beside-waiting.ensures.looks in
+    let sides = c.self.inside.sides.items in
+    let many = eight_sides _ _ _ sides c.self.invariant.5 in
+    let there = at_index sides c.args.index c.index_mut-side.result.now c.index_mut-side.ensures.value (omega (arith, many, c.requires)) in (
+      c.self.invariant.0,
+      c.self.invariant.1,
+      sides_looked c.self.inside.heap.state.log c.self.inside.build sides c.args.index c.index_mut-side.result.now c.beside-waiting.new.self there looks.fed looks.left
+          c.self.invariant.2,
+      c.self.invariant.3,
+      c.self.invariant.4,
+      put_ends_stay _ _ _ sides c.args.index c.index_mut-side.result.now c.beside-waiting.new.self c.self.invariant.5 c.index_mut-side.ensures.value looks.ring,
+    )
 
--- src/live_sides.rt:39:5
 pub invariant_of-building : goal.invariant_of-building
-invariant_of-building g c = ?
+invariant_of-building g c = (
+  take_ends_stay _ _ _ c.building.inside.side_ends.items c.args.index c.index_mut.result.now c.beside-waiting.new.consumer c.building.invariant.0
+      c.index_mut.ensures.value (search rules),
+  c.building.invariant.1,
+)
 
--- src/live_sides.rt:39:5
 pub returns-clause-looked : goal.returns-clause-looked
-returns-clause-looked g c = ?
+returns-clause-looked g c =
+    let sides = c.self.inside.sides.items in
+    let ends = c.building.inside.side_ends.items in
+    let many = eight_sides _ _ _ sides c.self.invariant.5 in
+    let eight = eight_ends _ _ _ ends c.building.invariant.0 in
+    let looks = c.beside-waiting.ensures.looks in
+    let looked : HasLookedAtSide c.index_mut-side.result.now.end (take_end c.index_mut.result.now) c.beside-waiting.new.self.end (take_end c.beside-waiting.new.consumer) =
+    record {
+      put_end = record { ring = looks.ring; capacity = looks.capacity; sent = looks.sent; free = looks.free };
+      ring = search rules;
+      received = c.beside-waiting.ensures.consumer.1;
+    } in
+    subst (λ (l : LiveValue). SideIsLooked c.args.index l c.args.building.now _ _) c.self.view_is
+    (subst (λ (b : BuildingValue). SideIsLooked c.args.index _ b _ _) c.building.view_is
+    (side_is_looked c.args.index _ _ sides ends c.index_mut-side.result.now c.beside-waiting.new.self c.index_mut.result.now c.beside-waiting.new.consumer refl refl
+    c.index_mut-side.ensures.value c.index_mut.ensures.value (omega (arith, many, c.requires)) (omega (arith, eight, c.requires)) looked))
 
--- src/live_sides.rt:39:5
 pub returns-clause-sees : goal.returns-clause-sees
-returns-clause-sees g c = ?
+returns-clause-sees g c =
+    let sides = c.self.inside.sides.items in
+    let ends = c.building.inside.side_ends.items in
+    let many = eight_sides _ _ _ sides c.self.invariant.5 in
+    let eight = eight_ends _ _ _ ends c.building.invariant.0 in
+    let sees : SeesSide c.beside-waiting.result c.beside-waiting.new.self.end (take_end c.beside-waiting.new.consumer) =
+    record {
+      in_order = c.beside-waiting.ensures.in_order;
+      counted = c.beside-waiting.ensures.value;
+      free = omega (arith, c.beside-waiting.ensures.free, c.laws.ensures.capacity);
+    } in
+    sees_side c.args.index _ _ sides ends c.index_mut-side.result.now c.beside-waiting.new.self c.index_mut.result.now c.beside-waiting.new.consumer refl refl
+    c.index_mut-side.ensures.value c.index_mut.ensures.value (omega (arith, many, c.requires)) (omega (arith, eight, c.requires)) c.beside-waiting.result sees
 
--- src/live_sides.rt:39:5
 pub returns-clause-fed : goal.returns-clause-fed
-returns-clause-fed g c = ?
+returns-clause-fed g c =
+    let sides = c.self.inside.sides.items in
+    let log = c.self.inside.heap.state.log in
+    let build = c.self.inside.build in
+    let looks = c.beside-waiting.ensures.looks in
+    let new = c.beside-waiting.new.self in
+    let many = eight_sides _ _ _ sides c.self.invariant.5 in
+    let less : c.args.index < length sides = omega (arith, many, c.requires) in
+    let there = at_index sides c.args.index c.index_mut-side.result.now c.index_mut-side.ensures.value less in
+    let now = sides_looked log build sides c.args.index c.index_mut-side.result.now new there looks.fed looks.left c.self.invariant.2 in
+    let put = map_at (λ (s : SideFileValue). s.end) (set sides c.args.index new) c.args.index new (here_set sides c.args.index new less) in
+    subst (λ (o : Option (PutEnd Entry)). IfSome build (λ b. IfSome (slice_get b.specs c.args.index) (λ spec. IfSome o (AreFedEntries log b c.args.index spec)))) (sym put)
+    (fed_if_running log build c.args.index (set sides c.args.index new) new now (here_set sides c.args.index new less) c.laws.ensures)

@@ -1,18 +1,34 @@
-use Rattle.std.proofs.Common.{rules, ◌≡◌, ◌+◌, ◌++◌, ◌^◌, ◌<◌, ◌≤◌, length, None, Some, IsSome, IfSome, IfOk, IfErr, OnOk, OnErr, MatchResult, vec_len, vec_capacity, ℕ, ◌-◌, ◌*◌, ◌/◌, ◌%◌, Bool, true, false, nat_eq, nat_lt, List, [], ◌∷◌, slice_index_or, slice_set, bit_and, bit_or, Fits, w8, w32, w64, Bor, MutBor}
-use Rattle.std.specs.List.{AllZip}
-use Rattle.heap_table.specs.HeapState.{after_switch}
-use Rattle.heap_table.specs.Pages.{KeepsRows}
-use Rattle.builder_core.specs.Builds.{core_state, cause_of, WorksOn}
-use Rattle.builder_core.specs.CatchingUp.{MayCatchUp, IndexIsFurther, IsDoneIndex, left_at, ready_of}
-use Rattle.builder_core.specs.Steps.{Switches, OnBuild, CatchesUp, IsRefused, ready_from}
-use Rattle.builder_core.specs.Workers.{all_unapplied}
-use Rattle.builder_core.specs.declared.event.Event.{Event}
+use Rattle.std.proofs.Common.{◌≡◌, ◌≤◌, ◌+◌, ◌-◌, List, length, map, sym, ap, ◌∙◌, subst, arith}
+use Rattle.side_file.specs.SideFileValue.{SideFileValue}
+use Rattle.side_file.specs.declared.entry.Entry.{Entry}
+use Rattle.building.specs.TakeEnd.{TakeEnd, take_end}
+use Rattle.builder_core.specs.Builds.{LiveValue, BuildingValue, BuildFollows}
+use Rattle.builder_core.specs.SideFiles.{SidesFollow}
+use Rattle.builder_core.proofs.CatchingUp.{left_known}
 use Rattle.builder_core.proofs.live.Live.unapplied_of.Goals as goal
 
--- src/live_switch.rt:39:24
 pub overflow_sub-result : goal.overflow_sub-result
-overflow_sub-result g c = ?
+overflow_sub-result g c =
+    let live : LiveValue = c.args.self.now in
+    let building : BuildingValue = c.args.building.now in
+    let sides : List SideFileValue = c.self.inside.sides.items in
+    let ends : List (TakeEnd Entry) = map take_end c.building.inside.side_ends.items in
+    let eight : length building.sides ≡ 8 = ap (λ (b : BuildingValue). length b.sides) (sym c.building.view_is) ∙ c.building.invariant.0.eight in
+    let follows = subst (λ (l : LiveValue). BuildFollows l.state.heap.schema l.state.heap.log l.state.build) c.self.view_is c.self.invariant.1 in
+    let has = subst (λ (l : LiveValue). SidesFollow l.state.heap.log l.state.build sides) c.self.view_is c.self.invariant.2 in
+    let known = left_known live building c.args.index c.applied.result sides c.index-side.result.now c.in-Some.work.now c.requires.works c.in-Some.ensures c.requires.runs
+    c.requires.there follows has (ap (λ (l : LiveValue). l.sides) (sym c.self.view_is)) c.index-side.ensures eight c.applied.ensures in
+    omega (arith, known.0, c.fed.ensures)
 
--- src/live_switch.rt:27:5
 pub returns-clause-left : goal.returns-clause-left
-returns-clause-left g c = ?
+returns-clause-left g c =
+    let live : LiveValue = c.args.self.now in
+    let building : BuildingValue = c.args.building.now in
+    let sides : List SideFileValue = c.self.inside.sides.items in
+    let ends : List (TakeEnd Entry) = map take_end c.building.inside.side_ends.items in
+    let eight : length building.sides ≡ 8 = ap (λ (b : BuildingValue). length b.sides) (sym c.building.view_is) ∙ c.building.invariant.0.eight in
+    let follows = subst (λ (l : LiveValue). BuildFollows l.state.heap.schema l.state.heap.log l.state.build) c.self.view_is c.self.invariant.1 in
+    let has = subst (λ (l : LiveValue). SidesFollow l.state.heap.log l.state.build sides) c.self.view_is c.self.invariant.2 in
+    let known = left_known live building c.args.index c.applied.result sides c.index-side.result.now c.in-Some.work.now c.requires.works c.in-Some.ensures c.requires.runs
+    c.requires.there follows has (ap (λ (l : LiveValue). l.sides) (sym c.self.view_is)) c.index-side.ensures eight c.applied.ensures in
+    ap (λ n. n + (c.fed.result - c.applied.result)) c.left.ensures ∙ ap (λ n. length c.index-side.result.now.left + (n - c.applied.result)) c.fed.ensures ∙ known.1
