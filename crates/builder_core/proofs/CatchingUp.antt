@@ -388,6 +388,7 @@ at_place b log specs indexes k = one_left b log (slice_get specs k) (index_at in
 
 sum_is : (b : BuildState) (log : List LogRec) (specs : List KeySpecValue) (indexes : List IndexState) → length indexes ≡ length specs
     → sum_to (length specs) (at_place b log specs indexes) ≡ all_unapplied b log specs indexes
+unfolding one_left
 sum_is b log [] indexes many = refl
 sum_is b log (spec ∷ specs) [] many = absurd (omega (arith, many))
 sum_is b log (spec ∷ specs) (index ∷ indexes) many =
@@ -395,6 +396,7 @@ sum_is b log (spec ∷ specs) (index ∷ indexes) many =
     ∙ ap (λ n. unapplied b log spec index + n) (sum_is b log specs indexes (omega (arith, many)))
 
 left_is_place : (b : BuildState) (s : CoreState) (k : ℕ) (o : Option KeySpecValue) → unapplied_at b s k o ≡ one_left b s.live.heap.log o (index_at s.work.indexes k)
+unfolding one_left
 left_is_place b s k None = refl
 left_is_place b s k (Some spec) = refl
 
@@ -417,7 +419,7 @@ pub left_known :
 left_known live building index applied sides side w works held runs below_specs follows has puts there eight is = by_build live.state.build refl where
   by_build : (o : Option BuildState) → live.state.build ≡ o
       → (applied ≤ length side.fed) × (length side.left + (length side.fed - applied) ≡ left_at index (core_state live building))
-  by_build None gone = absurd (let bad : IsSome None = subst IsSome gone runs in false≢true bad)
+  by_build None gone = absurd (false≢true (subst (λ (o : Option BuildState). IsSome o) gone runs))
   by_build (Some b) gone =
       let run = running live building b w gone held follows works in
       let less : index < length b.specs = subst (λ (o : Option BuildState). IfSome o (λ x. index < length x.specs)) gone below_specs in

@@ -1,4 +1,4 @@
-use Rattle.std.proofs.Common.{rules, ◌≡◌, ◌<◌, length, set, refl, sym, ap, ◌∙◌, subst, arith, Option, Some}
+use Rattle.std.proofs.Common.{rules, ◌≡◌, ◌<◌, length, map, set, refl, sym, ap, ◌∙◌, subst, arith, Option, Some}
 use Rattle.std.specs.Prelude.{IfSome}
 use Rattle.std.specs.List.{slice_get}
 use Rattle.keybytes.specs.Keys.{KeySpecValue}
@@ -7,6 +7,7 @@ use Rattle.side_file.specs.SideFileValue.{SideFileValue}
 use Rattle.side_file.specs.declared.entry.Entry.{Entry}
 use Rattle.building.specs.TakeEnd.{take_end}
 use Rattle.builder_core.specs.Builds.{LiveValue, BuildingValue, SideIsLooked}
+use Rattle.builder_core.specs.Holding.{spool_value}
 use Rattle.builder_core.specs.SideFiles.{AreFedEntries, HasLookedAtSide, SeesSide, put_ends}
 use Rattle.builder_core.proofs.Feeding.{fed_if_running}
 use Rattle.builder_core.proofs.Places.{at_index, here_set, map_at}
@@ -57,10 +58,29 @@ returns-clause-looked g c =
       ring = search rules;
       received = c.beside-waiting.ensures.consumer.1;
     } in
-    subst (λ (l : LiveValue). SideIsLooked c.args.index l c.args.building.now _ _) c.self.view_is
-    (subst (λ (b : BuildingValue). SideIsLooked c.args.index _ b _ _) c.building.view_is
-    (side_is_looked c.args.index _ _ sides ends c.index_mut-side.result.now c.beside-waiting.new.self c.index_mut.result.now c.beside-waiting.new.consumer refl refl
-    c.index_mut-side.ensures.value c.index_mut.ensures.value (omega (arith, many, c.requires)) (omega (arith, eight, c.requires)) looked))
+    let live : LiveValue = record {
+      state = record {
+        heap = c.self.inside.heap.state;
+        ready = c.self.inside.ready.items;
+        builds = c.self.inside.builds;
+        build = c.self.inside.build;
+      };
+      pages = c.self.inside.pages.items;
+      sides = put_ends sides;
+    } in
+    let building : BuildingValue = record {
+      workers = c.building.inside.workers.items;
+      sides = map take_end ends;
+      spools = map (spool_value g.S.Spool.runs g.S.Spool.open_run g.S.Spool.stake) c.building.inside.spools.items;
+      given = c.building.inside.given;
+      work = c.building.inside.work;
+    } in
+    let new_live : LiveValue = record live { sides = put_ends (set sides c.args.index c.beside-waiting.new.self) } in
+    let new_building : BuildingValue = record building { sides = map take_end (set ends c.args.index c.beside-waiting.new.consumer) } in
+    subst (λ (l : LiveValue). SideIsLooked c.args.index l c.args.building.now new_live new_building) c.self.view_is
+    (subst (λ (b : BuildingValue). SideIsLooked c.args.index live b new_live new_building) c.building.view_is
+    (side_is_looked c.args.index live building sides ends c.index_mut-side.result.now c.beside-waiting.new.self c.index_mut.result.now c.beside-waiting.new.consumer
+    refl refl c.index_mut-side.ensures.value c.index_mut.ensures.value (omega (arith, many, c.requires)) (omega (arith, eight, c.requires)) looked))
 
 pub returns-clause-sees : goal.returns-clause-sees
 returns-clause-sees g c =
