@@ -110,7 +110,7 @@ module _
   built_is : taking.built ≡ built
   built_is = same_Some taking.built built (sym taking.loaded ∙ ap (λ (i : IndexValue). i.built) (index_is ∙ sym it_is))
 
-  applied_is : taking.it.applied ≡ applied
+  pub applied_is : taking.it.applied ≡ applied
   applied_is = ap (λ (i : IndexValue). i.applied) (index_is ∙ sym it_is)
 
   pub applied_next :

@@ -11,7 +11,7 @@ use Rattle.keybytes.specs.Faults.{first_cause}
 use Rattle.keybytes.specs.Keys.{KeySpecValue}
 use Rattle.keybytes.specs.declared.fault.Fault.TheVariants.{NotLoaded}
 use Rattle.heap_log.specs.declared.record.LogRec.{LogRec}
-use Rattle.builder_core.specs.Builds.{LiveValue, BuildingValue, WorkValue, IndexValue, BuildFollows, IsRunning, WorksOn, work_state, core_state, index_state}
+use Rattle.builder_core.specs.Builds.{LiveValue, BuildingValue, WorkValue, IndexValue, BuildFollows, IsRunning, IsWorkOf, WorksOn, work_state, core_state, index_state}
 use Rattle.builder_core.specs.CatchingUp.{MayCatchUp, IndexIsFurther, left_at, left_of, unapplied_at, further_by}
 use Rattle.builder_core.specs.CoreState.{BuildState, IndexState, CoreState}
 use Rattle.builder_core.specs.SideFiles.{HasEntries, SidesFollow, NoneAhead, put_ends}
@@ -26,7 +26,7 @@ use Rattle.builder_core.specs.Workers.{all_entries, all_unapplied, fed_to, in_ri
 use Rattle.builder_core.specs.declared.event.Event.TheVariants.{Apply}
 use Rattle.builder_core.proofs.FedBeside.{indexes_seen}
 use Rattle.builder_core.proofs.IndexApplied.{AppliesNext}
-use Rattle.builder_core.proofs.Places.{below, here_set, map_at, set_same, there_is}
+use Rattle.builder_core.proofs.Places.{at_index, below, here_set, map_at, set_same, there_is}
 
 -- what stands in a place of a list of indexes
 at_is : (indexes : List IndexState) (index : ℕ) (it : IndexState) → slice_get indexes index ≡ Some it → index_at indexes index ≡ it
@@ -413,10 +413,10 @@ pub left_known :
     (live : LiveValue) (building : BuildingValue) (index applied : ℕ) (sides : List SideFileValue) (side : SideFileValue) (w : WorkValue) → WorksOn live building
     → building.work ≡ Some w → IsSome live.state.build → IfSome live.state.build (λ b. index < length b.specs)
     → BuildFollows live.state.heap.schema live.state.heap.log live.state.build → SidesFollow live.state.heap.log live.state.build sides
-    → live.sides ≡ put_ends sides → slice_get sides index ≡ Some side → length building.sides ≡ 8
+    → live.sides ≡ put_ends sides → length sides ≡ 8 → side ≡ get_or sides index side → length building.sides ≡ 8
     → ((it : IndexValue) → slice_get w.indexes index ≡ Some it → applied ≡ it.applied)
     → (applied ≤ length side.fed) × (length side.left + (length side.fed - applied) ≡ left_at index (core_state live building))
-left_known live building index applied sides side w works held runs below_specs follows has puts there eight is = by_build live.state.build refl where
+left_known live building index applied sides side w works held runs below_specs follows has puts eight_puts at eight is = by_build live.state.build refl where
   by_build : (o : Option BuildState) → live.state.build ≡ o
       → (applied ≤ length side.fed) × (length side.left + (length side.fed - applied) ≡ left_at index (core_state live building))
   by_build None gone = absurd (false≢true (subst (λ (o : Option BuildState). IsSome o) gone runs))
@@ -425,6 +425,7 @@ left_known live building index applied sides side w works held runs below_specs 
       let less : index < length b.specs = subst (λ (o : Option BuildState). IfSome o (λ x. index < length x.specs)) gone below_specs in
       let many = run.on.many in
       let few = run.follows.few_indexes in
+      let there = at_index sides index side at (omega (arith, less, few, eight_puts)) in
       let spec = there_is b.specs index less in
       let it = there_is w.indexes index (omega (arith, less, many)) in
       let end = there_is building.sides index (omega (arith, less, few, eight)) in
@@ -485,3 +486,31 @@ all_begin live building b w run ahead puts ends =
       };
       new_is = ap (λ (o : Option BuildState). record s { live = record s.live { build = o } }) run.build_is;
     }
+
+-- told of the table and of what stands beside it
+pub begins :
+    (live : LiveValue) (building : BuildingValue) (b : BuildState) → live.state.build ≡ Some b → WorksOn live building
+    → BuildFollows live.state.heap.schema live.state.heap.log live.state.build → IfSome live.state.build (NoneAhead live.state.heap.log)
+    → length live.sides ≡ 8 → length building.sides ≡ 8 → AllAreFurther (core_state live building) (core_state live building)
+begins live building b is works follows ahead puts ends = by_work building.work refl where
+  by_work : (x : Option WorkValue) → building.work ≡ x → AllAreFurther (core_state live building) (core_state live building)
+  by_work None held =
+      absurd (subst (λ (p : Option BuildState). IsWorkOf live.state.heap.schema live.state.heap.log p None) is
+      (subst (IsWorkOf live.state.heap.schema live.state.heap.log live.state.build) held works.work))
+  by_work (Some w) held =
+      all_begin live building b w (running live building b w is held follows works)
+      (subst (λ (o : Option BuildState). IfSome o (NoneAhead live.state.heap.log)) is ahead) puts ends
+
+-- what may be applied at the start may be applied on the way
+pub may_apply_at :
+    (s new : CoreState) → AllAreFurther s new → (b : BuildState) → s.live.build ≡ Some b → MayCatchUp s → (index : ℕ) → index < length b.specs
+    → refusal new (Apply index 256) ≡ None
+may_apply_at s new all b runs may index less =
+    let same : all.build ≡ b = same_Some all.build b (sym all.runs ∙ runs) in
+    let now : BuildState = record all.build { fed = all.fed } in
+    let new_runs : new.live.build ≡ Some now = ap (λ (n : CoreState). n.live.build) all.new_is in
+    let still = may_still s new all may in
+    let free : apply_refusal now new.work index ≡ None =
+    subst (λ (o : Option BuildState). OnBuild o (λ x. (i : ℕ) → i < length x.specs → apply_refusal x new.work i ≡ None)) new_runs still index
+    (subst (λ (x : BuildState). index < length x.specs) (sym same) less) in
+    ap (λ (o : Option BuildState). build_cause o (λ x. apply_refusal x new.work index)) new_runs ∙ free

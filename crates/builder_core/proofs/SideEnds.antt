@@ -14,7 +14,9 @@ use Rattle.heap_log.specs.declared.record.LogRec.{LogRec}
 use Rattle.builder_core.specs.Builds.{LiveValue, BuildingValue, SideIsLooked, SeesSideAt}
 use Rattle.builder_core.specs.CoreState.{BuildState}
 use Rattle.builder_core.specs.Rings.{side_rings, taken_rings, ArePutEnds, AreTakeEnds}
-use Rattle.builder_core.specs.SideFiles.{SidesFollow, HasLookedAtSide, SeesSide, put_ends}
+use Rattle.std.specs.Prelude.{IfSome}
+use Rattle.builder_core.proofs.ApplyCauses.{index_below}
+use Rattle.builder_core.specs.SideFiles.{SidesFollow, HasLookedAtSide, SeesSide, put_ends, side_refusal}
 use Rattle.builder_core.proofs.Places.{at_index, at_set, both_at, here_set, kept, map_at, mapped}
 use Rattle.builder_core.proofs.SideKept.{stays_one}
 
@@ -113,3 +115,12 @@ module _ {P : Type 0} where
       end_there = map_at take_end (set ends index new_end) index new_end (here_set ends index new_end below);
       sees = sees;
     }
+
+-- an index of the running build has its side-file
+pub side_there :
+    (build : Option BuildState) (sides : List SideFileValue) (index : ℕ) (side : SideFileValue) → IfSome build (λ b. length b.specs ≤ length sides)
+    → side_refusal build index ≡ None → side ≡ get_or sides index side → slice_get sides index ≡ Some side
+side_there None sides index side many free at = absurd (cc)
+side_there (Some b) sides index side many free at =
+    let less = index_below b index free in
+    at_index sides index side at (omega (arith, less, many))

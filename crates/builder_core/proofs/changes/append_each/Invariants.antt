@@ -1,4 +1,4 @@
-use Rattle.std.proofs.Common.{◌≡◌, ◌<◌, ◌≤◌, ℕ, length, Some}
+use Rattle.std.proofs.Common.{◌≡◌, ◌++◌, ◌<◌, ◌≤◌, ℕ, length, Some}
 use Rattle.std.specs.List.{slice_get}
 use Rattle.side_file.specs.SideFileValue.{SideFileValue}
 use Rattle.builder_core.specs.Changing.{HaveAppended}
@@ -7,6 +7,7 @@ use Rattle.builder_core.proofs.changes.append_each.Given as goal
 
 abbrev pub invariant-loop-change : goal.invariant-loop-change
 invariant-loop-change l = record {
+  all : l.yielded ++ l.change-iterator.rest.items ≡ l.fn.changes.items;
   counted : l.k ≡ length l.yielded;
   done : HaveAppended l.build l.rid l.yielded l.initial.sides.items l.sides.items;
   ends : put_ends l.sides.items ≡ put_ends l.initial.sides.items;

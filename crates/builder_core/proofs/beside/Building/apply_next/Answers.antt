@@ -1,9 +1,10 @@
 use Rattle.catch_up.specs.Built.{BuiltValue}
-use Rattle.std.proofs.Common.{◌≡◌, ◌∙◌, ap, Option, [], refl, OnOk, OnErr, ◌+◌, ◌<◌, ◌≤◌, length, sym, subst, arith}
+use Rattle.std.proofs.Common.{rules, ◌≡◌, ◌∙◌, ap, Option, [], refl, OnOk, OnErr, ◌+◌, ◌<◌, ◌≤◌, ◌^◌, length, sym, subst, arith}
 use Rattle.rtrb.specs.Ring.{known_items}
 use Rattle.building.specs.TakeEnd.{TakeEnd}
 use Rattle.side_file.specs.declared.entry.Entry.{Entry}
-use Rattle.builder_core.proofs.Applying.{applied_next, end_is, one_taken}
+use Rattle.builder_core.proofs.Applying.{applied_is, applied_next, end_is, one_taken}
+use Rattle.builder_core.proofs.SideEnds.{take_ends_stay}
 use Rattle.builder_core.proofs.Taken.{on_err}
 use Rattle.builder_core.proofs.beside.Building.apply_next.Goals as goal
 
@@ -28,3 +29,25 @@ returns-clause-applied g c =
     applied_next c.args.index c.args.self.now _ c.in-Some.work _ c.index_mut-it.result.now c.in-Some-built.built c.it.inside.applied c.self.inside.side_ends.items
     c.index_mut.result.now c.self.view_is c.in-Some.is c.work.view_is c.index_mut-it.ensures.value (ap (λ (o : Option BuiltValue). record { built = o; applied = c.it.inside.applied }) (sym c.in-Some-built.is) ∙ c.it.view_is) refl c.index_mut.ensures.value c.requires.taking
     c.apply-taken.new.ring done.entries 1 (c.it.inside.applied + 1) c.apply-taken.new.built done.taken done.applied c.laws.ensures one seen refl
+
+pub invariant_of-self-in-Break-1 : goal.invariant_of-self-in-Break-1
+invariant_of-self-in-Break-1 g c = (
+  take_ends_stay _ _ _ c.self.inside.side_ends.items c.args.index c.index_mut.result.now c.apply-taken.new.ring c.self.invariant.0 c.index_mut.ensures.value
+      c.apply-taken.ensures.taken.ring,
+  λ given none. absurd (cc),
+)
+
+pub overflow_add-it : goal.overflow_add-it
+overflow_add-it g c =
+    let applied = applied_is c.args.index c.args.self.now _ c.in-Some.work _ c.index_mut-it.result.now c.in-Some-built.built c.it.inside.applied c.self.inside.side_ends.items
+    c.index_mut.result.now c.self.view_is c.in-Some.is c.work.view_is c.index_mut-it.ensures.value
+    (ap (λ (o : Option BuiltValue). record { built = o; applied = c.it.inside.applied }) (sym c.in-Some-built.is) ∙ c.it.view_is) refl c.index_mut.ensures.value c.requires.taking in
+    let fits : c.it.inside.applied + 1 < 2 ^ 64 = omega (arith, applied, c.requires.countable) in
+    search (fits, rules)
+
+pub invariant_of-self-2 : goal.invariant_of-self-2
+invariant_of-self-2 g c = (
+  take_ends_stay _ _ _ c.self.inside.side_ends.items c.args.index c.index_mut.result.now c.apply-taken.new.ring c.self.invariant.0 c.index_mut.ensures.value
+      c.apply-taken.ensures.taken.ring,
+  λ given none. absurd (cc),
+)

@@ -5,6 +5,7 @@ use Rattle.building.specs.TakeEnd.{TakeEnd, take_end}
 use Rattle.builder_core.specs.Builds.{LiveValue, BuildingValue, BuildFollows}
 use Rattle.builder_core.specs.SideFiles.{SidesFollow}
 use Rattle.builder_core.proofs.CatchingUp.{left_known}
+use Rattle.builder_core.proofs.SideEnds.{eight_sides}
 use Rattle.builder_core.proofs.live.Live.unapplied_of.Goals as goal
 
 pub overflow_sub-result : goal.overflow_sub-result
@@ -17,7 +18,8 @@ overflow_sub-result g c =
     let follows = subst (λ (l : LiveValue). BuildFollows l.state.heap.schema l.state.heap.log l.state.build) c.self.view_is c.self.invariant.1 in
     let has = subst (λ (l : LiveValue). SidesFollow l.state.heap.log l.state.build sides) c.self.view_is c.self.invariant.2 in
     let known = left_known live building c.args.index c.applied.result sides c.index-side.result.now c.in-Some.work.now c.requires.works c.in-Some.ensures c.requires.runs
-    c.requires.there follows has (ap (λ (l : LiveValue). l.sides) (sym c.self.view_is)) c.index-side.ensures eight c.applied.ensures in
+    c.requires.there follows has (ap (λ (l : LiveValue). l.sides) (sym c.self.view_is)) (eight_sides _ _ _ sides c.self.invariant.5) c.index-side.ensures eight
+    c.applied.ensures in
     omega (arith, known.0, c.fed.ensures)
 
 pub returns-clause-left : goal.returns-clause-left
@@ -30,5 +32,6 @@ returns-clause-left g c =
     let follows = subst (λ (l : LiveValue). BuildFollows l.state.heap.schema l.state.heap.log l.state.build) c.self.view_is c.self.invariant.1 in
     let has = subst (λ (l : LiveValue). SidesFollow l.state.heap.log l.state.build sides) c.self.view_is c.self.invariant.2 in
     let known = left_known live building c.args.index c.applied.result sides c.index-side.result.now c.in-Some.work.now c.requires.works c.in-Some.ensures c.requires.runs
-    c.requires.there follows has (ap (λ (l : LiveValue). l.sides) (sym c.self.view_is)) c.index-side.ensures eight c.applied.ensures in
+    c.requires.there follows has (ap (λ (l : LiveValue). l.sides) (sym c.self.view_is)) (eight_sides _ _ _ sides c.self.invariant.5) c.index-side.ensures eight
+    c.applied.ensures in
     ap (λ n. n + (c.fed.result - c.applied.result)) c.left.ensures ∙ ap (λ n. length c.index-side.result.now.left + (n - c.applied.result)) c.fed.ensures ∙ known.1
