@@ -18,9 +18,9 @@ use Rattle.builder_core.specs.Rings.{PagesFollow}
 use Rattle.builder_core.specs.CoreState.{BuildState, ReadyValue, AreIndexesOf, FollowTable}
 use Rattle.heap_log.specs.declared.record.LogRec.TheVariants.{Commit}
 use Rattle.side_file.specs.SideFileValue.{SideFileValue}
-use Rattle.builder_core.specs.SideFiles.{SideFollows}
+use Rattle.builder_core.specs.SideFiles.{SidesFollow}
 use Rattle.builder_core.proofs.EntrySteps.{commit_entries}
-use Rattle.builder_core.proofs.SideKept.{side_plain}
+use Rattle.builder_core.proofs.SideKept.{sides_plain}
 use Rattle.builder_core.proofs.Puts.{pages_kept}
 use Rattle.builder_core.proofs.TableBuilds.{build_kept, work_kept}
 
@@ -85,11 +85,11 @@ commit_pages old new txn builds build all (inl done) is put =
 commit_pages old new txn builds build all (inr refused) is put =
     subst (λ (h : HeapState). PagesFollow h.schema h.log builds build all) (sym refused) put
 
--- and the side-file is its own
-pub commit_side :
-    (old new : HeapState) (txn : ℕ) (build : Option BuildState) (side : SideFileValue) → (new ≡ after_commit old txn) ⊎ (new ≡ old)
-    → BuildFollows old.schema old.log build → SideFollows old.log build side → SideFollows new.log build side
-commit_side old new txn build side (inl done) is has =
-    subst (λ (h : HeapState). SideFollows h.log build side) (sym done)
-    (side_plain old.schema old.log (Commit txn) build side (λ s. commit_entries s old.log txn) is has)
-commit_side old new txn build side (inr refused) is has = subst (λ (h : HeapState). SideFollows h.log build side) (sym refused) has
+-- and the side-files are its own
+pub commit_sides :
+    (old new : HeapState) (txn : ℕ) (build : Option BuildState) (sides : List SideFileValue) → (new ≡ after_commit old txn) ⊎ (new ≡ old)
+    → BuildFollows old.schema old.log build → SidesFollow old.log build sides → SidesFollow new.log build sides
+commit_sides old new txn build sides (inl done) is has =
+    subst (λ (h : HeapState). SidesFollow h.log build sides) (sym done)
+    (sides_plain old.schema old.log (Commit txn) build sides (λ s. commit_entries s old.log txn) is has)
+commit_sides old new txn build sides (inr refused) is has = subst (λ (h : HeapState). SidesFollow h.log build sides) (sym refused) has

@@ -19,6 +19,7 @@ mod dealing;
 mod ending;
 mod ends;
 mod event;
+mod index_work;
 mod live;
 mod live_builds;
 mod live_sides;

@@ -54,16 +54,16 @@ invariant_of-self g c =
       pages_started heap.schema heap.log inside.builds build (all_sent c.restart_all.new.pages.items) (ap (λ (b : BuildState). b.number) is)
           (ap (λ (b : BuildState). b.scans) is) before,
       builds_more inside.builds (all_sent c.restart_all.new.pages.items) before,
-      put_ends_started g.T.Table.pages g.T.Table.side inside.pages.items c.restart_all.new.pages.items inside.side.end c.empty_side.new.side.end c.self.invariant.5
+      put_ends_started g.T.Table.pages g.T.Table.sides inside.pages.items c.restart_all.new.pages.items inside.side.end c.empty_side.new.side.end c.self.invariant.5
           c.restart_all.ensures.rings c.empty_side.ensures.ring,
     )
 
 pub invariant_of-building : goal.invariant_of-building
 invariant_of-building g c =
     let inside = c.self.inside in (
-      take_ends_started g.T.Table.pages g.T.Table.side (inside.builds + 1) c.restart_all.new.pages.items c.empty_side.new.side.end c.restart_all.new.workers.items
+      take_ends_started g.T.Table.pages g.T.Table.sides (inside.builds + 1) c.restart_all.new.pages.items c.empty_side.new.side.end c.restart_all.new.workers.items
           (take_end c.empty_side.new.end)
-          (put_ends_started g.T.Table.pages g.T.Table.side inside.pages.items c.restart_all.new.pages.items inside.side.end c.empty_side.new.side.end c.self.invariant.5
+          (put_ends_started g.T.Table.pages g.T.Table.sides inside.pages.items c.restart_all.new.pages.items inside.side.end c.empty_side.new.side.end c.self.invariant.5
           c.restart_all.ensures.rings c.empty_side.ensures.ring)
           c.restart_all.ensures.workers c.empty_side.ensures.same_ring,
       λ given none. absurd (some_none _ none),
@@ -134,8 +134,8 @@ returns-clause-started g c =
     ∙ ap (λ (specs : List KeySpecValue). record (opened (live.builds + 1) spec plan.workers (length live.heap.log) (cuts_of (pages_written live.heap.log))) { specs = specs }) (sym one)
     ∙ ap (λ (fed : List ℕ). record (started live plan) { fed = fed }) (sym (ap (map (λ s. 0)) one)) in
     let new_pages : List (PutEnd Copied) = c.restart_all.new.pages.items in
-    let ends : ArePutEnds g.T.Table.pages g.T.Table.side new_pages c.empty_side.new.side.end =
-    put_ends_started g.T.Table.pages g.T.Table.side inside.pages.items new_pages inside.side.end c.empty_side.new.side.end c.self.invariant.5
+    let ends : ArePutEnds g.T.Table.pages g.T.Table.sides new_pages c.empty_side.new.side.end =
+    put_ends_started g.T.Table.pages g.T.Table.sides inside.pages.items new_pages inside.side.end c.empty_side.new.side.end c.self.invariant.5
     c.restart_all.ensures.rings c.empty_side.ensures.ring in
     let few : plan.workers ≤ length new_pages = let most = few_workers live _ plan c.in_ok-spec.ensures.counts in omega (arith, most.0, ends.sixteen) in
     let work : work_state c.restart_all.new.workers.items (Some c.in_ok-work.work) ≡ fresh_work plan =
