@@ -120,8 +120,8 @@ impl<T: Table> Live<T> {
 pub fn reset_all(sides: &mut Vec<SideFile>)
     ensures { put_ends sides.new.items ≡ put_ends sides.old.items }
 {
-    for side in sides.iter_mut() {
-        side.reset();
+    for index in 0..sides.len() {
+        sides[index].reset();
     }
 }
 
