@@ -26,7 +26,7 @@ use Rattle.builder_core.proofs.Feeding.{works_side_looked, state_side_looked}
 use Rattle.builder_core.proofs.IndexApplied.{AppliesNext, ring_is, can_apply, works_applied, state_applied}
 use Rattle.builder_core.proofs.Refusals.{running, state_is}
 
-first_none : (c d : Option Fault) → first_cause c d ≡ None → (c ≡ None) × (d ≡ None)
+pub first_none : (c d : Option Fault) → first_cause c d ≡ None → (c ≡ None) × (d ≡ None)
 first_none None d free = (refl, free)
 first_none (Some fault) d free = absurd (cc)
 
@@ -162,13 +162,14 @@ module _
   works_after_apply new (Ok n) done some = works_some new count (omega arith) done.1
   works_after_apply new (Err fault) done some = works_some new some.0 (omega (arith, some.1)) some.2
 
+-- an index of the build isn't refused for its number
+pub inside_of : (b : BuildState) (index : ℕ) → index < length b.specs → nat_le (length b.specs) index ≡ false
+inside_of b index less = false_from_ne_true (nat_le (length b.specs) index) (λ more. let all = leb-true (length b.specs) index more in omega (arith, all, less))
+
 -- an index of the running build, which isn't spoiled
 module _
     (live : LiveValue) (building : BuildingValue) (b : BuildState) (w : WorkValue) (run : IsRunning live building b w) (fine : w.spoiled ≡ None) (index : ℕ)
     (less : index < length b.specs) where
-  inside : nat_le (length b.specs) index ≡ false
-  inside = false_from_ne_true (nat_le (length b.specs) index) (λ more. let all = leb-true (length b.specs) index more in omega (arith, all, less))
-
   its_cause :
       (loaded : Bool) → ((it : IndexValue) → slice_get w.indexes index ≡ Some it → loaded ≡ is_some it.built)
       → build_cause live.state.build (λ a. apply_refusal a (work_state building.workers building.work) index) ≡ cause_if (not loaded) (NotLoaded index)
@@ -178,7 +179,7 @@ module _
       let seen : index_at (map index_state w.indexes) index ≡ index_state it.0 =
       get_or_from_slice_get (map index_state w.indexes) index (index_state it.0) _ (map_at index_state w.indexes index it.0 it.1) in
       let told : (index_at (map index_state w.indexes) index).loaded ≡ loaded = ap (λ (i : IndexState). i.loaded) seen ∙ sym (is it.0 it.1) in
-      rw (run.build_is, state_is building w run.work_is fine, inside, told) refl
+      rw (run.build_is, state_is building w run.work_is fine, inside_of b index less, told) refl
 
   pub not_loaded :
       ((it : IndexValue) → slice_get w.indexes index ≡ Some it → false ≡ is_some it.built)
