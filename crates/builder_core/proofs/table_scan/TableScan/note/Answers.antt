@@ -54,7 +54,8 @@ invariant_of-self c =
     let gone = c.in-Ok.ensures.ok in (
       subst (λ (r : RangesValue). AreScansOf r c.self.inside.workers c.push_reserved.new.self.items) (sym gone)
           (subst (λ (scans : List Scan). AreScansOf (after_advance c.self.inside.ranges c.args.range) c.self.inside.workers scans) (sym c.push_reserved.ensures.items) all),
-      omega (arith, ap (λ (r : RangesValue). r.pages) gone, c.self.invariant.1, c.push_reserved.ensures.capacity),      c.self.invariant.2,
+      omega (arith, ap (λ (r : RangesValue). r.pages) gone, c.self.invariant.1, c.push_reserved.ensures.capacity),
+      c.self.invariant.2,
     )
 
 pub returns-clause-others : goal.returns-clause-others
