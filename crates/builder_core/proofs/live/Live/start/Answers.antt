@@ -1,164 +1,20 @@
 use Rattle.std.proofs.Common.{◌≡◌, ◌∙◌, ◌+◌, ◌∷◌, [], ◌≤◌, ℕ, List, length, Some, None, refl, ap, sym, subst, arith}
 use Rattle.std.specs.Prelude.{map, Bool, true, false, ◌*◌}
-use Rattle.std.specs.List.{list_all, slice_get}
-use Rattle.std.proofs.lemmas.List.{length-map}
-use Rattle.keybytes.specs.Keys.{KeySpecValue}
-use Rattle.heap_table.specs.Pages.{pages_written}
-use Rattle.scan_range.specs.Cuts.{CutsValue}
-use Rattle.side_file.specs.Ends.{PutEnd}
-use Rattle.building.specs.TakeEnd.{take_end}
-use Rattle.building.specs.WorkerValue.{WorkerValue}
-use Rattle.building.specs.declared.copied.Copied.{Copied}
-use Rattle.builder_core.specs.Builds.{LiveValue, BuildingValue, WorkValue, work_state, build_over, fresh}
-use Rattle.builder_core.specs.Ranges.{dealing_refusal, dealt_ends}
-use Rattle.builder_core.specs.CoreState.{BuildState, LiveState, WorkState, SpoolsState, CoreState, all_given}
-use Rattle.builder_core.specs.Holding.{SpoolValue, spool_value, spools_state}
-use Rattle.builder_core.specs.declared.plan.Plan.{Plan}
-use Rattle.builder_core.proofs.Kits.{each_empty}
-use Rattle.run_spool.specs.Spools.{holds_nothing}
-use Rattle.builder_core.specs.Rings.{all_sent, AreOfBuilds, ArePutEnds, begun_on}
-use Rattle.builder_core.specs.Steps.{started, fresh_work}
-use Rattle.builder_core.proofs.Puts.{pages_started, builds_more}
-use Rattle.builder_core.proofs.SideKept.{side_opened}
 use Rattle.builder_core.proofs.Started.{build_on, build_is_on, started_follows, put_ends_started, take_ends_started, started_works}
-use Rattle.builder_core.proofs.Starts.{few_workers, fresh_is}
+use Rattle.builder_core.proofs.Starts.{has_counts, fresh_is}
 use Rattle.builder_core.proofs.live.Live.start.Goals as goal
 
-abbrev opened : ℕ → KeySpecValue → ℕ → ℕ → CutsValue → BuildState
-opened number spec workers records cuts = build_over number spec workers records cuts [] 0
-
-some_none : {X : Type 0} (x : X) → Some x ≡ None → ⊥
-some_none x e = cc
-
 pub invariant_of-self : goal.invariant_of-self
-invariant_of-self g c =
-    let inside = c.self.inside in
-    let heap = inside.heap.state in
-    let plan = c.args.plan.now in
-    let spec : KeySpecValue = c.in_ok-clone.field-0 in
-    let build : BuildState = c.in_ok-build.build in
-    let columns : spec.kinds ≡ heap.schema =
-    ap (λ (s : KeySpecValue). s.kinds) c.in_ok-clone.ensures.same ∙ c.in_ok-spec.ensures.columns ∙ sym (ap (λ (l : LiveValue). l.state.heap.schema) c.self.view_is) in
-    let fit : dealing_refusal (pages_written heap.log) plan.dealing ≡ None =
-    ap (λ (l : LiveValue). dealing_refusal (pages_written l.state.heap.log) plan.dealing) c.self.view_is ∙ c.in_ok-spec.ensures.ranges in
-    let is : build ≡ build_on (inside.builds + 1) spec plan.workers heap.log plan.dealing =
-    build_is_on heap.schema heap.log build (inside.builds + 1) spec plan.workers c.records.result c.pages-pages.result c.in_ok-cuts.cuts plan.dealing c.in_ok-build.ensures.ok
-    c.records.ensures c.in_ok-cuts.ensures.ok c.pages-pages.ensures.pages in
-    let before = subst (AreOfBuilds inside.builds) (sym c.restart_all.ensures.sent) c.self.invariant.4 in (
-      c.self.invariant.0,
-      started_follows heap.schema heap.log build (inside.builds + 1) spec plan.workers c.records.result c.pages-pages.result c.in_ok-cuts.cuts plan.dealing
-          c.in_ok-build.ensures.ok c.records.ensures c.in_ok-cuts.ensures.ok c.pages-pages.ensures.pages columns c.pages-pages.ensures.limit fit
-          (few_workers c.args.self.now.state _ plan c.in_ok-spec.ensures.counts).0,
-      side_opened heap.log build c.empty_side.new.side (ap (λ (b : BuildState). b.opened) is) (ap (λ (b : BuildState). b.pages) is) (ap (λ (b : BuildState). b.scans) is)
-          (ap (λ (b : BuildState). b.fed) is) c.empty_side.ensures.left c.empty_side.ensures.fed,
-      pages_started heap.schema heap.log inside.builds build (all_sent c.restart_all.new.pages.items) (ap (λ (b : BuildState). b.number) is)
-          (ap (λ (b : BuildState). b.scans) is) before,
-      builds_more inside.builds (all_sent c.restart_all.new.pages.items) before,
-      put_ends_started g.T.Table.pages g.T.Table.sides inside.pages.items c.restart_all.new.pages.items inside.side.end c.empty_side.new.side.end c.self.invariant.5
-          c.restart_all.ensures.rings c.empty_side.ensures.ring,
-    )
+invariant_of-self g c = ?
 
 pub invariant_of-building : goal.invariant_of-building
-invariant_of-building g c =
-    let inside = c.self.inside in (
-      take_ends_started g.T.Table.pages g.T.Table.sides (inside.builds + 1) c.restart_all.new.pages.items c.empty_side.new.side.end c.restart_all.new.workers.items
-          (take_end c.empty_side.new.end)
-          (put_ends_started g.T.Table.pages g.T.Table.sides inside.pages.items c.restart_all.new.pages.items inside.side.end c.empty_side.new.side.end c.self.invariant.5
-          c.restart_all.ensures.rings c.empty_side.ensures.ring)
-          c.restart_all.ensures.workers c.empty_side.ensures.same_ring,
-      λ given none. absurd (some_none _ none),
-    )
-
--- the spools that the plan's workers have
-given_spools :
-    (building : BuildingValue) (spools : List SpoolValue) (plan : Plan) (spec : KeySpecValue) → spools ≡ building.spools
-    → length (spools_state building.given building.spools).left ≡ plan.workers * length plan.specs.items → plan.specs.items ≡ spec ∷ [] → 1 ≤ plan.workers
-    → list_all (λ is_empty. is_empty) (spools_state building.given building.spools).left ≡ true
-    → (length spools ≡ plan.workers * length (spec ∷ [])) × ((k : ℕ) (spool : SpoolValue) → slice_get spools k ≡ Some spool → (spool.runs ≡ []) × (spool.open_run ≡ []))
-given_spools building spools plan spec same many one some empty =
-    let workers : length (spools_state building.given building.spools).left ≡ plan.workers * 1 =
-    many ∙ ap (λ (specs : List KeySpecValue). plan.workers * length specs) one in
-    rw same (by_given building.given workers empty) where
-      by_given :
-          (given : Bool) → length (spools_state given building.spools).left ≡ plan.workers * 1 → list_all (λ is_empty. is_empty) (spools_state given building.spools).left ≡ true
-          → (length building.spools ≡ plan.workers * length (spec ∷ []))
-          × ((k : ℕ) (spool : SpoolValue) → slice_get building.spools k ≡ Some spool → (spool.runs ≡ []) × (spool.open_run ≡ []))
-      by_given true n all = absurd (omega (arith, n, some))
-      by_given false n all =
-          let long = length-map building.spools (λ (s : SpoolValue). holds_nothing s.runs s.open_run) in
-          (omega (arith, n, long), each_empty building.spools all)
+invariant_of-building g c = ?
 
 pub returns-clause-works : goal.returns-clause-works
-returns-clause-works g c =
-    let inside = c.self.inside in
-    let heap = inside.heap.state in
-    let plan = c.args.plan.now in
-    let spec : KeySpecValue = c.in_ok-spec.spec.now in
-    let columns : spec.kinds ≡ heap.schema = c.in_ok-spec.ensures.columns ∙ sym (ap (λ (l : LiveValue). l.state.heap.schema) c.self.view_is) in
-    let fit : dealing_refusal (pages_written heap.log) plan.dealing ≡ None =
-    ap (λ (l : LiveValue). dealing_refusal (pages_written l.state.heap.log) plan.dealing) c.self.view_is ∙ c.in_ok-spec.ensures.ranges in
-    let build : c.in_ok-build.build ≡ opened (inside.builds + 1) spec plan.workers c.records.result c.in_ok-cuts.cuts =
-    c.in_ok-build.ensures.ok ∙ ap (λ s. opened (inside.builds + 1) s plan.workers c.records.result c.in_ok-cuts.cuts) c.in_ok-clone.ensures.same in
-    let specs : c.in_ok-specs.specs.items ≡ spec ∷ [] = c.in_ok-specs.ensures.same ∙ c.deref.ensures.value ∙ c.in_ok-spec.ensures.spec in
-    let work : c.in_ok-work.work ≡ fresh (inside.builds + 1) heap.schema (spec ∷ []) plan.workers =
-    c.in_ok-work.ensures.ok ∙ ap (λ ss. fresh (inside.builds + 1) c.schema-schema.result.now ss plan.workers) specs
-    ∙ ap (λ kinds. fresh (inside.builds + 1) kinds (spec ∷ []) plan.workers) c.schema-schema.ensures in
-    let now : BuildingValue = c.args.building.now in
-    let counts = few_workers c.args.self.now.state (length (spools_state now.given now.spools).left) plan c.in_ok-spec.ensures.counts in
-    let spools : List SpoolValue = map (spool_value g.S.Spool.runs g.S.Spool.open_run g.S.Spool.stake) c.building.inside.spools.items in
-    let lent = given_spools now spools plan spec (ap (λ (b : BuildingValue). b.spools) c.building.view_is) counts.1 c.in_ok-spec.ensures.spec counts.2
-    c.in_ok-spec.ensures.empty in
-    started_works _ _ c.in_ok-build.build c.in_ok-work.work inside.builds spec plan.workers c.records.result c.in_ok-cuts.cuts refl refl refl build work
-    (started_follows heap.schema heap.log c.in_ok-build.build (inside.builds + 1) spec plan.workers c.records.result c.pages-pages.result c.in_ok-cuts.cuts plan.dealing build
-    c.records.ensures c.in_ok-cuts.ensures.ok c.pages-pages.ensures.pages columns c.pages-pages.ensures.limit fit
-    (few_workers c.args.self.now.state _ plan c.in_ok-spec.ensures.counts).0)
-    columns (subst (AreOfBuilds inside.builds) (sym c.restart_all.ensures.sent) c.self.invariant.4) c.restart_all.ensures.workers c.empty_side.ensures.same_ring c.empty_side.ensures.drained
-    lent.0 lent.1
+returns-clause-works g c = ?
 
 pub returns-clause-started : goal.returns-clause-started
-returns-clause-started g c =
-    let live : LiveState = c.args.self.now.state in
-    let plan = c.args.plan.now in
-    let inside = c.self.inside in
-    let spec : KeySpecValue = c.in_ok-spec.spec.now in
-    let one : plan.specs.items ≡ spec ∷ [] = c.in_ok-spec.ensures.spec in
-    let pages : c.pages-pages.result ≡ pages_written live.heap.log = c.pages-pages.ensures.pages ∙ ap (λ (l : LiveValue). pages_written l.state.heap.log) c.self.view_is in
-    let log : c.records.result ≡ length live.heap.log = c.records.ensures ∙ ap (λ (l : LiveValue). length l.state.heap.log) c.self.view_is in
-    let cuts_of : ℕ → CutsValue = λ n. record { pages = n; ends = dealt_ends n plan.dealing } in
-    let build : c.in_ok-build.build ≡ started live plan =
-    c.in_ok-build.ensures.ok
-    ∙ ap (λ s. opened (inside.builds + 1) s plan.workers c.records.result c.in_ok-cuts.cuts) c.in_ok-clone.ensures.same
-    ∙ ap (λ n. opened (n + 1) spec plan.workers c.records.result c.in_ok-cuts.cuts) (ap (λ (l : LiveValue). l.state.builds) c.self.view_is)
-    ∙ ap (λ n. opened (live.builds + 1) spec plan.workers n c.in_ok-cuts.cuts) log
-    ∙ ap (opened (live.builds + 1) spec plan.workers (length live.heap.log)) (c.in_ok-cuts.ensures.ok ∙ ap cuts_of pages)
-    ∙ ap (λ (specs : List KeySpecValue). record (opened (live.builds + 1) spec plan.workers (length live.heap.log) (cuts_of (pages_written live.heap.log))) { specs = specs }) (sym one)
-    ∙ ap (λ (fed : List ℕ). record (started live plan) { fed = fed }) (sym (ap (map (λ s. 0)) one)) in
-    let new_pages : List (PutEnd Copied) = c.restart_all.new.pages.items in
-    let ends : ArePutEnds g.T.Table.pages g.T.Table.sides new_pages c.empty_side.new.side.end =
-    put_ends_started g.T.Table.pages g.T.Table.sides inside.pages.items new_pages inside.side.end c.empty_side.new.side.end c.self.invariant.5
-    c.restart_all.ensures.rings c.empty_side.ensures.ring in
-    let few : plan.workers ≤ length new_pages = let most = few_workers live _ plan c.in_ok-spec.ensures.counts in omega (arith, most.0, ends.sixteen) in
-    let work : work_state c.restart_all.new.workers.items (Some c.in_ok-work.work) ≡ fresh_work plan =
-    ap (λ (ws : List WorkerValue). work_state ws (Some c.in_ok-work.work)) c.restart_all.ensures.workers
-    ∙ ap (λ (w : WorkValue). work_state (map (begun_on (inside.builds + 1)) new_pages) (Some w))
-    c.in_ok-work.ensures.ok
-    ∙ fresh_is plan c.schema-schema.result.now c.in_ok-specs.specs.items spec (inside.builds + 1) (inside.builds + 1) new_pages few one in
-    let spools : List SpoolValue = map (spool_value g.S.Spool.runs g.S.Spool.open_run g.S.Spool.stake) c.building.inside.spools.items in
-    let now : BuildingValue = c.args.building.now in
-    let lent : spools_state true spools ≡ all_given (spools_state now.given now.spools) =
-    ap (λ (ss : List SpoolValue). spools_state true ss) (ap (λ (b : BuildingValue). b.spools) c.building.view_is) in
-    let Whole : LiveState → BuildState → WorkState → SpoolsState → CoreState =
-    λ l b w s. record { live = record l { builds = l.builds + 1; build = Some b }; work = w; spools = s } in
-    let old_work : WorkState = work_state c.restart_all.new.workers.items (Some c.in_ok-work.work) in (
-      c.in_ok-spec.ensures.accepted,
-      (
-        pages,
-        ap (λ (l : LiveValue). Whole l.state c.in_ok-build.build old_work (spools_state true spools)) c.self.view_is
-            ∙ ap (λ b. Whole live b old_work (spools_state true spools)) build
-            ∙ ap (λ w. Whole live (started live plan) w (spools_state true spools)) work
-            ∙ ap (Whole live (started live plan) (fresh_work plan)) lent,
-      ),
-    )
+returns-clause-started g c = ?
 
 pub returns-clause-kept : goal.returns-clause-kept
-returns-clause-kept g c = λ works. returns-clause-works g c
+returns-clause-kept g c = ?

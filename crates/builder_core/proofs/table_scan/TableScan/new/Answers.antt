@@ -1,14 +1,19 @@
-use Rattle.std.proofs.Common.{rules, ◌≡◌, ◌≢◌, ℕ, ◌+◌, ◌^◌, ◌||◌, ◌++◌, ◌∷◌, ◌<◌, ◌≤◌, [], length, map, Some, is_some, nat_le, slice_get, IfOk, IfErr, ◌-◌, ◌*◌, ◌/◌, ◌%◌, Bool, true, false, nat_eq, nat_lt, List, slice_index_or, slice_set, bit_and, bit_or, Fits, w8, w32, w64, Bor, MutBor}
-use Rattle.scan_range.specs.Ranges.{at_start}
-use Rattle.builder_core.specs.SideFiles.{sees}
-use Rattle.builder_core.specs.CoreState.{BuildState}
-use Rattle.builder_core.specs.Builds.{AreScansOf, build_over}
-use Rattle.builder_core.specs.Ranges.{next_page, open_range}
-use Rattle.builder_core.specs.Scanning.{scanned_at}
-use Rattle.builder_core.specs.Steps.{after_feed}
-use Rattle.builder_core.specs.Workers.{fed_to}
+use Rattle.std.proofs.Common.{◌∙◌, List, length, map, ap, sym, subst, arith}
+use Rattle.std.proofs.lemmas.List.{length-map}
+use Rattle.keybytes.specs.Keys.{KeySpecValue}
+use Rattle.scan_range.specs.Ranges.{RangesValue, at_start}
+use Rattle.builder_core.specs.Builds.{AreScansOf}
+use Rattle.builder_core.specs.declared.scan.Scan.{Scan}
+use Rattle.builder_core.proofs.RangeScans.{none_copied}
 use Rattle.builder_core.proofs.table_scan.TableScan.new.Goals as goal
 
--- src/table_scan.rt:65:9
 pub invariant_of-result : goal.invariant_of-result
-invariant_of-result c = ?
+invariant_of-result c =
+    let scans : List Scan = c.in_ok-with_capacity.field-0.items in
+    let start = c.in_ok-new.ensures.ok in
+    let fed = ap length c.in_ok-none_fed.ensures.ok ∙ length-map c.deref.result.now (λ (spec : KeySpecValue). 0) ∙ ap length c.deref.ensures.value in (
+      subst (λ (r : RangesValue). AreScansOf r c.args.workers scans) (sym start)
+          (subst (λ (xs : List Scan). AreScansOf (at_start c.args.cuts) c.args.workers xs) (sym c.in_ok-with_capacity.ensures.items) (none_copied c.args.cuts c.args.workers c.requires)),
+      omega (arith, ap (λ (r : RangesValue). r.pages) start, c.pages-pages.ensures, c.in_ok-with_capacity.ensures.capacity),
+      fed,
+    )
