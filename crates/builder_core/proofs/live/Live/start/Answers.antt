@@ -82,6 +82,10 @@ invariant_of-building g c =
       λ given none. absurd (some_none _ none),
     )
 
+-- there is one, for one worker and one index at least
+some_spools : (workers indexes : ℕ) → 1 ≤ workers → 1 ≤ indexes → 1 ≤ workers * indexes
+some_spools workers indexes some one = grind arith
+
 -- the spools that the plan's workers have
 given_spools :
     (building : BuildingValue) (spools : List SpoolValue) (plan : Plan) → spools ≡ building.spools
@@ -101,10 +105,77 @@ given_spools building spools plan same many some empty = rw same (by_given build
       (sym long ∙ n, each_empty building.spools all)
 
 pub returns-clause-works : goal.returns-clause-works
-returns-clause-works g c = ?
+returns-clause-works g c =
+    let inside = c.self.inside in
+    let heap = inside.heap.state in
+    let plan = c.args.plan.now in
+    let specs : List KeySpecValue = plan.specs.items in
+    let columns : All (λ (spec : KeySpecValue). spec.kinds ≡ heap.schema) specs =
+    own_columns specs specs c.args.self.now.state.heap.schema heap.schema refl (ap (λ (l : LiveValue). l.state.heap.schema) c.self.view_is)
+    c.in_ok-check_plan.ensures.columns in
+    let fit : dealing_refusal (pages_written heap.log) plan.dealing ≡ None =
+    ap (λ (l : LiveValue). dealing_refusal (pages_written l.state.heap.log) plan.dealing) c.self.view_is ∙ c.in_ok-check_plan.ensures.ranges in
+    let copies : c.in_ok-specs-2.specs.items ≡ specs = c.in_ok-specs-2.ensures.same ∙ c.deref-2.ensures.value in
+    let build : c.in_ok-build.build ≡ opened (inside.builds + 1) specs plan.workers c.records-records.result c.in_ok-cuts.cuts =
+    c.in_ok-build.ensures.ok ∙ ap (λ ss. opened (inside.builds + 1) ss plan.workers c.records-records.result c.in_ok-cuts.cuts) copies in
+    let own : c.in_ok-specs.specs.items ≡ specs = c.in_ok-specs.ensures.same ∙ c.deref.ensures.value in
+    let work : c.in_ok-work.work ≡ fresh (inside.builds + 1) heap.schema specs plan.workers =
+    c.in_ok-work.ensures.ok ∙ ap (λ ss. fresh (inside.builds + 1) c.schema-schema.result.now ss plan.workers) own
+    ∙ ap (λ kinds. fresh (inside.builds + 1) kinds specs plan.workers) c.schema-schema.ensures in
+    let now : BuildingValue = c.args.building.now in
+    let counts = has_counts c.args.self.now.state (length (spools_state now.given now.spools).left) plan c.in_ok-check_plan.ensures.counts in
+    let spools : List SpoolValue = map (spool_value g.S.Spool.runs g.S.Spool.open_run g.S.Spool.stake) c.building.inside.spools.items in
+    let lent = given_spools now spools plan (ap (λ (b : BuildingValue). b.spools) c.building.view_is) counts.lent
+    (some_spools plan.workers (length specs) counts.some counts.some_index) c.in_ok-check_plan.ensures.empty in
+    started_works _ _ c.in_ok-build.build c.in_ok-work.work inside.builds specs plan.workers c.records-records.result c.in_ok-cuts.cuts refl refl refl build work
+    (started_follows heap.schema heap.log c.in_ok-build.build (inside.builds + 1) specs plan.workers c.records-records.result c.pages-pages.result c.in_ok-cuts.cuts
+    plan.dealing build c.records-records.ensures c.in_ok-cuts.ensures.ok c.pages-pages.ensures.pages counts.some_index counts.few_indexes columns
+    c.pages-pages.ensures.limit fit counts.few)
+    columns (subst (AreOfBuilds inside.builds) (sym c.restart_all.ensures.sent) c.self.invariant.4) c.restart_all.ensures.workers c.empty_all.ensures.drained
+    lent.0 lent.1
 
 pub returns-clause-started : goal.returns-clause-started
-returns-clause-started g c = ?
+returns-clause-started g c =
+    let live : LiveState = c.args.self.now.state in
+    let plan = c.args.plan.now in
+    let inside = c.self.inside in
+    let specs : List KeySpecValue = plan.specs.items in
+    let pages : c.pages-pages.result ≡ pages_written live.heap.log = c.pages-pages.ensures.pages ∙ ap (λ (l : LiveValue). pages_written l.state.heap.log) c.self.view_is in
+    let log : c.records-records.result ≡ length live.heap.log = c.records-records.ensures ∙ ap (λ (l : LiveValue). length l.state.heap.log) c.self.view_is in
+    let cuts_of : ℕ → CutsValue = λ n. record { pages = n; ends = dealt_ends n plan.dealing } in
+    let build : c.in_ok-build.build ≡ started live plan =
+    c.in_ok-build.ensures.ok
+    ∙ ap (λ ss. opened (inside.builds + 1) ss plan.workers c.records-records.result c.in_ok-cuts.cuts) (c.in_ok-specs-2.ensures.same ∙ c.deref-2.ensures.value)
+    ∙ ap (λ n. opened (n + 1) specs plan.workers c.records-records.result c.in_ok-cuts.cuts) (ap (λ (l : LiveValue). l.state.builds) c.self.view_is)
+    ∙ ap (λ n. opened (live.builds + 1) specs plan.workers n c.in_ok-cuts.cuts) log
+    ∙ ap (opened (live.builds + 1) specs plan.workers (length live.heap.log)) (c.in_ok-cuts.ensures.ok ∙ ap cuts_of pages) in
+    let new_pages : List (PutEnd Copied) = c.restart_all.new.pages.items in
+    let ends : ArePutEnds g.T.Table.pages g.T.Table.sides new_pages (put_ends c.empty_all.new.sides.items) =
+    put_ends_started g.T.Table.pages g.T.Table.sides inside.pages.items new_pages (put_ends inside.sides.items) (put_ends c.empty_all.new.sides.items) c.self.invariant.5
+    c.restart_all.ensures.rings c.empty_all.ensures.rings in
+    let few : plan.workers ≤ length new_pages = let counts = has_counts live _ plan c.in_ok-check_plan.ensures.counts in omega (arith, counts.few, ends.sixteen) in
+    let own : c.in_ok-specs.specs.items ≡ specs = c.in_ok-specs.ensures.same ∙ c.deref.ensures.value in
+    let work : work_state c.restart_all.new.workers.items (Some c.in_ok-work.work) ≡ fresh_work plan =
+    ap (λ (ws : List WorkerValue). work_state ws (Some c.in_ok-work.work)) c.restart_all.ensures.workers
+    ∙ ap (λ (w : WorkValue). work_state (map (begun_on (inside.builds + 1)) new_pages) (Some w))
+    c.in_ok-work.ensures.ok
+    ∙ fresh_is plan c.schema-schema.result.now c.in_ok-specs.specs.items (inside.builds + 1) (inside.builds + 1) new_pages few own in
+    let spools : List SpoolValue = map (spool_value g.S.Spool.runs g.S.Spool.open_run g.S.Spool.stake) c.building.inside.spools.items in
+    let now : BuildingValue = c.args.building.now in
+    let lent : spools_state true spools ≡ all_given (spools_state now.given now.spools) =
+    ap (λ (ss : List SpoolValue). spools_state true ss) (ap (λ (b : BuildingValue). b.spools) c.building.view_is) in
+    let Whole : LiveState → BuildState → WorkState → SpoolsState → CoreState =
+    λ l b w s. record { live = record l { builds = l.builds + 1; build = Some b }; work = w; spools = s } in
+    let old_work : WorkState = work_state c.restart_all.new.workers.items (Some c.in_ok-work.work) in (
+      c.in_ok-check_plan.ensures.accepted,
+      (
+        pages,
+        ap (λ (l : LiveValue). Whole l.state c.in_ok-build.build old_work (spools_state true spools)) c.self.view_is
+            ∙ ap (λ b. Whole live b old_work (spools_state true spools)) build
+            ∙ ap (λ w. Whole live (started live plan) w (spools_state true spools)) work
+            ∙ ap (Whole live (started live plan) (fresh_work plan)) lent,
+      ),
+    )
 
 pub returns-clause-kept : goal.returns-clause-kept
 returns-clause-kept g c = λ works. returns-clause-works g c
