@@ -104,12 +104,20 @@ module _ (index : ℕ) (s mid : CoreState) (it : IndexIsFurther index s mid) whe
         further_still (it.fed + count) it.applied new (omega arith) (omega arith) (omega (arith, it.further.applied_were_fed))
         (omega (arith, done.0, a, c, it.further.fed_were_there)) done.1
 
-    applied_by : (n : ℕ) → new ≡ record mid { work = record mid.work { indexes =
-        set mid.work.indexes index (record (index_at mid.work.indexes index) { applied = (index_at mid.work.indexes index).applied + n }) } }
+    applied_by : (n : ℕ) → new ≡ record mid {
+      work = record mid.work {
+        indexes =
+            set mid.work.indexes index (record (index_at mid.work.indexes index) { applied = (index_at mid.work.indexes index).applied + n });
+      };
+    }
         → new ≡ further_by s it.build index it.old it.fed (it.applied + n)
     applied_by n is =
-        is ∙ ap (λ (m : CoreState). record m { work = record m.work { indexes =
-        set m.work.indexes index (record (index_at m.work.indexes index) { applied = (index_at m.work.indexes index).applied + n }) } }) it.new_is
+        is ∙ ap (λ (m : CoreState). record m {
+          work = record m.work {
+            indexes =
+                set m.work.indexes index (record (index_at m.work.indexes index) { applied = (index_at m.work.indexes index).applied + n });
+          };
+        }) it.new_is
         ∙ ap (λ (i : IndexState). record from { work = record from.work { indexes = set from.work.indexes index (record i { applied = i.applied + n }) } }) index_now
         ∙ ap (λ (is : List IndexState). record from { work = record from.work { indexes = is } })
         (set-set s.work.indexes index its_index (record it.old { applied = it.applied + n }))
@@ -117,8 +125,12 @@ module _ (index : ℕ) (s mid : CoreState) (it : IndexIsFurther index s mid) whe
     applied_is : Applies index most mid count new → (count ≡ min most (it.fed - it.applied)) × (new ≡ further_by s it.build index it.old it.fed (it.applied + count))
     applied_is applies =
         let Done : CoreState → BuildState → Type 0 =
-        λ m b. (count ≡ min most (in_ring b m.work index)) × (new ≡ record m { work = record m.work { indexes =
-        set m.work.indexes index (record (index_at m.work.indexes index) { applied = (index_at m.work.indexes index).applied + count }) } }) in
+        λ m b. (count ≡ min most (in_ring b m.work index)) × (new ≡ record m {
+          work = record m.work {
+            indexes =
+                set m.work.indexes index (record (index_at m.work.indexes index) { applied = (index_at m.work.indexes index).applied + count });
+          };
+        }) in
         let runs : mid.live.build ≡ Some its_build = ap (λ (m : CoreState). m.live.build) it.new_is in
         let done : Done mid its_build = subst (λ (o : Option BuildState). OnBuild o (Done mid)) runs applies in
         let waiting : in_ring its_build mid.work index ≡ it.fed - it.applied = ap (λ (m : CoreState). in_ring its_build m.work index) it.new_is ∙ waiting_now in
@@ -134,8 +146,12 @@ module _ (index : ℕ) (s mid : CoreState) (it : IndexIsFurther index s mid) whe
     pub some_further : AppliesSome index most mid new → IndexIsFurther index s new
     some_further some =
         let Done : CoreState → BuildState → Type 0 =
-        λ m b. (n : ℕ) × (n < min most (in_ring b m.work index)) × (new ≡ record m { work = record m.work { indexes =
-        set m.work.indexes index (record (index_at m.work.indexes index) { applied = (index_at m.work.indexes index).applied + n }) } }) in
+        λ m b. (n : ℕ) × (n < min most (in_ring b m.work index)) × (new ≡ record m {
+          work = record m.work {
+            indexes =
+                set m.work.indexes index (record (index_at m.work.indexes index) { applied = (index_at m.work.indexes index).applied + n });
+          };
+        }) in
         let runs : mid.live.build ≡ Some its_build = ap (λ (m : CoreState). m.live.build) it.new_is in
         let done : Done mid its_build = subst (λ (o : Option BuildState). OnBuild o (Done mid)) runs some in
         let waiting : in_ring its_build mid.work index ≡ it.fed - it.applied = ap (λ (m : CoreState). in_ring its_build m.work index) it.new_is ∙ waiting_now in

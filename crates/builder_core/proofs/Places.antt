@@ -133,6 +133,7 @@ read_same f xs ys k same =
     sym (unwrap_or-slice_get (map f xs) k [])
     ∙ ap (λ (o : Option _). unwrap_or o []) (slice_get-map f xs k ∙ ap (option_map f) same ∙ sym (slice_get-map f ys k))
     ∙ unwrap_or-slice_get (map f ys) k []
+
 -- to write what stands there changes nothing
 pub set_same : {X : Type 0} (xs : List X) (i : ℕ) (x : X) → slice_get xs i ≡ Some x → set xs i x ≡ xs
 set_same [] i x at = refl

@@ -27,11 +27,7 @@ use std::alloc::Global;
 use visibility::{Change, entries};
 
 /// What a change means for one of the build's indexes, as far as the build has scanned by now.
-fn change_of(
-    build: &TableScan,
-    index: usize,
-    ready: &Ready,
-) -> Result<Change, Fault>
+fn change_of(build: &TableScan, index: usize, ready: &Ready) -> Result<Change, Fault>
     requires there { index < length build.now.specs }
     requires fits { FitsBuild ready.now build.now }
     ensures ok { IfOk result (λ change. IsChangeOf build.now index ready.now change) }
@@ -241,8 +237,9 @@ pub fn write(
     ensures unchanged { OnErr result (heap.new ≡ heap.old) }
     ensures memory { IfErr result (λ fault. fault ≡ Fault.Memory) }
 {
-    let Performed::Written { number, rid } =
-        perform_with(indexes, heap, alloc, sides, build, ready)?
+    let Performed::Written { number, rid } = perform_with(
+        indexes, heap, alloc, sides, build, ready,
+    )?
     else {
         unreachable!()
     };

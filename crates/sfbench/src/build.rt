@@ -6,7 +6,9 @@ ghost use Rattle.builder_core.specs.Steps.{Does};
 use crate::column::Column;
 use crate::failure::Failure;
 use btree::Tree;
-use builder_core::{Core, Dealing, Event, INDEXES_MAX, Pair, Parts, Plan, Reply, Table, WORKERS_MAX};
+use builder_core::{
+    Core, Dealing, Event, INDEXES_MAX, Pair, Parts, Plan, Reply, Table, WORKERS_MAX,
+};
 use heap_table::{Heap, PAGES_MAX, SLOTS_MAX};
 use keybytes::{Fault, KeySpec, Kind, Rid, Row, Schema};
 use run_spool::PlainSpool;

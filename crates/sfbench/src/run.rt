@@ -54,10 +54,7 @@ fn measure<T: Table>(
     let mut changes = Updates::new(pages);
     let updates_alone = update_alone(bench, core, stretches.as_slice(), &mut changes)?;
     let start = start(bench, core, stretches.as_slice())?;
-    changes.begin(
-        bench.options.writes,
-        copying::turns(stretches.as_slice()),
-    );
+    changes.begin(bench.options.writes, copying::turns(stretches.as_slice()));
     let copying = copy_all(bench, core, &mut stretches, &mut changes)?;
     let scan = Figure::new(rt, &copying.scan, rows);
     let digest = Figure::new(rt, &copying.digest, rows);
