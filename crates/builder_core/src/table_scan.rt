@@ -171,7 +171,8 @@ impl TableScan {
     pub fn into_specs(self) -> Vec<KeySpec>
         ensures { self.specs ≡ result.items }
     {
-        self.specs
+        let TableScan { specs, .. } = self;
+        specs
     }
 }
 
