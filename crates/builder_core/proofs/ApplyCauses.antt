@@ -2,12 +2,13 @@
 use Rattle.std.proofs.Common.{◌≡◌, ℕ, ◌<◌, ◌≤◌, Bool, true, false, List, length, map, min, Option, Some, None, Result, Ok, Err, IfOk, OnErr, refl, sym, ap, ◌∙◌, subst, arith}
 use Rattle.std.specs.Prelude.{is_some, not, nat_le, IfSome}
 use Rattle.std.proofs.Math.Nat.{min-le_right}
+use Rattle.std.proofs.lemmas.Bool.{false_from_ne_true, leb-true}
 use Rattle.keybytes.specs.Faults.{first_cause}
 use Rattle.keybytes.specs.Keys.{KeySpecValue}
 use Rattle.keybytes.specs.declared.fault.Fault.{Fault}
 use Rattle.keybytes.specs.declared.fault.Fault.TheVariants.{NoBuild, BadCount, NotLoaded}
 use Rattle.building.specs.WorkerValue.{WorkerValue}
-use Rattle.builder_core.specs.Builds.{LiveValue, BuildingValue, WorkValue, IndexValue, WorksOn, MayApply, SideIsLooked, SeesSideAt, BuildFollows, IsWorkOf}
+use Rattle.builder_core.specs.Builds.{LiveValue, BuildingValue, WorkValue, IndexValue, IsRunning, WorksOn, MayApply, SideIsLooked, SeesSideAt, BuildFollows, IsWorkOf}
 use Rattle.builder_core.specs.Builds.{state_unless, work_state, core_state, cause_of, index_state}
 use Rattle.builder_core.specs.CoreState.{BuildState, IndexState, WorkState, CoreState}
 use Rattle.builder_core.specs.SideFiles.{AreFedEntries}
@@ -23,9 +24,9 @@ use Rattle.builder_core.specs.Working.{CanApply, HasApplied}
 use Rattle.builder_core.specs.declared.event.Event.TheVariants.{Apply}
 use Rattle.builder_core.proofs.Feeding.{works_side_looked, state_side_looked}
 use Rattle.builder_core.proofs.IndexApplied.{AppliesNext, ring_is, can_apply, works_applied, state_applied}
-use Rattle.builder_core.proofs.Refusals.{running}
+use Rattle.builder_core.proofs.Refusals.{running, state_is}
 
-first_none : (c d : Option Fault) → first_cause c d ≡ None → (c ≡ None) × (d ≡ None)
+pub first_none : (c d : Option Fault) → first_cause c d ≡ None → (c ≡ None) × (d ≡ None)
 first_none None d free = (refl, free)
 first_none (Some fault) d free = absurd (cc)
 
@@ -160,3 +161,32 @@ module _
       → OnErr answer ((n : ℕ) × (n < count) × HasApplied index building n new) → WorksOn live new
   works_after_apply new (Ok n) done some = works_some new count (omega arith) done.1
   works_after_apply new (Err fault) done some = works_some new some.0 (omega (arith, some.1)) some.2
+
+-- an index of the build isn't refused for its number
+pub inside_of : (b : BuildState) (index : ℕ) → index < length b.specs → nat_le (length b.specs) index ≡ false
+inside_of b index less = false_from_ne_true (nat_le (length b.specs) index) (λ more. let all = leb-true (length b.specs) index more in omega (arith, all, less))
+
+-- an index of the running build, which isn't spoiled
+module _
+    (live : LiveValue) (building : BuildingValue) (b : BuildState) (w : WorkValue) (run : IsRunning live building b w) (fine : w.spoiled ≡ None) (index : ℕ)
+    (less : index < length b.specs) where
+  its_cause :
+      (loaded : Bool) → ((it : IndexValue) → slice_get w.indexes index ≡ Some it → loaded ≡ is_some it.built)
+      → build_cause live.state.build (λ a. apply_refusal a (work_state building.workers building.work) index) ≡ cause_if (not loaded) (NotLoaded index)
+  its_cause loaded is =
+      let many = run.on.many in
+      let it = there_is w.indexes index (omega (arith, less, many)) in
+      let seen : index_at (map index_state w.indexes) index ≡ index_state it.0 =
+      get_or_from_slice_get (map index_state w.indexes) index (index_state it.0) _ (map_at index_state w.indexes index it.0 it.1) in
+      let told : (index_at (map index_state w.indexes) index).loaded ≡ loaded = ap (λ (i : IndexState). i.loaded) seen ∙ sym (is it.0 it.1) in
+      rw (run.build_is, state_is building w run.work_is fine, inside_of b index less, told) refl
+
+  pub not_loaded :
+      ((it : IndexValue) → slice_get w.indexes index ≡ Some it → false ≡ is_some it.built)
+      → build_cause live.state.build (λ a. apply_refusal a (work_state building.workers building.work) index) ≡ Some (NotLoaded index)
+  not_loaded none = its_cause false none
+
+  pub applicable :
+      ((it : IndexValue) → slice_get w.indexes index ≡ Some it → true ≡ is_some it.built)
+      → build_cause live.state.build (λ a. apply_refusal a (work_state building.workers building.work) index) ≡ None
+  applicable some = its_cause true some

@@ -408,6 +408,16 @@ all_left s b runs many =
     (λ k less. ap (λ (o : Option BuildState). left_of o s k) runs ∙ left_is_place b s k (slice_get b.specs k))
     ∙ sum_is b s.live.heap.log b.specs s.work.indexes many
 
+-- the build's indexes are as many as its specifications
+pub indexes_many :
+    (live : LiveValue) (building : BuildingValue) (b : BuildState) → live.state.build ≡ Some b → WorksOn live building
+    → length (work_state building.workers building.work).indexes ≡ length b.specs
+indexes_many live building b is works =
+    by_work building.work (subst (λ (o : Option BuildState). IsWorkOf live.state.heap.schema live.state.heap.log o building.work) is works.work) where
+      by_work : (o : Option WorkValue) → IsWorkOf live.state.heap.schema live.state.heap.log (Some b) o → length (work_state building.workers o).indexes ≡ length b.specs
+      by_work None on = absurd on
+      by_work (Some w) on = ap length (indexes_seen w.spoiled building.workers w) ∙ length-map w.indexes index_state ∙ on.many
+
 -- what is left of an index, by its side-file and its work
 pub left_known :
     (live : LiveValue) (building : BuildingValue) (index applied : ℕ) (sides : List SideFileValue) (side : SideFileValue) (w : WorkValue) → WorksOn live building

@@ -218,7 +218,6 @@ work_fed kinds log b index count None is = is
 work_fed kinds log b index count (Some w) is = record {
   number = is.number;
   specs = is.specs;
-  only = is.only;
   columns = is.columns;
   workers = is.workers;
   many = is.many;

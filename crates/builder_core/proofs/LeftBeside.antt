@@ -1,6 +1,7 @@
 -- What a call leaves beside a table, put together from what its parts left.
 use Rattle.std.proofs.Common.{◌≡◌, ℕ, ◌-◌, ◌*◌, ◌<◌, length, Bool, false, ◌&&◌, List, [], ◌∷◌, All, map, set, Option, Some, None, refl, sym, ap, ◌∙◌, subst}
-use Rattle.std.specs.List.{list_all}
+use Rattle.std.specs.Prelude.{is_some}
+use Rattle.std.specs.List.{list_all, slice_get}
 use Rattle.spool_ledger.specs.Accounts.{Stake}
 use Rattle.keybytes.specs.Keys.{KeySpecValue}
 use Rattle.keybytes.specs.declared.fault.Fault.{Fault}
@@ -10,7 +11,7 @@ use Rattle.run_spool.specs.Spools.{AreSorted, holds_nothing}
 use Rattle.run_maker.specs.Making.{MakerValue}
 use Rattle.building.specs.WorkerValue.{WorkerValue}
 use Rattle.catch_up.specs.Built.{BuiltValue}
-use Rattle.builder_core.specs.Builds.{BuildingValue, WorkValue, IsUnloaded, with_index}
+use Rattle.builder_core.specs.Builds.{BuildingValue, WorkValue, IndexValue, IsUnloaded, with_index}
 use Rattle.builder_core.specs.Columns.{column}
 use Rattle.builder_core.specs.Holding.{SpoolValue, Kit, runs_of, pairs_in, spool_value, spools_state, ended_column}
 use Rattle.builder_core.specs.Working.{AreEachOnce, CanLoad, CanTake, CanTakeAt, HasTaken, HasTakenAt, IsSpoiled}
@@ -124,3 +125,12 @@ module _ (old seen : BuildingValue) (work held : WorkValue) (same : seen ≡ old
           (subst (λ (w : WorkValue). HasTakenAt work.specs worker count closing Taken seen.workers w.makers seen.spools images workers makers spools) is taken);
       left = rw (same, is) refl;
     }
+
+-- pairs that aren't in order are in no tree
+no_tree : (built : Option BuiltValue) → false ≡ is_some built → built ≡ None
+no_tree None none = refl
+no_tree (Some built) none = absurd (cc)
+
+pub is_unloaded :
+    (work : WorkValue) (index : ℕ) → ((it : IndexValue) → slice_get work.indexes index ≡ Some it → false ≡ is_some it.built) → IsUnloaded index work
+is_unloaded work index none it at = no_tree it.built (none it at)

@@ -55,4 +55,5 @@ pub mod TakenOut
 pub mod Takes
 pub mod Told
 pub mod Waits
+pub mod Unloaded
 pub mod Works

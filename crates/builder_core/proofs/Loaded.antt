@@ -136,7 +136,7 @@ module _
     each_once none =
         IsDistinct-IsPermutation (eq_by_cmp pair_cmp) (eq_by_cmp_equiv pairs_total).symm scanned (pairs_in own)
         (IsPermutation-sym (pairs_in own) scanned (together none))
-        (scanned_distinct (scanning_of b spec) live.state.heap.log b.scans run.follows.scanned.once)
+        (scanned_distinct (scanning_of b spec) live.state.heap.log b.scans (run.follows.scanned spec).once)
 
   -- an index of the build can be loaded
   pub can_load : (index : ℕ) → index < length w.specs → CanLoad index building

@@ -17,7 +17,7 @@ use Rattle.builder_core.specs.Rings.{side_rings, taken_rings, ArePutEnds, AreTak
 use Rattle.std.specs.Prelude.{IfSome}
 use Rattle.builder_core.proofs.ApplyCauses.{index_below}
 use Rattle.builder_core.specs.SideFiles.{SidesFollow, HasLookedAtSide, SeesSide, put_ends, side_refusal}
-use Rattle.builder_core.proofs.Places.{at_index, at_set, both_at, here_set, kept, map_at, mapped}
+use Rattle.builder_core.proofs.Places.{as_long, at_index, at_set, both_at, here_set, kept, map_at, mapped}
 use Rattle.builder_core.proofs.SideKept.{stays_one}
 
 -- a side-file that was looked at has what it had
@@ -115,6 +115,33 @@ module _ {P : Type 0} where
       end_there = map_at take_end (set ends index new_end) index new_end (here_set ends index new_end below);
       sees = sees;
     }
+
+-- a side-file that changes keeps its ring
+pub rings_stay :
+    (sides : List SideFileValue) (entry_rings : List RingId) (index : ℕ) (old new : SideFileValue) → side_rings (put_ends sides) ≡ entry_rings
+    → old ≡ get_or sides index old → new.end.ring ≡ old.end.ring → side_rings (put_ends (set sides index new)) ≡ entry_rings
+rings_stay sides entry_rings index old new are at ring =
+    mapped (λ (s : SideFileValue). s.end) (λ (e : PutEnd Entry). e.ring) (set sides index new)
+    ∙ kept (λ (s : SideFileValue). s.end.ring) sides entry_rings index new old
+    (sym (mapped (λ (s : SideFileValue). s.end) (λ (e : PutEnd Entry). e.ring) sides) ∙ are) (ring ∙ ap (λ (s : SideFileValue). s.end.ring) at)
+
+module _ {P : Type 0} where
+  pub taken_stay :
+      (ends : List (Consumer Entry Global P)) (entry_rings : List RingId) (index : ℕ) (old new : Consumer Entry Global P)
+      → taken_rings (map take_end ends) ≡ entry_rings → old ≡ get_or ends index old → ring_take new ≡ ring_take old
+      → taken_rings (map take_end (set ends index new)) ≡ entry_rings
+  taken_stay ends entry_rings index old new are at ring =
+      mapped (λ (c : Consumer Entry Global P). take_end c) (λ (e : TakeEnd Entry). e.ring) (set ends index new)
+      ∙ kept (λ (c : Consumer Entry Global P). ring_take c) ends entry_rings index new old
+      (sym (mapped (λ (c : Consumer Entry Global P). take_end c) (λ (e : TakeEnd Entry). e.ring) ends) ∙ are) (ring ∙ ap (λ (c : Consumer Entry Global P). ring_take c) at)
+
+  -- as many side-files as other ends of their rings
+  pub as_many :
+      (sides : List SideFileValue) (ends : List (Consumer Entry Global P)) → side_rings (put_ends sides) ≡ taken_rings (map take_end ends) → length sides ≡ length ends
+  as_many sides ends same =
+      as_long (λ (s : SideFileValue). s.end.ring) (λ (c : Consumer Entry Global P). ring_take c) sides ends
+      (sym (mapped (λ (s : SideFileValue). s.end) (λ (e : PutEnd Entry). e.ring) sides) ∙ same
+      ∙ mapped (λ (c : Consumer Entry Global P). take_end c) (λ (e : TakeEnd Entry). e.ring) ends)
 
 -- an index of the running build has its side-file
 pub side_there :

@@ -5,12 +5,16 @@ use Rattle.keybytes.specs.Keys.{KeySpecValue}
 use Rattle.keybytes.specs.declared.pair.Pair.{Pair}
 use Rattle.heap_log.specs.declared.outcome.Outcome.{Outcome}
 use Rattle.heap_table.specs.HeapState.{HeapState, after_switch}
-use Rattle.heap_table.specs.TablePairs.{pairs_at_rest}
+use Rattle.heap_table.proofs.KeysAtRest.{keys_at_rest}
+use Rattle.heap_table.specs.Kept.{RowsFit}
+use Rattle.heap_table.specs.TablePairs.{index_pairs, pairs_at_rest}
+use Rattle.keybytes.proofs.ColumnOrder.{column_order}
+use Rattle.keybytes.specs.Pairs.{HaveKeysOf, AreInColumnOrder}
 use Rattle.catch_up.specs.Built.{BuiltValue}
 use Rattle.builder_core.specs.Builds.{LiveValue, BuildingValue, WorkValue, IndexValue, IsRunning, state_unless, work_state, core_state, index_state}
-use Rattle.builder_core.specs.CatchingUp.{MayCatchUp, built_pairs, ready_of}
+use Rattle.builder_core.specs.CatchingUp.{IsDoneIndex, MayCatchUp, built_pairs, ready_of}
 use Rattle.heap_log.specs.declared.record.LogRec.{LogRec}
-use Rattle.std.specs.List.{slice_get}
+use Rattle.std.specs.List.{AllZip, slice_get}
 use Rattle.std.proofs.lemmas.Option.{same_Some}
 use Rattle.builder_core.proofs.ApplyCauses.{fine_by}
 use Rattle.builder_core.proofs.Applying.{stays_built}
@@ -20,7 +24,18 @@ use Rattle.builder_core.specs.Holding.{spools_state}
 use Rattle.builder_core.specs.Steps.{OnBuild, Switches, CatchesUp, AreFurther, apply_refusal, index_now, after_switch_in, verdicts_on}
 use Rattle.builder_core.specs.Workers.{all_unapplied, unapplied}
 use Rattle.builder_core.proofs.FedBeside.{indexes_seen}
-use Rattle.builder_core.proofs.TableBuilds.{switched_pairs}
+use Rattle.builder_core.proofs.TableBuilds.{columns_at, switched_pairs}
+
+-- of those that can be ready the first can, and the others
+module _
+    (specs rest : List KeySpecValue) (indexes others : List IndexValue) (spec : KeySpecValue) (is : specs ≡ spec ∷ rest) (all : AllZip IsDoneIndex specs indexes) where
+  pub first_done : (index : IndexValue) → indexes ≡ index ∷ others → IsDoneIndex spec index × AllZip IsDoneIndex rest others
+  first_done index there =
+      subst (λ (is : List IndexValue). AllZip IsDoneIndex (spec ∷ rest) is) there (subst (λ (ss : List KeySpecValue). AllZip IsDoneIndex ss indexes) is all)
+
+  pub none_done : indexes ≡ [] → ⊥
+  none_done gone =
+      subst (λ (is : List IndexValue). AllZip IsDoneIndex (spec ∷ rest) is) gone (subst (λ (ss : List KeySpecValue). AllZip IsDoneIndex ss indexes) is all)
 
 -- none of an index is left where none is of all
 none_of_each :
@@ -78,6 +93,35 @@ module _
   -- so they are ready as a build at rest gives them
   pub all_ready : ready_of b.specs w.indexes ≡ map (index_now live.state.heap.log) b.specs
   all_ready = ready_are b.specs w.indexes run.on.many index_done
+
+  -- and each can be ready
+  done_each :
+      RowsFit live.state.heap.schema live.state.heap.log → (specs : List KeySpecValue) (indexes : List IndexValue) → length indexes ≡ length specs
+      → ((k : ℕ) (spec : KeySpecValue) → slice_get specs k ≡ Some spec → spec.kinds ≡ live.state.heap.schema)
+      → ((k : ℕ) (spec : KeySpecValue) (index : IndexValue) → slice_get specs k ≡ Some spec → slice_get indexes k ≡ Some index
+      → (built : BuiltValue) × (index.built ≡ Some built) × (built.pairs ≡ pairs_at_rest spec live.state.heap.log))
+      → AllZip IsDoneIndex specs indexes
+  done_each rows [] [] many columns each = tt
+  done_each rows [] (index ∷ indexes) many columns each = absurd (cc)
+  done_each rows (spec ∷ specs) [] many columns each = absurd (cc)
+  done_each rows (spec ∷ specs) (index ∷ indexes) many columns each =
+      let here = each 0 spec index refl refl in
+      let rest = done_each rows specs indexes (omega (arith, many)) (λ k s at. columns (suc k) s at) (λ k s i at there. each (suc k) s i at there) in
+      let first : IsDoneIndex spec index =
+      record {
+        built = here.0;
+        there = here.1;
+        index_is = λ key. record {
+          keys = subst (HaveKeysOf spec) (sym here.2) (keys_at_rest spec live.state.heap.schema live.state.heap.log (columns 0 spec refl) rows);
+          order = subst (AreInColumnOrder spec) (sym here.2) (column_order spec (index_pairs spec live.state.heap.log) key);
+        };
+      } in
+      (first, rest)
+
+  pub all_done : RowsFit live.state.heap.schema live.state.heap.log → AllZip IsDoneIndex b.specs w.indexes
+  all_done rows =
+      done_each rows b.specs w.indexes run.on.many
+      (λ k spec at. columns_at live.state.heap.schema live.state.heap.log b k spec run.follows at) index_done
 
   -- what the switch leaves
   pub switches :

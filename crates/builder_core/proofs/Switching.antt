@@ -211,7 +211,8 @@ count_ready first (suc count) = ap suc (count_ready (first + 1) count)
 pub ready_push : (first count : ℕ) → ready_from first (count + 1) ≡ ready_from first count ++ Ready (first + count) ∷ []
 ready_push first zero = ap (λ n. Ready n ∷ []) (let same : first ≡ first + 0 = omega arith in same)
 ready_push first (suc count) =
-    ap (λ os. Ready first ∷ os)
+    ap (ready_from first) (let same : suc count + 1 ≡ suc (count + 1) = omega arith in same)
+    ∙ ap (λ os. Ready first ∷ os)
     (ready_push (first + 1) count
     ∙ ap (λ n. ready_from (first + 1) count ++ Ready n ∷ []) (let same : (first + 1) + count ≡ first + suc count = omega arith in same))
 

@@ -1,7 +1,7 @@
 -- How the indexes of a build catch up at its switch, and what is then ready.
-use Rattle.std.specs.Prelude.{◌≡◌, ℕ, ◌<◌, List, [], ◌∷◌, set, length, Option, Some, None}
+use Rattle.std.specs.Prelude.{◌≡◌, ℕ, ◌<◌, List, [], ◌∷◌, set, length, true, Option, Some, None}
 use Rattle.std.specs.List.{slice_get}
-use Rattle.keybytes.specs.Keys.{KeySpecValue}
+use Rattle.keybytes.specs.Keys.{KeySpecValue, are_key_columns}
 use Rattle.keybytes.specs.declared.pair.Pair.{Pair}
 use Rattle.catch_up.specs.Built.{BuiltValue}
 use Rattle.builder_core.specs.Builds.{IndexValue}
@@ -47,11 +47,11 @@ pub record IndexIsFurther (index : ℕ) (s new : CoreState) : Type 0 where
   pub further : IsFurther (all_entries build s.live.heap.log spec) (fed_to build index) old fed (record old { applied = applied })
   pub new_is : new ≡ further_by s build index old fed applied
 
--- an index of a build with its pairs in order can be ready
+-- an index of a build has its pairs, which can be those of a ready index if the columns of its specification make a key
 pub record IsDoneIndex (spec : KeySpecValue) (index : IndexValue) : Type 0 where
   pub built : BuiltValue
   pub there : index.built ≡ Some built
-  pub index_is : IsIndex spec built.pairs
+  pub index_is : are_key_columns spec.kinds spec.columns ≡ true → IsIndex spec built.pairs
 
 -- the pairs of an index of a build
 abbrev pub built_pairs : Option BuiltValue → List Pair

@@ -1,3 +1,6 @@
+ghost use Rattle.std.specs.Prelude.{◌≡◌, IsSome, IfSome};
+
+use btree::Tree;
 use catch_up::Built;
 use std::marker::Model;
 
@@ -16,4 +19,17 @@ impl Model for IndexWork {
     ghost Value = { IndexValue };
 
     ghost view = { λ index. record { built = index.built; applied = index.applied } };
+}
+
+impl IndexWork {
+    /// Its pairs, which are in order.
+    pub(crate) fn into_tree(self) -> Tree
+        requires { IsSome self.built }
+        ensures { IfSome self.built (λ built. result.pairs ≡ built.pairs) }
+    {
+        let Some(built) = self.built else {
+            unreachable!()
+        };
+        built.into_tree()
+    }
 }

@@ -48,7 +48,7 @@ pub use ends::Ends;
 pub use event::Event;
 pub use keybytes::Pair;
 pub use live::Live;
-pub use parts::{Parts, WORKERS_MAX};
+pub use parts::{INDEXES_MAX, Parts, WORKERS_MAX};
 pub use plan::Plan;
 pub use ready_index::ReadyIndex;
 pub use reply::Reply;

@@ -167,15 +167,12 @@ fn make_ready(ready: &mut Vec<ReadyIndex>, specs: Vec<KeySpec>, indexes: Vec<Ind
 {
     let mut indexes = indexes.into_iter();
     for spec in specs {
-        let Some(IndexWork {
-            built: Some(built), ..
-        }) = indexes.next()
-        else {
+        let Some(index) = indexes.next() else {
             unreachable!()
         };
         // It tells that its columns make a key, whose bytes are then in the columns' order.
         let _columns = spec.columns();
-        ready.push_reserved(ReadyIndex::new(spec, built.into_tree()));
+        ready.push_reserved(ReadyIndex::new(spec, index.into_tree()));
     }
 }
 

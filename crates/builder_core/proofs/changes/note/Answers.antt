@@ -1,9 +1,24 @@
-use Rattle.std.proofs.Common.{◌≡◌, ap, ◌∙◌, sym, subst, Option}
+use Rattle.std.proofs.Common.{◌≡◌, ap, ◌∙◌, sym, subst, List, Option, map}
 use Rattle.std.specs.Prelude.{IfSome}
-use Rattle.builder_core.specs.Changing.{HaveAppended, HaveNoted}
+use Rattle.side_file.specs.SideFileValue.{SideFileValue}
+use Rattle.builder_core.specs.Changing.{HaveAppended, HaveNoted, without_room}
+use Rattle.builder_core.specs.SideFiles.{put_ends}
+use Rattle.builder_core.proofs.Places.{mapped}
 use Rattle.builder_core.specs.CoreState.{BuildState}
 use Rattle.builder_core.proofs.Noting.{all_noted, noted_over}
 use Rattle.builder_core.proofs.changes.note.Goals as goal
+
+-- room changes no end
+same_ends : (olds news : List SideFileValue) → map without_room news ≡ map without_room olds → put_ends news ≡ put_ends olds
+same_ends olds news same =
+    sym (mapped without_room (λ (s : SideFileValue). s.end) news) ∙ ap put_ends same ∙ mapped without_room (λ (s : SideFileValue). s.end) olds
+
+pub returns-in_err-reserve_each-clause-ends : goal.returns-in_err-reserve_each-clause-ends
+returns-in_err-reserve_each-clause-ends c = same_ends c.args.sides.now.items c.reserve_each.new.sides.items c.reserve_each.ensures.same
+
+pub returns-clause-ends : goal.returns-clause-ends
+returns-clause-ends c =
+    c.append_each.ensures.ends ∙ same_ends c.args.sides.now.items c.reserve_each.new.sides.items c.reserve_each.ensures.same
 
 pub returns-clause-noted : goal.returns-clause-noted
 returns-clause-noted c =

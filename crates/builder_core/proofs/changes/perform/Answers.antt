@@ -3,11 +3,11 @@ use Rattle.std.proofs.lemmas.List.{length-map}
 use Rattle.heap_table.specs.HeapState.{HeapState}
 use Rattle.heap_table.specs.Pages.{SetsRow}
 use Rattle.side_file.specs.SideFileValue.{SideFileValue}
-use Rattle.builder_core.specs.Builds.{IsWorkOf}
+use Rattle.builder_core.specs.Builds.{BuildFollows, IsWorkOf}
 use Rattle.builder_core.specs.Rings.{PagesFollow}
 use Rattle.builder_core.specs.SideFiles.{SidesFollow}
 use Rattle.builder_core.proofs.Places.{as_long}
-use Rattle.builder_core.proofs.Performed.{sides_follow_on, fits_build, few_specs, pages_on, works_on}
+use Rattle.builder_core.proofs.Performed.{follows_on, sides_follow_on, fits_build, few_specs, pages_on, works_on}
 use Rattle.builder_core.proofs.SideKept.{sides_stay}
 use Rattle.builder_core.proofs.changes.perform.Goals as goal
 
@@ -19,6 +19,15 @@ note-requires-clause-fits c =
 
 pub note-requires-clause-many : goal.note-requires-clause-many
 note-requires-clause-many c = few_specs c.args.heap.now.state c.args.build.now c.args.sides.now.items c.requires.build c.requires.eight
+
+pub returns-clause-follows : goal.returns-clause-follows
+returns-clause-follows c =
+    let heap = c.args.heap.now in
+    let ready = c.args.ready in
+    let done = c.perform.ensures.performed in
+    let rows = subst (λ (h : HeapState). SetsRow heap.state.log ready.rid ready.new h.log) done c.perform.ensures.rows in
+    subst (λ (h : HeapState). BuildFollows h.schema h.log c.args.build.now) (sym done)
+    (follows_on heap ready c.requires.ready (c.laws.ensures.ready ready c.requires.ready) rows c.args.build.now c.requires.build)
 
 pub returns-clause-works : goal.returns-clause-works
 returns-clause-works c = λ work works.

@@ -1,13 +1,12 @@
-use Rattle.std.proofs.Common.{◌≡◌, ◌+◌, ◌++◌, ◌^◌, ◌<◌, ◌≤◌, length, None, Some, IsSome, IfSome, IfOk, IfErr, OnOk, OnErr, MatchResult, vec_len, vec_capacity, ℕ, ◌-◌, ◌*◌}
+use Rattle.std.proofs.Common.{◌≡◌, ◌+◌, ◌++◌, ◌≤◌, length, vec_len, vec_capacity}
 use Rattle.std.specs.List.{AllZip}
-use Rattle.heap_table.specs.HeapState.{after_switch}
-use Rattle.heap_table.specs.Pages.{KeepsRows}
-use Rattle.builder_core.specs.Builds.{core_state, cause_of, WorksOn}
-use Rattle.builder_core.specs.CatchingUp.{MayCatchUp, IndexIsFurther, IsDoneIndex, left_at, ready_of}
-use Rattle.builder_core.specs.Steps.{Switches, OnBuild, CatchesUp, IsRefused, ready_from}
-use Rattle.builder_core.specs.Workers.{all_unapplied}
-use Rattle.builder_core.specs.declared.event.Event.{Event}
+use Rattle.builder_core.specs.CatchingUp.{IsDoneIndex, ready_of}
 use Rattle.builder_core.proofs.live_switch.make_ready.Given as goal
 
 abbrev pub invariant-loop-spec : goal.invariant-loop-spec
-invariant-loop-spec l = record { bogus : l.bogus ≡ 0 }
+invariant-loop-spec l = record {
+  ready : l.ready.items ++ ready_of l.spec-iterator.rest.items l.indexes.rest.items
+      ≡ l.initial.ready.items ++ ready_of l.fn.specs.items l.fn.indexes.items;
+  done : AllZip IsDoneIndex l.spec-iterator.rest.items l.indexes.rest.items;
+  room : vec_len l.ready + length l.spec-iterator.rest.items ≤ vec_capacity l.ready;
+}

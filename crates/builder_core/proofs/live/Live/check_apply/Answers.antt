@@ -1,17 +1,16 @@
-use Rattle.std.proofs.Common.{rules, ◌≡◌, ◌<◌, [], None, Some, All, map, slice_get, IfSome, IfOk, IfErr, OnOk, OnErr, ℕ, ◌+◌, ◌-◌, ◌*◌, ◌≤◌, length, ◌/◌, ◌%◌, Bool, true, false, nat_eq, nat_lt, List, ◌∷◌, ◌++◌, slice_index_or, slice_set, bit_and, bit_or, Fits, w8, w32, w64, Bor, MutBor}
-use Rattle.side_file.specs.Ends.{ring_take}
-use Rattle.building.specs.TakeEnd.{take_end}
-use Rattle.builder_core.specs.Builds.{BuildingValue, BuildFollows, core_state, cause_of, WorksOn, SideIsLooked, SeesSideAt, HasFed}
-use Rattle.builder_core.specs.Rings.{side_rings, taken_rings, drained_end}
-use Rattle.builder_core.specs.SideFiles.{AreFedEntries, side_refusal, put_ends}
-use Rattle.builder_core.specs.Steps.{Feeds, Applies, AppliesSome}
-use Rattle.builder_core.specs.declared.event.Event.{Event}
+use Rattle.std.proofs.Common.{rules, ◌≡◌, ◌∙◌, Some, None, sym, ap, subst}
+use Rattle.builder_core.proofs.ApplyCauses.{not_loaded, applicable}
+use Rattle.builder_core.proofs.Refusals.{running}
 use Rattle.builder_core.proofs.live.Live.check_apply.Goals as goal
 
--- src/live_sides.rt:93:13
 pub returns-then-not-is_loaded-clause-refused : goal.returns-then-not-is_loaded-clause-refused
-returns-then-not-is_loaded-clause-refused g c = ?
+returns-then-not-is_loaded-clause-refused g c =
+    let built = c.in_ok-build_with in
+    let run = running c.args.self.now c.args.building.now built.field-0.now c.in-Some.work.now built.ensures.ok c.in-Some.ensures built.ensures.follows c.requires in
+    not_loaded c.args.self.now c.args.building.now built.field-0.now c.in-Some.work.now run c.in_ok-check.ensures c.args.index built.ensures.there c.if-not-is_loaded.ensures
 
--- src/live_sides.rt:77:5
 pub returns-clause-accepted : goal.returns-clause-accepted
-returns-clause-accepted g c = ?
+returns-clause-accepted g c =
+    let built = c.in_ok-build_with in
+    let run = running c.args.self.now c.args.building.now built.field-0.now c.in-Some.work.now built.ensures.ok c.in-Some.ensures built.ensures.follows c.requires in
+    applicable c.args.self.now c.args.building.now built.field-0.now c.in-Some.work.now run c.in_ok-check.ensures c.args.index built.ensures.there c.if-not-is_loaded.ensures

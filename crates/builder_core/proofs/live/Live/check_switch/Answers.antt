@@ -1,22 +1,30 @@
-use Rattle.std.proofs.Common.{rules, ◌≡◌, ◌+◌, ◌++◌, ◌^◌, ◌<◌, ◌≤◌, length, None, Some, IsSome, IfSome, IfOk, IfErr, OnOk, OnErr, MatchResult, vec_len, vec_capacity, ℕ, ◌-◌, ◌*◌, ◌/◌, ◌%◌, Bool, true, false, nat_eq, nat_lt, List, [], ◌∷◌, slice_index_or, slice_set, bit_and, bit_or, Fits, w8, w32, w64, Bor, MutBor}
-use Rattle.std.specs.List.{AllZip}
-use Rattle.heap_table.specs.HeapState.{after_switch}
-use Rattle.heap_table.specs.Pages.{KeepsRows}
-use Rattle.builder_core.specs.Builds.{core_state, cause_of, WorksOn}
-use Rattle.builder_core.specs.CatchingUp.{MayCatchUp, IndexIsFurther, IsDoneIndex, left_at, ready_of}
-use Rattle.builder_core.specs.Steps.{Switches, OnBuild, CatchesUp, IsRefused, ready_from}
-use Rattle.builder_core.specs.Workers.{all_unapplied}
-use Rattle.builder_core.specs.declared.event.Event.{Event}
+use Rattle.std.proofs.Common.{rules, ◌≡◌, ◌∙◌, None, Some, sym, ap, subst, arith}
+use Rattle.builder_core.specs.CoreState.{BuildState}
+use Rattle.builder_core.specs.Ranges.{open_range}
+use Rattle.builder_core.proofs.Refusals.{running}
+use Rattle.builder_core.proofs.Unloaded.{one_unloaded, too_far_behind, can_be_switched}
 use Rattle.builder_core.proofs.live.Live.check_switch.Goals as goal
 
--- src/live_switch.rt:73:13
 pub returns-in-Some-first_unloaded : goal.returns-in-Some-first_unloaded
-returns-in-Some-first_unloaded g c = ?
+returns-in-Some-first_unloaded g c =
+    let b : BuildState = c.in-Some-Some.build.now in
+    let run = running c.args.self.now c.args.building.now b c.in-Some-Some.work.now c.in-Some-Some.ensures.build c.in-Some-Some.ensures' c.build.ensures.follows c.requires in
+    let all : open_range b ≡ None = search rules in
+    one_unloaded c.args.self.now c.args.building.now b c.in-Some-Some.work.now run c.in_ok-check.ensures all c.in-Some-first_unloaded.index
+    c.in-Some-first_unloaded.ensures
 
--- src/live_switch.rt:77:13
 pub returns-then-left-gt-SWITCH_MAX : goal.returns-then-left-gt-SWITCH_MAX
-returns-then-left-gt-SWITCH_MAX g c = ?
+returns-then-left-gt-SWITCH_MAX g c =
+    let b : BuildState = c.in-Some-Some.build.now in
+    let run = running c.args.self.now c.args.building.now b c.in-Some-Some.work.now c.in-Some-Some.ensures.build c.in-Some-Some.ensures' c.build.ensures.follows c.requires in
+    let all : open_range b ≡ None = search rules in
+    too_far_behind c.args.self.now c.args.building.now b c.in-Some-Some.work.now run c.in_ok-check.ensures all c.in_default-first_unloaded.ensures
+    c.unapplied-left.result c.unapplied-left.ensures (omega (arith, c.if-left-gt-SWITCH_MAX.true))
 
--- src/live_switch.rt:59:5
 pub returns : goal.returns
-returns g c = ?
+returns g c =
+    let b : BuildState = c.in-Some-Some.build.now in
+    let run = running c.args.self.now c.args.building.now b c.in-Some-Some.work.now c.in-Some-Some.ensures.build c.in-Some-Some.ensures' c.build.ensures.follows c.requires in
+    let all : open_range b ≡ None = search rules in
+    can_be_switched c.args.self.now c.args.building.now b c.in-Some-Some.work.now run c.in_ok-check.ensures all c.in_default-first_unloaded.ensures
+    c.unapplied-left.result c.unapplied-left.ensures (omega (arith, c.if-left-gt-SWITCH_MAX.false))
