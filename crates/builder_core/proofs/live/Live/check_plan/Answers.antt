@@ -1,4 +1,4 @@
-use Rattle.std.proofs.Common.{rules, ◌≡◌, Bool, List, length, ap, sym, ◌∙◌, true, false, refl}
+use Rattle.std.proofs.Common.{rules, ◌≡◌, Bool, List, length, ap, sym, ◌∙◌, true, false}
 use Rattle.std.specs.Prelude.{is_some}
 use Rattle.std.specs.List.{list_all}
 use Rattle.std.proofs.lemmas.Result.{err_from_is_err_and}
