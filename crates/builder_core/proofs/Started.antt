@@ -1,5 +1,5 @@
 -- What the start of a build leaves.
-use Rattle.std.proofs.Common.{◌≡◌, ℕ, ◌+◌, ◌*◌, ◌≤◌, List, [], ◌∷◌, length, map, replicate, true, Some, None, refl, sym, ap, ◌∙◌, subst, ◌++◌, arith, ◌-◌}
+use Rattle.std.proofs.Common.{◌≡◌, ℕ, ◌+◌, ◌*◌, ◌≤◌, List, [], length, map, replicate, true, Some, None, refl, sym, ap, ◌∙◌, subst, ◌++◌, arith, ◌-◌}
 use Rattle.std.proofs.lemmas.List.{length-map}
 use Rattle.keybytes.specs.Keys.{KeySpecValue}
 use Rattle.keybytes.specs.declared.kind.Kind.{Kind}

@@ -1,4 +1,4 @@
-use Rattle.std.proofs.Common.{rules, ◌≡◌, Bool, List, length, ap, sym, ◌∙◌, true, false, refl}
+use Rattle.std.proofs.Common.{rules, ◌≡◌, Bool, List, length, ap, sym, ◌∙◌, true, false}
 use Rattle.std.specs.Prelude.{is_some}
 use Rattle.std.specs.List.{list_all}
 use Rattle.std.proofs.lemmas.Result.{err_from_is_err_and}
@@ -55,7 +55,7 @@ returns-clause-accepted g c =
     let columns = same_columns c.deref.result.now plan.specs.items c.schema.result.now live.heap.schema true c.deref.ensures.value schema c.if-not-are_of.ensures.same in
     let pages : c.pages.result ≡ pages_written live.heap.log = c.pages.ensures.pages ∙ ap (λ (l : LiveValue). pages_written l.state.heap.log) c.self.view_is in
     let ranges = sym (ap (λ n. dealing_refusal n plan.dealing) pages) ∙ c.in_ok-check_dealing.ensures in
-    nothing_bad live spools plan still counts columns ranges (sym c.if-not-are_left_empty.ensures)
+    nothing_bad live spools plan still counts columns ranges (sym {b = list_all (λ (is_empty : Bool). is_empty) spools.left} c.if-not-are_left_empty.ensures)
 
 pub returns-then-not-are_left_empty-clause-refused : goal.returns-then-not-are_left_empty-clause-refused
 returns-then-not-are_left_empty-clause-refused g c =
@@ -68,4 +68,4 @@ returns-then-not-are_left_empty-clause-refused g c =
     let columns = same_columns c.deref.result.now plan.specs.items c.schema.result.now live.heap.schema true c.deref.ensures.value schema c.if-not-are_of.ensures.same in
     let pages : c.pages.result ≡ pages_written live.heap.log = c.pages.ensures.pages ∙ ap (λ (l : LiveValue). pages_written l.state.heap.log) c.self.view_is in
     let ranges = sym (ap (λ n. dealing_refusal n plan.dealing) pages) ∙ c.in_ok-check_dealing.ensures in
-    bad_spools live spools plan still counts columns ranges (sym c.if-not-are_left_empty.ensures)
+    bad_spools live spools plan still counts columns ranges (sym {b = list_all (λ (is_empty : Bool). is_empty) spools.left} c.if-not-are_left_empty.ensures)

@@ -1,4 +1,4 @@
-use Rattle.std.proofs.Common.{◌≡◌, ◌∙◌, ◌+◌, ◌∷◌, [], ◌≤◌, ℕ, List, length, Some, None, refl, ap, sym, subst, arith}
+use Rattle.std.proofs.Common.{◌≡◌, ◌∙◌, ◌+◌, [], ◌≤◌, ℕ, List, length, Some, None, refl, ap, sym, subst, arith}
 use Rattle.std.specs.Prelude.{map, Bool, true, false, ◌*◌}
 use Rattle.std.specs.List.{All, list_all, slice_get}
 use Rattle.std.proofs.lemmas.List.{length-map}
@@ -8,7 +8,7 @@ use Rattle.heap_table.specs.Pages.{pages_written}
 use Rattle.scan_range.specs.Cuts.{CutsValue}
 use Rattle.side_file.specs.Ends.{PutEnd}
 use Rattle.side_file.specs.declared.entry.Entry.{Entry}
-use Rattle.building.specs.TakeEnd.{TakeEnd, take_end}
+use Rattle.building.specs.TakeEnd.{take_end}
 use Rattle.building.specs.WorkerValue.{WorkerValue}
 use Rattle.building.specs.declared.copied.Copied.{Copied}
 use Rattle.builder_core.specs.Builds.{LiveValue, BuildingValue, WorkValue, work_state, build_over, fresh}

@@ -1,4 +1,4 @@
-use Rattle.std.proofs.Common.{◌∙◌, List, length, map, ap, sym, subst, arith}
+use Rattle.std.proofs.Common.{◌∙◌, List, length, ap, sym, subst, arith}
 use Rattle.std.proofs.lemmas.List.{length-map}
 use Rattle.keybytes.specs.Keys.{KeySpecValue}
 use Rattle.scan_range.specs.Ranges.{RangesValue, at_start}
