@@ -65,7 +65,7 @@ pub fn spools_of(ask: Ask) -> Option<usize> {
     match ask {
         Ask::Start(_) | Ask::StartEven(_) => Some(1),
         Ask::StartBy(workers, _) => Some(workers),
-        Ask::StartOf(indexes, workers) => Some(workers * indexes),
+        Ask::StartOf(indexes, workers) => Some(workers.saturating_mul(indexes)),
         _ => None,
     }
 }
