@@ -62,6 +62,7 @@ pub(crate) fn rid_head(heads: &RidHeads, rid: Rid) -> RidHead
     }
 }
 
+/// Puts a head at its place in a block.
 fn set_in(block: &mut [RidHead; 8], place: usize, head: RidHead)
     requires { place < 8 }
     ensures { (p : ℕ) → p < 8 → get_or block.new p no_head
