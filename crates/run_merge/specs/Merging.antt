@@ -5,6 +5,7 @@ use Rattle.spool_ledger.specs.Accounts.{Stake}
 use Rattle.keybytes.specs.declared.pair.Pair.{Pair}
 use Rattle.run_spool.specs.Spools.{AreSorted, all_pairs}
 use Rattle.run_merge.specs.Leading.{is_before}
+use Rattle.run_merge.specs.declared.place.Place.{Place}
 
 -- the run has a pair
 abbrev pub has_pair : List Pair → Bool
@@ -37,10 +38,11 @@ all_runs spools = flat_map (λ runs. runs) spools
 abbrev pub head_of : List Pair → Option Pair
 head_of run = slice_get run 0
 
--- the runs by number that had a pair as the merge began, the head of each, the place of the one that is given first, and how
--- many comparisons of two pairs were made
+-- the runs by number that had a pair as the merge began, where each stands, its head, the place of the head that is given first,
+-- and how many comparisons of two pairs were made
 pub record LanesValue : Type 0 where
   pub runs : List ℕ
+  pub places : List Place
   pub heads : List (Option Pair)
   pub first : ℕ
   pub compares : ℕ

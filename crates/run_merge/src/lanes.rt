@@ -1,10 +1,12 @@
 ghost use Rattle.std.specs.Prelude.{◌≡◌, ◌≤◌, ◌+◌, ◌-◌, ◌^◌, ℕ, IfOk, IfErr, OnErr, length, map, count_by};
 ghost use Rattle.run_spool.specs.Spools.{AreSorted};
 ghost use Rattle.run_merge.specs.Merging.{has_pair, all_runs, Gives, IsMerge};
+ghost use Rattle.run_merge.specs.Places.{ArePlaces};
 
 use crate::head::Head;
 use crate::heads::Heads;
-use crate::spool_runs::{advance, head, run_count};
+use crate::place::Place;
+use crate::spool_runs::{advance, head, place, run_count};
 use keybytes::{Fault, Pair};
 use run_spool::Spool;
 use std::alloc::Global;
@@ -14,6 +16,7 @@ use std::marker::Model;
 #[derive(Drop)]
 pub(crate) struct Lanes {
     runs: Vec<usize>,
+    places: Vec<Place>,
     heads: Heads,
 }
 
@@ -24,6 +27,7 @@ impl Model for Lanes {
 
     ghost view = { λ lanes. record {
       runs = lanes.runs.items;
+      places = lanes.places.items;
       heads = lanes.heads.heads;
       first = lanes.heads.first;
       compares = lanes.heads.compares;
@@ -35,6 +39,7 @@ impl Lanes {
     pub(crate) fn new<S: Spool>(alloc: Global, spools: &mut [S]) -> Result<Lanes, Fault>
         requires { AreSorted (all_runs (map S.runs spools.old)) }
         ensures merge { IfOk result (λ lanes. IsMerge (all_runs (map S.runs spools.old)) lanes.runs lanes.heads) }
+        ensures places { IfOk result (λ lanes. ArePlaces (map S.runs spools.old) lanes.runs lanes.places) }
         ensures ways { IfOk result (λ lanes. length lanes.runs ≡ count_by has_pair (all_runs (map S.runs spools.old))) }
         ensures compares { IfOk result (λ lanes. lanes.compares ≤ length lanes.runs - 1) }
         ensures runs { map S.runs spools.new ≡ map S.runs spools.old }
@@ -43,25 +48,31 @@ impl Lanes {
         ensures memory { IfErr result (λ fault. fault ≡ Fault.Memory) }
     {
         let mut runs = Vec::new(alloc);
+        let mut places = Vec::new(alloc);
         let mut heads = Vec::new(alloc);
         for run in 0..run_count(spools)? {
-            if let Some(pair) = head(alloc, spools, run)? {
+            let place = place(spools, run);
+            if let Some(pair) = head(alloc, spools, run, place)? {
                 runs.push(run)?;
+                places.push(place)?;
                 heads.push(Head::new(Some(pair)))?;
             }
         }
         Ok(Lanes {
             runs,
+            places,
             heads: Heads::new(alloc, heads)?,
         })
     }
 
     /// Gives the first of all pairs, and frees it in its run.
     pub(crate) fn step<S: Spool>(&mut self, spools: &mut [S]) -> Result<Option<Pair>, Fault>
-        requires { IsMerge (all_runs (map S.runs spools.old)) self.old.runs self.old.heads }
+        requires merge { IsMerge (all_runs (map S.runs spools.old)) self.old.runs self.old.heads }
+        requires places { ArePlaces (map S.runs spools.old) self.old.runs self.old.places }
         ensures merge { IsMerge (all_runs (map S.runs spools.new)) self.new.runs self.new.heads }
         ensures given { IfOk result (λ given. Gives (all_runs (map S.runs spools.old)) given (all_runs (map S.runs spools.new))) }
         ensures compares { (d : ℕ) → length self.old.runs ≤ 2 ^ d → self.new.compares ≤ self.old.compares + d }
+        ensures places { ArePlaces (map S.runs spools.new) self.new.runs self.new.places }
         ensures ways { self.new.runs ≡ self.old.runs }
         ensures refused { OnErr result (map S.runs spools.new ≡ map S.runs spools.old) }
         ensures lanes { OnErr result (self.new ≡ self.old) }
@@ -73,7 +84,7 @@ impl Lanes {
             return Ok(None);
         };
         let alloc = *self.runs.allocator();
-        let next = advance(alloc, spools, self.runs[lane])?;
+        let next = advance(alloc, spools, self.runs[lane], self.places[lane])?;
         Ok(self.heads.put(next))
     }
 
