@@ -1,7 +1,7 @@
 //! The closed runs of several spools, numbered through: those of the first spool, then those of the second, and so on.
 ghost use Rattle.std.specs.Prelude.{◌≡◌, ◌<◌, ℕ, [], IfOk, IfErr, OnOk, OnErr, length, map, drop, get_or, set, slice_get};
 ghost use Rattle.std.specs.List.{flat_map};
-ghost use Rattle.run_merge.specs.Merging.{all_runs, head_of};
+ghost use Rattle.run_merge.specs.Merging.{all_runs};
 ghost use Rattle.run_merge.specs.Places.{IsPlace};
 ghost use Rattle.run_merge.specs.declared.place.Place.{Place};
 
@@ -40,24 +40,25 @@ pub(crate) fn place<S: Spool>(spools: &[S], run: usize) -> Place
     unreachable!()
 }
 
-/// The first pair of a run, if it has one.
-pub(crate) fn head<S: Spool>(
+/// The pair with number `n` of a run, if it has so many.
+pub(crate) fn read<S: Spool>(
     alloc: Global,
     spools: &mut [S],
     run: usize,
     place: Place,
+    n: usize,
 ) -> Result<Option<Pair>, Fault>
     requires { IsPlace (map S.runs spools.old) run place }
-    ensures head { IfOk result (λ head. head ≡ head_of (get_or (all_runs (map S.runs spools.old)) run [])) }
+    ensures pair { IfOk result (λ pair. pair ≡ slice_get (get_or (all_runs (map S.runs spools.old)) run []) n) }
     ensures runs { map S.runs spools.new ≡ map S.runs spools.old }
     ensures open_runs { map S.open_run spools.new ≡ map S.open_run spools.old }
     ensures stakes { map S.stake spools.new ≡ map S.stake spools.old }
     ensures memory { IfErr result (λ fault. fault ≡ Fault.Memory) }
 {
-    pair_at(alloc, &mut spools[place.spool], place.run, 0)
+    pair_at(alloc, &mut spools[place.spool], place.run, n)
 }
 
-/// Frees the first pair of a run. Answers the one that is first then, if there is one; an `Err` frees none.
+/// Frees the first pair of a run. Answers the one that is second then, if there is one; an `Err` frees none.
 pub(crate) fn advance<S: Spool>(
     alloc: Global,
     spools: &mut [S],
@@ -66,7 +67,7 @@ pub(crate) fn advance<S: Spool>(
 ) -> Result<Option<Pair>, Fault>
     requires place { IsPlace (map S.runs spools.old) run place }
     requires pair { 0 < length (get_or (all_runs (map S.runs spools.old)) run []) }
-    ensures next { IfOk result (λ next. next ≡ slice_get (get_or (all_runs (map S.runs spools.old)) run []) 1) }
+    ensures second { IfOk result (λ second. second ≡ slice_get (get_or (all_runs (map S.runs spools.old)) run []) 2) }
     ensures freed { OnOk result (all_runs (map S.runs spools.new)
         ≡ set (all_runs (map S.runs spools.old)) run (drop 1 (get_or (all_runs (map S.runs spools.old)) run []))) }
     ensures places { (n : ℕ) (at : Place) → IsPlace (map S.runs spools.old) n at → IsPlace (map S.runs spools.new) n at }
@@ -82,7 +83,7 @@ pub(crate) fn advance<S: Spool>(
 fn free_first<S: Spool>(alloc: Global, spool: &mut S, run: usize) -> Result<Option<Pair>, Fault>
     requires run { run < length (S.runs spool.old) }
     requires pair { 0 < length (get_or (S.runs spool.old) run []) }
-    ensures next { IfOk result (λ next. next ≡ slice_get (get_or (S.runs spool.old) run []) 1) }
+    ensures second { IfOk result (λ second. second ≡ slice_get (get_or (S.runs spool.old) run []) 2) }
     ensures freed { OnOk result (S.runs spool.new ≡ set (S.runs spool.old) run (drop 1 (get_or (S.runs spool.old) run []))) }
     ensures count { length (S.runs spool.new) ≡ length (S.runs spool.old) }
     ensures refused { OnErr result (S.runs spool.new ≡ S.runs spool.old) }
@@ -90,9 +91,9 @@ fn free_first<S: Spool>(alloc: Global, spool: &mut S, run: usize) -> Result<Opti
     ensures stake { S.stake spool.new ≡ S.stake spool.old }
     ensures memory { IfErr result (λ fault. fault ≡ Fault.Memory) }
 {
-    let next = pair_at(alloc, spool, run, 1)?;
+    let second = pair_at(alloc, spool, run, 2)?;
     spool.free_front(run, 1);
-    Ok(next)
+    Ok(second)
 }
 
 // A pair of a run, if the run has so many.

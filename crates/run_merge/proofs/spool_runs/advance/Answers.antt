@@ -21,8 +21,8 @@ free_first-requires-clause-pair g c =
     let at = run_at runs spools place.spool place.run c.args.run d there own before in
     subst (λ (r : List Pair). 0 < length r) at c.requires.pair
 
-pub returns-clause-next : goal.returns-clause-next
-returns-clause-next g c =
+pub returns-clause-second : goal.returns-clause-second
+returns-clause-second g c =
     let runs = g.S.Spool.runs in
     let spools = c.args.spools.now in
     let d = c.index-spools-place.result in
@@ -32,7 +32,7 @@ returns-clause-next g c =
     let own = own_in runs spools c.args.run place d is in
     let before = before_in runs spools c.args.run place is in
     let at = run_at runs spools place.spool place.run c.args.run d there own before in
-    subst (λ (r : List Pair). IfOk c.free_first.result (λ next. next ≡ slice_get r 1)) (sym at) c.free_first.ensures.next
+    subst (λ (r : List Pair). IfOk c.free_first.result (λ second. second ≡ slice_get r 2)) (sym at) c.free_first.ensures.second
 
 pub returns-clause-freed : goal.returns-clause-freed
 returns-clause-freed g c =

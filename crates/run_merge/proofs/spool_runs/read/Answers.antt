@@ -4,10 +4,10 @@ use Rattle.std.proofs.Math.Seq.{map-set_same}
 use Rattle.keybytes.specs.declared.pair.Pair.{Pair}
 use Rattle.run_merge.proofs.Numbers.{run_at}
 use Rattle.run_merge.proofs.Places.{in_spool, own_in, before_in}
-use Rattle.run_merge.proofs.spool_runs.head.Goals as goal
+use Rattle.run_merge.proofs.spool_runs.read.Goals as goal
 
-pub returns-clause-head : goal.returns-clause-head
-returns-clause-head g c =
+pub returns-clause-pair : goal.returns-clause-pair
+returns-clause-pair g c =
     let runs = g.S.Spool.runs in
     let spools = c.args.spools.now in
     let d = c.index-spools-place.result in
@@ -16,7 +16,7 @@ returns-clause-head g c =
     let at =
     run_at runs spools place.spool place.run c.args.run d (in_spool runs spools c.args.run place is) (own_in runs spools c.args.run place d is)
     (before_in runs spools c.args.run place is) in
-    subst (λ (r : List Pair). IfOk c.pair_at.result (λ pair. pair ≡ slice_get r 0)) (sym at) c.pair_at.ensures.pair
+    subst (λ (r : List Pair). IfOk c.pair_at.result (λ pair. pair ≡ slice_get r c.args.n)) (sym at) c.pair_at.ensures.pair
 
 pub returns-clause-runs : goal.returns-clause-runs
 returns-clause-runs g c =
