@@ -1,5 +1,5 @@
 -- Spools whose pairs are put in order, and that are then ended.
-use Rattle.std.proofs.Common.{◌≡◌, ℕ, ◌-◌, true, false, List, [], ◌∷◌, All, map, Option, None, Some, refl, sym, ap, subst, ◌∙◌, inl, inr}
+use Rattle.std.proofs.Common.{◌≡◌, ℕ, ◌-◌, true, false, List, [], ◌∷◌, All, map, Option, None, Some, sym, ap, subst, ◌∙◌, inl, inr}
 use Rattle.std.specs.List.Sorted.{IsSorted}
 use Rattle.std.proofs.lemmas.List.Elements.{All-nil, All-head, All-tail, All-append}
 use Rattle.spool_ledger.specs.Accounts.{Stake}
@@ -13,7 +13,7 @@ use Rattle.builder_core.proofs.Columns.{every_map, all_but_map, same_parts}
 use Rattle.builder_core.specs.Working.{AreEachOnce}
 use Rattle.std.specs.FinMap.{keys}
 use Rattle.std.specs.Prelude.{IsPermutation, MatchOption, ◌||◌}
-use Rattle.std.specs.List.{AllByRecursion, list_any}
+use Rattle.std.specs.List.{AllByRecursion}
 use Rattle.std.specs.Cmp.{eq_by_cmp_equiv}
 use Rattle.std.specs.Ordering.{eq_by_cmp}
 use Rattle.std.proofs.lemmas.Bool.{cases_Bool, true≢false}

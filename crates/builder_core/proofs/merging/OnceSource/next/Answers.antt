@@ -1,4 +1,4 @@
-use Rattle.std.proofs.Common.{◌≡◌, [], ◌∷◌, List, subst}
+use Rattle.std.proofs.Common.{◌≡◌, [], ◌∷◌, subst}
 use Rattle.std.specs.Prelude.{IfOk, MatchOption}
 use Rattle.std.proofs.lemmas.Result.{IfOk-weaker}
 use Rattle.run_merge.specs.Merging.{all_runs, Gives, MergedValue}
