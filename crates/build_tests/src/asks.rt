@@ -37,6 +37,8 @@ pub enum Ask {
     StartEven(usize),
     /// By so many workers, over so many even ranges.
     StartBy(usize, usize),
+    /// A build of so many indexes on the one column starts, by so many workers, over one range.
+    StartOf(usize, usize),
     /// The next page of the first range.
     Scan,
     /// The next page of that range.
@@ -49,6 +51,8 @@ pub enum Ask {
     /// By that worker.
     SealBy(usize),
     Load,
+    /// Of that index.
+    LoadOf(usize),
     /// So many entries of that index at most.
     Feed(usize, usize),
     Apply(usize, usize),
@@ -56,18 +60,23 @@ pub enum Ask {
     Abandon,
 }
 
-/// How many workers a build has that is to start.
-pub fn workers_of(ask: Ask) -> Option<usize> {
+/// How many spools a build has that is to start.
+pub fn spools_of(ask: Ask) -> Option<usize> {
     match ask {
         Ask::Start(_) | Ask::StartEven(_) => Some(1),
         Ask::StartBy(workers, _) => Some(workers),
+        Ask::StartOf(indexes, workers) => Some(workers.saturating_mul(indexes)),
         _ => None,
     }
 }
 
-fn start(alloc: Global, workers: usize, dealing: Dealing) -> Result<Event, Fault> {
+fn start(alloc: Global, indexes: usize, workers: usize, dealing: Dealing) -> Result<Event, Fault> {
+    let mut specs = Vec::with_capacity(alloc, indexes)?;
+    for _ in 0..indexes {
+        specs.push(spec(alloc)?)?;
+    }
     let plan = Plan {
-        specs: vec![in alloc; spec(alloc)?]?,
+        specs,
         workers,
         dealing,
         tries: 3,
@@ -103,9 +112,10 @@ pub fn event(alloc: Global, ask: Ask) -> Result<Event, Fault> {
         Ask::Begin => Ok(Event::Begin),
         Ask::Undo(txn) => Ok(Event::Undo { txn }),
         Ask::Commit(txn) => Ok(Event::Commit { txn }),
-        Ask::Start(ends) => start(alloc, 1, Dealing::Ends(ends.to_vec(alloc)?)),
-        Ask::StartEven(ranges) => start(alloc, 1, Dealing::Even(ranges)),
-        Ask::StartBy(workers, ranges) => start(alloc, workers, Dealing::Even(ranges)),
+        Ask::Start(ends) => start(alloc, 1, 1, Dealing::Ends(ends.to_vec(alloc)?)),
+        Ask::StartEven(ranges) => start(alloc, 1, 1, Dealing::Even(ranges)),
+        Ask::StartBy(workers, ranges) => start(alloc, 1, workers, Dealing::Even(ranges)),
+        Ask::StartOf(indexes, workers) => start(alloc, indexes, workers, Dealing::Even(1)),
         Ask::Scan => Ok(scan(0, 0)),
         Ask::ScanIn(range) => Ok(scan(range, 0)),
         Ask::ScanFor(range, worker) => Ok(scan(range, worker)),
@@ -113,6 +123,7 @@ pub fn event(alloc: Global, ask: Ask) -> Result<Event, Fault> {
         Ask::Seal => Ok(Event::Seal { worker: 0 }),
         Ask::SealBy(worker) => Ok(Event::Seal { worker }),
         Ask::Load => Ok(Event::Load { index: 0 }),
+        Ask::LoadOf(index) => Ok(Event::Load { index }),
         Ask::Feed(index, most) => Ok(Event::Feed { index, most }),
         Ask::Apply(index, most) => Ok(Event::Apply { index, most }),
         Ask::Switch => Ok(Event::Switch),

@@ -2,7 +2,7 @@
 ghost use Rattle.std.specs.Prelude.{◌≡◌, map};
 ghost use Rattle.build_tests.specs.Owing.{IsOwed};
 
-use crate::asks::{Ask, answer, schema, spec, workers_of};
+use crate::asks::{Ask, answer, schema, spec, spools_of};
 use crate::entries::{are_entries, has_entries, has_pairs};
 use crate::kept::Kept;
 use crate::kind::Kind;
@@ -26,9 +26,9 @@ pub enum Call {
     Begins(usize),
     /// A transaction inserts so many rows.
     Rows(i64),
-    /// At most so many entries are applied, and so many are where memory doesn't run out. Where it does, the rest of them is
-    /// when it is asked once more.
-    Applies(usize, usize),
+    /// To that index at most so many entries are applied, and so many are where memory doesn't run out. Where it does, the rest of
+    /// them is when it is asked once more.
+    Applies(usize, usize, usize),
     /// So many pages of the first range are copied, each taken by worker 0 before the next.
     Pages(usize),
     Get(Rid, Result<Option<i64>, Fault>),
@@ -110,12 +110,13 @@ fn copies<S: Spool, T: Table>(
 fn applies<S: Spool, T: Table>(
     stand: &mut Stand<S, T>,
     alloc: Global,
+    index: usize,
     most: usize,
     count: usize,
 ) -> Result<bool, Fault> {
-    match answer(stand, alloc, Ask::Apply(0, most)) {
+    match answer(stand, alloc, Ask::Apply(index, most)) {
         Err(Fault::Memory) => {
-            let (rest, _) = answer(stand, alloc, Ask::Apply(0, most))?;
+            let (rest, _) = answer(stand, alloc, Ask::Apply(index, most))?;
             Ok(0 < rest && rest <= count)
         }
         told => Ok(told == Ok((count, 0))),
@@ -155,8 +156,8 @@ fn renew<S: Spool, T: Table, K: Kind<S>>(
     kind: &K,
     ask: Ask,
 ) -> Result<(), Fault> {
-    match workers_of(ask) {
-        Some(workers) if !stand.core().is_building() => stand.renew(alloc, kind, workers),
+    match spools_of(ask) {
+        Some(spools) if !stand.core().is_building() => stand.renew(alloc, kind, spools),
         _ => Ok(()),
     }
 }
@@ -202,7 +203,7 @@ fn is_answered<S: Spool, T: Table, K: Kind<S>>(
         Call::Left(ask, answer) => is_unless_wanting(answer_again(stand, alloc, *ask), answer),
         Call::Begins(count) => begins(stand, alloc, *count),
         Call::Rows(count) => inserts(stand, alloc, *count),
-        Call::Applies(most, count) => applies(stand, alloc, *most, *count),
+        Call::Applies(index, most, count) => applies(stand, alloc, *index, *most, *count),
         Call::Pages(count) => copies(stand, alloc, *count),
         Call::Get(rid, answer) => Ok(number_at(stand, *rid) == *answer),
         Call::Rest(answer) => {
@@ -265,7 +266,7 @@ fn differing_on<S: Spool, T: Table, K: Kind<S>>(
     lists: &[&[Call]],
 ) -> Result<Option<usize>, Fault>
     requires pages { parts.pages ≡ T.pages }
-    requires side { parts.side ≡ T.side }
+    requires sides { parts.sides ≡ T.sides }
     requires owed { IsOwed pool (map S.stake spools.items) }
 {
     let (live, ends) = parts.open::<T>();

@@ -69,7 +69,7 @@ fn built_over<S: Spool, T: Table>(
     asked: &[Event],
 ) -> Result<(bool, usize), Fault>
     requires pages { parts.pages ≡ T.pages }
-    requires side { parts.side ≡ T.side }
+    requires sides { parts.sides ≡ T.sides }
 {
     let (spools, replies) = ended_by_run::<S, T>(alloc, parts, spools, asked);
     let mut accounts = Vec::new(alloc);

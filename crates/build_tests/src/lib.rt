@@ -34,6 +34,8 @@ mod ranges;
 #[cfg(test)]
 mod returned;
 #[cfg(test)]
+mod several;
+#[cfg(test)]
 mod spools;
 #[cfg(test)]
 mod stand;

@@ -30,7 +30,7 @@ fn run_on<T: Table>(
     events: &[Event],
 ) -> Result<(Vec<Reply>, usize), Fault>
     requires pages { parts.pages ≡ T.pages }
-    requires side { parts.side ≡ T.side }
+    requires sides { parts.sides ≡ T.sides }
 {
     let (live, ends) = parts.open::<T>();
     let none: Vec<PlainSpool> = Vec::new(alloc);
@@ -76,7 +76,7 @@ fn are_answered_on<T: Table>(
     replies: &[Reply],
 ) -> Result<bool, Fault>
     requires pages { parts.pages ≡ T.pages }
-    requires side { parts.side ≡ T.side }
+    requires sides { parts.sides ≡ T.sides }
 {
     let (live, ends) = parts.open::<T>();
     let none: Vec<PlainSpool> = Vec::new(alloc);

@@ -10,8 +10,8 @@ use run_spool::{PlainSpool, Spool, give_up_all};
 use spool_ledger::{Account, Pool};
 use std::alloc::Global;
 
-/// How many pages the pool of a test has: enough for 17 spools of [`QUOTA`] pages.
-pub const PAGES: u32 = 68;
+/// How many pages the pool of a test has: enough for 34 spools of [`QUOTA`] pages.
+pub const PAGES: u32 = 136;
 
 /// How many pages a spool has, where nothing else is said.
 pub const QUOTA: u32 = 4;

@@ -21,7 +21,7 @@ pub fn ended_by_run<S: Spool, T: Table>(
     events: &[Event],
 ) -> (Vec<S>, Result<Vec<Reply>, Fault>)
     requires pages { parts.pages ≡ T.pages }
-    requires side { parts.side ≡ T.side }
+    requires sides { parts.sides ≡ T.sides }
     ensures ended { All S.ended result.0.items }
     ensures stakes { map S.stake result.0.items ≡ map S.stake spools.items }
 {
@@ -47,7 +47,7 @@ fn ended_by_steps<S: Spool, T: Table>(
     events: Vec<Event>,
 ) -> (Vec<S>, Result<(), Fault>)
     requires pages { parts.pages ≡ T.pages }
-    requires side { parts.side ≡ T.side }
+    requires sides { parts.sides ≡ T.sides }
     ensures ended { All S.ended result.0.items }
     ensures stakes { map S.stake result.0.items ≡ map S.stake spools.items }
 {
@@ -68,7 +68,7 @@ fn returned_by_run<S: Spool, T: Table>(
     events: &[Event],
 ) -> Result<Vec<Reply>, Fault>
     requires pages { parts.pages ≡ T.pages }
-    requires side { parts.side ≡ T.side }
+    requires sides { parts.sides ≡ T.sides }
     requires owed { IsOwed pool.old (map S.stake spools.items) }
     requires none { accounts.items ≡ [] }
     requires room { vec_len spools ≤ vec_capacity accounts }
@@ -88,7 +88,7 @@ fn returned_by_steps<S: Spool, T: Table>(
     events: Vec<Event>,
 ) -> Result<(), Fault>
     requires pages { parts.pages ≡ T.pages }
-    requires side { parts.side ≡ T.side }
+    requires sides { parts.sides ≡ T.sides }
     requires owed { IsOwed pool.old (map S.stake spools.items) }
     requires none { accounts.items ≡ [] }
     requires room { vec_len spools ≤ vec_capacity accounts }

@@ -1,10 +1,11 @@
 -- The side-file's ring of a build: it is looked at, entries go into it, and from it to the index.
-use Rattle.std.proofs.Common.{◌≡◌, ℕ, ◌+◌, ◌-◌, ◌<◌, ◌≤◌, ◌^◌, List, [], ◌∷◌, ◌++◌, length, map, set, get_or, take, drop, Option, Some, None}
+use Rattle.std.proofs.Common.{◌≡◌, ℕ, ◌+◌, ◌-◌, ◌<◌, ◌≤◌, ◌^◌, List, [], ◌∷◌, ◌++◌, length, map, set, take, drop, Option, Some, None, refl, inl, inr}
 use Rattle.std.proofs.Common.{sym, ap, ◌∙◌, subst, arith, length-append, length-drop, length-take, append_assoc}
-use Rattle.std.specs.List.{All}
+use Rattle.std.specs.List.{All, slice_get}
+use Rattle.keybytes.specs.Keys.{KeySpecValue}
 use Rattle.keybytes.specs.Keys.{IsKeyOf}
 use Rattle.std.specs.Prelude.{IfSome}
-use Rattle.std.proofs.lemmas.List.{drop-append-le, length-map, take-map}
+use Rattle.std.proofs.lemmas.List.{drop-append-le, length-map, length-set, take-map, get_or-set_same, get_or-set_other}
 use Rattle.std.proofs.Math.Seq.{drop-append_seam, take-append_seam}
 use Rattle.side_file.specs.Entries.{entry_of}
 use Rattle.visibility.specs.SideEntries.{SideEntry}
@@ -18,11 +19,12 @@ use Rattle.side_file.specs.SideFileValue.{SideFileValue}
 use Rattle.side_file.specs.declared.entry.Entry.{Entry}
 use Rattle.building.specs.TakeEnd.{TakeEnd}
 use Rattle.building.specs.declared.copied.Copied.{Copied}
-use Rattle.builder_core.specs.Builds.{LiveValue, BuildingValue, WorkValue, IsBuildOf, IsWorkOf, WorkersFollow, WorksOn, SideIsLooked, core_state}
+use Rattle.builder_core.specs.Builds.{LiveValue, BuildingValue, WorkValue, IndexValue, IsBuildOf, IsWorkOf, AreFed, WorkersFollow, WorksOn, SideIsLooked, core_state}
 use Rattle.builder_core.specs.CoreState.{BuildState, scanning_of}
-use Rattle.builder_core.specs.SideFiles.{IsFed, HasEntries, SideFollows, AreFedEntries, HasLookedAtSide, SeesSide}
+use Rattle.builder_core.specs.SideFiles.{IsFed, HasEntries, HaveEntries, SidesFollow, AreFedEntries, HasLookedAtSide, SeesSide}
+use Rattle.builder_core.proofs.Places.{at_set, set_there, set_elsewhere}
 use Rattle.builder_core.specs.Steps.{after_feed}
-use Rattle.builder_core.specs.Workers.{fed_to}
+use Rattle.builder_core.specs.Workers.{fed_to, unfed}
 
 -- looking at the ring
 
@@ -37,14 +39,29 @@ fed_looked fed applied put new_put end new_end looked is = record {
   countable = is.countable;
 }
 
+-- the ends of one ring were looked at
+all_fed_looked :
+    (b : BuildState) (indexes : List IndexValue) (puts : List (PutEnd Entry)) (ends : List (TakeEnd Entry)) (index : ℕ) (old_put put : PutEnd Entry) (old_end end : TakeEnd Entry)
+    → slice_get puts index ≡ Some old_put → slice_get ends index ≡ Some old_end → HasLookedAtSide old_put old_end put end → AreFed b indexes puts ends
+    → AreFed b indexes (set puts index put) (set ends index end)
+all_fed_looked b indexes puts ends index old_put put old_end end put_there end_there looked fed k it p e at there taken =
+    elim (at_set puts index put k p there) [
+      | inl here ↦
+          let its_end : e ≡ end = set_there ends index end k e taken here.0 in
+          let was = fed k it old_put old_end at (ap (slice_get puts) here.0 ∙ put_there) (ap (slice_get ends) here.0 ∙ end_there) in
+          rw (here.1, its_end) (fed_looked (fed_to b k) it.applied old_put put old_end end looked was)
+      | inr other ↦ fed k it p e at other.1 (set_elsewhere ends index end k e taken other.0)
+    ]
+
 follow_looked :
-    (pages : List (PutEnd Copied)) (put new_put : PutEnd Entry) (building : BuildingValue) (end : TakeEnd Entry) (build : Option BuildState)
-    (work : Option WorkValue) → HasLookedAtSide put building.side new_put end → WorkersFollow pages put building build work
-    → WorkersFollow pages new_put (record building { side = end }) build work
-follow_looked pages put new_put building end None work looked follow = tt
-follow_looked pages put new_put building end (Some b) None looked follow = tt
-follow_looked pages put new_put building end (Some b) (Some w) looked follow = record {
-  fed = fed_looked (fed_to b 0) w.applied put new_put building.side end looked follow.fed;
+    (pages : List (PutEnd Copied)) (puts : List (PutEnd Entry)) (building : BuildingValue) (index : ℕ) (old_put put : PutEnd Entry) (old_end end : TakeEnd Entry)
+    (build : Option BuildState) (work : Option WorkValue) → slice_get puts index ≡ Some old_put → slice_get building.sides index ≡ Some old_end
+    → HasLookedAtSide old_put old_end put end → WorkersFollow pages puts building build work
+    → WorkersFollow pages (set puts index put) (record building { sides = set building.sides index end }) build work
+follow_looked pages puts building index old_put put old_end end None work put_there end_there looked follow = tt
+follow_looked pages puts building index old_put put old_end end (Some b) None put_there end_there looked follow = tt
+follow_looked pages puts building index old_put put old_end end (Some b) (Some w) put_there end_there looked follow = record {
+  fed = all_fed_looked b w.indexes puts building.sides index old_put put old_end end put_there end_there looked follow.fed;
   given = follow.given;
   taking = follow.taking;
   kits = follow.kits;
@@ -52,19 +69,21 @@ follow_looked pages put new_put building end (Some b) (Some w) looked follow = r
 
 -- all goes on
 pub works_side_looked :
-    (live new_live : LiveValue) (building new : BuildingValue) → SideIsLooked live building new_live new → WorksOn live building → WorksOn new_live new
-works_side_looked live new_live building new looked works =
-    subst (λ (l : LiveValue). WorksOn l new) (sym looked.put)
-    (subst (WorksOn (record live { side = new_live.side })) (sym looked.taken) (record {
+    (index : ℕ) (live new_live : LiveValue) (building new : BuildingValue) → SideIsLooked index live building new_live new → WorksOn live building → WorksOn new_live new
+works_side_looked index live new_live building new looked works =
+    subst (λ (l : LiveValue). WorksOn l new) (sym looked.puts)
+    (subst (WorksOn (record live { sides = set live.sides index looked.put })) (sym looked.ends) (record {
       work = works.work;
-      workers = follow_looked live.pages live.side new_live.side building new.side live.state.build building.work looked.looked works.workers;
+      workers = follow_looked live.pages live.sides building index looked.old_put looked.put looked.old_end looked.end live.state.build building.work
+          looked.put_there looked.end_there looked.looked works.workers;
     }))
 
 -- and callers see no difference
 pub state_side_looked :
-    (live new_live : LiveValue) (building new : BuildingValue) → SideIsLooked live building new_live new → core_state new_live new ≡ core_state live building
-state_side_looked live new_live building new looked =
-    ap (λ (l : LiveValue). core_state l new) looked.put ∙ ap (core_state live) looked.taken
+    (index : ℕ) (live new_live : LiveValue) (building new : BuildingValue) → SideIsLooked index live building new_live new
+    → core_state new_live new ≡ core_state live building
+state_side_looked index live new_live building new looked =
+    ap (λ (l : LiveValue). core_state l new) looked.puts ∙ ap (core_state live) looked.ends
 
 -- what waits is what was fed and not applied
 pub waiting_in_ring :
@@ -90,46 +109,44 @@ last_more n c xs ys many =
 fed_count : (old : SideFileValue) (count most : ℕ) → count ≤ feed_most most old → length (take count old.left) ≡ count
 fed_count old count most few = omega (arith, length-take count old.left, few)
 
--- how many were fed
-pub fed_now : (log : List LogRec) (b : BuildState) (side : SideFileValue) → HasEntries log b side → fed_to b 0 ≡ length side.fed
-fed_now log b side has = ap (λ (fed : List ℕ). get_or fed 0 0) has.count
+-- how many of an index were fed, once more of one were
+pub fed_after : (b : BuildState) (index count : ℕ) → index < length b.fed → fed_to (after_feed b index count) index ≡ fed_to b index + count
+fed_after b index count less = get_or-set_same b.fed index (fed_to b index + count) 0 less
 
-pub fed_after : (log : List LogRec) (b : BuildState) (side : SideFileValue) (count : ℕ) → HasEntries log b side → fed_to (after_feed b 0 count) 0 ≡ fed_to b 0 + count
-fed_after log b side count has = ap (λ (fed : List ℕ). get_or (set fed 0 (fed_to b 0 + count)) 0 0) has.count
+pub fed_other : (b : BuildState) (index count k : ℕ) → (k ≡ index → ⊥) → fed_to (after_feed b index count) k ≡ fed_to b k
+fed_other b index count k other = get_or-set_other b.fed index k (fed_to b index + count) 0 other
 
 module _
-    (log : List LogRec) (b : BuildState) (old new : SideFileValue) (count most : ℕ) (has : HasEntries log b old) (feeds : Feeds old count new)
-    (few : count ≤ feed_most most old) (all : all_appended new ≡ all_appended old) where
+    (log : List LogRec) (b : BuildState) (index : ℕ) (spec : KeySpecValue) (less : index < length b.fed) (old new : SideFileValue) (count most : ℕ)
+    (has : HasEntries log b index spec old) (feeds : Feeds old count new) (few : count ≤ feed_most most old) (all : all_appended new ≡ all_appended old) where
   -- the side-file follows
-  pub entries_fed : HasEntries log (after_feed b 0 count) new
+  pub entries_fed : HasEntries log (after_feed b index count) index spec new
   entries_fed = record {
-    entries = λ spec one. all ∙ has.entries spec one;
-    keys = λ spec one. subst (All (λ entry. IsKeyOf spec entry.key)) (sym all) (has.keys spec one);
+    entries = all ∙ has.entries;
+    keys = subst (All (λ entry. IsKeyOf spec entry.key)) (sym all) has.keys;
     count =
-        let longer : length new.fed ≡ fed_to b 0 + count =
-        ap length feeds.fed ∙ length-append old.fed (take count old.left)
-        ∙ ap (λ n. length old.fed + n) (fed_count old count most few) ∙ ap (λ n. n + count) (sym (fed_now log b old has)) in
-        ap (λ (fed : List ℕ). set fed 0 (fed_to b 0 + count)) has.count ∙ ap (λ n. n ∷ []) (sym longer);
+        fed_after b index count less ∙ ap (λ n. n + count) has.count
+        ∙ sym (ap length feeds.fed ∙ length-append old.fed (take count old.left) ∙ ap (λ n. length old.fed + n) (fed_count old count most few));
   }
 
   -- all can be counted
-  pub fed_countable : IsSideFile new → fed_to b 0 + count < 2 ^ 64
+  pub fed_countable : IsSideFile new → fed_to b index + count < 2 ^ 64
   fed_countable kept =
-      let now = fed_now log (after_feed b 0 count) new entries_fed in
-      let sum = fed_after log b old count has in
+      let now = entries_fed.count in
+      let sum = fed_after b index count less in
       omega (arith, now, sum, kept.few)
 
-  ring_fed : (applied : ℕ) (end : TakeEnd Entry) → fed_to b 0 + count < 2 ^ 64 → IsFed (fed_to b 0) applied old.end end
-      → IsFed (fed_to (after_feed b 0 count) 0) applied new.end end
+  ring_fed : (applied : ℕ) (end : TakeEnd Entry) → fed_to b index + count < 2 ^ 64 → IsFed (fed_to b index) applied old.end end
+      → IsFed (fed_to (after_feed b index count) index) applied new.end end
   ring_fed applied end countable is =
-      let n : ℕ = fed_to b 0 - applied in
+      let n : ℕ = fed_to b index - applied in
       let many = fed_count old count most few in
-      let more : (fed_to b 0 + count) - applied ≡ n + count = omega (arith, is.counted) in
+      let more : (fed_to b index + count) - applied ≡ n + count = omega (arith, is.counted) in
       let sent = length-append old.end.sent (take count old.left) in
-      rw (fed_after log b old count has) (record {
+      subst (λ (f : ℕ). IsFed f applied new.end end) (sym (fed_after b index count less)) (record {
         same_ring = feeds.ring ∙ is.same_ring;
         waiting =
-            ap (λ es. end.received ++ last_ones ((fed_to b 0 + count) - applied) es) feeds.sent
+            ap (λ es. end.received ++ last_ones ((fed_to b index + count) - applied) es) feeds.sent
             ∙ ap (λ k. end.received ++ last_ones k (old.end.sent ++ take count old.left)) more
             ∙ ap (λ es. end.received ++ es) (last_more n count old.end.sent (take count old.left) many)
             ∙ sym (append_assoc end.received (last_ones n old.end.sent) (take count old.left))
@@ -142,23 +159,52 @@ module _
 
   -- and so do the workers
   pub follow_fed :
-      (pages : List (PutEnd Copied)) (building : BuildingValue) (work : Option WorkValue) → fed_to b 0 + count < 2 ^ 64
-      → WorkersFollow pages old.end building (Some b) work → WorkersFollow pages new.end building (Some (after_feed b 0 count)) work
-  follow_fed pages building None countable follow = tt
-  follow_fed pages building (Some w) countable follow = record {
-    fed = ring_fed w.applied building.side countable follow.fed;
+      (pages : List (PutEnd Copied)) (puts : List (PutEnd Entry)) (building : BuildingValue) (work : Option WorkValue) → slice_get puts index ≡ Some old.end
+      → fed_to b index + count < 2 ^ 64 → WorkersFollow pages puts building (Some b) work
+      → WorkersFollow pages (set puts index new.end) building (Some (after_feed b index count)) work
+  follow_fed pages puts building None there countable follow = tt
+  follow_fed pages puts building (Some w) there countable follow = record {
+    fed = λ k it p e at put taken. elim (at_set puts index new.end k p put) [
+      | inl here ↦
+          let was = follow.fed k it old.end e at (ap (slice_get puts) here.0 ∙ there) taken in
+          rw (here.1, here.0) (ring_fed it.applied e countable (subst (λ (i : ℕ). IsFed (fed_to b i) it.applied old.end e) here.0 was))
+      | inr other ↦ rw (fed_other b index count k other.0) (follow.fed k it p e at other.1 taken)
+    ];
     given = follow.given;
     taking = follow.taking;
     kits = follow.kits;
   }
 
+-- the side-files of the other indexes have what they had
+other_fed :
+    (log : List LogRec) (b : BuildState) (index count k : ℕ) (spec : KeySpecValue) (side : SideFileValue) → (k ≡ index → ⊥) → HasEntries log b k spec side
+    → HasEntries log (after_feed b index count) k spec side
+other_fed log b index count k spec side other has = record {
+  entries = has.entries;
+  keys = has.keys;
+  count = fed_other b index count k other ∙ has.count;
+}
+
+pub sides_fed :
+    (log : List LogRec) (b : BuildState) (index : ℕ) (sides : List SideFileValue) (old new : SideFileValue) (count most : ℕ) → index < length b.fed
+    → slice_get sides index ≡ Some old → HaveEntries log b sides → Feeds old count new → count ≤ feed_most most old → all_appended new ≡ all_appended old
+    → HaveEntries log (after_feed b index count) (set sides index new)
+sides_fed log b index sides old new count most less there has feeds few all = λ k spec side at put. elim (at_set sides index new k side put) [
+  | inl here ↦
+      let was : HasEntries log b index spec old = has index spec old (ap (slice_get b.specs) (sym here.0) ∙ at) there in
+      rw (here.1, here.0) (entries_fed log b index spec less old new count most was feeds few all)
+  | inr other ↦ other_fed log b index count k spec side other.0 (has k spec side at other.1)
+]
+
 -- the build is one of that table as before
-pub build_fed : (kinds : List Kind) (log : List LogRec) (b : BuildState) (count : ℕ) → IsBuildOf kinds log b → IsBuildOf kinds log (after_feed b 0 count)
-build_fed kinds log b count is = record {
-  spec = is.spec;
-  one_index = is.one_index;
+pub build_fed :
+    (kinds : List Kind) (log : List LogRec) (b : BuildState) (index count : ℕ) → IsBuildOf kinds log b → IsBuildOf kinds log (after_feed b index count)
+build_fed kinds log b index count is = record {
+  some_index = is.some_index;
+  few_indexes = is.few_indexes;
   few_workers = is.few_workers;
   columns = is.columns;
+  fed_many = length-set b.fed index (fed_to b index + count) ∙ is.fed_many;
   limit = is.limit;
   cuts = is.cuts;
   for_workers = is.for_workers;
@@ -166,48 +212,68 @@ build_fed kinds log b count is = record {
 }
 
 pub work_fed :
-    (kinds : List Kind) (log : List LogRec) (b : BuildState) (count : ℕ) (work : Option WorkValue) → IsWorkOf kinds log (Some b) work
-    → IsWorkOf kinds log (Some (after_feed b 0 count)) work
-work_fed kinds log b count None is = is
-work_fed kinds log b count (Some w) is = record {
+    (kinds : List Kind) (log : List LogRec) (b : BuildState) (index count : ℕ) (work : Option WorkValue) → IsWorkOf kinds log (Some b) work
+    → IsWorkOf kinds log (Some (after_feed b index count)) work
+work_fed kinds log b index count None is = is
+work_fed kinds log b index count (Some w) is = record {
   number = is.number;
   specs = is.specs;
-  only = is.only;
   columns = is.columns;
   workers = is.workers;
-  all = is.all;
-  none_before = is.none_before;
-  there = is.there;
-  loaded = is.loaded;
-  of_build = is.of_build;
+  many = is.many;
+  indexes = λ k spec it at there.
+      let on = is.indexes k spec it at there in
+      record { all = on.all; none_before = on.none_before; there = on.there; loaded = on.loaded; of_build = on.of_build };
 }
 
+-- no more was fed than there was
+pub fed_entries_there :
+    (log : List LogRec) (b : BuildState) (index : ℕ) (spec : KeySpecValue) (side : SideFileValue) → HasEntries log b index spec side
+    → fed_to b index ≤ length (side_entries (scanning_of b spec) log)
+fed_entries_there log b index spec side has =
+    let put : SideEntry → Entry = entry_of b.number in
+    let es : List SideEntry = side_entries (scanning_of b spec) log in
+    let all = ap length has.entries in
+    let sum = length-append side.fed side.left in
+    let many = length-map es put in
+    omega (arith, has.count, all, sum, many)
+
 -- the fed entries are the first ones of the side-file, and the last that the ring was sent
-pub fed_entries : (log : List LogRec) (b : BuildState) (side : SideFileValue) → HasEntries log b side → IsSideFile side → AreFedEntries log b side.end
-fed_entries log b side has kept = record {
-  entries = λ spec one.
+pub fed_entries :
+    (log : List LogRec) (b : BuildState) (index : ℕ) (spec : KeySpecValue) (side : SideFileValue) → HasEntries log b index spec side → IsSideFile side
+    → AreFedEntries log b index spec side.end
+fed_entries log b index spec side has kept = record {
+  entries =
       let put : SideEntry → Entry = entry_of b.number in
       let es : List SideEntry = side_entries (scanning_of b spec) log in
-      let now = fed_now log b side has in
-      ap (λ n. last_ones n side.end.sent) now ∙ kept.fed_last
+      ap (λ n. last_ones n side.end.sent) has.count ∙ kept.fed_last
       ∙ sym (take-append_seam side.fed side.left)
-      ∙ ap (take (length side.fed)) (has.entries spec one)
+      ∙ ap (take (length side.fed)) has.entries
       ∙ take-map put (length side.fed) es
-      ∙ ap (λ n. map put (take n es)) (sym now);
-  there = λ spec one.
-      let put : SideEntry → Entry = entry_of b.number in
-      let es : List SideEntry = side_entries (scanning_of b spec) log in
-      let now = fed_now log b side has in
-      let all = ap length (has.entries spec one) in
-      let sum = length-append side.fed side.left in
-      let many = length-map es put in
-      omega (arith, now, all, sum, many);
-  counts = has.count ∙ ap (λ n. n ∷ []) (sym (fed_now log b side has));
+      ∙ ap (λ n. map put (take n es)) (sym has.count);
+  there = fed_entries_there log b index spec side has;
 }
 
 -- of the build that runs, if one does
 pub fed_if_running :
-    (log : List LogRec) (build : Option BuildState) (side : SideFileValue) → SideFollows log build side → IsSideFile side
-    → IfSome build (λ b. AreFedEntries log b side.end)
-fed_if_running log None side has kept = tt
-fed_if_running log (Some b) side has kept = fed_entries log b side has kept
+    (log : List LogRec) (build : Option BuildState) (index : ℕ) (sides : List SideFileValue) (side : SideFileValue) → SidesFollow log build sides
+    → slice_get sides index ≡ Some side → IsSideFile side
+    → IfSome build (λ b. IfSome (slice_get b.specs index) (λ spec. AreFedEntries log b index spec side.end))
+fed_if_running log None index sides side has there kept = tt
+fed_if_running log (Some b) index sides side has there kept = by_spec (slice_get b.specs index) refl where
+  by_spec : (o : Option KeySpecValue) → slice_get b.specs index ≡ o → IfSome o (λ spec. AreFedEntries log b index spec side.end)
+  by_spec None is = tt
+  by_spec (Some spec) is = fed_entries log b index spec side (has index spec side is there) kept
+
+-- what isn't fed is left
+pub left_unfed :
+    (log : List LogRec) (b : BuildState) (index : ℕ) (spec : KeySpecValue) (side : SideFileValue) → slice_get b.specs index ≡ Some spec
+    → HasEntries log b index spec side → unfed b log index (slice_get b.specs index) ≡ length side.left
+left_unfed log b index spec side at has =
+    let put : SideEntry → Entry = entry_of b.number in
+    let es : List SideEntry = side_entries (scanning_of b spec) log in
+    let all = ap length has.entries in
+    let sum = length-append side.fed side.left in
+    let many = length-map es put in
+    let count : length es - fed_to b index ≡ length side.left = omega (arith, has.count, all, sum, many) in
+    ap (unfed b log index) at ∙ count

@@ -1,8 +1,9 @@
 -- The ready indexes and the build after a call of the table.
-use Rattle.std.proofs.Common.{◌≡◌, ◌⊎◌, inl, inr, ℕ, List, [], ◌∷◌, ◌++◌, Option, Result, Ok, Err, sym, ap, ◌∙◌, subst}
+use Rattle.std.proofs.Common.{◌≡◌, ◌⊎◌, inl, inr, ℕ, List, [], ◌∷◌, ◌++◌, map, Option, Result, Ok, Err, sym, ap, ◌∙◌, subst}
 use Rattle.std.specs.List.{All}
-use Rattle.std.proofs.lemmas.List.Elements.{All-weaker, All-push}
+use Rattle.std.proofs.lemmas.List.Elements.{All-weaker, All-append}
 use Rattle.keybytes.specs.Answered.{Answered}
+use Rattle.keybytes.specs.Keys.{KeySpecValue}
 use Rattle.keybytes.specs.declared.fault.Fault.{Fault}
 use Rattle.keybytes.specs.declared.kind.Kind.{Kind}
 use Rattle.heap_log.specs.declared.record.LogRec.{LogRec}
@@ -18,9 +19,11 @@ use Rattle.builder_core.specs.Rings.{PagesFollow}
 use Rattle.builder_core.specs.CoreState.{BuildState, ReadyValue, AreIndexesOf, FollowTable}
 use Rattle.heap_log.specs.declared.record.LogRec.TheVariants.{Commit}
 use Rattle.side_file.specs.SideFileValue.{SideFileValue}
-use Rattle.builder_core.specs.SideFiles.{SideFollows}
+use Rattle.builder_core.specs.SideFiles.{SidesFollow}
+use Rattle.builder_core.specs.Steps.{index_now}
 use Rattle.builder_core.proofs.EntrySteps.{commit_entries}
-use Rattle.builder_core.proofs.SideKept.{side_plain}
+use Rattle.builder_core.proofs.SideKept.{sides_plain}
+use Rattle.builder_core.proofs.Places.{mapped_all, mapped_of}
 use Rattle.builder_core.proofs.Puts.{pages_kept}
 use Rattle.builder_core.proofs.TableBuilds.{build_kept, work_kept}
 
@@ -30,17 +33,20 @@ follow_kept old new ready keeps is =
     All-weaker (λ index. index.pairs ≡ pairs_at_rest index.spec old) (λ index. index.pairs ≡ pairs_at_rest index.spec new)
     (λ index e. e ∙ sym (pairs_kept index.spec old new keeps.live)) ready is
 
--- one more index is ready
+-- the indexes of a build are ready too, with the pairs of the rows that stand
 pub indexes_more :
-    (kinds new_kinds : List Kind) (old new : List LogRec) (ready : List ReadyValue) (index : ReadyValue) → new_kinds ≡ kinds → KeepsRows old new
-    → AreIndexesOf kinds old ready → index.spec.kinds ≡ kinds → index.pairs ≡ pairs_at_rest index.spec old
-    → AreIndexesOf new_kinds new (ready ++ index ∷ [])
-indexes_more kinds new_kinds old new ready index same keeps are columns here = record {
-  columns = subst (λ (ks : List Kind). All (λ x. x.spec.kinds ≡ ks) (ready ++ index ∷ [])) (sym same)
-      (All-push (λ index. index.spec.kinds ≡ kinds) ready index are.columns columns);
-  follow = All-push (λ index. index.pairs ≡ pairs_at_rest index.spec new) ready index (follow_kept old new ready keeps are.follow)
-      (here ∙ sym (pairs_kept index.spec old new keeps.live));
-}
+    (kinds new_kinds : List Kind) (old new : List LogRec) (ready : List ReadyValue) (specs : List KeySpecValue) → new_kinds ≡ kinds → KeepsRows old new
+    → AreIndexesOf kinds old ready → All (λ spec. spec.kinds ≡ kinds) specs → AreIndexesOf new_kinds new (ready ++ map (index_now old) specs)
+indexes_more kinds new_kinds old new ready specs same keeps are columns =
+    let more : List ReadyValue = map (index_now old) specs in
+    record {
+      columns = subst (λ (ks : List Kind). All (λ x. x.spec.kinds ≡ ks) (ready ++ more)) (sym same)
+          (All-append (λ index. index.spec.kinds ≡ kinds) ready more are.columns
+          (mapped_all (λ (index : ReadyValue). index.spec.kinds ≡ kinds) (index_now old) specs columns));
+      follow = All-append (λ index. index.pairs ≡ pairs_at_rest index.spec new) ready more (follow_kept old new ready keeps are.follow)
+          (mapped_of (λ (index : ReadyValue). index.pairs ≡ pairs_at_rest index.spec new) (index_now old) specs
+          (λ k spec at. sym (pairs_kept spec old new keeps.live)));
+    }
 
 -- what a commit leaves of the table: it is done, or nothing changed
 pub committed :
@@ -85,11 +91,11 @@ commit_pages old new txn builds build all (inl done) is put =
 commit_pages old new txn builds build all (inr refused) is put =
     subst (λ (h : HeapState). PagesFollow h.schema h.log builds build all) (sym refused) put
 
--- and the side-file is its own
-pub commit_side :
-    (old new : HeapState) (txn : ℕ) (build : Option BuildState) (side : SideFileValue) → (new ≡ after_commit old txn) ⊎ (new ≡ old)
-    → BuildFollows old.schema old.log build → SideFollows old.log build side → SideFollows new.log build side
-commit_side old new txn build side (inl done) is has =
-    subst (λ (h : HeapState). SideFollows h.log build side) (sym done)
-    (side_plain old.schema old.log (Commit txn) build side (λ s. commit_entries s old.log txn) is has)
-commit_side old new txn build side (inr refused) is has = subst (λ (h : HeapState). SideFollows h.log build side) (sym refused) has
+-- and the side-files are its own
+pub commit_sides :
+    (old new : HeapState) (txn : ℕ) (build : Option BuildState) (sides : List SideFileValue) → (new ≡ after_commit old txn) ⊎ (new ≡ old)
+    → BuildFollows old.schema old.log build → SidesFollow old.log build sides → SidesFollow new.log build sides
+commit_sides old new txn build sides (inl done) is has =
+    subst (λ (h : HeapState). SidesFollow h.log build sides) (sym done)
+    (sides_plain old.schema old.log (Commit txn) build sides (λ s. commit_entries s old.log txn) is has)
+commit_sides old new txn build sides (inr refused) is has = subst (λ (h : HeapState). SidesFollow h.log build sides) (sym refused) has

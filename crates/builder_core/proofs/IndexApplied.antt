@@ -1,11 +1,11 @@
 -- What entries that are applied leave of the index of a build, and of its work.
-use Rattle.std.proofs.Common.{◌≡◌, ℕ, ◌+◌, ◌-◌, ◌≤◌, true, List, [], ◌∷◌, ◌++◌, length, map, take, drop, append_assoc, Some, None, refl, sym, ap, ◌∙◌}
+use Rattle.std.proofs.Common.{◌≡◌, ℕ, ◌+◌, ◌-◌, ◌<◌, ◌≤◌, List, [], ◌∷◌, ◌++◌, length, map, set, take, drop, append_assoc, Some, None, refl, sym, ap, ap₂, ◌∙◌, inl, inr}
 use Rattle.std.proofs.Common.{subst, arith, take-add, take-take, take-append-drop, drop-drop}
 use Rattle.std.specs.Prelude.{is_some}
 use Rattle.std.specs.FinMap.{keys}
 use Rattle.std.specs.FinSet.{FinSet}
-use Rattle.std.proofs.lemmas.List.{take-map, drop-map}
-use Rattle.std.proofs.lemmas.Option.{same_Some}
+use Rattle.std.proofs.lemmas.List.{take-map, drop-map, map-set}
+use Rattle.std.proofs.lemmas.Option.{same_Some, get_or_from_slice_get}
 use Rattle.keybytes.specs.Pairs.{AreOrdered, pair_cmp, set_of}
 use Rattle.keybytes.specs.declared.pair.Pair.{Pair}
 use Rattle.side_file.specs.Entries.{entry_of}
@@ -16,14 +16,24 @@ use Rattle.visibility.specs.SideEntries.{SideEntry}
 use Rattle.visibility.proofs.Changes.{apply-append}
 use Rattle.catch_up.specs.Built.{told_to}
 use Rattle.catch_up.proofs.Telling.{told_entries}
-use Rattle.builder_core.specs.Builds.{LiveValue, BuildingValue, WorkValue, IsRunning, IsCaughtUpTo, IsWorkOn, WorksOn, work_state, core_state, index_state, first_spec}
+use Rattle.builder_core.specs.Builds.{LiveValue, BuildingValue, WorkValue, IndexValue, IsRunning, IsCaughtUpTo, IsIndexOn, AreFed, IsUnloaded, WorksOn, with_index}
+use Rattle.builder_core.specs.Builds.{work_state, core_state, index_state}
+use Rattle.building.specs.TakeEnd.{TakeEnd}
+use Rattle.catch_up.specs.Built.{BuiltValue}
+use Rattle.keybytes.specs.Keys.{KeySpecValue}
+use Rattle.side_file.specs.Ends.{PutEnd}
+use Rattle.std.specs.List.{slice_get}
+use Rattle.std.specs.Prelude.{◌==◌}
+use Rattle.std.proofs.lemmas.Bool.{cases_Bool, eqb-true, eqb-false}
+use Rattle.builder_core.proofs.Places.{at_set, set_there, set_elsewhere, here_set, stays_there, below, map_at}
+use Rattle.builder_core.proofs.Works.{set_work_on}
 use Rattle.builder_core.specs.CoreState.{BuildState, IndexState, WorkState, scanning_of}
 use Rattle.builder_core.specs.Scanning.{Scanning, scanned_pairs}
 use Rattle.builder_core.specs.SideEntries.{side_entries}
-use Rattle.builder_core.specs.SideFiles.{AreFedEntries, SeesSide}
+use Rattle.builder_core.specs.SideFiles.{IsFed, AreFedEntries, SeesSide}
 use Rattle.builder_core.specs.Steps.{after_apply}
-use Rattle.builder_core.specs.Workers.{fed_to, in_ring}
-use Rattle.builder_core.specs.Working.{CanApply, HasApplied}
+use Rattle.builder_core.specs.Workers.{fed_to, in_ring, index_at}
+use Rattle.builder_core.specs.Working.{IsTakingEntries, CanApply, HasApplied}
 use Rattle.builder_core.proofs.Feeding.{waiting_in_ring}
 use Rattle.builder_core.proofs.Refusals.{state_of, state_is, works_with}
 use Rattle.builder_core.proofs.TableBuilds.{set_of-keys}
@@ -44,11 +54,49 @@ last_dropped : {X : Type 0} (n k : ℕ) (xs : List X) → k ≤ n → n ≤ leng
 last_dropped n k xs few there =
     drop-drop k (length xs - n) xs ∙ ap (λ i. drop i xs) (let sum : (length xs - n) + k ≡ length xs - (n - k) = omega (arith, few, there) in sum)
 
-module _
-    (live : LiveValue) (building : BuildingValue) (b : BuildState) (w : WorkValue) (run : IsRunning live building b w) (fine : w.spoiled ≡ None)
-    (loaded : is_some w.built ≡ true) (fed : AreFedEntries live.state.heap.log b live.side) (waiting : ℕ) (sees : SeesSide waiting live.side building.side) where
+-- a running build that isn't spoiled, with one of its indexes: its pairs are in order, and both ends of its ring were looked at
+pub record AppliesNext (index waiting : ℕ) (live : LiveValue) (building : BuildingValue) : Type 0 where
+  pub build : BuildState
+  pub work : WorkValue
+  pub run : IsRunning live building build work
+  pub fine : work.spoiled ≡ None
+  pub spec : KeySpecValue
+  pub spec_at : slice_get build.specs index ≡ Some spec
+  pub it : IndexValue
+  pub it_at : slice_get work.indexes index ≡ Some it
+  pub built : BuiltValue
+  pub loaded : it.built ≡ Some built
+  pub put : PutEnd Entry
+  pub put_at : slice_get live.sides index ≡ Some put
+  pub end : TakeEnd Entry
+  pub end_at : slice_get building.sides index ≡ Some end
+  pub fed : AreFedEntries live.state.heap.log build index spec put
+  pub sees : SeesSide waiting put end
+
+-- whatever is told of one index is of the same
+pub same_taking :
+    (index : ℕ) (building : BuildingValue) (x y : IsTakingEntries index building) → (x.work ≡ y.work) × (x.it ≡ y.it) × (x.built ≡ y.built) × (x.end ≡ y.end)
+same_taking index building x y =
+    let work : x.work ≡ y.work = same_Some x.work y.work (sym x.runs ∙ y.runs) in
+    let it : x.it ≡ y.it = same_Some x.it y.it (sym x.there ∙ ap (λ (w : WorkValue). slice_get w.indexes index) work ∙ y.there) in
+    (work, it, same_Some x.built y.built (sym x.loaded ∙ ap (λ (i : IndexValue). i.built) it ∙ y.loaded), same_Some x.end y.end (sym x.at ∙ y.at))
+
+-- an index that isn't in order was not before another was
+pub unloaded_before :
+    (work : WorkValue) (index : ℕ) (pairs : List Pair) (applied k : ℕ) → index < length work.indexes → IsUnloaded k (with_index work index pairs applied) → IsUnloaded k work
+unloaded_before work index pairs applied k less none it at =
+    let new : IndexValue = record { built = Some (record { build = work.build; pairs = pairs }); applied = applied } in
+    elim (cases_Bool (k == index)) [
+      | inl same ↦
+          let there : slice_get (set work.indexes index new) k ≡ Some new =
+          ap (slice_get (set work.indexes index new)) (eqb-true k index same) ∙ here_set work.indexes index new less in
+          absurd (let bad : new.built ≡ None = none new there in cc)
+      | inr other ↦ none it (stays_there work.indexes index new k it (eqb-false k index other) at)
+    ]
+
+module _ (index waiting : ℕ) (live : LiveValue) (building : BuildingValue) (t : AppliesNext index waiting live building) where
   abbrev here : Scanning
-  here = scanning_of b (first_spec w)
+  here = scanning_of t.build t.spec
 
   abbrev entries : List SideEntry
   entries = side_entries here live.state.heap.log
@@ -56,138 +104,183 @@ module _
   abbrev scanned : FinSet pair_cmp
   scanned = set_of (scanned_pairs here live.state.heap.log)
 
-  abbrev put : SideEntry → Entry
-  put = entry_of b.number
+  abbrev as_put : SideEntry → Entry
+  as_put = entry_of t.build.number
 
-  fed_there : fed_to b 0 ≤ length entries
-  fed_there = fed.there (first_spec w) run.on.only
+  abbrev fed_now : ℕ
+  fed_now = fed_to t.build index
 
-  seen_is : (building.side.known ≡ last_ones (fed_to b 0 - w.applied) live.side.sent) × (waiting ≡ fed_to b 0 - w.applied)
-  seen_is = waiting_in_ring (fed_to b 0) w.applied waiting live.side building.side run.at_work.fed sees
+  on : IsIndexOn live.state.heap.log t.build t.spec t.it
+  on = t.run.on.indexes index t.spec t.it t.spec_at t.it_at
 
-  -- what waits, as callers see it
-  pub ring_is : waiting ≡ in_ring b (work_state building.workers building.work) 0
-  ring_is = seen_is.1 ∙ sym (ap (λ (s : WorkState). in_ring b s 0) (state_is building w run.work_is fine))
+  ring : IsFed fed_now t.it.applied t.put t.end
+  ring = t.run.at_work.fed index t.it t.put t.end t.it_at t.put_at t.end_at
 
-  -- it can be applied
-  pub can_apply : (count : ℕ) → count ≤ waiting → CanApply count building
-  can_apply count few = record {
-    work = w;
-    runs = run.work_is;
-    loaded = loaded;
-    ordered = λ built is. set_ordered (apply_entries (take w.applied entries) scanned) built.pairs (run.on.loaded built is);
-    seen = omega (arith, few, sees.counted);
-    countable = omega (arith, few, seen_is.1, run.at_work.fed.counted, run.at_work.fed.countable);
+  seen_is : (t.end.known ≡ last_ones (fed_now - t.it.applied) t.put.sent) × (waiting ≡ fed_now - t.it.applied)
+  seen_is = waiting_in_ring fed_now t.it.applied waiting t.put t.end ring t.sees
+
+  taking : IsTakingEntries index building
+  taking = record {
+    work = t.work;
+    runs = t.run.work_is;
+    it = t.it;
+    there = t.it_at;
+    built = t.built;
+    loaded = t.loaded;
+    of_build = on.of_build t.built t.loaded ∙ sym t.run.on.number;
+    end = t.end;
+    at = t.end_at;
   }
 
-  module _ (new : BuildingValue) (count : ℕ) (few : count ≤ waiting) (done : HasApplied building count new) where
-    same : done.work ≡ w
-    same = same_Some done.work w (sym done.runs ∙ run.work_is)
+  -- the index, as callers see it
+  pub index_seen : index_at (work_state building.workers building.work).indexes index ≡ index_state t.it
+  index_seen =
+      ap (λ (s : WorkState). index_at s.indexes index) (state_is building t.work t.run.work_is t.fine)
+      ∙ get_or_from_slice_get (map index_state t.work.indexes) index (index_state t.it) _ (map_at index_state t.work.indexes index t.it t.it_at)
 
-    within : w.applied + count ≤ fed_to b 0
-    within = omega (arith, few, seen_is.1, run.at_work.fed.counted)
+  -- what waits, as callers see it
+  pub ring_is : waiting ≡ in_ring t.build (work_state building.workers building.work) index
+  ring_is = seen_is.1 ∙ ap (λ (i : IndexState). fed_now - i.applied) (sym index_seen)
 
-    built_is : w.built ≡ Some done.before
-    built_is = ap (λ (x : WorkValue). x.built) (sym same) ∙ done.built
+  -- it can be applied
+  pub can_apply : (count : ℕ) → count ≤ waiting → CanApply index count building
+  unfolding taking
+  can_apply count few = record {
+    taking = taking;
+    ordered = set_ordered (apply_entries (take t.it.applied entries) scanned) t.built.pairs (on.loaded t.built t.loaded);
+    seen = omega (arith, few, t.sees.counted);
+    countable = omega (arith, few, seen_is.1, ring.counted, ring.countable);
+  }
+
+  module _ (new : BuildingValue) (count : ℕ) (few : count ≤ waiting) (done : HasApplied index building count new) where
+    same : (done.taking.work ≡ t.work) × (done.taking.it ≡ t.it) × (done.taking.built ≡ t.built) × (done.taking.end ≡ t.end)
+    unfolding taking
+    same = same_taking index building done.taking taking
+
+    within : t.it.applied + count ≤ fed_now
+    within = omega (arith, few, seen_is.1, ring.counted)
 
     -- they are the next of the build's entries
-    taken_are : take count building.side.known ≡ map put (take count (drop w.applied (take (fed_to b 0) entries)))
+    taken_are : take count t.end.known ≡ map as_put (take count (drop t.it.applied (take fed_now entries)))
     taken_are =
         ap (take count) (seen_is.0
-        ∙ sym (last_dropped (fed_to b 0) w.applied live.side.sent run.at_work.fed.counted run.at_work.fed.were_sent)
-        ∙ ap (drop w.applied) (fed.entries (first_spec w) run.on.only)
-        ∙ drop-map put w.applied (take (fed_to b 0) entries))
-        ∙ take-map put count (drop w.applied (take (fed_to b 0) entries))
+        ∙ sym (last_dropped fed_now t.it.applied t.put.sent ring.counted ring.were_sent)
+        ∙ ap (drop t.it.applied) t.fed.entries
+        ∙ drop-map as_put t.it.applied (take fed_now entries))
+        ∙ take-map as_put count (drop t.it.applied (take fed_now entries))
 
-    told_are : told_to done.before.build (take count building.side.known) ≡ take count (drop w.applied (take (fed_to b 0) entries))
+    told_are : told_to done.taking.built.build (take count done.taking.end.known) ≡ take count (drop t.it.applied (take fed_now entries))
     told_are =
-        ap (λ n. told_to n (take count building.side.known)) (run.on.of_build done.before built_is)
-        ∙ ap (told_to b.number) taken_are
-        ∙ told_entries b.number (take count (drop w.applied (take (fed_to b 0) entries)))
+        ap (λ (e : TakeEnd Entry). told_to done.taking.built.build (take count e.known)) same.3
+        ∙ ap (λ n. told_to n (take count t.end.known)) (ap (λ (x : BuiltValue). x.build) same.2 ∙ on.of_build t.built t.loaded)
+        ∙ ap (told_to t.build.number) taken_are
+        ∙ told_entries t.build.number (take count (drop t.it.applied (take fed_now entries)))
 
-    pairs_before : set_of done.before.pairs ≡ apply_entries (take w.applied entries) scanned
-    pairs_before = ap set_of (run.on.loaded done.before built_is) ∙ set_of-keys (apply_entries (take w.applied entries) scanned)
+    pairs_before : set_of done.taking.built.pairs ≡ apply_entries (take t.it.applied entries) scanned
+    pairs_before =
+        ap (λ (x : BuiltValue). set_of x.pairs) same.2 ∙ ap set_of (on.loaded t.built t.loaded)
+        ∙ set_of-keys (apply_entries (take t.it.applied entries) scanned)
 
-    caught_up : IsCaughtUpTo (w.applied + count) here live.state.heap.log done.pairs
+    caught_up : IsCaughtUpTo (t.it.applied + count) here live.state.heap.log done.pairs
     caught_up =
         done.ordered
         ∙ ap keys (done.applied
-        ∙ ap (λ es. apply_entries es (set_of done.before.pairs)) told_are
-        ∙ ap (apply_entries (take count (drop w.applied (take (fed_to b 0) entries)))) pairs_before
-        ∙ sym (apply-append (take w.applied entries) (take count (drop w.applied (take (fed_to b 0) entries))) scanned)
-        ∙ ap (λ es. apply_entries es scanned) (sym (next_of_first w.applied count (fed_to b 0) entries within)))
+        ∙ ap (λ es. apply_entries es (set_of done.taking.built.pairs)) told_are
+        ∙ ap (apply_entries (take count (drop t.it.applied (take fed_now entries)))) pairs_before
+        ∙ sym (apply-append (take t.it.applied entries) (take count (drop t.it.applied (take fed_now entries))) scanned)
+        ∙ ap (λ es. apply_entries es scanned) (sym (next_of_first t.it.applied count fed_now entries within)))
+
+    abbrev after_it : IndexValue
+    after_it = record { built = Some (record { build = t.work.build; pairs = done.pairs }); applied = t.it.applied + count }
 
     abbrev after : WorkValue
-    after = record w { built = Some (record { build = done.before.build; pairs = done.pairs }); applied = w.applied + count }
+    after = with_index t.work index done.pairs (t.it.applied + count)
 
     abbrev left : BuildingValue
-    left = record building { side = done.end; work = Some after }
+    left = record building { sides = set building.sides index done.end; work = Some after }
 
     left_is : new ≡ left
-    left_is = done.left ∙ ap (λ (x : WorkValue). record building {
-      side = done.end;
-      work = Some (record x { built = Some (record { build = done.before.build; pairs = done.pairs }); applied = x.applied + count });
-    }) same
+    left_is =
+        done.left
+        ∙ ap₂ (λ (w : WorkValue) (n : ℕ). record building { sides = set building.sides index done.end; work = Some (with_index w index done.pairs (n + count)) })
+        same.0 (ap (λ (i : IndexValue). i.applied) same.1)
 
-    work_on : IsWorkOn live.state.heap.schema live.state.heap.log b after
-    work_on = record {
-      number = run.on.number;
-      specs = run.on.specs;
-      only = run.on.only;
-      columns = run.on.columns;
-      workers = run.on.workers;
-      all = λ e. run.on.all loaded;
+    after_on : IsIndexOn live.state.heap.log t.build t.spec after_it
+    after_on = record {
+      all = λ e. on.all (ap is_some t.loaded);
       none_before = λ e. absurd (cc);
-      there = omega (arith, within, fed_there);
-      loaded = λ built is. subst (IsCaughtUpTo (w.applied + count) here live.state.heap.log) (let pairs : done.pairs ≡ built.pairs = cc in pairs) caught_up;
-      of_build = λ built is. let number : done.before.build ≡ built.build = cc in sym number ∙ run.on.of_build done.before built_is;
+      there = omega (arith, within, t.fed.there);
+      loaded = λ built is. subst (IsCaughtUpTo (t.it.applied + count) here live.state.heap.log) (let pairs : done.pairs ≡ built.pairs = cc in pairs) caught_up;
+      of_build = λ built is. let number : t.work.build ≡ built.build = cc in sym number ∙ t.run.on.number;
     }
 
-    in_order : done.end.received ++ last_ones (fed_to b 0 - (w.applied + count)) live.side.sent ≡ live.side.sent
+    in_order : done.end.received ++ last_ones (fed_now - (t.it.applied + count)) t.put.sent ≡ t.put.sent
     in_order =
-        let n : ℕ = fed_to b 0 - w.applied in
-        let rest : last_ones (fed_to b 0 - (w.applied + count)) live.side.sent ≡ drop count building.side.known =
-        ap (λ k. last_ones k live.side.sent) (let less : fed_to b 0 - (w.applied + count) ≡ n - count = omega arith in less)
-        ∙ sym (last_dropped n count live.side.sent (omega (arith, within)) (omega (arith, run.at_work.fed.were_sent)))
+        let n : ℕ = fed_now - t.it.applied in
+        let rest : last_ones (fed_now - (t.it.applied + count)) t.put.sent ≡ drop count t.end.known =
+        ap (λ k. last_ones k t.put.sent) (let less : fed_now - (t.it.applied + count) ≡ n - count = omega arith in less)
+        ∙ sym (last_dropped n count t.put.sent (omega (arith, within)) (omega (arith, ring.were_sent)))
         ∙ ap (drop count) (sym seen_is.0) in
         ap (λ es. done.end.received ++ es) rest
-        ∙ ap (λ es. es ++ drop count building.side.known) done.received
-        ∙ append_assoc building.side.received (take count building.side.known) (drop count building.side.known)
-        ∙ ap (λ es. building.side.received ++ es) (take-append-drop count building.side.known)
-        ∙ sees.in_order
+        ∙ ap (λ es. es ++ drop count t.end.known) (done.received ∙ ap (λ (e : TakeEnd Entry). e.received ++ take count e.known) same.3)
+        ∙ append_assoc t.end.received (take count t.end.known) (drop count t.end.known)
+        ∙ ap (λ es. t.end.received ++ es) (take-append-drop count t.end.known)
+        ∙ t.sees.in_order
+
+    ring_after : IsFed fed_now (t.it.applied + count) t.put done.end
+    ring_after = record {
+      same_ring = ring.same_ring ∙ sym (done.ring ∙ ap (λ (e : TakeEnd Entry). e.ring) same.3);
+      waiting = in_order;
+      counted = within;
+      were_sent = ring.were_sent;
+      countable = ring.countable;
+    }
+
+    fed_after : AreFed t.build after.indexes live.sides left.sides
+    fed_after k i p e at there taken = elim (at_set t.work.indexes index after_it k i at) [
+      | inl here_too ↦
+          let its_put : p ≡ t.put = same_Some p t.put (sym there ∙ ap (slice_get live.sides) here_too.0 ∙ t.put_at) in
+          let its_end : e ≡ done.end = set_there building.sides index done.end k e taken here_too.0 in
+          rw (here_too.1, here_too.0, its_put, its_end) ring_after
+      | inr other ↦ t.run.at_work.fed k i p e other.1 there (set_elsewhere building.sides index done.end k e taken other.0)
+    ]
 
     -- all goes on
     pub works_applied : WorksOn live new
     works_applied =
-        let kits = run.at_work.kits fine in
+        let kits = t.run.at_work.kits t.fine in
         subst (WorksOn live) (sym left_is)
-        (works_with live left b after (record {
-          build_is = run.build_is;
+        (works_with live left t.build after (record {
+          build_is = t.run.build_is;
           work_is = refl;
-          follows = run.follows;
-          on = work_on;
+          follows = t.run.follows;
+          on = set_work_on live.state.heap.schema live.state.heap.log t.build t.work index t.spec after_it t.run.on t.spec_at after_on;
           at_work = record {
-            fed = record {
-              same_ring = run.at_work.fed.same_ring ∙ sym done.ring;
-              waiting = in_order;
-              counted = within;
-              were_sent = run.at_work.fed.were_sent;
-              countable = run.at_work.fed.countable;
+            fed = fed_after;
+            given = t.run.at_work.given;
+            taking = λ f. t.run.at_work.taking t.fine;
+            kits = λ f. record {
+              equipped = kits.equipped;
+              opened = kits.opened;
+              holding = λ i s at none.
+                  kits.holding i s at (unloaded_before t.work index done.pairs (t.it.applied + count) i (below t.work.indexes index t.it t.it_at) none);
             };
-            given = run.at_work.given;
-            taking = λ f. run.at_work.taking fine;
-            kits = λ f. record { equipped = kits.equipped; opened = kits.opened; holding = λ index spec at none. absurd (cc) };
           };
         }))
 
     -- and callers see how far the index is
     pub state_applied :
-        core_state live new ≡ record (core_state live building) { work = after_apply (work_state building.workers building.work) 0 count }
+        core_state live new ≡ record (core_state live building) { work = after_apply (work_state building.workers building.work) index count }
     state_applied =
-        let index : index_state after ≡ record (index_state w) { applied = w.applied + count } =
-        ap (λ l. record { loaded = l; applied = w.applied + count }) (sym loaded) in
+        let before : WorkState = state_of building t.work in
+        let it : index_state after_it ≡ record (index_state t.it) { applied = t.it.applied + count } =
+        ap (λ l. record { loaded = l; applied = t.it.applied + count }) (sym (ap is_some t.loaded)) in
+        let old : index_at (map index_state t.work.indexes) index ≡ index_state t.it =
+        get_or_from_slice_get (map index_state t.work.indexes) index (index_state t.it) _ (map_at index_state t.work.indexes index t.it t.it_at) in
         ap (core_state live) left_is
         ∙ ap (λ (s : WorkState). record (core_state live building) { work = s })
-        (state_is left after refl fine
-        ∙ ap (λ (i : IndexState). record (state_of building w) { indexes = i ∷ [] }) index
-        ∙ sym (ap (λ (s : WorkState). after_apply s 0 count) (state_is building w run.work_is fine)))
+        (state_is left after refl t.fine
+        ∙ ap (λ (is : List IndexState). record before { indexes = is })
+        (map-set index_state t.work.indexes index after_it
+        ∙ ap (set (map index_state t.work.indexes) index) (it ∙ sym (ap (λ (i : IndexState). record i { applied = i.applied + count }) old)))
+        ∙ sym (ap (λ (s : WorkState). after_apply s index count) (state_is building t.work t.run.work_is t.fine)))

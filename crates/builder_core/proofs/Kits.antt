@@ -3,7 +3,7 @@ use Rattle.std.proofs.Common.{◌≡◌, ℕ, zero, suc, ◌+◌, ◌*◌, ◌<�
 use Rattle.std.proofs.Common.{ap, ap₂, ◌∙◌, subst, inl, inr, arith}
 use Rattle.std.specs.Prelude.{◌==◌, ◌-◌, None, Option, replicate}
 use Rattle.std.specs.List.{slice_get, list_all}
-use Rattle.std.proofs.lemmas.Bool.{and_parts, eqb-true}
+use Rattle.std.proofs.lemmas.Bool.{cases_Bool, and_parts, eqb-true, eqb-false}
 use Rattle.std.proofs.lemmas.List.{length-map, length-set, length-replicate, nil_from_length}
 use Rattle.std.proofs.lemmas.Option.{same_Some}
 use Rattle.std.proofs.lemmas.List.Elements.{All-nil, All-head, All-tail}
@@ -20,7 +20,7 @@ use Rattle.building.specs.Work.{knowing}
 use Rattle.building.specs.WorkerValue.{WorkerValue}
 use Rattle.building.specs.declared.copied.Copied.{Copied}
 use Rattle.building.proofs.Taking.{start_holds, start_open}
-use Rattle.builder_core.specs.Builds.{WorkValue, HaveKits, fresh}
+use Rattle.builder_core.specs.Builds.{WorkValue, HaveKits, IsUnloaded, fresh}
 use Rattle.builder_core.specs.Columns.{own_spools, with_own, with_every}
 use Rattle.builder_core.specs.Holding.{SpoolValue, Kit, IsFit, AreEquipped, HoldsAt, AreHolding, AreOpen, holdings, kit_of, runs_of, fresh_maker}
 use Rattle.builder_core.specs.Holding.{ended_spool, ended_column, spool_value, spools_state, spools_in}
@@ -116,7 +116,7 @@ pub kits_set :
     (count : ℕ) (workers : List WorkerValue) (spools : List SpoolValue) (w : WorkValue) (i : ℕ) (new : WorkerValue) (after : Kit) → i < count
     → HaveKits count workers spools w → IsFit w.specs after
     → ((index : ℕ) (spec : KeySpecValue) → slice_get w.specs index ≡ Some spec → HoldsOpen spec (unsealed_images new) (get_or after.maker.begun index []))
-    → ((index : ℕ) (spec : KeySpecValue) → slice_get w.specs index ≡ Some spec → w.built ≡ None → HoldsAt index spec (received_images new) (holdings after))
+    → ((index : ℕ) (spec : KeySpecValue) → slice_get w.specs index ≡ Some spec → IsUnloaded index w → HoldsAt index spec (received_images new) (holdings after))
     → HaveKits count (set workers i new) (with_own (length w.specs) i after.spools spools) (record w { makers = set w.makers i after.maker })
 kits_set count workers spools w i new after less kits fit opened held =
     let enough = lent_to w.specs count i w.makers spools kits.equipped less in
@@ -239,10 +239,10 @@ holding_elsewhere n i j spec count workers makers spools there here other holdin
 
 -- once the pairs of an index are in order, and its spools ended, the kits are as fit
 pub kits_sorted :
-    (count : ℕ) (workers : List WorkerValue) (spools : List SpoolValue) (index : ℕ) (w sorted : WorkValue) → HaveKits count workers spools w
-    → sorted.specs ≡ w.specs → sorted.makers ≡ w.makers → (sorted.built ≡ None → ⊥)
-    → HaveKits count workers (ended_column index (length w.specs) spools) sorted
-kits_sorted count workers spools index w sorted kits same_specs same_makers some =
+    (count : ℕ) (workers : List WorkerValue) (spools : List SpoolValue) (index : ℕ) (w sorted : WorkValue) → index < length w.specs
+    → HaveKits count workers spools w → sorted.specs ≡ w.specs → sorted.makers ≡ w.makers → (IsUnloaded index sorted → ⊥)
+    → ((i : ℕ) → IsUnloaded i sorted → IsUnloaded i w) → HaveKits count workers (ended_column index (length w.specs) spools) sorted
+kits_sorted count workers spools index w sorted there kits same_specs same_makers some before =
     let n : ℕ = length w.specs in
     record {
       equipped = rw (same_specs, same_makers) (record {
@@ -266,7 +266,12 @@ kits_sorted count workers spools index w sorted kits same_specs same_makers some
             };
       });
       opened = rw (same_specs, same_makers) kits.opened;
-      holding = λ i spec at none. absurd (some none);
+      holding = rw (same_specs, same_makers) (λ i spec at none. elim (cases_Bool (i == index)) [
+        | inl same ↦ absurd (some (subst (λ (k : ℕ). IsUnloaded k sorted) (eqb-true i index same) none))
+        | inr other ↦
+            holding_elsewhere n index i spec count workers w.makers spools there (below w.specs i spec at) (eqb-false i index other)
+            (kits.holding i spec at (before i none))
+      ]);
     }
 
 -- spools of any kind that were ended

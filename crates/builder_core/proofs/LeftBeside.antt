@@ -1,7 +1,7 @@
 -- What a call leaves beside a table, put together from what its parts left.
-use Rattle.std.proofs.Common.{◌≡◌, ℕ, ◌-◌, ◌*◌, ◌<◌, length, Bool, false, ◌&&◌, List, [], ◌∷◌, All, map, Option, Some, None, refl, sym, ap, ◌∙◌, subst}
+use Rattle.std.proofs.Common.{◌≡◌, ℕ, ◌-◌, ◌*◌, ◌<◌, length, Bool, false, ◌&&◌, List, [], ◌∷◌, All, map, set, Option, Some, None, refl, sym, ap, ◌∙◌, subst}
 use Rattle.std.specs.Prelude.{is_some}
-use Rattle.std.specs.List.{list_all}
+use Rattle.std.specs.List.{list_all, slice_get}
 use Rattle.spool_ledger.specs.Accounts.{Stake}
 use Rattle.keybytes.specs.Keys.{KeySpecValue}
 use Rattle.keybytes.specs.declared.fault.Fault.{Fault}
@@ -11,7 +11,7 @@ use Rattle.run_spool.specs.Spools.{AreSorted, holds_nothing}
 use Rattle.run_maker.specs.Making.{MakerValue}
 use Rattle.building.specs.WorkerValue.{WorkerValue}
 use Rattle.catch_up.specs.Built.{BuiltValue}
-use Rattle.builder_core.specs.Builds.{BuildingValue, WorkValue, after_sort}
+use Rattle.builder_core.specs.Builds.{BuildingValue, WorkValue, IndexValue, IsUnloaded, with_index}
 use Rattle.builder_core.specs.Columns.{column}
 use Rattle.builder_core.specs.Holding.{SpoolValue, Kit, runs_of, pairs_in, spool_value, spools_state, ended_column}
 use Rattle.builder_core.specs.Working.{AreEachOnce, CanLoad, CanTake, CanTakeAt, HasTaken, HasTakenAt, IsSpoiled}
@@ -56,9 +56,10 @@ module _ {S : Type 0} (runs : S → List (List Pair)) (open_run : S → List Pai
 -- what is asked of work and spools for a load of an index
 pub record CanSort (index : ℕ) (work : WorkValue) (spools : List SpoolValue) : Type 0 where
   pub there : index < length work.specs
+  pub many : length work.indexes ≡ length work.specs
   pub lent : length spools ≡ work.workers * length work.specs
-  pub sorted : work.built ≡ None → All AreSorted (runs_of (column index (length work.specs) spools))
-  pub once : work.built ≡ None → AreEachOnce (pairs_in (column index (length work.specs) spools))
+  pub sorted : IsUnloaded index work → All AreSorted (runs_of (column index (length work.specs) spools))
+  pub once : IsUnloaded index work → AreEachOnce (pairs_in (column index (length work.specs) spools))
 
 -- the work of the build that runs, as it was seen
 module _ (old seen : BuildingValue) (work held : WorkValue) (same : seen ≡ old) (runs : seen.work ≡ Some work) (is : held ≡ work) where
@@ -83,20 +84,23 @@ module _ (old seen : BuildingValue) (work held : WorkValue) (same : seen ≡ old
   -- the pairs of an index are put in order
   pub left_sorted :
       (index : ℕ) (spools : List SpoolValue) (built : BuiltValue) → spools ≡ ended_column index (length work.specs) seen.spools → built.build ≡ held.build
-      → record seen { spools = spools; work = Some (record held { built = Some built }) }
-      ≡ record old { spools = ended_column index (length work.specs) old.spools; work = Some (after_sort work built.pairs) }
+      → record seen { spools = spools; work = Some (record held { indexes = set held.indexes index (record { built = Some built; applied = 0 }) }) }
+      ≡ record old { spools = ended_column index (length work.specs) old.spools; work = Some (with_index work index built.pairs 0) }
   left_sorted index spools built ended number = rw (ended, same, is) (ap of_build (number ∙ ap (λ (w : WorkValue). w.build) is)) where
     of_build : ℕ → BuildingValue
     of_build n = record old {
       spools = ended_column index (length work.specs) old.spools;
-      work = Some (record work { built = Some (record { build = n; pairs = built.pairs }) });
+      work = Some (record work {
+        indexes = set work.indexes index (record { built = Some (record { build = n; pairs = built.pairs }); applied = 0 });
+      });
     }
 
   -- its pairs can be put in order
   pub can_load : (index : ℕ) → CanLoad index old → CanSort index work seen.spools
   can_load index can =
       let it : can.work ≡ work = the_work old.work can.work work can.runs its_work in
-      let here : CanSort index can.work old.spools = record { there = can.there; lent = can.lent; sorted = can.sorted; once = can.once } in
+      let here : CanSort index can.work old.spools =
+      record { there = can.there; many = can.many; lent = can.lent; sorted = can.sorted; once = can.once } in
       subst (λ (b : BuildingValue). CanSort index work b.spools) (sym same) (subst (λ (w : WorkValue). CanSort index w old.spools) it here)
 
   -- a worker takes some of its copies
@@ -123,6 +127,10 @@ module _ (old seen : BuildingValue) (work held : WorkValue) (same : seen ≡ old
     }
 
 -- pairs that aren't in order are in no tree
-pub no_tree : (built : Option BuiltValue) → false ≡ is_some built → built ≡ None
+no_tree : (built : Option BuiltValue) → false ≡ is_some built → built ≡ None
 no_tree None none = refl
 no_tree (Some built) none = absurd (cc)
+
+pub is_unloaded :
+    (work : WorkValue) (index : ℕ) → ((it : IndexValue) → slice_get work.indexes index ≡ Some it → false ≡ is_some it.built) → IsUnloaded index work
+is_unloaded work index none it at = no_tree it.built (none it at)

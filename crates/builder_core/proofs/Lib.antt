@@ -7,6 +7,7 @@ pub mod Columns
 pub mod Copies
 pub mod CopyPairs
 pub mod Distinct
+pub mod Emptied
 pub mod EntrySteps
 pub mod Examples
 pub mod FedBeside
@@ -21,6 +22,7 @@ pub mod Looks
 pub mod Making
 pub mod Merges
 pub mod NextPages
+pub mod Noting
 pub mod OneKit
 pub mod OneRing
 pub mod OneWorker
@@ -38,6 +40,7 @@ pub mod ScanExamples
 pub mod ScanSteps
 pub mod Sealed
 pub mod Seen
+pub mod SideEnds
 pub mod SideFollows
 pub mod SideKept
 pub mod SideKeys
@@ -52,4 +55,5 @@ pub mod TakenOut
 pub mod Takes
 pub mod Told
 pub mod Waits
+pub mod Unloaded
 pub mod Works

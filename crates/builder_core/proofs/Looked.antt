@@ -15,7 +15,7 @@ states_looked old new None same = refl
 states_looked old new (Some w) same = by_fault w.spoiled where
   by_fault : (o : Option _) → state_unless o new w ≡ state_unless o old w
   by_fault (Some fault) = refl
-  by_fault None = ap (λ ws. record { workers = ws; indexes = index_state w ∷ []; spoiled = None }) (states_same w.workers old new same)
+  by_fault None = ap (λ ws. record { workers = ws; indexes = map index_state w.indexes; spoiled = None }) (states_same w.workers old new same)
 
 pub state_looked : (live new_live : LiveValue) (building new : BuildingValue) → HasLooked live building new_live new → core_state new_live new ≡ core_state live building
 state_looked live new_live building new looked =
@@ -30,11 +30,11 @@ state_looked live new_live building new looked =
 -- and all goes on
 workers_after :
     (live new_live : LiveValue) (building new : BuildingValue) (build : Option BuildState) (work : Option WorkValue) → HasLooked live building new_live new
-    → WorkersFollow live.pages live.side building build work → WorkersFollow new_live.pages new_live.side new build work
+    → WorkersFollow live.pages live.sides building build work → WorkersFollow new_live.pages new_live.sides new build work
 workers_after live new_live building new None work looked follow = tt
 workers_after live new_live building new (Some b) None looked follow = tt
 workers_after live new_live building new (Some b) (Some w) looked follow = record {
-  fed = rw (looked.side, looked.other_side) follow.fed;
+  fed = rw (looked.sides, looked.other_sides) follow.fed;
   given = looked.given ∙ follow.given;
   taking = λ fine. rw looked.rings.sent (taking_same b.number b.workers _ building.workers new.workers looked.rings.same (follow.taking fine));
   kits = λ fine.
@@ -46,8 +46,8 @@ pub works_looked : (live new_live : LiveValue) (building new : BuildingValue) �
 works_looked live new_live building new looked works = record {
   work = rw (looked.state, looked.work) works.work;
   workers =
-      subst (WorkersFollow new_live.pages new_live.side new new_live.state.build) (sym looked.work)
-      (subst (λ (s : LiveState). WorkersFollow new_live.pages new_live.side new s.build building.work) (sym looked.state)
+      subst (WorkersFollow new_live.pages new_live.sides new new_live.state.build) (sym looked.work)
+      (subst (λ (s : LiveState). WorkersFollow new_live.pages new_live.sides new s.build building.work) (sym looked.state)
       (workers_after live new_live building new live.state.build building.work looked works.workers));
 }
 

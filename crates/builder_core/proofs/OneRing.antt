@@ -27,11 +27,12 @@ use Rattle.builder_core.proofs.TableBuilds.{next_written}
 
 -- the ends are of the same rings
 pub put_ends_set :
-    (page_rings side_ring : List RingId) (pages : List (PutEnd Copied)) (side : PutEnd Entry) (i : ℕ) (new old : PutEnd Copied)
-    → ArePutEnds page_rings side_ring pages side → old ≡ get_or pages i old → new.ring ≡ old.ring → ArePutEnds page_rings side_ring (set pages i new) side
-put_ends_set page_rings side_ring pages side i new old are at same = record {
+    (page_rings entry_rings : List RingId) (pages : List (PutEnd Copied)) (sides : List (PutEnd Entry)) (i : ℕ) (new old : PutEnd Copied)
+    → ArePutEnds page_rings entry_rings pages sides → old ≡ get_or pages i old → new.ring ≡ old.ring → ArePutEnds page_rings entry_rings (set pages i new) sides
+put_ends_set page_rings entry_rings pages sides i new old are at same = record {
   pages_are = kept (λ (end : PutEnd Copied). end.ring) pages page_rings i new old are.pages_are (same ∙ ap (λ (end : PutEnd Copied). end.ring) at);
-  side_is = are.side_is;
+  sides_are = are.sides_are;
+  eight = are.eight;
   sixteen = length-set pages i new ∙ are.sixteen;
 }
 
@@ -46,11 +47,11 @@ sent_put pages i new = map-set (λ (end : PutEnd Copied). end.sent) pages i new
 
 -- the workers go on as before
 pub workers_looked :
-    (old new : List (PutEnd Copied)) (side : PutEnd Entry) (building : BuildingValue) (build : Option BuildState) (work : Option WorkValue)
-    → all_sent new ≡ all_sent old → WorkersFollow old side building build work → WorkersFollow new side building build work
-workers_looked old new side building None work same follow = tt
-workers_looked old new side building (Some b) None same follow = tt
-workers_looked old new side building (Some b) (Some w) same follow = record {
+    (old new : List (PutEnd Copied)) (sides : List (PutEnd Entry)) (building : BuildingValue) (build : Option BuildState) (work : Option WorkValue)
+    → all_sent new ≡ all_sent old → WorkersFollow old sides building build work → WorkersFollow new sides building build work
+workers_looked old new sides building None work same follow = tt
+workers_looked old new sides building (Some b) None same follow = tt
+workers_looked old new sides building (Some b) (Some w) same follow = record {
   fed = follow.fed;
   given = follow.given;
   taking = λ fine. subst (λ (all : List (List Copied)). AreTaking b.number b.workers all building.workers) (sym same) (follow.taking fine);
@@ -112,12 +113,12 @@ put_next kinds log builds b all worker page records number sent image is there n
 
 -- a worker goes on taking what its ring is sent
 pub workers_put :
-    (pages : List (PutEnd Copied)) (side : PutEnd Entry) (building : BuildingValue) (b new : BuildState) (work : Option WorkValue)
-    (i : ℕ) (sent : List Copied) (copied : Copied) (put : List (PutEnd Copied)) → WorkersFollow pages side building (Some b) work
+    (pages : List (PutEnd Copied)) (sides : List (PutEnd Entry)) (building : BuildingValue) (b new : BuildState) (work : Option WorkValue)
+    (i : ℕ) (sent : List Copied) (copied : Copied) (put : List (PutEnd Copied)) → WorkersFollow pages sides building (Some b) work
     → slice_get (all_sent pages) i ≡ Some sent → all_sent put ≡ set (all_sent pages) i (sent ++ copied ∷ []) → copied.build ≡ b.number
-    → new.number ≡ b.number → new.workers ≡ b.workers → new.fed ≡ b.fed → WorkersFollow put side building (Some new) work
-workers_put pages side building b new None i sent copied put follow there is own number workers fed = tt
-workers_put pages side building b new (Some w) i sent copied put follow there is own number workers fed = record {
+    → new.number ≡ b.number → new.workers ≡ b.workers → new.fed ≡ b.fed → WorkersFollow put sides building (Some new) work
+workers_put pages sides building b new None i sent copied put follow there is own number workers fed = tt
+workers_put pages sides building b new (Some w) i sent copied put follow there is own number workers fed = record {
   fed = rw fed follow.fed;
   taking = λ fine.
       rw (is, number, workers) (taking_put b.number b.workers (all_sent pages) building.workers i (sent ++ copied ∷ []) (follow.taking fine)

@@ -17,19 +17,20 @@ use Rattle.builder_core.proofs.Places.{as_long, mapped}
 
 -- workers that take from the same rings
 pub ends_same :
-    (page_rings side_ring : List RingId) (workers new : List WorkerValue) (side : TakeEnd Entry) → AreTakeEnds page_rings side_ring workers side
-    → take_rings new ≡ take_rings workers → AreTakeEnds page_rings side_ring new side
-ends_same page_rings side_ring workers new side are same = record {
+    (page_rings entry_rings : List RingId) (workers new : List WorkerValue) (sides : List (TakeEnd Entry)) → AreTakeEnds page_rings entry_rings workers sides
+    → take_rings new ≡ take_rings workers → AreTakeEnds page_rings entry_rings new sides
+ends_same page_rings entry_rings workers new sides are same = record {
   workers_are = same ∙ are.workers_are;
-  side_is = are.side_is;
+  sides_are = are.sides_are;
+  eight = are.eight;
   sixteen = as_long (λ (w : WorkerValue). w.end.ring) (λ (w : WorkerValue). w.end.ring) new workers same ∙ are.sixteen;
 }
 
 -- workers whose rings were looked at have the rings that they had
 pub ends_looked :
-    (page_rings side_ring : List RingId) (workers new : List WorkerValue) (side : TakeEnd Entry) → AreTakeEnds page_rings side_ring workers side
-    → map (knowing []) new ≡ map (knowing []) workers → AreTakeEnds page_rings side_ring new side
-ends_looked page_rings side_ring workers new side are same = ends_same page_rings side_ring workers new side are (takes_looked workers new same)
+    (page_rings entry_rings : List RingId) (workers new : List WorkerValue) (sides : List (TakeEnd Entry)) → AreTakeEnds page_rings entry_rings workers sides
+    → map (knowing []) new ≡ map (knowing []) workers → AreTakeEnds page_rings entry_rings new sides
+ends_looked page_rings entry_rings workers new sides are same = ends_same page_rings entry_rings workers new sides are (takes_looked workers new same)
 
 pub the_work : (o : Option WorkValue) (a b : WorkValue) → o ≡ Some a → o ≡ Some b → a ≡ b
 the_work o a b one other = same_Some a b (sym one ∙ other)

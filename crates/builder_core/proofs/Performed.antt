@@ -1,12 +1,12 @@
 -- A change that was made ready and is performed adds its entries.
-use Rattle.std.proofs.Common.{◌≡◌, ℕ, cond, List, [], ◌∷◌, ◌++◌, length, map, Option, Some, None, refl, sym, ap, ◌∙◌, subst, append_assoc}
+use Rattle.std.proofs.Common.{◌≡◌, ◌≤◌, ℕ, cond, true, List, [], ◌∷◌, ◌++◌, length, map, Option, Some, None, refl, sym, ap, ◌∙◌, subst, append_assoc, arith}
 use Rattle.std.specs.Prelude.{IsSome, IfSome}
-use Rattle.std.specs.List.{All}
+use Rattle.std.specs.List.{All, slice_get}
 use Rattle.std.proofs.lemmas.Bool.{false≢true}
 use Rattle.std.proofs.lemmas.List.{map-append}
 use Rattle.keybytes.specs.Keys.{KeySpecValue, IsKeyOf}
 use Rattle.heap_table.specs.Kept.{IsTableRow}
-use Rattle.std.proofs.lemmas.List.Elements.{All-append, All-from_recursion}
+use Rattle.std.proofs.lemmas.List.Elements.{All-append, All-from_recursion, All-weaker}
 use Rattle.keybytes.specs.Pairs.{pair_with}
 use Rattle.keybytes.specs.declared.cell.Cell.{Cell}
 use Rattle.keybytes.specs.declared.rid.Rid.{Rid}
@@ -29,12 +29,17 @@ use Rattle.builder_core.specs.Builds.{WorkValue, IsBuildOf, IsWorkOf, BuildFollo
 use Rattle.builder_core.specs.CoreState.{BuildState, scanning_of}
 use Rattle.builder_core.specs.Scanning.{Scanning, is_visible}
 use Rattle.builder_core.specs.SideEntries.{entries_of, side_entries}
-use Rattle.builder_core.specs.SideFiles.{noted, HasEntries, SideFollows}
+use Rattle.builder_core.specs.SideFiles.{noted, HasEntries, SidesFollow}
+use Rattle.builder_core.specs.Changing.{IsLonger, HaveNoted, FitsBuild, FitsColumns}
+use Rattle.builder_core.proofs.Places.{below, there_is}
+use Rattle.side_file.specs.declared.entry.Entry.{Entry}
+use Rattle.keybytes.specs.Cells.{fits}
+use Rattle.keybytes.specs.declared.kind.Kind.{Kind}
 use Rattle.builder_core.proofs.EntrySteps.{entries_where, more_entries}
 use Rattle.builder_core.proofs.ScanSteps.{visible_now}
 use Rattle.builder_core.specs.Rings.{PagesFollow}
 use Rattle.builder_core.proofs.Puts.{pages_kept}
-use Rattle.builder_core.proofs.TableBuilds.{build_kept, work_kept, scanned_for, columns_for}
+use Rattle.builder_core.proofs.TableBuilds.{build_kept, work_kept, columns_at}
 use Rattle.builder_core.proofs.SideKeys.{noted_keys}
 
 -- the record of a change
@@ -80,16 +85,16 @@ module _ (h : HeapValue) (ready : Ready) (is : IsReady h ready) (change : IsLawf
   schema_is = schema_stays h.state ready.txn ready.rid ready.undone ready.new
 
   -- what it appends, by the state of the scan at that moment
-  noted_entries : (b : BuildState) (spec : KeySpecValue) → IsBuildOf h.state.schema log b → b.specs ≡ spec ∷ []
+  noted_entries : (b : BuildState) (spec : KeySpecValue) → IsBuildOf h.state.schema log b
       → entries_of (scanning_of b spec) log (rec_ready ready) ≡ noted b spec ready.rid ready.old ready.new
-  noted_entries b spec build one =
+  noted_entries b spec build =
       let here : Scanning = scanning_of b spec in
       let rid : Rid = ready.rid in
       entries_where here log (rec_ready ready) rid ready.new
       (changed_there h.state ready.txn rid ready.undone ready.old ready.new is.lawful)
       (ap (λ l. live_at l rid) (sym grows) ∙ sets.here)
       ∙ ap (λ o. cond (is_visible here (length log) rid) (changes (pair_with spec rid o) (pair_with spec rid ready.new)) []) (sym is.old)
-      ∙ ap (λ x. cond x (changes (pair_with spec rid ready.old) (pair_with spec rid ready.new)) []) (visible_now here log rid (scanned_for h.state.schema log b build spec one))
+      ∙ ap (λ x. cond x (changes (pair_with spec rid ready.old) (pair_with spec rid ready.new)) []) (visible_now here log rid (build.scanned spec))
 
   pub follows_on : (build : Option BuildState) → BuildFollows h.state.schema log build
       → BuildFollows (after_ready h.state ready).schema (after_ready h.state ready).log build
@@ -112,40 +117,63 @@ module _ (h : HeapValue) (ready : Ready) (is : IsReady h ready) (change : IsLawf
       (subst (λ l. PagesFollow h.state.schema l builds build all) (sym grows) (pages_kept h.state.schema log (rec_ready ready) builds build all is_of put))
 
   side_on :
-      (b : BuildState) (old new : SideFileValue) → IsBuildOf h.state.schema log b → HasEntries log b old → new.fed ≡ old.fed
-      → ((spec : KeySpecValue) → b.specs ≡ spec ∷ [] → new.left ≡ old.left ++ map (entry_of b.number) (noted b spec ready.rid ready.old ready.new))
-      → HasEntries (after_ready h.state ready).log b new
-  side_on b old new build has fed left = record {
-    entries = λ spec one.
-        let here : Scanning = scanning_of b spec in
-        let put : SideEntry → _ = entry_of b.number in
-        appended spec one
-        ∙ ap (λ es. es ++ map put (noted b spec ready.rid ready.old ready.new)) (has.entries spec one)
-        ∙ ap (λ es. map put (side_entries here log) ++ map put es) (sym (noted_entries b spec build one))
+      (b : BuildState) (index : ℕ) (spec : KeySpecValue) (old new : SideFileValue) → IsBuildOf h.state.schema log b → slice_get b.specs index ≡ Some spec
+      → HasEntries log b index spec old → IsLonger (map (entry_of b.number) (noted b spec ready.rid ready.old ready.new)) old new
+      → HasEntries (after_ready h.state ready).log b index spec new
+  side_on b index spec old new build at has longer = record {
+    entries =
+        appended
+        ∙ ap (λ es. es ++ map put (noted b spec ready.rid ready.old ready.new)) has.entries
+        ∙ ap (λ es. map put (side_entries here log) ++ map put es) (sym (noted_entries b spec build))
         ∙ sym (map-append put (side_entries here log) (entries_of here log (rec_ready ready)))
-        ∙ ap (map put) (sym (more_entries here log (rec_ready ready) (scanned_for h.state.schema log b build spec one).opened))
+        ∙ ap (map put) (sym (more_entries here log (rec_ready ready) (build.scanned spec).opened))
         ∙ ap (λ l. map put (side_entries here l)) (sym grows);
-    keys = λ spec one.
-        let columns : spec.kinds ≡ h.state.schema = columns_for h.state.schema log b build spec one in
+    keys =
+        let columns : spec.kinds ≡ h.state.schema = columns_at h.state.schema log b index spec build at in
         let old_row : IfSome ready.old (IsTableRow spec.kinds) = subst (λ k. IfSome ready.old (IsTableRow k)) (sym columns) change.old_fits in
         let new_row : IfSome ready.new (IsTableRow spec.kinds) = subst (λ k. IfSome ready.new (IsTableRow k)) (sym columns) change.new_fits in
-        subst (All (λ entry. IsKeyOf spec entry.key)) (sym (appended spec one))
-        (All-append (λ entry. IsKeyOf spec entry.key) (all_appended old) _ (has.keys spec one)
+        subst (All (λ entry. IsKeyOf spec entry.key)) (sym appended)
+        (All-append (λ entry. IsKeyOf spec entry.key) (all_appended old) _ has.keys
         (All-from_recursion (λ entry. IsKeyOf spec entry.key) _ (noted_keys b spec ready.rid ready.old ready.new old_row new_row)));
-    count = has.count ∙ ap (λ es. length es ∷ []) (sym fed);
+    count = has.count ∙ ap length (sym longer.fed);
   } where
-    appended :
-        (spec : KeySpecValue) → b.specs ≡ spec ∷ []
-        → all_appended new ≡ all_appended old ++ map (entry_of b.number) (noted b spec ready.rid ready.old ready.new)
-    appended spec one =
-        ap (λ es. es ++ new.left) fed ∙ ap (λ es. old.fed ++ es) (left spec one)
-        ∙ sym (append_assoc old.fed old.left (map (entry_of b.number) (noted b spec ready.rid ready.old ready.new)))
+    here : Scanning
+    here = scanning_of b spec
 
-  -- the side-file of the running build, if one runs, follows the change
-  pub side_follows_on :
-      (build : Option BuildState) (old new : SideFileValue) → BuildFollows h.state.schema log build → SideFollows log build old → new.fed ≡ old.fed
-      → IfSome build (λ b. (spec : KeySpecValue) → b.specs ≡ spec ∷ []
-      → new.left ≡ old.left ++ map (entry_of b.number) (noted b spec ready.rid ready.old ready.new))
-      → SideFollows (after_ready h.state ready).log build new
-  side_follows_on None old new is_of has fed left = tt
-  side_follows_on (Some b) old new is_of has fed left = side_on b old new is_of has fed left
+    put : SideEntry → Entry
+    put = entry_of b.number
+
+    appended : all_appended new ≡ all_appended old ++ map put (noted b spec ready.rid ready.old ready.new)
+    appended =
+        ap (λ es. es ++ new.left) longer.fed ∙ ap (λ es. old.fed ++ es) longer.left
+        ∙ sym (append_assoc old.fed old.left (map put (noted b spec ready.rid ready.old ready.new)))
+
+  -- the side-files of the running build, if one runs, follow the change
+  pub sides_follow_on :
+      (build : Option BuildState) (olds news : List SideFileValue) → length olds ≡ length news → BuildFollows h.state.schema log build → SidesFollow log build olds
+      → IfSome build (λ b. HaveNoted b ready olds news) → SidesFollow (after_ready h.state ready).log build news
+  sides_follow_on None olds news many is_of has noted = tt
+  sides_follow_on (Some b) olds news many is_of has noted = λ index spec new at there.
+      let less = below news index new there in
+      let old = there_is olds index (omega (arith, less, many)) in
+      side_on b index spec old.0 new is_of at (has index spec old.0 at old.1) (noted index spec old.0 new at old.1 there)
+
+fits_of : (kinds : List Kind) (row : Option (List Cell)) → IfSome row (IsTableRow kinds) → IfSome row (λ cells. fits kinds cells ≡ true)
+fits_of kinds None is = tt
+fits_of kinds (Some cells) is = is.1
+
+-- the rows of a change fit the columns of each index
+pub fits_build :
+    (h : HeapState) (ready : Ready) → IsLawfulChange h ready → (build : Option BuildState) → BuildFollows h.schema h.log build → IfSome build (FitsBuild ready)
+fits_build h ready change None is_of = tt
+fits_build h ready change (Some b) is_of = All-weaker (λ (spec : KeySpecValue). spec.kinds ≡ h.schema) (FitsColumns ready) (λ spec columns. record {
+  old = fits_of spec.kinds ready.old (subst (λ k. IfSome ready.old (IsTableRow k)) (sym columns) change.old_fits);
+  new = fits_of spec.kinds ready.new (subst (λ k. IfSome ready.new (IsTableRow k)) (sym columns) change.new_fits);
+}) b.specs is_of.columns
+
+-- a build has no more indexes than there are side-files
+pub few_specs :
+    (h : HeapState) (build : Option BuildState) (sides : List SideFileValue) → BuildFollows h.schema h.log build → length sides ≡ 8
+    → IfSome build (λ b. length b.specs ≤ length sides)
+few_specs h None sides is_of eight = tt
+few_specs h (Some b) sides is_of eight = omega (arith, is_of.few_indexes, eight)

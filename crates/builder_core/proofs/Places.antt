@@ -133,3 +133,21 @@ read_same f xs ys k same =
     sym (unwrap_or-slice_get (map f xs) k [])
     ∙ ap (λ (o : Option _). unwrap_or o []) (slice_get-map f xs k ∙ ap (option_map f) same ∙ sym (slice_get-map f ys k))
     ∙ unwrap_or-slice_get (map f ys) k []
+
+-- to write what stands there changes nothing
+pub set_same : {X : Type 0} (xs : List X) (i : ℕ) (x : X) → slice_get xs i ≡ Some x → set xs i x ≡ xs
+set_same [] i x at = refl
+set_same (y ∷ ys) zero x at = ap (λ z. z ∷ ys) (sym (same_Some y x at))
+set_same (y ∷ ys) (suc i) x at = ap (λ zs. y ∷ zs) (set_same ys i x at)
+
+-- and what was written elsewhere leaves a place as it is
+pub stays_there : {X : Type 0} (xs : List X) (i : ℕ) (y : X) (k : ℕ) (x : X) → (k ≡ i → ⊥) → slice_get xs k ≡ Some x → slice_get (set xs i y) k ≡ Some x
+stays_there [] i y k x other at = absurd (cc)
+stays_there (z ∷ zs) zero y zero x other at = absurd (other refl)
+stays_there (z ∷ zs) zero y (suc k) x other at = at
+stays_there (z ∷ zs) (suc i) y zero x other at = at
+stays_there (z ∷ zs) (suc i) y (suc k) x other at = stays_there zs i y k x (λ same. other (ap suc same)) at
+
+-- a place that is told by what stands there otherwise
+pub at_index : {X : Type 0} (xs : List X) (i : ℕ) (x : X) → x ≡ get_or xs i x → i < length xs → slice_get xs i ≡ Some x
+at_index xs i x is less = slice_get-get_or xs i x less ∙ ap Some (sym is)

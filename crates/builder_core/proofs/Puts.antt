@@ -20,7 +20,7 @@ use Rattle.builder_core.specs.Workers.{put_to}
 use Rattle.builder_core.specs.declared.scan.Scan.{Scan}
 use Rattle.builder_core.proofs.Copies.{copies_kept, copies_scan}
 use Rattle.builder_core.proofs.Places.{at_set, all_at}
-use Rattle.builder_core.proofs.ScanSteps.{scan_now}
+use Rattle.builder_core.proofs.ScanSteps.{no_spec, scan_now}
 
 -- the log grows
 pub pages_kept :
@@ -30,8 +30,8 @@ pages_kept kinds log rec builds None all build is = tt
 pages_kept kinds log rec builds (Some b) all build is = record {
   number = is.number;
   put = λ k sent at.
-      copies_kept kinds (scanning_of b build.spec) log rec (put_to b k) (images_of b.number sent)
-      (All-filter (λ scan. scan.worker == k) (IsScanOf (scanning_of b build.spec) log) b.scans build.scanned.scans) (is.put k sent at);
+      copies_kept kinds (scanning_of b no_spec) log rec (put_to b k) (images_of b.number sent)
+      (All-filter (λ scan. scan.worker == k) (IsScanOf (scanning_of b no_spec) log) b.scans (build.scanned no_spec).scans) (is.put k sent at);
 }
 
 -- of a build that starts nothing was sent before

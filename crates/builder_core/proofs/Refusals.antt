@@ -1,4 +1,4 @@
--- Why a step of a build of one index is refused, in the order of the causes.
+-- Why a step of a build is refused, in the order of the causes.
 use Rattle.std.proofs.Common.{◌≡◌, ℕ, ◌-◌, ◌<◌, List, [], ◌∷◌, ◌++◌, length, map, take, Option, Some, None, refl}
 use Rattle.std.proofs.Common.{sym, ap, ◌∙◌, arith, subst}
 use Rattle.std.specs.Prelude.{IsSome, true}
@@ -27,8 +27,8 @@ running live building b w build_is work_is follows works = record {
   follows = subst (BuildFollows live.state.heap.schema live.state.heap.log) build_is follows;
   on = subst (λ (o : Option BuildState). IsWorkOf live.state.heap.schema live.state.heap.log o (Some w)) build_is
       (subst (IsWorkOf live.state.heap.schema live.state.heap.log live.state.build) work_is works.work);
-  at_work = subst (λ (o : Option BuildState). WorkersFollow live.pages live.side building o (Some w)) build_is
-      (subst (WorkersFollow live.pages live.side building live.state.build) work_is works.workers);
+  at_work = subst (λ (o : Option BuildState). WorkersFollow live.pages live.sides building o (Some w)) build_is
+      (subst (WorkersFollow live.pages live.sides building live.state.build) work_is works.workers);
 }
 
 -- the same, told of a table from within
@@ -45,13 +45,13 @@ pub works_with :
 works_with live building b w run = record {
   work = subst (λ (o : Option BuildState). IsWorkOf live.state.heap.schema live.state.heap.log o building.work) (sym run.build_is)
       (subst (IsWorkOf live.state.heap.schema live.state.heap.log (Some b)) (sym run.work_is) run.on);
-  workers = subst (λ (o : Option BuildState). WorkersFollow live.pages live.side building o building.work) (sym run.build_is)
-      (subst (WorkersFollow live.pages live.side building (Some b)) (sym run.work_is) run.at_work);
+  workers = subst (λ (o : Option BuildState). WorkersFollow live.pages live.sides building o building.work) (sym run.build_is)
+      (subst (WorkersFollow live.pages live.sides building (Some b)) (sym run.work_is) run.at_work);
 }
 
 -- what callers see of work that goes on
 abbrev pub state_of : BuildingValue → WorkValue → WorkState
-state_of building w = record { workers = map worker_state (take w.workers building.workers); indexes = index_state w ∷ []; spoiled = None }
+state_of building w = record { workers = map worker_state (take w.workers building.workers); indexes = map index_state w.indexes; spoiled = None }
 
 pub state_is : (building : BuildingValue) (w : WorkValue) → building.work ≡ Some w → w.spoiled ≡ None → work_state building.workers building.work ≡ state_of building w
 state_is building w is fine = rw (is, fine) refl
@@ -83,8 +83,8 @@ builds_on (Some b) some = refl
 
 -- a build that runs was given the spools
 pub given_to :
-    (kinds : List Kind) (log : List LogRec) (pages : List (PutEnd Copied)) (side : PutEnd Entry) (building : BuildingValue) (o : Option BuildState)
-    (work : Option WorkValue) → IsWorkOf kinds log o work → WorkersFollow pages side building o work → IsSome o → building.given ≡ true
-given_to kinds log pages side building None w is follow some = absurd (false≢true some)
-given_to kinds log pages side building (Some b) None is follow some = absurd is
-given_to kinds log pages side building (Some b) (Some w) is follow some = follow.given
+    (kinds : List Kind) (log : List LogRec) (pages : List (PutEnd Copied)) (sides : List (PutEnd Entry)) (building : BuildingValue) (o : Option BuildState)
+    (work : Option WorkValue) → IsWorkOf kinds log o work → WorkersFollow pages sides building o work → IsSome o → building.given ≡ true
+given_to kinds log pages sides building None w is follow some = absurd (false≢true some)
+given_to kinds log pages sides building (Some b) None is follow some = absurd is
+given_to kinds log pages sides building (Some b) (Some w) is follow some = follow.given

@@ -20,6 +20,10 @@ use Rattle.builder_core.proofs.Seen.{IsScanAt, scan_at}
 
 -- the start
 
+-- which pages were read is the same for each index, and so for this one
+pub no_spec : KeySpecValue
+no_spec = record { kinds = []; columns = []; unique = false }
+
 pub opened_scanned : (spec : KeySpecValue) (log : List LogRec) → IsScanned (opened_scanning spec log) log
 opened_scanned spec log = record {
   opened = omega arith;

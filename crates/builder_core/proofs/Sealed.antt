@@ -85,7 +85,7 @@ module _
   sealed_at n = record { taken = n; sealed = n }
 
   abbrev with_states : List WorkerState → WorkState
-  with_states states = record { workers = states; indexes = index_state w ∷ []; spoiled = None }
+  with_states states = record { workers = states; indexes = map index_state w.indexes; spoiled = None }
 
   work_is : work_state changed.workers changed.work ≡ sealed b before k
   work_is =

@@ -1,6 +1,6 @@
 -- The side-file of a build as it starts, as it copies a page more, and as the log grows by a record that changes no row.
-use Rattle.std.proofs.Common.{◌≡◌, ℕ, List, [], ◌∷◌, ◌++◌, length, map, drop, true, Option, Some, None, refl, sym, ap, ◌∙◌, subst}
-use Rattle.std.proofs.lemmas.List.{append-nil, drop-map}
+use Rattle.std.proofs.Common.{◌≡◌, ℕ, zero, suc, List, [], ◌∷◌, ◌++◌, length, map, drop, Option, Some, None, refl, sym, ap, ◌∙◌, subst, arith, ◌≤◌, length-append}
+use Rattle.std.proofs.lemmas.List.{append-nil, drop-map, length-map}
 use Rattle.std.proofs.Math.Seq.{drop-append_seam}
 use Rattle.std.specs.List.{All}
 use Rattle.std.proofs.lemmas.List.Elements.{All-nil, All-tail}
@@ -17,96 +17,120 @@ use Rattle.builder_core.specs.Builds.{IsBuildOf, BuildFollows}
 use Rattle.builder_core.specs.CoreState.{BuildState, LiveState, scanning_of}
 use Rattle.builder_core.specs.Scanning.{Scanning, opened_scanning, scanned_at}
 use Rattle.builder_core.specs.SideEntries.{entries_of, side_entries}
-use Rattle.builder_core.specs.SideFiles.{HasEntries, SideFollows, AreEntriesLeft, HaveEntryKeys}
-use Rattle.std.specs.Prelude.{get_or, is_some}
+use Rattle.builder_core.specs.Changing.{without_room}
+use Rattle.builder_core.specs.SideFiles.{HasEntries, HaveEntries, SidesFollow, AreEntriesLeft, HaveEntryKeys, NoneAhead, side_refusal}
+use Rattle.builder_core.specs.Workers.{fed_to}
+use Rattle.builder_core.proofs.Places.{all_at, same_at, below, there_is}
+use Rattle.std.specs.Prelude.{get_or, IfSome}
 use Rattle.std.specs.List.{slice_get}
-use Rattle.std.proofs.lemmas.Option.{same_Some}
-use Rattle.std.proofs.lemmas.Bool.{false≢true}
 use Rattle.builder_core.proofs.EntrySteps.{opened_entries, more_entries, same_entries}
-use Rattle.builder_core.proofs.TableBuilds.{scanned_for}
 use Rattle.builder_core.proofs.NextPages.{next_unscanned}
 use Rattle.builder_core.specs.Ranges.{next_page}
 
-pub side_opened :
-    (log : List LogRec) (b : BuildState) (side : SideFileValue) → b.opened ≡ length log → b.pages ≡ pages_written log → b.scans ≡ [] → b.fed ≡ 0 ∷ [] → side.left ≡ [] → side.fed ≡ []
-    → HasEntries log b side
-side_opened log b side opened pages scans none left fed = record {
-  entries = λ spec one.
+-- the side-file of one of its indexes, as it starts
+opened_one :
+    (log : List LogRec) (b : BuildState) (index : ℕ) (spec : KeySpecValue) (side : SideFileValue) → b.opened ≡ length log → b.pages ≡ pages_written log → b.scans ≡ []
+    → fed_to b index ≡ 0 → side.left ≡ [] → side.fed ≡ [] → HasEntries log b index spec side
+opened_one log b index spec side opened pages scans none left fed = record {
+  entries =
       nothing
-      ∙ sym (ap (map (entry_of b.number)) (ap (λ s. side_entries s log) (same spec) ∙ opened_entries spec log));
-  keys = λ spec one. subst (All (λ entry. IsKeyOf spec entry.key)) (sym nothing) (All-nil (λ entry. IsKeyOf spec entry.key));
-  count = none ∙ sym (ap (λ es. length es ∷ []) fed);
+      ∙ sym (ap (map (entry_of b.number)) (ap (λ s. side_entries s log) same ∙ opened_entries spec log));
+  keys = subst (All (λ entry. IsKeyOf spec entry.key)) (sym nothing) (All-nil (λ entry. IsKeyOf spec entry.key));
+  count = none ∙ sym (ap length fed);
 } where
   nothing : all_appended side ≡ []
   nothing = rw (fed, left) refl
 
-  same : (spec : KeySpecValue) → scanning_of b spec ≡ opened_scanning spec log
-  same spec = rw (opened, pages, scans) refl
+  same : scanning_of b spec ≡ opened_scanning spec log
+  same = rw (opened, pages, scans) refl
 
-pub side_scanned :
-    (log : List LogRec) (b : BuildState) (side : SideFileValue) (worker page : ℕ) → scanned_at b.scans page ≡ None → HasEntries log b side
-    → HasEntries log (record b { scans = b.scans ++ record { worker = worker; page = page; records = length log } ∷ [] }) side
-side_scanned log b side worker page none has = record {
-  entries = λ spec one. has.entries spec one ∙ ap (map (entry_of b.number)) (sym (same_entries (scanning_of b spec) worker page log none));
+-- none of so many entries that were not fed
+abbrev pub none_fed : List KeySpecValue → List ℕ
+none_fed specs = map (λ spec. 0) specs
+
+pub none_at : (specs : List KeySpecValue) (index : ℕ) → get_or (none_fed specs) index 0 ≡ 0
+none_at [] index = refl
+none_at (spec ∷ specs) zero = refl
+none_at (spec ∷ specs) (suc index) = none_at specs index
+
+pub sides_opened :
+    (log : List LogRec) (b : BuildState) (sides : List SideFileValue) → b.opened ≡ length log → b.pages ≡ pages_written log → b.scans ≡ []
+    → b.fed ≡ map (λ spec. 0) b.specs → All (λ (side : SideFileValue). (side.left ≡ []) × (side.fed ≡ [])) sides → HaveEntries log b sides
+sides_opened log b sides opened pages scans none empty = λ index spec side at there.
+    let here = all_at (λ (s : SideFileValue). (s.left ≡ []) × (s.fed ≡ [])) sides index side empty there in
+    opened_one log b index spec side opened pages scans (ap (λ fed. get_or fed index 0) none ∙ none_at b.specs index) here.0 here.1
+
+scanned_one :
+    (log : List LogRec) (b : BuildState) (index : ℕ) (spec : KeySpecValue) (side : SideFileValue) (worker page : ℕ) → scanned_at b.scans page ≡ None
+    → HasEntries log b index spec side
+    → HasEntries log (record b { scans = b.scans ++ record { worker = worker; page = page; records = length log } ∷ [] }) index spec side
+scanned_one log b index spec side worker page none has = record {
+  entries = has.entries ∙ ap (map (entry_of b.number)) (sym (same_entries (scanning_of b spec) worker page log none));
   keys = has.keys;
   count = has.count;
 }
 
-side_same :
-    (kinds : List Kind) (log : List LogRec) (rec : LogRec) (b : BuildState) (side : SideFileValue) → ((s : Scanning) → entries_of s log rec ≡ []) → IsBuildOf kinds log b
-    → HasEntries log b side → HasEntries (log ++ rec ∷ []) b side
-side_same kinds log rec b side nothing build has = record {
-  entries = λ spec one.
+same_one :
+    (kinds : List Kind) (log : List LogRec) (rec : LogRec) (b : BuildState) (index : ℕ) (spec : KeySpecValue) (side : SideFileValue)
+    → ((s : Scanning) → entries_of s log rec ≡ []) → IsBuildOf kinds log b → HasEntries log b index spec side → HasEntries (log ++ rec ∷ []) b index spec side
+same_one kinds log rec b index spec side nothing build has = record {
+  entries =
       let here : Scanning = scanning_of b spec in
       let es : List SideEntry = side_entries here log in
-      has.entries spec one
-      ∙ ap (map (entry_of b.number)) (sym (more_entries here log rec (scanned_for kinds log b build spec one).opened ∙ ap (λ fs. es ++ fs) (nothing here) ∙ append-nil es));
+      has.entries
+      ∙ ap (map (entry_of b.number)) (sym (more_entries here log rec (build.scanned spec).opened ∙ ap (λ fs. es ++ fs) (nothing here) ∙ append-nil es));
   keys = has.keys;
   count = has.count;
 }
 
--- room for more entries changes none
-pub side_stays :
-    (log : List LogRec) (build : Option BuildState) (old new : SideFileValue) → SideFollows log build old → new.left ≡ old.left → new.fed ≡ old.fed → SideFollows log build new
-side_stays log None old new has left fed = tt
-side_stays log (Some b) old new has left fed = record {
-  entries = λ spec one. same ∙ has.entries spec one;
-  keys = λ spec one. subst (All (λ entry. IsKeyOf spec entry.key)) (sym same) (has.keys spec one);
-  count = has.count ∙ ap (λ es. length es ∷ []) (sym fed);
+-- a side-file with the same entries
+pub stays_one :
+    (log : List LogRec) (b : BuildState) (index : ℕ) (spec : KeySpecValue) (old new : SideFileValue) → new.fed ≡ old.fed → new.left ≡ old.left
+    → HasEntries log b index spec old → HasEntries log b index spec new
+stays_one log b index spec old new fed left has = record {
+  entries = same ∙ has.entries;
+  keys = subst (All (λ entry. IsKeyOf spec entry.key)) (sym same) has.keys;
+  count = has.count ∙ ap length (sym fed);
 } where
   same : all_appended new ≡ all_appended old
   same = rw (fed, left) refl
 
+-- room for more entries changes none
+pub sides_stay :
+    (log : List LogRec) (build : Option BuildState) (olds news : List SideFileValue) → SidesFollow log build olds → map without_room news ≡ map without_room olds
+    → SidesFollow log build news
+sides_stay log None olds news has same = tt
+sides_stay log (Some b) olds news has same = λ index spec side at there.
+    let old = same_at without_room olds news index side (sym same) there in
+    stays_one log b index spec old.0 side (ap (λ (s : SideFileValue). s.fed) (sym old.2)) (ap (λ (s : SideFileValue). s.left) (sym old.2)) (has index spec old.0 at old.1)
+
 -- a record that changes no row appends nothing
-pub side_plain :
-    (kinds : List Kind) (log : List LogRec) (rec : LogRec) (build : Option BuildState) (side : SideFileValue) → ((s : Scanning) → entries_of s log rec ≡ [])
-    → BuildFollows kinds log build → SideFollows log build side → SideFollows (log ++ rec ∷ []) build side
-side_plain kinds log rec None side nothing follows has = tt
-side_plain kinds log rec (Some b) side nothing follows has = side_same kinds log rec b side nothing follows has
+pub sides_plain :
+    (kinds : List Kind) (log : List LogRec) (rec : LogRec) (build : Option BuildState) (sides : List SideFileValue) → ((s : Scanning) → entries_of s log rec ≡ [])
+    → BuildFollows kinds log build → SidesFollow log build sides → SidesFollow (log ++ rec ∷ []) build sides
+sides_plain kinds log rec None sides nothing follows has = tt
+sides_plain kinds log rec (Some b) sides nothing follows has = λ index spec side at there.
+    same_one kinds log rec b index spec side nothing follows (has index spec side at there)
 
 -- the page that comes next is copied now
-pub side_next :
-    (log : List LogRec) (b : BuildState) (side : SideFileValue) (range worker page records : ℕ) → next_page b range ≡ Some page → records ≡ length log → HasEntries log b side
-    → HasEntries log (record b { scans = b.scans ++ record { worker = worker; page = page; records = records } ∷ [] }) side
-side_next log b side range worker page records next now has =
-    subst (λ r. HasEntries log (record b { scans = b.scans ++ record { worker = worker; page = page; records = r } ∷ [] }) side) (sym now)
-    (side_scanned log b side worker page (next_unscanned b range page next) has)
-
-only_spec : (specs : List KeySpecValue) (one spec : KeySpecValue) → specs ≡ one ∷ [] → slice_get specs 0 ≡ Some spec → specs ≡ spec ∷ []
-only_spec specs one spec is at = is ∙ ap (λ s. s ∷ []) (same_Some one spec (sym (ap (λ (xs : List KeySpecValue). slice_get xs 0) is) ∙ at))
+pub sides_next :
+    (log : List LogRec) (b : BuildState) (sides : List SideFileValue) (range worker page records : ℕ) → next_page b range ≡ Some page → records ≡ length log
+    → HaveEntries log b sides
+    → HaveEntries log (record b { scans = b.scans ++ record { worker = worker; page = page; records = records } ∷ [] }) sides
+sides_next log b sides range worker page records next now has = λ index spec side at there.
+    subst (λ r. HasEntries log (record b { scans = b.scans ++ record { worker = worker; page = page; records = r } ∷ [] }) index spec side) (sym now)
+    (scanned_one log b index spec side worker page (next_unscanned b range page next) (has index spec side at there))
 
 left_of :
-    (kinds : List Kind) (log : List LogRec) (b : BuildState) (side : SideFileValue) → IsBuildOf kinds log b → HasEntries log b side
-    → AreEntriesLeft log (Some b) 0 side.left
-left_of kinds log b side build has = λ spec at.
-    let one : b.specs ≡ spec ∷ [] = only_spec b.specs build.spec spec build.one_index at in
+    (log : List LogRec) (b : BuildState) (index : ℕ) (spec : KeySpecValue) (side : SideFileValue) → HasEntries log b index spec side
+    → side.left ≡ map (entry_of b.number) (drop (get_or b.fed index 0) (side_entries (scanning_of b spec) log))
+left_of log b index spec side has =
     let put : SideEntry → Entry = entry_of b.number in
     let es : List SideEntry = side_entries (scanning_of b spec) log in
-    let count : get_or b.fed 0 0 ≡ length side.fed = ap (λ (fed : List ℕ). get_or fed 0 0) has.count in
     sym (drop-append_seam side.fed side.left)
-    ∙ ap (drop (length side.fed)) (has.entries spec one)
+    ∙ ap (drop (length side.fed)) has.entries
     ∙ drop-map put (length side.fed) es
-    ∙ ap (λ n. map put (drop n es)) (sym count)
+    ∙ ap (λ n. map put (drop n es)) (sym has.count)
 
 -- what holds of all holds of the last of them
 all_right : {X : Type 0} (P : X → Type 0) (xs ys : List X) → All P (xs ++ ys) → All P ys
@@ -115,23 +139,36 @@ all_right P (x ∷ xs) ys all = all_right P xs ys (All-tail P x (xs ++ ys) all)
 
 -- and each has the key of a row
 pub keys_left :
-    (kinds : List Kind) (log : List LogRec) (build : Option BuildState) (side : SideFileValue) (index : ℕ) → BuildFollows kinds log build → SideFollows log build side
-    → is_some build ≡ true → index ≡ 0 → HaveEntryKeys build index side.left
-keys_left kinds log None side index follows has some zero = absurd (false≢true some)
-keys_left kinds log (Some b) side index follows has some zero =
-    subst (λ i. HaveEntryKeys (Some b) i side.left) (sym zero) (λ spec at.
-    all_right (λ entry. IsKeyOf spec entry.key) side.fed side.left (has.keys spec (only_spec b.specs follows.spec spec follows.one_index at)))
+    (log : List LogRec) (build : Option BuildState) (sides : List SideFileValue) (index : ℕ) (side : SideFileValue) → SidesFollow log build sides
+    → side_refusal build index ≡ None → slice_get sides index ≡ Some side → HaveEntryKeys build index side.left
+keys_left log None sides index side has free there = absurd (cc)
+keys_left log (Some b) sides index side has free there = λ spec at.
+    all_right (λ entry. IsKeyOf spec entry.key) side.fed side.left (has index spec side at there).keys
 
 -- what is left in the side-file are the entries of the build's index
 pub entries_left :
-    (kinds : List Kind) (log : List LogRec) (build : Option BuildState) (side : SideFileValue) (index : ℕ) → BuildFollows kinds log build → SideFollows log build side
-    → is_some build ≡ true → index ≡ 0 → AreEntriesLeft log build index side.left
-entries_left kinds log None side index follows has some zero = absurd (false≢true some)
-entries_left kinds log (Some b) side index follows has some zero = subst (λ i. AreEntriesLeft log (Some b) i side.left) (sym zero) (left_of kinds log b side follows has)
+    (log : List LogRec) (build : Option BuildState) (sides : List SideFileValue) (index : ℕ) (side : SideFileValue) → SidesFollow log build sides
+    → side_refusal build index ≡ None → slice_get sides index ≡ Some side → AreEntriesLeft log build index side.left
+entries_left log None sides index side has free there = absurd (cc)
+entries_left log (Some b) sides index side has free there = λ spec at. left_of log b index spec side (has index spec side at there)
 
--- the side-file of the build that runs, told of a table from within
-pub side_with :
-    (inside live : LiveState) (b : BuildState) (side : SideFileValue) → inside ≡ live → inside.build ≡ Some b → SideFollows inside.heap.log inside.build side
-    → HasEntries live.heap.log b side
-side_with inside live b side view_is build_is has =
-    subst (λ (l : LiveState). HasEntries l.heap.log b side) view_is (subst (λ (o : Option BuildState). SideFollows inside.heap.log o side) build_is has)
+-- the side-files of the build that runs, told of a table from within
+pub sides_with :
+    (inside live : LiveState) (b : BuildState) (sides : List SideFileValue) → inside ≡ live → inside.build ≡ Some b → SidesFollow inside.heap.log inside.build sides
+    → HaveEntries live.heap.log b sides
+sides_with inside live b sides view_is build_is has =
+    subst (λ (l : LiveState). HaveEntries l.heap.log b sides) view_is (subst (λ (o : Option BuildState). SidesFollow inside.heap.log o sides) build_is has)
+
+-- no more was fed than it had
+pub none_ahead :
+    (log : List LogRec) (build : Option BuildState) (sides : List SideFileValue) → SidesFollow log build sides
+    → IfSome build (λ b. length b.specs ≤ length sides) → IfSome build (NoneAhead log)
+none_ahead log None sides has many = tt
+none_ahead log (Some b) sides has many = λ index spec at.
+    let less = below b.specs index spec at in
+    let side = there_is sides index (omega (arith, less, many)) in
+    let its = has index spec side.0 at side.1 in
+    let all = ap length its.entries in
+    let sum = length-append side.0.fed side.0.left in
+    let same = length-map (side_entries (scanning_of b spec) log) (entry_of b.number) in
+    omega (arith, its.count, all, sum, same)

@@ -1,4 +1,4 @@
--- A build of one index is sound.
+-- A build is sound, for each of its indexes.
 use Rattle.std.proofs.Common.{◌≡◌, ℕ, ◌+◌, ◌<◌, ◌≤◌, true, List, [], ◌∷◌, ◌++◌, length, length-append, drop, take-append-drop, Option, Some, None, refl}
 use Rattle.std.proofs.Common.{sym, ap, subst, inl, inr, arith}
 use Rattle.std.specs.Prelude.{nat_le, nat_eq, IfSome}
@@ -27,6 +27,8 @@ use Rattle.builder_core.specs.Scanning.{Scanning, is_by, is_visible, scanned_at}
 use Rattle.visibility.specs.SideEntries.{SideEntry, delete, insert, changes}
 use Rattle.builder_core.specs.SideEntries.{entries_for, entries_of, entries_from, side_entries}
 use Rattle.builder_core.proofs.SideFollows.{leaves_visible, entries_have_effect}
+use Rattle.builder_core.proofs.Places.{all_from}
+use Rattle.builder_core.proofs.ScanSteps.{no_spec}
 
 by_later : (count n : ℕ) (o : Option ℕ) → count ≤ n → is_by count o ≡ true → is_by n o ≡ true
 by_later count n None more e = absurd (false≢true e)
@@ -85,14 +87,11 @@ entries_visible b log =
     All-from_recursion (λ e. is_visible b (length log) (entry_rid e) ≡ true) (side_entries b log)
     (from_visible b (first_records b.opened log) (drop b.opened log) (length log) (omega (arith, whole, same)))
 
-one_all : (P : KeySpecValue → Type 0) (specs : List KeySpecValue) (spec : KeySpecValue) → specs ≡ spec ∷ [] → P spec → All P specs
-one_all P specs spec is holds = subst (All P) (sym is) (All-from_recursion P (spec ∷ []) (holds, tt))
-
 build_sound : (kinds : List Kind) (log : List LogRec) (b : BuildState) → IsBuildOf kinds log b → BuildIsSound b log
 build_sound kinds log b is = record {
-  caught_up = one_all (λ spec. VisiblePairsAreCaughtUp (scanning_of b spec) log) b.specs is.spec is.one_index (leaves_visible (scanning_of b is.spec) log is.scanned);
-  effect = one_all (λ spec. EntriesHaveEffect (scanning_of b spec) log) b.specs is.spec is.one_index
-      (record { visible = entries_visible (scanning_of b is.spec) log; effect = entries_have_effect (scanning_of b is.spec) log is.scanned });
+  caught_up = all_from (λ spec. VisiblePairsAreCaughtUp (scanning_of b spec) log) b.specs (λ k spec at. leaves_visible (scanning_of b spec) log (is.scanned spec));
+  effect = all_from (λ spec. EntriesHaveEffect (scanning_of b spec) log) b.specs (λ k spec at.
+      record { visible = entries_visible (scanning_of b spec) log; effect = entries_have_effect (scanning_of b spec) log (is.scanned spec) });
 }
 
 -- so is the one that runs, if any
@@ -106,7 +105,7 @@ pub runs_once :
     → PagesFollow kinds log builds build all → length all ≡ 16 → IfSome build (λ b. EachPageOnce kinds log b all)
 runs_once kinds log builds None all follows put sixteen = tt
 runs_once kinds log builds (Some b) all follows put sixteen = record {
-  once = follows.scanned.once;
+  once = (follows.scanned no_spec).once;
   ringed = All-weaker (λ scan. scan.worker < b.workers) (λ scan. scan.worker < length all)
       (λ scan less. omega (arith, less, follows.few_workers, sixteen)) b.scans follows.for_workers;
   sent = put.put;

@@ -1,7 +1,6 @@
 -- What the start of a build leaves.
-use Rattle.std.proofs.Common.{◌≡◌, ℕ, ◌+◌, ◌*◌, ◌≤◌, List, [], ◌∷◌, length, map, true, Some, None, refl, sym, ap, ◌∙◌, subst, ◌++◌, arith, ◌-◌}
+use Rattle.std.proofs.Common.{◌≡◌, ℕ, ◌+◌, ◌*◌, ◌≤◌, List, [], length, map, replicate, true, Some, None, refl, sym, ap, ◌∙◌, subst, ◌++◌, arith, ◌-◌}
 use Rattle.std.proofs.lemmas.List.{length-map}
-use Rattle.std.proofs.lemmas.List.Elements.{All-cons, All-nil}
 use Rattle.keybytes.specs.Keys.{KeySpecValue}
 use Rattle.keybytes.specs.declared.kind.Kind.{Kind}
 use Rattle.heap_log.specs.declared.record.LogRec.{LogRec}
@@ -12,18 +11,21 @@ use Rattle.side_file.specs.declared.entry.Entry.{Entry}
 use Rattle.building.specs.TakeEnd.{TakeEnd}
 use Rattle.building.specs.WorkerValue.{WorkerValue}
 use Rattle.building.specs.declared.copied.Copied.{Copied}
-use Rattle.builder_core.specs.Builds.{LiveValue, BuildingValue, WorkValue, IsBuildOf, WorksOn, build_over, fresh}
+use Rattle.builder_core.specs.Builds.{LiveValue, BuildingValue, WorkValue, IndexValue, AreFed, IsBuildOf, WorksOn, build_over, fresh, fresh_index}
+use Rattle.std.specs.List.{All}
+use Rattle.std.proofs.lemmas.Option.{same_Some}
+use Rattle.builder_core.specs.Workers.{fed_to}
+use Rattle.builder_core.proofs.SideKept.{none_at}
 use Rattle.builder_core.specs.Holding.{SpoolValue}
 use Rattle.std.specs.List.{slice_get}
 use Rattle.builder_core.specs.CoreState.{BuildState}
 use Rattle.builder_core.specs.Ranges.{dealing_refusal, dealt_ends}
-use Rattle.builder_core.specs.Rings.{all_sent, put_rings, take_rings, begun_on, AreOfBuilds, ArePutEnds, AreTakeEnds}
-use Rattle.side_file.specs.Kept.{last_ones}
+use Rattle.builder_core.specs.Rings.{all_sent, put_rings, take_rings, side_rings, taken_rings, begun_on, drained_end, AreOfBuilds, ArePutEnds, AreTakeEnds}
 use Rattle.std.proofs.lemmas.List.{append-nil, drop_all}
 use Rattle.builder_core.specs.declared.dealing.Dealing.{Dealing}
 use Rattle.builder_core.proofs.AtWork.{started_taking}
 use Rattle.builder_core.proofs.Kits.{started_kits}
-use Rattle.builder_core.proofs.Places.{as_long, mapped}
+use Rattle.builder_core.proofs.Places.{as_long, at_map, mapped, replicate_at}
 use Rattle.builder_core.proofs.Refusals.{works_with}
 use Rattle.builder_core.proofs.Starts.{dealt_are_cuts}
 use Rattle.builder_core.proofs.TableBuilds.{started_build}
@@ -31,73 +33,86 @@ use Rattle.builder_core.proofs.Works.{fresh_work_on}
 
 -- the ends that put are of the rings that they were of
 pub put_ends_started :
-    (page_rings side_ring : List RingId) (pages new : List (PutEnd Copied)) (side new_side : PutEnd Entry) → ArePutEnds page_rings side_ring pages side
-    → put_rings new ≡ put_rings pages → new_side.ring ≡ side.ring → ArePutEnds page_rings side_ring new new_side
-put_ends_started page_rings side_ring pages new side new_side are rings ring = record {
+    (page_rings entry_rings : List RingId) (pages new : List (PutEnd Copied)) (sides new_sides : List (PutEnd Entry)) → ArePutEnds page_rings entry_rings pages sides
+    → put_rings new ≡ put_rings pages → side_rings new_sides ≡ side_rings sides → ArePutEnds page_rings entry_rings new new_sides
+put_ends_started page_rings entry_rings pages new sides new_sides are rings side_rings_are = record {
   pages_are = rings ∙ are.pages_are;
-  side_is = ap (λ r. r ∷ []) ring ∙ are.side_is;
+  sides_are = side_rings_are ∙ are.sides_are;
+  eight = as_long (λ (end : PutEnd Entry). end.ring) (λ (end : PutEnd Entry). end.ring) new_sides sides side_rings_are ∙ are.eight;
   sixteen = as_long (λ (end : PutEnd Copied). end.ring) (λ (end : PutEnd Copied). end.ring) new pages rings ∙ are.sixteen;
 }
 
 -- and so are those that take
 pub take_ends_started :
-    (page_rings side_ring : List RingId) (build : ℕ) (pages : List (PutEnd Copied)) (side : PutEnd Entry) (workers : List WorkerValue) (end : TakeEnd Entry)
-    → ArePutEnds page_rings side_ring pages side → workers ≡ map (begun_on build) pages → side.ring ≡ end.ring → AreTakeEnds page_rings side_ring workers end
-take_ends_started page_rings side_ring build pages side workers end are is ring = record {
+    (page_rings entry_rings : List RingId) (build : ℕ) (pages : List (PutEnd Copied)) (sides : List (PutEnd Entry)) (workers : List WorkerValue) (ends : List (TakeEnd Entry))
+    → ArePutEnds page_rings entry_rings pages sides → workers ≡ map (begun_on build) pages → ends ≡ map drained_end sides → AreTakeEnds page_rings entry_rings workers ends
+take_ends_started page_rings entry_rings build pages sides workers ends are is drained = record {
   workers_are = ap take_rings is ∙ mapped (begun_on build) (λ (w : WorkerValue). w.end.ring) pages ∙ are.pages_are;
-  side_is = ap (λ r. r ∷ []) (sym ring) ∙ are.side_is;
+  sides_are = ap taken_rings drained ∙ mapped drained_end (λ (end : TakeEnd Entry). end.ring) sides ∙ are.sides_are;
+  eight = ap length drained ∙ length-map sides drained_end ∙ are.eight;
   sixteen = ap length is ∙ length-map pages (begun_on build) ∙ are.sixteen;
 }
 
 -- a build over the pages of that log
-abbrev pub build_on : ℕ → KeySpecValue → ℕ → List LogRec → Dealing → BuildState
-build_on number spec workers log dealing =
-    build_over number spec workers (length log) (record { pages = pages_written log; ends = dealt_ends (pages_written log) dealing }) [] 0
+abbrev pub build_on : ℕ → List KeySpecValue → ℕ → List LogRec → Dealing → BuildState
+build_on number specs workers log dealing =
+    build_over number specs workers (length log) (record { pages = pages_written log; ends = dealt_ends (pages_written log) dealing }) [] (map (λ spec. 0) specs)
 
 module _
-    (kinds : List Kind) (log : List LogRec) (b : BuildState) (number : ℕ) (spec : KeySpecValue) (workers opened pages : ℕ) (cuts : CutsValue) (dealing : Dealing)
-    (is : b ≡ build_over number spec workers opened cuts [] 0) (records : opened ≡ length log) (dealt : cuts ≡ record { pages = pages; ends = dealt_ends pages dealing })
+    (kinds : List Kind) (log : List LogRec) (b : BuildState) (number : ℕ) (specs : List KeySpecValue) (workers opened pages : ℕ) (cuts : CutsValue) (dealing : Dealing)
+    (is : b ≡ build_over number specs workers opened cuts [] (map (λ spec. 0) specs)) (records : opened ≡ length log) (dealt : cuts ≡ record { pages = pages; ends = dealt_ends pages dealing })
     (written : pages ≡ pages_written log) where
-  pub build_is_on : b ≡ build_on number spec workers log dealing
+  pub build_is_on : b ≡ build_on number specs workers log dealing
   build_is_on =
-      is ∙ ap (λ n. build_over number spec workers n cuts [] 0) records
-      ∙ ap (λ (c : CutsValue). build_over number spec workers (length log) c [] 0)
+      is ∙ ap (λ n. build_over number specs workers n cuts [] (map (λ spec. 0) specs)) records
+      ∙ ap (λ (c : CutsValue). build_over number specs workers (length log) c [] (map (λ spec. 0) specs))
       (dealt ∙ ap (λ n. record { pages = n; ends = dealt_ends n dealing }) written)
 
-  pub started_follows : spec.kinds ≡ kinds → pages ≤ 65536 → dealing_refusal (pages_written log) dealing ≡ None → workers ≤ 16 → IsBuildOf kinds log b
-  started_follows columns limit fit few =
+  pub started_follows : 1 ≤ length specs → length specs ≤ 8 → All (λ (spec : KeySpecValue). spec.kinds ≡ kinds) specs → pages ≤ 65536 → dealing_refusal (pages_written log) dealing ≡ None → workers ≤ 16 → IsBuildOf kinds log b
+  started_follows some few_indexes columns limit fit few =
       subst (IsBuildOf kinds log) (sym build_is_on)
-      (started_build kinds log number spec workers (dealt_ends (pages_written log) dealing) columns (subst (λ n. n ≤ 65536) written limit)
+      (started_build kinds log number specs workers (dealt_ends (pages_written log) dealing) some few_indexes columns (subst (λ n. n ≤ 65536) written limit)
       (dealt_are_cuts (pages_written log) dealing fit) few)
+
+-- nothing was fed of it, and its rings are empty
+started_fed :
+    (b : BuildState) (indexes : List IndexValue) (puts : List (PutEnd Entry)) (ends : List (TakeEnd Entry)) → ends ≡ map drained_end puts
+    → ((k : ℕ) → fed_to b k ≡ 0) → ((k : ℕ) (index : IndexValue) → slice_get indexes k ≡ Some index → index.applied ≡ 0) → AreFed b indexes puts ends
+started_fed b indexes puts ends drained none fresh_ones k index put end at there taken =
+    let from = at_map drained_end puts k end (ap (λ (es : List (TakeEnd Entry)). slice_get es k) (sym drained) ∙ taken) in
+    let same : from.0 ≡ put = same_Some from.0 put (sym from.1 ∙ there) in
+    let drained_is : end ≡ drained_end put = sym from.2 ∙ ap drained_end same in
+    rw (none k, fresh_ones k index at, drained_is) (record {
+      same_ring = refl;
+      waiting = ap (λ es. put.sent ++ es) (drop_all (length put.sent - 0) put.sent (omega arith)) ∙ append-nil put.sent;
+      counted = omega arith;
+      were_sent = omega arith;
+      countable = omega arith;
+    })
+
+only_fresh : (count k : ℕ) (index : IndexValue) → slice_get (replicate count fresh_index) k ≡ Some index → index.applied ≡ 0
+only_fresh count k index at = ap (λ (i : IndexValue). i.applied) (replicate_at count fresh_index k index at)
 
 -- the workers of a build that starts are at work on it
 pub started_works :
-    (live : LiveValue) (building : BuildingValue) (b : BuildState) (w : WorkValue) (builds : ℕ) (spec : KeySpecValue) (workers opened : ℕ) (cuts : CutsValue)
-    → live.state.build ≡ Some b → building.work ≡ Some w → building.given ≡ true → b ≡ build_over (builds + 1) spec workers opened cuts [] 0
-    → w ≡ fresh (builds + 1) live.state.heap.schema (spec ∷ []) workers → IsBuildOf live.state.heap.schema live.state.heap.log b → spec.kinds ≡ live.state.heap.schema
-    → AreOfBuilds builds (all_sent live.pages) → building.workers ≡ map (begun_on (builds + 1)) live.pages
-    → live.side.ring ≡ building.side.ring → building.side.received ≡ live.side.sent → length building.spools ≡ workers * length (spec ∷ [])
+    (live : LiveValue) (building : BuildingValue) (b : BuildState) (w : WorkValue) (builds : ℕ) (specs : List KeySpecValue) (workers opened : ℕ) (cuts : CutsValue)
+    → live.state.build ≡ Some b → building.work ≡ Some w → building.given ≡ true → b ≡ build_over (builds + 1) specs workers opened cuts [] (map (λ spec. 0) specs)
+    → w ≡ fresh (builds + 1) live.state.heap.schema specs workers → IsBuildOf live.state.heap.schema live.state.heap.log b
+    → All (λ (spec : KeySpecValue). spec.kinds ≡ live.state.heap.schema) specs → AreOfBuilds builds (all_sent live.pages)
+    → building.workers ≡ map (begun_on (builds + 1)) live.pages → building.sides ≡ map drained_end live.sides
+    → length building.spools ≡ workers * length specs
     → ((k : ℕ) (spool : SpoolValue) → slice_get building.spools k ≡ Some spool → (spool.runs ≡ []) × (spool.open_run ≡ [])) → WorksOn live building
-started_works live building b w builds spec workers opened cuts build_is work_is given b_is w_is follows columns before workers_is ring drained many empty =
-    let new : BuildState = build_over (builds + 1) spec workers opened cuts [] 0 in
-    let all = All-cons (λ (s : KeySpecValue). s.kinds ≡ live.state.heap.schema) spec [] columns (All-nil (λ (s : KeySpecValue). s.kinds ≡ live.state.heap.schema)) in
+started_works live building b w builds specs workers opened cuts build_is work_is given b_is w_is follows columns before workers_is drained many empty =
+    let new : BuildState = build_over (builds + 1) specs workers opened cuts [] (map (λ spec. 0) specs) in
     works_with live building b w (record {
       build_is = build_is;
       work_is = work_is;
       follows = follows;
-      on = rw (b_is, w_is) (fresh_work_on live.state.heap.schema live.state.heap.log new live.state.heap.schema (spec ∷ []) workers refl refl all refl);
+      on = rw (b_is, w_is) (fresh_work_on live.state.heap.schema live.state.heap.log new live.state.heap.schema specs workers refl columns refl);
       at_work = record {
-        fed = rw (b_is, w_is) (record {
-          same_ring = ring;
-          waiting = ap (λ es. es ++ last_ones 0 live.side.sent) drained
-              ∙ ap (λ es. live.side.sent ++ es) (drop_all (length live.side.sent - 0) live.side.sent (omega arith))
-              ∙ append-nil live.side.sent;
-          counted = omega arith;
-          were_sent = omega arith;
-          countable = omega arith;
-        });
+        fed = rw (b_is, w_is) (started_fed new (replicate (length specs) fresh_index) live.sides building.sides drained (λ k. none_at specs k) (only_fresh (length specs)));
         given = given;
         taking = λ fine. rw (b_is, workers_is) (started_taking builds live.pages before workers);
-        kits = λ fine. rw (b_is, w_is, workers_is) (started_kits builds live.pages before live.state.heap.schema (spec ∷ []) workers (builds + 1) building.spools all many empty);
+        kits = λ fine. rw (b_is, w_is, workers_is) (started_kits builds live.pages before live.state.heap.schema specs workers (builds + 1) building.spools columns many empty);
       };
     })

@@ -1,6 +1,6 @@
 -- When a build starts.
 use Rattle.std.proofs.Common.{◌≡◌, ℕ, zero, suc, ◌≤◌, Bool, true, false, List, [], ◌∷◌, Some, None, refl, sym, ap, ap₂, ◌∙◌, arith}
-use Rattle.std.specs.Prelude.{◌&&◌, ◌||◌, ◌==◌, ◌*◌, not, nat_lt, nat_le, length, map, take, replicate, is_some, if◌then◌else◌}
+use Rattle.std.specs.Prelude.{◌&&◌, ◌==◌, ◌+◌, ◌*◌, not, nat_lt, nat_le, length, map, take, replicate, is_some, if◌then◌else◌}
 use Rattle.std.specs.List.{All, list_any, list_all}
 use Rattle.std.proofs.lemmas.List.{length-map}
 use Rattle.std.proofs.lemmas.List.Elements.{All-head, All-tail, All-nil, All-cons}
@@ -17,7 +17,7 @@ use Rattle.builder_core.specs.declared.plan.Plan.{Plan}
 use Rattle.side_file.specs.Ends.{PutEnd}
 use Rattle.building.specs.WorkerValue.{WorkerValue}
 use Rattle.building.specs.declared.copied.Copied.{Copied}
-use Rattle.builder_core.specs.Builds.{fresh, work_state, worker_state}
+use Rattle.builder_core.specs.Builds.{fresh, fresh_index, index_state, work_state, worker_state}
 use Rattle.builder_core.specs.Rings.{begun_on}
 use Rattle.builder_core.specs.CoreState.{LiveState, SpoolsState}
 use Rattle.scan_range.specs.Cuts.{are_cuts}
@@ -60,49 +60,37 @@ kinds_differ xs ys f = false_from_ne_true (same_kinds xs ys) (λ e. f (same_kind
 pub kinds_agree : (xs ys : List Kind) → xs ≡ ys → same_kinds xs ys ≡ true
 kinds_agree xs ys e = ap (same_kinds xs) (sym e) ∙ same_kinds-itself xs
 
-and_true : (b : Bool) → (b && true) ≡ b
-and_true true = refl
-and_true false = refl
-
-or_false : (b : Bool) → (b || false) ≡ b
-or_false true = refl
-or_false false = refl
-
--- what holds of all specifications of a plan with one
-pub all_of_one : (test : KeySpecValue → Bool) (specs : List KeySpecValue) (spec : KeySpecValue) → specs ≡ spec ∷ [] → list_all test specs ≡ test spec
-all_of_one test specs spec is = ap (list_all test) is ∙ and_true (test spec)
-
-pub any_of_one : (test : KeySpecValue → Bool) (specs : List KeySpecValue) (spec : KeySpecValue) → specs ≡ spec ∷ [] → list_any test specs ≡ test spec
-any_of_one test specs spec is = ap (list_any test) is ∙ or_false (test spec)
+-- specifications of the same columns
+pub each_agrees :
+    (specs : List KeySpecValue) (kinds : List Kind) → list_all (λ spec. same_kinds spec.kinds kinds) specs ≡ true → All (λ spec. spec.kinds ≡ kinds) specs
+each_agrees [] kinds all = All-nil (λ (spec : KeySpecValue). spec.kinds ≡ kinds)
+each_agrees (spec ∷ specs) kinds all =
+    let parts = and_parts (same_kinds spec.kinds kinds) (list_all (λ (spec : KeySpecValue). same_kinds spec.kinds kinds) specs) all in
+    All-cons (λ (spec : KeySpecValue). spec.kinds ≡ kinds) spec specs (same_kinds-true spec.kinds kinds parts.0) (each_agrees specs kinds parts.1)
 
 module _
-    (live : LiveState) (spools : SpoolsState) (plan : Plan) (spec : KeySpecValue) (one : plan.specs.items ≡ spec ∷ []) (still : is_some live.build ≡ false)
+    (live : LiveState) (spools : SpoolsState) (plan : Plan) (still : is_some live.build ≡ false)
     (counts : counts_fit live (length spools.left) plan ≡ true) where
-  columns_are : list_all (λ s. same_kinds s.kinds live.heap.schema) plan.specs.items ≡ same_kinds spec.kinds live.heap.schema
-  columns_are = all_of_one (λ s. same_kinds s.kinds live.heap.schema) plan.specs.items spec one
+  pub bad_column : list_all (λ spec. same_kinds spec.kinds live.heap.schema) plan.specs.items ≡ false → start_refusal live spools plan ≡ Some BadColumn
+  bad_column columns = rw (still, counts, columns) refl
 
-  pub bad_column : same_kinds spec.kinds live.heap.schema ≡ false → start_refusal live spools plan ≡ Some BadColumn
-  bad_column columns = rw (still, counts, columns_are, columns) refl
+  module _ (columns : list_all (λ spec. same_kinds spec.kinds live.heap.schema) plan.specs.items ≡ true) where
+    ranges_cause : start_refusal live spools plan ≡ first_cause (dealing_refusal (pages_written live.heap.log) plan.dealing) (spools_refusal spools.left)
+    ranges_cause = rw (still, counts, columns) refl
 
-  ranges_cause :
-      same_kinds spec.kinds live.heap.schema ≡ true
-      → start_refusal live spools plan ≡ first_cause (dealing_refusal (pages_written live.heap.log) plan.dealing) (spools_refusal spools.left)
-  ranges_cause columns = rw (still, counts, columns_are, columns) refl
+    pub bad_ranges :
+        (fault : Fault) → dealing_refusal (pages_written live.heap.log) plan.dealing ≡ Some fault → start_refusal live spools plan ≡ Some fault
+    bad_ranges fault ranges = ranges_cause ∙ ap (λ cause. first_cause cause (spools_refusal spools.left)) ranges
 
-  pub bad_ranges :
-      (fault : Fault) → same_kinds spec.kinds live.heap.schema ≡ true → dealing_refusal (pages_written live.heap.log) plan.dealing ≡ Some fault
-      → start_refusal live spools plan ≡ Some fault
-  bad_ranges fault columns ranges = ranges_cause columns ∙ ap (λ cause. first_cause cause (spools_refusal spools.left)) ranges
+    module _ (ranges : dealing_refusal (pages_written live.heap.log) plan.dealing ≡ None) where
+      spools_cause : start_refusal live spools plan ≡ spools_refusal spools.left
+      spools_cause = ranges_cause ∙ ap (λ cause. first_cause cause (spools_refusal spools.left)) ranges
 
-  module _ (columns : same_kinds spec.kinds live.heap.schema ≡ true) (ranges : dealing_refusal (pages_written live.heap.log) plan.dealing ≡ None) where
-    spools_cause : start_refusal live spools plan ≡ spools_refusal spools.left
-    spools_cause = ranges_cause columns ∙ ap (λ cause. first_cause cause (spools_refusal spools.left)) ranges
+      pub bad_spools : list_all (λ is_empty. is_empty) spools.left ≡ false → start_refusal live spools plan ≡ Some SpoolNotEmpty
+      bad_spools some = spools_cause ∙ ap (λ (all : Bool). cause_if (not all) SpoolNotEmpty) some
 
-    pub bad_spools : list_all (λ is_empty. is_empty) spools.left ≡ false → start_refusal live spools plan ≡ Some SpoolNotEmpty
-    bad_spools some = spools_cause ∙ ap (λ (all : Bool). cause_if (not all) SpoolNotEmpty) some
-
-    pub nothing_bad : list_all (λ is_empty. is_empty) spools.left ≡ true → start_refusal live spools plan ≡ None
-    nothing_bad all = spools_cause ∙ ap (λ (every : Bool). cause_if (not every) SpoolNotEmpty) all
+      pub nothing_bad : list_all (λ is_empty. is_empty) spools.left ≡ true → start_refusal live spools plan ≡ None
+      nothing_bad all = spools_cause ∙ ap (λ (every : Bool). cause_if (not every) SpoolNotEmpty) all
 
 fit_cuts : (fit : Bool) → (if fit then None else Some BadRanges) ≡ None → fit ≡ true
 fit_cuts true e = refl
@@ -113,24 +101,37 @@ pub dealt_are_cuts : (pages : ℕ) (dealing : Dealing) → dealing_refusal pages
 dealt_are_cuts pages (Ends ends) e = fit_cuts (are_cuts pages ends.items) e
 dealt_are_cuts pages (Even ranges) e = let fit = even_fit ranges e in even_are_cuts pages ranges fit.0 fit.1
 
--- a plan whose counts fit has no more than 16 workers, and a spool for each
-pub few_workers :
-    (live : LiveState) (spools : ℕ) (plan : Plan) → counts_fit live spools plan ≡ true
-    → (plan.workers ≤ 16) × (spools ≡ plan.workers * length plan.specs.items) × (1 ≤ plan.workers)
-few_workers live spools plan e =
+-- a plan whose counts fit
+pub record HasCounts (spools : ℕ) (plan : Plan) : Type 0 where
+  pub some : 1 ≤ plan.workers
+  pub few : plan.workers ≤ 16
+  pub some_index : 1 ≤ length plan.specs.items
+  pub few_indexes : length plan.specs.items ≤ 8
+  pub lent : spools ≡ plan.workers * length plan.specs.items
+
+pub has_counts : (live : LiveState) (spools : ℕ) (plan : Plan) → counts_fit live spools plan ≡ true → HasCounts spools plan
+has_counts live spools plan e =
     let some : Bool = nat_le 1 plan.workers in
     let few : Bool = nat_le plan.workers 16 in
-    let specs : Bool = length plan.specs.items == 1 in
+    let some_index : Bool = nat_le 1 (length plan.specs.items) in
+    let few_indexes : Bool = nat_le (length plan.specs.items) 8 in
     let plain : Bool = not (list_any (λ spec. spec.unique) plan.specs.items) in
-    let room : Bool = nat_lt (length live.ready) 32 in
+    let room : Bool = nat_le (length live.ready + length plan.specs.items) 32 in
     let number : Bool = nat_lt live.builds 18446744073709551615 in
-    let first = and_parts (some && few && specs && plain && room && number) (spools == plan.workers * length plan.specs.items) e in
-    let second = and_parts (some && few && specs && plain && room) number first.0 in
-    let third = and_parts (some && few && specs && plain) room second.0 in
-    let fourth = and_parts (some && few && specs) plain third.0 in
-    let fifth = and_parts (some && few) specs fourth.0 in
-    let sixth = and_parts some few fifth.0 in
-    (leb-true plan.workers 16 sixth.1, eqb-true spools (plan.workers * length plan.specs.items) first.1, leb-true 1 plan.workers sixth.0)
+    let lent = and_parts (some && few && some_index && few_indexes && plain && room && number) (spools == plan.workers * length plan.specs.items) e in
+    let numbered = and_parts (some && few && some_index && few_indexes && plain && room) number lent.0 in
+    let roomy = and_parts (some && few && some_index && few_indexes && plain) room numbered.0 in
+    let each_plain = and_parts (some && few && some_index && few_indexes) plain roomy.0 in
+    let indexes = and_parts (some && few && some_index) few_indexes each_plain.0 in
+    let one_index = and_parts (some && few) some_index indexes.0 in
+    let workers = and_parts some few one_index.0 in
+    record {
+      some = leb-true 1 plan.workers workers.0;
+      few = leb-true plan.workers 16 workers.1;
+      some_index = leb-true 1 (length plan.specs.items) one_index.1;
+      few_indexes = leb-true (length plan.specs.items) 8 indexes.1;
+      lent = eqb-true spools (plan.workers * length plan.specs.items) lent.1;
+    }
 
 -- a list of one element, repeated
 repeated : {X Y : Type 0} (f : X → Y) (n : ℕ) (xs : List X) (y : Y) → n ≤ length xs → All (λ x. f x ≡ y) xs → map f (take n xs) ≡ replicate n y
@@ -146,12 +147,17 @@ at_first : (build : ℕ) (pages : List (PutEnd Copied)) → All IsFirst (map (be
 at_first build [] = All-nil IsFirst
 at_first build (end ∷ ends) = All-cons IsFirst (begun_on build end) (map (begun_on build) ends) refl (at_first build ends)
 
--- its work is that of so many workers on one index
+-- nothing was done on any of its indexes
+each_fresh :
+    (specs : List KeySpecValue) → map index_state (replicate (length specs) fresh_index) ≡ map (λ spec. record { loaded = false; applied = 0 }) specs
+each_fresh [] = refl
+each_fresh (spec ∷ specs) = ap (λ is. record { loaded = false; applied = 0 } ∷ is) (each_fresh specs)
+
+-- its work is that of so many workers on the plan's indexes
 pub fresh_is :
-    (plan : Plan) (kinds : List Kind) (specs : List KeySpecValue) (spec : KeySpecValue) (build number : ℕ) (pages : List (PutEnd Copied))
-    → plan.workers ≤ length pages → plan.specs.items ≡ spec ∷ []
-    → work_state (map (begun_on build) pages) (Some (fresh number kinds specs plan.workers)) ≡ fresh_work plan
-fresh_is plan kinds specs spec build number pages few one =
+    (plan : Plan) (kinds : List Kind) (specs : List KeySpecValue) (build number : ℕ) (pages : List (PutEnd Copied)) → plan.workers ≤ length pages
+    → specs ≡ plan.specs.items → work_state (map (begun_on build) pages) (Some (fresh number kinds specs plan.workers)) ≡ fresh_work plan
+fresh_is plan kinds specs build number pages few same =
     let states : map worker_state (take plan.workers (map (begun_on build) pages)) ≡ replicate plan.workers (record { taken = 0; sealed = 0 }) =
     repeated worker_state plan.workers (map (begun_on build) pages) (record { taken = 0; sealed = 0 }) (omega (arith, few, length-map pages (begun_on build))) (at_first build pages) in
-    rw (one, states) refl
+    rw (same, states, each_fresh plan.specs.items) refl

@@ -1,63 +1,133 @@
--- What a switch of one index makes ready.
-use Rattle.std.proofs.Common.{◌≡◌, ℕ, ◌+◌, ◌≤◌, List, [], ◌∷◌, ◌++◌, length, Option, Some, None, refl, sym, ap, ◌∙◌, subst, arith}
+-- What a switch makes ready.
+use Rattle.std.proofs.Common.{◌≡◌, ℕ, zero, suc, ◌+◌, ◌<◌, ◌≤◌, List, [], ◌∷◌, ◌++◌, length, Option, Some, None, refl, sym, ap, ap₂, ◌∙◌, subst, arith}
 use Rattle.std.specs.Prelude.{map}
 use Rattle.keybytes.specs.Keys.{KeySpecValue}
 use Rattle.keybytes.specs.declared.pair.Pair.{Pair}
 use Rattle.heap_log.specs.declared.outcome.Outcome.{Outcome}
-use Rattle.heap_log.specs.declared.outcome.Outcome.TheVariants.{Ready}
 use Rattle.heap_table.specs.HeapState.{HeapState, after_switch}
-use Rattle.heap_table.specs.TablePairs.{pairs_at_rest}
+use Rattle.heap_table.proofs.KeysAtRest.{keys_at_rest}
+use Rattle.heap_table.specs.Kept.{RowsFit}
+use Rattle.heap_table.specs.TablePairs.{index_pairs, pairs_at_rest}
+use Rattle.keybytes.proofs.ColumnOrder.{column_order}
+use Rattle.keybytes.specs.Pairs.{HaveKeysOf, AreInColumnOrder}
 use Rattle.catch_up.specs.Built.{BuiltValue}
-use Rattle.builder_core.specs.Builds.{LiveValue, BuildingValue, WorkValue, IsRunning, work_state, core_state, index_state, first_spec}
-use Rattle.builder_core.specs.CoreState.{BuildState, IndexState, LiveState, ReadyValue, CoreState, SpoolsState, idle, scanning_of}
+use Rattle.builder_core.specs.Builds.{LiveValue, BuildingValue, WorkValue, IndexValue, IsRunning, state_unless, work_state, core_state, index_state}
+use Rattle.builder_core.specs.CatchingUp.{IsDoneIndex, MayCatchUp, built_pairs, ready_of}
+use Rattle.heap_log.specs.declared.record.LogRec.{LogRec}
+use Rattle.std.specs.List.{AllZip, slice_get}
+use Rattle.std.proofs.lemmas.Option.{same_Some}
+use Rattle.builder_core.proofs.ApplyCauses.{fine_by}
+use Rattle.builder_core.proofs.Applying.{stays_built}
+use Rattle.builder_core.proofs.Places.{below, map_at}
+use Rattle.builder_core.specs.CoreState.{BuildState, IndexState, LiveState, ReadyValue, CoreState, SpoolsState, idle}
 use Rattle.builder_core.specs.Holding.{spools_state}
-use Rattle.builder_core.specs.SideEntries.{side_entries}
-use Rattle.builder_core.specs.Steps.{OnBuild, Switches, CatchesUp, AreFurther, ready_from, index_now, after_switch_in, verdicts_on}
-use Rattle.builder_core.specs.Workers.{all_unapplied}
+use Rattle.builder_core.specs.Steps.{OnBuild, Switches, CatchesUp, AreFurther, apply_refusal, index_now, after_switch_in, verdicts_on}
+use Rattle.builder_core.specs.Workers.{all_unapplied, unapplied}
 use Rattle.builder_core.proofs.FedBeside.{indexes_seen}
-use Rattle.builder_core.proofs.TableBuilds.{only_same, columns_for, switched_pairs}
+use Rattle.builder_core.proofs.TableBuilds.{columns_at, switched_pairs}
+
+-- of those that can be ready the first can, and the others
+module _
+    (specs rest : List KeySpecValue) (indexes others : List IndexValue) (spec : KeySpecValue) (is : specs ≡ spec ∷ rest) (all : AllZip IsDoneIndex specs indexes) where
+  pub first_done : (index : IndexValue) → indexes ≡ index ∷ others → IsDoneIndex spec index × AllZip IsDoneIndex rest others
+  first_done index there =
+      subst (λ (is : List IndexValue). AllZip IsDoneIndex (spec ∷ rest) is) there (subst (λ (ss : List KeySpecValue). AllZip IsDoneIndex ss indexes) is all)
+
+  pub none_done : indexes ≡ [] → ⊥
+  none_done gone =
+      subst (λ (is : List IndexValue). AllZip IsDoneIndex (spec ∷ rest) is) gone (subst (λ (ss : List KeySpecValue). AllZip IsDoneIndex ss indexes) is all)
+
+-- none of an index is left where none is of all
+none_of_each :
+    (b : BuildState) (log : List LogRec) (specs : List KeySpecValue) (indexes : List IndexState) (k : ℕ) (spec : KeySpecValue) (index : IndexState)
+    → all_unapplied b log specs indexes ≡ 0 → slice_get specs k ≡ Some spec → slice_get indexes k ≡ Some index → unapplied b log spec index ≡ 0
+none_of_each b log [] indexes k spec index none at there = absurd (cc)
+none_of_each b log (s ∷ specs) [] k spec index none at there = absurd (cc)
+none_of_each b log (s ∷ specs) (i ∷ indexes) zero spec index none at there =
+    let spec_is = same_Some s spec at in
+    let index_is = same_Some i index there in
+    rw (sym spec_is, sym index_is) (omega (arith, none))
+none_of_each b log (s ∷ specs) (i ∷ indexes) (suc k) spec index none at there =
+    none_of_each b log specs indexes k spec index (let rest : all_unapplied b log specs indexes ≡ 0 = omega (arith, none) in rest) at there
 
 module _
     (live : LiveValue) (building : BuildingValue) (b : BuildState) (w : WorkValue) (run : IsRunning live building b w)
-    (spec : KeySpecValue) (one : b.specs ≡ spec ∷ []) (built : BuiltValue) (is : w.built ≡ Some built)
+    (may : MayCatchUp (core_state live building))
     (all : OnBuild live.state.build (λ b. all_unapplied b live.state.heap.log b.specs (work_state building.workers building.work).indexes ≡ 0)) where
-  spec_is : first_spec w ≡ spec
-  spec_is = only_same (first_spec w) spec (sym run.on.only ∙ one)
+  indexes_are : (work_state building.workers building.work).indexes ≡ map index_state w.indexes
+  indexes_are = ap (λ (o : Option WorkValue). (work_state building.workers o).indexes) run.work_is ∙ indexes_seen w.spoiled building.workers w
 
-  -- the index is of the table's columns, and has the pairs of the rows that stand
-  pub columns_are : spec.kinds ≡ live.state.heap.schema
-  columns_are = columns_for live.state.heap.schema live.state.heap.log b run.follows spec one
+  -- each index has the pairs of the rows that stand
+  pub index_done :
+      (k : ℕ) (spec : KeySpecValue) (index : IndexValue) → slice_get b.specs k ≡ Some spec → slice_get w.indexes k ≡ Some index
+      → (built : BuiltValue) × (index.built ≡ Some built) × (built.pairs ≡ pairs_at_rest spec live.state.heap.log)
+  index_done k spec index at there =
+      let on = run.on.indexes k spec index at there in
+      let seen = map_at index_state w.indexes k index there in
+      let free : apply_refusal b (work_state building.workers building.work) k ≡ None =
+      subst (λ (o : Option BuildState). OnBuild o (λ x. (i : ℕ) → i < length x.specs → apply_refusal x (work_state building.workers building.work) i ≡ None)) run.build_is may k
+      (below b.specs k spec at) in
+      let free_now : apply_refusal b (state_unless w.spoiled building.workers w) k ≡ None =
+      ap (λ (o : Option WorkValue). apply_refusal b (work_state building.workers o) k) (sym run.work_is) ∙ free in
+      let loaded = (fine_by b w building.workers k index there w.spoiled free_now).1 in
+      let none : all_unapplied b live.state.heap.log b.specs (map index_state w.indexes) ≡ 0 =
+      ap (all_unapplied b live.state.heap.log b.specs) (sym indexes_are)
+      ∙ subst (λ (o : Option BuildState). OnBuild o (λ x. all_unapplied x live.state.heap.log x.specs (work_state building.workers building.work).indexes ≡ 0)) run.build_is all in
+      let left = none_of_each b live.state.heap.log b.specs (map index_state w.indexes) k spec (index_state index) none at seen in
+      let built = stays_built index loaded in
+      (built.0, built.1, switched_pairs live.state.heap.schema live.state.heap.log b spec index built.0 run.follows on built.1 (omega (arith, left)))
 
-  all_applied : length (side_entries (scanning_of b (first_spec w)) live.state.heap.log) ≤ w.applied
-  all_applied =
-      let none : all_unapplied b live.state.heap.log b.specs (work_state building.workers building.work).indexes ≡ 0 =
-      subst (λ (o : Option BuildState). OnBuild o (λ x. all_unapplied x live.state.heap.log x.specs (work_state building.workers building.work).indexes ≡ 0)) run.build_is all in
-      let sum : all_unapplied b live.state.heap.log (first_spec w ∷ []) (index_state w ∷ []) ≡ 0 =
-      ap (all_unapplied b live.state.heap.log (first_spec w ∷ []))
-      (sym (ap (λ (o : Option WorkValue). (work_state building.workers o).indexes) run.work_is ∙ indexes_seen w.spoiled building.workers w))
-      ∙ ap (λ (specs : List KeySpecValue). all_unapplied b live.state.heap.log specs (work_state building.workers building.work).indexes) (sym run.on.only)
-      ∙ none in
-      omega (arith, sum)
+  ready_are :
+      (specs : List KeySpecValue) (indexes : List IndexValue) → length indexes ≡ length specs
+      → ((k : ℕ) (spec : KeySpecValue) (index : IndexValue) → slice_get specs k ≡ Some spec → slice_get indexes k ≡ Some index
+      → (built : BuiltValue) × (index.built ≡ Some built) × (built.pairs ≡ pairs_at_rest spec live.state.heap.log))
+      → ready_of specs indexes ≡ map (index_now live.state.heap.log) specs
+  ready_are [] indexes many each = refl
+  ready_are (spec ∷ specs) [] many each = absurd (cc)
+  ready_are (spec ∷ specs) (index ∷ indexes) many each =
+      let here = each 0 spec index refl refl in
+      let pairs : built_pairs index.built ≡ pairs_at_rest spec live.state.heap.log = ap built_pairs here.1 ∙ here.2 in
+      ap₂ (λ (ps : List Pair) (rest : List ReadyValue). record { spec = spec; pairs = ps } ∷ rest) pairs
+      (ready_are specs indexes (omega (arith, many)) (λ k s i at there. each (suc k) s i at there))
 
-  pub pairs_are : built.pairs ≡ pairs_at_rest spec live.state.heap.log
-  pairs_are =
-      switched_pairs live.state.heap.schema live.state.heap.log b w built run.follows run.on is all_applied
-      ∙ ap (λ s. pairs_at_rest s live.state.heap.log) spec_is
+  -- so they are ready as a build at rest gives them
+  pub all_ready : ready_of b.specs w.indexes ≡ map (index_now live.state.heap.log) b.specs
+  all_ready = ready_are b.specs w.indexes run.on.many index_done
 
-  verdicts_are : Ready (length live.state.ready) ∷ [] ≡ verdicts_on live.state b
-  verdicts_are = sym (ap (λ (specs : List KeySpecValue). ready_from (length live.state.ready) (length specs)) one)
+  -- and each can be ready
+  done_each :
+      RowsFit live.state.heap.schema live.state.heap.log → (specs : List KeySpecValue) (indexes : List IndexValue) → length indexes ≡ length specs
+      → ((k : ℕ) (spec : KeySpecValue) → slice_get specs k ≡ Some spec → spec.kinds ≡ live.state.heap.schema)
+      → ((k : ℕ) (spec : KeySpecValue) (index : IndexValue) → slice_get specs k ≡ Some spec → slice_get indexes k ≡ Some index
+      → (built : BuiltValue) × (index.built ≡ Some built) × (built.pairs ≡ pairs_at_rest spec live.state.heap.log))
+      → AllZip IsDoneIndex specs indexes
+  done_each rows [] [] many columns each = tt
+  done_each rows [] (index ∷ indexes) many columns each = absurd (cc)
+  done_each rows (spec ∷ specs) [] many columns each = absurd (cc)
+  done_each rows (spec ∷ specs) (index ∷ indexes) many columns each =
+      let here = each 0 spec index refl refl in
+      let rest = done_each rows specs indexes (omega (arith, many)) (λ k s at. columns (suc k) s at) (λ k s i at there. each (suc k) s i at there) in
+      let first : IsDoneIndex spec index =
+      record {
+        built = here.0;
+        there = here.1;
+        index_is = λ key. record {
+          keys = subst (HaveKeysOf spec) (sym here.2) (keys_at_rest spec live.state.heap.schema live.state.heap.log (columns 0 spec refl) rows);
+          order = subst (AreInColumnOrder spec) (sym here.2) (column_order spec (index_pairs spec live.state.heap.log) key);
+        };
+      } in
+      (first, rest)
 
-  indexes_are : record { spec = spec; pairs = built.pairs } ∷ [] ≡ map (index_now live.state.heap.log) b.specs
-  indexes_are = ap (λ (ps : List Pair). one_index ps ∷ []) pairs_are ∙ sym (ap (map (index_now live.state.heap.log)) one) where
-    one_index : List Pair → ReadyValue
-    one_index ps = record { spec = spec; pairs = ps }
+  pub all_done : RowsFit live.state.heap.schema live.state.heap.log → AllZip IsDoneIndex b.specs w.indexes
+  all_done rows =
+      done_each rows b.specs w.indexes run.on.many
+      (λ k spec at. columns_at live.state.heap.schema live.state.heap.log b k spec run.follows at) index_done
 
   -- what the switch leaves
   pub switches :
       (told : ℕ × List Outcome) (heap : HeapState) (ready : List ReadyValue) (build : Option BuildState) (new : BuildingValue)
-      → told.0 ≡ length live.state.heap.log + 1 → told.1 ≡ Ready (length live.state.ready) ∷ []
-      → heap ≡ after_switch live.state.heap (Ready (length live.state.ready) ∷ [])
-      → ready ≡ live.state.ready ++ record { spec = spec; pairs = built.pairs } ∷ [] → build ≡ None → new.work ≡ None
+      → told.0 ≡ length live.state.heap.log + 1 → told.1 ≡ verdicts_on live.state b → heap ≡ after_switch live.state.heap (verdicts_on live.state b)
+      → ready ≡ live.state.ready ++ ready_of b.specs w.indexes → build ≡ None → new.work ≡ None
       → spools_state new.given new.spools ≡ spools_state building.given building.spools
       → Switches (core_state live building) told (record {
         live = record { heap = heap; ready = ready; builds = live.state.builds; build = build };
@@ -71,11 +141,11 @@ module _
       let table : LiveState = record { heap = heap; ready = ready; builds = live.state.builds; build = build } in
       let left : CoreState = record { live = table; work = work_state new.workers new.work; spools = spools_state new.given new.spools } in
       let state : left ≡ record { live = after_switch_in live.state b; work = idle; spools = spools } =
-      rw (none, gone, ended) (ap (λ h. Whole h ready) (noted ∙ ap (after_switch live.state.heap) verdicts_are)
-      ∙ ap (Whole (after_switch live.state.heap (verdicts_on live.state b))) (grown ∙ ap (λ is. live.state.ready ++ is) indexes_are)) in
+      rw (none, gone, ended) (ap (λ h. Whole h ready) noted
+      ∙ ap (Whole (after_switch live.state.heap (verdicts_on live.state b))) (grown ∙ ap (λ is. live.state.ready ++ is) all_ready)) in
       subst (λ (o : Option BuildState). OnBuild o (λ b. (told.0 ≡ length live.state.heap.log + 1) × (told.1 ≡ verdicts_on live.state b)
       × (left ≡ record { live = after_switch_in live.state b; work = idle; spools = spools })))
-      (sym run.build_is) (number, verdicts ∙ verdicts_are, state)
+      (sym run.build_is) (number, verdicts, state)
 
 -- what it leaves of a build that caught up first is what it leaves of that build
 pub switched_from : (s mid new : CoreState) (told : ℕ × List Outcome) → CatchesUp s mid → Switches mid told new → Switches s told new

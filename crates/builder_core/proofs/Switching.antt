@@ -203,9 +203,18 @@ ready_at first (suc count) (suc i) k at =
     (omega (arith, rest.0), omega (arith, rest.1))
 
 -- as many verdicts as indexes
-count_ready : (first count : ℕ) → length (ready_from first count) ≡ count
+pub count_ready : (first count : ℕ) → length (ready_from first count) ≡ count
 count_ready first zero = refl
 count_ready first (suc count) = ap suc (count_ready (first + 1) count)
+
+-- one verdict more
+pub ready_push : (first count : ℕ) → ready_from first (count + 1) ≡ ready_from first count ++ Ready (first + count) ∷ []
+ready_push first zero = ap (λ n. Ready n ∷ []) (let same : first ≡ first + 0 = omega arith in same)
+ready_push first (suc count) =
+    ap (ready_from first) (let same : suc count + 1 ≡ suc (count + 1) = omega arith in same)
+    ∙ ap (λ os. Ready first ∷ os)
+    (ready_push (first + 1) count
+    ∙ ap (λ n. ready_from (first + 1) count ++ Ready n ∷ []) (let same : (first + 1) + count ≡ first + suc count = omega arith in same))
 
 -- and the indexes behind those that were ready
 index_at :

@@ -1,5 +1,5 @@
 -- What each event leaves of the build that a table knows, and what its switch makes ready.
-use Rattle.std.proofs.Common.{◌≡◌, ℕ, ◌<◌, ◌≤◌, true, List, [], ◌∷◌, ◌++◌, length, length-append, take, take_all, Option, Some, None, refl, sym, ap, ◌∙◌, arith, subst}
+use Rattle.std.proofs.Common.{◌≡◌, ℕ, ◌<◌, ◌≤◌, true, List, [], ◌∷◌, ◌++◌, length, map, length-append, take, take_all, Option, Some, None, refl, sym, ap, ◌∙◌, arith, subst}
 use Rattle.std.specs.Prelude.{is_some}
 use Rattle.std.specs.FinMap.{keys, contains_key-keys}
 use Rattle.std.specs.FinSet.{FinSet}
@@ -12,37 +12,40 @@ use Rattle.keybytes.specs.declared.kind.Kind.{Kind}
 use Rattle.heap_log.specs.declared.record.LogRec.{LogRec}
 use Rattle.heap_table.specs.Pages.{pages_written}
 use Rattle.heap_table.specs.TablePairs.{pairs_at_rest}
-use Rattle.builder_core.specs.Builds.{WorkValue, IsBuildOf, IsWorkOn, IsWorkOf, BuildFollows, build_over, first_spec}
+use Rattle.builder_core.specs.Builds.{WorkValue, IndexValue, IsBuildOf, IsIndexOn, IsWorkOn, IsWorkOf, BuildFollows, build_over}
 use Rattle.builder_core.specs.CoreState.{BuildState, scanning_of}
 use Rattle.scan_range.specs.Cuts.{are_cuts}
 use Rattle.builder_core.specs.Ranges.{next_page}
 use Rattle.builder_core.specs.Scanning.{Scanning, IsScanned, IsScanOf, AllScanned, scanned_at, scanned_pairs}
 use Rattle.visibility.specs.Applied.{apply_entries}
 use Rattle.builder_core.specs.SideEntries.{entries_of, side_entries}
-use Rattle.std.proofs.lemmas.List.{take-append-le}
+use Rattle.std.specs.List.{slice_get}
+use Rattle.std.proofs.lemmas.List.{take-append-le, length-map}
 use Rattle.catch_up.specs.Built.{BuiltValue}
 use Rattle.builder_core.proofs.EntrySteps.{more_entries}
-use Rattle.builder_core.proofs.ScanSteps.{opened_scanned, more_scanned, pairs_kept, scan_now, scan_scanned, pages_grow}
+use Rattle.builder_core.proofs.ScanSteps.{no_spec, opened_scanned, more_scanned, pairs_kept, scan_now, scan_scanned, pages_grow}
+use Rattle.builder_core.proofs.Places.{all_at}
 use Rattle.builder_core.proofs.NextPages.{some_of, next_below, next_unscanned, no_page, all_copied}
 use Rattle.builder_core.proofs.RangeScans.{few_scans}
 use Rattle.builder_core.proofs.Seen.{scan_at}
 use Rattle.builder_core.proofs.SideFollows.{leaves_index}
 use Rattle.builder_core.proofs.Works.{scanned_work_on}
 
--- a build of that index starts over those ranges
+-- a build of those indexes starts over those ranges
 pub started_build :
-    (kinds : List Kind) (log : List LogRec) (number : ℕ) (spec : KeySpecValue) (workers : ℕ) (ends : List ℕ) → spec.kinds ≡ kinds → pages_written log ≤ 65536
-    → are_cuts (pages_written log) ends ≡ true → workers ≤ 16
-    → IsBuildOf kinds log (build_over number spec workers (length log) (record { pages = pages_written log; ends = ends }) [] 0)
-started_build kinds log number spec workers ends columns limit cuts few = record {
-  spec = spec;
-  one_index = refl;
+    (kinds : List Kind) (log : List LogRec) (number : ℕ) (specs : List KeySpecValue) (workers : ℕ) (ends : List ℕ) → 1 ≤ length specs → length specs ≤ 8
+    → All (λ (spec : KeySpecValue). spec.kinds ≡ kinds) specs → pages_written log ≤ 65536 → are_cuts (pages_written log) ends ≡ true → workers ≤ 16
+    → IsBuildOf kinds log (build_over number specs workers (length log) (record { pages = pages_written log; ends = ends }) [] (map (λ spec. 0) specs))
+started_build kinds log number specs workers ends some few_indexes columns limit cuts few = record {
+  some_index = some;
+  few_indexes = few_indexes;
   few_workers = few;
   columns = columns;
+  fed_many = length-map specs (λ spec. 0);
   limit = limit;
   cuts = cuts;
   for_workers = All-nil (λ scan. scan.worker < workers);
-  scanned = opened_scanned spec log;
+  scanned = λ spec. opened_scanned spec log;
 }
 
 -- the next page of a range is copied for a worker
@@ -50,38 +53,63 @@ pub scanned_build :
     (kinds : List Kind) (log : List LogRec) (b : BuildState) (range worker page : ℕ) → IsBuildOf kinds log b → next_page b range ≡ Some page → worker < b.workers
     → IsBuildOf kinds log (record b { scans = b.scans ++ scan_now worker page log ∷ [] })
 scanned_build kinds log b range worker page is next for = record {
-  spec = is.spec;
-  one_index = is.one_index;
+  some_index = is.some_index;
+  few_indexes = is.few_indexes;
   few_workers = is.few_workers;
   columns = is.columns;
+  fed_many = is.fed_many;
   limit = is.limit;
   cuts = is.cuts;
   for_workers = All-push (λ scan. scan.worker < b.workers) b.scans (scan_now worker page log) is.for_workers for;
-  scanned = scan_scanned (scanning_of b is.spec) worker page log is.scanned (next_below b range page next is.cuts) (next_unscanned b range page next);
+  scanned = λ spec. scan_scanned (scanning_of b spec) worker page log (is.scanned spec) (next_below b range page next is.cuts) (next_unscanned b range page next);
 }
 
 -- it has no more scans than pages
 pub scans_within : (kinds : List Kind) (log : List LogRec) (b : BuildState) → IsBuildOf kinds log b → length b.scans ≤ b.pages
 scans_within kinds log b is =
-    few_scans b.scans b.pages is.scanned.once (λ page copied.
-    let at = some_of (scanned_at b.scans page) copied in (scan_at (scanning_of b is.spec) log b.scans is.scanned.scans page at.0 at.1).page)
+    few_scans b.scans b.pages (is.scanned no_spec).once (λ page copied.
+    let at = some_of (scanned_at b.scans page) copied in (scan_at (scanning_of b no_spec) log b.scans (is.scanned no_spec).scans page at.0 at.1).page)
 
 -- what was read stays so as the log grows
 build_grown : (kinds : List Kind) (log : List LogRec) (rec : LogRec) (b : BuildState) → IsBuildOf kinds log b → IsBuildOf kinds (log ++ rec ∷ []) b
 build_grown kinds log rec b is = record {
-  spec = is.spec;
-  one_index = is.one_index;
+  some_index = is.some_index;
+  few_indexes = is.few_indexes;
   few_workers = is.few_workers;
   columns = is.columns;
+  fed_many = is.fed_many;
   limit = is.limit;
   cuts = is.cuts;
   for_workers = is.for_workers;
-  scanned = more_scanned (scanning_of b is.spec) log rec is.scanned;
+  scanned = λ spec. more_scanned (scanning_of b spec) log rec (is.scanned spec);
 }
 
 pub build_kept : (kinds : List Kind) (log : List LogRec) (rec : LogRec) (build : Option BuildState) → BuildFollows kinds log build → BuildFollows kinds (log ++ rec ∷ []) build
 build_kept kinds log rec None is = tt
 build_kept kinds log rec (Some b) is = build_grown kinds log rec b is
+
+index_grown :
+    (kinds : List Kind) (log : List LogRec) (rec : LogRec) (b : BuildState) (spec : KeySpecValue) (index : IndexValue) → IsBuildOf kinds log b
+    → IsIndexOn log b spec index → IsIndexOn (log ++ rec ∷ []) b spec index
+index_grown kinds log rec b spec index build is = record {
+  all = is.all;
+  none_before = is.none_before;
+  there = let more = length-append (side_entries here log) (entries_of here log rec) in let grown = ap length grows in omega (arith, is.there, more, grown);
+  loaded = λ built t.
+      is.loaded built t
+      ∙ ap (λ es. keys (apply_entries es (set_of (scanned_pairs here log))))
+      (sym (ap (take index.applied) grows ∙ take-append-le index.applied (side_entries here log) (entries_of here log rec) is.there))
+      ∙ sym (ap (λ ps. keys (apply_entries (take index.applied (side_entries here (log ++ rec ∷ []))) (set_of ps))) (pairs_kept here log rec b.scans scans));
+  of_build = is.of_build;
+} where
+  here : Scanning
+  here = scanning_of b spec
+
+  grows : side_entries here (log ++ rec ∷ []) ≡ side_entries here log ++ entries_of here log rec
+  grows = more_entries here log rec (build.scanned spec).opened
+
+  scans : All (IsScanOf here log) b.scans
+  scans = (build.scanned spec).scans
 
 work_grown :
     (kinds : List Kind) (log : List LogRec) (rec : LogRec) (b : BuildState) (work : WorkValue) → IsBuildOf kinds log b → IsWorkOn kinds log b work
@@ -89,28 +117,11 @@ work_grown :
 work_grown kinds log rec b work build is = record {
   number = is.number;
   specs = is.specs;
-  only = is.only;
   columns = is.columns;
   workers = is.workers;
-  all = is.all;
-  none_before = is.none_before;
-  there = let more = length-append (side_entries here log) (entries_of here log rec) in let grown = ap length grows in omega (arith, is.there, more, grown);
-  loaded = λ built t.
-      is.loaded built t
-      ∙ ap (λ es. keys (apply_entries es (set_of (scanned_pairs here log))))
-      (sym (ap (take work.applied) grows ∙ take-append-le work.applied (side_entries here log) (entries_of here log rec) is.there))
-      ∙ sym (ap (λ ps. keys (apply_entries (take work.applied (side_entries here (log ++ rec ∷ []))) (set_of ps))) (pairs_kept here log rec b.scans scans));
-  of_build = is.of_build;
-} where
-  here : Scanning
-  here = scanning_of b (first_spec work)
-
-  grows : side_entries here (log ++ rec ∷ []) ≡ side_entries here log ++ entries_of here log rec
-  grows = more_entries here log rec build.scanned.opened
-
-  scans : All (IsScanOf here log) b.scans
-  scans = All-weaker (IsScanOf (scanning_of b build.spec) log) (IsScanOf here log)
-      (λ scan it. record { page = it.page; opened = it.opened; within = it.within }) b.scans build.scanned.scans
+  many = is.many;
+  indexes = λ k spec index at there. index_grown kinds log rec b spec index build (is.indexes k spec index at there);
+}
 
 pub work_kept :
     (kinds : List Kind) (log : List LogRec) (rec : LogRec) (build : Option BuildState) (work : Option WorkValue) → BuildFollows kinds log build → IsWorkOf kinds log build work
@@ -120,18 +131,11 @@ work_kept kinds log rec None (Some w) build is = is
 work_kept kinds log rec (Some b) None build is = is
 work_kept kinds log rec (Some b) (Some w) build is = work_grown kinds log rec b w build is
 
--- lists of one specification
-pub only_same : (a b : KeySpecValue) → a ∷ [] ≡ b ∷ [] → a ≡ b
-only_same a b e = cc
-
--- what it has read, for that specification
-pub scanned_for : (kinds : List Kind) (log : List LogRec) (b : BuildState) → IsBuildOf kinds log b → (spec : KeySpecValue) → b.specs ≡ spec ∷ [] → IsScanned (scanning_of b spec) log
-scanned_for kinds log b is spec one =
-    subst (λ s. IsScanned (scanning_of b s) log) (only_same is.spec spec (sym is.one_index ∙ one)) is.scanned
-
--- that specification is of the table's columns
-pub columns_for : (kinds : List Kind) (log : List LogRec) (b : BuildState) → IsBuildOf kinds log b → (spec : KeySpecValue) → b.specs ≡ spec ∷ [] → spec.kinds ≡ kinds
-columns_for kinds log b is spec one = ap (λ (s : KeySpecValue). s.kinds) (only_same spec is.spec (sym one ∙ is.one_index)) ∙ is.columns
+-- a specification of the build is of the table's columns
+pub columns_at :
+    (kinds : List Kind) (log : List LogRec) (b : BuildState) (index : ℕ) (spec : KeySpecValue) → IsBuildOf kinds log b → slice_get b.specs index ≡ Some spec
+    → spec.kinds ≡ kinds
+columns_at kinds log b index spec is at = all_at (λ (s : KeySpecValue). s.kinds ≡ kinds) b.specs index spec is.columns at
 
 -- a set has the members of its list
 pub set_of-keys : (s : FinSet pair_cmp) → set_of (keys s) ≡ s
@@ -139,21 +143,22 @@ set_of-keys s = same_members (set_of (keys s)) s (λ q. contains-set_of (keys s)
 
 -- once the side-file is applied to the scanned pairs, they are the pairs at rest
 pub switched_pairs :
-    (kinds : List Kind) (log : List LogRec) (b : BuildState) (work : WorkValue) (built : BuiltValue) → IsBuildOf kinds log b → IsWorkOn kinds log b work
-    → work.built ≡ Some built → length (side_entries (scanning_of b (first_spec work)) log) ≤ work.applied → built.pairs ≡ pairs_at_rest (first_spec work) log
-switched_pairs kinds log b work built build is loaded all =
-    let here : Scanning = scanning_of b (first_spec work) in
+    (kinds : List Kind) (log : List LogRec) (b : BuildState) (spec : KeySpecValue) (index : IndexValue) (built : BuiltValue) → IsBuildOf kinds log b
+    → IsIndexOn log b spec index → index.built ≡ Some built → length (side_entries (scanning_of b spec) log) ≤ index.applied
+    → built.pairs ≡ pairs_at_rest spec log
+switched_pairs kinds log b spec index built build is loaded all =
+    let here : Scanning = scanning_of b spec in
     let whole : AllScanned here = all_copied b (is.all (ap is_some loaded)) build.cuts in
     is.loaded built loaded
-    ∙ ap (λ es. keys (apply_entries es (set_of (scanned_pairs here log)))) (take_all work.applied (side_entries here log) all)
-    ∙ ap keys (leaves_index here log (scanned_for kinds log b build (first_spec work) is.only) whole)
+    ∙ ap (λ es. keys (apply_entries es (set_of (scanned_pairs here log)))) (take_all index.applied (side_entries here log) all)
+    ∙ ap keys (leaves_index here log (build.scanned spec) whole)
 
 -- the page that comes next is one of the table's
 pub next_written : (kinds : List Kind) (log : List LogRec) (b : BuildState) (range page : ℕ) → IsBuildOf kinds log b → next_page b range ≡ Some page → page < pages_written log
 next_written kinds log b range page is next =
     let less = next_below b range page next is.cuts in
     let grow = pages_grow b.opened log in
-    let pages = is.scanned.pages in
+    let pages = (is.scanned no_spec).pages in
     omega (arith, less, grow, pages)
 
 -- it is copied now

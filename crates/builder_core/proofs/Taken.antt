@@ -85,7 +85,7 @@ module _
   changed = going_on live building b w run fine put k sent it less there at in_order at_it.maker at_it.after at_it.made at_it.fit 1 (after_digest 1 it)
 
   abbrev with_states : List WorkerState → WorkState
-  with_states states = record { workers = states; indexes = index_state w ∷ []; spoiled = None }
+  with_states states = record { workers = states; indexes = map index_state w.indexes; spoiled = None }
 
   work_is : work_state changed.workers changed.work ≡ digested b before k
   work_is =

@@ -22,7 +22,7 @@ use Rattle.building.specs.declared.copied.Copied.{Copied}
 use Rattle.building.proofs.ManyPairs.{images-append, have_split}
 use Rattle.building.proofs.Taking.{digested_taking, sealed_taking, digested_holds, sealed_holds, digested_open, sealed_open}
 use Rattle.run_maker.specs.ImagePairs.{HasRows}
-use Rattle.builder_core.specs.Builds.{LiveValue, BuildingValue, WorkValue, IsRunning, IsWorkOn, WorksOn, worker_state, index_state, state_unless, work_state}
+use Rattle.builder_core.specs.Builds.{LiveValue, BuildingValue, WorkValue, IsRunning, IsWorkOn, IsUnloaded, AreFed, WorksOn, worker_state, index_state, state_unless, work_state}
 use Rattle.builder_core.specs.Builds.{core_state}
 use Rattle.builder_core.specs.SideFiles.{IsFed}
 use Rattle.builder_core.specs.Workers.{fed_to}
@@ -105,7 +105,7 @@ module _
   -- it can read the rows of the copies that it sees
   pub can_read : (n : ℕ) → HaveRows its_kit.0.schema (next_images n it)
   can_read n =
-      let some : 0 < length w.specs = let one = ap length (sym run.on.specs ∙ run.on.only) in omega (arith, one) in
+      let some : 0 < length w.specs = let same = ap length run.on.specs in omega (arith, same, run.follows.some_index) in
       let first = there_is w.specs 0 some in
       let next = have_next n 0 first.0 first.1 in
       subst (λ (kinds : List Kind). HaveRows kinds (next_images n it))
@@ -127,7 +127,7 @@ module _
     goes_on :
         (new : WorkerValue) → IsTaking b.number sent new
         → ((index : ℕ) (spec : KeySpecValue) → slice_get w.specs index ≡ Some spec → HoldsOpen spec (unsealed_images new) (get_or after.maker.begun index []))
-        → ((index : ℕ) (spec : KeySpecValue) → slice_get w.specs index ≡ Some spec → w.built ≡ None → HoldsAt index spec (received_images new) (holdings after))
+        → ((index : ℕ) (spec : KeySpecValue) → slice_get w.specs index ≡ Some spec → IsUnloaded index w → HoldsAt index spec (received_images new) (holdings after))
         → WorksOn live (going_on new)
     goes_on new own opened held =
         works_with live (going_on new) b (record w { makers = set w.makers k after.maker })
@@ -165,7 +165,7 @@ module _
       opened_before : HoldsOpen spec (unsealed_images it) old_begun
       opened_before = (run.at_work.kits fine).opened index spec is k it maker less at made_by
 
-      held_before : w.built ≡ None → HoldsPairs spec (received_images it) old_runs old_begun
+      held_before : IsUnloaded index w → HoldsPairs spec (received_images it) old_runs old_begun
       held_before none = (run.at_work.kits fine).holding index spec is none k it maker less at made_by
 
       -- the pairs that it makes of the copies
@@ -185,7 +185,7 @@ module _
           digested_open spec n it old_runs old_begun new_runs new_begun made taking.taken taking.sealed_was_taken opened_before (have_next n index spec is).1
           (adds digested) (fit.short index [] (omega (arith, index_there, fit.begun_many)))
 
-      digested_held : Digested w.specs (next_images n it) kit after → w.built ≡ None → HoldsPairs spec (received_images (after_digest n it)) new_runs new_begun
+      digested_held : Digested w.specs (next_images n it) kit after → IsUnloaded index w → HoldsPairs spec (received_images (after_digest n it)) new_runs new_begun
       digested_held digested none =
           digested_holds spec n it old_runs old_begun new_runs new_begun made (held_before none) (have_next n index spec is).1 (adds digested)
 
@@ -199,7 +199,7 @@ module _
           (sealed.0 index index_there made of_index)
 
       sealed_held :
-          Sealed w.specs (next_images n it) kit after → w.built ≡ None
+          Sealed w.specs (next_images n it) kit after → IsUnloaded index w
           → HoldsPairs spec (received_images (after_seal (after_digest n it))) new_runs new_begun
       sealed_held sealed none =
           subst (HoldsPairs spec (received_images (after_seal (after_digest n it))) new_runs) (sym (closed sealed))
@@ -245,13 +245,13 @@ spoiled_works live fault building new b w run spoiled =
       follows = run.follows;
       on = spoiled_work_on live.state.heap.schema live.state.heap.log b (record spoiled.work { makers = spoiled.makers }) fault
           (makers_work_on live.state.heap.schema live.state.heap.log b spoiled.work spoiled.makers on);
-      at_work = record { fed = subst (λ (x : WorkValue). IsFed (fed_to b 0) x.applied live.side building.side) same run.at_work.fed; given = run.at_work.given; taking = λ f. absurd (cc); kits = λ f. absurd (cc) };
+      at_work = record { fed = subst (λ (x : WorkValue). AreFed b x.indexes live.sides building.sides) same run.at_work.fed; given = run.at_work.given; taking = λ f. absurd (cc); kits = λ f. absurd (cc) };
     }))
 
 -- callers see of it what its index applied
 still_spoiled :
     (fault : Fault) (o : Option Fault) (workers : List WorkerValue) (w : WorkValue)
-    → spoiled_work fault (state_unless o workers w) ≡ record { workers = []; indexes = index_state w ∷ []; spoiled = Some fault }
+    → spoiled_work fault (state_unless o workers w) ≡ record { workers = []; indexes = map index_state w.indexes; spoiled = Some fault }
 still_spoiled fault None workers w = refl
 still_spoiled fault (Some other) workers w = refl
 
@@ -269,7 +269,7 @@ spoiled_state live fault building new b w run spoiled =
     ∙ ap (λ (s : WorkState). record { live = live.state; work = s; spools = spools_state building.given building.spools })
     (sym (ap (λ (o : Option WorkValue). spoiled_work fault (work_state building.workers o)) run.work_is ∙ still_spoiled fault w.spoiled building.workers w)) where
       spoiled_as : WorkValue → WorkState
-      spoiled_as x = record { workers = []; indexes = index_state x ∷ []; spoiled = Some fault }
+      spoiled_as x = record { workers = []; indexes = map index_state x.indexes; spoiled = Some fault }
 
 -- whatever was answered, callers see it where the build is spoiled
 pub spoiled_after :

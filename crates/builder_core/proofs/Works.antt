@@ -1,6 +1,9 @@
 -- The work of a build, as pages are copied and as its pairs are put in order.
-use Rattle.std.proofs.Common.{◌≡◌, ℕ, true, List, [], ◌∷◌, ◌++◌, Option, Some, None, refl, sym, ap, ◌∙◌, subst, arith}
-use Rattle.std.specs.Prelude.{is_some, All, IsPermutation}
+use Rattle.std.proofs.Common.{◌≡◌, ℕ, zero, suc, true, List, [], ◌∷◌, ◌++◌, length, set, Option, Some, None, refl, sym, ap, ◌∙◌, subst, arith, inl, inr}
+use Rattle.std.specs.List.{slice_get}
+use Rattle.std.proofs.lemmas.List.{length-set, length-replicate}
+use Rattle.std.proofs.lemmas.Option.{same_Some}
+use Rattle.std.specs.Prelude.{is_some, replicate, All, IsPermutation}
 use Rattle.std.proofs.lemmas.Bool.{false≢true}
 use Rattle.keybytes.specs.Keys.{KeySpecValue}
 use Rattle.keybytes.specs.declared.fault.Fault.{Fault}
@@ -12,27 +15,34 @@ use Rattle.std.specs.Ordering.{eq_by_cmp}
 use Rattle.std.proofs.lemmas.List.Sorted.{list_any-IsPermutation}
 use Rattle.keybytes.specs.Pairs.{AreOrdered, pair_cmp, set_of}
 use Rattle.keybytes.proofs.PairSets.{contains-set_of, same_members}
-use Rattle.run_maker.specs.Making.{MakerValue, spec_at}
-use Rattle.builder_core.specs.Builds.{WorkValue, IsWorkOn, IsCaughtUpTo, after_sort, first_spec, fresh}
+use Rattle.run_maker.specs.Making.{MakerValue}
+use Rattle.builder_core.specs.Builds.{WorkValue, IndexValue, IsIndexOn, IsWorkOn, IsCaughtUpTo, with_index, fresh, fresh_index}
+use Rattle.builder_core.proofs.Places.{at_set, replicate_at}
 use Rattle.builder_core.specs.CoreState.{BuildState, scanning_of}
 use Rattle.builder_core.specs.Ranges.{open_range}
 use Rattle.builder_core.specs.Scanning.{Scanning, scanned_pairs}
 use Rattle.builder_core.proofs.ScanSteps.{scan_now}
 
-pub fresh_work_on :
-    (kinds : List Kind) (log : List LogRec) (b : BuildState) (columns : List Kind) (specs : List KeySpecValue) (workers : ℕ) → b.specs ≡ specs
-    → b.specs ≡ spec_at specs 0 ∷ [] → All (λ spec. spec.kinds ≡ kinds) specs → workers ≡ b.workers → IsWorkOn kinds log b (fresh b.number columns specs workers)
-fresh_work_on kinds log b columns specs workers are one same count = record {
-  number = refl;
-  specs = are;
-  only = one;
-  columns = same;
-  workers = count;
+-- nothing was done on an index
+fresh_on : (log : List LogRec) (b : BuildState) (s : KeySpecValue) → IsIndexOn log b s fresh_index
+fresh_on log b s = record {
   all = λ e. absurd (false≢true e);
   none_before = λ e. refl;
   there = omega arith;
   loaded = λ built e. absurd (cc);
   of_build = λ built e. absurd (cc);
+}
+
+pub fresh_work_on :
+    (kinds : List Kind) (log : List LogRec) (b : BuildState) (columns : List Kind) (specs : List KeySpecValue) (workers : ℕ) → b.specs ≡ specs
+    → All (λ spec. spec.kinds ≡ kinds) specs → workers ≡ b.workers → IsWorkOn kinds log b (fresh b.number columns specs workers)
+fresh_work_on kinds log b columns specs workers are same count = record {
+  number = refl;
+  specs = are;
+  columns = same;
+  workers = count;
+  many = length-replicate (length specs) fresh_index ∙ sym (ap length are);
+  indexes = λ k s index at there. subst (IsIndexOn log b s) (sym (replicate_at (length specs) fresh_index k index there)) (fresh_on log b s);
 }
 
 -- its makers went on
@@ -42,20 +52,29 @@ pub makers_work_on :
 makers_work_on kinds log b work makers is = record {
   number = is.number;
   specs = is.specs;
-  only = is.only;
   columns = is.columns;
   workers = is.workers;
-  all = is.all;
-  none_before = is.none_before;
-  there = is.there;
-  loaded = is.loaded;
-  of_build = is.of_build;
+  many = is.many;
+  indexes = is.indexes;
 }
 
 -- what isn't there
 pub none_of : {X : Type 0} → (o : Option X) → (is_some o ≡ true → ⊥) → o ≡ None
 none_of None not = refl
 none_of (Some x) not = absurd (not refl)
+
+scanned_index_on :
+    (log : List LogRec) (b : BuildState) (spec : KeySpecValue) (index : IndexValue) (worker page : ℕ) → IsIndexOn log b spec index → (open_range b ≡ None → ⊥)
+    → IsIndexOn log (record b { scans = b.scans ++ scan_now worker page log ∷ [] }) spec index
+scanned_index_on log b spec index worker page is more = record {
+  all = λ e. absurd (more (is.all e));
+  none_before = is.none_before;
+  there =
+      let none : index.applied ≡ 0 = is.none_before (none_of index.built (λ some. more (is.all some))) in
+      omega (arith, none);
+  loaded = λ built t. absurd (let some : is_some index.built ≡ true = ap is_some t in more (is.all some));
+  of_build = is.of_build;
+}
 
 -- one page more was copied
 pub scanned_work_on :
@@ -64,16 +83,10 @@ pub scanned_work_on :
 scanned_work_on kinds log b work worker page is more = record {
   number = is.number;
   specs = is.specs;
-  only = is.only;
   columns = is.columns;
   workers = is.workers;
-  all = λ e. absurd (more (is.all e));
-  none_before = is.none_before;
-  there =
-      let none : work.applied ≡ 0 = is.none_before (none_of work.built (λ some. more (is.all some))) in
-      omega (arith, none);
-  loaded = λ built t. absurd (let some : is_some work.built ≡ true = ap is_some t in more (is.all some));
-  of_build = is.of_build;
+  many = is.many;
+  indexes = λ k spec index at there. scanned_index_on log b spec index worker page (is.indexes k spec index at there) more;
 }
 
 -- it is spoiled
@@ -83,14 +96,10 @@ pub spoiled_work_on :
 spoiled_work_on kinds log b work fault is = record {
   number = is.number;
   specs = is.specs;
-  only = is.only;
   columns = is.columns;
   workers = is.workers;
-  all = is.all;
-  none_before = is.none_before;
-  there = is.there;
-  loaded = is.loaded;
-  of_build = is.of_build;
+  many = is.many;
+  indexes = is.indexes;
 }
 
 -- pairs that are each once have the set of those that they were, in another order
@@ -99,28 +108,39 @@ same_set made pairs moved =
     same_members (set_of pairs) (set_of made) (λ q.
     contains-set_of pairs q ∙ sym (list_any-IsPermutation (eq_by_cmp pair_cmp q) made pairs moved) ∙ sym (contains-set_of made q))
 
--- the pairs are in order
-pub sorted_work_on :
-    (kinds : List Kind) (log : List LogRec) (b : BuildState) (work : WorkValue) (made pairs : List Pair) → IsWorkOn kinds log b work
-    → open_range b ≡ None → work.built ≡ None → IsPermutation made (scanned_pairs (scanning_of b (first_spec work)) log) → IsPermutation made pairs
-    → AreOrdered pairs → IsWorkOn kinds log b (after_sort work pairs)
-sorted_work_on kinds log b work made pairs is all none whole moved ordered = record {
+-- the work on one of its indexes is other work on it
+pub set_work_on :
+    (kinds : List Kind) (log : List LogRec) (b : BuildState) (work : WorkValue) (index : ℕ) (spec : KeySpecValue) (new : IndexValue) → IsWorkOn kinds log b work
+    → slice_get b.specs index ≡ Some spec → IsIndexOn log b spec new → IsWorkOn kinds log b (record work { indexes = set work.indexes index new })
+set_work_on kinds log b work index spec new is here on = record {
   number = is.number;
   specs = is.specs;
-  only = is.only;
   columns = is.columns;
   workers = is.workers;
-  all = λ e. all;
-  none_before = λ e. absurd (cc);
-  there = is.there;
-  loaded = λ built t.
-      let same : pairs ≡ built.pairs = cc in
-      let here : Scanning = scanning_of b (first_spec work) in
-      let scanned : List Pair = scanned_pairs here log in
-      subst (IsCaughtUpTo work.applied here log) same
-      (subst (λ (n : ℕ). IsCaughtUpTo n here log pairs) (sym (is.none_before none))
-      (ordered ∙ ap keys (same_set made pairs moved ∙ sym (same_set made scanned whole))));
-  of_build = λ built t.
-      let same : work.build ≡ built.build = cc in
-      sym same ∙ is.number;
+  many = length-set work.indexes index new ∙ is.many;
+  indexes = λ k s it at there. elim (at_set work.indexes index new k it there) [
+    | inl same ↦
+        let spec_is : spec ≡ s = same_Some spec s (sym here ∙ ap (slice_get b.specs) (sym same.0) ∙ at) in
+        subst (IsIndexOn log b s) (sym same.1) (subst (λ x. IsIndexOn log b x new) spec_is on)
+    | inr other ↦ is.indexes k s it at other.1
+  ];
 }
+
+-- the pairs of an index are in order
+pub sorted_work_on :
+    (kinds : List Kind) (log : List LogRec) (b : BuildState) (work : WorkValue) (index : ℕ) (spec : KeySpecValue) (made pairs : List Pair) → IsWorkOn kinds log b work
+    → slice_get b.specs index ≡ Some spec → open_range b ≡ None → IsPermutation made (scanned_pairs (scanning_of b spec) log) → IsPermutation made pairs
+    → AreOrdered pairs → IsWorkOn kinds log b (with_index work index pairs 0)
+sorted_work_on kinds log b work index spec made pairs is here all whole moved ordered =
+    set_work_on kinds log b work index spec (record { built = Some (record { build = work.build; pairs = pairs }); applied = 0 }) is here (record {
+      all = λ e. all;
+      none_before = λ e. absurd (cc);
+      there = omega arith;
+      loaded = λ built t.
+          let same : pairs ≡ built.pairs = cc in
+          let seen : Scanning = scanning_of b spec in
+          subst (IsCaughtUpTo 0 seen log) same (ordered ∙ ap keys (same_set made pairs moved ∙ sym (same_set made (scanned_pairs seen log) whole)));
+      of_build = λ built t.
+          let same : work.build ≡ built.build = cc in
+          sym same ∙ is.number;
+    })

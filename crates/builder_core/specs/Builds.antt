@@ -1,5 +1,5 @@
 -- What a table and the workers of its build keep between events, and how the two go together.
-use Rattle.std.specs.Prelude.{◌≡◌, ℕ, ◌+◌, ◌==◌, ◌<◌, ◌≤◌, Bool, List, [], ◌∷◌, ◌++◌, length, map, min, take, replicate, is_some, true, Option}
+use Rattle.std.specs.Prelude.{◌≡◌, ℕ, ◌+◌, ◌==◌, ◌<◌, ◌≤◌, Bool, List, [], ◌∷◌, ◌++◌, length, map, min, take, set, replicate, is_some, true, Option}
 use Rattle.std.specs.Prelude.{Some, None}
 use Rattle.std.specs.FinMap.{keys}
 use Rattle.std.specs.List.{All, slice_get}
@@ -25,7 +25,7 @@ use Rattle.builder_core.specs.Ranges.{next_page, open_range}
 use Rattle.builder_core.specs.Holding.{SpoolValue, spools_state, ended_spool, fresh_maker, AreEquipped, AreHolding, AreOpen}
 use Rattle.builder_core.specs.Rings.{all_sent, AreForWorkers, AreLooked, AreTaking, AreDone}
 use Rattle.builder_core.specs.Scanning.{Scanning, IsScanned, ReadOnce, scanned_at, scanned_pairs}
-use Rattle.builder_core.specs.SideFiles.{IsFed, HasLookedAtSide}
+use Rattle.builder_core.specs.SideFiles.{IsFed, HasLookedAtSide, SeesSide}
 use Rattle.builder_core.specs.Steps.{refusal, cause_if, build_cause, counts_refusal, range_refusal, ring_most, after_feed}
 use Rattle.builder_core.specs.declared.event.Event.{Event}
 use Rattle.builder_core.specs.Workers.{fed_to, unfed}
@@ -39,12 +39,21 @@ pub record LiveValue : Type 0 where
   pub state : LiveState
   -- the ends that put copies of pages, one for each worker that a build may have
   pub pages : List (PutEnd Copied)
-  -- the end that puts entries of the side-file
-  pub side : PutEnd Entry
+  -- the ends that put entries of side-files, one for each index that a build may have
+  pub sides : List (PutEnd Entry)
 
 -- the same with that heap
 abbrev pub value_with_heap : LiveValue → HeapState → LiveValue
 value_with_heap live heap = record live { state = live_with_heap live.state heap }
+
+-- an index of a build: its pairs, once they are in order, and how many entries of its side-file were applied to them
+pub record IndexValue : Type 0 where
+  pub built : Option BuiltValue
+  pub applied : ℕ
+
+-- nothing was done on it
+abbrev pub fresh_index : IndexValue
+fresh_index = record { built = None; applied = 0 }
 
 -- the work of a build
 pub record WorkValue : Type 0 where
@@ -56,10 +65,7 @@ pub record WorkValue : Type 0 where
   pub workers : ℕ
   -- what makes the pairs of each of them
   pub makers : List MakerValue
-  -- the index's pairs, once they are in order
-  pub built : Option BuiltValue
-  -- how many entries of its side-file were applied to them
-  pub applied : ℕ
+  pub indexes : List IndexValue
   pub spoiled : Option Fault
 
 -- the work of the build with that number by so many workers, on rows of these columns, that has done nothing
@@ -69,8 +75,7 @@ fresh build kinds specs workers = record {
   specs = specs;
   workers = workers;
   makers = replicate workers (fresh_maker kinds specs);
-  built = None;
-  applied = 0;
+  indexes = replicate (length specs) fresh_index;
   spoiled = None;
 }
 
@@ -78,18 +83,18 @@ fresh build kinds specs workers = record {
 pub record PartsValue : Type 0 where
   pub heap : HeapState
   pub pages : List RingId
-  pub side : List RingId
+  pub sides : List RingId
 
 -- the ends of a table's rings that take: those of the page rings are the workers'
 pub record EndsValue : Type 0 where
   pub workers : List WorkerValue
-  pub side : TakeEnd Entry
+  pub sides : List (TakeEnd Entry)
 
--- what stands beside a table: the workers, the other end of the side-file's ring, the spools, whether a build was given them, and the
+-- what stands beside a table: the workers, the other ends of the side-files' rings, the spools, whether a build was given them, and the
 -- work of the build that runs
 pub record BuildingValue : Type 0 where
   pub workers : List WorkerValue
-  pub side : TakeEnd Entry
+  pub sides : List (TakeEnd Entry)
   pub spools : List SpoolValue
   pub given : Bool
   pub work : Option WorkValue
@@ -98,14 +103,14 @@ pub record BuildingValue : Type 0 where
 abbrev pub worker_state : WorkerValue → WorkerState
 worker_state worker = record { taken = worker.taken; sealed = worker.sealed }
 
--- and of the index
-abbrev pub index_state : WorkValue → IndexState
-index_state work = record { loaded = is_some work.built; applied = work.applied }
+-- and of an index
+abbrev pub index_state : IndexValue → IndexState
+index_state index = record { loaded = is_some index.built; applied = index.applied }
 
 -- what callers see of work that goes on, or is spoiled
 abbrev pub state_unless : Option Fault → List WorkerValue → WorkValue → WorkState
-state_unless None workers work = record { workers = map worker_state (take work.workers workers); indexes = index_state work ∷ []; spoiled = None }
-state_unless (Some fault) workers work = record { workers = []; indexes = index_state work ∷ []; spoiled = Some fault }
+state_unless None workers work = record { workers = map worker_state (take work.workers workers); indexes = map index_state work.indexes; spoiled = None }
+state_unless (Some fault) workers work = record { workers = []; indexes = map index_state work.indexes; spoiled = Some fault }
 
 -- what callers see of the work
 abbrev pub work_state : List WorkerValue → Option WorkValue → WorkState
@@ -128,21 +133,22 @@ cause_of live building event = refusal (core_state live building) event
 abbrev pub given_up : BuildingValue → BuildingValue
 given_up building = record building { spools = map ended_spool building.spools; work = None }
 
--- these pairs are the index's, in order
-abbrev pub after_sort : WorkValue → List Pair → WorkValue
-after_sort work pairs = record work { built = Some (record { build = work.build; pairs = pairs }) }
+-- these pairs are the index's, in order, with so many entries applied
+abbrev pub with_index : WorkValue → ℕ → List Pair → ℕ → WorkValue
+with_index work index pairs applied =
+    record work { indexes = set work.indexes index (record { built = Some (record { build = work.build; pairs = pairs }); applied = applied }) }
 
--- a build of one index by so many workers, over the ranges that are cut so, which fed so many entries
-abbrev pub build_over : ℕ → KeySpecValue → ℕ → ℕ → CutsValue → List Scan → ℕ → BuildState
-build_over number spec workers opened cuts scans fed = record {
+-- a build of these indexes by so many workers, over the ranges that are cut so, which fed so many entries of each
+abbrev pub build_over : ℕ → List KeySpecValue → ℕ → ℕ → CutsValue → List Scan → List ℕ → BuildState
+build_over number specs workers opened cuts scans fed = record {
   number = number;
-  specs = spec ∷ [];
+  specs = specs;
   opened = opened;
   pages = cuts.pages;
   ends = cuts.ends;
   workers = workers;
   scans = scans;
-  fed = fed ∷ [];
+  fed = fed;
 }
 
 -- the scans of a build by so many workers whose ranges are so far
@@ -155,17 +161,19 @@ pub record AreScansOf (ranges : RangesValue) (workers : ℕ) (scans : List Scan)
   pub passed : (page : ℕ) → is_passed ranges page ≡ is_some (scanned_at scans page)
   pub for_workers : AreForWorkers workers scans
 
--- a build of one index, on the table with that log
+-- a build on the table with that log
 pub record IsBuildOf (kinds : List Kind) (log : List LogRec) (b : BuildState) : Type 0 where
-  pub spec : KeySpecValue
-  pub one_index : b.specs ≡ spec ∷ []
+  pub some_index : 1 ≤ length b.specs
+  pub few_indexes : length b.specs ≤ 8
   pub few_workers : b.workers ≤ 16
-  pub columns : spec.kinds ≡ kinds
+  pub columns : All (λ spec. spec.kinds ≡ kinds) b.specs
+  pub fed_many : length b.fed ≡ length b.specs
   pub limit : b.pages ≤ 65536
   -- its ranges are cuts of its pages
   pub cuts : are_cuts b.pages b.ends ≡ true
   pub for_workers : AreForWorkers b.workers b.scans
-  pub scanned : IsScanned (scanning_of b spec) log
+  -- which pages were read is the same for each index
+  pub scanned : (spec : KeySpecValue) → IsScanned (scanning_of b spec) log
 
 -- the running build, if any, is one of that table
 abbrev pub BuildFollows : List Kind → List LogRec → Option BuildState → Type 0
@@ -176,26 +184,30 @@ BuildFollows kinds log (Some b) = IsBuildOf kinds log b
 abbrev pub IsCaughtUpTo : ℕ → Scanning → List LogRec → List Pair → Type 0
 IsCaughtUpTo applied b log pairs = pairs ≡ keys (apply_entries (take applied (side_entries b log)) (set_of (scanned_pairs b log)))
 
--- what makes the keys of the first index
-abbrev pub first_spec : WorkValue → KeySpecValue
-first_spec work = spec_at work.specs 0
+-- it is the work on an index of that build, of that specification
+pub record IsIndexOn (log : List LogRec) (b : BuildState) (spec : KeySpecValue) (index : IndexValue) : Type 0 where
+  -- its pairs are in order only once no page is left to copy
+  pub all : is_some index.built ≡ true → open_range b ≡ None
+  -- no entry was applied before, nor one that the side-file has not
+  pub none_before : index.built ≡ None → index.applied ≡ 0
+  pub there : index.applied ≤ length (side_entries (scanning_of b spec) log)
+  -- in order they are the index's, with that number
+  pub loaded : (built : BuiltValue) → index.built ≡ Some built → IsCaughtUpTo index.applied (scanning_of b spec) log built.pairs
+  pub of_build : (built : BuiltValue) → index.built ≡ Some built → built.build ≡ b.number
+
+-- it is the work on these indexes of that build
+abbrev pub AreIndexesOn : List LogRec → BuildState → List IndexValue → Type 0
+AreIndexesOn log b indexes =
+    (k : ℕ) (spec : KeySpecValue) (index : IndexValue) → slice_get b.specs k ≡ Some spec → slice_get indexes k ≡ Some index → IsIndexOn log b spec index
 
 -- it is the work of that build
 pub record IsWorkOn (kinds : List Kind) (log : List LogRec) (b : BuildState) (work : WorkValue) : Type 0 where
   pub number : work.build ≡ b.number
   pub specs : b.specs ≡ work.specs
-  -- there is one, as yet
-  pub only : b.specs ≡ first_spec work ∷ []
   pub columns : All (λ spec. spec.kinds ≡ kinds) work.specs
   pub workers : work.workers ≡ b.workers
-  -- its pairs are in order only once no page is left to copy
-  pub all : is_some work.built ≡ true → open_range b ≡ None
-  -- no entry was applied before, nor one that the side-file has not
-  pub none_before : work.built ≡ None → work.applied ≡ 0
-  pub there : work.applied ≤ length (side_entries (scanning_of b (first_spec work)) log)
-  -- in order they are the index's, with that number
-  pub loaded : (built : BuiltValue) → work.built ≡ Some built → IsCaughtUpTo work.applied (scanning_of b (first_spec work)) log built.pairs
-  pub of_build : (built : BuiltValue) → work.built ≡ Some built → built.build ≡ b.number
+  pub many : length work.indexes ≡ length b.specs
+  pub indexes : AreIndexesOn log b work.indexes
 
 -- there is work exactly where a build runs, and it is that build's
 abbrev pub IsWorkOf : List Kind → List LogRec → Option BuildState → Option WorkValue → Type 0
@@ -204,39 +216,49 @@ IsWorkOf kinds log None (Some work) = ⊥
 IsWorkOf kinds log (Some b) None = ⊥
 IsWorkOf kinds log (Some b) (Some work) = IsWorkOn kinds log b work
 
+-- the pairs of an index are not in order
+abbrev pub IsUnloaded : ℕ → WorkValue → Type 0
+IsUnloaded k work = (index : IndexValue) → slice_get work.indexes k ≡ Some index → index.built ≡ None
+
 -- what the makers and spools of so many workers hold of the copies that these took: their pairs, until they are in order
 pub record HaveKits (count : ℕ) (workers : List WorkerValue) (spools : List SpoolValue) (work : WorkValue) : Type 0 where
   pub equipped : AreEquipped work.specs count work.makers spools
   pub opened : (index : ℕ) (spec : KeySpecValue) → slice_get work.specs index ≡ Some spec → AreOpen index spec count workers work.makers
-  pub holding : (index : ℕ) (spec : KeySpecValue) → slice_get work.specs index ≡ Some spec → work.built ≡ None
+  pub holding : (index : ℕ) (spec : KeySpecValue) → slice_get work.specs index ≡ Some spec → IsUnloaded index work
       → AreHolding index spec (length work.specs) count workers work.makers spools
 
--- the entries that were fed and not applied wait in the side-file's ring, the build has the spools, and its workers are at work on what
+-- of each index the entries that were fed and not applied wait in the ring between these ends
+abbrev pub AreFed : BuildState → List IndexValue → List (PutEnd Entry) → List (TakeEnd Entry) → Type 0
+AreFed b indexes puts ends =
+    (k : ℕ) (index : IndexValue) (put : PutEnd Entry) (end : TakeEnd Entry) → slice_get indexes k ≡ Some index → slice_get puts k ≡ Some put
+    → slice_get ends k ≡ Some end → IsFed (fed_to b k) index.applied put end
+
+-- the entries that were fed and not applied wait in the side-files' rings, the build has the spools, and its workers are at work on what
 -- their rings were sent; of a spoiled build only the first two are known
-pub record AreAtWork (b : BuildState) (pages : List (PutEnd Copied)) (side : PutEnd Entry) (building : BuildingValue) (work : WorkValue) : Type 0 where
-  pub fed : IsFed (fed_to b 0) work.applied side building.side
+pub record AreAtWork (b : BuildState) (pages : List (PutEnd Copied)) (sides : List (PutEnd Entry)) (building : BuildingValue) (work : WorkValue) : Type 0 where
+  pub fed : AreFed b work.indexes sides building.sides
   pub given : building.given ≡ true
   pub taking : work.spoiled ≡ None → AreTaking b.number b.workers (all_sent pages) building.workers
   pub kits : work.spoiled ≡ None → HaveKits b.workers building.workers building.spools work
 
 -- the same for the build that runs, if one does
-abbrev pub WorkersFollow : List (PutEnd Copied) → PutEnd Entry → BuildingValue → Option BuildState → Option WorkValue → Type 0
-WorkersFollow pages side building None work = Unit {0}
-WorkersFollow pages side building (Some b) None = Unit {0}
-WorkersFollow pages side building (Some b) (Some work) = AreAtWork b pages side building work
+abbrev pub WorkersFollow : List (PutEnd Copied) → List (PutEnd Entry) → BuildingValue → Option BuildState → Option WorkValue → Type 0
+WorkersFollow pages sides building None work = Unit {0}
+WorkersFollow pages sides building (Some b) None = Unit {0}
+WorkersFollow pages sides building (Some b) (Some work) = AreAtWork b pages sides building work
 
 -- work stands beside a table exactly where a build runs on it, and is that build's; its workers follow their rings, and their makers and
 -- spools hold what they took
 pub record WorksOn (live : LiveValue) (building : BuildingValue) : Type 0 where
   pub work : IsWorkOf live.state.heap.schema live.state.heap.log live.state.build building.work
-  pub workers : WorkersFollow live.pages live.side building live.state.build building.work
+  pub workers : WorkersFollow live.pages live.sides building live.state.build building.work
 
 -- both ends of the rings were looked at, and nothing else changed
 pub record HasLooked (live : LiveValue) (building : BuildingValue) (new_live : LiveValue) (new_building : BuildingValue) : Type 0 where
   pub state : new_live.state ≡ live.state
-  pub side : new_live.side ≡ live.side
+  pub sides : new_live.sides ≡ live.sides
   pub rings : AreLooked live.pages building.workers new_live.pages new_building.workers
-  pub other_side : new_building.side ≡ building.side
+  pub other_sides : new_building.sides ≡ building.sides
   pub spools : new_building.spools ≡ building.spools
   pub given : new_building.given ≡ building.given
   pub work : new_building.work ≡ building.work
@@ -257,7 +279,7 @@ pub record IsRunning (live : LiveValue) (building : BuildingValue) (b : BuildSta
   pub work_is : building.work ≡ Some work
   pub follows : IsBuildOf live.state.heap.schema live.state.heap.log b
   pub on : IsWorkOn live.state.heap.schema live.state.heap.log b work
-  pub at_work : AreAtWork b live.pages live.side building work
+  pub at_work : AreAtWork b live.pages live.sides building work
 
 -- how many places of a ring are known to be free
 abbrev pub free_places : Option (PutEnd Copied) → ℕ
@@ -290,23 +312,39 @@ pub record MayLoad (live : LiveValue) (building : BuildingValue) (index : ℕ) :
   pub work : WorkValue
   pub runs : IsRunning live building build work
   pub fine : work.spoiled ≡ None
-  pub only : index ≡ 0
+  pub there : index < length work.specs
   pub all : open_range build ≡ None
   pub quiet : AreDone build.workers (all_sent live.pages) building.workers work.makers
 
--- entries of the side-file may be applied to the index
-pub record MayApply (live : LiveValue) (building : BuildingValue) : Type 0 where
+-- entries of its side-file may be applied to the index
+pub record MayApply (live : LiveValue) (building : BuildingValue) (index : ℕ) : Type 0 where
   pub build : BuildState
   pub work : WorkValue
   pub runs : IsRunning live building build work
   pub fine : work.spoiled ≡ None
-  pub loaded : is_some work.built ≡ true
+  pub it : IndexValue
+  pub there : slice_get work.indexes index ≡ Some it
+  pub loaded : is_some it.built ≡ true
 
--- both ends of the side-file's ring were looked at, and nothing else changed
-pub record SideIsLooked (live : LiveValue) (building : BuildingValue) (new_live : LiveValue) (new_building : BuildingValue) : Type 0 where
-  pub put : new_live ≡ record live { side = new_live.side }
-  pub taken : new_building ≡ record building { side = new_building.side }
-  pub looked : HasLookedAtSide live.side building.side new_live.side new_building.side
+-- both ends of the ring of that side-file were looked at, and nothing else changed
+pub record SideIsLooked (index : ℕ) (live : LiveValue) (building : BuildingValue) (new_live : LiveValue) (new_building : BuildingValue) : Type 0 where
+  pub old_put : PutEnd Entry
+  pub put_there : slice_get live.sides index ≡ Some old_put
+  pub old_end : TakeEnd Entry
+  pub end_there : slice_get building.sides index ≡ Some old_end
+  pub put : PutEnd Entry
+  pub end : TakeEnd Entry
+  pub looked : HasLookedAtSide old_put old_end put end
+  pub puts : new_live ≡ record live { sides = set live.sides index put }
+  pub ends : new_building ≡ record building { sides = set building.sides index end }
+
+-- both ends of the ring of an index are at hand, and so many entries wait in it
+pub record SeesSideAt (index waiting : ℕ) (live : LiveValue) (building : BuildingValue) : Type 0 where
+  pub put : PutEnd Entry
+  pub put_there : slice_get live.sides index ≡ Some put
+  pub end : TakeEnd Entry
+  pub end_there : slice_get building.sides index ≡ Some end
+  pub sees : SeesSide waiting put end
 
 -- the entries that a feed moves where they find room: at most so many, at most a ring's, and as many as are left
 abbrev pub least_fed : BuildState → List LogRec → ℕ → ℕ → ℕ
@@ -317,8 +355,14 @@ pub record HasFed (index most : ℕ) (live : LiveValue) (count : ℕ) (new : Liv
   pub build : BuildState
   pub runs : live.state.build ≡ Some build
   pub within : count ≤ least_fed build live.state.heap.log index most
-  pub exact : least_fed build live.state.heap.log index most ≤ live.side.free → count ≡ least_fed build live.state.heap.log index most
+  pub put : PutEnd Entry
+  pub there : slice_get live.sides index ≡ Some put
+  pub exact : least_fed build live.state.heap.log index most ≤ put.free → count ≡ least_fed build live.state.heap.log index most
   -- a place that was never used is known to be free
-  pub first : least_fed build live.state.heap.log index most + length live.side.sent ≤ ring_most → count ≡ least_fed build live.state.heap.log index most
+  pub first : least_fed build live.state.heap.log index most + length put.sent ≤ ring_most → count ≡ least_fed build live.state.heap.log index most
+  -- fewer are moved only where no place is known to be free any more
+  pub after : PutEnd Entry
+  pub stops : count < least_fed build live.state.heap.log index most → after.free ≡ 0
+  pub others : new.sides ≡ set live.sides index after
   pub left : new.state ≡ record live.state { build = Some (after_feed build index count) }
   pub pages : new.pages ≡ live.pages

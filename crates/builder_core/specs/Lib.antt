@@ -1,5 +1,7 @@
 pub mod Builds
 pub mod Columns
+pub mod CatchingUp
+pub mod Changing
 pub mod CoreState
 pub mod Headline
 pub mod Holding

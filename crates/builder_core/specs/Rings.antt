@@ -29,17 +29,27 @@ take_rings workers = map (λ worker. worker.end.ring) workers
 abbrev pub all_sent : List (PutEnd Copied) → List (List Copied)
 all_sent pages = map (λ end. end.sent) pages
 
+-- which rings these ends put entries into
+abbrev pub side_rings : List (PutEnd Entry) → List RingId
+side_rings sides = map (λ end. end.ring) sides
+
+-- which rings these ends take entries from
+abbrev pub taken_rings : List (TakeEnd Entry) → List RingId
+taken_rings sides = map (λ end. end.ring) sides
+
 -- the ends that put are those of a table with these rings
-pub record ArePutEnds (page_rings side_ring : List RingId) (pages : List (PutEnd Copied)) (side : PutEnd Entry) : Type 0 where
+pub record ArePutEnds (page_rings entry_rings : List RingId) (pages : List (PutEnd Copied)) (sides : List (PutEnd Entry)) : Type 0 where
   pub pages_are : put_rings pages ≡ page_rings
-  pub side_is : side.ring ∷ [] ≡ side_ring
+  pub sides_are : side_rings sides ≡ entry_rings
   pub sixteen : length pages ≡ 16
+  pub eight : length sides ≡ 8
 
 -- and so are the ends that take
-pub record AreTakeEnds (page_rings side_ring : List RingId) (workers : List WorkerValue) (side : TakeEnd Entry) : Type 0 where
+pub record AreTakeEnds (page_rings entry_rings : List RingId) (workers : List WorkerValue) (sides : List (TakeEnd Entry)) : Type 0 where
   pub workers_are : take_rings workers ≡ page_rings
-  pub side_is : side.ring ∷ [] ≡ side_ring
+  pub sides_are : taken_rings sides ≡ entry_rings
   pub sixteen : length workers ≡ 16
+  pub eight : length sides ≡ 8
 
 -- each page was copied for one of so many workers
 abbrev pub AreForWorkers : ℕ → List Scan → Type 0
@@ -77,6 +87,10 @@ pub record AreLooked
   pub rings : put_rings new_pages ≡ put_rings pages
   pub sent : all_sent new_pages ≡ all_sent pages
   pub same : map (knowing []) new_workers ≡ map (knowing []) workers
+
+-- the end that takes, once it took all that its ring was sent
+abbrev pub drained_end : PutEnd Entry → TakeEnd Entry
+drained_end end = record { ring = end.ring; received = end.sent; known = [] }
 
 -- a worker that begins a build, and has taken all that its ring was sent before
 abbrev pub begun_on : ℕ → PutEnd Copied → WorkerValue

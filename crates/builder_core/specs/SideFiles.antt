@@ -30,17 +30,27 @@ sees b rid = nat_le b.pages rid.page || is_some (scanned_at b.scans rid.page)
 abbrev pub noted : BuildState → KeySpecValue → Rid → Option (List Cell) → Option (List Cell) → List SideEntry
 noted b spec rid old new = if sees b rid then changes (pair_with spec rid old) (pair_with spec rid new) else []
 
--- the side-file has that build's entries, fed or left, under its number
-pub record HasEntries (log : List LogRec) (b : BuildState) (side : SideFileValue) : Type 0 where
-  pub entries : (spec : KeySpecValue) → b.specs ≡ spec ∷ [] → all_appended side ≡ map (entry_of b.number) (side_entries (scanning_of b spec) log)
+-- the side-file has that build's entries for an index of that specification, fed or left, under the build's number
+pub record HasEntries (log : List LogRec) (b : BuildState) (index : ℕ) (spec : KeySpecValue) (side : SideFileValue) : Type 0 where
+  pub entries : all_appended side ≡ map (entry_of b.number) (side_entries (scanning_of b spec) log)
   -- each has the key of a row
-  pub keys : (spec : KeySpecValue) → b.specs ≡ spec ∷ [] → All (λ entry. IsKeyOf spec entry.key) (all_appended side)
-  pub count : b.fed ≡ length side.fed ∷ []
+  pub keys : All (λ entry. IsKeyOf spec entry.key) (all_appended side)
+  pub count : fed_to b index ≡ length side.fed
 
--- the side-file has the entries of the running build, if one runs
-abbrev pub SideFollows : List LogRec → Option BuildState → SideFileValue → Type 0
-SideFollows log None side = Unit {0}
-SideFollows log (Some b) side = HasEntries log b side
+-- the first of these side-files have the entries of that build, one for each of its indexes
+abbrev pub HaveEntries : List LogRec → BuildState → List SideFileValue → Type 0
+HaveEntries log b sides =
+    (index : ℕ) (spec : KeySpecValue) (side : SideFileValue) → slice_get b.specs index ≡ Some spec → slice_get sides index ≡ Some side
+    → HasEntries log b index spec side
+
+-- so they have those of the running build, if one runs
+abbrev pub SidesFollow : List LogRec → Option BuildState → List SideFileValue → Type 0
+SidesFollow log None sides = Unit {0}
+SidesFollow log (Some b) sides = HaveEntries log b sides
+
+-- the ends of these side-files' rings that put
+abbrev pub put_ends : List SideFileValue → List (PutEnd Entry)
+put_ends sides = map (λ side. side.end) sides
 
 -- both ends are of one ring, and of so many entries that it was sent last, all but so many wait in it
 pub record IsFed (fed applied : ℕ) (put : PutEnd Entry) (end : TakeEnd Entry) : Type 0 where
@@ -50,12 +60,20 @@ pub record IsFed (fed applied : ℕ) (put : PutEnd Entry) (end : TakeEnd Entry) 
   pub were_sent : fed ≤ length put.sent
   pub countable : fed < 2 ^ 64
 
--- the entries that were fed are the first of the build's, and the last that the ring was sent
-pub record AreFedEntries (log : List LogRec) (b : BuildState) (put : PutEnd Entry) : Type 0 where
-  pub entries : (spec : KeySpecValue) → b.specs ≡ spec ∷ []
-      → last_ones (fed_to b 0) put.sent ≡ map (entry_of b.number) (take (fed_to b 0) (side_entries (scanning_of b spec) log))
-  pub there : (spec : KeySpecValue) → b.specs ≡ spec ∷ [] → fed_to b 0 ≤ length (side_entries (scanning_of b spec) log)
-  pub counts : b.fed ≡ fed_to b 0 ∷ []
+-- no more entries of an index were fed than its side-file had
+abbrev pub NoneAhead : List LogRec → BuildState → Type 0
+NoneAhead log b = (index : ℕ) (spec : KeySpecValue) → slice_get b.specs index ≡ Some spec → fed_to b index ≤ length (side_entries (scanning_of b spec) log)
+
+-- the entries of an index that were fed are the first of its side-file, and the last that its ring was sent
+pub record AreFedEntries (log : List LogRec) (b : BuildState) (index : ℕ) (spec : KeySpecValue) (put : PutEnd Entry) : Type 0 where
+  pub entries : last_ones (fed_to b index) put.sent ≡ map (entry_of b.number) (take (fed_to b index) (side_entries (scanning_of b spec) log))
+  pub there : fed_to b index ≤ length (side_entries (scanning_of b spec) log)
+
+-- the same of each index, by the ends of the rings that put
+abbrev pub AreAllFed : List LogRec → BuildState → List (PutEnd Entry) → Type 0
+AreAllFed log b puts =
+    (index : ℕ) (spec : KeySpecValue) (put : PutEnd Entry) → slice_get b.specs index ≡ Some spec → slice_get puts index ≡ Some put
+    → AreFedEntries log b index spec put
 
 -- both ends of the side-file's ring were looked at, and nothing was put or taken
 pub record HasLookedAtSide (put : PutEnd Entry) (end : TakeEnd Entry) (new_put : PutEnd Entry) (new_end : TakeEnd Entry) : Type 0 where

@@ -82,12 +82,21 @@ same_kinds (a ∷ rest) (b ∷ bs) = same_kind a b && same_kinds rest bs
 abbrev pub workers_most : ℕ
 workers_most = 16
 
--- 1 to 16 workers, one index that isn't unique, room for it among the ready ones, a number for the build, and a spool for each
--- worker and index
+-- the most indexes of a build
+abbrev pub indexes_most : ℕ
+indexes_most = 8
+
+-- the most indexes of a table that are ready
+abbrev pub ready_most : ℕ
+ready_most = 32
+
+-- 1 to 16 workers, 1 to 8 indexes of which none is unique, room for them among the ready ones, a number for the build, and a spool
+-- for each worker and index
 abbrev pub counts_fit : LiveState → ℕ → Plan → Bool
 counts_fit live spools plan =
-    nat_le 1 plan.workers && nat_le plan.workers workers_most && (length plan.specs.items == 1) && not (list_any (λ spec. spec.unique) plan.specs.items)
-    && nat_lt (length live.ready) 32 && nat_lt live.builds 18446744073709551615 && (spools == plan.workers * length plan.specs.items)
+    nat_le 1 plan.workers && nat_le plan.workers workers_most && nat_le 1 (length plan.specs.items) && nat_le (length plan.specs.items) indexes_most
+    && not (list_any (λ spec. spec.unique) plan.specs.items) && nat_le (length live.ready + length plan.specs.items) ready_most
+    && nat_lt live.builds 18446744073709551615 && (spools == plan.workers * length plan.specs.items)
 
 -- why the spools that are left start no build
 abbrev pub spools_refusal : List Bool → Option Fault

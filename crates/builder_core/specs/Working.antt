@@ -16,7 +16,7 @@ use Rattle.run_maker.specs.Making.{MakerValue}
 use Rattle.building.specs.ImagePairs.{HaveRows}
 use Rattle.building.specs.Work.{next_images, after_digest}
 use Rattle.building.specs.WorkerValue.{WorkerValue}
-use Rattle.builder_core.specs.Builds.{BuildingValue, WorkValue, after_sort}
+use Rattle.builder_core.specs.Builds.{BuildingValue, WorkValue, IndexValue, IsUnloaded, with_index}
 use Rattle.builder_core.specs.Columns.{own_spools, with_own, column}
 use Rattle.builder_core.specs.Holding.{SpoolValue, Kit, IsFit, runs_of, pairs_in, stakes_of, kit_of, ended_column}
 
@@ -94,7 +94,7 @@ pub record HasSorted (index : ℕ) (work : WorkValue) (old : BuildingValue) (cou
   pub moved : IsPermutation (pairs_in (column index (length work.specs) old.spools)) pairs
   pub ordered : AreOrdered pairs
   pub counted : count ≡ length pairs
-  pub left : new ≡ record old { spools = ended_column index (length work.specs) old.spools; work = Some (after_sort work pairs) }
+  pub left : new ≡ record old { spools = ended_column index (length work.specs) old.spools; work = Some (with_index work index pairs 0) }
 
 -- no pair is there twice
 abbrev pub AreEachOnce : List Pair → Type 0
@@ -105,42 +105,52 @@ pub record CanLoad (index : ℕ) (building : BuildingValue) : Type 0 where
   pub work : WorkValue
   pub runs : building.work ≡ Some work
   pub there : index < length work.specs
+  pub many : length work.indexes ≡ length work.specs
   pub lent : length building.spools ≡ work.workers * length work.specs
-  pub sorted : work.built ≡ None → All AreSorted (runs_of (column index (length work.specs) building.spools))
-  pub once : work.built ≡ None → AreEachOnce (pairs_in (column index (length work.specs) building.spools))
+  pub sorted : IsUnloaded index work → All AreSorted (runs_of (column index (length work.specs) building.spools))
+  pub once : IsUnloaded index work → AreEachOnce (pairs_in (column index (length work.specs) building.spools))
 
 -- a load of an index: its pairs are put in order, or were so before
 pub record HasLoaded (index : ℕ) (old : BuildingValue) (count : ℕ) (new : BuildingValue) : Type 0 where
   pub work : WorkValue
   pub runs : old.work ≡ Some work
-  pub again : is_some work.built ≡ true → (count ≡ 0) × (new ≡ old)
-  pub first : work.built ≡ None → HasSorted index work old count new
+  pub it : IndexValue
+  pub there : slice_get work.indexes index ≡ Some it
+  pub again : is_some it.built ≡ true → (count ≡ 0) × (new ≡ old)
+  pub first : it.built ≡ None → HasSorted index work old count new
 
--- the next entries that the side-file's ring is seen to have can be applied, so many of them
-pub record CanApply (count : ℕ) (building : BuildingValue) : Type 0 where
+-- an index of a build whose pairs are in order, with the end of its side-file's ring that takes
+pub record IsTakingEntries (index : ℕ) (building : BuildingValue) : Type 0 where
   pub work : WorkValue
   pub runs : building.work ≡ Some work
-  pub loaded : is_some work.built ≡ true
-  pub ordered : (built : BuiltValue) → work.built ≡ Some built → AreOrdered built.pairs
-  pub seen : count ≤ length building.side.known
-  pub countable : work.applied + count < 2 ^ 64
+  pub it : IndexValue
+  pub there : slice_get work.indexes index ≡ Some it
+  pub built : BuiltValue
+  pub loaded : it.built ≡ Some built
+  pub of_build : built.build ≡ work.build
+  pub end : TakeEnd Entry
+  pub at : slice_get building.sides index ≡ Some end
+
+-- the next entries that the index's ring is seen to have can be applied, so many of them
+pub record CanApply (index count : ℕ) (building : BuildingValue) : Type 0 where
+  pub taking : IsTakingEntries index building
+  pub ordered : AreOrdered taking.built.pairs
+  pub seen : count ≤ length taking.end.known
+  pub countable : taking.it.applied + count < 2 ^ 64
 
 -- the first so many of them were taken from the ring, and those of its build were applied to the index
-pub record HasApplied (old : BuildingValue) (count : ℕ) (new : BuildingValue) : Type 0 where
-  pub work : WorkValue
-  pub runs : old.work ≡ Some work
-  pub before : BuiltValue
-  pub built : work.built ≡ Some before
+pub record HasApplied (index : ℕ) (old : BuildingValue) (count : ℕ) (new : BuildingValue) : Type 0 where
+  pub taking : IsTakingEntries index old
   pub pairs : List Pair
-  pub applied : set_of pairs ≡ apply_entries (told_to before.build (take count old.side.known)) (set_of before.pairs)
+  pub applied : set_of pairs ≡ apply_entries (told_to taking.built.build (take count taking.end.known)) (set_of taking.built.pairs)
   pub ordered : AreOrdered pairs
   pub end : TakeEnd Entry
-  pub ring : end.ring ≡ old.side.ring
-  pub received : end.received ≡ old.side.received ++ take count old.side.known
+  pub ring : end.ring ≡ taking.end.ring
+  pub received : end.received ≡ taking.end.received ++ take count taking.end.known
   -- the others are still seen, and more may be
   pub more : List Entry
-  pub known : end.known ≡ drop count old.side.known ++ more
+  pub known : end.known ≡ drop count taking.end.known ++ more
   pub left : new ≡ record old {
-    side = end;
-    work = Some (record work { built = Some (record { build = before.build; pairs = pairs }); applied = work.applied + count });
+    sides = set old.sides index end;
+    work = Some (with_index taking.work index pairs (taking.it.applied + count));
   }

@@ -2,11 +2,12 @@
 ghost use Rattle.std.specs.Prelude.{◌≡◌, ℕ, ◌<◌, ◌≤◌, ◌⊎◌, OnOk, [], All, length, map, false, None, Some, IfSome, IfOk, IfErr, OnErr, MatchOption};
 ghost use Rattle.std.specs.List.{list_all};
 ghost use Rattle.building.specs.Work.{after_seal};
-ghost use Rattle.builder_core.specs.Builds.{given_up};
+ghost use Rattle.builder_core.specs.Builds.{given_up, IsUnloaded};
 ghost use Rattle.builder_core.specs.Holding.{spool_value, spools_state, Digested, Sealed};
 ghost use Rattle.builder_core.specs.Working.{CanTake, HasTaken, one_copy, all_copies, CanLoad, HasLoaded, CanApply, HasApplied, IsSpoiled};
 
 use crate::ending::end_spools;
+use crate::index_work::IndexWork;
 use crate::merging::merged_tree;
 use crate::taking::{digest_at, seal_at};
 use crate::work::Work;
@@ -26,7 +27,7 @@ use std::mem::replace;
 /// It is no `Drop`: whoever has it takes the spools out again, and they are ended then.
 pub struct Building<S: Spool, T: Table> {
     pub(crate) workers: Vec<Worker>,
-    pub(crate) side_end: Consumer<Entry>,
+    pub(crate) side_ends: Vec<Consumer<Entry>>,
     pub(crate) spools: Vec<S>,
     /// Whether a build was given the spools; they are then not left for a next one.
     pub(crate) given: bool,
@@ -46,13 +47,13 @@ impl<S: Spool, T: Table> Model for Building<S, T> {
 
     ghost view = { λ building. record {
       workers = building.workers.items;
-      side = take_end building.side_end;
+      sides = map take_end building.side_ends.items;
       spools = map (spool_value S.runs S.open_run S.stake) building.spools.items;
       given = building.given;
       work = building.work;
     } };
 
-    ghost invariant = { λ building. AreTakeEnds T.pages T.side building.workers.items (take_end building.side_end)
+    ghost invariant = { λ building. AreTakeEnds T.pages T.sides building.workers.items (map take_end building.side_ends.items)
         × (building.given ≡ true → building.work ≡ None → All S.ended building.spools.items) };
 }
 
@@ -61,7 +62,7 @@ impl<S: Spool, T: Table> Building<S, T> {
     pub fn new(ends: Ends<T>, spools: Vec<S>) -> Building<S, T>
         ensures { result ≡ record {
           workers = ends.workers;
-          side = ends.side;
+          sides = ends.sides;
           spools = map (spool_value S.runs S.open_run S.stake) spools.items;
           given = false;
           work = None;
@@ -69,12 +70,12 @@ impl<S: Spool, T: Table> Building<S, T> {
     {
         let Ends {
             workers,
-            side_end,
+            side_ends,
             of,
         } = ends;
         Building {
             workers,
-            side_end,
+            side_ends,
             spools,
             given: false,
             work: None,
@@ -84,13 +85,13 @@ impl<S: Spool, T: Table> Building<S, T> {
 
     /// Hands the ends of the rings back, and the spools, ended; the work of a build that runs is given up. Takes no memory.
     pub fn into_parts(self) -> (Ends<T>, Vec<S>)
-        ensures ends { result.0 ≡ record { workers = self.workers; side = self.side } }
+        ensures ends { result.0 ≡ record { workers = self.workers; sides = self.sides } }
         ensures ended { All S.ended result.1.items }
         ensures stakes { map S.stake result.1.items ≡ map (λ spool. spool.stake) self.spools }
     {
         let Building {
             workers,
-            side_end,
+            side_ends,
             mut spools,
             given: _,
             work: _,
@@ -99,7 +100,7 @@ impl<S: Spool, T: Table> Building<S, T> {
         end_spools(&mut spools);
         let ends = Ends {
             workers,
-            side_end,
+            side_ends,
             of,
         };
         (ends, spools)
@@ -209,14 +210,14 @@ impl<S: Spool, T: Table> Building<S, T> {
     pub(crate) fn load(&mut self, alloc: Global, index: usize) -> Result<usize, Fault>
         requires { CanLoad index self.old }
         ensures loaded { IfOk result (λ count. HasLoaded index self.old count self.new) }
-        ensures first { OnErr result (IfSome self.old.work (λ work. work.built ≡ None)) }
+        ensures first { OnErr result (IfSome self.old.work (IsUnloaded index)) }
         ensures spoiled { IfErr result (λ fault. IsSpoiled fault self.old self.new) }
         ensures memory { IfErr result (λ fault. fault ≡ Fault.Memory) }
     {
         let Some(work) = &mut self.work else {
             unreachable!()
         };
-        if work.is_loaded() {
+        if work.is_loaded(index) {
             return Ok(0);
         }
         let tree = match merged_tree(
@@ -234,41 +235,45 @@ impl<S: Spool, T: Table> Building<S, T> {
         };
         let count = tree.len();
         tree.laws();
-        work.built = Some(Built::new(work.build, tree));
+        work.indexes[index] = IndexWork {
+            built: Some(Built::new(work.build, tree)),
+            applied: 0,
+        };
         Ok(count)
     }
 
-    /// Applies the next entries that the side-file's ring is seen to have, and answers how many. Those that were applied before
+    /// Applies the next entries that the index's ring is seen to have, and answers how many. Those that were applied before
     /// memory was wanted stay applied.
-    pub(crate) fn apply(&mut self, count: usize) -> Result<usize, Fault>
-        requires { CanApply count self.old }
-        ensures applied { IfOk result (λ entries. (entries ≡ count) × HasApplied self.old count self.new) }
-        ensures some { OnErr result ((entries : ℕ) × (entries < count) × HasApplied self.old entries self.new) }
+    pub(crate) fn apply(&mut self, index: usize, count: usize) -> Result<usize, Fault>
+        requires { CanApply index count self.old }
+        ensures applied { IfOk result (λ entries. (entries ≡ count) × HasApplied index self.old count self.new) }
+        ensures some { OnErr result ((entries : ℕ) × (entries < count) × HasApplied index self.old entries self.new) }
         ensures memory { IfErr result (λ fault. fault ≡ Fault.Memory) }
     {
         for _ in 0..count {
-            self.apply_next()?;
+            self.apply_next(index)?;
         }
         Ok(count)
     }
 
     /// Applies the next entry.
-    fn apply_next(&mut self) -> Result<(), Fault>
-        requires { CanApply 1 self.old }
-        ensures applied { OnOk result (HasApplied self.old 1 self.new) }
-        ensures unchanged { OnErr result (HasApplied self.old 0 self.new) }
+    fn apply_next(&mut self, index: usize) -> Result<(), Fault>
+        requires { CanApply index 1 self.old }
+        ensures applied { OnOk result (HasApplied index self.old 1 self.new) }
+        ensures unchanged { OnErr result (HasApplied index self.old 0 self.new) }
         ensures memory { IfErr result (λ fault. fault ≡ Fault.Memory) }
     {
         let Some(work) = &mut self.work else {
             unreachable!()
         };
-        let Some(built) = &mut work.built else {
+        let it = &mut work.indexes[index];
+        let Some(built) = &mut it.built else {
             unreachable!()
         };
-        let taken = apply(built, &mut self.side_end, 1);
+        let taken = apply(built, &mut self.side_ends[index], 1);
         built.laws();
         taken?;
-        work.applied += 1;
+        it.applied += 1;
         Ok(())
     }
 

@@ -1,5 +1,5 @@
-//! A change of a row, done together with what it means for the index of the running build and for those that are ready.
-ghost use Rattle.std.specs.Prelude.{◌≡◌, ◌+◌, ◌++◌, ◌∷◌, ◌≤◌, List, [], length, map, Some, None, ℕ, true, IsSome, IfSome, IfOk, IfErr, OnOk, OnErr, Option};
+//! A change of a row, done together with what it means for the indexes of the running build and for those that are ready.
+ghost use Rattle.std.specs.Prelude.{◌≡◌, ◌+◌, ◌++◌, ◌∷◌, ◌<◌, ◌≤◌, List, [], length, map, slice_get, Some, None, ℕ, true, IsSome, IfSome, IfOk, IfErr, OnOk, OnErr, Option};
 ghost use Rattle.keybytes.specs.Cells.{fits};
 ghost use Rattle.keybytes.specs.Keys.{KeySpecValue};
 ghost use Rattle.heap_log.specs.Standing.{standing_count};
@@ -8,11 +8,13 @@ ghost use Rattle.heap_table.specs.Pages.{SetsRow};
 ghost use Rattle.heap_table.specs.Ready.{IsReady, after_ready, answer_of};
 ghost use Rattle.visibility.specs.SideEntries.{entries_of_change};
 ghost use Rattle.side_file.specs.Entries.{entry_of};
+ghost use Rattle.side_file.specs.SideFileValue.{SideFileValue};
 ghost use Rattle.builder_core.specs.Builds.{WorkValue, BuildFollows, IsWorkOf};
 ghost use Rattle.building.specs.declared.copied.Copied.{Copied};
 ghost use Rattle.builder_core.specs.Rings.{PagesFollow};
-ghost use Rattle.builder_core.specs.SideFiles.{noted, SideFollows};
+ghost use Rattle.builder_core.specs.Changing.{FitsBuild, IsChangeOf, AreChangesOf, HaveAppended, HaveNoted, without_room};
 ghost use Rattle.builder_core.specs.CoreState.{AreIndexesOf};
+ghost use Rattle.builder_core.specs.SideFiles.{SidesFollow, put_ends};
 ghost use Rattle.builder_core.specs.Steps.{ready_now};
 
 use crate::ReadyIndex;
@@ -21,23 +23,64 @@ use crate::table_scan::TableScan;
 use heap_table::{Heap, Performed, Ready, Undone};
 use keybytes::{Fault, Rid, Row};
 use side_file::{Entry, Op, SideFile};
+use std::alloc::Global;
 use visibility::{Change, entries};
 
-/// What a change means for the build's index, as far as the build has scanned by now.
-fn change_of(
-    build: &TableScan,
-    rid: Rid,
-    old: &Option<Row>,
-    new: &Option<Row>,
-) -> Result<Change, Fault>
-    requires old_fits { (spec : KeySpecValue) → build.now.specs ≡ spec ∷ [] → IfSome old.now (λ cells. fits spec.kinds cells ≡ true) }
-    requires new_fits { (spec : KeySpecValue) → build.now.specs ≡ spec ∷ [] → IfSome new.now (λ cells. fits spec.kinds cells ≡ true) }
-    ensures ok { IfOk result (λ change. (spec : KeySpecValue) → build.now.specs ≡ spec ∷ []
-        → entries_of_change rid change ≡ noted build.now spec rid old.now new.now) }
+/// What a change means for one of the build's indexes, as far as the build has scanned by now.
+fn change_of(build: &TableScan, index: usize, ready: &Ready) -> Result<Change, Fault>
+    requires there { index < length build.now.specs }
+    requires fits { FitsBuild ready.now build.now }
+    ensures ok { IfOk result (λ change. IsChangeOf build.now index ready.now change) }
     ensures memory { IfErr result (λ fault. fault ≡ Fault.Memory) }
 {
-    let spec = build.spec();
-    Ok(entries(key_of(spec, old)?, key_of(spec, new)?, build.sees(rid)))
+    let spec = build.spec(index);
+    Ok(entries(
+        key_of(spec, &ready.old)?,
+        key_of(spec, &ready.new)?,
+        build.sees(ready.rid),
+    ))
+}
+
+/// What a change means for each of the build's indexes.
+fn changes_of(alloc: Global, build: &TableScan, ready: &Ready) -> Result<Vec<Change>, Fault>
+    requires fits { FitsBuild ready.now build.now }
+    ensures many { IfOk result (λ changes. length changes.items ≡ length build.now.specs) }
+    ensures ok { IfOk result (λ changes. AreChangesOf build.now ready.now changes.items) }
+    ensures memory { IfErr result (λ fault. fault ≡ Fault.Memory) }
+{
+    let count = build.indexes();
+    let mut changes = Vec::with_capacity(alloc, count)?;
+    for index in 0..count {
+        changes.push_reserved(change_of(build, index, ready)?);
+    }
+    Ok(changes)
+}
+
+/// Makes room for the entries of a change in each of so many side-files.
+fn reserve_each(sides: &mut Vec<SideFile>, count: usize) -> Result<(), Fault>
+    requires { count ≤ length sides.old.items }
+    ensures room { OnOk result ((k : ℕ) (side : SideFileValue) → k < count → slice_get sides.new.items k ≡ Some side → 2 ≤ side.room) }
+    ensures same { map without_room sides.new.items ≡ map without_room sides.old.items }
+    ensures memory { IfErr result (λ fault. fault ≡ Fault.Memory) }
+{
+    for k in 0..count {
+        sides[k].reserve(2)?;
+    }
+    Ok(())
+}
+
+/// Appends the entries of each change to the side-file of its index.
+fn append_each(sides: &mut Vec<SideFile>, build: u64, rid: Rid, changes: Vec<Change>)
+    requires many { length changes.items ≤ length sides.old.items }
+    requires room { (k : ℕ) (side : SideFileValue) → k < length changes.items → slice_get sides.old.items k ≡ Some side → 2 ≤ side.room }
+    ensures appended { HaveAppended build rid changes.items sides.old.items sides.new.items }
+    ensures ends { put_ends sides.new.items ≡ put_ends sides.old.items }
+{
+    let mut k = 0;
+    for change in changes {
+        append(&mut sides[k], build, rid, change);
+        k += 1;
+    }
 }
 
 /// Appends the entries of a change: its delete, then its insert.
@@ -66,36 +109,41 @@ fn append(side: &mut SideFile, build: u64, rid: Rid, change: Change)
     }
 }
 
-/// Makes the entries of a change, and appends them; for want of memory nothing changes.
-fn note(side: &mut SideFile, build: &Option<TableScan>, ready: &Ready) -> Result<(), Fault>
-    requires old_fits { IfSome build.now (λ b. (spec : KeySpecValue) → b.specs ≡ spec ∷ [] → IfSome ready.now.old (λ cells. fits spec.kinds cells ≡ true)) }
-    requires new_fits { IfSome build.now (λ b. (spec : KeySpecValue) → b.specs ≡ spec ∷ [] → IfSome ready.now.new (λ cells. fits spec.kinds cells ≡ true)) }
-    ensures left { OnOk result (IfSome build.now (λ b. (spec : KeySpecValue) → b.specs ≡ spec ∷ []
-        → side.new.left ≡ side.old.left ++ map (entry_of b.number) (noted b spec ready.now.rid ready.now.old ready.now.new))) }
-    ensures unchanged { OnErr result (side.new.left ≡ side.old.left) }
-    ensures fed { side.new.fed ≡ side.old.fed }
-    ensures end { side.new.end ≡ side.old.end }
+/// Makes the entries of a change for each index of the build, and appends them; for want of memory nothing changes.
+fn note(
+    alloc: Global,
+    sides: &mut Vec<SideFile>,
+    build: &Option<TableScan>,
+    ready: &Ready,
+) -> Result<(), Fault>
+    requires fits { IfSome build.now (FitsBuild ready.now) }
+    requires many { IfSome build.now (λ b. length b.specs ≤ length sides.old.items) }
+    ensures noted { OnOk result (IfSome build.now (λ b. HaveNoted b ready.now sides.old.items sides.new.items)) }
+    ensures unchanged { OnErr result (map without_room sides.new.items ≡ map without_room sides.old.items) }
+    ensures ends { put_ends sides.new.items ≡ put_ends sides.old.items }
     ensures memory { IfErr result (λ fault. fault ≡ Fault.Memory) }
 {
     let Some(build) = build else {
         return Ok(());
     };
-    let change = change_of(build, ready.rid, &ready.old, &ready.new)?;
-    side.reserve(2)?;
-    append(side, build.number(), ready.rid, change);
+    let changes = changes_of(alloc, build, ready)?;
+    reserve_each(sides, changes.len())?;
+    append_each(sides, build.number(), ready.rid, changes);
     Ok(())
 }
 
 /// Does a change that was made ready, its entries with it; for want of memory nothing changes.
 fn perform(
     heap: &mut Heap,
-    side: &mut SideFile,
+    alloc: Global,
+    sides: &mut Vec<SideFile>,
     build: &Option<TableScan>,
     ready: Ready,
 ) -> Result<Performed, Fault>
     requires ready { IsReady heap.old ready }
     requires build { BuildFollows heap.old.state.schema heap.old.state.log build.now }
-    requires side { SideFollows heap.old.state.log build.now side.old }
+    requires sides { SidesFollow heap.old.state.log build.now sides.old.items }
+    requires eight { length sides.old.items ≡ 8 }
     ensures performed { OnOk result (heap.new.state ≡ after_ready heap.old.state ready) }
     ensures rows { OnOk result (SetsRow heap.old.state.log ready.rid ready.new heap.new.state.log) }
     ensures answer { IfOk result (λ done. done ≡ answer_of heap.new.state ready.txn ready.rid ready.undone) }
@@ -104,13 +152,13 @@ fn perform(
         → PagesFollow heap.new.state.schema heap.new.state.log builds build.now all }
     ensures works { (work : Option WorkValue) → IsWorkOf heap.old.state.schema heap.old.state.log build.now work
         → IsWorkOf heap.new.state.schema heap.new.state.log build.now work }
-    ensures noted { SideFollows heap.new.state.log build.now side.new }
-    ensures end { side.new.end ≡ side.old.end }
+    ensures noted { SidesFollow heap.new.state.log build.now sides.new.items }
+    ensures ends { put_ends sides.new.items ≡ put_ends sides.old.items }
     ensures unchanged { OnErr result (heap.new ≡ heap.old) }
     ensures memory { IfErr result (λ fault. fault ≡ Fault.Memory) }
 {
     heap.laws();
-    note(side, build, &ready)?;
+    note(alloc, sides, build, &ready)?;
     Ok(heap.perform(ready))
 }
 
@@ -119,14 +167,16 @@ fn perform(
 fn perform_with(
     indexes: &mut [ReadyIndex],
     heap: &mut Heap,
-    side: &mut SideFile,
+    alloc: Global,
+    sides: &mut Vec<SideFile>,
     build: &Option<TableScan>,
     ready: Ready,
 ) -> Result<Performed, Fault>
     requires ready { IsReady heap.old ready }
     requires indexes { AreIndexesOf heap.old.state.schema heap.old.state.log indexes.old }
     requires build { BuildFollows heap.old.state.schema heap.old.state.log build.now }
-    requires side { SideFollows heap.old.state.log build.now side.old }
+    requires sides { SidesFollow heap.old.state.log build.now sides.old.items }
+    requires eight { length sides.old.items ≡ 8 }
     ensures performed { OnOk result (heap.new.state ≡ after_ready heap.old.state ready) }
     ensures rows { OnOk result (SetsRow heap.old.state.log ready.rid ready.new heap.new.state.log) }
     ensures answer { IfOk result (λ done. done ≡ answer_of heap.new.state ready.txn ready.rid ready.undone) }
@@ -137,18 +187,18 @@ fn perform_with(
         → PagesFollow heap.new.state.schema heap.new.state.log builds build.now all }
     ensures works { (work : Option WorkValue) → IsWorkOf heap.old.state.schema heap.old.state.log build.now work
         → IsWorkOf heap.new.state.schema heap.new.state.log build.now work }
-    ensures noted { SideFollows heap.new.state.log build.now side.new }
-    ensures end { side.new.end ≡ side.old.end }
+    ensures noted { SidesFollow heap.new.state.log build.now sides.new.items }
+    ensures ends { put_ends sides.new.items ≡ put_ends sides.old.items }
     ensures unchanged { OnErr result (heap.new ≡ heap.old) }
     ensures memory { IfErr result (λ fault. fault ≡ Fault.Memory) }
 {
     let Some((index, rest)) = indexes.split_first_mut() else {
-        return perform(heap, side, build, ready);
+        return perform(heap, alloc, sides, build, ready);
     };
     heap.laws();
     let rid = ready.rid;
     let change = ready_change(&index.spec, &mut index.tree, &ready)?;
-    let done = perform_with(rest, heap, side, build, ready)?;
+    let done = perform_with(rest, heap, alloc, sides, build, ready)?;
     change_tree(&mut index.tree, rid, change);
     // The rows that stand fit the columns of the index, which make a key.
     heap.laws();
@@ -160,7 +210,8 @@ fn perform_with(
 pub fn write(
     indexes: &mut Vec<ReadyIndex>,
     heap: &mut Heap,
-    side: &mut SideFile,
+    alloc: Global,
+    sides: &mut Vec<SideFile>,
     build: &Option<TableScan>,
     ready: Ready,
 ) -> Result<(usize, Rid), Fault>
@@ -168,7 +219,8 @@ pub fn write(
     requires write { ready.undone ≡ None }
     requires indexes { AreIndexesOf heap.old.state.schema heap.old.state.log indexes.old.items }
     requires build { BuildFollows heap.old.state.schema heap.old.state.log build.now }
-    requires side { SideFollows heap.old.state.log build.now side.old }
+    requires sides { SidesFollow heap.old.state.log build.now sides.old.items }
+    requires eight { length sides.old.items ≡ 8 }
     ensures written { OnOk result (heap.new.state ≡ after_write heap.old.state ready.txn ready.rid ready.new) }
     ensures number { IfOk result (λ written. written.0 ≡ length heap.new.state.log) }
     ensures rid { IfOk result (λ written. written.1 ≡ ready.rid) }
@@ -180,12 +232,15 @@ pub fn write(
         → PagesFollow heap.new.state.schema heap.new.state.log builds build.now all }
     ensures works { (work : Option WorkValue) → IsWorkOf heap.old.state.schema heap.old.state.log build.now work
         → IsWorkOf heap.new.state.schema heap.new.state.log build.now work }
-    ensures noted { SideFollows heap.new.state.log build.now side.new }
-    ensures end { side.new.end ≡ side.old.end }
+    ensures noted { SidesFollow heap.new.state.log build.now sides.new.items }
+    ensures ends { put_ends sides.new.items ≡ put_ends sides.old.items }
     ensures unchanged { OnErr result (heap.new ≡ heap.old) }
     ensures memory { IfErr result (λ fault. fault ≡ Fault.Memory) }
 {
-    let Performed::Written { number, rid } = perform_with(indexes, heap, side, build, ready)? else {
+    let Performed::Written { number, rid } = perform_with(
+        indexes, heap, alloc, sides, build, ready,
+    )?
+    else {
         unreachable!()
     };
     Ok((number, rid))
@@ -195,7 +250,8 @@ pub fn write(
 pub fn undo(
     indexes: &mut Vec<ReadyIndex>,
     heap: &mut Heap,
-    side: &mut SideFile,
+    alloc: Global,
+    sides: &mut Vec<SideFile>,
     build: &Option<TableScan>,
     ready: Ready,
 ) -> Result<Undone, Fault>
@@ -203,7 +259,8 @@ pub fn undo(
     requires undo { IsSome ready.undone }
     requires indexes { AreIndexesOf heap.old.state.schema heap.old.state.log indexes.old.items }
     requires build { BuildFollows heap.old.state.schema heap.old.state.log build.now }
-    requires side { SideFollows heap.old.state.log build.now side.old }
+    requires sides { SidesFollow heap.old.state.log build.now sides.old.items }
+    requires eight { length sides.old.items ≡ 8 }
     ensures undone { OnOk result ((n : ℕ) → ready.undone ≡ Some n → heap.new.state ≡ after_undo heap.old.state ready.txn n) }
     ensures number { IfOk result (λ undone. undone.number ≡ length heap.new.state.log) }
     ensures left { IfOk result (λ undone. undone.left ≡ standing_count heap.new.state.log ready.txn) }
@@ -215,12 +272,12 @@ pub fn undo(
         → PagesFollow heap.new.state.schema heap.new.state.log builds build.now all }
     ensures works { (work : Option WorkValue) → IsWorkOf heap.old.state.schema heap.old.state.log build.now work
         → IsWorkOf heap.new.state.schema heap.new.state.log build.now work }
-    ensures noted { SideFollows heap.new.state.log build.now side.new }
-    ensures end { side.new.end ≡ side.old.end }
+    ensures noted { SidesFollow heap.new.state.log build.now sides.new.items }
+    ensures ends { put_ends sides.new.items ≡ put_ends sides.old.items }
     ensures unchanged { OnErr result (heap.new ≡ heap.old) }
     ensures memory { IfErr result (λ fault. fault ≡ Fault.Memory) }
 {
-    let Performed::Undone(undone) = perform_with(indexes, heap, side, build, ready)? else {
+    let Performed::Undone(undone) = perform_with(indexes, heap, alloc, sides, build, ready)? else {
         unreachable!()
     };
     Ok(undone)

@@ -8,7 +8,7 @@ use std::marker::{Model, PhantomData};
 #[derive(Drop)]
 pub struct Ends<T: Table> {
     pub(crate) workers: Vec<Worker>,
-    pub(crate) side_end: Consumer<Entry>,
+    pub(crate) side_ends: Vec<Consumer<Entry>>,
     pub(crate) of: PhantomData<T>,
 }
 
@@ -17,10 +17,11 @@ impl<T: Table> Model for Ends<T> {
 
     ghost Value = { EndsValue };
 
+    ghost use Rattle.std.specs.Prelude.{map};
     ghost use Rattle.building.specs.TakeEnd.{take_end};
     ghost use Rattle.builder_core.specs.Rings.{AreTakeEnds};
 
-    ghost view = { λ ends. record { workers = ends.workers.items; side = take_end ends.side_end } };
+    ghost view = { λ ends. record { workers = ends.workers.items; sides = map take_end ends.side_ends.items } };
 
-    ghost invariant = { λ ends. AreTakeEnds T.pages T.side ends.workers.items (take_end ends.side_end) };
+    ghost invariant = { λ ends. AreTakeEnds T.pages T.sides ends.workers.items (map take_end ends.side_ends.items) };
 }

@@ -23,8 +23,9 @@ pub enum Event {
     Undo { txn: u64 },
     /// The transaction ends, and keeps its writes. [`Fault::NoSuchTxn`], [`Fault::TxnEnding`].
     Commit { txn: u64 },
-    /// An index build starts, of one index that isn't unique, by 1 to 16 workers over 1 to 256 ranges. [`Fault::BuildRunning`];
-    /// [`Fault::BadCount`] for other counts, where 32 indexes are ready, and where the spools that are left aren't one for each worker;
+    /// A build starts, of 1 to 8 indexes of which none is unique, by 1 to 16 workers over 1 to 256 ranges. [`Fault::BuildRunning`];
+    /// [`Fault::BadCount`] for other counts, where more than 32 indexes would be ready with these, and where the spools that are left
+    /// aren't one for each worker and index, that of worker w and index i at w times the indexes plus i;
     /// [`Fault::BadColumn`] for an index of other columns than the table's; [`Fault::BadRanges`] for other numbers of ranges, ends that
     /// go down, or a last one that isn't the number of pages; [`Fault::SpoolNotEmpty`]. A refused start leaves the spools for the next.
     Start { plan: Plan },
@@ -47,7 +48,7 @@ pub enum Event {
     Apply { index: usize, most: usize },
     /// The entries that are left are applied, the indexes of the build become ready, and the build ends. Entries that were applied
     /// before memory was wanted stay applied, and it can be asked for again. [`Fault::NoBuild`], [`Fault::NotScanned`],
-    /// [`Fault::NotLoaded`]; [`Fault::Behind`] while more than 1,024 entries of the side-file are left to apply.
+    /// [`Fault::NotLoaded`]; [`Fault::Behind`] while more than 1,024 entries of all side-files are left to apply.
     Switch,
     /// The build is given up. [`Fault::NoBuild`].
     Abandon,

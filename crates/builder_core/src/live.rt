@@ -1,4 +1,4 @@
-ghost use Rattle.std.specs.Prelude.{◌≡◌, [], Some, None, IfOk, IfErr, IfSome, OnOk, OnErr, MatchOption, slice_get};
+ghost use Rattle.std.specs.Prelude.{◌≡◌, ◌<◌, length, [], Some, None, IfOk, IfErr, IfSome, OnOk, OnErr, MatchOption, slice_get};
 ghost use Rattle.builder_core.specs.Steps.{OnBuild};
 ghost use Rattle.keybytes.specs.Faults.{RefusedFor};
 ghost use Rattle.heap_log.specs.Standing.{live_at};
@@ -10,9 +10,10 @@ ghost use Rattle.builder_core.specs.Builds.{BuildFollows, value_with_heap};
 ghost use Rattle.builder_core.specs.Rings.{all_sent, ArePutEnds, AreOfBuilds};
 ghost use Rattle.builder_core.specs.Invariant.{BuildIsSound, EachPageOnce};
 ghost use Rattle.std.specs.VecDeque.Iter.{deque_iter_rest};
-ghost use Rattle.builder_core.specs.SideFiles.{AreEntriesLeft, HaveEntryKeys, side_refusal};
+ghost use Rattle.builder_core.specs.SideFiles.{AreEntriesLeft, HaveEntryKeys, NoneAhead, side_refusal, put_ends};
 ghost use Rattle.builder_core.specs.CoreState.{abandoned, after_visits, ReadyFollowTable};
 
+use crate::live_sides::reset_all;
 use crate::rest::at_rest;
 use crate::table_scan::TableScan;
 use crate::{Pair, ReadyIndex, Table};
@@ -35,7 +36,7 @@ pub struct Live<T: Table> {
     pub(crate) builds: u64,
     pub(crate) build: Option<TableScan>,
     pub(crate) pages: Vec<PagePutter>,
-    pub(crate) side: SideFile,
+    pub(crate) sides: Vec<SideFile>,
     of: PhantomData<T>,
 }
 
@@ -43,21 +44,21 @@ impl<T: Table> Model for Live<T> {
     ghost use Rattle.builder_core.specs.CoreState.{AreIndexesOf};
     ghost use Rattle.builder_core.specs.Builds.{LiveValue, BuildFollows};
     ghost use Rattle.builder_core.specs.Rings.{all_sent, ArePutEnds, AreOfBuilds, PagesFollow};
-    ghost use Rattle.builder_core.specs.SideFiles.{SideFollows};
+    ghost use Rattle.builder_core.specs.SideFiles.{SidesFollow, put_ends};
 
     ghost Value = { LiveValue };
 
     ghost view = { λ live. record {
       state = record { heap = live.heap.state; ready = live.ready.items; builds = live.builds; build = live.build };
       pages = live.pages.items;
-      side = live.side.end;
+      sides = put_ends live.sides.items;
     } };
 
     ghost invariant = { λ live. AreIndexesOf live.heap.state.schema live.heap.state.log live.ready.items
         × BuildFollows live.heap.state.schema live.heap.state.log live.build
-        × SideFollows live.heap.state.log live.build live.side
+        × SidesFollow live.heap.state.log live.build live.sides.items
         × PagesFollow live.heap.state.schema live.heap.state.log live.builds live.build (all_sent live.pages.items)
-        × AreOfBuilds live.builds (all_sent live.pages.items) × ArePutEnds T.pages T.side live.pages.items live.side.end };
+        × AreOfBuilds live.builds (all_sent live.pages.items) × ArePutEnds T.pages T.sides live.pages.items (put_ends live.sides.items) };
 }
 
 impl<T: Table> Live<T> {
@@ -66,14 +67,14 @@ impl<T: Table> Live<T> {
         alloc: Global,
         heap: Heap,
         pages: Vec<PagePutter>,
-        side: SideFile,
+        sides: Vec<SideFile>,
     ) -> Live<T>
         requires unused { AreOfBuilds 0 (all_sent pages.items) }
-        requires ends { ArePutEnds T.pages T.side pages.items side.end }
+        requires ends { ArePutEnds T.pages T.sides pages.items (put_ends sides.items) }
         ensures { result ≡ record {
           state = record { heap = heap.state; ready = []; builds = 0; build = None };
           pages = pages.items;
-          side = side.end;
+          sides = put_ends sides.items;
         } }
     {
         Live {
@@ -83,7 +84,7 @@ impl<T: Table> Live<T> {
             builds: 0,
             build: None,
             pages,
-            side,
+            sides,
             of: PhantomData,
         }
     }
@@ -119,7 +120,10 @@ impl<T: Table> Live<T> {
     pub(crate) fn build(&self) -> Option<&TableScan>
         ensures build { MatchOption result (self.now.state.build ≡ None) (λ build. self.now.state.build ≡ Some build.now) }
         ensures follows { BuildFollows self.now.state.heap.schema self.now.state.heap.log self.now.state.build }
+        ensures fed { IfSome self.now.state.build (NoneAhead self.now.state.heap.log) }
+        ensures sides { length self.now.sides ≡ 8 }
     {
+        let _sides = &self.sides;
         self.build.as_ref()
     }
 
@@ -131,13 +135,8 @@ impl<T: Table> Live<T> {
         ensures refused { IfErr result (λ fault. side_refusal self.now.state.build index ≡ Some fault) }
         ensures accepted { OnOk result (side_refusal self.now.state.build index ≡ None) }
     {
-        if self.build.is_none() {
-            return Err(Fault::NoBuild);
-        }
-        if index != 0 {
-            return Err(Fault::BadCount);
-        }
-        Ok(self.side.entries())
+        self.build_with(index)?;
+        Ok(self.sides[index].entries())
     }
 
     /// What makes the keys of an index that is being built. [`Fault::NoBuild`], [`Fault::BadCount`].
@@ -145,11 +144,24 @@ impl<T: Table> Live<T> {
         ensures spec { IfOk result (λ spec. OnBuild self.now.state.build (λ b. slice_get b.specs index ≡ Some spec.now)) }
         ensures refused { IfErr result (λ fault. side_refusal self.now.state.build index ≡ Some fault) }
     {
+        Ok(self.build_with(index)?.spec(index))
+    }
+
+    /// The build that runs, if it has that index.
+    pub(crate) fn build_with(&self, index: usize) -> Result<&TableScan, Fault>
+        ensures ok { IfOk result (λ build. self.now.state.build ≡ Some build.now) }
+        ensures there { IfOk result (λ build. index < length build.now.specs) }
+        ensures follows { BuildFollows self.now.state.heap.schema self.now.state.heap.log self.now.state.build }
+        ensures sides { length self.now.sides ≡ 8 }
+        ensures refused { IfErr result (λ fault. side_refusal self.now.state.build index ≡ Some fault) }
+        ensures accepted { OnOk result (side_refusal self.now.state.build index ≡ None) }
+    {
         let build = self.build.as_ref().ok_or(Fault::NoBuild)?;
-        if index != 0 {
+        if index >= build.indexes() {
             return Err(Fault::BadCount);
         }
-        Ok(build.spec())
+        let _sides = &self.sides;
+        Ok(build)
     }
 
     /// Gives a running build up.
@@ -157,7 +169,7 @@ impl<T: Table> Live<T> {
         ensures { self.new ≡ record self.old { state = abandoned self.old.state } }
     {
         self.build = None;
-        self.side.reset();
+        reset_all(&mut self.sides);
     }
 
     /// The row that stands at a RID now; [`Fault::NoSuchRow`] where none does. Counts as a visit.

@@ -1,7 +1,7 @@
 //! The steps of a build that touch the table.
-ghost use Rattle.std.specs.Prelude.{◌≡◌, ◌<◌, ◌∷◌, [], length, Some, None, IfOk, IfErr, OnOk, OnErr, IsOk, IsSome, MatchOption, MatchResult};
-ghost use Rattle.std.specs.Prelude.{true, false, ◌==◌, slice_get, map};
-ghost use Rattle.std.specs.List.{list_all};
+ghost use Rattle.std.specs.Prelude.{◌≡◌, ◌<◌, length, All, Some, None, IfOk, IfErr, OnOk, OnErr, IsOk, IsSome, MatchOption, MatchResult};
+ghost use Rattle.std.specs.Prelude.{true, slice_get, map};
+ghost use Rattle.std.specs.List.{list_all, list_any};
 ghost use Rattle.keybytes.specs.Answered.{Answered};
 ghost use Rattle.side_file.specs.Ends.{PutEnd};
 ghost use Rattle.heap_table.specs.Pages.{pages_written};
@@ -10,17 +10,17 @@ ghost use Rattle.builder_core.specs.Builds.{BuildingValue, given_up, core_state,
 ghost use Rattle.builder_core.specs.CoreState.{abandoned};
 ghost use Rattle.builder_core.specs.Ranges.{dealing_refusal, dealt_ends, next_page};
 ghost use Rattle.builder_core.specs.Rings.{begun_on};
-ghost use Rattle.builder_core.specs.Steps.{Starts, Scans, OnBuild, start_refusal, counts_fit};
+ghost use Rattle.builder_core.specs.Steps.{Starts, Scans, OnBuild, start_refusal, counts_fit, same_kinds};
 
-use crate::live_sides::empty_side;
-use crate::parts::WORKERS_MAX;
+use crate::live_sides::empty_all;
+use crate::parts::{INDEXES_MAX, WORKERS_MAX};
 use crate::rings::restart_all;
 use crate::table_scan::TableScan;
 use crate::work::{Work, copied_specs};
 use crate::{Building, Dealing, Live, Plan, Table};
 use building::Copied;
 use heap_table::PageImage;
-use keybytes::{Fault, KeySpec};
+use keybytes::{Fault, KeySpec, Schema};
 use run_spool::Spool;
 use scan_range::Cuts;
 use std::alloc::Global;
@@ -28,14 +28,29 @@ use std::alloc::Global;
 /// The most indexes that a table may have.
 const READY_MAX: usize = 32;
 
-/// The specification of a plan with one.
-fn only_spec(plan: &Plan) -> Option<&KeySpec>
-    ensures { MatchOption result ((length plan.now.specs.items == 1) ≡ false) (λ spec. plan.now.specs.items ≡ spec.now ∷ []) }
+/// Whether one of the specifications is unique.
+fn is_one_unique(specs: &[KeySpec]) -> bool
+    ensures { result ≡ list_any (λ spec. spec.unique) specs.now }
 {
-    match plan.specs.as_slice() {
-        [spec] => Some(spec),
-        _ => None,
+    for spec in specs {
+        if spec.unique() {
+            return true;
+        }
     }
+    false
+}
+
+/// Whether all specifications are of rows of these columns.
+fn are_of(specs: &[KeySpec], schema: &Schema) -> bool
+    ensures same { result ≡ list_all (λ spec. same_kinds spec.kinds schema.now) specs.now }
+    ensures columns { result ≡ true → All (λ spec. spec.kinds ≡ schema.now) specs.now }
+{
+    for spec in specs {
+        if !spec.is_of(schema) {
+            return false;
+        }
+    }
+    true
 }
 
 /// Why so many pages aren't dealt so. Takes no memory.
@@ -77,23 +92,18 @@ impl<T: Table> Live<T> {
         ensures kept { WorksOn self.old building.old → WorksOn self.new building.new }
         ensures unchanged { OnErr result ((self.new ≡ self.old) × (building.new ≡ building.old)) }
     {
-        let spec = self.check_plan(plan, building)?;
+        self.check_plan(plan, building)?;
         let pages = self.heap.pages();
         let cuts = dealt_cuts(self.alloc, &plan.dealing, pages)?;
         let schema = self.heap.schema();
         let number = self.builds + 1;
         let specs = copied_specs(self.alloc, &plan.specs)?;
         let work = Work::new(self.alloc, number, schema, specs, plan.workers)?;
-        let build = TableScan::new(
-            self.alloc,
-            number,
-            spec.clone()?,
-            plan.workers,
-            self.heap.records(),
-            cuts,
-        )?;
+        let specs = copied_specs(self.alloc, &plan.specs)?;
+        let records = self.heap.records();
+        let build = TableScan::new(self.alloc, number, specs, plan.workers, records, cuts)?;
         restart_all(&mut self.pages, &mut building.workers, number);
-        empty_side(&mut self.side, &mut building.side_end);
+        empty_all(&mut self.sides, &mut building.side_ends);
         self.builds = number;
         self.build = Some(build);
         building.given = true;
@@ -101,14 +111,9 @@ impl<T: Table> Live<T> {
         Ok(pages)
     }
 
-    /// The one specification of a plan that a build can be started by, with the spools that are left.
-    fn check_plan<'p, S: Spool>(
-        &self,
-        plan: &'p Plan,
-        building: &Building<S, T>,
-    ) -> Result<&'p KeySpec, Fault>
-        ensures spec { IfOk result (λ spec. plan.now.specs.items ≡ spec.now ∷ []) }
-        ensures columns { IfOk result (λ spec. spec.now.kinds ≡ self.now.state.heap.schema) }
+    /// Why no build is started by a plan, with the spools that are left. Takes no memory.
+    fn check_plan<S: Spool>(&self, plan: &Plan, building: &Building<S, T>) -> Result<(), Fault>
+        ensures columns { OnOk result (All (λ spec. spec.kinds ≡ self.now.state.heap.schema) plan.now.specs.items) }
         ensures free { OnOk result (self.now.state.build ≡ None) }
         ensures number { OnOk result (self.now.state.builds < 18446744073709551615) }
         ensures counts { OnOk result (counts_fit self.now.state (length (core_state self.now building.now).spools.left) plan.now ≡ true) }
@@ -120,32 +125,33 @@ impl<T: Table> Live<T> {
         if self.build.is_some() {
             return Err(Fault::BuildRunning);
         }
-        let spec = only_spec(plan).ok_or(Fault::BadCount)?;
-        if !self.counts_fit(plan, spec, building.spools_left()) {
+        if !self.counts_fit(plan, building.spools_left()) {
             return Err(Fault::BadCount);
         }
-        if !spec.is_of(self.heap.schema()) {
+        if !are_of(&plan.specs, self.heap.schema()) {
             return Err(Fault::BadColumn);
         }
         check_dealing(&plan.dealing, self.heap.pages())?;
         if !building.are_left_empty() {
             return Err(Fault::SpoolNotEmpty);
         }
-        Ok(spec)
+        Ok(())
     }
 
-    /// Whether a plan has 1 to 16 workers with a spool each and its index isn't unique, and there is room for one index and one
-    /// build more.
-    fn counts_fit(&self, plan: &Plan, spec: &KeySpec, spools: usize) -> bool
-        requires { plan.now.specs.items ≡ spec.now ∷ [] }
+    /// Whether a plan has 1 to 16 workers and 1 to 8 indexes, with a spool for each of both, none of the indexes is unique, and
+    /// there is room for them and for one build more.
+    fn counts_fit(&self, plan: &Plan, spools: usize) -> bool
         ensures { result ≡ counts_fit self.now.state spools plan.now }
     {
+        let indexes = plan.specs.len();
         plan.workers >= 1
             && plan.workers <= WORKERS_MAX
-            && !spec.unique()
-            && self.ready.len() < READY_MAX
+            && indexes >= 1
+            && indexes <= INDEXES_MAX
+            && !is_one_unique(&plan.specs)
+            && self.ready.len() <= READY_MAX - indexes
             && self.builds < u64::MAX
-            && spools == plan.workers
+            && spools == plan.workers * indexes
     }
 
     /// The lowest page of the range that is left to be copied for the worker.

@@ -1,9 +1,10 @@
 //! The side-file of a build: its entries go into its ring, and from there to the index.
-ghost use Rattle.std.specs.Prelude.{◌≡◌, [], ℕ, None, Some, IsSome, IfSome, IfOk, IfErr, OnOk, OnErr, MatchResult};
-ghost use Rattle.rtrb.specs.Ring.{received};
+ghost use Rattle.std.specs.Prelude.{◌≡◌, ◌<◌, [], None, Some, All, map, slice_get, IfSome, IfOk, IfErr, OnOk, OnErr};
 ghost use Rattle.side_file.specs.Ends.{ring_take};
-ghost use Rattle.builder_core.specs.Builds.{BuildingValue, BuildFollows, core_state, cause_of, WorksOn, SideIsLooked, HasFed};
-ghost use Rattle.builder_core.specs.SideFiles.{SeesSide, AreFedEntries, side_refusal};
+ghost use Rattle.building.specs.TakeEnd.{take_end};
+ghost use Rattle.builder_core.specs.Builds.{BuildingValue, BuildFollows, core_state, cause_of, WorksOn, SideIsLooked, SeesSideAt, HasFed};
+ghost use Rattle.builder_core.specs.Rings.{side_rings, taken_rings, drained_end};
+ghost use Rattle.builder_core.specs.SideFiles.{AreFedEntries, side_refusal, put_ends};
 ghost use Rattle.builder_core.specs.Steps.{Feeds, Applies, AppliesSome};
 ghost use Rattle.builder_core.specs.declared.event.Event.{Event};
 
@@ -23,27 +24,33 @@ impl<T: Table> Live<T> {
         ensures refused { IfErr result (λ fault. side_refusal self.old.state.build index ≡ Some fault) }
         ensures unchanged { OnErr result (self.new ≡ self.old) }
     {
+        self.build_with(index)?;
         let Some(build) = &mut self.build else {
-            return Err(Fault::NoBuild);
+            unreachable!()
         };
-        if index != 0 {
-            return Err(Fault::BadCount);
-        }
-        let count = self.side.feed(most);
-        self.side.laws();
-        build.note_fed(count);
+        let side = &mut self.sides[index];
+        let count = side.feed(most);
+        side.laws();
+        build.note_fed(index, count);
         Ok(count)
     }
 
-    /// How many entries wait in the side-file's ring, with both its ends at hand.
-    pub(crate) fn look_at_side<S: Spool>(&mut self, building: &mut Building<S, T>) -> usize
-        ensures looked { SideIsLooked self.old building.old self.new building.new }
-        ensures sees { SeesSide result self.new.side building.new.side }
-        ensures fed { IfSome self.new.state.build (λ b. AreFedEntries self.new.state.heap.log b self.new.side) }
+    /// How many entries wait in an index's ring, with both its ends at hand.
+    pub(crate) fn look_at_side<S: Spool>(
+        &mut self,
+        index: usize,
+        building: &mut Building<S, T>,
+    ) -> usize
+        requires { index < 8 }
+        ensures looked { SideIsLooked index self.old building.old self.new building.new }
+        ensures sees { SeesSideAt index result self.new building.new }
+        ensures fed { IfSome self.new.state.build (λ b. IfSome (slice_get b.specs index) (λ spec. IfSome (slice_get self.new.sides index)
+            (AreFedEntries self.new.state.heap.log b index spec))) }
         ensures follows { BuildFollows self.new.state.heap.schema self.new.state.heap.log self.new.state.build }
     {
-        let waiting = self.side.beside(&mut building.side_end);
-        self.side.laws();
+        let side = &mut self.sides[index];
+        let waiting = side.beside(&mut building.side_ends[index]);
+        side.laws();
         waiting
     }
 
@@ -61,7 +68,8 @@ impl<T: Table> Live<T> {
         ensures unchanged { OnErr result (core_state self.new building.new ≡ core_state self.old building.old) }
         ensures works { WorksOn self.new building.new }
     {
-        let waiting = self.look_at_side(building);
+        self.build_with(index)?;
+        let waiting = self.look_at_side(index, building);
         self.feed(index, most.min(RING_ENTRIES.saturating_sub(waiting)))
     }
 
@@ -74,16 +82,14 @@ impl<T: Table> Live<T> {
         requires { WorksOn self.now building.now }
         ensures accepted { OnOk result (cause_of self.now building.now (Event.Apply index 0) ≡ None) }
         ensures refused { IfErr result (λ fault. cause_of self.now building.now (Event.Apply index 0) ≡ Some fault) }
-        ensures only { OnOk result (index ≡ 0) }
+        ensures few { OnOk result (index < 8) }
     {
+        self.build_with(index)?;
         let Some(work) = building.work() else {
-            return Err(Fault::NoBuild);
+            unreachable!()
         };
-        if index != 0 {
-            return Err(Fault::BadCount);
-        }
         work.check()?;
-        if !work.is_loaded() {
+        if !work.is_loaded(index) {
             return Err(Fault::NotLoaded(index));
         }
         Ok(())
@@ -98,27 +104,46 @@ impl<T: Table> Live<T> {
         building: &mut Building<S, T>,
     ) -> Result<usize, Fault>
         requires works { WorksOn self.old building.old }
-        requires only { index ≡ 0 }
+        requires few { index < 8 }
         requires runs { cause_of self.old building.old (Event.Apply index most) ≡ None }
         ensures applied { IfOk result (λ count. Applies index most (core_state self.old building.old) count (core_state self.new building.new)) }
         ensures some { OnErr result (AppliesSome index most (core_state self.old building.old) (core_state self.new building.new)) }
         ensures works { WorksOn self.new building.new }
         ensures memory { IfErr result (λ fault. fault ≡ Fault.Memory) }
     {
-        let _only = index;
-        let waiting = self.look_at_side(building);
-        building.apply(most.min(waiting))
+        let waiting = self.look_at_side(index, building);
+        building.apply(index, most.min(waiting))
     }
 }
 
-/// Drops all entries, those in the ring too.
-pub fn empty_side(side: &mut SideFile, end: &mut Consumer<Entry>)
+/// Drops all entries that were not fed.
+pub fn reset_all(sides: &mut Vec<SideFile>)
+    ensures { put_ends sides.new.items ≡ put_ends sides.old.items }
+{
+    for index in 0..sides.len() {
+        sides[index].reset();
+    }
+}
+
+/// Drops all entries of each side-file, those in its ring too.
+pub fn empty_all(sides: &mut Vec<SideFile>, ends: &mut Vec<Consumer<Entry>>)
+    requires { side_rings (put_ends sides.old.items) ≡ taken_rings (map take_end ends.old.items) }
+    ensures left { All (λ side. (side.left ≡ []) × (side.fed ≡ [])) sides.new.items }
+    ensures rings { side_rings (put_ends sides.new.items) ≡ side_rings (put_ends sides.old.items) }
+    ensures drained { map take_end ends.new.items ≡ map drained_end (put_ends sides.new.items) }
+{
+    for index in 0..sides.len() {
+        empty_side(&mut sides[index], &mut ends[index]);
+    }
+}
+
+/// Drops all entries of a side-file, those in its ring too.
+fn empty_side(side: &mut SideFile, end: &mut Consumer<Entry>)
     requires { side.old.end.ring ≡ ring_take end.old }
     ensures left { side.new.left ≡ [] }
     ensures fed { side.new.fed ≡ [] }
     ensures ring { side.new.end.ring ≡ side.old.end.ring }
-    ensures same_ring { side.new.end.ring ≡ ring_take end.new }
-    ensures drained { received end.new ≡ side.new.end.sent }
+    ensures drained { take_end end.new ≡ drained_end side.new.end }
 {
     for _ in 0..side.beside(end) {
         end.pop_known();

@@ -1,18 +1,20 @@
-//! The switch of a build: the entries that are left are applied to its index, which is then ready.
-ghost use Rattle.std.specs.Prelude.{◌≡◌, ◌+◌, ◌∷◌, [], length, None, Some, IsSome, IfOk, IfErr, OnOk, OnErr, MatchResult, vec_len, vec_capacity, ◌<◌};
-ghost use Rattle.heap_log.specs.declared.outcome.Outcome.{Outcome};
+//! The switch of a build: the entries that are left are applied to its indexes, which are then ready.
+ghost use Rattle.std.specs.Prelude.{◌≡◌, ◌+◌, ◌++◌, ◌^◌, ◌<◌, ◌≤◌, length, None, Some, IsSome, IfSome, IfOk, IfErr, OnOk, OnErr, MatchResult, vec_len, vec_capacity};
+ghost use Rattle.std.specs.List.{AllZip};
 ghost use Rattle.heap_table.specs.HeapState.{after_switch};
 ghost use Rattle.heap_table.specs.Pages.{KeepsRows};
 ghost use Rattle.builder_core.specs.Builds.{core_state, cause_of, WorksOn};
-ghost use Rattle.builder_core.specs.Steps.{Switches, OnBuild, CatchesUp, IsRefused};
+ghost use Rattle.builder_core.specs.CatchingUp.{MayCatchUp, IndexIsFurther, IsDoneIndex, left_at, ready_of};
+ghost use Rattle.builder_core.specs.Steps.{Switches, OnBuild, CatchesUp, IsRefused, ready_from};
 ghost use Rattle.builder_core.specs.Workers.{all_unapplied};
 ghost use Rattle.builder_core.specs.declared.event.Event.{Event};
 
 use crate::ending::end_spools;
+use crate::index_work::IndexWork;
 use crate::{Building, Live, ReadyIndex, Table};
 use heap_log::{Outcome, Verdicts};
 use heap_table::Heap;
-use keybytes::Fault;
+use keybytes::{Fault, KeySpec};
 use run_spool::Spool;
 use side_file::RING_ENTRIES;
 use std::alloc::Global;
@@ -21,17 +23,38 @@ use std::alloc::Global;
 const SWITCH_MAX: usize = 1024;
 
 impl<T: Table> Live<T> {
-    /// How many entries of the side-file were not applied yet.
+    /// How many entries of an index's side-file were not applied yet.
+    fn unapplied_of<S: Spool>(&self, index: usize, building: &Building<S, T>) -> usize
+        requires works { WorksOn self.now building.now }
+        requires there { IfSome self.now.state.build (λ b. index < length b.specs) }
+        requires runs { IsSome self.now.state.build }
+        ensures left { result ≡ left_at index (core_state self.now building.now) }
+        ensures countable { result < 2 ^ 60 }
+    {
+        let Some(work) = building.work() else {
+            unreachable!()
+        };
+        // That there is a ring for each index is known once their field is reached.
+        let _ends = &building.side_ends;
+        let side = &self.sides[index];
+        side.laws();
+        side.left() + (side.fed() - work.applied(index))
+    }
+
+    /// How many entries of all side-files were not applied yet.
     fn unapplied<S: Spool>(&self, building: &Building<S, T>) -> usize
         requires works { WorksOn self.now building.now }
         requires runs { IsSome self.now.state.build }
         ensures { OnBuild self.now.state.build (λ b. result ≡ all_unapplied b self.now.state.heap.log b.specs (core_state self.now building.now).work.indexes) }
     {
-        let Some(work) = building.work() else {
+        let Some(build) = self.build() else {
             unreachable!()
         };
-        self.side.laws();
-        self.side.left() + (self.side.fed() - work.applied())
+        let mut sum = 0;
+        for index in 0..build.indexes() {
+            sum += self.unapplied_of(index, building);
+        }
+        sum
     }
 
     /// Why the indexes of the build would not become ready. Takes no memory.
@@ -48,8 +71,8 @@ impl<T: Table> Live<T> {
         if let Some(range) = build.first_open() {
             return Err(Fault::NotScanned(range));
         }
-        if !work.is_loaded() {
-            return Err(Fault::NotLoaded(0));
+        if let Some(index) = work.first_unloaded() {
+            return Err(Fault::NotLoaded(index));
         }
         let left = self.unapplied(building);
         if left > SWITCH_MAX {
@@ -58,24 +81,48 @@ impl<T: Table> Live<T> {
         Ok(())
     }
 
-    /// Applies all entries of the side-file that are left. Those that were applied before memory was wanted stay applied.
+    /// Applies all entries that are left of each side-file. Those that were applied before memory was wanted stay applied.
     fn catch_up<S: Spool>(&mut self, building: &mut Building<S, T>) -> Result<(), Fault>
         requires works { WorksOn self.old building.old }
-        requires runs { cause_of self.old building.old (Event.Apply 0 256) ≡ None }
+        requires runs { MayCatchUp (core_state self.old building.old) }
         ensures further { CatchesUp (core_state self.old building.old) (core_state self.new building.new) }
         ensures all { OnOk result (OnBuild self.new.state.build
             (λ b. all_unapplied b self.new.state.heap.log b.specs (core_state self.new building.new).work.indexes ≡ 0)) }
         ensures works { WorksOn self.new building.new }
-        ensures still { cause_of self.new building.new (Event.Apply 0 256) ≡ None }
         ensures memory { IfErr result (λ fault. fault ≡ Fault.Memory) }
     {
-        // Both ends of the ring then know what waits in it.
-        self.look_at_side(building);
-        while self.unapplied(building) > 0 {
-            let Ok(_moved) = self.feed_beside(0, RING_ENTRIES, building) else {
+        let Some(build) = self.build() else {
+            unreachable!()
+        };
+        // That there is a ring for each index is known once their field is reached.
+        let _ends = &building.side_ends;
+        for index in 0..build.indexes() {
+            self.catch_up_one(index, building)?;
+        }
+        Ok(())
+    }
+
+    /// Applies all entries that are left of an index's side-file.
+    fn catch_up_one<S: Spool>(
+        &mut self,
+        index: usize,
+        building: &mut Building<S, T>,
+    ) -> Result<(), Fault>
+        requires works { WorksOn self.old building.old }
+        requires few { index < 8 }
+        requires runs { cause_of self.old building.old (Event.Apply index 256) ≡ None }
+        ensures further { IndexIsFurther index (core_state self.old building.old) (core_state self.new building.new) }
+        ensures all { OnOk result (left_at index (core_state self.new building.new) ≡ 0) }
+        ensures works { WorksOn self.new building.new }
+        ensures memory { IfErr result (λ fault. fault ≡ Fault.Memory) }
+    {
+        // Both ends of its ring then know what waits in it.
+        self.look_at_side(index, building);
+        while self.unapplied_of(index, building) > 0 {
+            let Ok(_moved) = self.feed_beside(index, RING_ENTRIES, building) else {
                 unreachable!()
             };
-            self.apply(0, RING_ENTRIES, building)?;
+            self.apply(index, RING_ENTRIES, building)?;
         }
         Ok(())
     }
@@ -96,43 +143,73 @@ impl<T: Table> Live<T> {
     {
         self.check_switch(building)?;
         self.catch_up(building)?;
+        let Some(build) = self.build() else {
+            unreachable!()
+        };
+        let count = build.indexes();
         self.heap.laws();
-        let noted = note_ready(self.alloc, &mut self.heap, &mut self.ready)?;
+        let noted = note_ready(self.alloc, &mut self.heap, &mut self.ready, count)?;
         let (Some(build), Some(work)) = (self.build.take(), building.work.take()) else {
             unreachable!()
         };
-        let Some(built) = work.into_built() else {
-            unreachable!()
-        };
-        let spec = build.into_spec();
-        // It tells that its columns make a key, whose bytes are then in the columns' order.
-        let _columns = spec.columns();
-        self.ready
-            .push_reserved(ReadyIndex::new(spec, built.into_tree()));
+        make_ready(&mut self.ready, build.into_specs(), work.into_indexes());
         end_spools(&mut building.spools);
         Ok(noted)
     }
 }
 
-/// Notes in the log that one more index is ready, and makes room for it.
+/// The indexes of a build are ready, behind those that were so before.
+fn make_ready(ready: &mut Vec<ReadyIndex>, specs: Vec<KeySpec>, indexes: Vec<IndexWork>)
+    requires many { length indexes.items ≡ length specs.items }
+    requires room { vec_len ready.old + length specs.items ≤ vec_capacity ready.old }
+    requires indexes { AllZip IsDoneIndex specs.items indexes.items }
+    ensures { ready.new.items ≡ ready.old.items ++ ready_of specs.items indexes.items }
+{
+    let mut indexes = indexes.into_iter();
+    for spec in specs {
+        let Some(index) = indexes.next() else {
+            unreachable!()
+        };
+        // It tells that its columns make a key, whose bytes are then in the columns' order.
+        let _columns = spec.columns();
+        ready.push_reserved(ReadyIndex::new(spec, index.into_tree()));
+    }
+}
+
+/// Notes in the log that so many more indexes are ready, and makes room for them.
 fn note_ready(
     alloc: Global,
     heap: &mut Heap,
     ready: &mut Vec<ReadyIndex>,
+    count: usize,
 ) -> Result<(usize, Verdicts), Fault>
+    requires { count ≤ 8 }
     ensures number { IfOk result (λ done. done.0 ≡ length heap.old.state.log + 1) }
-    ensures verdicts { IfOk result (λ done. done.1 ≡ Outcome.Ready (length ready.old.items) ∷ []) }
-    ensures noted { OnOk result (heap.new.state ≡ after_switch heap.old.state (Outcome.Ready (length ready.old.items) ∷ [])) }
+    ensures verdicts { IfOk result (λ done. done.1 ≡ ready_from (length ready.old.items) count) }
+    ensures noted { OnOk result (heap.new.state ≡ after_switch heap.old.state (ready_from (length ready.old.items) count)) }
     ensures rows { KeepsRows heap.old.state.log heap.new.state.log }
-    ensures room { OnOk result (vec_len ready.new < vec_capacity ready.new) }
+    ensures room { OnOk result (vec_len ready.new + count ≤ vec_capacity ready.new) }
     ensures ready { ready.new.items ≡ ready.old.items }
     ensures unchanged { OnErr result (heap.new ≡ heap.old) }
     ensures memory { IfErr result (λ fault. fault ≡ Fault.Memory) }
 {
-    let index = ready.len();
-    ready.reserve(1)?;
-    let noted = vec![in alloc; Outcome::Ready(index)]?;
-    let told = vec![in alloc; Outcome::Ready(index)]?;
+    let first = ready.len();
+    ready.reserve(count)?;
+    let noted = verdicts_from(alloc, first, count)?;
+    let told = verdicts_from(alloc, first, count)?;
     let number = heap.note(noted)?;
     Ok((number, Verdicts::new(told)))
+}
+
+/// That so many indexes are ready, numbered from the first on.
+fn verdicts_from(alloc: Global, first: usize, count: usize) -> Result<Vec<Outcome>, Fault>
+    requires { first + count < 2 ^ 64 }
+    ensures ok { IfOk result (λ verdicts. verdicts.items ≡ ready_from first count) }
+    ensures memory { IfErr result (λ fault. fault ≡ Fault.Memory) }
+{
+    let mut verdicts = Vec::with_capacity(alloc, count)?;
+    for k in 0..count {
+        verdicts.push_reserved(Outcome::Ready(first + k));
+    }
+    Ok(verdicts)
 }

@@ -164,7 +164,7 @@ impl<T: Table> Live<T> {
         let (Some(build), Some(work)) = (self.build(), building.work()) else {
             return Err(Fault::NoBuild);
         };
-        if index != 0 {
+        if index >= build.indexes() {
             return Err(Fault::BadCount);
         }
         work.check()?;

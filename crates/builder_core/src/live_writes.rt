@@ -48,7 +48,8 @@ impl<T: Table> Live<T> {
         changes::write(
             &mut self.ready,
             &mut self.heap,
-            &mut self.side,
+            self.alloc,
+            &mut self.sides,
             &self.build,
             ready,
         )
@@ -63,7 +64,8 @@ impl<T: Table> Live<T> {
         changes::write(
             &mut self.ready,
             &mut self.heap,
-            &mut self.side,
+            self.alloc,
+            &mut self.sides,
             &self.build,
             ready,
         )
@@ -78,7 +80,8 @@ impl<T: Table> Live<T> {
         changes::write(
             &mut self.ready,
             &mut self.heap,
-            &mut self.side,
+            self.alloc,
+            &mut self.sides,
             &self.build,
             ready,
         )
@@ -94,7 +97,8 @@ impl<T: Table> Live<T> {
             Some(ready) => changes::undo(
                 &mut self.ready,
                 &mut self.heap,
-                &mut self.side,
+                self.alloc,
+                &mut self.sides,
                 &self.build,
                 ready,
             ),

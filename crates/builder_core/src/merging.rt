@@ -1,6 +1,5 @@
 //! The pairs of an index's spools in a tree.
 ghost use Rattle.std.specs.Prelude.{◌≡◌, ℕ, ◌+◌, ◌*◌, ◌<◌, ◌≤◌, All, map, length, IfOk, IfErr, OnOk, OnErr, IsPermutation, vec_len, vec_capacity};
-ghost use Rattle.heap_table.proofs.PairsAtRest.{InOrder};
 ghost use Rattle.run_spool.specs.Spools.{AreSorted, all_pairs};
 ghost use Rattle.run_merge.specs.Merging.{all_runs};
 ghost use Rattle.builder_core.specs.Columns.{column, other_columns};
@@ -9,11 +8,12 @@ ghost use Rattle.builder_core.specs.Working.{AreEachOnce};
 
 use crate::ending::end_spools;
 use btree::Tree;
-use bulk_load::load;
+use bulk_load::{Source, load};
 use keybytes::{Fault, Pair};
-use run_merge::merge;
+use run_merge::{Merged, merge};
 use run_spool::Spool;
 use std::alloc::Global;
+use std::marker::Model;
 
 /// Makes a tree of the pairs of all closed runs of an index's spools, one of each of so many workers, and then ends these spools;
 /// those of the other indexes stay as they are. Want of memory may lose some of the pairs, and ends no spool.
@@ -87,6 +87,42 @@ fn put_back<S: Spool>(
     }
 }
 
+/// A merge of pairs of which none is there twice. Contracts see the merge.
+struct Once<S: Spool> {
+    merged: Merged<S>,
+}
+
+impl<S: Spool> Model for Once<S> {
+    ghost use Rattle.run_spool.specs.Spools.{all_pairs};
+    ghost use Rattle.run_merge.specs.Merging.{MergedValue, all_runs};
+    ghost use Rattle.builder_core.specs.Working.{AreEachOnce};
+
+    ghost Value = { MergedValue };
+
+    ghost view = { λ once. once.merged };
+
+    ghost invariant = { λ once. AreEachOnce (all_pairs (all_runs once.merged.runs)) };
+}
+
+impl<S: Spool> Source for Once<S> {
+    ghost use Rattle.std.specs.Prelude.{List, Option};
+    ghost use Rattle.std.specs.FinMap.{keys};
+    ghost use Rattle.spool_ledger.specs.Accounts.{Stake};
+    ghost use Rattle.keybytes.specs.Pairs.{set_of};
+    ghost use Rattle.run_spool.specs.Spools.{all_pairs};
+    ghost use Rattle.run_merge.specs.Merging.{all_runs};
+
+    ghost left = { λ once. keys (set_of (all_pairs (all_runs once.runs))) };
+
+    ghost Kept = { List (Option Stake) };
+
+    ghost kept = { λ once. once.stakes };
+
+    fn next(&mut self) -> Result<Option<Pair>, Fault> {
+        self.merged.next()
+    }
+}
+
 /// Makes a tree of the pairs of all closed runs of the spools, which are handed back, ended if there is a tree.
 fn tree_of<S: Spool>(alloc: Global, spools: Vec<S>) -> (Result<Tree, Fault>, Vec<S>)
     requires sorted { All AreSorted (map S.runs spools.items) }
@@ -97,12 +133,8 @@ fn tree_of<S: Spool>(alloc: Global, spools: Vec<S>) -> (Result<Tree, Fault>, Vec
     ensures stakes { map S.stake result.1.items ≡ map S.stake spools.items }
     ensures memory { IfErr result.0 (λ fault. fault ≡ Fault.Memory) }
 {
-    let (pairs, mut back) = merge_all(alloc, spools);
-    let pairs = match pairs {
-        Ok(pairs) => pairs,
-        Err(fault) => return (Err(fault), back),
-    };
-    let tree = match load(alloc, &mut pairs.into_iter()) {
+    let (tree, mut back) = merge_into_tree(alloc, spools);
+    let tree = match tree {
         Ok(tree) => tree,
         Err(fault) => return (Err(fault), back),
     };
@@ -110,18 +142,20 @@ fn tree_of<S: Spool>(alloc: Global, spools: Vec<S>) -> (Result<Tree, Fault>, Vec
     (Ok(tree), back)
 }
 
-/// Merges the pairs of all closed runs of the spools, which are handed back.
-fn merge_all<S: Spool>(alloc: Global, spools: Vec<S>) -> (Result<Vec<Pair>, Fault>, Vec<S>)
-    requires { All AreSorted (map S.runs spools.items) }
-    ensures all { IfOk result.0 (λ pairs. IsPermutation (all_pairs (all_runs (map S.runs spools.items))) pairs.items) }
-    ensures sorted { IfOk result.0 (λ pairs. InOrder pairs.items) }
+/// Merges the pairs of all closed runs of the spools, which are handed back, and makes a tree of them as they come.
+fn merge_into_tree<S: Spool>(alloc: Global, spools: Vec<S>) -> (Result<Tree, Fault>, Vec<S>)
+    requires sorted { All AreSorted (map S.runs spools.items) }
+    requires once { AreEachOnce (all_pairs (all_runs (map S.runs spools.items))) }
+    ensures all { IfOk result.0 (λ tree. IsPermutation (all_pairs (all_runs (map S.runs spools.items))) tree.pairs) }
     ensures stakes { map S.stake result.1.items ≡ map S.stake spools.items }
     ensures memory { IfErr result.0 (λ fault. fault ≡ Fault.Memory) }
 {
-    let mut merged = match merge(alloc, spools) {
+    let merged = match merge(alloc, spools) {
         Ok(merged) => merged,
         Err((spools, fault)) => return (Err(fault), spools),
     };
-    let pairs = merged.rest(alloc);
-    (pairs, merged.into_spools())
+    let mut once = Once { merged };
+    let tree = load(alloc, &mut once);
+    let Once { merged } = once;
+    (tree, merged.into_spools())
 }

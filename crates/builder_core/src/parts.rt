@@ -1,5 +1,7 @@
-ghost use Rattle.std.specs.Prelude.{◌≡◌, [], None, length, IfOk, IfErr};
-ghost use Rattle.builder_core.specs.Rings.{put_rings, take_rings, all_sent, AreOfBuilds};
+ghost use Rattle.std.specs.Prelude.{◌≡◌, [], None, length, map, IfOk, IfErr};
+ghost use Rattle.building.specs.TakeEnd.{take_end};
+ghost use Rattle.builder_core.specs.Rings.{put_rings, take_rings, side_rings, taken_rings, all_sent, AreOfBuilds};
+ghost use Rattle.builder_core.specs.SideFiles.{put_ends};
 
 use crate::{Ends, Live, Table};
 use building::{PagePutter, Worker, page_ring};
@@ -13,6 +15,9 @@ use std::marker::{Model, PhantomData};
 /// The most workers of a build, and so the number of rings for copies of pages.
 pub const WORKERS_MAX: usize = 16;
 
+/// The most indexes of a build, and so the number of rings for entries of side-files.
+pub const INDEXES_MAX: usize = 8;
+
 /// A heap with the rings of all builds of its indexes, before the table has a name.
 #[derive(Drop)]
 pub struct Parts {
@@ -20,8 +25,8 @@ pub struct Parts {
     heap: Heap,
     pages: Vec<PagePutter>,
     workers: Vec<Worker>,
-    side: SideFile,
-    side_end: Consumer<Entry>,
+    sides: Vec<SideFile>,
+    side_ends: Vec<Consumer<Entry>>,
 }
 
 impl Model for Parts {
@@ -29,20 +34,26 @@ impl Model for Parts {
 
     ghost Value = { PartsValue };
 
-    ghost use Rattle.std.specs.Prelude.{[], ◌∷◌};
+    ghost use Rattle.std.specs.Prelude.{map};
     ghost use Rattle.building.specs.TakeEnd.{take_end};
-    ghost use Rattle.builder_core.specs.Rings.{put_rings, all_sent, ArePutEnds, AreTakeEnds, AreOfBuilds};
+    ghost use Rattle.builder_core.specs.SideFiles.{put_ends};
+    ghost use Rattle.builder_core.specs.Rings.{put_rings, side_rings, all_sent, ArePutEnds, AreTakeEnds, AreOfBuilds};
 
-    ghost view = { λ parts. record { heap = parts.heap.state; pages = put_rings parts.pages.items; side = parts.side.end.ring ∷ [] } };
+    ghost view = { λ parts. record {
+      heap = parts.heap.state;
+      pages = put_rings parts.pages.items;
+      sides = side_rings (put_ends parts.sides.items);
+    } };
 
-    ghost invariant = { λ parts. ArePutEnds (put_rings parts.pages.items) (parts.side.end.ring ∷ []) parts.pages.items parts.side.end
-        × AreTakeEnds (put_rings parts.pages.items) (parts.side.end.ring ∷ []) parts.workers.items (take_end parts.side_end)
+    ghost invariant = { λ parts. ArePutEnds (put_rings parts.pages.items) (side_rings (put_ends parts.sides.items)) parts.pages.items
+        (put_ends parts.sides.items)
+        × AreTakeEnds (put_rings parts.pages.items) (side_rings (put_ends parts.sides.items)) parts.workers.items (map take_end parts.side_ends.items)
         × AreOfBuilds 0 (all_sent parts.pages.items) };
 }
 
 impl Parts {
-    /// The rings for a heap, once for all its builds: four copies of pages for each of 16 workers, and 256 entries. Where memory
-    /// runs out the heap is handed back.
+    /// The rings for a heap, once for all its builds: four copies of pages for each of 16 workers, and 256 entries for each of 8
+    /// indexes. Where memory runs out the heap is handed back.
     pub fn new(alloc: Global, heap: Heap) -> Result<Parts, (Heap, Fault)>
         ensures ok { IfOk result (λ parts. parts.heap ≡ heap.state) }
         ensures handed_back { IfErr result (λ back. back.0 ≡ heap) }
@@ -52,8 +63,8 @@ impl Parts {
             Ok(rings) => rings,
             Err(fault) => return Err((heap, fault)),
         };
-        let (side, side_end) = match SideFile::new(alloc) {
-            Ok(ends) => ends,
+        let (sides, side_ends) = match entry_rings(alloc) {
+            Ok(rings) => rings,
             Err(fault) => return Err((heap, fault)),
         };
         Ok(Parts {
@@ -61,15 +72,15 @@ impl Parts {
             heap,
             pages,
             workers,
-            side,
-            side_end,
+            sides,
+            side_ends,
         })
     }
 
     /// The table under its name, with no index and no build, and the other ends of its rings.
     pub fn open<T: Table>(self) -> (Live<T>, Ends<T>)
         requires pages { self.pages ≡ T.pages }
-        requires side { self.side ≡ T.side }
+        requires sides { self.sides ≡ T.sides }
         ensures live { result.0.state ≡ record { heap = self.heap; ready = []; builds = 0; build = None } }
     {
         let Parts {
@@ -77,15 +88,15 @@ impl Parts {
             heap,
             pages,
             workers,
-            side,
-            side_end,
+            sides,
+            side_ends,
         } = self;
         let ends = Ends {
             workers,
-            side_end,
+            side_ends,
             of: PhantomData,
         };
-        (Live::with_ends(alloc, heap, pages, side), ends)
+        (Live::with_ends(alloc, heap, pages, sides), ends)
     }
 }
 
@@ -104,4 +115,20 @@ fn page_rings(alloc: Global) -> Result<(Vec<PagePutter>, Vec<Worker>), Fault>
         workers.push_reserved(Worker::new(end));
     }
     Ok((pages, workers))
+}
+
+/// New side-files, each with the other end of its ring.
+fn entry_rings(alloc: Global) -> Result<(Vec<SideFile>, Vec<Consumer<Entry>>), Fault>
+    ensures rings { IfOk result (λ rings. side_rings (put_ends rings.0.items) ≡ taken_rings (map take_end rings.1.items)) }
+    ensures eight { IfOk result (λ rings. length rings.0.items ≡ 8) }
+    ensures memory { IfErr result (λ fault. fault ≡ Fault.Memory) }
+{
+    let mut sides = Vec::with_capacity(alloc, INDEXES_MAX)?;
+    let mut ends = Vec::with_capacity(alloc, INDEXES_MAX)?;
+    for _ in 0..INDEXES_MAX {
+        let (side, end) = SideFile::new(alloc)?;
+        sides.push_reserved(side);
+        ends.push_reserved(end);
+    }
+    Ok((sides, ends))
 }

@@ -9,8 +9,8 @@ pub trait Table {
     /// The rings that copies of pages go through, one for each worker.
     ghost pages: { List RingId };
 
-    /// The ring that the side-file's entries go through.
-    ghost side: { List RingId };
+    /// The rings that entries of side-files go through, one for each index.
+    ghost sides: { List RingId };
 }
 
 impl Table for Brand {
@@ -18,5 +18,5 @@ impl Table for Brand {
 
     ghost pages = { [] };
 
-    ghost side = { [] };
+    ghost sides = { [] };
 }

@@ -1,5 +1,5 @@
 //! What the table knows of the build that runs.
-ghost use Rattle.std.specs.Prelude.{◌≡◌, ◌≢◌, ℕ, ◌+◌, ◌^◌, ◌||◌, ◌++◌, ◌∷◌, ◌<◌, ◌≤◌, [], length, Some, is_some, nat_le, IfOk, IfErr};
+ghost use Rattle.std.specs.Prelude.{◌≡◌, ◌≢◌, ℕ, ◌+◌, ◌^◌, ◌||◌, ◌++◌, ◌∷◌, ◌<◌, ◌≤◌, [], length, map, Some, is_some, nat_le, slice_get, IfOk, IfErr};
 ghost use Rattle.scan_range.specs.Ranges.{at_start};
 ghost use Rattle.builder_core.specs.SideFiles.{sees};
 ghost use Rattle.builder_core.specs.CoreState.{BuildState};
@@ -16,21 +16,21 @@ use std::alloc::Global;
 use std::marker::Model;
 use visibility::visible;
 
-/// A running build of one index: how far each of its ranges is, which pages were copied, in their order, and how many entries of its
+/// A running build: how far each of its ranges is, which pages were copied, in their order, and how many entries of each index's
 /// side-file were fed.
 #[derive(Drop)]
 pub struct TableScan {
     number: u64,
-    spec: KeySpec,
+    specs: Vec<KeySpec>,
     workers: usize,
     opened: usize,
     ranges: Ranges,
     scans: Vec<Scan>,
-    fed: usize,
+    fed: Vec<usize>,
 }
 
 impl Model for TableScan {
-    ghost use Rattle.std.specs.Prelude.{◌≤◌};
+    ghost use Rattle.std.specs.Prelude.{◌≡◌, ◌≤◌, length};
     ghost use Rattle.std.specs.Vec.{vec_capacity};
     ghost use Rattle.builder_core.specs.CoreState.{BuildState};
     ghost use Rattle.builder_core.specs.Builds.{AreScansOf};
@@ -39,35 +39,37 @@ impl Model for TableScan {
 
     ghost use Rattle.builder_core.specs.Builds.{build_over};
 
-    ghost view = { λ b. build_over b.number b.spec b.workers b.opened (record { pages = b.ranges.pages; ends = b.ranges.ends }) b.scans.items b.fed };
+    ghost view = { λ b. build_over b.number b.specs.items b.workers b.opened
+        (record { pages = b.ranges.pages; ends = b.ranges.ends }) b.scans.items b.fed.items };
 
-    ghost invariant = { λ b. AreScansOf b.ranges b.workers b.scans.items × (b.ranges.pages ≤ vec_capacity b.scans) };
+    ghost invariant = { λ b. AreScansOf b.ranges b.workers b.scans.items × (b.ranges.pages ≤ vec_capacity b.scans)
+        × (length b.fed.items ≡ length b.specs.items) };
 }
 
 impl TableScan {
-    /// A build with that number, by so many workers, of a table that has so many records, over the ranges of its pages. Takes
-    /// the memory for all its scans: 24 bytes a page.
+    /// A build of these indexes with that number, by so many workers, of a table that has so many records, over the ranges of its
+    /// pages. Takes the memory for all its scans: 24 bytes a page.
     pub fn new(
         alloc: Global,
         number: u64,
-        spec: KeySpec,
+        specs: Vec<KeySpec>,
         workers: usize,
         opened: usize,
         cuts: Cuts,
     ) -> Result<TableScan, Fault>
         requires { cuts.pages ≤ 65536 }
-        ensures ok { IfOk result (λ b. b ≡ build_over number spec workers opened cuts [] 0) }
+        ensures ok { IfOk result (λ b. b ≡ build_over number specs.items workers opened cuts [] (map (λ spec. 0) specs.items)) }
         ensures memory { IfErr result (λ fault. fault ≡ Fault.Memory) }
     {
         let pages = cuts.pages() as usize;
         Ok(TableScan {
             number,
-            spec,
+            fed: none_fed(alloc, &specs)?,
+            specs,
             workers,
             opened,
             ranges: Ranges::new(alloc, cuts)?,
             scans: Vec::with_capacity(alloc, pages)?,
-            fed: 0,
         })
     }
 
@@ -78,11 +80,19 @@ impl TableScan {
         self.number
     }
 
-    /// What makes the keys of its index.
-    pub fn spec(&self) -> &KeySpec
-        ensures { self.now.specs ≡ result.now ∷ [] }
+    /// How many indexes it has.
+    pub fn indexes(&self) -> usize
+        ensures { result ≡ length self.now.specs }
     {
-        &self.spec
+        self.specs.len()
+    }
+
+    /// What makes the keys of one of them.
+    pub fn spec(&self, index: usize) -> &KeySpec
+        requires { index < length self.now.specs }
+        ensures { slice_get self.now.specs index ≡ Some result.now }
+    {
+        &self.specs[index]
     }
 
     /// How many ranges its pages are cut into.
@@ -148,18 +158,32 @@ impl TableScan {
         });
     }
 
-    /// Notes that so many entries more were fed.
-    pub fn note_fed(&mut self, count: usize)
-        requires { fed_to self.old 0 + count < 2 ^ 64 }
-        ensures { self.new ≡ after_feed self.old 0 count }
+    /// Notes that so many entries more of the index were fed.
+    pub fn note_fed(&mut self, index: usize, count: usize)
+        requires there { index < length self.old.specs }
+        requires countable { fed_to self.old index + count < 2 ^ 64 }
+        ensures { self.new ≡ after_feed self.old index count }
     {
-        self.fed += count;
+        self.fed[index] += count;
     }
 
-    /// What makes the keys of its index.
-    pub fn into_spec(self) -> KeySpec
-        ensures { self.specs ≡ result ∷ [] }
+    /// What makes the keys of its indexes.
+    pub fn into_specs(self) -> Vec<KeySpec>
+        ensures { self.specs ≡ result.items }
     {
-        self.spec
+        let TableScan { specs, .. } = self;
+        specs
     }
+}
+
+/// That no entry of these indexes was fed.
+fn none_fed(alloc: Global, specs: &[KeySpec]) -> Result<Vec<usize>, Fault>
+    ensures ok { IfOk result (λ fed. fed.items ≡ map (λ spec. 0) specs.now) }
+    ensures memory { IfErr result (λ fault. fault ≡ Fault.Memory) }
+{
+    let mut fed = Vec::with_capacity(alloc, specs.len())?;
+    for _ in specs {
+        fed.push_reserved(0);
+    }
+    Ok(fed)
 }

@@ -1,9 +1,10 @@
 //! The work of a build.
-ghost use Rattle.builder_core.specs.Builds.{fresh};
+ghost use Rattle.std.specs.List.{position};
+ghost use Rattle.builder_core.specs.Builds.{fresh, fresh_index, IndexValue};
 ghost use Rattle.builder_core.specs.Holding.{fresh_maker};
-ghost use Rattle.std.specs.Prelude.{◌≡◌, All, replicate, is_some, None, Some, IfOk, IfErr, MatchResult};
+ghost use Rattle.std.specs.Prelude.{◌≡◌, ◌<◌, All, replicate, is_some, not, length, slice_get, None, Some, IfOk, IfErr, MatchResult};
 
-use catch_up::Built;
+use crate::index_work::IndexWork;
 use keybytes::{Fault, KeySpec, Schema};
 use run_maker::Maker;
 use std::alloc::Global;
@@ -16,8 +17,7 @@ pub struct Work {
     pub(crate) specs: Vec<KeySpec>,
     pub(crate) workers: usize,
     pub(crate) makers: Vec<Maker>,
-    pub(crate) built: Option<Built>,
-    pub(crate) applied: usize,
+    pub(crate) indexes: Vec<IndexWork>,
     pub(crate) spoiled: Option<Fault>,
 }
 
@@ -31,8 +31,7 @@ impl Model for Work {
       specs = work.specs.items;
       workers = work.workers;
       makers = work.makers.items;
-      built = work.built;
-      applied = work.applied;
+      indexes = work.indexes.items;
       spoiled = work.spoiled;
     } };
 }
@@ -52,11 +51,10 @@ impl Work {
     {
         Ok(Work {
             makers: new_makers(alloc, schema, &specs, workers)?,
+            indexes: fresh_indexes(alloc, specs.len())?,
             build,
             specs,
             workers,
-            built: None,
-            applied: 0,
             spoiled: None,
         })
     }
@@ -71,26 +69,55 @@ impl Work {
         }
     }
 
-    /// Whether the pairs are in order.
-    pub fn is_loaded(&self) -> bool
-        ensures { result ≡ is_some self.now.built }
+    /// Whether the pairs of that index are in order.
+    pub fn is_loaded(&self, index: usize) -> bool
+        requires { index < length self.now.indexes }
+        ensures { (it : IndexValue) → slice_get self.now.indexes index ≡ Some it → result ≡ is_some it.built }
     {
-        self.built.is_some()
+        self.indexes[index].built.is_some()
     }
 
-    /// How many entries of the side-file were applied to them.
-    pub fn applied(&self) -> usize
-        ensures { result ≡ self.now.applied }
+    /// The lowest index whose pairs are not in order.
+    pub fn first_unloaded(&self) -> Option<usize>
+        ensures { result ≡ position (λ (index : IndexValue). not (is_some index.built)) self.now.indexes }
     {
-        self.applied
+        for index in 0..self.indexes.len() {
+            if !self.is_loaded(index) {
+                return Some(index);
+            }
+        }
+        None
     }
 
-    /// The index, if its pairs are in order.
-    pub fn into_built(self) -> Option<Built>
-        ensures { self.built ≡ result }
+    /// How many entries of its side-file were applied to that index.
+    pub fn applied(&self, index: usize) -> usize
+        requires { index < length self.now.indexes }
+        ensures { (it : IndexValue) → slice_get self.now.indexes index ≡ Some it → result ≡ it.applied }
     {
-        self.built
+        self.indexes[index].applied
     }
+
+    /// The work on each of its indexes.
+    pub fn into_indexes(self) -> Vec<IndexWork>
+        ensures { self.indexes ≡ result.items }
+    {
+        self.indexes
+    }
+}
+
+/// So many indexes on which nothing was done.
+fn fresh_indexes(alloc: Global, count: usize) -> Result<Vec<IndexWork>, Fault>
+    ensures ok { IfOk result (λ indexes. indexes.items ≡ replicate count fresh_index) }
+    ensures memory { IfErr result (λ fault. fault ≡ Fault.Memory) }
+{
+    let mut indexes = Vec::with_capacity(alloc, count)?;
+    for _ in 0..count {
+        indexes.push_reserved(IndexWork {
+            built: None,
+            applied: 0,
+        });
+    }
+    Ok(indexes)
 }
 
 /// A maker for each of so many workers.

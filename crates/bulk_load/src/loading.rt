@@ -13,6 +13,7 @@ pub fn load<S: Source>(alloc: Global, source: &mut S) -> Result<Tree, Fault>
     requires { AreOrdered (S.left source.old) }
     ensures pairs { IfOk result (λ tree. tree.pairs ≡ S.left source.old) }
     ensures filled { IfOk result (λ tree. AreFilled tree.leaves) }
+    ensures kept { S.kept source.new ≡ S.kept source.old }
     ensures memory { IfErr result (λ fault. fault ≡ Fault.Memory) }
 {
     let mut loader = Loader::new(alloc)?;

@@ -9,9 +9,15 @@ pub trait Source {
     /// The pairs that are left.
     ghost left: { Self → List Pair };
 
+    ghost Kept: { Type 0 };
+
+    /// What stays as it is whatever is taken.
+    ghost kept: { Self → Kept };
+
     /// The next pair, or none where none is left.
     fn next(&mut self) -> Result<Option<Pair>, Fault>
         ensures first { IfOk result (λ next. MatchOption next (left self.old ≡ []) (λ pair. left self.old ≡ pair ∷ left self.new)) }
+        ensures kept { kept self.new ≡ kept self.old }
         ensures memory { IfErr result (λ fault. fault ≡ Fault.Memory) };
 }
 
@@ -19,6 +25,10 @@ impl Source for IntoIter<Pair> {
     ghost use Rattle.std.specs.Vec.Iter.{into_iter_items};
 
     ghost left = { into_iter_items };
+
+    ghost Kept = { Unit {0} };
+
+    ghost kept = { λ _. tt };
 
     fn next(&mut self) -> Result<Option<Pair>, Fault> {
         Ok(Iterator::next(self))

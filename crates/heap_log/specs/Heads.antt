@@ -1,5 +1,5 @@
 -- What a log keeps of each transaction and each RID.
-use Rattle.std.specs.Prelude.{◌≡◌, ℕ, ◌+◌, ◌≤◌, Bool, ◌&&◌, ◌==◌, nat_eq, if◌then◌else◌, List, length, Option, Some, None, unwrap_or, Vec, vec_len}
+use Rattle.std.specs.Prelude.{◌≡◌, ℕ, ◌+◌, ◌/◌, ◌%◌, ◌≤◌, Bool, ◌&&◌, ◌==◌, nat_eq, if◌then◌else◌, List, length, get_or, Option, Some, None, unwrap_or, Vec, vec_len}
 use Rattle.std.specs.Prelude.{vec_capacity}
 use Rattle.std.specs.HashMap.{HashMap, get, spare}
 use Rattle.std.specs.declared.alloc.Global.{Global}
@@ -20,17 +20,33 @@ abbrev pub TxnHeads : Type 0
 TxnHeads = HashMap ℕ TxnHead (BuildHasherDefault FoldHasher)
 
 abbrev pub RidHeads : Type 0
-RidHeads = HashMap (ℕ × ℕ) RidHead (BuildHasherDefault FoldHasher)
+RidHeads = HashMap (ℕ × ℕ) (List RidHead) (BuildHasherDefault FoldHasher)
 
 abbrev pub key_eq : ℕ × ℕ → ℕ × ℕ → Bool
 key_eq a b = nat_eq a.0 b.0 && nat_eq a.1 b.1
+
+-- the head of a RID that no write was at
+abbrev pub no_head : RidHead
+no_head = record { last = None; newest = None }
+
+-- eight slots of a page side by side have their heads in one block: which block, and which of them
+abbrev pub block_at : Rid → ℕ × ℕ
+block_at rid = (rid.page, rid.slot / 8)
+
+abbrev pub place_at : Rid → ℕ
+place_at rid = rid.slot % 8
+
+-- the head at a place of a block, if there is the block
+abbrev pub head_in_block : Option (List RidHead) → ℕ → RidHead
+head_in_block None place = no_head
+head_in_block (Some block) place = get_or block place no_head
 
 -- what a map has of a transaction, of a RID
 abbrev pub txn_head_in : TxnHeads → ℕ → TxnHead
 txn_head_in heads txn = unwrap_or (get nat_eq heads txn) (record { last = None; newest = None; standing = 0 })
 
 abbrev pub rid_head_in : RidHeads → Rid → RidHead
-rid_head_in heads rid = unwrap_or (get key_eq heads (rid.page, rid.slot)) (record { last = None; newest = None })
+rid_head_in heads rid = head_in_block (get key_eq heads (block_at rid)) (place_at rid)
 
 -- what the log says of a transaction, of a RID
 abbrev pub txn_head : List LogRec → ℕ → TxnHead

@@ -137,7 +137,7 @@ impl Rooms {
     }
 }
 
-/// Gives a page's leaf another room, and each node above it the greater of its two again.
+/// Gives a page's leaf a room, and each node above it the greater of its two again, as far up as something changes.
 fn set_leaf(nodes: &mut [u16], leaves: usize, page: usize, room: u16)
     requires long { length nodes.old ≡ 2 * leaves }
     requires page { page < leaves }
@@ -146,10 +146,17 @@ fn set_leaf(nodes: &mut [u16], leaves: usize, page: usize, room: u16)
     ensures leaves { drop leaves nodes.new ≡ set (drop leaves nodes.old) page room }
 {
     let mut node = leaves + page;
+    if nodes[node] == room {
+        return;
+    }
     nodes[node] = room;
     while node > 1 {
         node /= 2;
-        nodes[node] = nodes[2 * node].max(nodes[2 * node + 1]);
+        let greater = nodes[2 * node].max(nodes[2 * node + 1]);
+        if nodes[node] == greater {
+            return;
+        }
+        nodes[node] = greater;
     }
 }
 

@@ -88,7 +88,7 @@ fn answer_table<T: Table, W: Write + Drop>(
     output: &mut Output<W>,
 ) -> Result<Status, OutputFailed>
     requires pages { parts.pages ≡ T.pages }
-    requires side { parts.side ≡ T.side }
+    requires sides { parts.sides ≡ T.sides }
     ensures { IfOk result (RunsOn parts.heap commands.items) }
 {
     output.print(number, &Answer::Done)?;

@@ -1,11 +1,12 @@
-//! Scripts of many updates of one row beside a build that has scanned it: each leaves two entries.
+//! Scripts of many updates of one row beside a build that has scanned it: each leaves two entries for each index.
 use crate::printed::Printed;
 use std::alloc::{AllocError, Global};
 use std::test::Fail;
 
-/// How many updates there are, the records behind them, and how their answers end.
-const CASES: [(u32, &str, &str); 2] = [
+/// How many indexes and updates there are, the records behind them, and how their answers end.
+const CASES: [(u32, u32, &str, &str); 3] = [
     (
+        1,
         129,
         "feed,0,300
 feed,0,1
@@ -29,6 +30,7 @@ pairs,0
 ",
     ),
     (
+        1,
         512,
         "insert,A,0
 switch
@@ -50,14 +52,48 @@ pairs,0
 526,pair,512,0.0
 ",
     ),
+    (
+        2,
+        257,
+        "switch
+feed,1,3
+apply,1,3
+switch
+apply,0,1
+feed,0,1
+apply,0,1
+switch
+pairs,0
+pairs,1
+",
+        "266,refused,49,Behind,1028
+267,ok,3
+268,ok,3
+269,refused,49,Behind,1025
+270,ok,0
+271,ok,1
+272,ok,1
+273,ok,260,ready:0,ready:1
+273,pages,0
+274,ok,1
+274,pair,257,0.0
+275,ok,1
+275,pair,257,0.0
+",
+    ),
 ];
 
 /// The script of a loaded build, of so many updates and of the records behind them.
-fn script(alloc: Global, updates: u32, behind: &str) -> Result<String, AllocError> {
-    let mut script = String::from_str(
-        alloc,
-        "table,255,int\nrow,0\nstart,1,4,1,n:0\nscan,0,0\nseal,0\nload,0\nbegin,A\n",
-    )?;
+fn script(alloc: Global, indexes: u32, updates: u32, behind: &str) -> Result<String, AllocError> {
+    let mut script = String::from_str(alloc, "table,255,int\nrow,0\nstart,1,4,1")?;
+    for _ in 0..indexes {
+        script.push_str(",n:0")?;
+    }
+    script.push_str("\nscan,0,0\nseal,0\n")?;
+    for index in 0..indexes {
+        script.push_str(format!(in alloc; "load,{index}\n")?.as_str())?;
+    }
+    script.push_str("begin,A\n")?;
     for value in 0..updates {
         script.push_str("update,A,0.0,")?;
         let value = format!(in alloc; "{}\n", value + 1)?;
@@ -69,8 +105,8 @@ fn script(alloc: Global, updates: u32, behind: &str) -> Result<String, AllocErro
 
 #[test]
 fn are_fed_and_applied(rt: HostRuntime) -> Result<(), Fail> {
-    for (updates, behind, end) in &CASES {
-        let script = script(rt.alloc(), *updates, behind)?;
+    for (indexes, updates, behind, end) in &CASES {
+        let script = script(rt.alloc(), *indexes, *updates, behind)?;
         let printed = Printed::by_replay(rt.alloc(), script.as_bytes());
         let (out, err, status) = printed.parts();
         assert!(rt; out.ends_with(end), "{updates}: {out}");

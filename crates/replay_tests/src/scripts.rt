@@ -3,6 +3,7 @@
 mod bad_scripts;
 mod builds;
 mod catching_up;
+mod several_indexes;
 mod tables;
 mod transactions;
 mod while_in_use;
@@ -12,13 +13,14 @@ use crate::printed::Printed;
 use std::alloc::{AllocError, Global};
 use std::test::Fail;
 
-fn cases() -> [&'static [Case]; 6] {
+fn cases() -> [&'static [Case]; 7] {
     [
         &tables::CASES,
         &transactions::CASES,
         &builds::CASES,
         &while_in_use::CASES,
         &catching_up::CASES,
+        &several_indexes::CASES,
         &bad_scripts::CASES,
     ]
 }

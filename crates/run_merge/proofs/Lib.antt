@@ -3,5 +3,6 @@ pub mod Games
 pub mod InOrder
 pub mod Numbers
 pub mod Order
+pub mod Places
 pub mod Replays
 pub mod Steps

@@ -17,7 +17,7 @@ use Rattle.std.proofs.lemmas.Option.{slice_get-get_or, slice_get_past}
 use Rattle.keybytes.specs.Pairs.{pair_cmp}
 use Rattle.run_merge.specs.Leading.{is_before, is_ahead, MayLead, HeadsValue, AllDone, IsFirst}
 use Rattle.run_spool.specs.Spools.{AreSorted, all_pairs}
-use Rattle.run_merge.specs.Merging.{has_pair, IsLeast, Gives, head_of, IsMerge, IsStart}
+use Rattle.run_merge.specs.Merging.{has_pair, IsLeast, Gives, head_of, IsMerge, IsStart, AreSeconds}
 use Rattle.keybytes.specs.declared.pair.Pair.{Pair}
 use Rattle.run_merge.proofs.Order.{before_order}
 
@@ -291,3 +291,59 @@ step_leaves runs lanes heads m lane run lt at next is =
           ] in
           m.cover i (omega (arith, lt', long)) before;
     }
+
+-- the third pair is the second one of what is left
+third_is : (run : List Pair) → slice_get run 2 ≡ slice_get (drop 1 run) 1
+third_is [] = refl
+third_is (x ∷ run) = refl
+
+-- the same of the pairs behind the heads
+pub seconds_leave : (runs : List (List Pair)) (lanes : List ℕ) (heads seconds : List (Option Pair)) → IsMerge runs lanes heads → AreSeconds runs lanes seconds
+    → (lane run : ℕ) → lane < length lanes → run ≡ get_or lanes lane 0 → (second : Option Pair) → second ≡ slice_get (get_or runs run []) 2
+    → AreSeconds (set runs run (drop 1 (get_or runs run []))) lanes (set seconds lane second)
+seconds_leave runs lanes heads seconds m are lane run lt at second is =
+    let rest = drop 1 (get_or runs run []) in
+    let in' : run < length runs = omega (arith, m.inside lane lt, at) in
+    let here : get_or (set runs run rest) run [] ≡ rest = get_or-set_same runs run rest [] in' in
+    record {
+      long = length-set seconds lane second ∙ are.long;
+      at = λ k lt'.
+          elim (cases_eq k lane) [
+            | inl e ↦
+                let place : get_or lanes k 0 ≡ run = ap (λ (n : ℕ). get_or lanes n 0) e ∙ sym at in
+                let new : get_or (set seconds lane second) k None ≡ second =
+                ap (λ (n : ℕ). get_or (set seconds lane second) n None) e ∙ get_or-set_same seconds lane second None (omega (arith, lt, are.long)) in
+                new
+                ∙ (is ∙ (third_is (get_or runs run []) ∙ ap (λ (r : List Pair). slice_get r 1) (sym (ap (λ (n : ℕ). get_or (set runs run rest) n []) place ∙ here))))
+            | inr ne ↦
+                let off : get_or lanes k 0 ≢ run =
+                elim (cases_lt k lane) [
+                  | inl before ↦ let gap = m.apart k lane before lt in λ e. omega (arith, gap, at, e)
+                  | inr after ↦ let gap = m.apart lane k (omega (arith, after, ne)) lt' in λ e. omega (arith, gap, at, e)
+                ] in
+                get_or-set_other seconds lane k second None ne
+                ∙ (are.at k lt' ∙ ap (λ (r : List Pair). slice_get r 1) (sym (get_or-set_other runs run (get_or lanes k 0) rest [] off)))
+          ];
+    }
+
+-- none yet
+pub no_seconds : (runs : List (List Pair)) → AreSeconds runs [] []
+no_seconds runs = record { long = refl; at = λ k lt. absurd (omega (arith, lt)) }
+
+-- one more
+pub second_more : (runs : List (List Pair)) (lanes : List ℕ) (seconds : List (Option Pair)) (i : ℕ) (second : Option Pair) → AreSeconds runs lanes seconds
+    → second ≡ slice_get (get_or runs i []) 1 → AreSeconds runs (lanes ++ i ∷ []) (seconds ++ second ∷ [])
+second_more runs lanes seconds i second are is = record {
+  long = omega (arith, are.long, length_push lanes i, length_push seconds second);
+  at = λ k lt.
+      elim (cases_eq k (length lanes)) [
+        | inl e ↦
+            let lane : get_or (lanes ++ i ∷ []) k 0 ≡ i = get_or_push lanes i 0 k (sym e) in
+            get_or_push seconds second None k (are.long ∙ sym e) ∙ (is ∙ ap (λ (n : ℕ). slice_get (get_or runs n []) 1) (sym lane))
+        | inr ne ↦
+            let below : k < length lanes = omega (arith, lt, ne, length_push lanes i) in
+            let lane : get_or (lanes ++ i ∷ []) k 0 ≡ get_or lanes k 0 = get_or_append_left lanes (i ∷ []) 0 k below in
+            get_or_append_left seconds (second ∷ []) None k (omega (arith, below, are.long))
+            ∙ (are.at k below ∙ ap (λ (n : ℕ). slice_get (get_or runs n []) 1) (sym lane))
+      ];
+}

@@ -5,6 +5,7 @@ use Rattle.spool_ledger.specs.Accounts.{Stake}
 use Rattle.keybytes.specs.declared.pair.Pair.{Pair}
 use Rattle.run_spool.specs.Spools.{AreSorted, all_pairs}
 use Rattle.run_merge.specs.Leading.{is_before}
+use Rattle.run_merge.specs.declared.place.Place.{Place}
 
 -- the run has a pair
 abbrev pub has_pair : List Pair → Bool
@@ -37,10 +38,12 @@ all_runs spools = flat_map (λ runs. runs) spools
 abbrev pub head_of : List Pair → Option Pair
 head_of run = slice_get run 0
 
--- the runs by number that had a pair as the merge began, the head of each, the place of the one that is given first, and how
--- many comparisons of two pairs were made
+-- the runs by number that had a pair as the merge began, where each stands, its head and the pair behind it, the place of the head
+-- that is given first, and how many comparisons of two pairs were made
 pub record LanesValue : Type 0 where
   pub runs : List ℕ
+  pub places : List Place
+  pub seconds : List (Option Pair)
   pub heads : List (Option Pair)
   pub first : ℕ
   pub compares : ℕ
@@ -61,3 +64,8 @@ pub record IsStart (runs : List (List Pair)) (lanes : List ℕ) (heads : List (O
   pub apart : (j k : ℕ) → j < k → k < length lanes → get_or lanes j 0 < get_or lanes k 0
   pub at : (k : ℕ) → k < length lanes → get_or heads k None ≡ head_of (get_or runs (get_or lanes k 0) [])
   pub cover : (i : ℕ) → i < count → 0 < length (get_or runs i []) → (k : ℕ) × (k < length lanes) × (get_or lanes k 0 ≡ i)
+
+-- the pair behind the head of each lane, if its run has one
+pub record AreSeconds (runs : List (List Pair)) (lanes : List ℕ) (seconds : List (Option Pair)) : Type 0 where
+  pub long : length seconds ≡ length lanes
+  pub at : (k : ℕ) → k < length lanes → get_or seconds k None ≡ slice_get (get_or runs (get_or lanes k 0) []) 1

@@ -51,16 +51,20 @@ impl Head {
         pair
     }
 
-    /// Whether this head may be given before another, and how many comparisons of pairs that took.
+    /// The number that the first bytes of the key make, or 0 where it tells nothing.
     #[inline]
+    pub(crate) fn front(&self) -> u64
+        ensures { IsFront self.now result }
+    {
+        self.front
+    }
+
+    /// Whether this head may be given before another, and how many comparisons of pairs that took.
     pub(crate) fn leads(&self, other: &Head) -> (bool, u64)
         ensures leads { result.0 ≡ true → is_ahead other.now self.now ≡ false }
         ensures follows { result.0 ≡ false → is_ahead self.now other.now ≡ false }
         ensures compares { result.1 ≤ 1 }
     {
-        if self.front != 0 && other.front != 0 && self.front != other.front {
-            return (self.front < other.front, 1);
-        }
         pair_leads(&self.pair, &other.pair)
     }
 }

@@ -13,6 +13,7 @@ mod heads;
 mod lanes;
 mod losers;
 mod merged;
+mod place;
 mod spool_runs;
 mod tournament;
 

@@ -22,7 +22,8 @@ pub struct Merged<S: Spool> {
 
 impl<S: Spool> Model for Merged<S> {
     ghost use Rattle.std.specs.Prelude.{map, length};
-    ghost use Rattle.run_merge.specs.Merging.{MergedValue, all_runs, IsMerge};
+    ghost use Rattle.run_merge.specs.Merging.{MergedValue, all_runs, IsMerge, AreSeconds};
+    ghost use Rattle.run_merge.specs.Places.{ArePlaces};
 
     ghost Value = { MergedValue };
 
@@ -34,7 +35,9 @@ impl<S: Spool> Model for Merged<S> {
       compares = merged.lanes.compares;
     } };
 
-    ghost invariant = { λ merged. IsMerge (all_runs (map S.runs merged.spools.items)) merged.lanes.runs merged.lanes.heads };
+    ghost invariant = { λ merged. IsMerge (all_runs (map S.runs merged.spools.items)) merged.lanes.runs merged.lanes.heads
+        × AreSeconds (all_runs (map S.runs merged.spools.items)) merged.lanes.runs merged.lanes.seconds
+        × ArePlaces (map S.runs merged.spools.items) merged.lanes.runs merged.lanes.places };
 }
 
 /// Merges the closed runs of spools. An `Err` gives the spools back.

@@ -6,15 +6,17 @@ ghost use Rattle.builder_core.specs.Steps.{Does};
 use crate::column::Column;
 use crate::failure::Failure;
 use btree::Tree;
-use builder_core::{Core, Dealing, Event, Pair, Parts, Plan, Reply, Table};
+use builder_core::{
+    Core, Dealing, Event, INDEXES_MAX, Pair, Parts, Plan, Reply, Table, WORKERS_MAX,
+};
 use heap_table::{Heap, PAGES_MAX, SLOTS_MAX};
 use keybytes::{Fault, KeySpec, Kind, Rid, Row, Schema};
 use run_spool::PlainSpool;
 use spool_ledger::{Account, Pool};
 use std::alloc::Global;
 
-/// No build has more workers, each with a spool for each of its indexes, of which no table has more.
-const SPOOLS_MAX: usize = 512;
+/// No build has more workers, each with a spool for each of its indexes.
+const SPOOLS_MAX: usize = WORKERS_MAX * INDEXES_MAX;
 
 /// An empty table of these columns, with as many rows a page as a page may have.
 pub fn table(alloc: Global, columns: &[Column]) -> Result<Parts, Failure> {
@@ -137,7 +139,7 @@ fn spec<T: Table>(
 
 /// A spool for each worker and index, each with a quota of that many pages.
 fn spools(alloc: Global, count: usize, quota: usize) -> Result<Vec<PlainSpool>, Fault>
-    requires count { count ≤ 512 }
+    requires count { count ≤ 128 }
     requires quota { quota ≤ 1024 }
 {
     let quotas = vec![in alloc; quota as u32; count]?;

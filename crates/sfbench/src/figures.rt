@@ -1,3 +1,4 @@
+use crate::afterwards::Afterwards;
 use crate::figure::Figure;
 
 /// What was measured of a run, phase by phase.
@@ -21,15 +22,15 @@ pub struct Figures {
     pub load: Figure,
     /// Entries of the side-file were applied, where writes are asked for.
     pub catch_up: Option<Figure>,
-    /// The entries that were left were applied, and the index was made ready.
+    /// The entries that were left were applied, and the indexes were made ready.
     pub switch: Figure,
-    /// Pairs were looked for in the index.
-    pub look_ups: Figure,
+    /// Look-ups and changes with the indexes ready.
+    pub afterwards: Afterwards,
 }
 
 impl Figures {
     /// The names of the phases, in their order, each with its figure if it has one.
-    pub fn lines(&self) -> [(&'static str, Option<Figure>); 12] {
+    pub fn lines(&self) -> [(&'static str, Option<Figure>); 14] {
         [
             ("fill", Some(self.fill)),
             ("updates alone", self.updates_alone),
@@ -42,7 +43,9 @@ impl Figures {
             ("catch-up", self.catch_up),
             ("switch", Some(self.switch)),
             ("build", Some(self.build())),
-            ("look-ups", Some(self.look_ups)),
+            ("look-ups", Some(self.afterwards.look_ups)),
+            ("inserts", Some(self.afterwards.inserts)),
+            ("updates ready", Some(self.afterwards.updates)),
         ]
     }
 

@@ -8,28 +8,39 @@ use keybytes::Rid;
 use run_spool::PlainSpool;
 use std::time::Instant;
 
-/// The rows that one transaction puts in.
-const ROWS_OF_A_TRANSACTION: u32 = 1_000;
+/// The rows that one transaction puts in, or changes once the indexes are ready.
+pub const ROWS_OF_A_TRANSACTION: u32 = 1_000;
 
 /// Fills the table with random rows. Answers how many stand on each of its pages, too.
 pub fn fill<T: Table>(
     bench: &mut Bench<'_>,
     core: &mut Core<PlainSpool, T>,
 ) -> Result<(Vec<u16>, Figure), Failure> {
+    let mut pages = Vec::new(bench.rt.alloc());
+    let figure = insert_rows(bench, core, "fill", bench.options.rows, &mut pages)?;
+    Ok((pages, figure))
+}
+
+/// Inserts so many random rows, which are counted on their pages.
+pub fn insert_rows<T: Table>(
+    bench: &mut Bench<'_>,
+    core: &mut Core<PlainSpool, T>,
+    phase: &str,
+    rows: u32,
+    pages: &mut Vec<u16>,
+) -> Result<Figure, Failure> {
     let rt = bench.rt;
-    let rows = bench.options.rows;
     let mut watch = Watch::new();
-    let mut pages = Vec::new(rt.alloc());
     for done in (0..rows).step_by(ROWS_OF_A_TRANSACTION as usize) {
-        bench.progress.show(rt, "fill", done, rows)?;
+        bench.progress.show(rt, phase, done, rows)?;
         let count = ROWS_OF_A_TRANSACTION.min(rows - done);
         let batch = bench.rows(count as usize)?;
         let start = Instant::now(rt)?;
         let rids = build::insert_all(rt.alloc(), core, batch)?;
         watch.add(rt, start)?;
-        note(&mut pages, rids.as_slice())?;
+        note(pages, rids.as_slice())?;
     }
-    Ok((pages, Figure::new(rt, &watch, rows)))
+    Ok(Figure::new(rt, &watch, rows))
 }
 
 /// Counts the rows on the pages where they stand. No page comes before the one below it.

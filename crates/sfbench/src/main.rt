@@ -1,9 +1,10 @@
-//! The program `sfbench`: measures how fast an index is built on a table of random rows.
+//! The program `sfbench`: measures how fast indexes are built on a table of random rows.
 //!
-//! [`command_line`] reads what is to be measured into [`Options`]. [`run`] does one phase after the other, compares the index with
+//! [`command_line`] reads what is to be measured into [`Options`]. [`run`] does one phase after the other, compares each index with
 //! the table and hands out the [`Figures`](figures::Figures), which [`report`] prints. All that is asked of the core stands in [`build`].
 #![tactic(auto)]
 
+mod afterwards;
 mod bench;
 mod build;
 mod catching_up;

@@ -1,6 +1,7 @@
 //! A run: one phase after the other, and the comparison of the index with the table.
 ghost use Rattle.std.specs.Prelude.{◌≡◌};
 
+use crate::afterwards::go_on;
 use crate::bench::Bench;
 use crate::build;
 use crate::catching_up::catch_up;
@@ -9,7 +10,6 @@ use crate::failure::Failure;
 use crate::figure::Figure;
 use crate::figures::Figures;
 use crate::filling::fill;
-use crate::look_ups::look_up;
 use crate::options::Options;
 use crate::spool_pages::quota;
 use crate::stretch::{self, Stretch};
@@ -30,7 +30,7 @@ pub fn run(rt: &HostRuntime, options: &Options) -> Result<Figures, Failure> {
 /// The same on a table under its name.
 fn run_on<T: Table>(rt: &HostRuntime, parts: Parts, options: &Options) -> Result<Figures, Failure>
     requires pages { parts.pages ≡ T.pages }
-    requires side { parts.side ≡ T.side }
+    requires sides { parts.sides ≡ T.sides }
 {
     let (live, ends) = parts.open::<T>();
     let mut core = Core::new(live, ends, Vec::new(rt.alloc()));
@@ -51,9 +51,10 @@ fn measure<T: Table>(
     let (pages, fill) = fill(bench, core)?;
     let count = pages.len().min(PAGES_MAX as usize) as u32;
     let mut stretches = stretch::deal(rt.alloc(), count, bench.options.workers)?;
-    let mut changes = Updates::new(pages, copying::turns(stretches.as_slice()));
+    let mut changes = Updates::new(pages);
     let updates_alone = update_alone(bench, core, stretches.as_slice(), &mut changes)?;
     let start = start(bench, core, stretches.as_slice())?;
+    changes.begin(bench.options.writes, copying::turns(stretches.as_slice()));
     let copying = copy_all(bench, core, &mut stretches, &mut changes)?;
     let scan = Figure::new(rt, &copying.scan, rows);
     let digest = Figure::new(rt, &copying.digest, rows);
@@ -62,7 +63,7 @@ fn measure<T: Table>(
     let load = load(bench, core)?;
     let catch_up = catch_up(bench, core)?;
     let switch = switch(bench, core)?;
-    let look_ups = look_up(bench, core)?;
+    let afterwards = go_on(bench, core, stretches.as_slice(), &mut changes)?;
     compare(bench, core)?;
     Ok(Figures {
         fill,
@@ -75,7 +76,7 @@ fn measure<T: Table>(
         load,
         catch_up,
         switch,
-        look_ups,
+        afterwards,
     })
 }
 
@@ -95,12 +96,12 @@ fn update_alone<T: Table>(
     stretches: &[Stretch],
     updates: &mut Updates,
 ) -> Result<Option<Figure>, Failure> {
-    for part in 0..copying::turns(stretches) {
+    let parts = copying::turns(stretches);
+    updates.begin(bench.options.writes, parts);
+    for part in 0..parts {
         updates.make(bench, core, stretches, part)?;
     }
-    let figure = figure_of(bench, updates);
-    updates.restart();
-    Ok(figure)
+    Ok(figure_of(bench, updates))
 }
 
 /// Makes the spools and starts the build.

@@ -10,7 +10,7 @@ use std::test::Fail;
 
 /// The phases of a run with updates, in the order in which they are printed.
 const PHASES: &str =
-    "phase;fill;updates alone;start;scan;digest;updates;seal;load;catch-up;switch;build;look-ups;";
+    "phase;fill;updates alone;start;scan;digest;updates;seal;load;catch-up;switch;build;look-ups;inserts;updates ready;";
 
 /// Runs that, and answers the first field of each record that it prints.
 fn phases(rt: &HostRuntime, words: &[&str]) -> Result<String, Fail> {
@@ -57,7 +57,7 @@ fn are_refused(alloc: Global, words: &[&str]) -> bool {
 
 #[test]
 fn words_that_are_refused(rt: HostRuntime) {
-    let refused: [&[&str]; 8] = [
+    let refused: [&[&str]; 9] = [
         &["sfbench", "fast"],
         &["sfbench", "--rows", "0"],
         &["sfbench", "--rows", "100000000"],
@@ -66,18 +66,29 @@ fn words_that_are_refused(rt: HostRuntime) {
         &["sfbench", "--columns", "int,text:101"],
         &["sfbench", "--workers", "17"],
         &["sfbench", "--indexes", "0"],
+        &["sfbench", "--indexes", "9"],
     ];
     for words in refused {
         assert!(rt; are_refused(rt.alloc(), words), "{words:?}");
     }
 }
 
-/// The core builds one index at a time, so far.
+/// Eight indexes are built in one scan, on two columns.
 #[test]
-fn two_indexes(rt: HostRuntime) -> Result<(), Fail> {
-    let words = ["sfbench", "--rows", "10", "--indexes", "2"];
-    let options = command_line::read(rt.alloc(), words.as_slice())?;
-    assert!(rt; run(&rt, &options).is_err());
+fn eight_indexes(rt: HostRuntime) -> Result<(), Fail> {
+    let words = [
+        "sfbench",
+        "--rows",
+        "600",
+        "--columns",
+        "int,text:3",
+        "--indexes",
+        "8",
+        "--writes",
+        "50",
+        "--csv",
+    ];
+    assert_eq!(rt; phases(&rt, words.as_slice())?.as_str(), PHASES);
     Ok(())
 }
 

@@ -16,26 +16,31 @@ use std::time::Instant;
 #[derive(Drop)]
 pub struct Updates {
     /// How many rows stand on each page.
-    pages: Vec<u16>,
-    /// In how many parts all of them are made.
+    pub pages: Vec<u16>,
+    /// How many are to be made.
+    all: u32,
+    /// In how many parts.
     parts: u32,
     made: u32,
     pub watch: Watch,
 }
 
 impl Updates {
-    /// None is made yet of those that are to be made in so many parts.
-    pub fn new(pages: Vec<u16>, parts: u32) -> Updates {
+    /// None is to be made yet.
+    pub fn new(pages: Vec<u16>) -> Updates {
         Updates {
             pages,
-            parts,
+            all: 0,
+            parts: 0,
             made: 0,
             watch: Watch::new(),
         }
     }
 
-    /// Begins to count anew.
-    pub fn restart(&mut self) {
+    /// So many are to be made next, in so many parts.
+    pub fn begin(&mut self, all: u32, parts: u32) {
+        self.all = all;
+        self.parts = parts;
         self.made = 0;
         self.watch = Watch::new();
     }
@@ -48,7 +53,7 @@ impl Updates {
         stretches: &[Stretch],
         part: u32,
     ) -> Result<(), Failure> {
-        let due = self.due(bench.options.writes, part);
+        let due = self.due(part);
         if self.made >= due {
             return Ok(());
         }
@@ -66,11 +71,11 @@ impl Updates {
     }
 
     /// How many of all updates are to be made by the end of that part.
-    fn due(&self, all: u32, part: u32) -> u32 {
+    fn due(&self, part: u32) -> u32 {
         if part >= self.parts {
-            return all;
+            return self.all;
         }
-        (u64::from(all) * (u64::from(part) + 1) / u64::from(self.parts)) as u32
+        (u64::from(self.all) * (u64::from(part) + 1) / u64::from(self.parts)) as u32
     }
 
     /// A row of any worker's pages.

@@ -15,7 +15,7 @@ pub record IsSideFile (side : SideFileValue) : Type 0 where
   pub fed_was_sent : length side.fed ≤ length side.end.sent
   pub spare : side.end.free ≤ side.end.capacity
   pub unused : side.end.capacity ≤ side.end.free + length side.end.sent
-  pub few : length side.fed + length side.left < 2 ^ 64
+  pub few : length side.fed + length side.left < 2 ^ 60
 
 -- nothing is left, and what was fed is forgotten
 abbrev pub emptied : SideFileValue → SideFileValue

@@ -10,4 +10,4 @@ pub record IsKept (capacity sent fed left room places : ℕ) : Type 0 where
   pub ring : capacity ≡ 256
   pub fed_was_sent : fed ≤ sent
   pub has_places : left + room ≤ places
-  pub countable : fed + left + room < 2 ^ 64
+  pub countable : fed + left + room < 2 ^ 60

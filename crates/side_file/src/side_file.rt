@@ -17,6 +17,9 @@ use std::marker::Model;
 /// How many entries a ring has room for, and so the most that one call feeds.
 pub const RING_ENTRIES: usize = 256;
 
+/// More entries than a side-file has between two resets, so that those of all indexes of a build can be counted together.
+const ENTRIES_END: usize = 1_152_921_504_606_846_976;
+
 /// The entries of an index that is being built. Contracts see those fed since the last reset, those left, the room for more,
 /// and this end of the ring.
 #[derive(Drop)]
@@ -94,7 +97,7 @@ impl SideFile {
     }
 
     /// Makes room for that many more entries; takes no memory where the room is there. Memory is also the answer where the
-    /// entries since the last reset would be more than `usize` counts.
+    /// entries since the last reset would come to 2^60.
     pub fn reserve(&mut self, n: usize) -> Result<(), Fault>
         ensures reserved { Answered None (Reserves n) self.old result self.new }
         ensures succeeds { n ≤ self.old.room → IsOk result }
@@ -102,7 +105,7 @@ impl SideFile {
         if n <= self.room {
             return Ok(());
         }
-        if usize::MAX - self.fed - self.left() < n {
+        if ENTRIES_END - self.fed - self.left() <= n {
             return Err(Fault::Memory);
         }
         self.left.reserve(n)?;

@@ -5,5 +5,5 @@ pub mod Images
 pub mod Layouts
 pub mod Packs
 pub mod PageValues
-pub mod PageFields
 pub mod Rooms
+pub mod PageFields

@@ -1,6 +1,6 @@
 -- A slot of a page, and lists of slots, which are numbered from 0.
 use Rattle.std.specs.Prelude.{ℕ, zero, suc, ◌+◌, ◌<◌, ◌≤◌, Bool, true, false, List, [], ◌∷◌, length, Option, Some, None}
-use Rattle.std.specs.List.{sum_by}
+use Rattle.std.specs.List.{sum_by, position_or_len}
 
 -- free, held with its reserve while a change may be taken back, or a row's bytes with their reserve
 pub data Slot : Type 0 where
@@ -35,6 +35,10 @@ abbrev pub is_free : Slot → Bool
 is_free free = true
 is_free (held reserve) = false
 is_free (row bytes reserve) = false
+
+-- the lowest free slot, or the number of slots where none is free
+abbrev pub lowest_free : List Slot → ℕ
+lowest_free slots = position_or_len is_free slots
 
 -- whether a slot is held
 abbrev pub is_held : Slot → Bool

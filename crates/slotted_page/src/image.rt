@@ -5,8 +5,8 @@
 //! has three zeros, and a held one the offset 0 with a length that no row has. The rows' bytes lie at or above the floor;
 //! what else stands behind the entries means nothing.
 
-ghost use Rattle.std.specs.Prelude.{◌≡◌, ◌+◌, ◌*◌, ◌<◌, ◌≤◌, ◌++◌, length, drop, get_or, position, IfSome, MatchOption};
-ghost use Rattle.slotted_page.specs.Slot.{free, is_free, bytes_of, IsRowSize};
+ghost use Rattle.std.specs.Prelude.{◌≡◌, ◌+◌, ◌*◌, ◌<◌, ◌≤◌, ◌++◌, length, drop, get_or, IfSome, MatchOption};
+ghost use Rattle.slotted_page.specs.Slot.{free, lowest_free, bytes_of, IsRowSize};
 ghost use Rattle.keybytes.specs.Writes.{overwritten};
 ghost use Rattle.slotted_page.specs.Image.{number_at, entry_bytes, head_bytes, image_entries, slots_in, KeepsFormat};
 
@@ -133,17 +133,19 @@ pub(crate) fn entry_in(image: &[u8; PAGE_SIZE], slot: usize) -> Entry
     }
 }
 
-/// The lowest free slot.
-pub(crate) fn first_free(image: &[u8; PAGE_SIZE]) -> Option<u16>
-    requires { KeepsFormat image.now }
-    ensures { result ≡ position is_free (slots_in image.now) }
+/// The lowest free slot, or the number of slots where none is free. No slot below `from` may be free.
+pub(crate) fn next_free(image: &[u8; PAGE_SIZE], from: u16) -> u16
+    requires format { KeepsFormat image.now }
+    requires from { from ≤ lowest_free (slots_in image.now) }
+    ensures { result ≡ lowest_free (slots_in image.now) }
 {
-    for slot in 0..image_slots(image) {
+    let count = image_slots(image);
+    for slot in from..count {
         if entry_in(image, slot as usize).is_free() {
-            return Some(slot);
+            return slot;
         }
     }
-    None
+    count
 }
 
 /// The row in a slot of a page, by a copy of it. A slot that is free, held or not on the page has none.

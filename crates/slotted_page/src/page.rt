@@ -10,7 +10,7 @@ use crate::Rows;
 use crate::area::{add_slot, store};
 use crate::entry::{Entry, MAX_ROW_SIZE};
 use crate::image::{
-    ENTRY_SIZE, HEAD_SIZE, PAGE_SIZE, entry_in, first_free, image_row, image_slots, write_at,
+    ENTRY_SIZE, HEAD_SIZE, PAGE_SIZE, entry_in, image_row, image_slots, next_free, write_at,
     write_entry, write_head,
 };
 use keybytes::Fault;
@@ -27,6 +27,8 @@ pub struct Page {
     limit: u8,
     /// The sum of all reserves.
     reserved: u16,
+    /// The lowest free slot, or the number of slots where none is free.
+    first_free: u16,
 }
 
 impl Model for Page {
@@ -38,7 +40,7 @@ impl Model for Page {
 
     ghost view = { λ p. record { slots = slots_in p.image; limit = p.limit } };
 
-    ghost invariant = { λ p. IsPage p.image p.limit p.reserved };
+    ghost invariant = { λ p. IsPage p.image p.limit p.reserved p.first_free };
 }
 
 impl Page {
@@ -57,6 +59,7 @@ impl Page {
             image,
             limit: slot_limit,
             reserved: 0,
+            first_free: 0,
         })
     }
 
@@ -151,6 +154,7 @@ impl Page {
         let reserve = entry_in(&self.image, slot as usize).reserve();
         write_entry(&mut self.image, slot as usize, Entry::Free);
         self.reserved -= reserve;
+        self.first_free = self.first_free.min(slot);
     }
 
     /// The row in a slot. A slot that is free, held or not on the page has none.
@@ -194,7 +198,7 @@ impl Page {
     {
         let slots = image_slots(&self.image);
         let reserved = self.reserved as usize + len;
-        if let Some(slot) = first_free(&self.image) {
+        if let Some(slot) = self.lowest_free() {
             return has_room(slots as usize, reserved).then_some(slot);
         }
         if slots >= self.limit as u16 {
@@ -234,6 +238,13 @@ impl Page {
         *target = self.image;
     }
 
+    /// The lowest free slot.
+    fn lowest_free(&self) -> Option<u16>
+        ensures { result ≡ position is_free self.now.slots }
+    {
+        (self.first_free < image_slots(&self.image)).then_some(self.first_free)
+    }
+
     /// The bytes that a slot has been promised.
     fn reserve(&self, slot: usize) -> u16
         requires { slot < length self.now.slots }
@@ -249,7 +260,7 @@ impl Page {
         ensures sound { IsSoundPage self.now }
     {
         let slots = image_slots(&self.image) as usize;
-        match first_free(&self.image) {
+        match self.lowest_free() {
             Some(_) => slots,
             None => slots + 1,
         }
@@ -335,6 +346,7 @@ impl Page {
         let was = entry_in(&self.image, slot).reserve();
         write_entry(&mut self.image, slot, Entry::Held { reserve });
         self.reserved = self.reserved - was + reserve;
+        self.first_free = next_free(&self.image, self.first_free);
     }
 
     /// Gives a held slot a row within its reserve.

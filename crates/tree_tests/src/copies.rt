@@ -24,6 +24,10 @@ impl<'a> Source for Copies<'a> {
 
     ghost left = { λ copies. pairs_left copies.pairs };
 
+    ghost Kept = { Unit {0} };
+
+    ghost kept = { λ _. tt };
+
     fn next(&mut self) -> Result<Option<Pair>, Fault> {
         match self.pairs.next() {
             Some(pair) => Ok(Some(Pair {

@@ -6,4 +6,4 @@ use Rattle.bulk_load.proofs.loading.load.Goals as goal
 pub push-requires : goal.push-requires
 push-requires g c =
     let at = rw c.in-Some.is at c.in_ok-pair.ensures.first in
-    ordered_front c.loop-loader.loader _ _ c.in-Some.pair c.requires (ap (λ (ps : List Pair). c.loop-loader.loader ++ ps) (sym at) ∙ c.loop-loader.invariant)
+    ordered_front c.loop-loader.loader _ _ c.in-Some.pair c.requires (ap (λ (ps : List Pair). c.loop-loader.loader ++ ps) (sym at) ∙ c.loop-loader.invariant.all)

@@ -4,48 +4,67 @@ use Rattle.run_merge.specs.Merging.{all_runs}
 use Rattle.std.proofs.Math.Seq.{map-set_same}
 use Rattle.std.proofs.lemmas.Result.{on_ok_weaker, on_err_weaker}
 use Rattle.keybytes.specs.declared.pair.Pair.{Pair}
-use Rattle.run_merge.proofs.Numbers.{together, run_at, run_set}
+use Rattle.run_merge.proofs.Numbers.{run_at, run_set}
+use Rattle.run_merge.proofs.Places.{in_spool, own_in, before_in, places_stay}
 use Rattle.run_merge.proofs.spool_runs.advance.Goals as goal
-
-pub place-spool-requires : goal.place-spool-requires
-place-spool-requires g c = subst (λ (rs : List (List Pair)). c.args.run < length rs) (together g.S.Spool.runs c.args.spools.now) c.requires.run
 
 pub free_first-requires-clause-pair : goal.free_first-requires-clause-pair
 free_first-requires-clause-pair g c =
-    let d = c.index-spools-spool.result in
-    let place = c.place-spool in
-    let at =
-    run_at g.S.Spool.runs c.args.spools.now place.result.0 place.result.1 c.args.run d place.ensures.spool (place.ensures.run d) place.ensures.before in
+    let runs = g.S.Spool.runs in
+    let spools = c.args.spools.now in
+    let d = c.index-spools-place.result in
+    let place = c.args.place in
+    let is = c.requires.place in
+    let there = in_spool runs spools c.args.run place is in
+    let own = own_in runs spools c.args.run place d is in
+    let before = before_in runs spools c.args.run place is in
+    let at = run_at runs spools place.spool place.run c.args.run d there own before in
     subst (λ (r : List Pair). 0 < length r) at c.requires.pair
 
-pub returns-clause-next : goal.returns-clause-next
-returns-clause-next g c =
-    let d = c.index-spools-spool.result in
-    let place = c.place-spool in
-    let at =
-    run_at g.S.Spool.runs c.args.spools.now place.result.0 place.result.1 c.args.run d place.ensures.spool (place.ensures.run d) place.ensures.before in
-    subst (λ (r : List Pair). IfOk c.free_first.result (λ next. next ≡ slice_get r 1)) (sym at) c.free_first.ensures.next
+pub returns-clause-second : goal.returns-clause-second
+returns-clause-second g c =
+    let runs = g.S.Spool.runs in
+    let spools = c.args.spools.now in
+    let d = c.index-spools-place.result in
+    let place = c.args.place in
+    let is = c.requires.place in
+    let there = in_spool runs spools c.args.run place is in
+    let own = own_in runs spools c.args.run place d is in
+    let before = before_in runs spools c.args.run place is in
+    let at = run_at runs spools place.spool place.run c.args.run d there own before in
+    subst (λ (r : List Pair). IfOk c.free_first.result (λ second. second ≡ slice_get r 2)) (sym at) c.free_first.ensures.second
 
 pub returns-clause-freed : goal.returns-clause-freed
 returns-clause-freed g c =
-    let d = c.index-spools-spool.result in
-    let place = c.place-spool in
-    let at =
-    run_at g.S.Spool.runs c.args.spools.now place.result.0 place.result.1 c.args.run d place.ensures.spool (place.ensures.run d) place.ensures.before in
+    let runs = g.S.Spool.runs in
+    let spools = c.args.spools.now in
+    let d = c.index-spools-place.result in
+    let place = c.args.place in
+    let is = c.requires.place in
+    let there = in_spool runs spools c.args.run place is in
+    let own = own_in runs spools c.args.run place d is in
+    let before = before_in runs spools c.args.run place is in
+    let at = run_at runs spools place.spool place.run c.args.run d there own before in
     on_ok_weaker c.free_first.result (λ freed.
-    run_set g.S.Spool.runs c.args.spools.now place.result.0 place.result.1 c.args.run d c.free_first.new.spool _ place.ensures.spool (place.ensures.run d)
-    place.ensures.before freed
+    run_set runs spools place.spool place.run c.args.run d c.free_first.new.spool _ there own before freed
     ∙ ap (λ (r : List Pair). set (all_runs (map g.S.Spool.runs c.args.spools.now)) c.args.run (drop 1 r)) (sym at)) c.free_first.ensures.freed
 
 pub returns-clause-refused : goal.returns-clause-refused
 returns-clause-refused g c =
-    on_err_weaker c.free_first.result (map-set_same g.S.Spool.runs c.args.spools.now c.place-spool.result.0 c.free_first.new.spool
-    c.index-spools-spool.result) c.free_first.ensures.refused
+    on_err_weaker c.free_first.result (map-set_same g.S.Spool.runs c.args.spools.now c.args.place.spool c.free_first.new.spool
+    c.index-spools-place.result) c.free_first.ensures.refused
 
 pub returns-clause-open_runs : goal.returns-clause-open_runs
 returns-clause-open_runs g c =
-    map-set_same g.S.Spool.open_run c.args.spools.now c.place-spool.result.0 c.free_first.new.spool c.index-spools-spool.result c.free_first.ensures.open_run
+    map-set_same g.S.Spool.open_run c.args.spools.now c.args.place.spool c.free_first.new.spool c.index-spools-place.result c.free_first.ensures.open_run
 
 pub returns-clause-stakes : goal.returns-clause-stakes
 returns-clause-stakes g c =
-    map-set_same g.S.Spool.stake c.args.spools.now c.place-spool.result.0 c.free_first.new.spool c.index-spools-spool.result c.free_first.ensures.stake
+    map-set_same g.S.Spool.stake c.args.spools.now c.args.place.spool c.free_first.new.spool c.index-spools-place.result c.free_first.ensures.stake
+
+pub returns-clause-places : goal.returns-clause-places
+returns-clause-places g c = λ n at is.
+    let runs = g.S.Spool.runs in
+    let spools = c.args.spools.now in
+    places_stay runs spools c.args.place.spool c.index-spools-place.result c.free_first.new.spool
+    (in_spool runs spools c.args.run c.args.place c.requires.place) c.free_first.ensures.count n at is

@@ -1,12 +1,27 @@
+use Rattle.std.proofs.Common.{◌<◌, arith}
+use Rattle.run_merge.proofs.Fronts.{fronts_lead}
 use Rattle.run_merge.proofs.Games.{left_wins, right_wins}
 use Rattle.run_merge.proofs.tournament.winner.Goals as goal
 
-pub returns-then-leads-clause-winner : goal.returns-then-leads-clause-winner
-returns-then-leads-clause-winner c =
-    left_wins c.args.heads.now c.args.left c.args.right c.index-heads-left.result c.index-heads-right.result c.requires.left c.requires.right
-    c.index-heads-left.is c.index-heads-right.is (c.leads-leads.ensures.leads c.if-leads.true)
+pub returns-then-front-against-2-clause-winner : goal.returns-then-front-against-2-clause-winner
+returns-then-front-against-2-clause-winner c =
+    let left = c.index-heads-left.result in
+    let right = c.index-heads-right.result in
+    let front = c.front-front.result in
+    let against = c.front-against.result in
+    let some : 0 < front = omega (arith, c.if-front-eq0.false) in
+    let other_some : 0 < against = omega (arith, c.if-against-eq0.false) in
+    let behind = fronts_lead right left against front (c.front-against.ensures other_some) (c.front-front.ensures some) c.if-front-against-2.true in
+    left_wins c.args.heads.now c.args.left c.args.right left right c.requires.left c.requires.right c.index-heads-left.is c.index-heads-right.is behind
 
-pub returns-else-leads-clause-winner : goal.returns-else-leads-clause-winner
-returns-else-leads-clause-winner c =
-    right_wins c.args.heads.now c.args.left c.args.right c.index-heads-left.result c.index-heads-right.result c.requires.left c.requires.right
-    c.index-heads-left.is c.index-heads-right.is (c.leads-leads.ensures.follows c.if-leads.false)
+pub returns-else-front-against-2-clause-winner : goal.returns-else-front-against-2-clause-winner
+returns-else-front-against-2-clause-winner c =
+    let left = c.index-heads-left.result in
+    let right = c.index-heads-right.result in
+    let front = c.front-front.result in
+    let against = c.front-against.result in
+    let some : 0 < front = omega (arith, c.if-front-eq0.false) in
+    let other_some : 0 < against = omega (arith, c.if-against-eq0.false) in
+    let above : against < front = omega (arith, c.if-front-against.false, c.if-front-against-2.false) in
+    let behind = fronts_lead left right front against (c.front-front.ensures some) (c.front-against.ensures other_some) above in
+    right_wins c.args.heads.now c.args.left c.args.right left right c.requires.left c.requires.right c.index-heads-left.is c.index-heads-right.is behind

@@ -12,7 +12,7 @@ returns g c =
     let building : BuildingValue = c.self.inside.building in
     let runs : IsSome live.state.build = c.in_ok-abandon.ensures.accepted in
     let given : building.given ≡ true =
-    given_to live.state.heap.schema live.state.heap.log live.pages live.side building live.state.build building.work c.self.invariant.work c.self.invariant.workers runs in
+    given_to live.state.heap.schema live.state.heap.log live.pages live.sides building live.state.build building.work c.self.invariant.work c.self.invariant.workers runs in
     let ended = ended_stakes building (map ended_spool building.spools) given refl in (
       builds_on c.args.self.now.live.build (subst (λ (s : CoreState). IsSome s.live.build) c.self.view_is runs),
       (

@@ -1,83 +1,76 @@
-use Rattle.std.proofs.Common.{◌<◌, ◌∙◌, subst}
-use Rattle.builder_core.specs.Builds.{LiveValue, BuildingValue, core_state}
-use Rattle.builder_core.specs.CoreState.{CoreState}
-use Rattle.builder_core.proofs.ApplyCauses.{applies_next}
-use Rattle.builder_core.proofs.CatchingUp.{OneFurther, no_further, catches_up, runs_on, applies_on, fed_further, applied_further, some_further, fewer_left, left_of, left_seen}
-use Rattle.builder_core.proofs.Feeding.{state_side_looked, works_side_looked}
+use Rattle.std.proofs.Common.{◌≡◌, ◌<◌, ◌+◌, ◌∙◌, ℕ, length, map, refl, sym, ap, subst, arith, inl, inr, None, Some, Option}
+use Rattle.std.proofs.lemmas.Bool.{cases_lt}
+use Rattle.std.proofs.lemmas.Option.{same_Some}
+use Rattle.building.specs.TakeEnd.{take_end}
+use Rattle.builder_core.specs.Builds.{LiveValue, BuildingValue, BuildFollows, WorksOn, core_state}
+use Rattle.builder_core.specs.CatchingUp.{IndexIsFurther, left_at}
+use Rattle.builder_core.specs.CoreState.{CoreState, BuildState}
+use Rattle.builder_core.proofs.CatchingUp.{AllAreFurther, begins, catches_up, all_further, others_left, may_apply_at, none_left}
 use Rattle.builder_core.proofs.live.Live.catch_up.Goals as goal
 
-pub loop-self-init : goal.loop-self-init
-loop-self-init g c =
-    let live : LiveValue = c.args.self.now in
-    let building : BuildingValue = c.args.building.now in
-    let looked = c.look_at_side in
-    let state = state_side_looked live looked.new.self building looked.new.building looked.ensures.looked in
-    let next = applies_next live looked.new.self building looked.new.building looked.result 256 looked.ensures.follows c.requires.works c.requires.runs
-    looked.ensures.looked looked.ensures.sees looked.ensures.fed in
+pub loop-index-init : goal.loop-index-init
+loop-index-init g c =
+    let eight : length c.args.building.now.sides ≡ 8 = ap (λ (b : BuildingValue). length b.sides) (sym c.building.view_is) ∙ c.building.invariant.0.eight in
     record {
-      further = subst (λ (s : CoreState). OneFurther s (core_state looked.new.self looked.new.building)) state
-          (no_further looked.new.self looked.new.building next.may.build next.may.work next.may.runs next.fed);
-      works = works_side_looked live looked.new.self building looked.new.building looked.ensures.looked c.requires.works;
+      further = begins c.args.self.now c.args.building.now c.in-Some.build.now c.in-Some.ensures.build c.requires.works c.in-Some.ensures.follows c.in-Some.ensures.fed
+          c.in-Some.ensures.sides eight;
+      none = λ k less. absurd (omega (arith, less));
+      works = c.requires.works;
     }
 
-pub unapplied-requires-clause-works : goal.unapplied-requires-clause-works
-unapplied-requires-clause-works g c = c.loop-self.invariant.works
+pub catch_up_one-requires-clause-works : goal.catch_up_one-requires-clause-works
+catch_up_one-requires-clause-works g c = c.loop-index.invariant.works
 
-pub unapplied-requires-clause-runs : goal.unapplied-requires-clause-runs
-unapplied-requires-clause-runs g c =
-    runs_on (core_state c.args.self.now c.args.building.now) (core_state c.loop-self.self c.loop-self.building) c.loop-self.invariant.further
+pub catch_up_one-requires-clause-few : goal.catch_up_one-requires-clause-few
+catch_up_one-requires-clause-few g c =
+    let follows = subst (BuildFollows c.args.self.now.state.heap.schema c.args.self.now.state.heap.log) c.in-Some.ensures.build c.in-Some.ensures.follows in
+    omega (arith, c.loop-index-test.true, c.indexes-index-end.ensures, follows.few_indexes)
 
-pub feed_beside-requires : goal.feed_beside-requires
-feed_beside-requires g c = c.loop-self.invariant.works
-
-pub apply-requires-clause-runs : goal.apply-requires-clause-runs
-apply-requires-clause-runs g c =
+pub catch_up_one-requires-clause-runs : goal.catch_up_one-requires-clause-runs
+catch_up_one-requires-clause-runs g c =
     let start = core_state c.args.self.now c.args.building.now in
-    let fed = core_state c.feed_beside.new.self c.feed_beside.new.building in
-    let further = fed_further start (core_state c.loop-self.self c.loop-self.building) fed 256 c.in-Ok._moved c.loop-self.invariant.further c.in-Ok.ensures.fed in
-    applies_on start fed 256 further ∙ c.requires.runs
+    let now = core_state c.loop-index.self c.loop-index.building in
+    may_apply_at start now c.loop-index.invariant.further c.in-Some.build.now c.in-Some.ensures.build c.requires.runs c.loop-index.index
+    (omega (arith, c.loop-index-test.true, c.indexes-index-end.ensures))
 
-pub loop-self-smaller : goal.loop-self-smaller
-loop-self-smaller g c =
-    let mid = core_state c.loop-self.self c.loop-self.building in
-    let some : 0 < left_of mid = subst (λ n. 0 < n) (left_seen mid c.unapplied.result c.unapplied.ensures) c.loop-self-test.true in
-    fewer_left (core_state c.args.self.now c.args.building.now) mid (core_state c.feed_beside.new.self c.feed_beside.new.building)
-    (core_state c.apply.new.self c.apply.new.building) c.in-Ok._moved c.in_ok-apply.field-0 c.loop-self.invariant.further some c.in-Ok.ensures.fed
-    c.in_ok-apply.ensures.applied
-
-pub loop-self-preserved : goal.loop-self-preserved
-loop-self-preserved g c =
+pub loop-index-preserved : goal.loop-index-preserved
+loop-index-preserved g c =
     let start = core_state c.args.self.now c.args.building.now in
-    let fed = core_state c.feed_beside.new.self c.feed_beside.new.building in
-    let further = fed_further start (core_state c.loop-self.self c.loop-self.building) fed 256 c.in-Ok._moved c.loop-self.invariant.further c.in-Ok.ensures.fed in
+    let mid = core_state c.loop-index.self c.loop-index.building in
+    let new = core_state c.catch_up_one.new.self c.catch_up_one.new.building in
+    let one = c.catch_up_one.ensures.further in
     record {
-      further = applied_further start fed (core_state c.apply.new.self c.apply.new.building) 256 c.in_ok-apply.field-0 further c.in_ok-apply.ensures.applied;
-      works = c.in_ok-apply.ensures.works;
+      further = all_further c.loop-index.index start mid new c.loop-index.invariant.further one;
+      none = λ k less. elim (cases_lt k c.loop-index.index) [
+        | inl before ↦
+            others_left c.loop-index.index start mid new c.loop-index.invariant.further one k (λ same. omega (arith, same, before)) ∙ c.loop-index.invariant.none k before
+        | inr after ↦
+            let same : c.loop-index.index ≡ k = omega (arith, less, after) in
+            subst (λ i. left_at i new ≡ 0) same c.in_ok-catch_up_one.ensures.all
+      ];
+      works = c.catch_up_one.ensures.works;
     }
 
-pub returns-in_err-apply-clause-further : goal.returns-in_err-apply-clause-further
-returns-in_err-apply-clause-further g c =
+pub returns-in_err-catch_up_one-clause-further : goal.returns-in_err-catch_up_one-clause-further
+returns-in_err-catch_up_one-clause-further g c =
     let start = core_state c.args.self.now c.args.building.now in
-    let fed = core_state c.feed_beside.new.self c.feed_beside.new.building in
-    let further = fed_further start (core_state c.loop-self.self c.loop-self.building) fed 256 c.in-Ok._moved c.loop-self.invariant.further c.in-Ok.ensures.fed in
-    catches_up start (core_state c.apply.new.self c.apply.new.building)
-    (some_further start fed (core_state c.apply.new.self c.apply.new.building) 256 further c.in_err-apply.ensures.some)
+    let mid = core_state c.loop-index.self c.loop-index.building in
+    let new = core_state c.catch_up_one.new.self c.catch_up_one.new.building in
+    catches_up start new (all_further c.loop-index.index start mid new c.loop-index.invariant.further c.catch_up_one.ensures.further)
 
 pub returns-clause-further : goal.returns-clause-further
 returns-clause-further g c =
-    catches_up (core_state c.args.self.now c.args.building.now) (core_state c.loop-self.self c.loop-self.building) c.loop-self.invariant.further
+    catches_up (core_state c.args.self.now c.args.building.now) (core_state c.loop-index.self c.loop-index.building) c.loop-index.invariant.further
+
+pub returns-clause-all : goal.returns-clause-all
+returns-clause-all g c =
+    let start = core_state c.args.self.now c.args.building.now in
+    let now = core_state c.loop-index.self c.loop-index.building in
+    let all = c.loop-index.invariant.further in
+    let same : all.build ≡ c.in-Some.build.now = same_Some all.build c.in-Some.build.now (sym all.runs ∙ c.in-Some.ensures.build) in
+    none_left start now all (λ k less.
+    c.loop-index.invariant.none k (let there : k < length c.in-Some.build.now.specs = subst (λ (b : BuildState). k < length b.specs) same less in
+    omega (arith, there, c.indexes-index-end.ensures, c.loop-index-test.false)))
 
 pub returns-clause-works : goal.returns-clause-works
-returns-clause-works g c = c.loop-self.invariant.works
-
-pub returns-in_err-apply-clause-still : goal.returns-in_err-apply-clause-still
-returns-in_err-apply-clause-still g c =
-    let start = core_state c.args.self.now c.args.building.now in
-    let fed = core_state c.feed_beside.new.self c.feed_beside.new.building in
-    let further = fed_further start (core_state c.loop-self.self c.loop-self.building) fed 256 c.in-Ok._moved c.loop-self.invariant.further c.in-Ok.ensures.fed in
-    applies_on start (core_state c.apply.new.self c.apply.new.building) 256
-    (some_further start fed (core_state c.apply.new.self c.apply.new.building) 256 further c.in_err-apply.ensures.some) ∙ c.requires.runs
-
-pub returns-clause-still : goal.returns-clause-still
-returns-clause-still g c =
-    applies_on (core_state c.args.self.now c.args.building.now) (core_state c.loop-self.self c.loop-self.building) 256 c.loop-self.invariant.further ∙ c.requires.runs
+returns-clause-works g c = c.loop-index.invariant.works

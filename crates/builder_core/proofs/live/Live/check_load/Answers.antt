@@ -29,10 +29,10 @@ returns-in-Some-look_for_loud-clause-refused g c =
     λ work. (worker < c.workers-count.result) × AreDone worker (all_sent live.pages) building.workers work.makers
     × IsUnfinished worker (all_sent live.pages) building.workers work.makers in
     let loud : Loud w = subst (λ (o : Option WorkValue). IfSome o Loud) c.in-Some-Some.ensures' c.in-Some-look_for_loud.ensures.loud in
-    let there : 0 < length b.specs = let one = ap length run.follows.one_index in omega (arith, one) in
+    let there : c.args.index < length b.specs = omega (arith, c.if-index-indexes.false, c.indexes.ensures) in
     let cause = load_loud live building b w run c.in_ok-check.ensures (put_of live b run.build_is c.look_for_loud.ensures.put) c.look_for_loud.ensures.pages
-    c.look_for_loud.ensures.workers 0 worker there all (omega (arith, loud.0, c.workers-count.ensures)) loud.1 loud.2 in
-    rw c.if-index-ne0.false (subst (λ (s : CoreState). build_cause s.live.build (λ x. load_refusal x s 0) ≡ Some (NotSealed worker)) same cause)
+    c.look_for_loud.ensures.workers c.args.index worker there all (omega (arith, loud.0, c.workers-count.ensures)) loud.1 loud.2 in
+    subst (λ (s : CoreState). build_cause s.live.build (λ x. load_refusal x s c.args.index) ≡ Some (NotSealed worker)) same cause
 
 pub returns-in-Some-look_for_loud-clause-state : goal.returns-in-Some-look_for_loud-clause-state
 returns-in-Some-look_for_loud-clause-state g c = state_looked _ _ _ _ c.look_for_loud.ensures.looked
@@ -56,10 +56,10 @@ returns-in-None-clause-accepted g c =
     let quiet = subst (λ (n : ℕ). AreDone n (all_sent live.pages) building.workers w.makers) c.workers-count.ensures
     (subst (λ (o : Option WorkValue). IfSome o (λ work. AreDone c.workers-count.result (all_sent live.pages) building.workers work.makers)) c.in-Some-Some.ensures'
     c.in-None.ensures.loud) in
-    let there : 0 < length b.specs = let one = ap length run.follows.one_index in omega (arith, one) in
+    let there : c.args.index < length b.specs = omega (arith, c.if-index-indexes.false, c.indexes.ensures) in
     let cause = load_free live building b w run c.in_ok-check.ensures (put_of live b run.build_is c.look_for_loud.ensures.put) c.look_for_loud.ensures.pages
-    c.look_for_loud.ensures.workers 0 there all quiet in
-    rw c.if-index-ne0.false (subst (λ (s : CoreState). build_cause s.live.build (λ x. load_refusal x s 0) ≡ None) same cause)
+    c.look_for_loud.ensures.workers c.args.index there all quiet in
+    subst (λ (s : CoreState). build_cause s.live.build (λ x. load_refusal x s c.args.index) ≡ None) same cause
 
 pub returns-in-None-clause-state : goal.returns-in-None-clause-state
 returns-in-None-clause-state g c = state_looked _ _ _ _ c.look_for_loud.ensures.looked
@@ -82,7 +82,7 @@ returns-in-None-clause-runs g c =
       work = w;
       runs = runs_looked old live before building b w looked was;
       fine = c.in_ok-check.ensures;
-      only = c.if-index-ne0.false;
+      there = let specs = ap length was.on.specs in omega (arith, c.if-index-indexes.false, c.indexes.ensures, specs);
       all = search rules;
       quiet = subst (λ (n : ℕ). AreDone n (all_sent live.pages) building.workers w.makers) c.workers-count.ensures
           (subst (λ (o : Option WorkValue). IfSome o (λ work. AreDone c.workers-count.result (all_sent live.pages) building.workers work.makers)) c.in-Some-Some.ensures'

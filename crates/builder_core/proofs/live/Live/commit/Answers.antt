@@ -2,7 +2,7 @@ use Rattle.std.proofs.Common.{sym, subst}
 use Rattle.heap_table.specs.HeapState.{HeapState}
 use Rattle.builder_core.specs.Builds.{LiveValue, WorksOn}
 use Rattle.builder_core.specs.Rings.{all_sent}
-use Rattle.builder_core.proofs.Following.{committed, commit_follows, commit_indexes, commit_pages, commit_side, commit_works}
+use Rattle.builder_core.proofs.Following.{committed, commit_follows, commit_indexes, commit_pages, commit_sides, commit_works}
 use Rattle.builder_core.proofs.live.Live.commit.Goals as goal
 
 pub invariant_of-self : goal.invariant_of-self
@@ -12,7 +12,7 @@ invariant_of-self g c =
     let done = committed old.heap c.commit.new.self c.args.txn c.commit.result c.commit.ensures.committed in (
       commit_indexes old.heap.state new c.args.txn old.ready.items done c.commit.ensures.rows c.self.invariant.0,
       commit_follows old.heap.state new c.args.txn old.build done c.self.invariant.1,
-      commit_side old.heap.state new c.args.txn old.build old.side done c.self.invariant.1 c.self.invariant.2,
+      commit_sides old.heap.state new c.args.txn old.build old.sides.items done c.self.invariant.1 c.self.invariant.2,
       commit_pages old.heap.state new c.args.txn old.builds old.build (all_sent old.pages.items) done c.self.invariant.1 c.self.invariant.3,
       c.self.invariant.4,
       c.self.invariant.5,

@@ -1,59 +1,169 @@
-use Rattle.std.proofs.Common.{ℕ, [], ◌∷◌, Option, Some, sym, ap, ◌∙◌, subst}
-use Rattle.side_file.specs.Ends.{RingId}
+use Rattle.std.proofs.Common.{ℕ, ◌+◌, ◌<◌, ◌≤◌, List, length, set, min, Option, Some, None, ◌≡◌, refl, sym, ap, ◌∙◌, subst, arith}
+use Rattle.std.proofs.lemmas.List.{length-map, map-set}
+use Rattle.std.proofs.lemmas.Option.{same_Some}
+use Rattle.std.specs.List.{slice_get}
+use Rattle.keybytes.specs.Keys.{KeySpecValue}
 use Rattle.heap_table.specs.HeapState.{HeapState}
-use Rattle.builder_core.specs.Builds.{LiveValue, IsBuildOf, IsWorkOf, BuildFollows, WorkersFollow, WorksOn}
+use Rattle.side_file.specs.Ends.{PutEnd}
+use Rattle.side_file.specs.SideFileValue.{SideFileValue}
+use Rattle.side_file.specs.declared.entry.Entry.{Entry}
+use Rattle.builder_core.specs.Builds.{LiveValue, IsBuildOf, IsWorkOf, BuildFollows, WorkersFollow, WorksOn, HasFed}
 use Rattle.builder_core.specs.CoreState.{BuildState}
 use Rattle.builder_core.specs.Rings.{all_sent, HasPut, PagesFollow}
-use Rattle.builder_core.specs.SideFiles.{HasEntries, SideFollows}
-use Rattle.builder_core.proofs.Feeding.{entries_fed, fed_countable, follow_fed, build_fed, work_fed}
+use Rattle.builder_core.specs.SideFiles.{HasEntries, HaveEntries, SidesFollow, put_ends}
+use Rattle.side_file.specs.Changes.{feed_most}
+use Rattle.builder_core.specs.Steps.{after_feed}
+use Rattle.builder_core.specs.Workers.{unfed}
+use Rattle.builder_core.proofs.Feeding.{left_unfed, fed_countable, follow_fed, build_fed, work_fed, sides_fed}
+use Rattle.builder_core.proofs.Places.{at_index, map_at, there_is}
+use Rattle.builder_core.proofs.SideEnds.{put_ends_stay, eight_sides}
 use Rattle.builder_core.proofs.live.Live.feed.Goals as goal
 
-pub invariant_of-self-2 : goal.invariant_of-self-2
-invariant_of-self-2 g c =
+pub note_fed-requires-clause-countable : goal.note_fed-requires-clause-countable
+note_fed-requires-clause-countable g c =
     let inside = c.self.inside in
     let heap : HeapState = inside.heap.state in
     let b : BuildState = c.in-Some.build in
+    let sides : List SideFileValue = inside.sides.items in
+    let old : SideFileValue = c.index_mut-side.result.now in
+    let new : SideFileValue = c.feed-count.new.self in
     let count : ℕ = c.feed-count.result in
     let fed = c.feed-count.ensures in
-    let has : HasEntries heap.log b inside.side = subst (λ o. SideFollows heap.log o inside.side) c.in-Some.is c.self.invariant.2 in
+    let same : c.in_ok-build_with.field-0.now ≡ b =
+    same_Some c.in_ok-build_with.field-0.now b
+    (sym c.in_ok-build_with.ensures.ok ∙ ap (λ (l : LiveValue). l.state.build) (sym c.self.view_is) ∙ c.in-Some.is) in
+    let less : c.args.index < length b.specs = subst (λ (x : BuildState). c.args.index < length x.specs) same c.in_ok-build_with.ensures.there in
     let follows : IsBuildOf heap.schema heap.log b = subst (BuildFollows heap.schema heap.log) c.in-Some.is c.self.invariant.1 in
+    let many = follows.fed_many in
+    let counted : c.args.index < length b.fed = omega (arith, less, many) in
+    let eight = eight_sides _ _ _ sides c.self.invariant.5 in
+    let few = follows.few_indexes in
+    let there : slice_get sides c.args.index ≡ Some old = at_index sides c.args.index old c.index_mut-side.ensures.value (omega (arith, less, few, eight)) in
+    let spec = there_is b.specs c.args.index less in
+    let has : HaveEntries heap.log b sides = subst (λ o. SidesFollow heap.log o sides) c.in-Some.is c.self.invariant.2 in
+    let its : HasEntries heap.log b c.args.index spec.0 old = has c.args.index spec.0 old spec.1 there in
+    fed_countable heap.log b c.args.index spec.0 counted old new count c.args.most its fed.fed fed.most fed.all c.laws.ensures
+
+pub invariant_of-self : goal.invariant_of-self
+invariant_of-self g c =
+    let inside = c.self.inside in
+    let heap : HeapState = inside.heap.state in
+    let b : BuildState = c.in-Some.build in
+    let sides : List SideFileValue = inside.sides.items in
+    let old : SideFileValue = c.index_mut-side.result.now in
+    let new : SideFileValue = c.feed-count.new.self in
+    let count : ℕ = c.feed-count.result in
+    let fed = c.feed-count.ensures in
+    let same : c.in_ok-build_with.field-0.now ≡ b =
+    same_Some c.in_ok-build_with.field-0.now b
+    (sym c.in_ok-build_with.ensures.ok ∙ ap (λ (l : LiveValue). l.state.build) (sym c.self.view_is) ∙ c.in-Some.is) in
+    let less : c.args.index < length b.specs = subst (λ (x : BuildState). c.args.index < length x.specs) same c.in_ok-build_with.ensures.there in
+    let follows : IsBuildOf heap.schema heap.log b = subst (BuildFollows heap.schema heap.log) c.in-Some.is c.self.invariant.1 in
+    let many = follows.fed_many in
+    let counted : c.args.index < length b.fed = omega (arith, less, many) in
+    let eight = eight_sides _ _ _ sides c.self.invariant.5 in
+    let few = follows.few_indexes in
+    let there : slice_get sides c.args.index ≡ Some old = at_index sides c.args.index old c.index_mut-side.ensures.value (omega (arith, less, few, eight)) in
+    let spec = there_is b.specs c.args.index less in
+    let has : HaveEntries heap.log b sides = subst (λ o. SidesFollow heap.log o sides) c.in-Some.is c.self.invariant.2 in
+    let its : HasEntries heap.log b c.args.index spec.0 old = has c.args.index spec.0 old spec.1 there in
     let put : HasPut heap.schema heap.log inside.builds b (all_sent inside.pages.items) =
-    subst (λ (o : Option BuildState). PagesFollow heap.schema heap.log inside.builds o (all_sent inside.pages.items)) c.in-Some.is c.self.invariant.3 in
-    let ends = c.self.invariant.5 in (
+    subst (λ (o : Option BuildState). PagesFollow heap.schema heap.log inside.builds o (all_sent inside.pages.items)) c.in-Some.is c.self.invariant.3 in (
       c.self.invariant.0,
-      subst (IsBuildOf heap.schema heap.log) (sym c.note_fed.ensures) (build_fed heap.schema heap.log b count follows),
-      subst (λ (x : BuildState). HasEntries heap.log x c.feed-count.new.self) (sym c.note_fed.ensures)
-          (entries_fed heap.log b inside.side c.feed-count.new.self count c.args.most has fed.fed fed.most fed.all),
+      subst (IsBuildOf heap.schema heap.log) (sym c.note_fed.ensures) (build_fed heap.schema heap.log b c.args.index count follows),
+      subst (λ (x : BuildState). HaveEntries heap.log x (set sides c.args.index new)) (sym c.note_fed.ensures)
+          (sides_fed heap.log b c.args.index sides old new count c.args.most counted there has fed.fed fed.most fed.all),
       subst (λ (x : BuildState). HasPut heap.schema heap.log inside.builds x (all_sent inside.pages.items)) (sym c.note_fed.ensures)
           (record { number = put.number; put = put.put }),
       c.self.invariant.4,
-      record { pages_are = ends.pages_are; side_is = ap (λ (r : RingId). r ∷ []) fed.fed.ring ∙ ends.side_is; sixteen = ends.sixteen },
+      put_ends_stay _ _ _ sides c.args.index old new c.self.invariant.5 c.index_mut-side.ensures.value fed.fed.ring,
     )
+
+pub returns-clause-fed : goal.returns-clause-fed
+returns-clause-fed g c =
+    let inside = c.self.inside in
+    let heap : HeapState = inside.heap.state in
+    let b : BuildState = c.in-Some.build in
+    let sides : List SideFileValue = inside.sides.items in
+    let old : SideFileValue = c.index_mut-side.result.now in
+    let new : SideFileValue = c.feed-count.new.self in
+    let count : ℕ = c.feed-count.result in
+    let fed = c.feed-count.ensures in
+    let same : c.in_ok-build_with.field-0.now ≡ b =
+    same_Some c.in_ok-build_with.field-0.now b
+    (sym c.in_ok-build_with.ensures.ok ∙ ap (λ (l : LiveValue). l.state.build) (sym c.self.view_is) ∙ c.in-Some.is) in
+    let less : c.args.index < length b.specs = subst (λ (x : BuildState). c.args.index < length x.specs) same c.in_ok-build_with.ensures.there in
+    let follows : IsBuildOf heap.schema heap.log b = subst (BuildFollows heap.schema heap.log) c.in-Some.is c.self.invariant.1 in
+    let many = follows.fed_many in
+    let counted : c.args.index < length b.fed = omega (arith, less, many) in
+    let eight = eight_sides _ _ _ sides c.self.invariant.5 in
+    let few = follows.few_indexes in
+    let there : slice_get sides c.args.index ≡ Some old = at_index sides c.args.index old c.index_mut-side.ensures.value (omega (arith, less, few, eight)) in
+    let spec = there_is b.specs c.args.index less in
+    let has : HaveEntries heap.log b sides = subst (λ o. SidesFollow heap.log o sides) c.in-Some.is c.self.invariant.2 in
+    let its : HasEntries heap.log b c.args.index spec.0 old = has c.args.index spec.0 old spec.1 there in
+    let unfed_is : unfed b heap.log c.args.index (slice_get b.specs c.args.index) ≡ length old.left = left_unfed heap.log b c.args.index spec.0 old spec.1 its in
+    let most_is : min c.args.most (min 256 (unfed b heap.log c.args.index (slice_get b.specs c.args.index))) ≡ feed_most c.args.most old =
+    ap (λ n. min c.args.most (min 256 n)) unfed_is in
+    let Fed : ℕ → Type 0 = λ n.
+    (count ≤ n) × (n ≤ old.end.free → count ≡ n) × (n + length old.end.sent ≤ 256 → count ≡ n) × (count < n → new.end.free ≡ 0) in
+    let all : Fed (min c.args.most (min 256 (unfed b heap.log c.args.index (slice_get b.specs c.args.index)))) =
+    subst Fed (sym most_is) (fed.most, fed.exact, λ small. fed.first (omega (arith, small, c.laws.ensures.capacity, fed.fed.capacity)), fed.stops) in
+    let after : LiveValue = record {
+      state = record { heap = heap; ready = inside.ready.items; builds = inside.builds; build = Some c.note_fed.new.self };
+      pages = inside.pages.items;
+      sides = put_ends (set sides c.args.index new);
+    } in
+    subst (λ (l : LiveValue). HasFed c.args.index c.args.most l count after) c.self.view_is (record {
+      build = b;
+      runs = c.in-Some.is;
+      within = all.0;
+      put = old.end;
+      there = map_at (λ (s : SideFileValue). s.end) sides c.args.index old there;
+      exact = all.1;
+      first = all.2;
+      after = new.end;
+      stops = all.3;
+      others = map-set (λ (s : SideFileValue). s.end) sides c.args.index new;
+      left = ap (λ (x : BuildState). record { heap = heap; ready = inside.ready.items; builds = inside.builds; build = Some x }) c.note_fed.ensures;
+      pages = refl;
+    })
 
 pub returns-clause-works : goal.returns-clause-works
 returns-clause-works g c = λ building works.
     let inside = c.self.inside in
     let heap : HeapState = inside.heap.state in
     let b : BuildState = c.in-Some.build in
+    let sides : List SideFileValue = inside.sides.items in
+    let old : SideFileValue = c.index_mut-side.result.now in
+    let new : SideFileValue = c.feed-count.new.self in
     let count : ℕ = c.feed-count.result in
     let fed = c.feed-count.ensures in
-    let has : HasEntries heap.log b inside.side = subst (λ o. SideFollows heap.log o inside.side) c.in-Some.is c.self.invariant.2 in
+    let same : c.in_ok-build_with.field-0.now ≡ b =
+    same_Some c.in_ok-build_with.field-0.now b
+    (sym c.in_ok-build_with.ensures.ok ∙ ap (λ (l : LiveValue). l.state.build) (sym c.self.view_is) ∙ c.in-Some.is) in
+    let less : c.args.index < length b.specs = subst (λ (x : BuildState). c.args.index < length x.specs) same c.in_ok-build_with.ensures.there in
+    let follows : IsBuildOf heap.schema heap.log b = subst (BuildFollows heap.schema heap.log) c.in-Some.is c.self.invariant.1 in
+    let many = follows.fed_many in
+    let counted : c.args.index < length b.fed = omega (arith, less, many) in
+    let eight = eight_sides _ _ _ sides c.self.invariant.5 in
+    let few = follows.few_indexes in
+    let there : slice_get sides c.args.index ≡ Some old = at_index sides c.args.index old c.index_mut-side.ensures.value (omega (arith, less, few, eight)) in
+    let spec = there_is b.specs c.args.index less in
+    let has : HaveEntries heap.log b sides = subst (λ o. SidesFollow heap.log o sides) c.in-Some.is c.self.invariant.2 in
+    let its : HasEntries heap.log b c.args.index spec.0 old = has c.args.index spec.0 old spec.1 there in
     let before = subst (λ (l : LiveValue). WorksOn l building) (sym c.self.view_is) works in
-    let countable = fed_countable heap.log b inside.side c.feed-count.new.self count c.args.most has fed.fed fed.most fed.all c.laws.ensures in
+    let countable = fed_countable heap.log b c.args.index spec.0 counted old new count c.args.most its fed.fed fed.most fed.all c.laws.ensures in
+    let puts : List (PutEnd Entry) = put_ends sides in
     record {
       work = subst (λ (x : BuildState). IsWorkOf heap.schema heap.log (Some x) building.work) (sym c.note_fed.ensures)
-          (work_fed heap.schema heap.log b count building.work
+          (work_fed heap.schema heap.log b c.args.index count building.work
           (subst (λ (o : Option BuildState). IsWorkOf heap.schema heap.log o building.work) c.in-Some.is before.work));
-      workers = subst (λ (x : BuildState). WorkersFollow inside.pages.items c.feed-count.new.self.end building (Some x) building.work) (sym c.note_fed.ensures)
-          (follow_fed heap.log b inside.side c.feed-count.new.self count c.args.most has fed.fed fed.most fed.all inside.pages.items building building.work countable
-          (subst (λ (o : Option BuildState). WorkersFollow inside.pages.items inside.side.end building o building.work) c.in-Some.is before.workers));
+      workers =
+          subst (λ (x : BuildState). WorkersFollow inside.pages.items (put_ends (set sides c.args.index new)) building (Some x) building.work) (sym c.note_fed.ensures)
+          (subst (λ (ps : List (PutEnd Entry)). WorkersFollow inside.pages.items ps building (Some (after_feed b c.args.index count)) building.work)
+          (sym (map-set (λ (s : SideFileValue). s.end) sides c.args.index new))
+          (follow_fed heap.log b c.args.index spec.0 counted old new count c.args.most its fed.fed fed.most fed.all inside.pages.items puts building building.work
+          (map_at (λ (s : SideFileValue). s.end) sides c.args.index old there) countable
+          (subst (λ (o : Option BuildState). WorkersFollow inside.pages.items puts building o building.work) c.in-Some.is before.workers)));
     }
-
-pub note_fed-requires : goal.note_fed-requires
-note_fed-requires g c =
-    let inside = c.self.inside in
-    let heap : HeapState = inside.heap.state in
-    let b : BuildState = c.in-Some.build in
-    let fed = c.feed-count.ensures in
-    let has : HasEntries heap.log b inside.side = subst (λ o. SideFollows heap.log o inside.side) c.in-Some.is c.self.invariant.2 in
-    fed_countable heap.log b inside.side c.feed-count.new.self c.feed-count.result c.args.most has fed.fed fed.most fed.all c.laws.ensures

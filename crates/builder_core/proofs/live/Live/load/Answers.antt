@@ -15,8 +15,7 @@ load-requires g c =
     let put = put_inside _ live may.build c.self.view_is may.runs.build_is c.self.invariant.3 in
     let rings : length live.pages ≡ 16 = sym (ap (λ (l : LiveValue). length l.pages) c.self.view_is) ∙ c.self.invariant.5.sixteen in
     let sixteen : length building.workers ≡ 16 = sym (ap (λ (v : BuildingValue). length v.workers) c.building.view_is) ∙ c.building.invariant.0.sixteen in
-    let there : c.args.index < length may.work.specs = let one = ap length (sym may.runs.on.specs ∙ may.runs.follows.one_index) in omega (arith, one, may.only) in
-    can_load live building may.build may.work may.runs may.fine put rings sixteen may.quiet may.all c.args.index there
+    can_load live building may.build may.work may.runs may.fine put rings sixteen may.quiet may.all c.args.index may.there
 
 pub returns-clause-loaded : goal.returns-clause-loaded
 returns-clause-loaded g c =
@@ -26,9 +25,8 @@ returns-clause-loaded g c =
     let put = put_inside _ live may.build c.self.view_is may.runs.build_is c.self.invariant.3 in
     let rings : length live.pages ≡ 16 = sym (ap (λ (l : LiveValue). length l.pages) c.self.view_is) ∙ c.self.invariant.5.sixteen in
     let sixteen : length building.workers ≡ 16 = sym (ap (λ (v : BuildingValue). length v.workers) c.building.view_is) ∙ c.building.invariant.0.sixteen in
-    subst (λ (i : ℕ). IfOk c.load.result (λ pairs. Loads i (core_state live building) pairs (core_state live c.load.new.self))) (sym may.only)
-    (loads_after live building may.build may.work may.runs may.fine put rings sixteen may.quiet may.all c.load.new.self c.load.result
-    (subst (λ (i : ℕ). IfOk c.load.result (λ count. HasLoaded i building count c.load.new.self)) may.only c.load.ensures.loaded))
+    loads_after live building may.build may.work may.runs may.fine put rings sixteen may.quiet may.all c.args.index may.there c.load.new.self c.load.result
+    c.load.ensures.loaded
 
 pub returns-clause-works : goal.returns-clause-works
 returns-clause-works g c =
@@ -38,8 +36,8 @@ returns-clause-works g c =
     let put = put_inside _ live may.build c.self.view_is may.runs.build_is c.self.invariant.3 in
     let rings : length live.pages ≡ 16 = sym (ap (λ (l : LiveValue). length l.pages) c.self.view_is) ∙ c.self.invariant.5.sixteen in
     let sixteen : length building.workers ≡ 16 = sym (ap (λ (v : BuildingValue). length v.workers) c.building.view_is) ∙ c.building.invariant.0.sixteen in
-    works_after_load live building may.build may.work may.runs may.fine put rings sixteen may.quiet may.all c.load.new.self c.load.result
-    (subst (λ (i : ℕ). IfOk c.load.result (λ count. HasLoaded i building count c.load.new.self)) may.only c.load.ensures.loaded) c.load.ensures.spoiled
+    works_after_load live building may.build may.work may.runs may.fine put rings sixteen may.quiet may.all c.args.index may.there c.load.new.self c.load.result
+    c.load.ensures.loaded c.load.ensures.spoiled
 
 pub returns-clause-first : goal.returns-clause-first
 returns-clause-first g c =
@@ -49,8 +47,8 @@ returns-clause-first g c =
     let put = put_inside _ live may.build c.self.view_is may.runs.build_is c.self.invariant.3 in
     let rings : length live.pages ≡ 16 = sym (ap (λ (l : LiveValue). length l.pages) c.self.view_is) ∙ c.self.invariant.5.sixteen in
     let sixteen : length building.workers ≡ 16 = sym (ap (λ (v : BuildingValue). length v.workers) c.building.view_is) ∙ c.building.invariant.0.sixteen in
-    subst (λ (i : ℕ). OnErr c.load.result ((index_at (core_state live building).work.indexes i).loaded ≡ false)) (sym may.only)
-    (wanted_first live building may.build may.work may.runs may.fine put rings sixteen may.quiet may.all c.load.result c.load.ensures.first)
+    wanted_first live building may.build may.work may.runs may.fine put rings sixteen may.quiet may.all c.args.index may.there c.load.result
+    c.load.ensures.first
 
 pub returns-clause-spoiled : goal.returns-clause-spoiled
 returns-clause-spoiled g c =

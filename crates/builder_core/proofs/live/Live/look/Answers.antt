@@ -10,7 +10,7 @@ use Rattle.builder_core.proofs.live.Live.look.Goals as goal
 
 pub invariant_of-building : goal.invariant_of-building
 invariant_of-building g c = (
-  ends_looked g.T.Table.pages g.T.Table.side c.building.inside.workers.items c.waiting.new.workers.items _ c.building.invariant.0 c.waiting.ensures.looked.same,
+  ends_looked g.T.Table.pages g.T.Table.sides c.building.inside.workers.items c.waiting.new.workers.items _ c.building.invariant.0 c.waiting.ensures.looked.same,
   c.building.invariant.1,
 )
 

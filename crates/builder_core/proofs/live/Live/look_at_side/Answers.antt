@@ -1,32 +1,113 @@
-use Rattle.std.proofs.Common.{◌∷◌, [], ap, ◌∙◌, arith}
-use Rattle.side_file.specs.Ends.{RingId}
+use Rattle.std.proofs.Common.{rules, ◌≡◌, ◌<◌, length, map, set, refl, sym, ap, ◌∙◌, subst, arith, Option, Some}
+use Rattle.std.specs.Prelude.{IfSome}
+use Rattle.std.specs.List.{slice_get}
+use Rattle.keybytes.specs.Keys.{KeySpecValue}
+use Rattle.side_file.specs.Ends.{PutEnd}
+use Rattle.side_file.specs.SideFileValue.{SideFileValue}
+use Rattle.side_file.specs.declared.entry.Entry.{Entry}
+use Rattle.building.specs.TakeEnd.{take_end}
+use Rattle.builder_core.specs.Builds.{LiveValue, BuildingValue, SideIsLooked}
+use Rattle.builder_core.specs.Holding.{spool_value}
+use Rattle.builder_core.specs.SideFiles.{AreFedEntries, HasLookedAtSide, SeesSide, put_ends}
 use Rattle.builder_core.proofs.Feeding.{fed_if_running}
-use Rattle.builder_core.proofs.SideKept.{side_stays}
+use Rattle.builder_core.proofs.Places.{at_index, here_set, map_at}
+use Rattle.builder_core.proofs.SideEnds.{sides_looked, put_ends_stay, take_ends_stay, eight_sides, eight_ends, paired, side_is_looked, sees_side}
 use Rattle.builder_core.proofs.live.Live.look_at_side.Goals as goal
+
+pub beside-waiting-requires : goal.beside-waiting-requires
+beside-waiting-requires g c =
+    let sides = c.self.inside.sides.items in
+    let ends = c.building.inside.side_ends.items in
+    let many = eight_sides _ _ _ sides c.self.invariant.5 in
+    let eight = eight_ends _ _ _ ends c.building.invariant.0 in
+    paired g.T.Table.sides sides ends c.args.index c.index_mut-side.result.now c.index_mut.result.now c.self.invariant.5.sides_are c.building.invariant.0.sides_are
+    (omega (arith, many, c.requires)) (omega (arith, eight, c.requires)) c.index_mut-side.ensures.value c.index_mut.ensures.value
 
 pub invariant_of-self : goal.invariant_of-self
 invariant_of-self g c =
     let looks = c.beside-waiting.ensures.looks in
-    let ends = c.self.invariant.5 in (
+    let sides = c.self.inside.sides.items in
+    let many = eight_sides _ _ _ sides c.self.invariant.5 in
+    let there = at_index sides c.args.index c.index_mut-side.result.now c.index_mut-side.ensures.value (omega (arith, many, c.requires)) in (
       c.self.invariant.0,
       c.self.invariant.1,
-      side_stays c.self.inside.heap.state.log c.self.inside.build c.self.inside.side c.beside-waiting.new.self c.self.invariant.2 looks.left looks.fed,
+      sides_looked c.self.inside.heap.state.log c.self.inside.build sides c.args.index c.index_mut-side.result.now c.beside-waiting.new.self there looks.fed looks.left
+          c.self.invariant.2,
       c.self.invariant.3,
       c.self.invariant.4,
-      record { pages_are = ends.pages_are; side_is = ap (λ (r : RingId). r ∷ []) looks.ring ∙ ends.side_is; sixteen = ends.sixteen },
+      put_ends_stay _ _ _ sides c.args.index c.index_mut-side.result.now c.beside-waiting.new.self c.self.invariant.5 c.index_mut-side.ensures.value looks.ring,
     )
 
+pub invariant_of-building : goal.invariant_of-building
+invariant_of-building g c = (
+  take_ends_stay _ _ _ c.building.inside.side_ends.items c.args.index c.index_mut.result.now c.beside-waiting.new.consumer c.building.invariant.0
+      c.index_mut.ensures.value (search rules),
+  c.building.invariant.1,
+)
+
+pub returns-clause-looked : goal.returns-clause-looked
+returns-clause-looked g c =
+    let sides = c.self.inside.sides.items in
+    let ends = c.building.inside.side_ends.items in
+    let many = eight_sides _ _ _ sides c.self.invariant.5 in
+    let eight = eight_ends _ _ _ ends c.building.invariant.0 in
+    let looks = c.beside-waiting.ensures.looks in
+    let looked : HasLookedAtSide c.index_mut-side.result.now.end (take_end c.index_mut.result.now) c.beside-waiting.new.self.end (take_end c.beside-waiting.new.consumer) =
+    record {
+      put_end = record { ring = looks.ring; capacity = looks.capacity; sent = looks.sent; free = looks.free };
+      ring = search rules;
+      received = c.beside-waiting.ensures.consumer.1;
+    } in
+    let live : LiveValue = record {
+      state = record {
+        heap = c.self.inside.heap.state;
+        ready = c.self.inside.ready.items;
+        builds = c.self.inside.builds;
+        build = c.self.inside.build;
+      };
+      pages = c.self.inside.pages.items;
+      sides = put_ends sides;
+    } in
+    let building : BuildingValue = record {
+      workers = c.building.inside.workers.items;
+      sides = map take_end ends;
+      spools = map (spool_value g.S.Spool.runs g.S.Spool.open_run g.S.Spool.stake) c.building.inside.spools.items;
+      given = c.building.inside.given;
+      work = c.building.inside.work;
+    } in
+    let new_live : LiveValue = record live { sides = put_ends (set sides c.args.index c.beside-waiting.new.self) } in
+    let new_building : BuildingValue = record building { sides = map take_end (set ends c.args.index c.beside-waiting.new.consumer) } in
+    subst (λ (l : LiveValue). SideIsLooked c.args.index l c.args.building.now new_live new_building) c.self.view_is
+    (subst (λ (b : BuildingValue). SideIsLooked c.args.index live b new_live new_building) c.building.view_is
+    (side_is_looked c.args.index live building sides ends c.index_mut-side.result.now c.beside-waiting.new.self c.index_mut.result.now c.beside-waiting.new.consumer
+    refl refl c.index_mut-side.ensures.value c.index_mut.ensures.value (omega (arith, many, c.requires)) (omega (arith, eight, c.requires)) looked))
+
 pub returns-clause-sees : goal.returns-clause-sees
-returns-clause-sees g c = record {
-  in_order = c.beside-waiting.ensures.in_order;
-  counted = c.beside-waiting.ensures.value;
-  free = omega (arith, c.beside-waiting.ensures.free, c.laws.ensures.capacity);
-}
+returns-clause-sees g c =
+    let sides = c.self.inside.sides.items in
+    let ends = c.building.inside.side_ends.items in
+    let many = eight_sides _ _ _ sides c.self.invariant.5 in
+    let eight = eight_ends _ _ _ ends c.building.invariant.0 in
+    let sees : SeesSide c.beside-waiting.result c.beside-waiting.new.self.end (take_end c.beside-waiting.new.consumer) =
+    record {
+      in_order = c.beside-waiting.ensures.in_order;
+      counted = c.beside-waiting.ensures.value;
+      free = omega (arith, c.beside-waiting.ensures.free, c.laws.ensures.capacity);
+    } in
+    sees_side c.args.index _ _ sides ends c.index_mut-side.result.now c.beside-waiting.new.self c.index_mut.result.now c.beside-waiting.new.consumer refl refl
+    c.index_mut-side.ensures.value c.index_mut.ensures.value (omega (arith, many, c.requires)) (omega (arith, eight, c.requires)) c.beside-waiting.result sees
 
 pub returns-clause-fed : goal.returns-clause-fed
 returns-clause-fed g c =
-    let looks = c.beside-waiting.ensures.looks in
+    let sides = c.self.inside.sides.items in
     let log = c.self.inside.heap.state.log in
     let build = c.self.inside.build in
-    fed_if_running log build c.beside-waiting.new.self
-    (side_stays log build c.self.inside.side c.beside-waiting.new.self c.self.invariant.2 looks.left looks.fed) c.laws.ensures
+    let looks = c.beside-waiting.ensures.looks in
+    let new = c.beside-waiting.new.self in
+    let many = eight_sides _ _ _ sides c.self.invariant.5 in
+    let less : c.args.index < length sides = omega (arith, many, c.requires) in
+    let there = at_index sides c.args.index c.index_mut-side.result.now c.index_mut-side.ensures.value less in
+    let now = sides_looked log build sides c.args.index c.index_mut-side.result.now new there looks.fed looks.left c.self.invariant.2 in
+    let put = map_at (λ (s : SideFileValue). s.end) (set sides c.args.index new) c.args.index new (here_set sides c.args.index new less) in
+    subst (λ (o : Option (PutEnd Entry)). IfSome build (λ b. IfSome (slice_get b.specs c.args.index) (λ spec. IfSome o (AreFedEntries log b c.args.index spec)))) (sym put)
+    (fed_if_running log build c.args.index (set sides c.args.index new) new now (here_set sides c.args.index new less) c.laws.ensures)

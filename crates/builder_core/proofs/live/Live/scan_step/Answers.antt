@@ -11,10 +11,10 @@ use Rattle.builder_core.specs.Builds.{LiveValue, BuildFollows, IsBuildOf, IsWork
 use Rattle.builder_core.specs.CoreState.{AreIndexesOf, BuildState, LiveState}
 use Rattle.builder_core.specs.Rings.{all_sent, AreOfBuilds, HasPut, PagesFollow}
 use Rattle.builder_core.specs.Ranges.{next_page}
-use Rattle.builder_core.specs.SideFiles.{HasEntries, SideFollows}
+use Rattle.builder_core.specs.SideFiles.{HaveEntries, SidesFollow, put_ends}
 use Rattle.builder_core.specs.Steps.{OnBuild}
 use Rattle.builder_core.proofs.Places.{here_set, map_at}
-use Rattle.builder_core.proofs.SideKept.{side_next}
+use Rattle.builder_core.proofs.SideKept.{sides_next}
 use Rattle.builder_core.proofs.TableBuilds.{scanned_next, work_of_next}
 use Rattle.builder_core.proofs.OneRing.{put_ends_set, sent_looked, sent_put, workers_looked, workers_put, builds_put, put_next, written_twice, full_at}
 use Rattle.builder_core.proofs.OneRing.{put_full, next_below, worker_below}
@@ -32,7 +32,7 @@ invariant_of-self g c =
       c.self.invariant.2,
       subst (PagesFollow heap.schema heap.log inside.builds inside.build) (sym same) c.self.invariant.3,
       subst (AreOfBuilds inside.builds) (sym same) c.self.invariant.4,
-      put_ends_set g.T.Table.pages g.T.Table.side inside.pages.items inside.side.end c.args.worker new old c.self.invariant.5 c.index_mut.ensures.value
+      put_ends_set g.T.Table.pages g.T.Table.sides inside.pages.items (put_ends inside.sides.items) c.args.worker new old c.self.invariant.5 c.index_mut.ensures.value
           c.has_room.ensures.looked.ring,
     )
 
@@ -43,7 +43,7 @@ returns-then-not-has_room-clause-works g c = λ building works.
     let same = sent_looked inside.pages.items c.args.worker c.has_room.new.self c.index_mut.result.now c.index_mut.ensures.value c.has_room.ensures.looked.sent in
     record {
       work = before.work;
-      workers = workers_looked inside.pages.items (set inside.pages.items c.args.worker c.has_room.new.self) inside.side.end building inside.build building.work same
+      workers = workers_looked inside.pages.items (set inside.pages.items c.args.worker c.has_room.new.self) (put_ends inside.sides.items) building inside.build building.work same
           before.workers;
     }
 
@@ -109,7 +109,7 @@ invariant_of-self-2 g c =
     let follows : IsBuildOf heap.schema heap.log b = subst (BuildFollows heap.schema heap.log) c.in-Some.is c.self.invariant.1 in
     let put : HasPut heap.schema heap.log inside.builds b (all_sent pages) =
     subst (λ (o : Option BuildState). PagesFollow heap.schema heap.log inside.builds o (all_sent pages)) c.in-Some.is c.self.invariant.3 in
-    let has : HasEntries heap.log b inside.side = subst (λ o. SideFollows heap.log o inside.side) c.in-Some.is c.self.invariant.2 in
+    let has : HaveEntries heap.log b inside.sides.items = subst (λ o. SidesFollow heap.log o inside.sides.items) c.in-Some.is c.self.invariant.2 in
     let now : c.records-records.result ≡ length heap.log = c.records-records.ensures ∙ ap (λ (h : HeapState). length h.log) c.copy_page.ensures.visited in
     let more = scanned_next heap.schema heap.log b c.args.range c.args.worker c.in-Ok.page c.records-records.result follows next.0 next.1 now in
     let less : c.args.worker < length pages = omega (arith, next.1, follows.few_workers, c.self.invariant.5.sixteen) in
@@ -129,9 +129,9 @@ invariant_of-self-2 g c =
     record b { scans = b.scans ++ record { worker = c.args.worker; page = c.in-Ok.page; records = c.records-records.result } ∷ [] } in (
       subst (λ (h : HeapState). AreIndexesOf h.schema h.log inside.ready.items) (sym c.copy_page.ensures.visited) c.self.invariant.0,
       subst (λ (h : HeapState). IsBuildOf h.schema h.log c.note.new.self) (sym c.copy_page.ensures.visited) (subst (IsBuildOf heap.schema heap.log) (sym c.note.ensures.noted) more),
-      subst (λ (h : HeapState). HasEntries h.log c.note.new.self inside.side) (sym c.copy_page.ensures.visited)
-          (subst (λ x. HasEntries heap.log x inside.side) (sym c.note.ensures.noted)
-          (side_next heap.log b inside.side c.args.range c.args.worker c.in-Ok.page c.records-records.result next.0 now has)),
+      subst (λ (h : HeapState). HaveEntries h.log c.note.new.self inside.sides.items) (sym c.copy_page.ensures.visited)
+          (subst (λ x. HaveEntries heap.log x inside.sides.items) (sym c.note.ensures.noted)
+          (sides_next heap.log b inside.sides.items c.args.range c.args.worker c.in-Ok.page c.records-records.result next.0 now has)),
       subst (λ (h : HeapState). HasPut h.schema h.log inside.builds c.note.new.self (all_sent (set (set pages c.args.worker looked) c.args.worker new))) (sym c.copy_page.ensures.visited)
           (subst (λ (x : BuildState). HasPut heap.schema heap.log inside.builds x (all_sent (set (set pages c.args.worker looked) c.args.worker new))) (sym c.note.ensures.noted)
           (subst (λ (ss : List (List Copied)). HasPut heap.schema heap.log inside.builds copied_build ss) (sym all)
@@ -139,8 +139,8 @@ invariant_of-self-2 g c =
           c.copy_page.ensures.copy))),
       subst (AreOfBuilds inside.builds) (sym all)
           (builds_put inside.builds (all_sent pages) c.args.worker old.sent copied sent_there (omega (arith, number, put.number)) c.self.invariant.4),
-      put_ends_set g.T.Table.pages g.T.Table.side (set pages c.args.worker looked) inside.side.end c.args.worker new at
-          (put_ends_set g.T.Table.pages g.T.Table.side pages inside.side.end c.args.worker looked old c.self.invariant.5 c.index_mut.ensures.value c.has_room.ensures.looked.ring)
+      put_ends_set g.T.Table.pages g.T.Table.sides (set pages c.args.worker looked) (put_ends inside.sides.items) c.args.worker new at
+          (put_ends_set g.T.Table.pages g.T.Table.sides pages (put_ends inside.sides.items) c.args.worker looked old c.self.invariant.5 c.index_mut.ensures.value c.has_room.ensures.looked.ring)
           c.index_mut-2.ensures.value ring,
     )
 
@@ -178,9 +178,9 @@ returns-clause-works g c = λ building works.
           (subst (λ (x : BuildState). IsWorkOf heap.schema heap.log (Some x) building.work) (sym c.note.ensures.noted)
           (work_of_next heap.schema heap.log b building.work c.args.range c.args.worker c.in-Ok.page c.records-records.result
           (subst (λ (o : Option BuildState). IsWorkOf heap.schema heap.log o building.work) c.in-Some.is before.work) next.0 now));
-      workers = workers_put pages inside.side.end building b c.note.new.self building.work c.args.worker old.sent copied
+      workers = workers_put pages (put_ends inside.sides.items) building b c.note.new.self building.work c.args.worker old.sent copied
           (set (set pages c.args.worker looked) c.args.worker new)
-          (subst (λ (o : Option BuildState). WorkersFollow pages inside.side.end building o building.work) c.in-Some.is before.workers) sent_there all number
+          (subst (λ (o : Option BuildState). WorkersFollow pages (put_ends inside.sides.items) building o building.work) c.in-Some.is before.workers) sent_there all number
           (ap (λ (x : BuildState). x.number) c.note.ensures.noted) (ap (λ (x : BuildState). x.workers) c.note.ensures.noted)
           (ap (λ (x : BuildState). x.fed) c.note.ensures.noted);
     }

@@ -1,9 +1,10 @@
-use Rattle.std.proofs.Common.{◌∙◌, List, ap, sym, subst}
-use Rattle.std.specs.Prelude.{not}
+use Rattle.std.proofs.Common.{◌≡◌, None, List, ap, sym, ◌∙◌, subst}
 use Rattle.std.specs.VecDeque.Iter.{deque_iter_rest}
 use Rattle.side_file.specs.declared.entry.Entry.{Entry}
 use Rattle.builder_core.specs.Builds.{LiveValue}
-use Rattle.builder_core.specs.SideFiles.{AreEntriesLeft, HaveEntryKeys}
+use Rattle.builder_core.specs.SideFiles.{AreEntriesLeft, HaveEntryKeys, side_refusal}
+use Rattle.builder_core.proofs.Performed.{few_specs}
+use Rattle.builder_core.proofs.SideEnds.{eight_sides, side_there}
 use Rattle.builder_core.proofs.SideKept.{entries_left, keys_left}
 use Rattle.builder_core.proofs.live.Live.side.Goals as goal
 
@@ -11,8 +12,11 @@ pub returns-clause-keys : goal.returns-clause-keys
 returns-clause-keys g c =
     let inside = c.self.inside in
     let heap = inside.heap.state in
-    let keys = keys_left heap.schema heap.log inside.build inside.side c.args.index c.self.invariant.1 c.self.invariant.2
-    (c.is_none.ensures ∙ ap not c.if-is_none.false) c.if-index-ne0.false in
+    let free : side_refusal inside.build c.args.index ≡ None =
+    ap (λ (l : LiveValue). side_refusal l.state.build c.args.index) c.self.view_is ∙ c.in_ok-build_with.ensures.accepted in
+    let there = side_there inside.build inside.sides.items c.args.index c.index.result.now
+    (few_specs heap inside.build inside.sides.items c.self.invariant.1 (eight_sides _ _ _ inside.sides.items c.self.invariant.5)) free c.index.ensures in
+    let keys = keys_left heap.log inside.build inside.sides.items c.args.index c.index.result.now c.self.invariant.2 free there in
     subst (λ (l : LiveValue). HaveEntryKeys l.state.build c.args.index (deque_iter_rest c.entries.result)) c.self.view_is
     (subst (λ (es : List Entry). HaveEntryKeys inside.build c.args.index es) (sym c.entries.ensures) keys)
 
@@ -20,7 +24,10 @@ pub returns-clause-ok : goal.returns-clause-ok
 returns-clause-ok g c =
     let inside = c.self.inside in
     let heap = inside.heap.state in
-    let left = entries_left heap.schema heap.log inside.build inside.side c.args.index c.self.invariant.1 c.self.invariant.2
-    (c.is_none.ensures ∙ ap not c.if-is_none.false) c.if-index-ne0.false in
+    let free : side_refusal inside.build c.args.index ≡ None =
+    ap (λ (l : LiveValue). side_refusal l.state.build c.args.index) c.self.view_is ∙ c.in_ok-build_with.ensures.accepted in
+    let there = side_there inside.build inside.sides.items c.args.index c.index.result.now
+    (few_specs heap inside.build inside.sides.items c.self.invariant.1 (eight_sides _ _ _ inside.sides.items c.self.invariant.5)) free c.index.ensures in
+    let left = entries_left heap.log inside.build inside.sides.items c.args.index c.index.result.now c.self.invariant.2 free there in
     subst (λ (l : LiveValue). AreEntriesLeft l.state.heap.log l.state.build c.args.index (deque_iter_rest c.entries.result)) c.self.view_is
     (subst (λ (es : List Entry). AreEntriesLeft heap.log inside.build c.args.index es) (sym c.entries.ensures) left)

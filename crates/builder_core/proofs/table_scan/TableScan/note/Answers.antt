@@ -55,6 +55,7 @@ invariant_of-self c =
       subst (λ (r : RangesValue). AreScansOf r c.self.inside.workers c.push_reserved.new.self.items) (sym gone)
           (subst (λ (scans : List Scan). AreScansOf (after_advance c.self.inside.ranges c.args.range) c.self.inside.workers scans) (sym c.push_reserved.ensures.items) all),
       omega (arith, ap (λ (r : RangesValue). r.pages) gone, c.self.invariant.1, c.push_reserved.ensures.capacity),
+      c.self.invariant.2,
     )
 
 pub returns-clause-others : goal.returns-clause-others

@@ -6,9 +6,8 @@ use Rattle.run_spool.proofs.run.Run.free_front.Goals as goal
 
 pub invariant_of-self : goal.invariant_of-self
 invariant_of-self c =
-    let a = c.in-Ok.ensures in
-    let b = c.swap.ensures in
     let there = c.requires.there in
     let len = c.self.invariant.len_is ∙ ap (λ (pages : List PageValue). length (pairs_of pages)) c.self.view_is in
-    freed_run c.args.n c.swap.new.x c.free_first.new.chain c.self.invariant (omega arith) (b.x_after ∙ a.other_items)
-    (c.free_first.ensures.chain ∙ ap (λ (xs : List (Option PageValue)). without_pairs c.args.n (pages_in xs)) (b.y_after ∙ a.items))
+    let turned = c.turn_back.ensures in
+    freed_run c.args.n c.turn_back.new.passed c.free_first.new.chain c.self.invariant (omega arith) turned.passed
+    (c.free_first.ensures.chain ∙ ap (λ (xs : List (Option PageValue)). without_pairs c.args.n (pages_in xs)) turned.ahead)

@@ -1,8 +1,8 @@
-use Rattle.std.proofs.Common.{length, get_or, ap, ◌∙◌, arith, List, set}
+use Rattle.std.proofs.Common.{length, get_or, ap, sym, ◌∙◌, arith, List, set}
 use Rattle.std.proofs.lemmas.List.{length-set}
-use Rattle.slotted_page.specs.Slot.{Slot, free, row, reserve_of, total_reserve}
+use Rattle.slotted_page.specs.Slot.{Slot, free, row, reserve_of, is_free, total_reserve}
 use Rattle.slotted_page.proofs.PageValues.{put_is_set, same_total}
-use Rattle.slotted_page.proofs.PageFields.{page_facts}
+use Rattle.slotted_page.proofs.PageFields.{page_facts, same_lowest}
 use Rattle.slotted_page.proofs.page.Page.fill_held.Goals as goal
 
 pub store-requires-clause-there : goal.store-requires-clause-there
@@ -33,4 +33,7 @@ invariant_of-self c =
       counted = omega (arith, ap length slots, length-set page.slots c.args.slot r, f.slots_long, f.keeps.counted);
       limited = f.keeps.limited;
       total = ap total_reserve slots ∙ same_total page.slots c.args.slot r c.requires.there (ap reserve_of c.requires.is_held) ∙ f.total_is;
+      lowest =
+          same_lowest f c.store.new.image c.args.slot r c.requires.there (slots ∙ sym (put_is_set page.slots c.args.slot r c.requires.there))
+          (sym (ap is_free c.requires.is_held));
     }

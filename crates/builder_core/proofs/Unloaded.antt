@@ -1,0 +1,173 @@
+-- The lowest index whose pairs are not in order.
+use Rattle.std.proofs.Common.{◌≡◌, ℕ, zero, suc, ◌<◌, ◌≤◌, Bool, true, false, List, [], ◌∷◌, length, map, Option, Some, None, inl, inr, ◌+◌, refl, sym, ap, ◌∙◌, subst, arith}
+use Rattle.std.specs.Prelude.{is_some, cond, nat_lt, not}
+use Rattle.std.specs.Option.{option_map}
+use Rattle.std.specs.List.{position, position_or_len, slice_get}
+use Rattle.std.proofs.lemmas.Bool.{cases_lt, false≢true, false_from_ne_true, lt-ltb, ltb-true}
+use Rattle.std.proofs.lemmas.List.{length-map}
+use Rattle.keybytes.specs.declared.fault.Fault.{Fault}
+use Rattle.keybytes.specs.declared.fault.Fault.TheVariants.{NoBuild, NotLoaded, NotScanned, Behind}
+use Rattle.keybytes.specs.Faults.{first_cause}
+use Rattle.builder_core.specs.Builds.{LiveValue, BuildingValue, WorkValue, IndexValue, IsRunning, WorksOn, index_state, work_state, core_state, cause_of}
+use Rattle.builder_core.specs.CatchingUp.{MayCatchUp}
+use Rattle.builder_core.specs.declared.event.Event.TheVariants.{Switch}
+use Rattle.builder_core.specs.CoreState.{BuildState, IndexState, WorkState, CoreState}
+use Rattle.builder_core.specs.Ranges.{open_range}
+use Rattle.builder_core.specs.Steps.{OnBuild, CatchesUp, AreFurther, build_cause, cause_if, index_refusal, apply_refusal, behind_refusal, switch_refusal}
+use Rattle.builder_core.specs.Workers.{all_unapplied, index_at, unloaded_index}
+use Rattle.std.proofs.lemmas.Option.{get_or_from_slice_get}
+use Rattle.builder_core.proofs.ApplyCauses.{first_none, inside_of}
+use Rattle.builder_core.proofs.CatchingUp.{indexes_many}
+use Rattle.builder_core.proofs.Refusals.{state_of, state_is}
+use Rattle.builder_core.proofs.Places.{below, there_is}
+
+module _ {X : Type 0} (test : X → Bool) where
+  first_place :
+      (xs : List X) (i : ℕ) (y : X) → ((k : ℕ) (x : X) → k < i → slice_get xs k ≡ Some x → test x ≡ false) → slice_get xs i ≡ Some y → test y ≡ true
+      → position_or_len test xs ≡ i
+  first_place [] i y before at passes = absurd (cc)
+  first_place (x ∷ xs) zero y before at passes =
+      let here : test x ≡ true = ap test (let same : x ≡ y = cc in same) ∙ passes in
+      rw here refl
+  first_place (x ∷ xs) (suc i) y before at passes =
+      let fails : test x ≡ false = before 0 x (omega arith) refl in
+      let rest = first_place xs i y (λ k z less there. before (suc k) z (omega (arith, less)) there) at passes in
+      rw fails (omega (arith, rest))
+
+  no_place : (xs : List X) → ((k : ℕ) (x : X) → slice_get xs k ≡ Some x → test x ≡ false) → position_or_len test xs ≡ length xs
+  no_place [] each = refl
+  no_place (x ∷ xs) each =
+      let fails : test x ≡ false = each 0 x refl in
+      let rest = no_place xs (λ k z there. each (suc k) z there) in
+      rw fails (omega (arith, rest))
+
+  -- the first that passes
+  pub first_here :
+      (xs : List X) (i : ℕ) (y : X) → ((k : ℕ) (x : X) → k < i → slice_get xs k ≡ Some x → test x ≡ false) → slice_get xs i ≡ Some y → test y ≡ true
+      → Some i ≡ position test xs
+  first_here xs i y before at passes =
+      let less : i < length xs = below xs i y at in
+      let place = first_place xs i y before at passes in
+      rw (place) (search (less, arith))
+
+  -- none passes
+  pub none_here : (xs : List X) → ((k : ℕ) (x : X) → slice_get xs k ≡ Some x → test x ≡ false) → None ≡ position test xs
+  none_here xs each = let place = no_place xs each in rw place (search arith)
+
+  same_place : {Y : Type 0} (f : Y → X) (ys : List Y) → position_or_len test (map f ys) ≡ position_or_len (λ (y : Y). test (f y)) ys
+  same_place f [] = refl
+  same_place f (y ∷ ys) = rw (same_place f ys) refl
+
+  -- what is made of a list passes where it passes
+  pub position_of : {Y : Type 0} (f : Y → X) (ys : List Y) → position test (map f ys) ≡ position (λ (y : Y). test (f y)) ys
+  position_of f ys = rw (same_place f ys, length-map ys f) refl
+
+  -- where none is the first that passes none passes
+  none_passes : (xs : List X) (k : ℕ) (x : X) → length xs ≤ position_or_len test xs → slice_get xs k ≡ Some x → test x ≡ false
+  none_passes [] k x far at = absurd (cc)
+  none_passes (y ∷ ys) k x far at = by_first (test y) refl (λ j rest there. none_passes ys j x rest there) k at where
+    by_first :
+        (b : Bool) → test y ≡ b → ((j : ℕ) → length ys ≤ position_or_len test ys → slice_get ys j ≡ Some x → test x ≡ false) → (k : ℕ)
+        → slice_get (y ∷ ys) k ≡ Some x → test x ≡ false
+    by_first true here others k there =
+        absurd (let less : suc (length ys) ≤ 0 = subst (λ (n : ℕ). suc (length ys) ≤ n) (rw here refl) far in omega (arith, less))
+    by_first false here others zero there = ap test (let same : x ≡ y = cc in same) ∙ here
+    by_first false here others (suc j) there =
+        let rest : suc (length ys) ≤ 1 + position_or_len test ys = subst (λ (n : ℕ). suc (length ys) ≤ n) (rw here refl) far in
+        others j (omega (arith, rest)) there
+
+  pub all_fail : (xs : List X) → position test xs ≡ None → (k : ℕ) (x : X) → slice_get xs k ≡ Some x → test x ≡ false
+  all_fail xs none k x at = by_test (nat_lt (position_or_len test xs) (length xs)) refl where
+    by_test : (b : Bool) → nat_lt (position_or_len test xs) (length xs) ≡ b → test x ≡ false
+    by_test true less = absurd (let bad : Some (position_or_len test xs) ≡ None = subst (λ (b : Bool). cond b (Some (position_or_len test xs)) None ≡ None) less none in cc)
+    by_test false more = none_passes xs k x (elim (cases_lt (position_or_len test xs) (length xs)) [
+      | inl less ↦ absurd (false≢true (sym more ∙ lt-ltb (position_or_len test xs) (length xs) less))
+      | inr far ↦ far
+    ]) at
+
+-- callers see the same
+pub unloaded_seen :
+    (indexes : List IndexValue) → position (λ (index : IndexState). not index.loaded) (map index_state indexes) ≡ position (λ (index : IndexValue). not (is_some index.built)) indexes
+unloaded_seen indexes = position_of (λ (index : IndexState). not index.loaded) index_state indexes
+
+-- why a build that isn't spoiled, and whose pages are all copied, isn't switched in
+module _
+    (live : LiveValue) (building : BuildingValue) (b : BuildState) (w : WorkValue) (run : IsRunning live building b w) (fine : w.spoiled ≡ None)
+    (all : open_range b ≡ None) where
+  abbrev switch_cause : Option Fault
+  switch_cause = build_cause live.state.build (λ x. switch_refusal x live.state.heap.log (work_state building.workers building.work))
+
+  unloaded_at : (o : Option ℕ) → o ≡ position (λ (index : IndexValue). not (is_some index.built)) w.indexes → unloaded_index (state_of building w) ≡ o
+  unloaded_at o is = unloaded_seen w.indexes ∙ sym is
+
+  pub one_unloaded : (index : ℕ) → Some index ≡ position (λ (i : IndexValue). not (is_some i.built)) w.indexes → switch_cause ≡ Some (NotLoaded index)
+  one_unloaded index is =
+      rw (run.build_is, state_is building w run.work_is fine, all, unloaded_at (Some index) is) refl
+
+  module _
+      (none : None ≡ position (λ (i : IndexValue). not (is_some i.built)) w.indexes) (left : ℕ)
+      (sum : OnBuild live.state.build (λ x. left ≡ all_unapplied x live.state.heap.log x.specs (work_state building.workers building.work).indexes)) where
+    abbrev now_left : ℕ
+    now_left = all_unapplied b live.state.heap.log b.specs (state_of building w).indexes
+
+    left_is : left ≡ now_left
+    left_is =
+        subst (λ (o : Option BuildState). OnBuild o (λ x. left ≡ all_unapplied x live.state.heap.log x.specs (work_state building.workers building.work).indexes)) run.build_is sum
+        ∙ ap (λ (s : WorkState). all_unapplied b live.state.heap.log b.specs s.indexes) (state_is building w run.work_is fine)
+
+    behind_cause : switch_cause ≡ behind_refusal left
+    behind_cause = rw (run.build_is, state_is building w run.work_is fine, all, unloaded_at None none, left_is) refl
+
+    pub too_far_behind : 1024 < left → switch_cause ≡ Some (Behind left)
+    too_far_behind more = behind_cause ∙ ap (λ (test : Bool). cause_if test (Behind left)) (lt-ltb 1024 left more)
+
+    pub can_be_switched : left ≤ 1024 → switch_cause ≡ None
+    can_be_switched few =
+        behind_cause
+        ∙ ap (λ (test : Bool). cause_if test (Behind left)) (false_from_ne_true (nat_lt 1024 left) (λ more. let less = ltb-true 1024 left more in omega (arith, less, few)))
+
+no_fault : (o : Option ℕ) → option_map NotLoaded o ≡ None → o ≡ None
+no_fault None none = refl
+no_fault (Some index) none = absurd (cc)
+
+-- what a switch needs is what keeps no entry from being applied
+module _ (live : LiveValue) (building : BuildingValue) where
+  abbrev now : WorkState
+  now = work_state building.workers building.work
+
+  pub may_catch_up : WorksOn live building → cause_of live building Switch ≡ None → MayCatchUp (core_state live building)
+  may_catch_up works free = by_build live.state.build refl where
+    by_build : (o : Option BuildState) → live.state.build ≡ o → MayCatchUp (core_state live building)
+    by_build None gone =
+        absurd (let bad : Some NoBuild ≡ None = ap (λ (o : Option BuildState). build_cause o (λ b. switch_refusal b live.state.heap.log now)) (sym gone) ∙ free in cc)
+    by_build (Some b) runs =
+        let many = indexes_many live building b runs works in
+        let causes : switch_refusal b live.state.heap.log now ≡ None =
+        ap (λ (o : Option BuildState). build_cause o (λ x. switch_refusal x live.state.heap.log now)) (sym runs) ∙ free in
+        let fine = first_none now.spoiled _ causes in
+        let scanned = first_none (option_map NotScanned (open_range b)) _ fine.1 in
+        let loaded = first_none (option_map NotLoaded (unloaded_index now)) _ scanned.1 in
+        let none = no_fault (unloaded_index now) loaded.0 in
+        subst (λ (o : Option BuildState). OnBuild o (λ x. (index : ℕ) → index < length x.specs → apply_refusal x now index ≡ None)) (sym runs)
+        (λ index less.
+        let it = there_is now.indexes index (omega (arith, less, many)) in
+        let fails = all_fail (λ (i : IndexState). not i.loaded) now.indexes none index it.0 it.1 in
+        let seen : index_at now.indexes index ≡ it.0 = get_or_from_slice_get now.indexes index it.0 _ it.1 in
+        let told : not (index_at now.indexes index).loaded ≡ false = ap (λ (i : IndexState). not i.loaded) seen ∙ fails in
+        rw (inside_of b index less, fine.0, told) refl)
+
+-- and still is once the indexes caught up
+pub may_after : (s new : CoreState) → CatchesUp s new → MayCatchUp s → MayCatchUp new
+may_after s new caught may = by_build s.live.build refl caught where
+  Caught : BuildState → Type 0
+  Caught b = (fed : List ℕ) × (indexes : List IndexState) × AreFurther b s.live.heap.log s.work.indexes fed indexes
+      × (new ≡ record s { live = record s.live { build = Some (record b { fed = fed }) }; work = record s.work { indexes = indexes } })
+
+  by_build : (o : Option BuildState) → s.live.build ≡ o → OnBuild o Caught → MayCatchUp new
+  by_build None is it = absurd it
+  by_build (Some b) is it =
+      subst MayCatchUp (sym it.3) (λ index less.
+      let spec = there_is b.specs index less in
+      let same = (it.2.each index spec.0 spec.1).loaded in
+      let was = subst (λ (o : Option BuildState). OnBuild o (λ x. (i : ℕ) → i < length x.specs → apply_refusal x s.work i ≡ None)) is may index less in
+      ap (λ l. first_cause (index_refusal b index) (first_cause s.work.spoiled (cause_if (not l) (NotLoaded index)))) same ∙ was)

@@ -1,0 +1,16 @@
+use Rattle.std.proofs.Common.{subst}
+use Rattle.std.specs.Prelude.{IfSome}
+use Rattle.builder_core.specs.Builds.{LiveValue}
+use Rattle.builder_core.specs.SideFiles.{NoneAhead}
+use Rattle.builder_core.proofs.Performed.{few_specs}
+use Rattle.builder_core.proofs.SideEnds.{eight_sides}
+use Rattle.builder_core.proofs.SideKept.{none_ahead}
+use Rattle.builder_core.proofs.live.Live.build.Goals as goal
+
+pub returns-clause-fed : goal.returns-clause-fed
+returns-clause-fed g c =
+    let inside = c.self.inside in
+    let sides = inside.sides.items in
+    subst (λ (l : LiveValue). IfSome l.state.build (NoneAhead l.state.heap.log)) c.self.view_is
+    (none_ahead inside.heap.state.log inside.build sides c.self.invariant.2
+    (few_specs inside.heap.state inside.build sides c.self.invariant.1 (eight_sides _ _ _ sides c.self.invariant.5)))

@@ -1,0 +1,10 @@
+use Rattle.std.proofs.Common.{◌≡◌, ◌<◌, ◌≤◌, ◌*◌, ◌^◌}
+use Rattle.builder_core.specs.Builds.{core_state}
+use Rattle.builder_core.proofs.CatchingUp.{left_before}
+use Rattle.builder_core.proofs.live.Live.unapplied.Given as goal
+
+abbrev pub invariant-loop-index : goal.invariant-loop-index
+invariant-loop-index g l = record {
+  sum : l.sum ≡ left_before l.index (core_state l.self l.building);
+  few : l.sum ≤ l.index * 2 ^ 60;
+}

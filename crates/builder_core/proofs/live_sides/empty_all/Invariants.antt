@@ -1,0 +1,16 @@
+use Rattle.std.proofs.Common.{◌≡◌, ◌<◌, ℕ, map, Some, length}
+use Rattle.std.specs.List.{slice_get}
+use Rattle.side_file.specs.SideFileValue.{SideFileValue}
+use Rattle.building.specs.TakeEnd.{take_end}
+use Rattle.builder_core.specs.Rings.{side_rings, taken_rings, drained_end}
+use Rattle.builder_core.specs.SideFiles.{put_ends}
+use Rattle.builder_core.proofs.Emptied.{AreEmptied}
+use Rattle.builder_core.proofs.live_sides.empty_all.Given as goal
+
+abbrev pub invariant-loop-index : goal.invariant-loop-index
+invariant-loop-index l = record {
+  emptied : AreEmptied l.index l.sides.items (map take_end l.ends.items);
+  rings : side_rings (put_ends l.sides.items) ≡ side_rings (put_ends l.initial.sides.items);
+  other_rings : side_rings (put_ends l.sides.items) ≡ taken_rings (map take_end l.ends.items);
+  many : length l.sides.items ≡ l.index-end;
+}

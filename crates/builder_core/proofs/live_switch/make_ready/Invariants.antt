@@ -1,0 +1,12 @@
+use Rattle.std.proofs.Common.{◌≡◌, ◌+◌, ◌++◌, ◌≤◌, length, vec_len, vec_capacity}
+use Rattle.std.specs.List.{AllZip}
+use Rattle.builder_core.specs.CatchingUp.{IsDoneIndex, ready_of}
+use Rattle.builder_core.proofs.live_switch.make_ready.Given as goal
+
+abbrev pub invariant-loop-spec : goal.invariant-loop-spec
+invariant-loop-spec l = record {
+  ready : l.ready.items ++ ready_of l.spec-iterator.rest.items l.indexes.rest.items
+      ≡ l.initial.ready.items ++ ready_of l.fn.specs.items l.fn.indexes.items;
+  done : AllZip IsDoneIndex l.spec-iterator.rest.items l.indexes.rest.items;
+  room : vec_len l.ready + length l.spec-iterator.rest.items ≤ vec_capacity l.ready;
+}

@@ -1,0 +1,31 @@
+use Rattle.std.proofs.Common.{◌≡◌, sym, subst, List}
+use Rattle.std.specs.Prelude.{IfOk, slice_get}
+use Rattle.std.proofs.Math.Seq.{map-set_same}
+use Rattle.keybytes.specs.declared.pair.Pair.{Pair}
+use Rattle.run_merge.proofs.Numbers.{run_at}
+use Rattle.run_merge.proofs.Places.{in_spool, own_in, before_in}
+use Rattle.run_merge.proofs.spool_runs.read.Goals as goal
+
+pub returns-clause-pair : goal.returns-clause-pair
+returns-clause-pair g c =
+    let runs = g.S.Spool.runs in
+    let spools = c.args.spools.now in
+    let d = c.index-spools-place.result in
+    let place = c.args.place in
+    let is = c.requires in
+    let at =
+    run_at runs spools place.spool place.run c.args.run d (in_spool runs spools c.args.run place is) (own_in runs spools c.args.run place d is)
+    (before_in runs spools c.args.run place is) in
+    subst (λ (r : List Pair). IfOk c.pair_at.result (λ pair. pair ≡ slice_get r c.args.n)) (sym at) c.pair_at.ensures.pair
+
+pub returns-clause-runs : goal.returns-clause-runs
+returns-clause-runs g c =
+    map-set_same g.S.Spool.runs c.args.spools.now c.args.place.spool c.pair_at.new.spool c.index-spools-place.result c.pair_at.ensures.runs
+
+pub returns-clause-open_runs : goal.returns-clause-open_runs
+returns-clause-open_runs g c =
+    map-set_same g.S.Spool.open_run c.args.spools.now c.args.place.spool c.pair_at.new.spool c.index-spools-place.result c.pair_at.ensures.open_run
+
+pub returns-clause-stakes : goal.returns-clause-stakes
+returns-clause-stakes g c =
+    map-set_same g.S.Spool.stake c.args.spools.now c.args.place.spool c.pair_at.new.spool c.index-spools-place.result c.pair_at.ensures.stake

@@ -1,0 +1,51 @@
+//! What the table costs with its indexes ready: look-ups in the first, and inserts and updates, which change all.
+
+use crate::bench::Bench;
+use crate::failure::Failure;
+use crate::figure::Figure;
+use crate::filling::{ROWS_OF_A_TRANSACTION, insert_rows};
+use crate::look_ups::look_up;
+use crate::stretch::Stretch;
+use crate::updates::Updates;
+use builder_core::{Core, Table};
+use run_spool::PlainSpool;
+
+/// One row of so many is inserted, and one updated.
+const SHARE: u32 = 10;
+
+/// The most rows that are.
+const ROWS_MAX: u32 = 100_000;
+
+/// What was measured with the indexes ready.
+#[derive(Clone, Copy, Debug)]
+pub struct Afterwards {
+    /// Pairs were looked for in the first index.
+    pub look_ups: Figure,
+    /// Rows were put in.
+    pub inserts: Figure,
+    /// Rows were changed.
+    pub updates: Figure,
+}
+
+/// Looks pairs up, then inserts rows and updates as many of those that the build found.
+pub fn go_on<T: Table>(
+    bench: &mut Bench<'_>,
+    core: &mut Core<PlainSpool, T>,
+    stretches: &[Stretch],
+    changes: &mut Updates,
+) -> Result<Afterwards, Failure> {
+    let rows = bench.options.rows.div_ceil(SHARE).min(ROWS_MAX);
+    let look_ups = look_up(bench, core)?;
+    let inserts = insert_rows(bench, core, "inserts", rows, &mut changes.pages)?;
+    let parts = rows.div_ceil(ROWS_OF_A_TRANSACTION);
+    changes.begin(rows, parts);
+    for part in 0..parts {
+        bench.progress.show(bench.rt, "updates ready", part, parts)?;
+        changes.make(bench, core, stretches, part)?;
+    }
+    Ok(Afterwards {
+        look_ups,
+        inserts,
+        updates: Figure::new(bench.rt, &changes.watch, rows),
+    })
+}
