@@ -1,7 +1,7 @@
 -- The makers and spools of a build's workers, as their rings are looked at and as they take what was put.
 use Rattle.std.proofs.Common.{◌≡◌, ℕ, zero, suc, ◌+◌, ◌*◌, ◌<◌, ◌≤◌, Bool, true, false, List, [], ◌∷◌, All, map, set, length, get_or, Some, refl, sym}
 use Rattle.std.proofs.Common.{ap, ap₂, ◌∙◌, subst, inl, inr, arith}
-use Rattle.std.specs.Prelude.{◌==◌, ◌-◌, None, Option, replicate}
+use Rattle.std.specs.Prelude.{◌==◌, ◌-◌, Option, replicate}
 use Rattle.std.specs.List.{slice_get, list_all}
 use Rattle.std.proofs.lemmas.Bool.{cases_Bool, and_parts, eqb-true, eqb-false}
 use Rattle.std.proofs.lemmas.List.{length-map, length-set, length-replicate, nil_from_length}

@@ -1,5 +1,5 @@
 -- A table and what stands beside it, where their rings were looked at.
-use Rattle.std.proofs.Common.{◌≡◌, List, [], ◌∷◌, map, Option, Some, None, refl, sym, ap, ◌∙◌, subst}
+use Rattle.std.proofs.Common.{◌≡◌, List, [], map, Option, Some, None, refl, sym, ap, ◌∙◌, subst}
 use Rattle.building.specs.WorkerValue.{WorkerValue}
 use Rattle.building.specs.Work.{knowing}
 use Rattle.builder_core.specs.Builds.{LiveValue, BuildingValue, WorkValue, HasLooked, IsRunning, WorkersFollow, WorksOn, HaveKits, work_state, core_state}

@@ -1,14 +1,12 @@
 -- The entries of a change, appended to one side-file after another.
-use Rattle.std.proofs.Common.{◌≡◌, ℕ, zero, suc, ◌<◌, ◌≤◌, List, [], ◌∷◌, ◌++◌, length, map, set, append-nil, Option, Some, None, refl, sym, ap, ◌∙◌, subst, arith, inl, inr, length-append}
+use Rattle.std.proofs.Common.{◌≡◌, ℕ, zero, suc, ◌≤◌, List, [], ◌∷◌, ◌++◌, length, map, set, append-nil, Option, Some, None, refl, sym, ap, ◌∙◌, subst, arith, inl, inr, length-append}
 use Rattle.std.specs.List.{slice_get}
 use Rattle.std.proofs.lemmas.Option.{same_Some}
-use Rattle.keybytes.specs.Keys.{KeySpecValue}
 use Rattle.keybytes.specs.declared.rid.Rid.{Rid}
 use Rattle.heap_table.specs.declared.ready.Ready.{Ready}
 use Rattle.side_file.specs.Entries.{entry_of}
 use Rattle.side_file.specs.SideFileValue.{SideFileValue}
-use Rattle.side_file.specs.declared.entry.Entry.{Entry}
-use Rattle.visibility.specs.SideEntries.{SideEntry, entries_of_change}
+use Rattle.visibility.specs.SideEntries.{entries_of_change}
 use Rattle.visibility.specs.declared.change.Change.{Change}
 use Rattle.builder_core.specs.SideFiles.{noted}
 use Rattle.builder_core.specs.Changing.{without_room, IsChangeOf, AreChangesOf, IsLonger, HaveAppended, HaveNoted, change_entries}

@@ -1,10 +1,10 @@
 -- What each event leaves of the build that a table knows, and what its switch makes ready.
-use Rattle.std.proofs.Common.{◌≡◌, ℕ, ◌<◌, ◌≤◌, true, List, [], ◌∷◌, ◌++◌, length, map, length-append, take, take_all, Option, Some, None, refl, sym, ap, ◌∙◌, arith, subst}
+use Rattle.std.proofs.Common.{◌≡◌, ℕ, ◌<◌, ◌≤◌, true, List, [], ◌∷◌, ◌++◌, length, map, length-append, take, take_all, Option, Some, None, sym, ap, ◌∙◌, arith, subst}
 use Rattle.std.specs.Prelude.{is_some}
 use Rattle.std.specs.FinMap.{keys, contains_key-keys}
 use Rattle.std.specs.FinSet.{FinSet}
 use Rattle.std.specs.List.{All}
-use Rattle.std.proofs.lemmas.List.Elements.{All-nil, All-push, All-weaker}
+use Rattle.std.proofs.lemmas.List.Elements.{All-nil, All-push}
 use Rattle.keybytes.specs.Keys.{KeySpecValue}
 use Rattle.keybytes.specs.Pairs.{pair_cmp, set_of}
 use Rattle.keybytes.proofs.PairSets.{contains-set_of, same_members}
@@ -16,7 +16,7 @@ use Rattle.builder_core.specs.Builds.{WorkValue, IndexValue, IsBuildOf, IsIndexO
 use Rattle.builder_core.specs.CoreState.{BuildState, scanning_of}
 use Rattle.scan_range.specs.Cuts.{are_cuts}
 use Rattle.builder_core.specs.Ranges.{next_page}
-use Rattle.builder_core.specs.Scanning.{Scanning, IsScanned, IsScanOf, AllScanned, scanned_at, scanned_pairs}
+use Rattle.builder_core.specs.Scanning.{Scanning, IsScanOf, AllScanned, scanned_at, scanned_pairs}
 use Rattle.visibility.specs.Applied.{apply_entries}
 use Rattle.builder_core.specs.SideEntries.{entries_of, side_entries}
 use Rattle.std.specs.List.{slice_get}

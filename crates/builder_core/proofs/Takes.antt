@@ -24,8 +24,6 @@ use Rattle.building.proofs.Taking.{digested_taking, sealed_taking, digested_hold
 use Rattle.run_maker.specs.ImagePairs.{HasRows}
 use Rattle.builder_core.specs.Builds.{LiveValue, BuildingValue, WorkValue, IsRunning, IsWorkOn, IsUnloaded, AreFed, WorksOn, worker_state, index_state, state_unless, work_state}
 use Rattle.builder_core.specs.Builds.{core_state}
-use Rattle.builder_core.specs.SideFiles.{IsFed}
-use Rattle.builder_core.specs.Workers.{fed_to}
 use Rattle.builder_core.specs.CoreState.{BuildState, WorkState, SpoolsState, scanning_of, spoiled_work}
 use Rattle.builder_core.specs.Columns.{with_own}
 use Rattle.builder_core.specs.Holding.{Kit, IsFit, HoldsAt, Digested, Sealed, holdings, kit_of, runs_of, spools_state}

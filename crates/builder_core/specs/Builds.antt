@@ -1,5 +1,5 @@
 -- What a table and the workers of its build keep between events, and how the two go together.
-use Rattle.std.specs.Prelude.{◌≡◌, ℕ, ◌+◌, ◌==◌, ◌<◌, ◌≤◌, Bool, List, [], ◌∷◌, ◌++◌, length, map, min, take, set, replicate, is_some, true, Option}
+use Rattle.std.specs.Prelude.{◌≡◌, ℕ, ◌+◌, ◌==◌, ◌<◌, ◌≤◌, Bool, List, [], ◌++◌, length, map, min, take, set, replicate, is_some, true, Option}
 use Rattle.std.specs.Prelude.{Some, None}
 use Rattle.std.specs.FinMap.{keys}
 use Rattle.std.specs.List.{All, slice_get}
@@ -12,7 +12,7 @@ use Rattle.keybytes.specs.declared.kind.Kind.{Kind}
 use Rattle.keybytes.specs.declared.pair.Pair.{Pair}
 use Rattle.heap_log.specs.declared.record.LogRec.{LogRec}
 use Rattle.heap_table.specs.HeapState.{HeapState}
-use Rattle.run_maker.specs.Making.{MakerValue, spec_at}
+use Rattle.run_maker.specs.Making.{MakerValue}
 use Rattle.scan_range.specs.Cuts.{CutsValue, are_cuts}
 use Rattle.scan_range.specs.Ranges.{RangesValue, is_passed}
 use Rattle.side_file.specs.Ends.{PutEnd, RingId}

@@ -1,5 +1,5 @@
 -- The side-file of a running build, and what a change of a row appends to it.
-use Rattle.std.specs.Prelude.{◌≡◌, ℕ, ◌+◌, ◌-◌, ◌<◌, ◌≤◌, ◌^◌, ◌++◌, Bool, ◌||◌, nat_le, is_some, if◌then◌else◌, List, [], ◌∷◌, length, map, take, drop, get_or, Option, Some, None}
+use Rattle.std.specs.Prelude.{◌≡◌, ℕ, ◌+◌, ◌-◌, ◌<◌, ◌≤◌, ◌^◌, ◌++◌, Bool, ◌||◌, nat_le, is_some, if◌then◌else◌, List, [], length, map, take, drop, get_or, Option, Some, None}
 use Rattle.std.specs.List.{All, slice_get}
 use Rattle.keybytes.specs.Keys.{KeySpecValue, IsKeyOf}
 use Rattle.keybytes.specs.Pairs.{pair_with}

@@ -1,4 +1,4 @@
-use Rattle.std.proofs.Common.{◌≡◌, length, ap, ◌∙◌, sym, subst, arith, length-append, ◌∷◌, []}
+use Rattle.std.proofs.Common.{length, ap, sym, subst, arith, length-append, ◌∷◌, []}
 use Rattle.builder_core.specs.Changing.{AreChangesOf, IsChangeOf}
 use Rattle.builder_core.proofs.Noting.{more_changes, no_changes}
 use Rattle.builder_core.proofs.changes.changes_of.Goals as goal

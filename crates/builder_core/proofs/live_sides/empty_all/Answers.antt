@@ -1,10 +1,9 @@
-use Rattle.std.proofs.Common.{rules, ◌≡◌, ℕ, ◌<◌, ◌+◌, List, length, map, set, refl, sym, ap, ◌∙◌, subst, arith}
+use Rattle.std.proofs.Common.{rules, ◌≡◌, ℕ, ◌<◌, ◌+◌, length, map, set, refl, sym, ap, ◌∙◌, subst, arith}
 use Rattle.std.proofs.lemmas.List.{length-map, length-set, map-set}
 use Rattle.side_file.specs.SideFileValue.{SideFileValue}
 use Rattle.side_file.specs.declared.entry.Entry.{Entry}
 use Rattle.building.specs.TakeEnd.{TakeEnd, take_end}
-use Rattle.builder_core.specs.Rings.{side_rings, taken_rings}
-use Rattle.builder_core.specs.SideFiles.{put_ends}
+use Rattle.builder_core.specs.Rings.{taken_rings}
 use Rattle.builder_core.proofs.Emptied.{IsEmptied, AreEmptied, more_emptied, all_emptied, all_drained}
 use Rattle.builder_core.proofs.SideEnds.{as_many, paired, rings_stay, taken_stay}
 use Rattle.builder_core.proofs.live_sides.empty_all.Goals as goal

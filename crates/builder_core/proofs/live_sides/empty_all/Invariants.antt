@@ -1,8 +1,6 @@
-use Rattle.std.proofs.Common.{◌≡◌, ◌<◌, ℕ, map, Some, length}
-use Rattle.std.specs.List.{slice_get}
-use Rattle.side_file.specs.SideFileValue.{SideFileValue}
+use Rattle.std.proofs.Common.{◌≡◌, map, length}
 use Rattle.building.specs.TakeEnd.{take_end}
-use Rattle.builder_core.specs.Rings.{side_rings, taken_rings, drained_end}
+use Rattle.builder_core.specs.Rings.{side_rings, taken_rings}
 use Rattle.builder_core.specs.SideFiles.{put_ends}
 use Rattle.builder_core.proofs.Emptied.{AreEmptied}
 use Rattle.builder_core.proofs.live_sides.empty_all.Given as goal

@@ -1,4 +1,4 @@
-use Rattle.std.proofs.Common.{rules, arith, ap, ◌≡◌, ◌∙◌, [], List, length, sym}
+use Rattle.std.proofs.Common.{rules, arith, ap, ◌≡◌, ◌∙◌, [], sym}
 use Rattle.rtrb.specs.Ring.{received, known_items}
 use Rattle.side_file.specs.Ends.{ring_take}
 use Rattle.side_file.specs.SideFileValue.{SideFileValue}

@@ -1,4 +1,4 @@
-use Rattle.std.proofs.Common.{◌≡◌, ◌∙◌, ap, length}
+use Rattle.std.proofs.Common.{◌∙◌, ap}
 use Rattle.std.proofs.lemmas.List.{length-set}
 use Rattle.side_file.specs.SideFileValue.{SideFileValue}
 use Rattle.builder_core.proofs.Places.{kept}

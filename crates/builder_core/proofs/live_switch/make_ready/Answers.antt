@@ -1,11 +1,11 @@
-use Rattle.std.proofs.Common.{rules, ◌≡◌, ◌∙◌, ◌++◌, ◌∷◌, [], List, Option, Some, None, length, append_assoc, refl, sym, ap, ap₂, subst, arith}
+use Rattle.std.proofs.Common.{rules, ◌≡◌, ◌∙◌, ◌++◌, ◌∷◌, [], List, Option, length, append_assoc, refl, sym, ap, ap₂, subst, arith}
 use Rattle.std.specs.Prelude.{IfSome, IsSome}
 use Rattle.std.proofs.lemmas.List.{append-nil, nil_from_length}
 use Rattle.catch_up.specs.Built.{BuiltValue}
 use Rattle.keybytes.specs.Keys.{KeySpecValue}
 use Rattle.keybytes.specs.declared.pair.Pair.{Pair}
 use Rattle.builder_core.specs.Builds.{IndexValue}
-use Rattle.builder_core.specs.CatchingUp.{IsDoneIndex, ready_of, built_pairs}
+use Rattle.builder_core.specs.CatchingUp.{ready_of, built_pairs}
 use Rattle.builder_core.specs.CoreState.{IsIndex, ReadyValue}
 use Rattle.builder_core.proofs.SwitchIn.{first_done, none_done}
 use Rattle.builder_core.proofs.live_switch.make_ready.Goals as goal

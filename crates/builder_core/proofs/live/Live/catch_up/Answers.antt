@@ -1,11 +1,10 @@
-use Rattle.std.proofs.Common.{◌≡◌, ◌<◌, ◌+◌, ◌∙◌, ℕ, length, map, refl, sym, ap, subst, arith, inl, inr, None, Some, Option}
+use Rattle.std.proofs.Common.{◌≡◌, ◌<◌, ◌∙◌, length, sym, ap, subst, arith, inl, inr}
 use Rattle.std.proofs.lemmas.Bool.{cases_lt}
 use Rattle.std.proofs.lemmas.Option.{same_Some}
-use Rattle.building.specs.TakeEnd.{take_end}
-use Rattle.builder_core.specs.Builds.{LiveValue, BuildingValue, BuildFollows, WorksOn, core_state}
-use Rattle.builder_core.specs.CatchingUp.{IndexIsFurther, left_at}
-use Rattle.builder_core.specs.CoreState.{CoreState, BuildState}
-use Rattle.builder_core.proofs.CatchingUp.{AllAreFurther, begins, catches_up, all_further, others_left, may_apply_at, none_left}
+use Rattle.builder_core.specs.Builds.{BuildingValue, BuildFollows, core_state}
+use Rattle.builder_core.specs.CatchingUp.{left_at}
+use Rattle.builder_core.specs.CoreState.{BuildState}
+use Rattle.builder_core.proofs.CatchingUp.{begins, catches_up, all_further, others_left, may_apply_at, none_left}
 use Rattle.builder_core.proofs.live.Live.catch_up.Goals as goal
 
 pub loop-index-init : goal.loop-index-init

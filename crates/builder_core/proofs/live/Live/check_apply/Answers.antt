@@ -1,4 +1,3 @@
-use Rattle.std.proofs.Common.{rules, ◌≡◌, ◌∙◌, Some, None, sym, ap, subst}
 use Rattle.builder_core.proofs.ApplyCauses.{not_loaded, applicable}
 use Rattle.builder_core.proofs.Refusals.{running}
 use Rattle.builder_core.proofs.live.Live.check_apply.Goals as goal

@@ -1,8 +1,7 @@
-use Rattle.std.proofs.Common.{ℕ, ◌+◌, ◌<◌, ◌≤◌, List, length, set, min, Option, Some, None, ◌≡◌, refl, sym, ap, ◌∙◌, subst, arith}
-use Rattle.std.proofs.lemmas.List.{length-map, map-set}
+use Rattle.std.proofs.Common.{ℕ, ◌+◌, ◌<◌, ◌≤◌, List, length, set, min, Option, Some, ◌≡◌, refl, sym, ap, ◌∙◌, subst, arith}
+use Rattle.std.proofs.lemmas.List.{map-set}
 use Rattle.std.proofs.lemmas.Option.{same_Some}
 use Rattle.std.specs.List.{slice_get}
-use Rattle.keybytes.specs.Keys.{KeySpecValue}
 use Rattle.heap_table.specs.HeapState.{HeapState}
 use Rattle.side_file.specs.Ends.{PutEnd}
 use Rattle.side_file.specs.SideFileValue.{SideFileValue}

@@ -1,8 +1,5 @@
-use Rattle.std.proofs.Common.{◌≡◌, ◌<◌, ◌∙◌, ℕ, false, length, IfOk, OnErr, ap, sym, subst, arith}
-use Rattle.builder_core.specs.Builds.{LiveValue, BuildingValue, core_state}
-use Rattle.builder_core.specs.Steps.{Loads}
-use Rattle.builder_core.specs.Workers.{index_at}
-use Rattle.builder_core.specs.Working.{HasLoaded}
+use Rattle.std.proofs.Common.{◌≡◌, ◌∙◌, length, ap, sym}
+use Rattle.builder_core.specs.Builds.{LiveValue, BuildingValue}
 use Rattle.builder_core.proofs.Loaded.{put_inside, can_load, works_after_load, loads_after, wanted_first}
 use Rattle.builder_core.proofs.Takes.{spoiled_after}
 use Rattle.builder_core.proofs.live.Live.load.Goals as goal

@@ -1,4 +1,4 @@
-use Rattle.std.proofs.Common.{rules, ◌≡◌, ◌∙◌, ◌+◌, ◌++◌, ◌∷◌, [], ℕ, List, length, map, true, Some, ap, ap₂, sym, subst}
+use Rattle.std.proofs.Common.{◌≡◌, ◌∙◌, ◌+◌, ◌++◌, ℕ, List, length, map, ap, ap₂, sym, subst}
 use Rattle.std.specs.List.{All, AllZip}
 use Rattle.std.proofs.lemmas.Option.{same_Some}
 use Rattle.keybytes.specs.Keys.{KeySpecValue}
@@ -6,7 +6,7 @@ use Rattle.heap_log.specs.declared.outcome.Outcome.{Outcome}
 use Rattle.heap_table.specs.HeapState.{HeapState, after_switch}
 use Rattle.heap_table.specs.Kept.{RowsFit}
 use Rattle.building.specs.TakeEnd.{take_end}
-use Rattle.builder_core.specs.Builds.{LiveValue, BuildingValue, WorkValue, IndexValue, BuildFollows, IsRunning, core_state, work_state}
+use Rattle.builder_core.specs.Builds.{LiveValue, BuildingValue, WorkValue, IndexValue, IsRunning, core_state, work_state}
 use Rattle.builder_core.specs.CatchingUp.{IsDoneIndex, ready_of}
 use Rattle.builder_core.specs.CoreState.{AreIndexesOf, BuildState, ReadyValue, CoreState}
 use Rattle.builder_core.specs.Holding.{spool_value, spools_state}

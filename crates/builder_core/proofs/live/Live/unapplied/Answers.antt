@@ -1,5 +1,5 @@
-use Rattle.std.proofs.Common.{◌≡◌, ℕ, Option, Some, length, ap, ◌∙◌, sym, subst, arith}
-use Rattle.builder_core.specs.Builds.{core_state, work_state}
+use Rattle.std.proofs.Common.{◌≡◌, ℕ, Option, length, ap, ◌∙◌, sym, subst, arith}
+use Rattle.builder_core.specs.Builds.{core_state}
 use Rattle.builder_core.specs.CoreState.{BuildState, CoreState}
 use Rattle.builder_core.specs.Steps.{OnBuild}
 use Rattle.builder_core.specs.Workers.{all_unapplied}

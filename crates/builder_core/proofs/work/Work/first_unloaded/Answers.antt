@@ -1,6 +1,5 @@
-use Rattle.std.proofs.Common.{◌≡◌, ◌<◌, ℕ, List, Some, true, false, length, ap, ◌∙◌, sym, arith}
+use Rattle.std.proofs.Common.{◌≡◌, List, length, ap, sym, arith}
 use Rattle.std.specs.Prelude.{not, is_some}
-use Rattle.std.specs.List.{slice_get}
 use Rattle.builder_core.specs.Builds.{WorkValue, IndexValue}
 use Rattle.builder_core.proofs.Places.{below, there_is}
 use Rattle.builder_core.proofs.Unloaded.{first_here, none_here}
