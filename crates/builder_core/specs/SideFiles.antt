@@ -1,4 +1,4 @@
--- The side-file of a running build, and what a change of a row appends to it.
+-- The side-files of a running build, one for each index, and what a change of a row appends to them.
 use Rattle.std.specs.Prelude.{◌≡◌, ℕ, ◌+◌, ◌-◌, ◌<◌, ◌≤◌, ◌^◌, ◌++◌, Bool, ◌||◌, nat_le, is_some, if◌then◌else◌, List, [], length, map, take, drop, get_or, Option, Some, None}
 use Rattle.std.specs.List.{All, slice_get}
 use Rattle.keybytes.specs.Keys.{KeySpecValue, IsKeyOf}

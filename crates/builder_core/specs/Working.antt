@@ -1,4 +1,4 @@
--- What the workers of a build do, and the entries that are applied to its index, and what that leaves beside the table.
+-- What the workers of a build do, and the entries that are applied to its indexes, and what that leaves beside the table.
 use Rattle.std.specs.Prelude.{◌≡◌, ℕ, ◌+◌, ◌*◌, ◌^◌, ◌<◌, ◌≤◌, List, ◌++◌, length, set, take, drop, is_some, true, Some, None, IsPermutation}
 use Rattle.std.specs.List.{All, slice_get, IsDistinct}
 use Rattle.std.specs.Ordering.{eq_by_cmp}

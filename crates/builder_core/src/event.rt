@@ -1,7 +1,7 @@
 use crate::Plan;
 use keybytes::{Rid, Row};
 
-/// What is asked of a table and of its index build.
+/// What is asked of a table and of the build of its indexes.
 ///
 /// Behind what each event does stand the faults that refuse it: where several have their cause, the first is answered. Each ready
 /// index follows a write and an undo. [`Fault::Memory`] is answered only where none of them has its cause, and so is
@@ -34,7 +34,7 @@ pub enum Event {
     Scan { range: usize, worker: usize },
     /// The worker makes the pairs of the next copy that waits for it, if one does. [`Fault::NoBuild`], [`Fault::BadCount`].
     Digest { worker: usize },
-    /// The worker makes the pairs of all copies that wait for it, and closes its run of pairs. [`Fault::NoBuild`],
+    /// The worker makes the pairs of all copies that wait for it, and closes its run of each index. [`Fault::NoBuild`],
     /// [`Fault::BadCount`].
     Seal { worker: usize },
     /// The pairs of the index are put in order. [`Fault::NoBuild`], [`Fault::BadCount`]; [`Fault::NotScanned`] with the

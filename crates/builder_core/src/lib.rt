@@ -1,8 +1,8 @@
-//! The build of an index over a table, one event after another.
+//! The build of indexes over a table, one event after another.
 //!
 //! An event is a write, an undo, a commit or one step of a build, and is answered before the next is looked at. A build copies
-//! the table's pages, makes the pairs of key and RID of their rows, puts the pairs in order, and is then switched in:
-//! from there on the index is ready. Why an event is refused and what it does otherwise is said once, by `refusal` and `Does`
+//! the table's pages, makes the pairs of key and RID of their rows for 1 to 8 indexes, puts the pairs of each in order, and is then
+//! switched in: from there on all of them are ready. Why an event is refused and what it does otherwise is said once, by `refusal` and `Does`
 //! of `specs/Steps.antt`; a refused event changes nothing, unless memory or pages ran out in the midst of a build's work, which
 //! spoils that build, or memory while entries were applied to an index: those before then stay applied.
 //!

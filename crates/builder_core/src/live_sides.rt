@@ -1,4 +1,4 @@
-//! The side-file of a build: its entries go into its ring, and from there to the index.
+//! The side-files of a build, one for each index: their entries go into their rings, and from there to the indexes.
 ghost use Rattle.std.specs.Prelude.{◌≡◌, ◌<◌, [], None, Some, All, map, slice_get, IfSome, IfOk, IfErr, OnOk, OnErr};
 ghost use Rattle.side_file.specs.Ends.{ring_take};
 ghost use Rattle.building.specs.TakeEnd.{take_end};

@@ -19,7 +19,7 @@ use run_spool::Spool;
 use side_file::RING_ENTRIES;
 use std::alloc::Global;
 
-/// The most entries of the side-file that a switch applies.
+/// The most entries of all side-files that a switch applies.
 const SWITCH_MAX: usize = 1024;
 
 impl<T: Table> Live<T> {
