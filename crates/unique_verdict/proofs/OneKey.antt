@@ -42,4 +42,3 @@ between_key a b w h k e =
     let back : is_lt (slice_cmp nat_cmp b.key a.key) ≡ false = turned (slice_cmp nat_cmp a.key b.key) _ _ h (nat_list_cmp_total.antisymm b.key a.key) in
     let n : is_lt (slice_cmp nat_cmp b.key w.key) ≡ false = subst P (sym e) back in
     slice_cmp-IsAntisymmetric nat_cmp-IsAntisymmetric b.key w.key (up_to (slice_cmp nat_cmp b.key w.key) _ k n) ∙ e
-

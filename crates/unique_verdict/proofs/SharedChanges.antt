@@ -124,12 +124,12 @@ without_two p a b ps r here first second only =
     let inner : IsRising is_before (without is_before a (shared_pairs ps)) = rising_without is_before a _ whole in
     let kept = λ (z : Pair) (i : In z (shared_pairs (without is_before p ps))). fewer p ps r z i in
     let never = λ (z : Pair) (i : In z (shared_pairs (without is_before p ps))) (k : z.key ≡ p.key).
-        let w = shared_other z _ i in
-        let w_in = in_shared w.other z _ w.there (shared_there z _ i) (sym w.key_is) (λ g. w.apart (sym g)) in
-        let z_not = without_leaves o p z _ whole (kept z i) in
-        let w_not = without_leaves o p w.other _ whole (kept w.other w_in) in
-        three_of_two p z w.other a b (λ e. z_not (sym e)) (λ e. w_not (sym e)) (λ e. w.apart (sym e)) (only p here refl)
-        (only z (in_without is_before p z _ (kept z i)) k) (only w.other (in_without is_before p w.other _ (kept w.other w_in)) (w.key_is ∙ k)) in
+    let w = shared_other z _ i in
+    let w_in = in_shared w.other z _ w.there (shared_there z _ i) (sym w.key_is) (λ g. w.apart (sym g)) in
+    let z_not = without_leaves o p z _ whole (kept z i) in
+    let w_not = without_leaves o p w.other _ whole (kept w.other w_in) in
+    three_of_two p z w.other a b (λ e. z_not (sym e)) (λ e. w_not (sym e)) (λ e. w.apart (sym e)) (only p here refl)
+    (only z (in_without is_before p z _ (kept z i)) k) (only w.other (in_without is_before p w.other _ (kept w.other w_in)) (w.key_is ∙ k)) in
     rising_same o (shared_pairs (without is_before p ps)) (without is_before b (without is_before a (shared_pairs ps))) (shared_rises _ less)
     (rising_without is_before b _ inner)
     (λ z i.

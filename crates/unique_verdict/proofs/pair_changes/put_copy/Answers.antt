@@ -1,4 +1,4 @@
-use Rattle.std.proofs.Common.{◌≡◌, ℕ, List, sym, ap, ◌∙◌}
+use Rattle.std.proofs.Common.{ℕ, List, sym, ap, ◌∙◌}
 use Rattle.std.specs.Prelude.{Some}
 use Rattle.keybytes.specs.declared.pair.Pair.{Pair}
 use Rattle.keybytes.specs.Pairs.{set_of, with_pair}

@@ -1,6 +1,4 @@
-use Rattle.std.proofs.Common.{sym, ap, ◌∙◌}
-use Rattle.unique_verdict.proofs.CountingFacts.{tallied_none, tallied_more, tallied_all}
-use Rattle.unique_verdict.proofs.TreeSets.{shared_now}
+use Rattle.unique_verdict.proofs.CountingFacts.{tallied_none, tallied_more}
 use Rattle.unique_verdict.proofs.tally.Tally.of.Goals as goal
 
 pub loop-pair-init : goal.loop-pair-init
