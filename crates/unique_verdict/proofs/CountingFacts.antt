@@ -22,7 +22,8 @@ put_behind p (q ∷ a) h =
     let less : is_before q p ≡ true = h q (inl refl) in
     rw (one_way before-strict q p less, less) (ap (λ ps. q ∷ ps) (put_behind p a (λ r i. h r (inr i))))
 
-counted_more : (before : Option (Bor Pair)) (p : Pair) (seen shared : List Pair) → IsRising is_before seen → ((q : Pair) → In q seen → is_before q p ≡ true) → IsLast before seen → shared ≡ shared_pairs seen → counted before p shared ≡ shared_pairs (put is_before p seen)
+counted_more : (before : Option (Bor Pair)) (p : Pair) (seen shared : List Pair) → IsRising is_before seen → ((q : Pair) → In q seen
+    → is_before q p ≡ true) → IsLast before seen → shared ≡ shared_pairs seen → counted before p shared ≡ shared_pairs (put is_before p seen)
 counted_more None p seen shared r h last e =
     e ∙ sym (put_alone p seen r (λ q i k. let P : List Pair → Type 0 = λ l. In q l in subst P last i))
 counted_more (Some b) p seen shared r h last e = elim (cases_Bool (is_key p.key b.now)) [
@@ -42,7 +43,8 @@ pub tallied_none : (pairs left shared : List Pair) → left ≡ pairs → shared
 unfolding shared_pairs
 tallied_none pairs left shared e f = record { seen = []; whole = e; last = refl; is = f }
 
-pub tallied_more : (pairs left rest shared new : List Pair) (before : Option (Bor Pair)) (b : Bor Pair) → AreOrdered pairs → IsTallied pairs left before shared → left ≡ b.now ∷ rest → new ≡ counted before b.now shared → IsTallied pairs rest (Some b) new
+pub tallied_more : (pairs left rest shared new : List Pair) (before : Option (Bor Pair)) (b : Bor Pair) → AreOrdered pairs
+    → IsTallied pairs left before shared → left ≡ b.now ∷ rest → new ≡ counted before b.now shared → IsTallied pairs rest (Some b) new
 tallied_more pairs left rest shared new before b o t e f =
     let p : Pair = b.now in
     let whole : t.seen ++ p ∷ rest ≡ pairs = ap (λ (ps : List Pair). t.seen ++ ps) (sym e) ∙ t.whole in

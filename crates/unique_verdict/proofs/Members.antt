@@ -29,7 +29,8 @@ lt_not_one {X} {lt} o x y h e =
     let P : X → Type 0 = λ z. lt x z ≡ true in
     both_ways _ (o.not_itself x) (subst P (sym e) h)
 
-head_of : {X : Type 0} {lt : X → X → Bool} → IsStrict lt → (x y : X) (xs ys : List X) → IsRising lt (x ∷ xs) → IsRising lt (y ∷ ys) → In x (y ∷ ys) → In y (x ∷ xs) → x ≡ y
+head_of : {X : Type 0} {lt : X → X → Bool} → IsStrict lt → (x y : X) (xs ys : List X) → IsRising lt (x ∷ xs) → IsRising lt (y ∷ ys) → In x (y ∷ ys)
+    → In y (x ∷ xs) → x ≡ y
 head_of {lt = lt} o x y xs ys r s h k = elim h [
   | inl e ↦ e
   | inr i ↦ elim k [ inl e ↦ sym e | inr j ↦ absurd (both_ways _ (one_way o x y (r.0 y j)) (s.0 x i)) ]
@@ -38,7 +39,8 @@ head_of {lt = lt} o x y xs ys r s h k = elim h [
 tail_of : {X : Type 0} {lt : X → X → Bool} → IsStrict lt → (x y z : X) (xs ys : List X) → IsRising lt (x ∷ xs) → x ≡ y → In z xs → In z (y ∷ ys) → In z ys
 tail_of o x y z xs ys r e i h = elim h [ inl f ↦ absurd (lt_not_one o x z (r.0 z i) (e ∙ sym f)) | inr j ↦ j ]
 
-pub rising_same : {X : Type 0} {lt : X → X → Bool} → IsStrict lt → (xs ys : List X) → IsRising lt xs → IsRising lt ys → ((z : X) → In z xs → In z ys) → ((z : X) → In z ys → In z xs) → xs ≡ ys
+pub rising_same : {X : Type 0} {lt : X → X → Bool} → IsStrict lt → (xs ys : List X) → IsRising lt xs → IsRising lt ys → ((z : X) → In z xs
+    → In z ys) → ((z : X) → In z ys → In z xs) → xs ≡ ys
 rising_same o [] [] r s f g = refl
 rising_same o [] (y ∷ ys) r s f g = absurd (g y (inl refl))
 rising_same o (x ∷ xs) [] r s f g = absurd (f x (inl refl))

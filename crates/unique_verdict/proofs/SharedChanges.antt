@@ -20,7 +20,8 @@ three_of_two x y z a b xy xz yz (inr i) (inl j) (inr k) = xz (i ∙ sym k)
 three_of_two x y z a b xy xz yz (inr i) (inr j) k = xy (i ∙ sym j)
 
 -- a pair whose key no other has
-pub put_alone : (p : Pair) (ps : List Pair) → IsRising is_before ps → ((q : Pair) → In q ps → q.key ≡ p.key → ⊥) → shared_pairs (put is_before p ps) ≡ shared_pairs ps
+pub put_alone : (p : Pair) (ps : List Pair) → IsRising is_before ps → ((q : Pair) → In q ps → q.key ≡ p.key → ⊥)
+    → shared_pairs (put is_before p ps) ≡ shared_pairs ps
 put_alone p ps r none =
     let more : IsRising is_before (put is_before p ps) = rising_put before-strict p ps r in
     rising_same before-strict (shared_pairs (put is_before p ps)) (shared_pairs ps) (shared_rises _ more) (shared_rises ps r)
@@ -41,7 +42,8 @@ put_alone p ps r none =
     in_shared z o.other _ (put_keeps is_before p z ps (shared_there z ps i)) (put_keeps is_before p o.other ps o.there) o.key_is o.apart)
 
 -- a pair whose key r has
-pub put_shared : (p r : Pair) (ps : List Pair) → IsRising is_before ps → In r ps → r.key ≡ p.key → (r ≡ p → ⊥) → shared_pairs (put is_before p ps) ≡ put is_before p (put is_before r (shared_pairs ps))
+pub put_shared : (p r : Pair) (ps : List Pair) → IsRising is_before ps → In r ps → r.key ≡ p.key → (r ≡ p → ⊥)
+    → shared_pairs (put is_before p ps) ≡ put is_before p (put is_before r (shared_pairs ps))
 put_shared p r ps s there e n =
     let o = before-strict in
     let more : IsRising is_before (put is_before p ps) = rising_put o p ps s in
@@ -70,7 +72,8 @@ put_shared p r ps s there e n =
     ])
 
 -- a pair that isn't shared
-pub without_unshared : (p : Pair) (ps : List Pair) → IsRising is_before ps → (In p (shared_pairs ps) → ⊥) → shared_pairs (without is_before p ps) ≡ shared_pairs ps
+pub without_unshared : (p : Pair) (ps : List Pair) → IsRising is_before ps → (In p (shared_pairs ps) → ⊥)
+    → shared_pairs (without is_before p ps) ≡ shared_pairs ps
 without_unshared p ps r n =
     let o = before-strict in
     let less : IsRising is_before (without is_before p ps) = rising_without is_before p ps r in
@@ -86,14 +89,16 @@ without_unshared p ps r n =
     in_shared z w.other _ (without_keeps o p z ps z_there z_not) (without_keeps o p w.other ps w.there w_not) w.key_is w.apart)
 
 -- what is left of the shared pairs is shared without p
-fewer : (p : Pair) (ps : List Pair) → IsRising is_before ps → (z : Pair) → In z (shared_pairs (without is_before p ps)) → In z (without is_before p (shared_pairs ps))
+fewer : (p : Pair) (ps : List Pair) → IsRising is_before ps → (z : Pair) → In z (shared_pairs (without is_before p ps))
+    → In z (without is_before p (shared_pairs ps))
 fewer p ps r z i =
     let w = shared_other z _ i in
     let there = shared_there z _ i in
     without_keeps before-strict p z _ (in_shared z w.other ps (in_without is_before p z ps there) (in_without is_before p w.other ps w.there) w.key_is w.apart) (without_leaves before-strict p z ps r there)
 
 -- a shared pair, where each other with its key has one more beside it
-pub without_more : (p : Pair) (ps : List Pair) → IsRising is_before ps → NoOnly p.key (without is_before p (shared_pairs ps)) → shared_pairs (without is_before p ps) ≡ without is_before p (shared_pairs ps)
+pub without_more : (p : Pair) (ps : List Pair) → IsRising is_before ps → NoOnly p.key (without is_before p (shared_pairs ps))
+    → shared_pairs (without is_before p ps) ≡ without is_before p (shared_pairs ps)
 without_more p ps r n =
     let o = before-strict in
     let less : IsRising is_before (without is_before p ps) = rising_without is_before p ps r in

@@ -15,12 +15,14 @@ pub keys_with : (p : Pair) (ps : List Pair) → AreOrdered ps → keys (with_pai
 keys_with p ps o = ap keys (sym (put_is p ps)) ∙ sym (ordered_of (put is_before p ps) (rising_put before-strict p ps (rises_of ps o)))
 
 pub keys_without : (p : Pair) (ps : List Pair) → AreOrdered ps → keys (without_pair (Some p) (set_of ps)) ≡ without is_before p ps
-keys_without p ps o = ap keys (sym (without_is p ps (rises_of ps o))) ∙ sym (ordered_of (without is_before p ps) (rising_without is_before p ps (rises_of ps o)))
+keys_without p ps o = ap keys (sym (without_is p ps (rises_of ps o)))
+    ∙ sym (ordered_of (without is_before p ps) (rising_without is_before p ps (rises_of ps o)))
 
 pub put_by_sets : (p : Pair) (ps new : List Pair) → AreOrdered ps → AreOrdered new → set_of new ≡ with_pair (Some p) (set_of ps) → new ≡ put is_before p ps
 put_by_sets p ps new o n is = n ∙ ap keys is ∙ keys_with p ps o
 
-pub without_by_sets : (p : Pair) (ps new : List Pair) → AreOrdered ps → AreOrdered new → set_of new ≡ without_pair (Some p) (set_of ps) → new ≡ without is_before p ps
+pub without_by_sets : (p : Pair) (ps new : List Pair) → AreOrdered ps → AreOrdered new → set_of new ≡ without_pair (Some p) (set_of ps)
+    → new ≡ without is_before p ps
 without_by_sets p ps new o n is = n ∙ ap keys is ∙ keys_without p ps o
 
 pub shared_now : (ps : List Pair) → AreOrdered ps → shared_of (set_of ps) ≡ shared_pairs ps

@@ -84,7 +84,8 @@ least_of a b ps rest r shape =
           ];
     }
 
-pub least_two : (a b : Pair) (ps now rest more : List Pair) → AreOrdered ps → now ≡ shared_pairs ps → now ≡ a ∷ rest → rest ≡ b ∷ more → (key : List ℕ) → key ≡ a.key → IsLeast ps (record { key = key; rid = a.rid }) (record { key = key; rid = b.rid })
+pub least_two : (a b : Pair) (ps now rest more : List Pair) → AreOrdered ps → now ≡ shared_pairs ps → now ≡ a ∷ rest → rest ≡ b ∷ more
+    → (key : List ℕ) → key ≡ a.key → IsLeast ps (record { key = key; rid = a.rid }) (record { key = key; rid = b.rid })
 least_two a b ps now rest more o f e d key k =
     let shape : shared_pairs ps ≡ a ∷ b ∷ more = sym f ∙ e ∙ ap (λ (l : List Pair). a ∷ l) d in
     let R : List Pair → Type 0 = λ l. IsRising is_before l in
