@@ -36,10 +36,7 @@ const CASES: [(&[Change], Short); 9] = [
         ],
         Some((b'a', 2, 3)),
     ),
-    (
-        &[(true, b'a', 1), (true, b'a', 2), (false, b'a', 2)],
-        None,
-    ),
+    (&[(true, b'a', 1), (true, b'a', 2), (false, b'a', 2)], None),
     (
         &[(true, b'a', 1), (true, b'a', 2), (false, b'a', 3)],
         Some((b'a', 1, 2)),
@@ -54,11 +51,7 @@ const CASES: [(&[Change], Short); 9] = [
         Some((LONGEST, 1, 3)),
     ),
     (
-        &[
-            (true, LONGEST, 3),
-            (true, LONGEST, 2),
-            (false, LONGEST, 3),
-        ],
+        &[(true, LONGEST, 3), (true, LONGEST, 2), (false, LONGEST, 3)],
         None,
     ),
 ];
@@ -99,7 +92,10 @@ fn said(alloc: Global, changes: &[Change]) -> Result<(Short, Short), Fault> {
     for one in changes {
         change(alloc, &mut tallied, *one)?;
     }
-    Ok((short(tallied.verdict()?), short(tallied.verdict_anew(alloc)?)))
+    Ok((
+        short(tallied.verdict()?),
+        short(tallied.verdict_anew(alloc)?),
+    ))
 }
 
 #[test]

@@ -162,4 +162,5 @@ pub more_have :
 more_have p ps r here n =
     let w = shared_other p ps here in
     let w_in = in_shared w.other p ps w.there (shared_there p ps here) (sym w.key_is) (λ g. w.apart (sym g)) in
-    more_left p (shared_pairs ps) _ (of_key p.key (shared_pairs ps) (shared_rises ps r)) here (record { other = w.other; there = w_in; key_is = w.key_is; apart = w.apart }) n
+    more_left p (shared_pairs ps) _ (of_key p.key (shared_pairs ps) (shared_rises ps r)) here
+    (record { other = w.other; there = w_in; key_is = w.key_is; apart = w.apart }) n

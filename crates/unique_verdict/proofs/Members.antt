@@ -67,7 +67,10 @@ put_keeps lt x y (z ∷ zs) h = elim (cases_Bool (lt x z)) [
 ]
 
 same_as : {X : Type 0} {lt : X → X → Bool} → IsStrict lt → (x y : X) → same_by lt x y ≡ true → x ≡ y
-same_as {lt = lt} o x y h = elim (one_or_two o x y) [ inl e ↦ e | inr e ↦ absurd (false≢true (elim (cases_Bool (lt x y)) [ inl f ↦ rw f at h | inr f ↦ rw (f, (rw f at e)) at h ])) ]
+same_as {lt = lt} o x y h = elim (one_or_two o x y) [
+  | inl e ↦ e
+  | inr e ↦ absurd (false≢true (elim (cases_Bool (lt x y)) [ inl f ↦ rw f at h | inr f ↦ rw (f, (rw f at e)) at h ]))
+]
 
 same_self : {X : Type 0} {lt : X → X → Bool} → IsStrict lt → (x z : X) → x ≡ z → same_by lt x z ≡ true
 same_self {X} {lt} o x z e = let P : X → Type 0 = λ w. same_by lt x w ≡ true in subst P e (rw (o.not_itself x) refl)

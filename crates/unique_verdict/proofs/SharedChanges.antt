@@ -47,7 +47,8 @@ pub put_shared : (p r : Pair) (ps : List Pair) → IsRising is_before ps → In 
 put_shared p r ps s there e n =
     let o = before-strict in
     let more : IsRising is_before (put is_before p ps) = rising_put o p ps s in
-    rising_same o (shared_pairs (put is_before p ps)) (put is_before p (put is_before r (shared_pairs ps))) (shared_rises _ more) (rising_put o p _ (rising_put o r _ (shared_rises ps s)))
+    rising_same o (shared_pairs (put is_before p ps)) (put is_before p (put is_before r (shared_pairs ps))) (shared_rises _ more)
+    (rising_put o p _ (rising_put o r _ (shared_rises ps s)))
     (λ z i.
     let w = shared_other z _ i in
     elim (in_put is_before p z ps (shared_there z _ i)) [
@@ -85,7 +86,8 @@ without_unshared p ps r n =
     let w = shared_other z ps i in
     let z_there = shared_there z ps i in
     let z_not : z ≡ p → ⊥ = λ e. let P : Pair → Type 0 = λ x. In x (shared_pairs ps) in n (subst P e i) in
-    let w_not : w.other ≡ p → ⊥ = λ e. let P : Pair → Type 0 = λ x. In x (shared_pairs ps) in n (subst P e (in_shared w.other z ps w.there z_there (sym w.key_is) (λ g. w.apart (sym g)))) in
+    let w_not : w.other ≡ p → ⊥ = λ e. let P : Pair → Type 0 = λ x. In x (shared_pairs ps) in
+        n (subst P e (in_shared w.other z ps w.there z_there (sym w.key_is) (λ g. w.apart (sym g)))) in
     in_shared z w.other _ (without_keeps o p z ps z_there z_not) (without_keeps o p w.other ps w.there w_not) w.key_is w.apart)
 
 -- what is left of the shared pairs is shared without p
@@ -94,7 +96,8 @@ fewer : (p : Pair) (ps : List Pair) → IsRising is_before ps → (z : Pair) →
 fewer p ps r z i =
     let w = shared_other z _ i in
     let there = shared_there z _ i in
-    without_keeps before-strict p z _ (in_shared z w.other ps (in_without is_before p z ps there) (in_without is_before p w.other ps w.there) w.key_is w.apart) (without_leaves before-strict p z ps r there)
+    without_keeps before-strict p z _ (in_shared z w.other ps (in_without is_before p z ps there) (in_without is_before p w.other ps w.there) w.key_is w.apart)
+    (without_leaves before-strict p z ps r there)
 
 -- a shared pair, where each other with its key has one more beside it
 pub without_more : (p : Pair) (ps : List Pair) → IsRising is_before ps → NoOnly p.key (without is_before p (shared_pairs ps))
@@ -102,7 +105,8 @@ pub without_more : (p : Pair) (ps : List Pair) → IsRising is_before ps → NoO
 without_more p ps r n =
     let o = before-strict in
     let less : IsRising is_before (without is_before p ps) = rising_without is_before p ps r in
-    rising_same o (shared_pairs (without is_before p ps)) (without is_before p (shared_pairs ps)) (shared_rises _ less) (rising_without is_before p _ (shared_rises ps r))
+    rising_same o (shared_pairs (without is_before p ps)) (without is_before p (shared_pairs ps)) (shared_rises _ less)
+    (rising_without is_before p _ (shared_rises ps r))
     (fewer p ps r)
     (λ z i.
     let s = in_without is_before p z _ i in
