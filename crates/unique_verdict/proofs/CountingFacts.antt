@@ -1,5 +1,5 @@
 -- One pair more in order.
-use Rattle.std.proofs.Common.{◌≡◌, true, List, [], ◌∷◌, ◌++◌, Option, Some, None, Bor, refl, sym, ap, ◌∙◌, subst, inl, inr, append_assoc}
+use Rattle.std.proofs.Common.{◌≡◌, ◌⊎◌, true, List, [], ◌∷◌, ◌++◌, Option, Some, None, Bor, refl, sym, ap, ◌∙◌, subst, inl, inr, append_assoc}
 use Rattle.std.proofs.lemmas.Bool.{cases_Bool, both_ways}
 use Rattle.keybytes.specs.declared.pair.Pair.{Pair}
 use Rattle.keybytes.specs.Pairs.{AreOrdered}
@@ -11,10 +11,22 @@ use Rattle.tree_nodes.proofs.Strict.{before-strict}
 use Rattle.tree_nodes.proofs.Places.{one_way}
 use Rattle.tree_nodes.proofs.Rising.{in_right, in_either, rising_parts}
 use Rattle.unique_verdict.specs.Shared.{shared_pairs}
-use Rattle.unique_verdict.specs.Counting.{counted, IsLast, IsTallied}
+use Rattle.unique_verdict.specs.Counting.{counted}
 use Rattle.unique_verdict.proofs.OneKey.{key_same, has_same, between_key}
 use Rattle.unique_verdict.proofs.Members.{lt_not_one}
 use Rattle.unique_verdict.proofs.SharedChanges.{put_alone, put_shared}
+
+-- the last of the pairs, if there is one
+abbrev pub IsLast : Option (Bor Pair) → List Pair → Type 0
+IsLast None seen = seen ≡ []
+IsLast (Some last) seen = In last.now seen × ((p : Pair) → In p seen → (p ≡ last.now) ⊎ (is_before p last.now ≡ true))
+
+-- the tally of the pairs that aren't left
+pub record IsTallied (pairs left : List Pair) (before : Option (Bor Pair)) (shared : List Pair) : Type 0 where
+  pub seen : List Pair
+  pub whole : seen ++ left ≡ pairs
+  pub last : IsLast before seen
+  pub is : shared ≡ shared_pairs seen
 
 put_behind : (p : Pair) (a : List Pair) → ((q : Pair) → In q a → is_before q p ≡ true) → put is_before p a ≡ a ++ p ∷ []
 put_behind p [] h = refl

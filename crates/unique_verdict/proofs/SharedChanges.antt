@@ -87,7 +87,7 @@ without_unshared p ps r n =
     let z_there = shared_there z ps i in
     let z_not : z ≡ p → ⊥ = λ e. let P : Pair → Type 0 = λ x. In x (shared_pairs ps) in n (subst P e i) in
     let w_not : w.other ≡ p → ⊥ = λ e. let P : Pair → Type 0 = λ x. In x (shared_pairs ps) in
-        n (subst P e (in_shared w.other z ps w.there z_there (sym w.key_is) (λ g. w.apart (sym g)))) in
+    n (subst P e (in_shared w.other z ps w.there z_there (sym w.key_is) (λ g. w.apart (sym g)))) in
     in_shared z w.other _ (without_keeps o p z ps z_there z_not) (without_keeps o p w.other ps w.there w_not) w.key_is w.apart)
 
 -- what is left of the shared pairs is shared without p

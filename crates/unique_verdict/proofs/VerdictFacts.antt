@@ -70,7 +70,7 @@ least_of : (a b : Pair) (ps rest : List Pair) → IsRising is_before (a ∷ b �
 least_of a b ps rest r shape =
     let o = before-strict in
     let there = λ (p q : Pair) (i : In p ps) (j : In q ps) (k : q.key ≡ p.key) (n : q ≡ p → ⊥).
-        let P : List Pair → Type 0 = λ l. In p l in subst P shape (in_shared p q ps i j k n) in
+    let P : List Pair → Type 0 = λ l. In p l in subst P shape (in_shared p q ps i j k n) in
     let back = λ (p : Pair) (i : In p (a ∷ b ∷ rest)). let P : List Pair → Type 0 = λ l. In p l in shared_there p ps (subst P (sym shape) i) in
     record {
       first_there = back a (inl refl);

@@ -17,5 +17,5 @@ returns-clause-ok c =
     let p : Pair = record { key = c.args.key.now; rid = c.args.rid } in
     put_by_sets p c.args.tree.now.pairs _ c.laws.ensures c.laws-2.ensures
     (c.insert.ensures ∙ ap
-        (λ (key : List ℕ). with_pair (Some (record { key = key; rid = c.args.rid })) (set_of c.make_room.new.self.pairs)) c.in_ok-copy.ensures.same
+    (λ (key : List ℕ). with_pair (Some (record { key = key; rid = c.args.rid })) (set_of c.make_room.new.self.pairs)) c.in_ok-copy.ensures.same
     ∙ ap (λ (ps : List Pair). with_pair (Some p) (set_of ps)) c.in_ok-make_room.ensures.pairs)

@@ -38,7 +38,7 @@ returns-then-not-there-clause-unchanged c =
     c.take_out.ensures
     ∙ ap (without is_before other) (c.in-Err.ensures.err ∙ c.in_ok-put_copy.ensures.ok)
     ∙ without_put before-strict other now (rises_of _ c.laws-2.ensures) (λ i. both_ways _ c.if-not-there.true (c.has_pair-there.ensures
-        ∙ in_has before-strict other now i))
+    ∙ in_has before-strict other now i))
     ∙ c.self.view_is
 
 pub returns-else-not-there-clause-unchanged : goal.returns-else-not-there-clause-unchanged
@@ -56,7 +56,7 @@ returns-clause-shared c =
     let pairs = c.args.tree.now.pairs in
     let rise = rises_of _ c.laws.ensures in
     let there : In other pairs = least_has c.args.key.now pairs c.in-Some.other rise (sym (c.in-Some.ensures
-        ∙ ap least_of c.in_ok-holders_in.ensures.holders)) in
+    ∙ ap least_of c.in_ok-holders_in.ensures.holders)) in
     let I : Pair → Type 0 = λ x. In x pairs in
     c.in_default-put_copy.ensures.ok
     ∙ ap (put is_before p) (c.in_ok-put_copy.ensures.ok ∙ ap (put is_before other) (c.self.view_is ∙ c.requires ∙ shared_now pairs c.laws.ensures))

@@ -1,6 +1,6 @@
 use Rattle.std.proofs.Common.{length}
 use Rattle.btree.specs.Left.{pairs_left}
-use Rattle.unique_verdict.specs.Counting.{IsTallied}
+use Rattle.unique_verdict.proofs.CountingFacts.{IsTallied}
 use Rattle.unique_verdict.proofs.tally.Tally.of.Given as goal
 
 abbrev pub invariant-loop-pair : goal.invariant-loop-pair
