@@ -8,4 +8,8 @@ mod fixtures;
 #[cfg(test)]
 mod nodes;
 #[cfg(test)]
+mod tallied;
+#[cfg(test)]
 mod trees;
+#[cfg(test)]
+mod verdicts;

@@ -1,0 +1,10 @@
+pub mod CountingFacts
+pub mod HolderFacts
+pub mod Members
+pub mod OneKey
+pub mod Others
+pub mod Ranges
+pub mod SharedChanges
+pub mod SharedFacts
+pub mod TreeSets
+pub mod VerdictFacts

@@ -1,0 +1,4 @@
+pub mod Counting
+pub mod Holders
+pub mod Shared
+pub mod Verdicts

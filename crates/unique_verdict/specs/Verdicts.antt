@@ -1,0 +1,23 @@
+-- What a verdict says of the pairs.
+use Rattle.std.specs.Prelude.{◌≡◌, true, false, List}
+use Rattle.keybytes.specs.declared.pair.Pair.{Pair}
+use Rattle.tree_nodes.specs.Lists.{In}
+use Rattle.tree_nodes.specs.Order.{is_before}
+use Rattle.unique_verdict.specs.declared.verdict.Verdict.{Verdict}
+use Rattle.unique_verdict.specs.declared.verdict.Verdict.TheVariants.{Unique, Shared}
+
+-- no two pairs have one key
+pub record IsUnique (pairs : List Pair) : Type 0 where
+  pub alone : (p q : Pair) → In p pairs → In q pairs → p.key ≡ q.key → p ≡ q
+
+-- two pairs have one key, and of any two that have one key the lower isn't below the first, nor the upper below the second
+pub record IsLeast (pairs : List Pair) (first second : Pair) : Type 0 where
+  pub first_there : In first pairs
+  pub second_there : In second pairs
+  pub apart : is_before first second ≡ true
+  pub first_least : (p q : Pair) → In p pairs → In q pairs → p.key ≡ q.key → is_before p q ≡ true → is_before p first ≡ false
+  pub second_least : (p q : Pair) → In p pairs → In q pairs → p.key ≡ q.key → is_before p q ≡ true → is_before q second ≡ false
+
+abbrev pub IsVerdict : List Pair → Verdict → Type 0
+IsVerdict pairs Unique = IsUnique pairs
+IsVerdict pairs (Shared key first second) = IsLeast pairs (record { key = key; rid = first }) (record { key = key; rid = second })

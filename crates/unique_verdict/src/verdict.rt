@@ -1,0 +1,9 @@
+use keybytes::{Key, Rid};
+
+/// Whether keys are unique.
+#[derive(Debug, Drop)]
+pub enum Verdict {
+    Unique,
+    /// The least key that two RIDs have, and its two least RIDs.
+    Shared { key: Key, first: Rid, second: Rid },
+}
