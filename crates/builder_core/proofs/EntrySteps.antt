@@ -93,40 +93,5 @@ entries_where b log rec rid cells place live =
     ap (entries_for b log rec) place
     ∙ ap (λ o. cond (is_visible b (length log) rid) (changes (pair_at b.spec log rid) (pair_with b.spec rid o)) []) live
 
-pub write_entries :
-    (b : Scanning) (log : List LogRec) (txn : ℕ) (rid : Rid) (row : Option (List Cell))
-    → AddsToLive log (Write txn rid row) (log ++ Write txn rid row ∷ []) → entries_of b log (Write txn rid row)
-    ≡ (if is_visible b (length log) rid then changes (pair_at b.spec log rid) (pair_with b.spec rid row) else [])
-write_entries b log txn rid row adds =
-    entries_where b log (Write txn rid row) rid row refl
-    (adds.live rid ∙ cond-true (same_rid rid rid) row (live_at log rid) (same_rid-refl rid))
-
--- the newest standing write at a RID is a write there
-place_here : (rid : Rid) (rec : Option LogRec) → is_write_at rid rec ≡ true → place_of rec ≡ Some rid
-place_here rid None e = absurd (false≢true e)
-place_here rid (Some (Write t r row)) e = ap (λ x. Some x) (same_rid-true r rid e)
-place_here rid (Some (Undo t n)) e = absurd (false≢true e)
-place_here rid (Some (Commit t)) e = absurd (false≢true e)
-place_here rid (Some (Switch v)) e = absurd (false≢true e)
-
-pub newest_place : (log : List LogRec) (rid : Rid) (n : ℕ) → newest_at log rid ≡ Some n → place_of (record_at log n) ≡ Some rid
-newest_place log rid n e =
-    let last : IsLast (stands_at log rid) (length log + 1) n = last_below_some (stands_at log rid) (length log + 1) n e in
-    place_here rid (record_at log n) (and_parts (is_write_at rid (record_at log n)) (not (undone log n)) last.passes).0
-
--- the undo of the newest standing write at a RID
-pub undo_entries :
-    (b : Scanning) (log : List LogRec) (txn n : ℕ) (rid : Rid) → AddsToLive log (Undo txn n) (log ++ Undo txn n ∷ [])
-    → newest_at log rid ≡ Some n → entries_of b log (Undo txn n)
-    ≡ (if is_visible b (length log) rid then changes (pair_at b.spec log rid) (pair_with b.spec rid (row_at log (standing_before log n))) else [])
-undo_entries b log txn n rid adds newest =
-    let row : Option (List Cell) = row_at log (standing_before log n) in
-    let is_newest : is_number n (newest_at log rid) ≡ true = ap (is_number n) newest ∙ eq-eqb n n refl in
-    entries_where b log (Undo txn n) rid row (newest_place log rid n newest)
-    (adds.live rid ∙ cond-true (is_number n (newest_at log rid)) row (live_at log rid) is_newest)
-
 pub commit_entries : (b : Scanning) (log : List LogRec) (txn : ℕ) → entries_of b log (Commit txn) ≡ []
 commit_entries b log txn = refl
-
-pub switch_entries : (b : Scanning) (log : List LogRec) (verdicts : List Outcome) → entries_of b log (Switch verdicts) ≡ []
-switch_entries b log verdicts = refl

@@ -105,11 +105,6 @@ module _ (old seen : BuildingValue) (work held : WorkValue) (same : seen ≡ old
 
   -- a worker takes some of its copies
   module _ (worker : ℕ) (count : WorkerValue → ℕ) where
-    pub can_take : CanTake worker count old → CanTakeAt work.specs worker count seen.workers held.makers seen.spools
-    can_take can =
-        let it : can.work ≡ work = the_work old.work can.work work can.runs its_work in
-        rw (same, is) (subst (λ (w : WorkValue). CanTakeAt w.specs worker count old.workers w.makers old.spools) it can.can)
-
     pub taken_after :
         (closing : WorkerValue → WorkerValue) (Spools : List KeySpecValue → List ImageValue → Kit → Kit → Type 0) (images : ℕ) (workers : List WorkerValue)
         (makers : List MakerValue) (spools : List SpoolValue)

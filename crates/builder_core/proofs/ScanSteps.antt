@@ -119,15 +119,6 @@ pub visible_same :
 visible_same b worker page log count rid none early =
     ap (λ x. nat_le b.pages rid.page || x) (by_same b.scans (scan_now worker page log) count rid.page none early)
 
--- the page's pairs as it is now come last
-pub more_pairs :
-    (b : Scanning) (worker page : ℕ) (log : List LogRec)
-    → scanned_pairs (with_scan b worker page log) log ≡ scanned_pairs b log ++ pairs_on b.spec log page
-more_pairs b worker page log =
-    flat_map-append (pairs_at_scan b log) b.scans (scan_now worker page log ∷ [])
-    ∙ ap (λ ps. scanned_pairs b log ++ ps) (append-nil (pairs_on b.spec (take (length log) log) page))
-    ∙ ap (λ l. scanned_pairs b log ++ pairs_on b.spec l page) (take_all (length log) log (omega arith))
-
 turned : (m n : ℕ) → (m == n) ≡ false → (n == m) ≡ false
 turned m n e = ne_eqb n m (λ is. eqb-false m n e (sym is))
 

@@ -115,41 +115,6 @@ leads_on b log first (rec ∷ rest) split s has =
       has = λ q. ap (λ t. contains_key t q) (apply-append es (entries_from b next rest) s) ∙ more.has q;
     }
 
--- the index of all pairs, once a record's changes at its RID are applied
-turned_members :
-    (spec : KeySpecValue) (log : List LogRec) (rec : LogRec) (rid : Rid) → changed_rid log rec ≡ Some rid
-    → Turns rid (pair_at spec (log ++ rec ∷ []) rid) (changes_at spec log rec rid) (index_pairs spec log)
-    → (q : Pair) → contains_key (apply_entries (changes_at spec log rec rid) (index_pairs spec log)) q
-    ≡ contains_key (index_pairs spec (log ++ rec ∷ [])) q
-turned_members spec log rec rid is turn q =
-    let new : List LogRec = log ++ rec ∷ [] in
-    elim (cases_Bool (same_rid rid q.rid)) [
-      | inl here ↦
-          let at : q.rid ≡ rid = sym (same_rid-true rid q.rid here) in
-          turn.here q at ∙ sym (contains-index_pairs spec new q ∙ ap (λ r. is_pair (pair_at spec new r) q) at)
-      | inr other ↦
-          let stays : live_at new q.rid ≡ live_at log q.rid = live_kept log rec q.rid (ap (is_rid q.rid) is ∙ other) in
-          turn.elsewhere q (λ e. false≢true (sym other ∙ ap (same_rid rid) e ∙ same_rid-refl rid))
-          ∙ contains-index_pairs spec log q
-          ∙ sym (contains-index_pairs spec new q ∙ ap (λ o. is_pair o q) (ap (pair_with spec q.rid) stays))
-    ]
-
--- an index that is ready follows a record by what changes at its RID, and each of these changes has effect
-pub index_turns :
-    (spec : KeySpecValue) (log : List LogRec) (rec : LogRec) (rid : Rid) → changed_rid log rec ≡ Some rid
-    → HaveEffect (changes (pair_at spec log rid) (pair_at spec (log ++ rec ∷ []) rid)) (index_pairs spec log)
-    × (apply_entries (changes (pair_at spec log rid) (pair_at spec (log ++ rec ∷ []) rid)) (index_pairs spec log)
-    ≡ index_pairs spec (log ++ rec ∷ []))
-index_turns spec log rec rid is =
-    let new : List LogRec = log ++ rec ∷ [] in
-    let turn : Turns rid (pair_at spec new rid) (changes_at spec log rec rid) (index_pairs spec log) =
-    changes_turn rid (pair_at spec log rid) (pair_at spec new rid) (index_pairs spec log) (own_at spec log rid) (own_at spec new rid) (λ q at.
-    contains-index_pairs spec log q ∙ ap (λ r. is_pair (pair_at spec log r) q) at) in (
-      turn.effect,
-      same_members (apply_entries (changes_at spec log rec rid) (index_pairs spec log)) (index_pairs spec new)
-          (turned_members spec log rec rid is turn),
-    )
-
 module _ (b : Scanning) (log : List LogRec) (is : IsScanned b log) where
   leads : (s : FinSet pair_cmp) → s ≡ set_of (scanned_pairs b log) → Leads b log log (side_entries b log) s
   leads s made =

@@ -152,13 +152,6 @@ pub entries_left :
 entries_left log None sides index side has free there = absurd (cc)
 entries_left log (Some b) sides index side has free there = λ spec at. left_of log b index spec side (has index spec side at there)
 
--- the side-files of the build that runs, told of a table from within
-pub sides_with :
-    (inside live : LiveState) (b : BuildState) (sides : List SideFileValue) → inside ≡ live → inside.build ≡ Some b → SidesFollow inside.heap.log inside.build sides
-    → HaveEntries live.heap.log b sides
-sides_with inside live b sides view_is build_is has =
-    subst (λ (l : LiveState). HaveEntries l.heap.log b sides) view_is (subst (λ (o : Option BuildState). SidesFollow inside.heap.log o sides) build_is has)
-
 -- no more was fed than it had
 pub none_ahead :
     (log : List LogRec) (build : Option BuildState) (sides : List SideFileValue) → SidesFollow log build sides

@@ -64,12 +64,6 @@ scanned_build kinds log b range worker page is next for = record {
   scanned = λ spec. scan_scanned (scanning_of b spec) worker page log (is.scanned spec) (next_below b range page next is.cuts) (next_unscanned b range page next);
 }
 
--- it has no more scans than pages
-pub scans_within : (kinds : List Kind) (log : List LogRec) (b : BuildState) → IsBuildOf kinds log b → length b.scans ≤ b.pages
-scans_within kinds log b is =
-    few_scans b.scans b.pages (is.scanned no_spec).once (λ page copied.
-    let at = some_of (scanned_at b.scans page) copied in (scan_at (scanning_of b no_spec) log b.scans (is.scanned no_spec).scans page at.0 at.1).page)
-
 -- what was read stays so as the log grows
 build_grown : (kinds : List Kind) (log : List LogRec) (rec : LogRec) (b : BuildState) → IsBuildOf kinds log b → IsBuildOf kinds (log ++ rec ∷ []) b
 build_grown kinds log rec b is = record {

@@ -69,12 +69,6 @@ pub record AreFedEntries (log : List LogRec) (b : BuildState) (index : ℕ) (spe
   pub entries : last_ones (fed_to b index) put.sent ≡ map (entry_of b.number) (take (fed_to b index) (side_entries (scanning_of b spec) log))
   pub there : fed_to b index ≤ length (side_entries (scanning_of b spec) log)
 
--- the same of each index, by the ends of the rings that put
-abbrev pub AreAllFed : List LogRec → BuildState → List (PutEnd Entry) → Type 0
-AreAllFed log b puts =
-    (index : ℕ) (spec : KeySpecValue) (put : PutEnd Entry) → slice_get b.specs index ≡ Some spec → slice_get puts index ≡ Some put
-    → AreFedEntries log b index spec put
-
 -- both ends of the side-file's ring were looked at, and nothing was put or taken
 pub record HasLookedAtSide (put : PutEnd Entry) (end : TakeEnd Entry) (new_put : PutEnd Entry) (new_end : TakeEnd Entry) : Type 0 where
   pub put_end : PutEndLooked put new_put
