@@ -1,22 +1,16 @@
 -- What each step of a build does to its side-file: its start, a record more, a page more; and the entries of each kind of record.
-use Rattle.std.proofs.Common.{◌≡◌, ℕ, ◌+◌, ◌<◌, ◌≤◌, true, cond, List, [], ◌∷◌, ◌++◌, length, take, drop, append_assoc, append-nil, Option, Some, None}
+use Rattle.std.proofs.Common.{◌≡◌, ℕ, ◌+◌, ◌<◌, ◌≤◌, cond, List, [], ◌∷◌, ◌++◌, length, take, drop, append_assoc, append-nil, Option, Some, None}
 use Rattle.std.proofs.Common.{refl, sym, ap, ◌∙◌, arith, length-append, take-append-drop}
-use Rattle.std.specs.Prelude.{not, if◌then◌else◌}
-use Rattle.std.proofs.lemmas.Bool.{and_parts, cond-true, eq-eqb, false≢true}
+use Rattle.std.specs.Prelude.{if◌then◌else◌}
 use Rattle.std.proofs.lemmas.List.{take-append-le, drop-append-le, drop_all}
 use Rattle.keybytes.specs.Keys.{KeySpecValue}
 use Rattle.keybytes.specs.Pairs.{pair_with}
-use Rattle.keybytes.specs.Rids.{same_rid}
 use Rattle.keybytes.specs.declared.cell.Cell.{Cell}
 use Rattle.keybytes.specs.declared.rid.Rid.{Rid}
-use Rattle.keybytes.proofs.SameRids.{same_rid-true, same_rid-refl}
 use Rattle.heap_log.specs.Growing.{changed_rid}
-use Rattle.heap_log.specs.Standing.{live_at, newest_at, standing_before, row_at, record_at, place_of, stands_at, undone, is_write_at, is_number}
-use Rattle.heap_log.proofs.Adds.{AddsToLive}
-use Rattle.heap_log.specs.declared.outcome.Outcome.{Outcome}
+use Rattle.heap_log.specs.Standing.{live_at}
 use Rattle.heap_log.specs.declared.record.LogRec.{LogRec}
-use Rattle.heap_log.specs.declared.record.LogRec.TheVariants.{Write, Undo, Commit, Switch}
-use Rattle.heap_log.proofs.Last.{IsLast, last_below_some}
+use Rattle.heap_log.specs.declared.record.LogRec.TheVariants.{Commit}
 use Rattle.heap_log.proofs.Records.{length-added}
 use Rattle.heap_table.specs.TablePairs.{pair_at}
 use Rattle.builder_core.specs.Scanning.{Scanning, scanned_at, is_visible, opened_scanning, with_scan}

@@ -14,7 +14,7 @@ use Rattle.catch_up.specs.Built.{BuiltValue}
 use Rattle.builder_core.specs.Builds.{BuildingValue, WorkValue, IndexValue, IsUnloaded, with_index}
 use Rattle.builder_core.specs.Columns.{column}
 use Rattle.builder_core.specs.Holding.{SpoolValue, Kit, runs_of, pairs_in, spool_value, spools_state, ended_column}
-use Rattle.builder_core.specs.Working.{AreEachOnce, CanLoad, CanTake, CanTakeAt, HasTaken, HasTakenAt, IsSpoiled}
+use Rattle.builder_core.specs.Working.{AreEachOnce, CanLoad, HasTaken, HasTakenAt, IsSpoiled}
 use Rattle.builder_core.proofs.Columns.{every_map}
 use Rattle.builder_core.proofs.OneWorker.{the_work}
 use Rattle.builder_core.proofs.Places.{mapped}

@@ -7,7 +7,7 @@ use Rattle.std.specs.FinSet.{FinSet}
 use Rattle.std.specs.FinMap.{contains_key}
 use Rattle.std.proofs.lemmas.Bool.{cases_Bool, cases_lt, false≢true, or_left, or_right, cond-true, cond-false, le-leb}
 use Rattle.keybytes.specs.Keys.{KeySpecValue}
-use Rattle.keybytes.specs.Pairs.{pair_cmp, pair_with, set_of}
+use Rattle.keybytes.specs.Pairs.{pair_cmp, set_of}
 use Rattle.keybytes.specs.Rids.{same_rid}
 use Rattle.keybytes.specs.declared.pair.Pair.{Pair}
 use Rattle.keybytes.specs.declared.rid.Rid.{Rid}

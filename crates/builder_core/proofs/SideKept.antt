@@ -14,7 +14,7 @@ use Rattle.side_file.specs.SideFileValue.{SideFileValue}
 use Rattle.side_file.specs.declared.entry.Entry.{Entry}
 use Rattle.visibility.specs.SideEntries.{SideEntry}
 use Rattle.builder_core.specs.Builds.{IsBuildOf, BuildFollows}
-use Rattle.builder_core.specs.CoreState.{BuildState, LiveState, scanning_of}
+use Rattle.builder_core.specs.CoreState.{BuildState, scanning_of}
 use Rattle.builder_core.specs.Scanning.{Scanning, opened_scanning, scanned_at}
 use Rattle.builder_core.specs.SideEntries.{entries_of, side_entries}
 use Rattle.builder_core.specs.Changing.{without_room}

@@ -16,7 +16,7 @@ use Rattle.builder_core.specs.Builds.{WorkValue, IndexValue, IsBuildOf, IsIndexO
 use Rattle.builder_core.specs.CoreState.{BuildState, scanning_of}
 use Rattle.scan_range.specs.Cuts.{are_cuts}
 use Rattle.builder_core.specs.Ranges.{next_page}
-use Rattle.builder_core.specs.Scanning.{Scanning, IsScanOf, AllScanned, scanned_at, scanned_pairs}
+use Rattle.builder_core.specs.Scanning.{Scanning, IsScanOf, AllScanned, scanned_pairs}
 use Rattle.visibility.specs.Applied.{apply_entries}
 use Rattle.builder_core.specs.SideEntries.{entries_of, side_entries}
 use Rattle.std.specs.List.{slice_get}
@@ -25,9 +25,7 @@ use Rattle.catch_up.specs.Built.{BuiltValue}
 use Rattle.builder_core.proofs.EntrySteps.{more_entries}
 use Rattle.builder_core.proofs.ScanSteps.{no_spec, opened_scanned, more_scanned, pairs_kept, scan_now, scan_scanned, pages_grow}
 use Rattle.builder_core.proofs.Places.{all_at}
-use Rattle.builder_core.proofs.NextPages.{some_of, next_below, next_unscanned, no_page, all_copied}
-use Rattle.builder_core.proofs.RangeScans.{few_scans}
-use Rattle.builder_core.proofs.Seen.{scan_at}
+use Rattle.builder_core.proofs.NextPages.{next_below, next_unscanned, no_page, all_copied}
 use Rattle.builder_core.proofs.SideFollows.{leaves_index}
 use Rattle.builder_core.proofs.Works.{scanned_work_on}
 
