@@ -132,7 +132,7 @@ pub sorted_work_on :
     → slice_get b.specs index ≡ Some spec → open_range b ≡ None → IsPermutation made (scanned_pairs (scanning_of b spec) log) → IsPermutation made pairs
     → AreOrdered pairs → IsWorkOn kinds log b (with_index work index pairs 0)
 sorted_work_on kinds log b work index spec made pairs is here all whole moved ordered =
-    set_work_on kinds log b work index spec (record { built = Some (record { build = work.build; pairs = pairs }); applied = 0 }) is here (record {
+    set_work_on kinds log b work index spec (record { built = Some (with_pairs work index pairs); applied = 0 }) is here (record {
       all = λ e. all;
       none_before = λ e. absurd (cc);
       there = omega arith;
@@ -143,4 +143,7 @@ sorted_work_on kinds log b work index spec made pairs is here all whole moved or
       of_build = λ built t.
           let same : work.build ≡ built.build = cc in
           sym same ∙ is.number;
+      of_spec = λ built t.
+          let same : is_unique (slice_get work.specs index) ≡ built.unique = cc in
+          sym same ∙ ap is_unique (ap (λ specs. slice_get specs index) (sym is.specs) ∙ here);
     })

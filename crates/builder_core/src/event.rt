@@ -9,7 +9,7 @@ use keybytes::{Rid, Row};
 /// build: a scan, a digest, a seal, a load, an apply and a switch are then refused so, right behind [`Fault::NoBuild`] and [`Fault::BadCount`].
 #[derive(Debug, Drop)]
 pub enum Event {
-    /// A transaction begins. [`Fault::TooManyTxns`].
+    /// A transaction begins. [`Fault::Fenced`], [`Fault::TooManyTxns`].
     Begin,
     /// The transaction inserts a row. [`Fault::NoSuchTxn`], [`Fault::TxnEnding`], [`Fault::RowShape`], [`Fault::TableFull`].
     Insert { txn: u64, row: Row },
@@ -46,10 +46,14 @@ pub enum Event {
     /// At most so many entries that wait in the ring are applied to the pairs of the index. [`Fault::NoBuild`], [`Fault::BadCount`],
     /// [`Fault::NotLoaded`]. Those that were applied before memory was wanted stay applied.
     Apply { index: usize, most: usize },
+    /// From now on no transaction may begin, until a switch decides or the build is given up: so that those that are open come to
+    /// their end. [`Fault::NoBuild`]. Takes no memory.
+    Fence,
     /// The entries that are left are applied, the indexes of the build become ready, and the build ends. Entries that were applied
     /// before memory was wanted stay applied, and it can be asked for again. [`Fault::NoBuild`], [`Fault::NotScanned`],
-    /// [`Fault::NotLoaded`]; [`Fault::Behind`] while more than 1,024 entries of all side-files are left to apply.
+    /// [`Fault::NotLoaded`]; [`Fault::Behind`] while more than 1,024 entries of all side-files are left to apply; where an index of the
+    /// build is unique, [`Fault::Busy`] while open transactions have writes that stand, with their number.
     Switch,
-    /// The build is given up. [`Fault::NoBuild`].
+    /// The build is given up, and the fence with it. [`Fault::NoBuild`].
     Abandon,
 }

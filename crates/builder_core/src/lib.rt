@@ -37,6 +37,7 @@ mod rings;
 mod run;
 mod scan;
 mod table;
+mod sorted;
 mod table_scan;
 mod taking;
 mod work;

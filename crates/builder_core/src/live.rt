@@ -164,10 +164,11 @@ impl<T: Table> Live<T> {
         Ok(build)
     }
 
-    /// Gives a running build up.
+    /// Gives a running build up; transactions may begin again.
     pub(crate) fn give_up(&mut self)
         ensures { self.new ≡ record self.old { state = abandoned self.old.state } }
     {
+        self.heap.set_fence(false);
         self.build = None;
         reset_all(&mut self.sides);
     }

@@ -206,7 +206,22 @@ impl<T: Table> Live<T> {
         Ok(page)
     }
 
-    /// Gives the build up. [`Fault::NoBuild`]. Takes no memory.
+    /// Lets no transaction begin until the build has decided or is given up. [`Fault::NoBuild`]. Takes no memory.
+    pub fn fence(&mut self) -> Result<(), Fault>
+        ensures fenced { OnOk result (self.new ≡ record self.old { state = fenced self.old.state }) }
+        ensures works { (building : BuildingValue) → WorksOn self.old building → WorksOn self.new building }
+        ensures accepted { OnOk result (IsSome self.old.state.build) }
+        ensures refused { IfErr result (λ fault. (fault ≡ Fault.NoBuild) × (self.old.state.build ≡ None)) }
+        ensures unchanged { OnErr result (self.new ≡ self.old) }
+    {
+        if self.build.is_none() {
+            return Err(Fault::NoBuild);
+        }
+        self.heap.set_fence(true);
+        Ok(())
+    }
+
+    /// Gives the build up, and the fence with it. [`Fault::NoBuild`]. Takes no memory.
     pub fn abandon(&mut self) -> Result<(), Fault>
         ensures abandoned { OnOk result (self.new ≡ record self.old { state = abandoned self.old.state }) }
         ensures works { OnOk result ((building : BuildingValue) → WorksOn self.new (given_up building)) }
