@@ -1,0 +1,74 @@
+//! Whether a row may have its keys, for the sake of the ready indexes that are unique.
+ghost use Rattle.std.specs.Prelude.{◌≡◌, true, None, Some, if◌then◌else◌, OnOk, IfErr, OnErr};
+ghost use Rattle.keybytes.specs.Cells.{fits};
+ghost use Rattle.keybytes.specs.Faults.{RefusedFor};
+ghost use Rattle.heap_log.specs.Standing.{live_at};
+ghost use Rattle.key_guards.specs.KeyRefusals.{key_refusal};
+ghost use Rattle.builder_core.specs.CoreState.{AreIndexesOf};
+ghost use Rattle.builder_core.specs.KeyCauses.{keys_refusal, AreGuarded};
+
+use crate::ReadyIndex;
+use heap_table::Heap;
+use key_guards::Guards;
+use keybytes::{Fault, Rid, Row};
+
+/// Why the transaction may not put that row at the RID: the first unique index tells where another row has its key, or which transaction
+/// may give the key back. Costs a way down the tree of each unique index. Want of memory for a key longer than 24 bytes comes before its
+/// causes.
+pub fn check_keys(
+    indexes: &[ReadyIndex],
+    guards: &[Guards],
+    heap: &Heap,
+    txn: u64,
+    rid: Rid,
+    row: &Row,
+) -> Result<(), Fault>
+    requires indexes { AreIndexesOf heap.now.state.schema heap.now.state.log indexes.now }
+    requires guarded { AreGuarded heap.now.state.log indexes.now guards.now }
+    requires fits { fits heap.now.state.schema row.now ≡ true }
+    ensures accepted { OnOk result (keys_refusal 0 indexes.now heap.now.state.log txn (live_at heap.now.state.log rid) (Some row.now) ≡ None) }
+    ensures refused { IfErr result (IsKeyFault (keys_refusal 0 indexes.now heap.now.state.log txn (live_at heap.now.state.log rid) (Some row.now))) }
+{
+    for number in 0..indexes.len() {
+        let index = &indexes[number];
+        if index.spec.unique() {
+            check_key(number, index, &guards[number], heap, txn, rid, row)?;
+        }
+    }
+    Ok(())
+}
+
+/// The same of one unique index, which has that number.
+fn check_key(
+    number: usize,
+    index: &ReadyIndex,
+    guards: &Guards,
+    heap: &Heap,
+    txn: u64,
+    rid: Rid,
+    row: &Row,
+) -> Result<(), Fault>
+    requires columns { index.now.spec.kinds ≡ heap.now.state.schema }
+    requires pairs { index.now.pairs ≡ pairs_at_rest index.now.spec heap.now.state.log }
+    requires guarded { IsGuarded index.now.spec heap.now.state.log guards.now }
+    requires fits { fits heap.now.state.schema row.now ≡ true }
+    ensures accepted { OnOk result (key_refusal number index.now.spec heap.now.state.log txn (live_at heap.now.state.log rid) (Some row.now) ≡ None) }
+    ensures refused { IfErr result (IsKeyFault (key_refusal number index.now.spec heap.now.state.log txn (live_at heap.now.state.log rid) (Some row.now))) }
+{
+    let key = index.spec.key(row)?;
+    match index.tree.first_rid(&key) {
+        Some(other) if other == rid => Ok(()),
+        Some(other) => Err(Fault::Duplicate(number, other)),
+        None => check_guard(number, guards.other(txn, &key)),
+    }
+}
+
+/// Another transaction may give the key back.
+fn check_guard(number: usize, other: Option<u64>) -> Result<(), Fault>
+    ensures { MatchResult result (λ _. guarded_refusal number other ≡ None) (λ fault. guarded_refusal number other ≡ Some fault) }
+{
+    match other {
+        Some(txn) => Err(Fault::KeyHeld(number, txn)),
+        None => Ok(()),
+    }
+}
