@@ -102,4 +102,4 @@ verdict_right pairs o = by_shared (shared_pairs pairs) refl where
   by_shared : (now : List Pair) → now ≡ shared_pairs pairs → IsVerdict pairs (first_shared now)
   by_shared [] f = unique_none pairs [] refl f
   by_shared (only ∷ []) f = absurd (never_one only pairs (only ∷ []) [] refl refl f)
-  by_shared (first ∷ second ∷ rest) f = ?
+  by_shared (first ∷ second ∷ rest) f = least_two first second pairs (first ∷ second ∷ rest) (second ∷ rest) rest o f refl refl first.key refl
