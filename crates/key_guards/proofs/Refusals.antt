@@ -27,7 +27,7 @@ use Rattle.std.proofs.lemmas.Bool.{or_cases}
 use Rattle.keybytes.specs.Pairs.{pair_cmp, pair_with}
 use Rattle.keybytes.specs.declared.pair.Pair.{Pair}
 use Rattle.keybytes.proofs.PairSets.{pairs_total, is_in, is_pair, in_set, tied_pairs}
-use Rattle.key_guards.specs.UniqueKeys.{has_key, KeysStayUnique, GuardsKey, GivesKey, MayGive, WritesAreHeld}
+use Rattle.key_guards.specs.UniqueKeys.{HaveOwnKeys, KeysAreUnique, has_key, KeysStayUnique, GuardsKey, GivesKey, MayGive, WritesAreHeld}
 use Rattle.key_guards.specs.KeyRefusals.{rid_with, took_key, took_from, other_guard, duplicate_refusal, guarded_refusal, new_key_refusal, key_refusal}
 use Rattle.key_guards.proofs.OneGuard.{one_guard}
 
@@ -65,6 +65,20 @@ pair_at_rest spec log rid row live =
     ∙ all_listed spec log (written_rids log) (row_written log) q
     ∙ ap (λ (cells : Option (List Cell)). is_pair (pair_with spec rid cells) q) live
     ∙ ap is_eq (tied_itself pairs_total q)
+
+-- where no two pairs have one key, no two rows have
+pub rows_have_own_keys : (spec : KeySpecValue) (log : List LogRec) → HaveOwnKeys (pairs_at_rest spec log) → KeysAreUnique spec log
+rows_have_own_keys spec log own = record { one = λ key p q. at key p q (live_at log p) (live_at log q) refl refl }
+  where
+    at :
+        (key : List ℕ) (p q : Rid) (row other : Option (List Cell)) → live_at log p ≡ row → live_at log q ≡ other
+        → has_key spec key row ≡ true → has_key spec key other ≡ true → p ≡ q
+    at key p q None other live_p live_q has_p has_q = absurd (false≢true has_p)
+    at key p q (Some row) None live_p live_q has_p has_q = absurd (false≢true has_q)
+    at key p q (Some row) (Some other) live_p live_q has_p has_q =
+        let same : key_of spec row ≡ key_of spec other = (bytes_eq-Decides (key_of spec row) key).0 has_p ∙ sym ((bytes_eq-Decides (key_of spec other) key).0 has_q) in
+        ap (λ (x : Pair). x.rid) (own.one (record { key = key_of spec row; rid = p }) (record { key = key_of spec other; rid = q })
+        (pair_at_rest spec log p row live_p) (pair_at_rest spec log q other live_q) same)
 
 -- where no RID is found, no row has the key
 pub no_rid_with : (spec : KeySpecValue) (log : List LogRec) (key : List ℕ) → rid_with spec log key ≡ None → (rid : Rid)

@@ -8,7 +8,8 @@ ghost use Rattle.heap_log.specs.Growing.{UndoesNameEarlier};
 ghost use Rattle.heap_log.specs.Standing.{live_at, newest_standing};
 ghost use Rattle.heap_table.specs.HeapState.{HeapState, busy_txns, is_open};
 ghost use Rattle.heap_table.specs.Sound.{HoldsFollowLog};
-ghost use Rattle.key_guards.specs.UniqueKeys.{KeysAreUnique, UniqueKeysAreGuarded};
+ghost use Rattle.heap_table.specs.TablePairs.{pairs_at_rest};
+ghost use Rattle.key_guards.specs.UniqueKeys.{HaveOwnKeys, KeysAreUnique, UniqueKeysAreGuarded};
 ghost use Rattle.key_guards.specs.KeyRefusals.{other_guard};
 ghost use Rattle.key_guards.specs.GuardLists.{key_taken, other_in, with_taken, without_number, without_txn};
 ghost use Rattle.key_guards.specs.Guarded.{HasRoomFor, IsGuarded, IsLetIn};
@@ -45,7 +46,7 @@ fn other_guard(guards: &[Guard], txn: u64, key: &Key) -> Option<u64>
 }
 
 /// Adds what a write took, if anything.
-fn add_taken(guards: &mut Vec<Guard>, txn: u64, number: usize, taken: Option<Key>)
+fn add_taken(guards: &mut Vec<Guard>, number: usize, txn: u64, taken: Option<Key>)
     requires { IfSome taken (λ key. vec_len guards.old < vec_capacity guards.old) }
     ensures { guards.new.items ≡ with_taken guards.old.items number txn taken }
 {
@@ -71,7 +72,10 @@ fn forget_txn(guards: &mut Vec<Guard>, txn: u64)
 impl Guards {
     /// For an index whose keys are unique, at a moment when no open transaction has a standing write.
     pub fn new(alloc: Global) -> Guards
-        ensures { (spec : KeySpecValue) (s : HeapState) → HoldsFollowLog s → busy_txns s ≡ [] → KeysAreUnique spec s.log → IsGuarded spec s.log result }
+        ensures rows { (spec : KeySpecValue) (s : HeapState) → HoldsFollowLog s → busy_txns s ≡ [] → KeysAreUnique spec s.log
+            → IsGuarded spec s.log result }
+        ensures pairs { (spec : KeySpecValue) (s : HeapState) → HoldsFollowLog s → busy_txns s ≡ [] → HaveOwnKeys (pairs_at_rest spec s.log)
+            → IsGuarded spec s.log result }
     {
         Guards {
             guards: Vec::new(alloc),
@@ -104,13 +108,13 @@ impl Guards {
     }
 
     /// Tells of a write of that number, which was performed, and of the key that it took from its row, if any.
-    pub fn wrote(&mut self, txn: u64, number: usize, taken: Option<Key>)
+    pub fn wrote(&mut self, number: usize, txn: u64, taken: Option<Key>)
         requires { IfSome taken (HasRoomFor self.old txn) }
         ensures { (spec : KeySpecValue) (index : ℕ) (s : HeapState) (rid : Rid) (row : Option (List Cell)) → IsLetIn spec index s txn rid row
             → number ≡ length s.log + 1 → taken ≡ key_taken spec (live_at s.log rid) row → IsGuarded spec s.log self.old
             → IsGuarded spec (s.log ++ Write txn rid row ∷ []) self.new }
     {
-        add_taken(&mut self.guards, txn, number, taken);
+        add_taken(&mut self.guards, number, txn, taken);
     }
 
     /// Tells that the transaction's newest standing write, which is of that number, was undone.
