@@ -1,0 +1,5 @@
+pub mod Guarded
+pub mod GuardLists
+pub mod GuardSteps
+pub mod KeyRefusals
+pub mod UniqueKeys
