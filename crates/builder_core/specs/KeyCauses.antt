@@ -1,13 +1,19 @@
 -- Why a transaction may not write a row, for the sake of the ready indexes that are unique.
-use Rattle.std.specs.Prelude.{ℕ, ◌+◌, if◌then◌else◌, List, [], ◌∷◌, Option, None, Some}
+use Rattle.std.specs.List.{All, AllZip}
+use Rattle.std.specs.Prelude.{◌≡◌, ℕ, ◌+◌, ◌⊎◌, true, if◌then◌else◌, List, [], ◌∷◌, Option, None, Some, Result, Ok, Err}
 use Rattle.keybytes.specs.Faults.{first_cause}
+use Rattle.keybytes.specs.Keys.{KeySpecValue}
 use Rattle.keybytes.specs.declared.cell.Cell.{Cell}
 use Rattle.keybytes.specs.declared.fault.Fault.{Fault}
+use Rattle.keybytes.specs.declared.fault.Fault.TheVariants.{Memory}
 use Rattle.keybytes.specs.declared.rid.Rid.{Rid}
 use Rattle.heap_log.specs.Standing.{live_at}
 use Rattle.heap_log.specs.declared.record.LogRec.{LogRec}
 use Rattle.heap_table.specs.HeapState.{insert_refusal, update_refusal}
+use Rattle.heap_table.specs.declared.ready.Ready.{Ready}
+use Rattle.key_guards.specs.Guarded.{GuardsValue, IsGuarded}
 use Rattle.key_guards.specs.KeyRefusals.{key_refusal}
+use Rattle.key_guards.specs.UniqueKeys.{UniqueKeysAreGuarded}
 use Rattle.builder_core.specs.CoreState.{ReadyValue, LiveState}
 
 -- why the transaction may not put the new row in the place of the old one: the first of these indexes, which are numbered from that number on,
@@ -16,6 +22,36 @@ abbrev pub keys_refusal : ℕ → List ReadyValue → List LogRec → ℕ → Op
 keys_refusal number [] log txn old new = None
 keys_refusal number (index ∷ ready) log txn old new =
     first_cause (if index.spec.unique then key_refusal number index.spec log txn old new else None) (keys_refusal (number + 1) ready log txn old new)
+
+-- an index of that specification has guards that follow the log, if it is unique
+abbrev pub HasGuards : List LogRec → KeySpecValue → GuardsValue → Type 0
+HasGuards log spec guards = spec.unique ≡ true → IsGuarded spec log guards
+
+-- so has each of these indexes
+abbrev pub AreGuarded : List LogRec → List ReadyValue → List GuardsValue → Type 0
+AreGuarded log ready guards = AllZip (λ index g. HasGuards log index.spec g) ready guards
+
+-- no unique one of these indexes, under whatever number, refuses the change
+abbrev pub AreLetIn : List LogRec → List ReadyValue → Ready → Type 0
+AreLetIn log ready change =
+    All (λ index. index.spec.unique ≡ true → (number : ℕ) × (key_refusal number index.spec log change.txn change.old change.new ≡ None)) ready
+
+-- the unique ones keep their keys apart, now and after any rollback
+abbrev pub KeysAreGuarded : List LogRec → List ReadyValue → Type 0
+KeysAreGuarded log ready = All (λ index. index.spec.unique ≡ true → UniqueKeysAreGuarded index.spec log) ready
+
+-- that is the cause, or there was no memory to make a key
+abbrev pub IsKeyFault : Option Fault → Fault → Type 0
+IsKeyFault cause fault = (cause ≡ Some fault) ⊎ (fault ≡ Memory)
+
+-- a fault that refuses a call: its cause, or want of memory, which hides no early cause
+abbrev pub IsEarlyFault : Option Fault → Option Fault → Fault → Type 0
+IsEarlyFault early cause fault = (cause ≡ Some fault) ⊎ ((early ≡ None) × (fault ≡ Memory))
+
+-- a call with these causes of refusal, if any: it does what it is for, or is refused and changes nothing
+abbrev pub AnsweredEarly : {S R : Type 0} → Option Fault → Option Fault → (S → R → S → Type 0) → S → Result R Fault → S → Type 0
+AnsweredEarly early cause Does old (Ok answer) new = (cause ≡ None) × Does old answer new
+AnsweredEarly early cause Does old (Err fault) new = ((cause ≡ Some fault) × (new ≡ old)) ⊎ ((early ≡ None) × (fault ≡ Memory) × (new ≡ old))
 
 -- why a table with its indexes refuses to insert a row
 abbrev pub row_refusal : LiveState → ℕ → List Cell → Option Fault

@@ -26,6 +26,8 @@ use Rattle.builder_core.specs.declared.reply.Reply.TheVariants.{Begun, Written, 
 use Rattle.builder_core.specs.declared.reply.Reply.TheVariants.{FenceSet, Abandoned, Refused}
 use Rattle.builder_core.specs.CoreState.{ReadyValue, BuildState, LiveState, IndexState, WorkState, SpoolsState, CoreState, scanning_of, live_with_heap, with_live}
 use Rattle.builder_core.specs.CoreState.{opening, idle, spoiled_work, all_given}
+use Rattle.builder_core.specs.KeyCauses.{row_refusal, change_refusal}
+use Rattle.builder_core.specs.Verdicts.{accepted, outcomes, verdict_on}
 use Rattle.builder_core.specs.Ranges.{dealt_ends, dealing_refusal, next_page, open_range}
 use Rattle.builder_core.specs.Scanning.{scanned_pairs}
 use Rattle.builder_core.specs.Workers.{put_to, worker_at, waiting, loud_worker, index_at, unloaded_index, all_entries, all_unapplied, fed_to, unfed, in_ring}
@@ -90,12 +92,11 @@ indexes_most = 8
 abbrev pub ready_most : ℕ
 ready_most = 32
 
--- 1 to 16 workers, 1 to 8 indexes of which none is unique, room for them among the ready ones, a number for the build, and a spool
--- for each worker and index
+-- 1 to 16 workers, 1 to 8 indexes, room for them among the ready ones, a number for the build, and a spool for each worker and index
 abbrev pub counts_fit : LiveState → ℕ → Plan → Bool
 counts_fit live spools plan =
     nat_le 1 plan.workers && nat_le plan.workers workers_most && nat_le 1 (length plan.specs.items) && nat_le (length plan.specs.items) indexes_most
-    && not (list_any (λ spec. spec.unique) plan.specs.items) && nat_le (length live.ready + length plan.specs.items) ready_most
+    && nat_le (length live.ready + length plan.specs.items) ready_most
     && nat_lt live.builds 18446744073709551615 && (spools == plan.workers * length plan.specs.items)
 
 -- why the spools that are left start no build
@@ -358,8 +359,8 @@ Abandons s new = new ≡ opening s.live s.spools
 -- why an event is refused: the first of its causes
 abbrev pub refusal : CoreState → Event → Option Fault
 refusal s Begin = begin_refusal s.live.heap
-refusal s (Insert txn row) = insert_refusal s.live.heap txn row
-refusal s (Update txn rid row) = update_refusal s.live.heap txn rid row
+refusal s (Insert txn row) = row_refusal s.live txn row
+refusal s (Update txn rid row) = change_refusal s.live txn rid row
 refusal s (Delete txn rid) = delete_refusal s.live.heap txn rid
 refusal s (Undo txn) = undo_refusal s.live.heap txn
 refusal s (Commit txn) = txn_refusal s.live.heap txn
@@ -373,6 +374,25 @@ refusal s (Apply index most) = build_cause s.live.build (λ b. apply_refusal b s
 refusal s Switch = build_cause s.live.build (λ b. switch_refusal b s.live.heap s.work)
 refusal s Fence = build_cause s.live.build (λ b. None)
 refusal s Abandon = build_cause s.live.build (λ b. None)
+
+-- the causes that are looked for before memory is taken: of a write all but those of keys, which take memory to be made
+abbrev pub early_refusal : CoreState → Event → Option Fault
+early_refusal s Begin = refusal s Begin
+early_refusal s (Insert txn row) = insert_refusal s.live.heap txn row
+early_refusal s (Update txn rid row) = update_refusal s.live.heap txn rid row
+early_refusal s (Delete txn rid) = refusal s (Delete txn rid)
+early_refusal s (Undo txn) = refusal s (Undo txn)
+early_refusal s (Commit txn) = refusal s (Commit txn)
+early_refusal s (Start plan) = refusal s (Start plan)
+early_refusal s (Scan range worker) = refusal s (Scan range worker)
+early_refusal s (Digest worker) = refusal s (Digest worker)
+early_refusal s (Seal worker) = refusal s (Seal worker)
+early_refusal s (Load index) = refusal s (Load index)
+early_refusal s (Feed index most) = refusal s (Feed index most)
+early_refusal s (Apply index most) = refusal s (Apply index most)
+early_refusal s Fence = refusal s Fence
+early_refusal s Switch = refusal s Switch
+early_refusal s Abandon = refusal s Abandon
 
 -- the reply to an event tells what that relation answers
 abbrev pub Tells : {R : Type 0} → (R → Reply) → (CoreState → R → CoreState → Type 0) → CoreState → Reply → CoreState → Type 0
@@ -446,10 +466,10 @@ AfterWant Switch fault s new = CatchesUp s new
 AfterWant Fence fault s new = ⊥
 AfterWant Abandon fault s new = ⊥
 
--- an event is refused for a fault: it has that cause, and nothing changes; or it has none, and wants what isn't there
+-- an event is refused for a fault: it has that cause, and nothing changes; or it has none that is looked for before, and wants what isn't there
 abbrev pub IsRefused : CoreState → Event → Fault → CoreState → Type 0
 IsRefused s event fault new =
-    ((refusal s event ≡ Some fault) × (new ≡ s)) ⊎ ((refusal s event ≡ None) × IsWant event fault × AfterWant event fault s new)
+    ((refusal s event ≡ Some fault) × (new ≡ s)) ⊎ ((early_refusal s event ≡ None) × IsWant event fault × AfterWant event fault s new)
 
 -- the reply to an event, or the fault of its refusal
 abbrev pub Answers : CoreState → Event → Result Reply Fault → CoreState → Type 0

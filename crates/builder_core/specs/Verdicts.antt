@@ -1,22 +1,18 @@
 -- What a switch says of each index of its build.
-use Rattle.std.specs.Prelude.{ℕ, ◌+◌, Bool, true, false, if◌then◌else◌, List, [], ◌∷◌, filter}
+use Rattle.std.specs.Prelude.{ℕ, ◌+◌, if◌then◌else◌, List, [], ◌∷◌, filter}
 use Rattle.keybytes.specs.Keys.{KeySpecValue}
 use Rattle.heap_log.specs.declared.outcome.Outcome.{Outcome}
 use Rattle.heap_log.specs.declared.outcome.Outcome.TheVariants.{Ready, Shared as Refused}
 use Rattle.heap_log.specs.declared.record.LogRec.{LogRec}
 use Rattle.heap_table.specs.TablePairs.{pairs_at_rest}
 use Rattle.unique_verdict.specs.Shared.{shared_pairs}
-use Rattle.unique_verdict.specs.Verdicts.{first_shared}
+use Rattle.unique_verdict.specs.Verdicts.{first_shared, accepts}
 use Rattle.unique_verdict.specs.declared.verdict.Verdict.{Verdict}
 use Rattle.unique_verdict.specs.declared.verdict.Verdict.TheVariants.{Unique, Shared}
 
 -- the verdict on an index of that specification over the rows that stand: one that is unique is refused where two of them share a key
 abbrev pub verdict_on : List LogRec → KeySpecValue → Verdict
 verdict_on log spec = if spec.unique then first_shared (shared_pairs (pairs_at_rest spec log)) else Unique
-
-abbrev pub accepts : Verdict → Bool
-accepts Unique = true
-accepts (Shared key first second) = false
 
 -- those that are not refused
 abbrev pub accepted : List LogRec → List KeySpecValue → List KeySpecValue

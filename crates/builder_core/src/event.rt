@@ -23,7 +23,7 @@ pub enum Event {
     Undo { txn: u64 },
     /// The transaction ends, and keeps its writes. [`Fault::NoSuchTxn`], [`Fault::TxnEnding`].
     Commit { txn: u64 },
-    /// A build starts, of 1 to 8 indexes of which none is unique, by 1 to 16 workers over 1 to 256 ranges. [`Fault::BuildRunning`];
+    /// A build starts, of 1 to 8 indexes, by 1 to 16 workers over 1 to 256 ranges. [`Fault::BuildRunning`];
     /// [`Fault::BadCount`] for other counts, where more than 32 indexes would be ready with these, and where the spools that are left
     /// aren't one for each worker and index, that of worker w and index i at w times the indexes plus i;
     /// [`Fault::BadColumn`] for an index of other columns than the table's; [`Fault::BadRanges`] for other numbers of ranges, ends that

@@ -1,16 +1,39 @@
 //! Whether a row may have its keys, for the sake of the ready indexes that are unique.
-ghost use Rattle.std.specs.Prelude.{◌≡◌, true, None, Some, if◌then◌else◌, OnOk, IfErr, OnErr};
+ghost use Rattle.std.specs.Prelude.{◌≡◌, true, None, Some, OnOk, IfErr, MatchResult};
 ghost use Rattle.keybytes.specs.Cells.{fits};
-ghost use Rattle.keybytes.specs.Faults.{RefusedFor};
 ghost use Rattle.heap_log.specs.Standing.{live_at};
-ghost use Rattle.key_guards.specs.KeyRefusals.{key_refusal};
+ghost use Rattle.heap_table.specs.TablePairs.{pairs_at_rest};
+ghost use Rattle.key_guards.specs.Guarded.{IsGuarded};
+ghost use Rattle.key_guards.specs.KeyRefusals.{key_refusal, guarded_refusal};
 ghost use Rattle.builder_core.specs.CoreState.{AreIndexesOf};
-ghost use Rattle.builder_core.specs.KeyCauses.{keys_refusal, AreGuarded};
+ghost use Rattle.builder_core.specs.KeyCauses.{keys_refusal, AreGuarded, AreLetIn, IsKeyFault};
+ghost use Rattle.heap_table.specs.Ready.{IsReady};
 
 use crate::ReadyIndex;
-use heap_table::Heap;
+use heap_table::{Heap, Ready};
 use key_guards::Guards;
 use keybytes::{Fault, Rid, Row};
+
+/// Why a write that was made ready can't be done, for the sake of the unique indexes.
+pub fn check_change(
+    indexes: &[ReadyIndex],
+    guards: &[Guards],
+    heap: &Heap,
+    ready: &Ready,
+) -> Result<(), Fault>
+    requires ready { IsReady heap.now ready.now }
+    requires indexes { AreIndexesOf heap.now.state.schema heap.now.state.log indexes.now }
+    requires guarded { AreGuarded heap.now.state.log indexes.now guards.now }
+    ensures accepted { OnOk result (keys_refusal 0 indexes.now heap.now.state.log ready.now.txn ready.now.old ready.now.new ≡ None) }
+    ensures let_in { OnOk result (AreLetIn heap.now.state.log indexes.now ready.now) }
+    ensures refused { IfErr result (λ fault. IsKeyFault (keys_refusal 0 indexes.now heap.now.state.log ready.now.txn ready.now.old ready.now.new) fault) }
+{
+    heap.laws();
+    match &ready.new {
+        Some(row) => check_keys(indexes, guards, heap, ready.txn, ready.rid, row),
+        None => Ok(()),
+    }
+}
 
 /// Why the transaction may not put that row at the RID: the first unique index tells where another row has its key, or which transaction
 /// may give the key back. Costs a way down the tree of each unique index. Want of memory for a key longer than 24 bytes comes before its
@@ -27,8 +50,9 @@ pub fn check_keys(
     requires guarded { AreGuarded heap.now.state.log indexes.now guards.now }
     requires fits { fits heap.now.state.schema row.now ≡ true }
     ensures accepted { OnOk result (keys_refusal 0 indexes.now heap.now.state.log txn (live_at heap.now.state.log rid) (Some row.now) ≡ None) }
-    ensures refused { IfErr result (IsKeyFault (keys_refusal 0 indexes.now heap.now.state.log txn (live_at heap.now.state.log rid) (Some row.now))) }
+    ensures refused { IfErr result (λ fault. IsKeyFault (keys_refusal 0 indexes.now heap.now.state.log txn (live_at heap.now.state.log rid) (Some row.now)) fault) }
 {
+    heap.laws();
     for number in 0..indexes.len() {
         let index = &indexes[number];
         if index.spec.unique() {
@@ -53,8 +77,11 @@ fn check_key(
     requires guarded { IsGuarded index.now.spec heap.now.state.log guards.now }
     requires fits { fits heap.now.state.schema row.now ≡ true }
     ensures accepted { OnOk result (key_refusal number index.now.spec heap.now.state.log txn (live_at heap.now.state.log rid) (Some row.now) ≡ None) }
-    ensures refused { IfErr result (IsKeyFault (key_refusal number index.now.spec heap.now.state.log txn (live_at heap.now.state.log rid) (Some row.now))) }
+    ensures refused { IfErr result (λ fault. IsKeyFault (key_refusal number index.now.spec heap.now.state.log txn (live_at heap.now.state.log rid) (Some row.now)) fault) }
 {
+    heap.laws();
+    guards.laws();
+    index.tree.laws();
     let key = index.spec.key(row)?;
     match index.tree.first_rid(&key) {
         Some(other) if other == rid => Ok(()),
