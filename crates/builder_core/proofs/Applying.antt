@@ -1,5 +1,5 @@
 -- Entries that are taken from the side-file's ring and applied to the index, one after another.
-use Rattle.std.proofs.Common.{◌≡◌, ℕ, ◌+◌, ◌<◌, ◌≤◌, ◌^◌, true, List, [], ◌∷◌, ◌++◌, length, map, get_or, take, drop, set, set-set, append_assoc, Option, Some, None, refl, sym, ap, ap₂, ◌∙◌, subst, arith}
+use Rattle.std.proofs.Common.{◌≡◌, ℕ, ◌+◌, ◌<◌, ◌≤◌, ◌^◌, true, List, [], ◌∷◌, ◌++◌, length, map, get_or, take, drop, set, set-set, append_assoc, Option, Some, None, refl, sym, ap, ap₂, ◌∙◌, subst, arith, Bool}
 use Rattle.std.proofs.Common.{length-append, length-drop, take-add, drop-drop}
 use Rattle.std.proofs.lemmas.List.{append-nil, take-append-le, drop-append-le}
 use Rattle.std.proofs.lemmas.Option.{same_Some}
@@ -14,7 +14,7 @@ use Rattle.catch_up.specs.Applying.{Applied, Taken}
 use Rattle.catch_up.specs.Built.{BuiltValue, told_to}
 use Rattle.catch_up.proofs.Telling.{told_to-append}
 use Rattle.building.specs.TakeEnd.{TakeEnd, take_end}
-use Rattle.builder_core.specs.Builds.{BuildingValue, WorkValue, IndexValue, with_index}
+use Rattle.builder_core.specs.Builds.{BuildingValue, WorkValue, IndexValue, with_index, with_pairs}
 use Rattle.keybytes.specs.declared.pair.Pair.{Pair}
 use Rattle.std.specs.List.{slice_get}
 use Rattle.std.proofs.lemmas.List.{length-map, map-set}

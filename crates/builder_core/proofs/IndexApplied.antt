@@ -16,7 +16,7 @@ use Rattle.visibility.specs.SideEntries.{SideEntry}
 use Rattle.visibility.proofs.Changes.{apply-append}
 use Rattle.catch_up.specs.Built.{told_to}
 use Rattle.catch_up.proofs.Telling.{told_entries}
-use Rattle.builder_core.specs.Builds.{LiveValue, BuildingValue, WorkValue, IndexValue, IsRunning, IsCaughtUpTo, IsIndexOn, AreFed, IsUnloaded, WorksOn, with_index}
+use Rattle.builder_core.specs.Builds.{LiveValue, BuildingValue, WorkValue, IndexValue, IsRunning, IsCaughtUpTo, IsIndexOn, AreFed, IsUnloaded, WorksOn, with_index, with_pairs, is_unique}
 use Rattle.builder_core.specs.Builds.{work_state, core_state, index_state}
 use Rattle.building.specs.TakeEnd.{TakeEnd}
 use Rattle.catch_up.specs.Built.{BuiltValue}

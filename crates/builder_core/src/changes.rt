@@ -207,7 +207,7 @@ fn perform_with(
         unreachable!()
     };
     heap.laws();
-    let (rid, txn, undone) = (ready.rid, ready.txn, ready.undone);
+    let (rid, txn, undone) = (ready.rid, ready.txn(), ready.undone());
     let change = ready_change(&index.spec, &mut index.tree, &ready)?;
     make_guard_room(own, &index.spec, txn, &change)?;
     let done = perform_with(rest, others, heap, alloc, sides, build, ready)?;

@@ -1,5 +1,5 @@
 //! The keys that open transactions may give back, beside the ready indexes.
-ghost use Rattle.std.specs.Prelude.{◌≡◌, ◌+◌, ◌×◌, ◌++◌, ◌∷◌, [], ℕ, List, Option, true, length, None, Some, IfSome, IfErr, OnOk};
+ghost use Rattle.std.specs.Prelude.{◌≡◌, ◌+◌, ◌++◌, ◌∷◌, [], ℕ, List, Option, true, length, None, Some, IfSome, IfErr, OnOk};
 ghost use Rattle.keybytes.specs.declared.cell.Cell.{Cell};
 ghost use Rattle.heap_log.specs.Growing.{UndoesNameEarlier};
 ghost use Rattle.heap_log.specs.Standing.{live_at, newest_standing};
