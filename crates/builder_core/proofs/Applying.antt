@@ -227,7 +227,7 @@ module _ (index : ℕ) (old mid : BuildingValue) (m : ℕ) (first : HasApplied i
             ap₂ (λ (ends : List (TakeEnd Entry)) (indexes : List IndexValue). record old { sides = ends; work = Some (record first.taking.work { indexes = indexes }) })
             (set-set old.sides index first.end next.end)
             (set-set first.taking.work.indexes index (index_with first.taking.work index first.pairs (first.taking.it.applied + m))
-            (index_with first.taking.work next.pairs ((first.taking.it.applied + m) + n)))
+            (index_with first.taking.work index next.pairs ((first.taking.it.applied + m) + n)))
 
   -- and the next can be applied
   pub can_go_on : (count : ℕ) → count ≤ length first.taking.end.known → first.taking.it.applied + count < 2 ^ 64 → m < count → CanApply index 1 mid

@@ -5,6 +5,7 @@ use Rattle.std.proofs.lemmas.Bool.{cond-true}
 use Rattle.std.proofs.lemmas.List.Elements.{All-nil, All-cons}
 use Rattle.keybytes.specs.Keys.{KeySpecValue}
 use Rattle.keybytes.specs.declared.cell.Cell.{Cell}
+use Rattle.keybytes.specs.Faults.{first_cause}
 use Rattle.heap_log.specs.declared.record.LogRec.{LogRec}
 use Rattle.heap_table.specs.declared.ready.Ready.{Ready}
 use Rattle.key_guards.specs.Guarded.{GuardsValue}

@@ -120,7 +120,7 @@ module _ (index waiting : ℕ) (live : LiveValue) (building : BuildingValue) (t 
   seen_is = waiting_in_ring fed_now t.it.applied waiting t.put t.end ring t.sees
 
   its_spec : is_unique (slice_get t.work.specs index) ≡ t.spec.unique
-  its_spec = ap is_unique (ap (λ specs. slice_get specs index) (sym t.run.on.specs) ∙ t.at)
+  its_spec = ap is_unique (ap (λ specs. slice_get specs index) (sym t.run.on.specs) ∙ t.spec_at)
 
   taking : IsTakingEntries index building
   taking = record {

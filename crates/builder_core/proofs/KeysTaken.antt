@@ -2,15 +2,17 @@
 use Rattle.std.proofs.Common.{◌≡◌, Bool, true, false, List, [], ◌∷◌, ◌++◌, ℕ, Option, Some, None, refl, sym, ap, ◌∙◌, inl, inr}
 use Rattle.std.specs.Prelude.{nat_eq, if◌then◌else◌}
 use Rattle.std.specs.Cmp.Lexicographic.{pointwise}
+use Rattle.std.specs.Option.{option_map}
 use Rattle.std.specs.Str.{bytes_eq}
-use Rattle.std.proofs.lemmas.Bool.{cases_Bool}
+use Rattle.std.proofs.lemmas.Slice.Eq.{bytes_eq-Decides}
+use Rattle.std.proofs.lemmas.Bool.{cases_Bool, false_from_ne_true, false≢true}
 use Rattle.keybytes.specs.Keys.{KeySpecValue, key_of}
 use Rattle.keybytes.specs.Pairs.{pair_with}
 use Rattle.keybytes.specs.declared.cell.Cell.{Cell}
 use Rattle.keybytes.specs.declared.rid.Rid.{Rid}
 use Rattle.key_guards.specs.GuardLists.{key_taken}
 use Rattle.key_guards.specs.UniqueKeys.{has_key}
-use Rattle.visibility.specs.SideEntries.{SideEntry, changes, entries_of_change, delete_at, insert_at, delete, insert}
+use Rattle.visibility.specs.SideEntries.{SideEntry, changes, entries_of_change, pair_under, delete_at, insert_at, delete, insert}
 use Rattle.visibility.specs.declared.change.Change.{Change}
 
 -- the key that leaves, by the first of the entries
@@ -50,3 +52,8 @@ pub taken_is :
     (spec : KeySpecValue) (rid : Rid) (old new : Option (List Cell)) (change : Change)
     → entries_of_change rid change ≡ changes (pair_with spec rid old) (pair_with spec rid new) → change.delete ≡ key_taken spec old new
 taken_is spec rid old new change are = sym (left_is rid change) ∙ ap left_by are ∙ left_of spec rid old new
+
+-- the pair of a row's key
+pub key_with : (spec : KeySpecValue) (rid : Rid) (row : Option (List Cell)) → pair_under rid (option_map (key_of spec) row) ≡ pair_with spec rid row
+key_with spec rid None = refl
+key_with spec rid (Some cells) = refl

@@ -14,6 +14,7 @@ pub mod FedBeside
 pub mod Feeding
 pub mod EachGuarded
 pub mod Following
+pub mod KeysAsked
 pub mod KeysTaken
 pub mod Kits
 pub mod LeftBeside

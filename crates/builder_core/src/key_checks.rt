@@ -83,8 +83,7 @@ fn check_key(
     guards.laws();
     index.tree.laws();
     let key = index.spec.key(row)?;
-    let first: Option<Rid> = None; // TODO first_rid
-    match first {
+    match index.tree.first_rid(&key) {
         Some(other) if other == rid => Ok(()),
         Some(other) => Err(Fault::Duplicate(number, other)),
         None => check_guard(number, guards.other(txn, &key)),
