@@ -1,8 +1,8 @@
 -- The guards of the ready indexes, one by one.
-use Rattle.std.proofs.Common.{◌≡◌, ℕ, ◌+◌, true, List, [], ◌∷◌, map, Option, None, Some, sym, ap, ◌∙◌, subst, Bool}
+use Rattle.std.proofs.Common.{◌≡◌, ℕ, ◌+◌, true, if◌then◌else◌, List, [], ◌∷◌, map, Option, None, Some, refl, sym, ap, ◌∙◌, subst, Bool}
 use Rattle.std.specs.List.{All, AllZip}
 use Rattle.std.proofs.lemmas.Bool.{cond-true}
-use Rattle.std.proofs.lemmas.List.Elements.{All-nil, All-cons}
+use Rattle.std.proofs.lemmas.List.Elements.{All-nil, All-cons, All-tail}
 use Rattle.keybytes.specs.Keys.{KeySpecValue}
 use Rattle.keybytes.specs.declared.cell.Cell.{Cell}
 use Rattle.keybytes.specs.Faults.{first_cause}
@@ -12,7 +12,9 @@ use Rattle.key_guards.specs.Guarded.{GuardsValue}
 use Rattle.key_guards.specs.KeyRefusals.{key_refusal}
 use Rattle.key_guards.specs.UniqueKeys.{UniqueKeysAreGuarded}
 use Rattle.builder_core.proofs.ApplyCauses.{first_none}
-use Rattle.builder_core.specs.CoreState.{ReadyValue}
+use Rattle.heap_table.specs.TablePairs.{pairs_at_rest}
+use Rattle.keybytes.specs.declared.kind.Kind.{Kind}
+use Rattle.builder_core.specs.CoreState.{ReadyValue, AreIndexesOf}
 use Rattle.builder_core.specs.KeyCauses.{HasGuards, AreGuarded, AreLetIn, KeysAreGuarded, keys_refusal}
 use Rattle.builder_core.specs.Steps.{ready_now}
 
@@ -69,3 +71,25 @@ no_row_is_let_in number (index ∷ ready) log txn old = by_test index.spec.uniqu
   by_test : (t : Bool) → first_cause (if t then None else None) (keys_refusal (number + 1) ready log txn old None) ≡ None
   by_test true = no_row_is_let_in (number + 1) ready log txn old
   by_test false = no_row_is_let_in (number + 1) ready log txn old
+
+-- what holds of all holds of the first and of the others
+pub rest_indexes :
+    (kinds : List Kind) (log : List LogRec) (index : ReadyValue) (rest indexes : List ReadyValue) → indexes ≡ index ∷ rest → AreIndexesOf kinds log indexes
+    → AreIndexesOf kinds log rest
+rest_indexes kinds log index rest indexes is are =
+    let all = subst (AreIndexesOf kinds log) is are in
+    record {
+      columns = All-tail (λ (i : ReadyValue). i.spec.kinds ≡ kinds) index rest all.columns;
+      follow = All-tail (λ (i : ReadyValue). i.pairs ≡ pairs_at_rest i.spec log) index rest all.follow;
+    }
+
+pub both_guarded :
+    (log : List LogRec) (index : ReadyValue) (rest indexes : List ReadyValue) (own : GuardsValue) (others guards : List GuardsValue) → indexes ≡ index ∷ rest
+    → guards ≡ own ∷ others → AreGuarded log indexes guards → HasGuards log index.spec own × AreGuarded log rest others
+both_guarded log index rest indexes own others guards is guards_are are =
+    subst (λ gs. AreGuarded log (index ∷ rest) gs) guards_are (subst (λ is. AreGuarded log is guards) is are)
+
+-- where there are indexes there are guards
+pub as_many_guards : (log : List LogRec) (index : ReadyValue) (rest indexes : List ReadyValue) (guards : List GuardsValue) → indexes ≡ index ∷ rest
+    → guards ≡ [] → AreGuarded log indexes guards → ⊥
+as_many_guards log index rest indexes guards is none are = subst (λ gs. AreGuarded log (index ∷ rest) gs) none (subst (λ is. AreGuarded log is guards) is are)

@@ -24,6 +24,8 @@ use Rattle.btree.specs.TreeValue.{is_key, rids_of}
 use Rattle.unique_verdict.proofs.OneKey.{key_same, has_same}
 use Rattle.key_guards.specs.KeyRefusals.{rid_with, other_guard, duplicate_refusal, guarded_refusal, new_key_refusal, key_refusal}
 use Rattle.key_guards.specs.UniqueKeys.{has_key, KeysAreUnique}
+use Rattle.builder_core.specs.KeyCauses.{IsKeyFault}
+use Rattle.std.specs.Prelude.{Result, Ok, Err, MatchResult, OnOk, IfErr}
 use Rattle.key_guards.proofs.Refusals.{find_passes, no_rid_with}
 
 is_same : (key : List ℕ) (pair : Pair) → is_key key pair ≡ bytes_eq pair.key key
@@ -104,3 +106,26 @@ module _ (number : ℕ) (spec : KeySpecValue) (log : List LogRec) (txn : ℕ) (r
   none_has none =
       gives_key (no_rid_with spec log its_key none rid)
       ∙ ap (λ o. first_cause (duplicate_refusal number o) (guarded_refusal number (other_guard spec log txn its_key))) none
+
+-- what a check of one cause tells of the same cause otherwise told
+module _ {T : Type 0} (r : Result T Fault) (told cause : Option Fault) (same : cause ≡ told) (is : MatchResult r (λ _. told ≡ None) (λ fault. told ≡ Some fault)) where
+  pub told_free : OnOk r (cause ≡ None)
+  told_free = by_result r is where
+    by_result : (x : Result T Fault) → MatchResult x (λ _. told ≡ None) (λ fault. told ≡ Some fault) → OnOk x (cause ≡ None)
+    by_result (Ok v) none = same ∙ none
+    by_result (Err fault) some = tt
+
+  pub told_cause : IfErr r (λ fault. IsKeyFault cause fault)
+  told_cause = by_result r is where
+    by_result : (x : Result T Fault) → MatchResult x (λ _. told ≡ None) (λ fault. told ≡ Some fault) → IfErr x (λ fault. IsKeyFault cause fault)
+    by_result (Ok v) none = tt
+    by_result (Err fault) some = inl (same ∙ some)
+
+-- a fault of the first cause is one of both, and so is one of the second where the first doesn't stand
+pub first_fault : (first second : Option Fault) (fault : Fault) → IsKeyFault first fault → IsKeyFault (first_cause first second) fault
+first_fault first second fault (inl is) = inl (ap (λ o. first_cause o second) is)
+first_fault first second fault (inr memory) = inr memory
+
+pub second_fault : (first second : Option Fault) (fault : Fault) → first ≡ None → IsKeyFault second fault → IsKeyFault (first_cause first second) fault
+second_fault first second fault none (inl is) = inl (ap (λ o. first_cause o second) none ∙ is)
+second_fault first second fault none (inr memory) = inr memory

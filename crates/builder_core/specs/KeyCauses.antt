@@ -16,12 +16,16 @@ use Rattle.key_guards.specs.KeyRefusals.{key_refusal}
 use Rattle.key_guards.specs.UniqueKeys.{UniqueKeysAreGuarded}
 use Rattle.builder_core.specs.CoreState.{ReadyValue, LiveState}
 
--- why the transaction may not put the new row in the place of the old one: the first of these indexes, which are numbered from that number on,
--- that is unique and has another row with its key, or a key that another transaction may give back
+-- why an index under that number refuses to have the new row in the place of the old one: it is unique, and another row has the key, or another
+-- transaction may give it back
+abbrev pub index_cause : ℕ → KeySpecValue → List LogRec → ℕ → Option (List Cell) → Option (List Cell) → Option Fault
+index_cause number spec log txn old new = if spec.unique then key_refusal number spec log txn old new else None
+
+-- why the transaction may not put the new row in the place of the old one: the first of these indexes that refuses it, where they are numbered from that number on
 abbrev pub keys_refusal : ℕ → List ReadyValue → List LogRec → ℕ → Option (List Cell) → Option (List Cell) → Option Fault
 keys_refusal number [] log txn old new = None
 keys_refusal number (index ∷ ready) log txn old new =
-    first_cause (if index.spec.unique then key_refusal number index.spec log txn old new else None) (keys_refusal (number + 1) ready log txn old new)
+    first_cause (index_cause number index.spec log txn old new) (keys_refusal (number + 1) ready log txn old new)
 
 -- an index of that specification has guards that follow the log, if it is unique
 abbrev pub HasGuards : List LogRec → KeySpecValue → GuardsValue → Type 0

@@ -1,12 +1,12 @@
 //! Whether a row may have its keys, for the sake of the ready indexes that are unique.
-ghost use Rattle.std.specs.Prelude.{◌≡◌, true, None, Some, OnOk, IfErr, MatchResult};
+ghost use Rattle.std.specs.Prelude.{◌≡◌, ◌+◌, ◌^◌, ◌<◌, length, true, None, Some, OnOk, IfErr, MatchResult};
 ghost use Rattle.keybytes.specs.Cells.{fits};
 ghost use Rattle.heap_log.specs.Standing.{live_at};
 ghost use Rattle.heap_table.specs.TablePairs.{pairs_at_rest};
 ghost use Rattle.key_guards.specs.Guarded.{IsGuarded};
 ghost use Rattle.key_guards.specs.KeyRefusals.{key_refusal, guarded_refusal};
 ghost use Rattle.builder_core.specs.CoreState.{AreIndexesOf};
-ghost use Rattle.builder_core.specs.KeyCauses.{keys_refusal, AreGuarded, AreLetIn, IsKeyFault};
+ghost use Rattle.builder_core.specs.KeyCauses.{keys_refusal, AreGuarded, AreLetIn, HasGuards, IsKeyFault, index_cause};
 ghost use Rattle.heap_table.specs.Ready.{IsReady};
 
 use crate::ReadyIndex;
@@ -52,17 +52,58 @@ pub fn check_keys(
     ensures accepted { OnOk result (keys_refusal 0 indexes.now heap.now.state.log txn (live_at heap.now.state.log rid) (Some row.now) ≡ None) }
     ensures refused { IfErr result (λ fault. IsKeyFault (keys_refusal 0 indexes.now heap.now.state.log txn (live_at heap.now.state.log rid) (Some row.now)) fault) }
 {
-    heap.laws();
-    for number in 0..indexes.len() {
-        let index = &indexes[number];
-        if index.spec.unique() {
-            check_key(number, index, &guards[number], heap, txn, rid, row)?;
-        }
-    }
-    Ok(())
+    check_from(0, indexes, guards, heap, txn, rid, row)
 }
 
-/// The same of one unique index, which has that number.
+/// The same of indexes of which the first has that number.
+fn check_from(
+    number: usize,
+    indexes: &[ReadyIndex],
+    guards: &[Guards],
+    heap: &Heap,
+    txn: u64,
+    rid: Rid,
+    row: &Row,
+) -> Result<(), Fault>
+    requires few { number + length indexes.now < 2 ^ 64 }
+    requires indexes { AreIndexesOf heap.now.state.schema heap.now.state.log indexes.now }
+    requires guarded { AreGuarded heap.now.state.log indexes.now guards.now }
+    requires fits { fits heap.now.state.schema row.now ≡ true }
+    ensures accepted { OnOk result (keys_refusal number indexes.now heap.now.state.log txn (live_at heap.now.state.log rid) (Some row.now) ≡ None) }
+    ensures refused { IfErr result (λ fault. IsKeyFault (keys_refusal number indexes.now heap.now.state.log txn (live_at heap.now.state.log rid) (Some row.now)) fault) }
+{
+    let (Some((index, rest)), Some((own, others))) = (indexes.split_first(), guards.split_first())
+    else {
+        return Ok(());
+    };
+    check_index(number, index, own, heap, txn, rid, row)?;
+    check_from(number + 1, rest, others, heap, txn, rid, row)
+}
+
+/// The same of one index, which has that number.
+fn check_index(
+    number: usize,
+    index: &ReadyIndex,
+    guards: &Guards,
+    heap: &Heap,
+    txn: u64,
+    rid: Rid,
+    row: &Row,
+) -> Result<(), Fault>
+    requires columns { index.now.spec.kinds ≡ heap.now.state.schema }
+    requires pairs { index.now.pairs ≡ pairs_at_rest index.now.spec heap.now.state.log }
+    requires guarded { HasGuards heap.now.state.log index.now.spec guards.now }
+    requires fits { fits heap.now.state.schema row.now ≡ true }
+    ensures accepted { OnOk result (index_cause number index.now.spec heap.now.state.log txn (live_at heap.now.state.log rid) (Some row.now) ≡ None) }
+    ensures refused { IfErr result (λ fault. IsKeyFault (index_cause number index.now.spec heap.now.state.log txn (live_at heap.now.state.log rid) (Some row.now)) fault) }
+{
+    if !index.spec.unique() {
+        return Ok(());
+    }
+    check_key(number, index, guards, heap, txn, rid, row)
+}
+
+/// The same of a unique index.
 fn check_key(
     number: usize,
     index: &ReadyIndex,
