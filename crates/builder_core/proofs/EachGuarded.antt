@@ -1,10 +1,11 @@
 -- The guards of the ready indexes, one by one.
-use Rattle.std.proofs.Common.{◌≡◌, ℕ, ◌+◌, true, if◌then◌else◌, List, [], ◌∷◌, map, Option, None, Some, refl, sym, ap, ◌∙◌, subst, Bool}
+use Rattle.std.proofs.Common.{◌≡◌, ℕ, ◌+◌, true, false, if◌then◌else◌, List, [], ◌∷◌, map, Option, None, Some, refl, sym, ap, ◌∙◌, subst, Bool}
 use Rattle.std.specs.List.{All, AllZip}
 use Rattle.std.proofs.lemmas.Bool.{cond-true}
 use Rattle.std.proofs.lemmas.List.Elements.{All-nil, All-cons, All-tail}
 use Rattle.keybytes.specs.Keys.{KeySpecValue}
 use Rattle.keybytes.specs.declared.cell.Cell.{Cell}
+use Rattle.keybytes.specs.declared.fault.Fault.{Fault}
 use Rattle.keybytes.specs.Faults.{first_cause}
 use Rattle.heap_log.specs.declared.record.LogRec.{LogRec}
 use Rattle.heap_table.specs.declared.ready.Ready.{Ready}
@@ -67,10 +68,11 @@ let_in_from number log (index ∷ ready) change free =
 pub no_row_is_let_in :
     (number : ℕ) (ready : List ReadyValue) (log : List LogRec) (txn : ℕ) (old : Option (List Cell)) → keys_refusal number ready log txn old None ≡ None
 no_row_is_let_in number [] log txn old = refl
-no_row_is_let_in number (index ∷ ready) log txn old = by_test index.spec.unique where
-  by_test : (t : Bool) → first_cause (if t then None else None) (keys_refusal (number + 1) ready log txn old None) ≡ None
-  by_test true = no_row_is_let_in (number + 1) ready log txn old
-  by_test false = no_row_is_let_in (number + 1) ready log txn old
+no_row_is_let_in number (index ∷ ready) log txn old =
+    by_test (keys_refusal (number + 1) ready log txn old None) (no_row_is_let_in (number + 1) ready log txn old) index.spec.unique where
+  by_test : (rest : Option Fault) → rest ≡ None → (t : Bool) → first_cause (if t then None else None) rest ≡ None
+  by_test rest none true = none
+  by_test rest none false = none
 
 -- what holds of all holds of the first and of the others
 pub rest_indexes :

@@ -60,11 +60,11 @@ impl<T: Table> Model for Live<T> {
     } };
 
     ghost invariant = { λ live. AreIndexesOf live.heap.state.schema live.heap.state.log live.ready.items
-        × AreGuarded live.heap.state.log live.ready.items live.guards.items
         × BuildFollows live.heap.state.schema live.heap.state.log live.build
         × SidesFollow live.heap.state.log live.build live.sides.items
         × PagesFollow live.heap.state.schema live.heap.state.log live.builds live.build (all_sent live.pages.items)
-        × AreOfBuilds live.builds (all_sent live.pages.items) × ArePutEnds T.pages T.sides live.pages.items (put_ends live.sides.items) };
+        × AreOfBuilds live.builds (all_sent live.pages.items) × ArePutEnds T.pages T.sides live.pages.items (put_ends live.sides.items)
+        × AreGuarded live.heap.state.log live.ready.items live.guards.items };
 }
 
 impl<T: Table> Live<T> {

@@ -1,5 +1,5 @@
 //! What transactions do to a table and its indexes.
-ghost use Rattle.std.specs.Prelude.{◌≡◌, Some, None, MatchResult};
+ghost use Rattle.std.specs.Prelude.{◌≡◌, Some, None, OnOk, IfErr};
 ghost use Rattle.keybytes.specs.Answered.{Answered};
 ghost use Rattle.heap_table.specs.Calls.{Begins, Inserts, Updates, Deletes, Undoes, Commits};
 ghost use Rattle.heap_table.specs.HeapState.{begin_refusal, txn_refusal, insert_refusal, update_refusal, delete_refusal, undo_refusal};

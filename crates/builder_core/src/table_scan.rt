@@ -1,5 +1,6 @@
 //! What the table knows of the build that runs.
-ghost use Rattle.std.specs.Prelude.{◌≡◌, ◌≢◌, ℕ, ◌+◌, ◌^◌, ◌||◌, ◌++◌, ◌∷◌, ◌<◌, ◌≤◌, [], length, map, Some, is_some, nat_le, slice_get, list_any, IfOk, IfErr};
+ghost use Rattle.std.specs.Prelude.{◌≡◌, ◌≢◌, ℕ, ◌+◌, ◌^◌, ◌||◌, ◌++◌, ◌∷◌, ◌<◌, ◌≤◌, [], length, map, Some, is_some, nat_le, slice_get, IfOk, IfErr};
+ghost use Rattle.std.specs.List.{list_any};
 ghost use Rattle.scan_range.specs.Ranges.{at_start};
 ghost use Rattle.builder_core.specs.SideFiles.{sees};
 ghost use Rattle.builder_core.specs.CoreState.{BuildState};

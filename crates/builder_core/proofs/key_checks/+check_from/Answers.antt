@@ -1,12 +1,9 @@
-use Rattle.std.proofs.Common.{◌≡◌, ◌+◌, Some, None, length, List, ap, sym, ◌∙◌, subst, arith}
-use Rattle.std.specs.Prelude.{IfErr, OnOk}
+use Rattle.std.proofs.Common.{◌+◌, Some, length, ap, sym, ◌∙◌, subst, arith}
 use Rattle.std.proofs.lemmas.Result.{IfErr-weaker, on_ok_weaker, err_from_is_err_and}
 use Rattle.heap_log.specs.Standing.{live_at}
-use Rattle.key_guards.specs.Guarded.{GuardsValue}
 use Rattle.keybytes.specs.Faults.{first_cause}
 use Rattle.builder_core.proofs.EachGuarded.{both_guarded, rest_indexes}
 use Rattle.builder_core.proofs.KeysAsked.{first_fault, second_fault}
-use Rattle.builder_core.specs.CoreState.{ReadyValue}
 use Rattle.builder_core.specs.KeyCauses.{keys_refusal, index_cause, IsKeyFault}
 use Rattle.builder_core.proofs.key_checks.+check_from.Goals as goal
 
@@ -19,7 +16,7 @@ returns-in_err-check_index-clause-refused t c =
     let second = keys_refusal (c.args.number + 1) c.in-Some-Some.rest.now log c.args.txn old new in
     let told = err_from_is_err_and c.from_residual.result c.from_residual.ensures.1 in
     rw (told.1) (subst (λ ready. IsKeyFault (keys_refusal c.args.number ready log c.args.txn old new) told.0) (sym c.in-Some-Some.ensures.cases.0)
-    (first_fault first second told.0 (subst (IsKeyFault first) (?) c.in_err-check_index.ensures.refused)))
+    (first_fault first second told.0 (subst (IsKeyFault first) (sym told.2) c.in_err-check_index.ensures.refused)))
 
 pub returns-clause-accepted : goal.returns-clause-accepted
 returns-clause-accepted t c =
@@ -49,8 +46,11 @@ check_from-requires t c =
     let both = both_guarded c.args.heap.now.state.log c.in-Some-Some.index.now c.in-Some-Some.rest.now c.args.indexes.now c.in-Some-Some.own.now c.in-Some-Some.others.now
     c.args.guards.now is c.in-Some-Some.ensures'.cases.0 c.requires.guarded in (
       omega (arith, fewer),
-      omega (arith, fewer, c.requires.few),
-      rest_indexes c.args.heap.now.state.schema c.args.heap.now.state.log c.in-Some-Some.index.now c.in-Some-Some.rest.now c.args.indexes.now is c.requires.indexes,
-      both.1,
-      c.requires.fits,
+      (
+        omega (arith, fewer, c.requires.few),
+        (
+          rest_indexes c.args.heap.now.state.schema c.args.heap.now.state.log c.in-Some-Some.index.now c.in-Some-Some.rest.now c.args.indexes.now is c.requires.indexes,
+          (both.1, c.requires.fits),
+        ),
+      ),
     )

@@ -1,4 +1,4 @@
-use Rattle.std.proofs.Common.{◌≡◌, ℕ, Some, None, Option, List, ap, ap₂, sym, ◌∙◌}
+use Rattle.std.proofs.Common.{ℕ, Some, Option, List, ap, ap₂, sym, ◌∙◌}
 use Rattle.std.proofs.lemmas.Result.{on_ok_weaker}
 use Rattle.keybytes.specs.declared.cell.Cell.{Cell}
 use Rattle.heap_log.specs.Standing.{live_at}
