@@ -29,6 +29,7 @@ pub mod Noting
 pub mod OneKit
 pub mod OneRing
 pub mod OneWorker
+pub mod OwnGuards
 pub mod OwnSpools
 pub mod Partition
 pub mod Performed

@@ -122,6 +122,7 @@ impl<T: Table> Live<T> {
         ensures committed { Answered (txn_refusal self.old.state.heap txn) (OnHeap (Commits txn)) self.old.state result self.new.state }
         ensures works { (building : BuildingValue) → WorksOn self.old building → WorksOn self.new building }
     {
+        self.heap.laws();
         let number = self.heap.commit(txn)?;
         tell_commit(&mut self.guards, txn);
         Ok(number)
