@@ -14,6 +14,7 @@ ghost use Rattle.builder_core.specs.SideFiles.{AreEntriesLeft, HaveEntryKeys, No
 ghost use Rattle.builder_core.specs.CoreState.{abandoned, after_visits, ReadyFollowTable};
 ghost use Rattle.builder_core.specs.KeyCauses.{KeysAreGuarded};
 
+use crate::guarding::guards_laws;
 use crate::live_sides::reset_all;
 use crate::rest::at_rest;
 use crate::table_scan::TableScan;
@@ -112,6 +113,7 @@ impl<T: Table> Live<T> {
         ensures build { IfSome self.now.state.build (λ b. BuildIsSound b self.now.state.heap.log) }
     {
         self.heap.laws();
+        guards_laws(self.guards.as_slice());
         let _build = &self.build;
     }
 

@@ -84,7 +84,6 @@ impl<T: Table> Live<T> {
         ensures works { (building : BuildingValue) → WorksOn self.old building → WorksOn self.new building }
     {
         let ready = self.heap.ready_delete(txn, rid)?;
-        check_change(&self.ready, &self.guards, &self.heap, &ready)?;
         changes::write(
             &mut self.ready,
             &mut self.guards,

@@ -1,4 +1,4 @@
-use Rattle.std.proofs.Common.{ap, subst, sym, ◌∙◌, arith}
+use Rattle.std.proofs.Common.{ap, take, drop, length, ◌++◌, subst, sym, ◌∙◌, arith}
 use Rattle.heap_table.specs.HeapState.{HeapState}
 use Rattle.builder_core.specs.KeyCauses.{AreGuarded}
 use Rattle.builder_core.proofs.EachGuarded.{guarded_now, whole_guards}
@@ -26,6 +26,7 @@ returns-clause-guarded c =
     (omega (arith, c.perform_with.auto.indexes, c.deref_mut.ensures.len)) in
     let whole_gs = whole_guards c.args.guards.now.len c.perform_with.new.guards c.args.guards.now.items
     (omega (arith, c.perform_with.auto.guards, c.deref_mut-2.ensures.len)) in
-    subst (λ gs. AreGuarded new.log _ gs) (sym whole_gs)
+    let left = take c.args.indexes.now.len (c.perform_with.new.indexes ++ drop (length c.perform_with.new.indexes) c.args.indexes.now.items) in
+    subst (λ gs. AreGuarded new.log left gs) (sym whole_gs)
     (subst (λ is. AreGuarded new.log is c.perform_with.new.guards) (sym (whole ∙ done.ready))
     (guarded_now new.log new.log c.deref_mut.result.now c.perform_with.new.guards done.guarded))
