@@ -44,6 +44,7 @@ pub mod ScanExamples
 pub mod ScanSteps
 pub mod Sealed
 pub mod Seen
+pub mod SharedKeys
 pub mod SideEnds
 pub mod SideFollows
 pub mod SideKept

@@ -3,6 +3,7 @@ ghost use Rattle.builder_core.specs.Steps.{OnBuild};
 ghost use Rattle.keybytes.specs.Faults.{RefusedFor};
 ghost use Rattle.heap_log.specs.Standing.{live_at};
 ghost use Rattle.heap_table.specs.HeapState.{after_visit, row_missing};
+ghost use Rattle.heap_table.specs.Kept.{RowsFit};
 ghost use Rattle.heap_table.specs.Pages.{pages_written};
 ghost use Rattle.heap_table.specs.TablePairs.{pairs_at_rest};
 ghost use Rattle.keybytes.specs.Pairs.{HaveKeysOf, AreInColumnOrder};
@@ -114,6 +115,15 @@ impl<T: Table> Live<T> {
     {
         self.heap.laws();
         guards_laws(self.guards.as_slice());
+        let _build = &self.build;
+    }
+
+    /// Does nothing: its clauses tell what holds of the rows and of the build that runs.
+    pub(crate) fn rows(&self)
+        ensures rows { RowsFit self.now.state.heap.schema self.now.state.heap.log }
+        ensures follows { BuildFollows self.now.state.heap.schema self.now.state.heap.log self.now.state.build }
+    {
+        self.heap.laws();
         let _build = &self.build;
     }
 
