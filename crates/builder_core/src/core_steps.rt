@@ -1,4 +1,4 @@
-ghost use Rattle.std.specs.Prelude.{◌≡◌, ℕ, List, [], All, map, Some, None, is_some, IfOk, IfErr, OnOk, OnErr, MatchResult, slice_get};
+ghost use Rattle.std.specs.Prelude.{◌≡◌, ℕ, List, [], All, map, Some, None, is_some, IfOk, IfErr, OnOk, OnErr, MatchResult, MatchOption, slice_get};
 ghost use Rattle.keybytes.specs.Faults.{RefusedFor};
 ghost use Rattle.heap_log.specs.Standing.{live_at};
 ghost use Rattle.heap_table.specs.HeapState.{row_missing, after_visit};
@@ -141,6 +141,13 @@ impl<S: Spool, T: Table> Core<S, T> {
         ensures refused { IfErr result (RefusedFor (row_missing (live_at self.old.live.heap.log rid))) }
     {
         self.live.get(rid)
+    }
+
+    /// What makes the keys of each index that is being built; none where no build runs.
+    pub fn specs(&self) -> Option<&[KeySpec]>
+        ensures { MatchOption result (self.now.live.build ≡ None) (λ specs. OnBuild self.now.live.build (λ b. specs.now ≡ b.specs)) }
+    {
+        self.live.specs()
     }
 
     /// What makes the keys of an index that is being built. [`Fault::NoBuild`], [`Fault::BadCount`].

@@ -160,6 +160,16 @@ impl<T: Table> Live<T> {
         Ok(self.sides[index].entries())
     }
 
+    /// What makes the keys of each index that is being built; none where no build runs.
+    pub fn specs(&self) -> Option<&[KeySpec]>
+        ensures { MatchOption result (self.now.state.build ≡ None) (λ specs. OnBuild self.now.state.build (λ b. specs.now ≡ b.specs)) }
+    {
+        match &self.build {
+            Some(build) => Some(build.specs()),
+            None => None,
+        }
+    }
+
     /// What makes the keys of an index that is being built. [`Fault::NoBuild`], [`Fault::BadCount`].
     pub fn spec(&self, index: usize) -> Result<&KeySpec, Fault>
         ensures spec { IfOk result (λ spec. OnBuild self.now.state.build (λ b. slice_get b.specs index ≡ Some spec.now)) }

@@ -19,7 +19,7 @@ use Rattle.builder_core.specs.declared.reply.Reply.{Reply}
 use Rattle.builder_core.specs.declared.reply.Reply.TheVariants as reply
 use Rattle.script.specs.declared.command.Command.{Command}
 use Rattle.script.specs.declared.command.Command.TheVariants.{Row, Begin, Insert, Update, Delete, Undo, Commit, Get, Start as StartCommand, Scan, Digest}
-use Rattle.script.specs.declared.command.Command.TheVariants.{Seal, Load, Feed, Apply, Switch, Abandon, Side, Pairs, Rest}
+use Rattle.script.specs.declared.command.Command.TheVariants.{Seal, Load, Feed, Apply, Fence, Switch, Abandon, Side, Pairs, Rest}
 use Rattle.script.specs.declared.start.Start.{Start}
 use Rattle.replay.specs.Labels.{named}
 use Rattle.replay.specs.Leasing.{EndsBuild, FailsToStart, StartsOver}
@@ -43,6 +43,7 @@ answer_to (reply.Loaded pairs) = answer.Number pairs
 answer_to (reply.Fed entries) = answer.Number entries
 answer_to (reply.Applied entries) = answer.Number entries
 answer_to (reply.Switched number verdicts) = answer.Switched number verdicts 0
+answer_to reply.FenceSet = answer.Done
 answer_to reply.Abandoned = answer.Abandoned 0
 answer_to (reply.Refused fault) = answer.Refused fault
 
@@ -123,11 +124,18 @@ StartsBuild start old given new =
     ((plan : Plan) × IsPlanOf old.live.heap.schema start plan × StartsByPlan start.quota plan old given new)
     ⊎ ((fault : Fault) × (fault ≢ Memory → specs_refusal old.live.heap.schema start.specs.items ≡ Some fault) × Refuses fault old given new)
 
--- a switch decides: the build has ended, and no page of its spools is missing; or it is refused
+-- a switch decides: the build has ended, and no page of its spools is missing; the indexes that it refused are told of; or there was no memory for
+-- that; or it is refused
 abbrev pub Decides : CoreState → Answer → CoreState → Type 0
 Decides old given new =
     ((number : ℕ) × (verdicts : List Outcome)
-    × (given ≡ answer.Switched number verdicts 0) × EndsBuild event.Switch (reply.Switched number verdicts) old new)
+    × (given ≡ answer.Switched number verdicts 0) × (list_any is_refusal verdicts ≡ false) × EndsBuild event.Switch (reply.Switched number verdicts) old new)
+    ⊎ ((number : ℕ) × (verdicts : List Outcome) × (lines : Vec SharedLine Global)
+    × (given ≡ answer.SomeRefused number verdicts lines 0) × OnBuild old.live.build (λ b. ListsShared 0 b.specs verdicts lines.items)
+    × EndsBuild event.Switch (reply.Switched number verdicts) old new)
+    ⊎ ((number : ℕ) × (verdicts : List Outcome)
+    × (given ≡ answer.Refused Memory) × EndsBuild event.Switch (reply.Switched number verdicts) old new)
+    ⊎ ((given ≡ answer.Refused Memory) × (new ≡ old))
     ⊎ ((fault : Fault) × (given ≡ answer.Refused fault) × Step old event.Switch (reply.Refused fault) new)
 
 -- the build is given up, and no page of its spools is missing; or that is refused
@@ -155,6 +163,7 @@ CarriesOut labels (Seal worker) old given new = Happens (event.Seal worker) old 
 CarriesOut labels (Load index) old given new = Happens (event.Load index) old given new
 CarriesOut labels (Feed index most) old given new = Happens (event.Feed index most) old given new
 CarriesOut labels (Apply index most) old given new = Happens (event.Apply index most) old given new
+CarriesOut labels Fence old given new = Happens event.Fence old given new
 CarriesOut labels Switch old given new = Decides old given new
 CarriesOut labels Abandon old given new = GivesUp old given new
 CarriesOut labels (Side index) old given new = ListsSide index old given new

@@ -73,3 +73,47 @@ pub fn entry_lines(
     }
     Ok(lines)
 }
+
+/// Lists, behind the lines that are there, the indexes that the verdicts refuse; the first verdict is on the index of that number.
+pub fn shared_lines(
+    lines: &mut Vec<SharedLine>,
+    number: usize,
+    specs: &[KeySpec],
+    verdicts: &[Outcome],
+) -> Result<(), Fault>
+    requires keys { HaveSharedKeys specs.now verdicts.now }
+    requires few { number + length verdicts.now < 2 ^ 64 }
+    ensures lists { OnOk result ((told : List SharedLine) × (lines.new.items ≡ lines.old.items ++ told) × ListsShared number specs.now verdicts.now told) }
+    ensures memory { IfErr result (λ fault. fault ≡ Fault.Memory) }
+{
+    let (Some((spec, specs)), Some((verdict, verdicts))) = (specs.split_first(), verdicts.split_first())
+    else {
+        return Ok(());
+    };
+    if let Outcome::Shared { key, first, second } = verdict {
+        lines.push(SharedLine {
+            index: number,
+            cells: spec.cells(key)?,
+            first: *first,
+            second: *second,
+        })?;
+    }
+    shared_lines(lines, number + 1, specs, verdicts)
+}
+
+/// Copies of what makes the keys of the indexes that are being built.
+pub fn build_specs<T: Table>(
+    alloc: Global,
+    core: &Core<PlainSpool, T>,
+) -> Result<Vec<KeySpec>, Fault>
+    ensures ok { IfOk result (λ specs. IfSome core.now.live.build (λ b. specs.items ≡ b.specs)) }
+    ensures memory { IfErr result (λ fault. fault ≡ Fault.Memory) }
+{
+    let mut copies = Vec::new(alloc);
+    if let Some(specs) = core.specs() {
+        for spec in specs {
+            copies.push(spec.clone()?)?;
+        }
+    }
+    Ok(copies)
+}

@@ -77,6 +77,11 @@ impl<W: io::Write + Drop> Output<W> {
                 number,
                 verdicts,
                 ..
+            }
+            | Answer::SomeRefused {
+                number,
+                verdicts,
+                ..
             } => {
                 self.field(*number)?;
                 self.verdicts(verdicts)
@@ -109,6 +114,12 @@ impl<W: io::Write + Drop> Output<W> {
             Answer::Switched { pages, .. } | Answer::Abandoned { pages } => {
                 self.pages(number, *pages)
             }
+            Answer::SomeRefused { shared, pages, .. } => {
+                for line in shared {
+                    self.shared(number, line)?;
+                }
+                self.pages(number, *pages)
+            }
             Answer::Pairs { lines } => {
                 for line in lines {
                     self.pair(number, line)?;
@@ -131,6 +142,16 @@ impl<W: io::Write + Drop> Output<W> {
     {
         self.fields(number, "pages")?;
         self.field(missing)?;
+        self.end()
+    }
+
+    fn shared(&mut self, number: usize, line: &SharedLine) -> Result<(), OutputFailed>
+        ensures { OnOk result (fields_written self.new.writer ≡ 0) }
+    {
+        self.fields(number, "shared")?;
+        self.field(line.index)?;
+        self.cells(line.cells.as_slice())?;
+        self.fields(line.first, line.second)?;
         self.end()
     }
 

@@ -83,6 +83,7 @@ impl Session {
             Command::Load { index } => step(bench, Event::Load { index }),
             Command::Feed { index, most } => step(bench, Event::Feed { index, most }),
             Command::Apply { index, most } => step(bench, Event::Apply { index, most }),
+            Command::Fence => step(bench, Event::Fence),
             Command::Switch => self.switch(bench),
             Command::Abandon => self.abandon(bench),
             Command::Side { index } => self.side(bench.core(), index),
@@ -227,13 +228,22 @@ impl Session {
     fn switch<T: Table>(&mut self, bench: &mut Bench<T>) -> Result<Answer, Fault>
         ensures { Answers (state_of bench.old self.old) Command.Switch result (state_of bench.new self.new) }
     {
+        let specs = build_specs(self.alloc, bench.core())?;
         let (number, verdicts, pages) = bench.switch()?;
-        if has_refused(&verdicts) {
-            self.status = Status::IndexRefused;
+        if !has_refused(&verdicts) {
+            return Ok(Answer::Switched {
+                number,
+                verdicts,
+                pages,
+            });
         }
-        Ok(Answer::Switched {
+        self.status = Status::IndexRefused;
+        let mut shared = Vec::new(self.alloc);
+        shared_lines(&mut shared, 0, specs.as_slice(), verdicts.as_slice())?;
+        Ok(Answer::SomeRefused {
             number,
             verdicts,
+            shared,
             pages,
         })
     }
@@ -316,6 +326,7 @@ fn step<T: Table>(bench: &mut Bench<T>, event: Event) -> Result<Answer, Fault>
         | Reply::Applied { entries: count } => Answer::Number {
             number: count as u64,
         },
+        Reply::FenceSet => Answer::Done,
         Reply::Refused { fault } => return Err(fault),
         _ => unreachable!(),
     })
