@@ -86,6 +86,7 @@ status_after status (answer.Written number rid) = status
 status_after status (answer.Undone number left) = status
 status_after status (answer.Cells row) = status
 status_after status (answer.Switched number verdicts pages) = if list_any is_refusal verdicts then IndexRefused else status
+status_after status (answer.SomeRefused number verdicts lines pages) = IndexRefused
 status_after status (answer.Pairs lines) = status
 status_after status (answer.Entries lines) = status
 status_after status (answer.Abandoned pages) = status

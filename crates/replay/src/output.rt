@@ -7,6 +7,7 @@ use crate::answer::Answer;
 use crate::entry_line::EntryLine;
 use crate::output_failed::OutputFailed;
 use crate::pair_line::PairLine;
+use crate::shared_line::SharedLine;
 use arrayvec::ArrayString;
 use builder_core::Op;
 use csv::{Writer, WriterBuilder};
