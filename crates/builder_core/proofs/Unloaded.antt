@@ -8,6 +8,7 @@ use Rattle.std.proofs.lemmas.List.{length-map}
 use Rattle.keybytes.specs.declared.fault.Fault.{Fault}
 use Rattle.keybytes.specs.declared.fault.Fault.TheVariants.{NoBuild, NotLoaded, NotScanned, Behind}
 use Rattle.keybytes.specs.Faults.{first_cause}
+use Rattle.heap_table.specs.HeapState.{busy_txns}
 use Rattle.builder_core.specs.Builds.{LiveValue, BuildingValue, WorkValue, IndexValue, IsRunning, WorksOn, index_state, work_state, core_state, cause_of}
 use Rattle.builder_core.specs.CatchingUp.{MayCatchUp}
 use Rattle.builder_core.specs.declared.event.Event.TheVariants.{Switch}
@@ -115,19 +116,19 @@ module _
         subst (λ (o : Option BuildState). OnBuild o (λ x. left ≡ all_unapplied x live.state.heap.log x.specs (work_state building.workers building.work).indexes)) run.build_is sum
         ∙ ap (λ (s : WorkState). all_unapplied b live.state.heap.log b.specs s.indexes) (state_is building w run.work_is fine)
 
-    abbrev busy_cause : Option Fault
-    busy_cause = busy_refusal b (length (busy_txns live.state.heap))
-
-    last_causes : switch_cause ≡ first_cause (behind_refusal left) busy_cause
-    last_causes = rw (run.build_is, state_is building w run.work_is fine, all, unloaded_at None none, left_is) refl
+    last_causes : switch_cause ≡ first_cause (behind_refusal left) (busy_refusal b (length (busy_txns live.state.heap)))
+    last_causes =
+        ap (λ (o : Option BuildState). build_cause o (λ x. switch_refusal x live.state.heap (work_state building.workers building.work))) run.build_is
+        ∙ ap (switch_refusal b live.state.heap) (state_is building w run.work_is fine)
+        ∙ rw (all, unloaded_at None none, sym left_is) refl
 
     pub too_far_behind : 1024 < left → switch_cause ≡ Some (Behind left)
-    too_far_behind more = last_causes ∙ ap (λ (test : Bool). first_cause (cause_if test (Behind left)) busy_cause) (lt-ltb 1024 left more)
+    too_far_behind more = last_causes ∙ ap (λ (test : Bool). first_cause (cause_if test (Behind left)) (busy_refusal b (length (busy_txns live.state.heap)))) (lt-ltb 1024 left more)
 
-    pub waits_for_writers : left ≤ 1024 → switch_cause ≡ busy_cause
+    pub waits_for_writers : left ≤ 1024 → switch_cause ≡ busy_refusal b (length (busy_txns live.state.heap))
     waits_for_writers few =
         last_causes
-        ∙ ap (λ (test : Bool). first_cause (cause_if test (Behind left)) busy_cause)
+        ∙ ap (λ (test : Bool). first_cause (cause_if test (Behind left)) (busy_refusal b (length (busy_txns live.state.heap))))
         (false_from_ne_true (nat_lt 1024 left) (λ more. let less = ltb-true 1024 left more in omega (arith, less, few)))
 
 no_fault : (o : Option ℕ) → option_map NotLoaded o ≡ None → o ≡ None
