@@ -14,7 +14,7 @@ use Rattle.builder_core.specs.CatchingUp.{MayCatchUp}
 use Rattle.builder_core.specs.declared.event.Event.TheVariants.{Switch}
 use Rattle.builder_core.specs.CoreState.{BuildState, IndexState, WorkState, CoreState}
 use Rattle.builder_core.specs.Ranges.{open_range}
-use Rattle.builder_core.specs.Steps.{OnBuild, CatchesUp, AreFurther, build_cause, cause_if, index_refusal, apply_refusal, behind_refusal, busy_refusal, switch_refusal}
+use Rattle.builder_core.specs.Steps.{OnBuild, CatchesUp, AreFurther, build_cause, cause_if, index_refusal, apply_refusal, behind_refusal, busy_refusal, refusal, switch_refusal}
 use Rattle.builder_core.specs.Workers.{all_unapplied, index_at, unloaded_index}
 use Rattle.std.proofs.lemmas.Option.{get_or_from_slice_get}
 use Rattle.builder_core.proofs.ApplyCauses.{first_none, inside_of}
@@ -176,3 +176,23 @@ may_after s new caught may = by_build s.live.build refl caught where
       let same = (it.2.each index spec.0 spec.1).loaded in
       let was = subst (λ (o : Option BuildState). OnBuild o (λ x. (i : ℕ) → i < length x.specs → apply_refusal x s.work i ≡ None)) is may index less in
       ap (λ l. first_cause (index_refusal b index) (first_cause s.work.spoiled (cause_if (not l) (NotLoaded index)))) same ∙ was)
+
+-- nor does it keep writers that the switch waits for
+pub no_busy_cause :
+    (s new : CoreState) → refusal s Switch ≡ None → CatchesUp s new
+    → OnBuild new.live.build (λ b. busy_refusal b (length (busy_txns new.live.heap)) ≡ None)
+no_busy_cause s new free caught = by_build s.live.build refl caught where
+  Caught : BuildState → Type 0
+  Caught b = (fed : List ℕ) × (indexes : List IndexState) × AreFurther b s.live.heap.log s.work.indexes fed indexes
+      × (new ≡ record s { live = record s.live { build = Some (record b { fed = fed }) }; work = record s.work { indexes = indexes } })
+
+  by_build : (o : Option BuildState) → s.live.build ≡ o → OnBuild o Caught → OnBuild new.live.build (λ b. busy_refusal b (length (busy_txns new.live.heap)) ≡ None)
+  by_build None is it = absurd it
+  by_build (Some b) is it =
+      let causes : switch_refusal b s.live.heap s.work ≡ None =
+      ap (λ (o : Option BuildState). build_cause o (λ x. switch_refusal x s.live.heap s.work)) (sym is) ∙ free in
+      let fine = first_none s.work.spoiled _ causes in
+      let scanned = first_none (option_map NotScanned (open_range b)) _ fine.1 in
+      let loaded = first_none (option_map NotLoaded (unloaded_index s.work)) _ scanned.1 in
+      let near = first_none (behind_refusal (all_unapplied b s.live.heap.log b.specs s.work.indexes)) _ loaded.1 in
+      subst (λ (t : CoreState). OnBuild t.live.build (λ b. busy_refusal b (length (busy_txns t.live.heap)) ≡ None)) (sym it.3) near.1
