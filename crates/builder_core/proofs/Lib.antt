@@ -22,6 +22,7 @@ pub mod LoadCauses
 pub mod Loaded
 pub mod Looked
 pub mod Looks
+pub mod MadeReady
 pub mod Making
 pub mod Merges
 pub mod NextPages

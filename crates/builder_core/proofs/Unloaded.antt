@@ -8,12 +8,13 @@ use Rattle.std.proofs.lemmas.List.{length-map}
 use Rattle.keybytes.specs.declared.fault.Fault.{Fault}
 use Rattle.keybytes.specs.declared.fault.Fault.TheVariants.{NoBuild, NotLoaded, NotScanned, Behind}
 use Rattle.keybytes.specs.Faults.{first_cause}
+use Rattle.heap_table.specs.HeapState.{busy_txns}
 use Rattle.builder_core.specs.Builds.{LiveValue, BuildingValue, WorkValue, IndexValue, IsRunning, WorksOn, index_state, work_state, core_state, cause_of}
 use Rattle.builder_core.specs.CatchingUp.{MayCatchUp}
 use Rattle.builder_core.specs.declared.event.Event.TheVariants.{Switch}
 use Rattle.builder_core.specs.CoreState.{BuildState, IndexState, WorkState, CoreState}
 use Rattle.builder_core.specs.Ranges.{open_range}
-use Rattle.builder_core.specs.Steps.{OnBuild, CatchesUp, AreFurther, build_cause, cause_if, index_refusal, apply_refusal, behind_refusal, busy_refusal, switch_refusal}
+use Rattle.builder_core.specs.Steps.{OnBuild, CatchesUp, AreFurther, build_cause, cause_if, index_refusal, apply_refusal, behind_refusal, busy_refusal, refusal, switch_refusal}
 use Rattle.builder_core.specs.Workers.{all_unapplied, index_at, unloaded_index}
 use Rattle.std.proofs.lemmas.Option.{get_or_from_slice_get}
 use Rattle.builder_core.proofs.ApplyCauses.{first_none, inside_of}
@@ -115,19 +116,19 @@ module _
         subst (λ (o : Option BuildState). OnBuild o (λ x. left ≡ all_unapplied x live.state.heap.log x.specs (work_state building.workers building.work).indexes)) run.build_is sum
         ∙ ap (λ (s : WorkState). all_unapplied b live.state.heap.log b.specs s.indexes) (state_is building w run.work_is fine)
 
-    abbrev busy_cause : Option Fault
-    busy_cause = busy_refusal b (length (busy_txns live.state.heap))
-
-    last_causes : switch_cause ≡ first_cause (behind_refusal left) busy_cause
-    last_causes = rw (run.build_is, state_is building w run.work_is fine, all, unloaded_at None none, left_is) refl
+    last_causes : switch_cause ≡ first_cause (behind_refusal left) (busy_refusal b (length (busy_txns live.state.heap)))
+    last_causes =
+        ap (λ (o : Option BuildState). build_cause o (λ x. switch_refusal x live.state.heap (work_state building.workers building.work))) run.build_is
+        ∙ ap (switch_refusal b live.state.heap) (state_is building w run.work_is fine)
+        ∙ rw (all, unloaded_at None none, sym left_is) refl
 
     pub too_far_behind : 1024 < left → switch_cause ≡ Some (Behind left)
-    too_far_behind more = last_causes ∙ ap (λ (test : Bool). first_cause (cause_if test (Behind left)) busy_cause) (lt-ltb 1024 left more)
+    too_far_behind more = last_causes ∙ ap (λ (test : Bool). first_cause (cause_if test (Behind left)) (busy_refusal b (length (busy_txns live.state.heap)))) (lt-ltb 1024 left more)
 
-    pub waits_for_writers : left ≤ 1024 → switch_cause ≡ busy_cause
+    pub waits_for_writers : left ≤ 1024 → switch_cause ≡ busy_refusal b (length (busy_txns live.state.heap))
     waits_for_writers few =
         last_causes
-        ∙ ap (λ (test : Bool). first_cause (cause_if test (Behind left)) busy_cause)
+        ∙ ap (λ (test : Bool). first_cause (cause_if test (Behind left)) (busy_refusal b (length (busy_txns live.state.heap))))
         (false_from_ne_true (nat_lt 1024 left) (λ more. let less = ltb-true 1024 left more in omega (arith, less, few)))
 
 no_fault : (o : Option ℕ) → option_map NotLoaded o ≡ None → o ≡ None
@@ -175,3 +176,23 @@ may_after s new caught may = by_build s.live.build refl caught where
       let same = (it.2.each index spec.0 spec.1).loaded in
       let was = subst (λ (o : Option BuildState). OnBuild o (λ x. (i : ℕ) → i < length x.specs → apply_refusal x s.work i ≡ None)) is may index less in
       ap (λ l. first_cause (index_refusal b index) (first_cause s.work.spoiled (cause_if (not l) (NotLoaded index)))) same ∙ was)
+
+-- nor does it keep writers that the switch waits for
+pub no_busy_cause :
+    (s new : CoreState) → refusal s Switch ≡ None → CatchesUp s new
+    → OnBuild new.live.build (λ b. busy_refusal b (length (busy_txns new.live.heap)) ≡ None)
+no_busy_cause s new free caught = by_build s.live.build refl caught where
+  Caught : BuildState → Type 0
+  Caught b = (fed : List ℕ) × (indexes : List IndexState) × AreFurther b s.live.heap.log s.work.indexes fed indexes
+      × (new ≡ record s { live = record s.live { build = Some (record b { fed = fed }) }; work = record s.work { indexes = indexes } })
+
+  by_build : (o : Option BuildState) → s.live.build ≡ o → OnBuild o Caught → OnBuild new.live.build (λ b. busy_refusal b (length (busy_txns new.live.heap)) ≡ None)
+  by_build None is it = absurd it
+  by_build (Some b) is it =
+      let causes : switch_refusal b s.live.heap s.work ≡ None =
+      ap (λ (o : Option BuildState). build_cause o (λ x. switch_refusal x s.live.heap s.work)) (sym is) ∙ free in
+      let fine = first_none s.work.spoiled _ causes in
+      let scanned = first_none (option_map NotScanned (open_range b)) _ fine.1 in
+      let loaded = first_none (option_map NotLoaded (unloaded_index s.work)) _ scanned.1 in
+      let near = first_none (behind_refusal (all_unapplied b s.live.heap.log b.specs s.work.indexes)) _ loaded.1 in
+      subst (λ (t : CoreState). OnBuild t.live.build (λ b. busy_refusal b (length (busy_txns t.live.heap)) ≡ None)) (sym it.3) near.1

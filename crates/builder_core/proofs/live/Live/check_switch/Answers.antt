@@ -1,4 +1,6 @@
-use Rattle.std.proofs.Common.{rules, ◌≡◌, None, arith}
+use Rattle.std.proofs.Common.{rules, ◌≡◌, Option, None, Some, sym, subst, arith}
+use Rattle.std.specs.Prelude.{MatchResult}
+use Rattle.keybytes.specs.declared.fault.Fault.{Fault}
 use Rattle.builder_core.specs.CoreState.{BuildState}
 use Rattle.builder_core.specs.Ranges.{open_range}
 use Rattle.builder_core.proofs.Refusals.{running}
@@ -28,4 +30,4 @@ returns g c =
     let all : open_range b ≡ None = search rules in
     let cause = waits_for_writers c.args.self.now c.args.building.now b c.in-Some-Some.work.now run c.in_ok-check.ensures all c.in_default-first_unloaded.ensures
     c.unapplied-left.result c.unapplied-left.ensures (omega (arith, c.if-left-gt-SWITCH_MAX.false)) in
-    subst (λ (o : Option Fault). MatchResult c.result (λ _. o ≡ None) (λ fault. o ≡ Some fault)) (sym cause) c.check_busy.ensures
+    subst (λ (o : Option Fault). MatchResult c.check_busy.result (λ _. o ≡ None) (λ fault. o ≡ Some fault)) (sym cause) c.check_busy.ensures
