@@ -145,7 +145,7 @@ pub fn numbers_in(reply: &Reply) -> Result<(usize, usize), Fault> {
         Reply::Loaded { pairs } => Ok((*pairs, 0)),
         Reply::Fed { entries } | Reply::Applied { entries } => Ok((*entries, 0)),
         Reply::Switched { number, .. } => Ok((*number, 0)),
-        Reply::Abandoned => Ok((0, 0)),
+        Reply::FenceSet | Reply::Abandoned => Ok((0, 0)),
         Reply::Refused { fault } => Err(*fault),
     }
 }
