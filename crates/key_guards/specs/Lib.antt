@@ -1,5 +1,2 @@
-pub mod Guarded
-pub mod GuardLists
-pub mod GuardSteps
-pub mod KeyRefusals
-pub mod UniqueKeys
+pub mod KeyCounts
+pub mod TxnGuards
