@@ -1,5 +1,5 @@
 -- The keys that one transaction guards.
-use Rattle.std.specs.Prelude.{◌≡◌, ◌<◌, ℕ, ◌==◌, if◌then◌else◌, Bool, List, [], ◌∷◌, length, filter}
+use Rattle.std.specs.Prelude.{◌≡◌, ◌<◌, ℕ, ◌==◌, if◌then◌else◌, Bool, true, false, List, [], ◌∷◌, length, filter}
 use Rattle.std.specs.List.{list_any}
 use Rattle.std.specs.Str.{bytes_eq}
 use Rattle.key_guards.specs.declared.taken.Taken.{Taken}
@@ -31,6 +31,10 @@ AreCounts taken counts = (key : List ℕ) → count_of counts key ≡ times_take
 -- there is memory for that key
 abbrev pub CanTake : List ℕ → TxnValue → Type 0
 CanTake key t = (0 < t.room) × IsNoted t.counts key
+
+abbrev pub is_nil : List Taken → Bool
+is_nil [] = true
+is_nil (t ∷ more) = false
 
 -- all but the last one, if that is of the number; else all
 abbrev pub without_top : ℕ → List Taken → List Taken

@@ -1,5 +1,5 @@
 ghost use Rattle.std.specs.Prelude.{◌≡◌, ◌+◌, ◌∷◌, ◌++◌, [], OnOk, IfErr, IsTrue, ◌↔◌};
-ghost use Rattle.key_guards.specs.TxnGuards.{has_taken, without_top, CanTake};
+ghost use Rattle.key_guards.specs.TxnGuards.{has_taken, is_nil, without_top, CanTake};
 
 use crate::{Taken, key_counts::KeyCounts};
 use keybytes::{Fault, Key};
@@ -44,7 +44,7 @@ impl TxnGuards {
     }
 
     pub fn is_empty(&self) -> bool
-        ensures { IsTrue result ↔ (self.now.taken ≡ []) }
+        ensures { result ≡ is_nil self.now.taken }
     {
         self.taken.is_empty()
     }

@@ -1,0 +1,72 @@
+-- The guards follow the log in each call.
+use Rattle.std.proofs.Common.{◌≡◌, ℕ, ◌+◌, true, false, List, [], ◌∷◌, ◌++◌, length, Option, Some, sym, ◌∙◌, arith, inl, inr}
+use Rattle.std.specs.Prelude.{filter, not, ◌==◌}
+use Rattle.std.proofs.lemmas.Bool.{cases_Bool, false≢true}
+use Rattle.std.proofs.lemmas.List.Elements.{All-nil}
+use Rattle.keybytes.specs.Keys.{KeySpecValue}
+use Rattle.keybytes.specs.declared.cell.Cell.{Cell}
+use Rattle.keybytes.specs.declared.rid.Rid.{Rid}
+use Rattle.heap_log.specs.declared.outcome.Outcome.{Outcome}
+use Rattle.heap_log.specs.declared.record.LogRec.{LogRec}
+use Rattle.heap_log.specs.declared.record.LogRec.TheVariants.{Write, Undo, Commit, Switch}
+use Rattle.heap_log.specs.Growing.{UndoesNameEarlier}
+use Rattle.heap_log.specs.Standing.{record_at, live_at, newest_standing, txn_of, IsWrite}
+use Rattle.heap_log.proofs.Growing.{undone-past}
+use Rattle.heap_log.proofs.Numbers.{newest_standing-write}
+use Rattle.heap_table.specs.HeapState.{HeapState, is_open, busy_txns}
+use Rattle.heap_table.specs.Holders.{committed}
+use Rattle.heap_table.specs.Sound.{HoldsFollowLog}
+use Rattle.key_guards.specs.UniqueKeys.{KeysAreUnique, UniqueKeysAreGuarded, GuardsKey, AllIsCommitted}
+use Rattle.key_guards.specs.KeyRefusals.{took_key}
+use Rattle.key_guards.specs.GuardLists.{AreTakenIn, key_taken}
+use Rattle.key_guards.specs.Guarded.{GuardsValue, IsGuarded, IsLetIn}
+use Rattle.key_guards.proofs.Logging.{Logged, logged}
+use Rattle.key_guards.proofs.Steps.{unique_at_rest, unique_commit, unique_switch, unique_undo}
+use Rattle.key_guards.proofs.OneGuard.{guarded}
+use Rattle.key_guards.proofs.Refusals.{guards_by}
+use Rattle.key_guards.proofs.GuardChanges.{guards_write, guards_commit, guards_undo, guards_switch}
+use Rattle.key_guards.proofs.GuardLists.{list_commit, list_switch}
+use Rattle.key_guards.proofs.Tables.{all_committed, writes_are_held, write_keeps}
+
+pub guarded_commit :
+    (spec : KeySpecValue) (log : List LogRec) (txn : ℕ) (v w : GuardsValue) → UndoesNameEarlier log → w.txns ≡ filter (λ t. not (t.txn == txn)) v.txns
+    → IsGuarded spec log v → IsGuarded spec (log ++ Commit txn ∷ []) w
+guarded_commit spec log txn v w undos after h =
+    let added : Logged log (Commit txn) (log ++ Commit txn ∷ []) = logged log (Commit txn) undos tt in
+    record {
+      unique = unique_commit spec log txn h.unique;
+      listed = rw after (list_commit spec log (log ++ Commit txn ∷ []) txn v.txns added (guards_commit spec log (log ++ Commit txn ∷ []) txn added) h.listed);
+    }
+
+pub guarded_switch :
+    (spec : KeySpecValue) (log : List LogRec) (verdicts : List Outcome) (v : GuardsValue) → UndoesNameEarlier log
+    → IsGuarded spec log v → IsGuarded spec (log ++ Switch verdicts ∷ []) v
+guarded_switch spec log verdicts v undos h =
+    let added : Logged log (Switch verdicts) (log ++ Switch verdicts ∷ []) = logged log (Switch verdicts) undos tt in
+    record {
+      unique = unique_switch spec log verdicts h.unique;
+      listed = list_switch spec log (log ++ Switch verdicts ∷ []) verdicts v.txns added
+          (guards_switch spec log (log ++ Switch verdicts ∷ []) verdicts added) h.listed;
+    }
+
+-- where all that stands is committed, nothing is guarded
+took_nothing : (spec : KeySpecValue) (log : List LogRec) (key : List ℕ) (n : ℕ) → AllIsCommitted log → took_key spec log key n ≡ false
+took_nothing spec log key n all = elim (cases_Bool (took_key spec log key n)) [
+  | inr none ↦ none
+  | inl took ↦
+      let g : GuardsKey spec log (txn_of (record_at log n)) key = guards_by spec log key n took in
+      absurd (false≢true (sym g.uncommitted ∙ all.each (txn_of (record_at log n)) g.number g.stands))
+]
+
+-- a table at rest has no guards
+pub guarded_at_rest : (spec : KeySpecValue) (s : HeapState) (v : GuardsValue) → HoldsFollowLog s → busy_txns s ≡ [] → KeysAreUnique spec s.log
+    → v.txns ≡ [] → IsGuarded spec s.log v
+guarded_at_rest spec s v holds rest unique none =
+    let all : AllIsCommitted s.log = all_committed s holds rest in
+    record {
+      unique = unique_at_rest spec s.log all unique;
+      listed = rw none record { each = All-nil (AreTakenIn s.log); listed = λ key n. sym (took_nothing spec s.log key n all) };
+    }
+
+pub keys_are_guarded : (spec : KeySpecValue) (s : HeapState) (v : GuardsValue) → HoldsFollowLog s → IsGuarded spec s.log v → UniqueKeysAreGuarded spec s.log
+keys_are_guarded spec s v holds h = guarded spec s.log h.unique (writes_are_held s holds)

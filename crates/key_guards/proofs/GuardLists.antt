@@ -1,0 +1,154 @@
+-- The guards by transaction follow the log.
+use Rattle.std.proofs.Common.{◌≡◌, ◌≢◌, ℕ, zero, suc, ◌+◌, ◌<◌, ◌≤◌, Bool, true, false, List, [], ◌∷◌, ◌++◌, length, get_or, Option, Some, None, refl, sym, ap, subst, ◌∙◌, arith, inl, inr, length-append}
+use Rattle.std.specs.Prelude.{◌&&◌, ◌||◌, not, ◌==◌, filter}
+use Rattle.std.specs.List.{list_any, find, All}
+use Rattle.std.specs.Option.{option_map}
+use Rattle.std.proofs.Math.ListN.{set}
+use Rattle.std.specs.Str.{bytes_eq}
+use Rattle.std.proofs.lemmas.Slice.Eq.{bytes_eq-Decides}
+use Rattle.std.proofs.lemmas.Option.{same_Some}
+use Rattle.std.proofs.lemmas.List.Elements.{All-head, All-tail, All-weaker, All-append, All-cons, All-nil, All-filter, All-set}
+use Rattle.std.proofs.lemmas.List.Folds.{list_any-append}
+use Rattle.std.proofs.lemmas.Bool.{cases_eq, cases_Bool, cond-true, cond-false, false≢true, and_parts, and_from, or_cases, or_left, or_right, not-true, not_from_false, eqb-true, eq-eqb, ne_eqb}
+use Rattle.keybytes.specs.Keys.{KeySpecValue, key_of}
+use Rattle.keybytes.specs.declared.cell.Cell.{Cell}
+use Rattle.keybytes.specs.declared.rid.Rid.{Rid}
+use Rattle.heap_log.specs.declared.outcome.Outcome.{Outcome}
+use Rattle.heap_log.specs.declared.record.LogRec.{LogRec}
+use Rattle.heap_log.specs.declared.record.LogRec.TheVariants.{Write, Undo, Commit, Switch}
+use Rattle.heap_log.specs.Standing.{record_at, live_at, txn_of}
+use Rattle.heap_log.proofs.Records.{or_no}
+use Rattle.key_guards.specs.declared.taken.Taken.{Taken}
+use Rattle.key_guards.specs.TxnGuards.{TxnValue, has_taken, is_nil, without_top}
+use Rattle.key_guards.specs.KeyRefusals.{took_key}
+use Rattle.key_guards.specs.GuardLists.{is_taken, is_listed, is_other, other_in, Ascends, IsTakenIn, AreTakenIn, AreGuards}
+use Rattle.key_guards.specs.GuardSteps.{AddsToGuards}
+use Rattle.key_guards.proofs.Logging.{Logged}
+
+-- a key stays taken in a longer log
+taken_then : (old new : List LogRec) (rec : LogRec) (txn : ℕ) → Logged old rec new → (t : Taken) → IsTakenIn old txn t → IsTakenIn new txn t
+taken_then old new rec txn added t h = record {
+  within = omega (arith, h.within, ap length added.is, length-append old (rec ∷ []));
+  by = ap txn_of (added.numbers.earlier t.number h.within) ∙ h.by;
+}
+
+pub all_then : (old new : List LogRec) (rec : LogRec) (t : TxnValue) → Logged old rec new → AreTakenIn old t → AreTakenIn new t
+all_then old new rec t added h = record {
+  each = All-weaker (IsTakenIn old t.txn) (IsTakenIn new t.txn) (taken_then old new rec t.txn added) t.taken h.each;
+  ascend = h.ascend;
+}
+
+-- a key that is taken is so by a write of the transaction
+taken_by : (log : List LogRec) (txn : ℕ) (key : List ℕ) (n : ℕ) (taken : List Taken) → All (IsTakenIn log txn) taken → is_taken key n taken ≡ true
+    → txn_of (record_at log n) ≡ txn
+taken_by log txn key n [] each is = absurd (false≢true is)
+taken_by log txn key n (t ∷ ts) each is = elim (or_cases ((t.number == n) && bytes_eq t.key key) (is_taken key n ts) is) [
+  | inr rest ↦ taken_by log txn key n ts (All-tail (IsTakenIn log txn) t ts each) rest
+  | inl here ↦
+      let same : t.number ≡ n = eqb-true t.number n (and_parts (t.number == n) (bytes_eq t.key key) here).0 in
+      let in_log : IsTakenIn log txn t = All-head (IsTakenIn log txn) t ts each in
+      ap (λ k. txn_of (record_at log k)) (sym same) ∙ in_log.by
+]
+
+not_by : (log : List LogRec) (t : TxnValue) (key : List ℕ) (n : ℕ) → AreTakenIn log t → t.txn ≢ txn_of (record_at log n) → is_taken key n t.taken ≡ false
+not_by log t key n h other = elim (cases_Bool (is_taken key n t.taken)) [
+  | inr none ↦ none
+  | inl is ↦ absurd (other (sym (taken_by log t.txn key n t.taken h.each is)))
+]
+
+-- without a transaction's, the others' are listed
+listed_without_txn : (log : List LogRec) (txn : ℕ) (txns : List TxnValue) (key : List ℕ) (n : ℕ) → All (AreTakenIn log) txns
+    → is_listed (filter (λ t. not (t.txn == txn)) txns) key n ≡ (not (txn == txn_of (record_at log n)) && is_listed txns key n)
+listed_without_txn log txn [] key n each = none (txn == txn_of (record_at log n))
+  where
+    none : (b : Bool) → false ≡ (not b && false)
+    none true = refl
+    none false = refl
+listed_without_txn log txn (t ∷ ts) key n each = elim (cases_Bool (t.txn == txn)) [
+  | inl is ↦ rw is (listed_without_txn log txn ts key n rest ∙ hit (txn == txn_of (record_at log n)) (is_taken key n t.taken) (is_listed ts key n)
+      (λ e. not_by log t key n first (λ same. false≢true (sym e ∙ eq-eqb txn (txn_of (record_at log n)) (sym (eqb-true t.txn txn is) ∙ same)))))
+  | inr other ↦ rw other (ap (λ b. is_taken key n t.taken || b) (listed_without_txn log txn ts key n rest)
+      ∙ miss (txn == txn_of (record_at log n)) (is_taken key n t.taken) (is_listed ts key n)
+      (λ e. not_by log t key n first (λ same. false≢true (sym other ∙ eq-eqb t.txn txn (same ∙ sym (eqb-true txn (txn_of (record_at log n)) e))))))
+] where
+  first : AreTakenIn log t
+  first = All-head (AreTakenIn log) t ts each
+
+  rest : All (AreTakenIn log) ts
+  rest = All-tail (AreTakenIn log) t ts each
+
+  hit : (b a l : Bool) → (b ≡ false → a ≡ false) → (not b && l) ≡ (not b && (a || l))
+  hit true a l h = refl
+  hit false a l h = rw (h refl) refl
+
+  miss : (b a l : Bool) → (b ≡ true → a ≡ false) → (a || (not b && l)) ≡ (not b && (a || l))
+  miss true a l h = rw (h refl) refl
+  miss false a l h = refl
+
+pub list_commit :
+    (spec : KeySpecValue) (old new : List LogRec) (txn : ℕ) (txns : List TxnValue) → Logged old (Commit txn) new → AddsToGuards spec old (Commit txn) new
+    → AreGuards spec old txns → AreGuards spec new (filter (λ t. not (t.txn == txn)) txns)
+list_commit spec old new txn txns added adds h = record {
+  each = All-filter (λ t. not (t.txn == txn)) (AreTakenIn new) txns (All-weaker (AreTakenIn old) (AreTakenIn new) (λ t. all_then old new (Commit txn) t added) txns h.each);
+  listed = λ key n. listed_without_txn old txn txns key n h.each ∙ ap (λ b. not (txn == txn_of (record_at old n)) && b) (h.listed key n) ∙ sym (adds.took key n);
+}
+
+pub list_switch :
+    (spec : KeySpecValue) (old new : List LogRec) (verdicts : List Outcome) (txns : List TxnValue) → Logged old (Switch verdicts) new
+    → AddsToGuards spec old (Switch verdicts) new → AreGuards spec old txns → AreGuards spec new txns
+list_switch spec old new verdicts txns added adds h = record {
+  each = All-weaker (AreTakenIn old) (AreTakenIn new) (λ t. all_then old new (Switch verdicts) t added) txns h.each;
+  listed = λ key n. h.listed key n ∙ sym (adds.took key n);
+}
+
+-- transactions without keys may go
+without_empty : (txns : List TxnValue) (key : List ℕ) (n : ℕ) → is_listed (filter (λ t. not (is_nil t.taken)) txns) key n ≡ is_listed txns key n
+without_empty [] key n = refl
+without_empty (t ∷ ts) key n = at t.taken refl (without_empty ts key n)
+  where
+    at : (taken : List Taken) → t.taken ≡ taken → is_listed (filter (λ u. not (is_nil u.taken)) ts) key n ≡ is_listed ts key n
+        → is_listed (filter (λ u. not (is_nil u.taken)) (t ∷ ts)) key n ≡ is_listed (t ∷ ts) key n
+    at [] e rest = rw e rest
+    at (x ∷ xs) e rest = rw e (ap (λ b. is_taken key n (x ∷ xs) || b) rest)
+
+pub empty_gone : (spec : KeySpecValue) (log : List LogRec) (txns : List TxnValue) → AreGuards spec log txns → AreGuards spec log (filter (λ t. not (is_nil t.taken)) txns)
+empty_gone spec log txns h = record {
+  each = All-filter (λ t. not (is_nil t.taken)) (AreTakenIn log) txns h.each;
+  listed = λ key n. without_empty txns key n ∙ h.listed key n;
+}
+
+-- and one may come in
+pub new_empty : (spec : KeySpecValue) (log : List LogRec) (txns : List TxnValue) (t : TxnValue) → t.taken ≡ [] → AreGuards spec log txns → AreGuards spec log (txns ++ t ∷ [])
+new_empty spec log txns t empty h = record {
+  each = All-append (AreTakenIn log) txns (t ∷ []) h.each (All-cons (AreTakenIn log) t [] (rw empty record { each = All-nil (IsTakenIn log t.txn); ascend = tt }) (All-nil (AreTakenIn log)));
+  listed = λ key n. list_any-append (λ u. is_taken key n u.taken) txns (t ∷ []) ∙ ap (λ ts. is_listed txns key n || (is_taken key n ts || false)) empty ∙ or_no (is_listed txns key n) ∙ h.listed key n;
+}
+
+-- one transaction's keys change
+listed_set : (txns : List TxnValue) (at : ℕ) (t d : TxnValue) (key : List ℕ) (n : ℕ) (extra : Bool) → at < length txns
+    → is_taken key n t.taken ≡ (is_taken key n (get_or txns at d).taken || extra) → is_listed (set txns at t) key n ≡ (is_listed txns key n || extra)
+listed_set [] at t d key n extra l is = absurd (omega arith)
+listed_set (u ∷ us) zero t d key n extra l is = ap (λ b. b || is_listed us key n) is ∙ turned (is_taken key n u.taken) extra (is_listed us key n)
+  where
+    turned : (a b c : Bool) → ((a || b) || c) ≡ ((a || c) || b)
+    turned true b c = refl
+    turned false true true = refl
+    turned false true false = refl
+    turned false false true = refl
+    turned false false false = refl
+listed_set (u ∷ us) (suc at) t d key n extra l is = ap (λ b. is_taken key n u.taken || b) (listed_set us at t d key n extra (omega arith) is) ∙ turned (is_taken key n u.taken) (is_listed us key n) extra
+  where
+    turned : (a b c : Bool) → (a || (b || c)) ≡ ((a || b) || c)
+    turned true b c = refl
+    turned false b c = refl
+
+same_taken : (log : List LogRec) (t u : TxnValue) → t.txn ≡ u.txn → t.taken ≡ u.taken → AreTakenIn log u → AreTakenIn log t
+same_taken log t u by same h = record { each = rw (by, same) h.each; ascend = rw same h.ascend }
+
+-- where its keys stay, all stays
+pub same_set : (spec : KeySpecValue) (log : List LogRec) (txns : List TxnValue) (at : ℕ) (t : TxnValue) → at < length txns
+    → t.txn ≡ (get_or txns at t).txn → t.taken ≡ (get_or txns at t).taken → AreGuards spec log txns → AreGuards spec log (set txns at t)
+same_set spec log txns at t l by same h = record {
+  each = All-set (AreTakenIn log) txns at t (same_taken log t (get_or txns at t) by same (h.each at t l)) h.each;
+  listed = λ key n. listed_set txns at t t key n false l (ap (is_taken key n) same ∙ sym (or_no (is_taken key n (get_or txns at t).taken))) ∙ or_no (is_listed txns key n) ∙ h.listed key n;
+}
