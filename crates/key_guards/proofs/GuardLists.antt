@@ -22,6 +22,10 @@ use Rattle.key_guards.specs.declared.taken.Taken.{Taken}
 use Rattle.key_guards.specs.TxnGuards.{TxnValue, has_taken, is_nil, without_top}
 use Rattle.key_guards.specs.KeyRefusals.{took_key}
 use Rattle.key_guards.specs.GuardLists.{is_taken, is_listed, is_other, other_in, Ascends, IsTakenIn, AreTakenIn, AreGuards}
+use Rattle.key_guards.specs.UniqueKeys.{KeysStayUnique, GuardsKey, WritesAreHeld}
+use Rattle.key_guards.specs.KeyRefusals.{other_guard}
+use Rattle.heap_table.proofs.Small.{some_or_none}
+use Rattle.key_guards.proofs.Refusals.{guards_by, took_by, IsOtherGuard, other_guard_is, other_guard_found, find_passes}
 use Rattle.key_guards.specs.GuardSteps.{AddsToGuards}
 use Rattle.key_guards.proofs.Logging.{Logged}
 
@@ -152,3 +156,77 @@ same_set spec log txns at t l by same h = record {
   each = All-set (AreTakenIn log) txns at t (same_taken log t (get_or txns at t) by same (h.each at t l)) h.each;
   listed = λ key n. listed_set txns at t t key n false l (ap (is_taken key n) same ∙ sym (or_no (is_taken key n (get_or txns at t).taken))) ∙ or_no (is_listed txns key n) ∙ h.listed key n;
 }
+
+-- a key that a write took is one that was taken, and the other way round
+taken_has : (key : List ℕ) (n : ℕ) (taken : List Taken) → is_taken key n taken ≡ true → has_taken key taken ≡ true
+taken_has key n [] is = absurd (false≢true is)
+taken_has key n (t ∷ ts) is = elim (or_cases ((t.number == n) && bytes_eq t.key key) (is_taken key n ts) is) [
+  | inl here ↦ or_left (bytes_eq t.key key) (has_taken key ts) (and_parts (t.number == n) (bytes_eq t.key key) here).1
+  | inr rest ↦ or_right (bytes_eq t.key key) (has_taken key ts) (taken_has key n ts rest)
+]
+
+has_number : (key : List ℕ) (taken : List Taken) → has_taken key taken ≡ true → (n : ℕ) × (is_taken key n taken ≡ true)
+has_number key [] is = absurd (false≢true is)
+has_number key (t ∷ ts) is = elim (or_cases (bytes_eq t.key key) (has_taken key ts) is) [
+  | inl here ↦ (t.number, or_left ((t.number == t.number) && bytes_eq t.key key) (is_taken key t.number ts) (and_from (t.number == t.number) (bytes_eq t.key key) (eq-eqb t.number t.number refl) here))
+  | inr rest ↦ let found = has_number key ts rest in (found.0, or_right ((t.number == found.0) && bytes_eq t.key key) (is_taken key found.0 ts) found.1)
+]
+
+-- what is found is in the list
+find_in : (p : TxnValue → Bool) (ts : List TxnValue) (t : TxnValue) → find p ts ≡ Some t → (q : TxnValue → Bool) → q t ≡ true → list_any q ts ≡ true
+find_in p [] t e q hit = absurd (cc)
+find_in p (x ∷ ts) t e q hit = elim (cases_Bool (p x)) [
+  | inl is ↦
+      let same : x ≡ t = same_Some x t (sym (cond-true (p x) (Some x) (find p ts) is) ∙ e) in
+      or_left (q x) (list_any q ts) (ap q same ∙ hit)
+  | inr miss ↦ or_right (q x) (list_any q ts) (find_in p ts t (sym (cond-false (p x) (Some x) (find p ts) miss) ∙ e) q hit)
+]
+
+find_holds : (p : TxnValue → Bool) (ts : List TxnValue) (t : TxnValue) → find p ts ≡ Some t → (P : TxnValue → Type 0) → All P ts → P t
+find_holds p [] t e P each = absurd (cc)
+find_holds p (x ∷ ts) t e P each = elim (cases_Bool (p x)) [
+  | inl is ↦ subst P (same_Some x t (sym (cond-true (p x) (Some x) (find p ts) is) ∙ e)) (All-head P x ts each)
+  | inr miss ↦ find_holds p ts t (sym (cond-false (p x) (Some x) (find p ts) miss) ∙ e) P (All-tail P x ts each)
+]
+
+-- where nothing is found, nothing passes
+any_passes : (p : TxnValue → Bool) (ts : List TxnValue) → find p ts ≡ None → (q : TxnValue → Bool) → list_any q ts ≡ true → (P : TxnValue → Type 0)
+    → All P ts → ((t : TxnValue) → P t → q t ≡ true → p t ≡ true) → ⊥
+any_passes p [] none q any P each implied = false≢true any
+any_passes p (t ∷ ts) none q any P each implied = elim (cases_Bool (p t)) [
+  | inl hit ↦ some_none t (sym (cond-true (p t) (Some t) (find p ts) hit) ∙ none)
+  | inr miss ↦ elim (or_cases (q t) (list_any q ts) any) [
+    | inl here ↦ false≢true (sym miss ∙ implied t (All-head P t ts each) here)
+    | inr rest ↦ any_passes p ts (sym (cond-false (p t) (Some t) (find p ts) miss) ∙ none) q rest P (All-tail P t ts each) implied
+  ]
+] where
+  some_none : (x : TxnValue) → Some x ≡ None → ⊥
+  some_none x f = cc
+
+-- what is found in the list is the other guard
+pub list_other :
+    (spec : KeySpecValue) (log : List LogRec) (txns : List TxnValue) (txn : ℕ) (key : List ℕ) → KeysStayUnique spec log → WritesAreHeld log
+    → AreGuards spec log txns → other_in txns txn key ≡ other_guard spec log txn key
+list_other spec log txns txn key unique held h = at (find (is_other txn key) txns) refl
+  where
+    at : (o : Option TxnValue) → find (is_other txn key) txns ≡ o → option_map (λ t. t.txn) o ≡ other_guard spec log txn key
+    at None none = elim (some_or_none (other_guard spec log txn key)) [
+      | inl e ↦ sym e
+      | inr some ↦
+          let is : IsOtherGuard spec log txn key some.0 = other_guard_is spec log txn key some.0 some.1 in
+          let took = took_by spec log some.0 key is.guards in
+          let n : ℕ = is.guards.number in
+          absurd (any_passes (is_other txn key) txns none (λ t. is_taken key n t.taken) (h.listed key n ∙ took.1) (AreTakenIn log) h.each
+          (λ t in_log hit.
+          let writer : t.txn ≡ some.0 = sym (taken_by log t.txn key n t.taken in_log.each hit) ∙ took.0 in
+          and_from (not (t.txn == txn)) (has_taken key t.taken) (not_from_false (t.txn == txn) (ne_eqb t.txn txn (λ e. is.apart (sym writer ∙ e)))) (taken_has key n t.taken hit)))
+    ]
+    at (Some t) found =
+        let parts = and_parts (not (t.txn == txn)) (has_taken key t.taken) (find_passes (is_other txn key) txns t found) in
+        let in_log : AreTakenIn log t = find_holds (is_other txn key) txns t found (AreTakenIn log) h.each in
+        let number = has_number key t.taken parts.1 in
+        let took : took_key spec log key number.0 ≡ true =
+        sym (h.listed key number.0) ∙ find_in (is_other txn key) txns t found (λ u. is_taken key number.0 u.taken) number.1 in
+        let P : ℕ → Type 0 = λ u. GuardsKey spec log u key in
+        let guards_it : GuardsKey spec log t.txn key = subst P (taken_by log t.txn key number.0 t.taken in_log.each number.1) (guards_by spec log key number.0 took) in
+        sym (other_guard_found spec log txn key t.txn unique held (λ e. false≢true (sym (not-true (t.txn == txn) parts.0) ∙ eq-eqb t.txn txn e)) guards_it)
