@@ -8,7 +8,10 @@ use Rattle.std.specs.Str.{bytes_eq}
 use Rattle.std.proofs.lemmas.Slice.Eq.{bytes_eq-Decides}
 use Rattle.std.proofs.lemmas.Option.{same_Some}
 use Rattle.std.proofs.lemmas.List.Elements.{All-head, All-tail, All-weaker, All-append, All-cons, All-nil, All-filter, All-set}
-use Rattle.std.proofs.lemmas.List.Folds.{list_any-append}
+use Rattle.std.proofs.lemmas.List.Folds.{list_any-append, position_or_len-set}
+use Rattle.std.proofs.lemmas.List.Quantifiers.{position-Some}
+use Rattle.std.specs.List.{position, position_or_len}
+use Rattle.std.proofs.Common.{length-set}
 use Rattle.std.proofs.lemmas.Bool.{cases_eq, cases_Bool, cond-true, cond-false, false≢true, and_parts, and_from, or_cases, or_left, or_right, not-true, not_from_false, eqb-true, eq-eqb, ne_eqb}
 use Rattle.keybytes.specs.Keys.{KeySpecValue, key_of}
 use Rattle.keybytes.specs.declared.cell.Cell.{Cell}
@@ -230,3 +233,15 @@ list_other spec log txns txn key unique held h = at (find (is_other txn key) txn
         let P : ℕ → Type 0 = λ u. GuardsKey spec log u key in
         let guards_it : GuardsKey spec log t.txn key = subst P (taken_by log t.txn key number.0 t.taken in_log.each number.1) (guards_by spec log key number.0 took) in
         sym (other_guard_found spec log txn key t.txn unique held (λ e. false≢true (sym (not-true (t.txn == txn) parts.0) ∙ eq-eqb t.txn txn e)) guards_it)
+
+-- the place of a transaction is the same after a change of its keys
+pub place_set : (txns : List TxnValue) (txn at : ℕ) (t : TxnValue) → position (λ u. u.txn == txn) txns ≡ Some at → t.txn ≡ (get_or txns at t).txn
+    → position (λ u. u.txn == txn) (set txns at t) ≡ Some at
+place_set txns txn at t is same =
+    let p : TxnValue → Bool = λ u. u.txn == txn in
+    let first : position_or_len p (set txns at t) ≡ position_or_len p txns = position_or_len-set p txns at t t (ap (λ n. n == txn) same) in
+    let count : length (set txns at t) ≡ length txns = length-set txns at t in
+    rw (first, count) is
+
+pub place_within : (txns : List TxnValue) (txn at : ℕ) (d : TxnValue) → position (λ u. u.txn == txn) txns ≡ Some at → at < length txns
+place_within txns txn at d is = (position-Some (λ u. u.txn == txn) txns at d is).0
