@@ -1,7 +1,7 @@
 -- The guards by transaction follow the log.
-use Rattle.std.proofs.Common.{◌≡◌, ◌≢◌, ℕ, zero, suc, ◌+◌, ◌<◌, ◌≤◌, Bool, true, false, List, [], ◌∷◌, ◌++◌, length, get_or, Option, Some, None, refl, sym, ap, subst, ◌∙◌, arith, inl, inr, length-append}
+use Rattle.std.proofs.Common.{◌≡◌, ◌≢◌, ℕ, zero, suc, ◌+◌, ◌<◌, ◌≤◌, Bool, true, false, List, [], ◌∷◌, ◌++◌, length, get_or, Option, Some, None, refl, sym, ap, subst, ◌∙◌, arith, inl, inr, length-append, length-set}
 use Rattle.std.specs.Prelude.{◌&&◌, ◌||◌, not, ◌==◌, filter}
-use Rattle.std.specs.List.{list_any, find, All}
+use Rattle.std.specs.List.{list_any, find, All, position, position_or_len}
 use Rattle.std.specs.Option.{option_map}
 use Rattle.std.proofs.Math.ListN.{set}
 use Rattle.std.specs.Str.{bytes_eq}
@@ -10,8 +10,6 @@ use Rattle.std.proofs.lemmas.Option.{same_Some}
 use Rattle.std.proofs.lemmas.List.Elements.{All-head, All-tail, All-weaker, All-append, All-cons, All-nil, All-filter, All-set}
 use Rattle.std.proofs.lemmas.List.Folds.{list_any-append, position_or_len-set}
 use Rattle.std.proofs.lemmas.List.Quantifiers.{position-Some}
-use Rattle.std.specs.List.{position, position_or_len}
-use Rattle.std.proofs.Common.{length-set}
 use Rattle.std.proofs.lemmas.Bool.{cases_eq, cases_Bool, cond-true, cond-false, false≢true, and_parts, and_from, or_cases, or_left, or_right, not-true, not_from_false, eqb-true, eq-eqb, ne_eqb}
 use Rattle.keybytes.specs.Keys.{KeySpecValue, key_of}
 use Rattle.keybytes.specs.declared.cell.Cell.{Cell}
@@ -23,13 +21,13 @@ use Rattle.heap_log.specs.Standing.{record_at, live_at, txn_of}
 use Rattle.heap_log.proofs.Records.{or_no}
 use Rattle.key_guards.specs.declared.taken.Taken.{Taken}
 use Rattle.key_guards.specs.TxnGuards.{TxnValue, has_taken, is_nil, without_top}
-use Rattle.key_guards.specs.KeyRefusals.{took_key}
-use Rattle.key_guards.specs.GuardLists.{is_taken, is_listed, is_other, other_in, Ascends, IsTakenIn, AreTakenIn, AreGuards}
-use Rattle.key_guards.specs.UniqueKeys.{KeysStayUnique, GuardsKey, WritesAreHeld}
-use Rattle.key_guards.specs.KeyRefusals.{other_guard}
+use Rattle.key_guards.specs.KeyRefusals.{took_key, other_guard}
+use Rattle.key_guards.specs.GuardLists.{is_taken, is_listed, is_other, other_in, Ascends, IsTakenIn, AreTakenIn, AreGuards, key_taken}
+use Rattle.key_guards.specs.UniqueKeys.{has_key, KeysStayUnique, GuardsKey, WritesAreHeld}
 use Rattle.heap_table.proofs.Small.{some_or_none}
 use Rattle.key_guards.proofs.Refusals.{guards_by, took_by, IsOtherGuard, other_guard_is, other_guard_found, find_passes}
 use Rattle.key_guards.specs.GuardSteps.{AddsToGuards}
+use Rattle.key_guards.proofs.GuardChanges.{took_past}
 use Rattle.key_guards.proofs.Logging.{Logged}
 
 -- a key stays taken in a longer log
@@ -153,11 +151,11 @@ same_taken : (log : List LogRec) (t u : TxnValue) → t.txn ≡ u.txn → t.take
 same_taken log t u by same h = record { each = rw (by, same) h.each; ascend = rw same h.ascend }
 
 -- where its keys stay, all stays
-pub same_set : (spec : KeySpecValue) (log : List LogRec) (txns : List TxnValue) (at : ℕ) (t : TxnValue) → at < length txns
-    → t.txn ≡ (get_or txns at t).txn → t.taken ≡ (get_or txns at t).taken → AreGuards spec log txns → AreGuards spec log (set txns at t)
-same_set spec log txns at t l by same h = record {
-  each = All-set (AreTakenIn log) txns at t (same_taken log t (get_or txns at t) by same (h.each at t l)) h.each;
-  listed = λ key n. listed_set txns at t t key n false l (ap (is_taken key n) same ∙ sym (or_no (is_taken key n (get_or txns at t).taken))) ∙ or_no (is_listed txns key n) ∙ h.listed key n;
+pub same_set : (spec : KeySpecValue) (log : List LogRec) (txns : List TxnValue) (at : ℕ) (t d : TxnValue) → at < length txns
+    → t.txn ≡ (get_or txns at d).txn → t.taken ≡ (get_or txns at d).taken → AreGuards spec log txns → AreGuards spec log (set txns at t)
+same_set spec log txns at t d l by same h = record {
+  each = All-set (AreTakenIn log) txns at t (same_taken log t (get_or txns at d) by same (h.each at d l)) h.each;
+  listed = λ key n. listed_set txns at t d key n false l (ap (is_taken key n) same ∙ sym (or_no (is_taken key n (get_or txns at d).taken))) ∙ or_no (is_listed txns key n) ∙ h.listed key n;
 }
 
 -- a key that a write took is one that was taken, and the other way round
@@ -245,3 +243,96 @@ place_set txns txn at t is same =
 
 pub place_within : (txns : List TxnValue) (txn at : ℕ) (d : TxnValue) → position (λ u. u.txn == txn) txns ≡ Some at → at < length txns
 place_within txns txn at d is = (position-Some (λ u. u.txn == txn) txns at d is).0
+
+-- what a row takes from the one before it
+taken_none : (spec : KeySpecValue) (was row : Option (List Cell)) (key : List ℕ) → key_taken spec was row ≡ None → (has_key spec key was && not (has_key spec key row)) ≡ false
+taken_none spec None row key e = refl
+taken_none spec (Some cells) row key e = elim (cases_Bool (has_key spec (key_of spec cells) row)) [
+  | inr lost ↦ absurd (some_none (key_of spec cells) (sym (cond-false (has_key spec (key_of spec cells) row) None (Some (key_of spec cells)) lost) ∙ e))
+  | inl kept ↦ elim (cases_Bool (bytes_eq (key_of spec cells) key)) [
+    | inr differs ↦ rw differs refl
+    | inl is ↦
+        let same : key_of spec cells ≡ key = (bytes_eq-Decides (key_of spec cells) key).0 is in
+        let has : has_key spec key row ≡ true = ap (λ k. has_key spec k row) (sym same) ∙ kept in
+        rw (is, has) refl
+  ]
+] where
+  some_none : (k : List ℕ) → Some k ≡ None → ⊥
+  some_none k f = cc
+
+taken_some : (spec : KeySpecValue) (was row : Option (List Cell)) (key taken : List ℕ) → key_taken spec was row ≡ Some taken → (has_key spec key was && not (has_key spec key row)) ≡ bytes_eq taken key
+taken_some spec None row key taken e = absurd (cc)
+taken_some spec (Some cells) row key taken e = elim (cases_Bool (has_key spec (key_of spec cells) row)) [
+  | inl kept ↦ absurd (none_some taken (sym (cond-true (has_key spec (key_of spec cells) row) None (Some (key_of spec cells)) kept) ∙ e))
+  | inr lost ↦
+      let is : key_of spec cells ≡ taken = same_Some (key_of spec cells) taken (sym (cond-false (has_key spec (key_of spec cells) row) None (Some (key_of spec cells)) lost) ∙ e) in
+      elim (cases_Bool (bytes_eq (key_of spec cells) key)) [
+        | inr differs ↦ rw differs (sym (ap (λ k. bytes_eq k key) (sym is) ∙ differs))
+        | inl hit ↦
+            let same : key_of spec cells ≡ key = (bytes_eq-Decides (key_of spec cells) key).0 hit in
+            let has : has_key spec key row ≡ false = ap (λ k. has_key spec k row) (sym same) ∙ lost in
+            rw (hit, has) (sym (ap (λ k. bytes_eq k key) (sym is) ∙ hit))
+      ]
+] where
+  none_some : (k : List ℕ) → None ≡ Some k → ⊥
+  none_some k f = cc
+
+-- the key of a new write comes last
+ascends_push : (log : List LogRec) (txn : ℕ) (ts : List Taken) (t : Taken) → Ascends ts → All (IsTakenIn log txn) ts → t.number ≡ length log + 1 → Ascends (ts ++ t ∷ [])
+ascends_push log txn [] t h each is = tt
+ascends_push log txn (a ∷ []) t h each is = (let in_log : IsTakenIn log txn a = All-head (IsTakenIn log txn) a [] each in omega (arith, in_log.within, is), tt)
+ascends_push log txn (a ∷ b ∷ more) t h each is = (h.0, ascends_push log txn (b ∷ more) t h.1 (All-tail (IsTakenIn log txn) a (b ∷ more) each) is)
+
+-- what a write that takes nothing leaves
+pub list_kept :
+    (spec : KeySpecValue) (old new : List LogRec) (txn : ℕ) (rid : Rid) (row : Option (List Cell)) (txns : List TxnValue) → Logged old (Write txn rid row) new
+    → AddsToGuards spec old (Write txn rid row) new → key_taken spec (live_at old rid) row ≡ None → AreGuards spec old txns → AreGuards spec new txns
+list_kept spec old new txn rid row txns added adds none h = record {
+  each = All-weaker (AreTakenIn old) (AreTakenIn new) (λ t. all_then old new (Write txn rid row) t added) txns h.each;
+  listed = λ key n. h.listed key n ∙ (elim (cases_eq n (length old + 1)) [
+    | inl is ↦ took_past spec old key n (omega (arith, is)) ∙ sym (adds.took key n ∙ rw (eq-eqb n (length old + 1) is) (taken_none spec (live_at old rid) row key none))
+    | inr ne ↦ sym (adds.took key n ∙ rw (ne_eqb n (length old + 1) ne) refl)
+  ]);
+}
+
+-- what one that takes a key leaves
+pub list_write :
+    (spec : KeySpecValue) (old new : List LogRec) (txn : ℕ) (rid : Rid) (row : Option (List Cell)) (txns : List TxnValue) (at : ℕ) (t d : TxnValue) (key : List ℕ)
+    → Logged old (Write txn rid row) new → AddsToGuards spec old (Write txn rid row) new → key_taken spec (live_at old rid) row ≡ Some key
+    → at < length txns → t.txn ≡ txn → (get_or txns at d).txn ≡ txn
+    → t.taken ≡ (get_or txns at d).taken ++ record { number = length old + 1; key = key } ∷ []
+    → AreGuards spec old txns → AreGuards spec new (set txns at t)
+list_write spec old new txn rid row txns at t d key added adds some l by was_by taken_is h = record {
+  each = All-set (AreTakenIn new) txns at t changed (All-weaker (AreTakenIn old) (AreTakenIn new) (λ u. all_then old new (Write txn rid row) u added) txns h.each);
+  listed = λ k n. listed_set txns at t d k n (extra k n) l (ap (is_taken k n) taken_is ∙ list_any-append (λ x. (x.number == n) && bytes_eq x.key k) (get_or txns at d).taken (g ∷ []) ∙ ap (λ b. is_taken k n (get_or txns at d).taken || b) (or_no (extra k n)))
+      ∙ (elim (cases_eq n (length old + 1)) [
+        | inl is ↦ rw (unlisted k n is, eq-eqb (length old + 1) n (sym is)) (sym (newest k n is ∙ taken_some spec (live_at old rid) row k key some))
+        | inr ne ↦ rw (ne_eqb (length old + 1) n (λ same. ne (sym same))) (or_no (is_listed txns k n) ∙ h.listed k n ∙ sym (adds.took k n ∙ rw (ne_eqb n (length old + 1) ne) refl))
+      ]);
+} where
+  g : Taken
+  g = record { number = length old + 1; key = key }
+
+  extra : List ℕ → ℕ → Bool
+  extra k n = (length old + 1 == n) && bytes_eq key k
+
+  was : AreTakenIn old (get_or txns at d)
+  was = h.each at d l
+
+  count : length new ≡ length old + 1
+  count = ap length added.is ∙ length-append old (Write txn rid row ∷ [])
+
+  changed : AreTakenIn new t
+  changed = record {
+    each = rw (by, taken_is) (All-append (IsTakenIn new txn) (get_or txns at d).taken (g ∷ [])
+        (All-weaker (IsTakenIn old txn) (IsTakenIn new txn) (taken_then old new (Write txn rid row) txn added) (get_or txns at d).taken
+        (subst (λ (u : ℕ). All (IsTakenIn old u) (get_or txns at d).taken) was_by was.each))
+        (All-cons (IsTakenIn new txn) g [] (record { within = omega (arith, count); by = ap txn_of added.numbers.here }) (All-nil (IsTakenIn new txn))));
+    ascend = rw taken_is (ascends_push old (get_or txns at d).txn (get_or txns at d).taken g was.ascend was.each refl);
+  }
+
+  newest : (k : List ℕ) (n : ℕ) → n ≡ length old + 1 → took_key spec new k n ≡ (has_key spec k (live_at old rid) && not (has_key spec k row))
+  newest k n e = adds.took k n ∙ rw (eq-eqb n (length old + 1) e) refl
+
+  unlisted : (k : List ℕ) (n : ℕ) → n ≡ length old + 1 → is_listed txns k n ≡ false
+  unlisted k n e = h.listed k n ∙ took_past spec old k n (omega (arith, e))

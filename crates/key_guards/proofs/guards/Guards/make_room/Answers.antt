@@ -21,8 +21,8 @@ returns-clause-kept c = λ spec log h.
     place_within c.place_or_new.new.txns.items c.args.txn c.in_ok-at.at c.make_room.new.self c.in_ok-at.ensures.at in
     record {
       unique = h.unique;
-      listed = same_set spec log c.place_or_new.new.txns.items c.in_ok-at.at c.make_room.new.self within
-          (c.make_room.ensures.txn ∙ ap (λ (t : TxnValue). t.txn) ?)
-          (c.make_room.ensures.taken ∙ ap (λ (t : TxnValue). t.taken) ?)
+      listed = same_set spec log c.place_or_new.new.txns.items c.in_ok-at.at c.make_room.new.self c.index_mut.result.now within
+          (c.make_room.ensures.txn ∙ ap (λ (t : TxnValue). t.txn) c.index_mut.ensures.value)
+          (c.make_room.ensures.taken ∙ ap (λ (t : TxnValue). t.taken) c.index_mut.ensures.value)
           (c.place_or_new.ensures.kept spec log (subst (λ (v : GuardsValue). AreGuards spec log v.txns) (sym c.self.view_is) h.listed));
     }
