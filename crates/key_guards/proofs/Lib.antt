@@ -10,3 +10,4 @@ pub mod Rows
 pub mod Steps
 pub mod Tables
 pub mod TakenLists
+pub mod Undoing
