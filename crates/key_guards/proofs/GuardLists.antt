@@ -233,11 +233,11 @@ list_other spec log txns txn key unique held h = at (find (is_other txn key) txn
         sym (other_guard_found spec log txn key t.txn unique held (λ e. false≢true (sym (not-true (t.txn == txn) parts.0) ∙ eq-eqb t.txn txn e)) guards_it)
 
 -- the place of a transaction is the same after a change of its keys
-pub place_set : (txns : List TxnValue) (txn at : ℕ) (t : TxnValue) → position (λ u. u.txn == txn) txns ≡ Some at → t.txn ≡ (get_or txns at t).txn
+pub place_set : (txns : List TxnValue) (txn at : ℕ) (t d : TxnValue) → position (λ u. u.txn == txn) txns ≡ Some at → t.txn ≡ (get_or txns at d).txn
     → position (λ u. u.txn == txn) (set txns at t) ≡ Some at
-place_set txns txn at t is same =
+place_set txns txn at t d is same =
     let p : TxnValue → Bool = λ u. u.txn == txn in
-    let first : position_or_len p (set txns at t) ≡ position_or_len p txns = position_or_len-set p txns at t t (ap (λ n. n == txn) same) in
+    let first : position_or_len p (set txns at t) ≡ position_or_len p txns = position_or_len-set p txns at t d (ap (λ n. n == txn) same) in
     let count : length (set txns at t) ≡ length txns = length-set txns at t in
     rw (first, count) is
 
