@@ -12,7 +12,10 @@ pub mod EntrySteps
 pub mod Examples
 pub mod FedBeside
 pub mod Feeding
+pub mod EachGuarded
 pub mod Following
+pub mod KeysAsked
+pub mod KeysTaken
 pub mod Kits
 pub mod LeftBeside
 pub mod LoadCauses

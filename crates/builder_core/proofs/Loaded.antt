@@ -191,7 +191,7 @@ module _
 
     module _ (new : BuildingValue) (count : ℕ) (none : it.built ≡ None) (done : HasSorted index w building count new) where
       abbrev loaded_it : IndexValue
-      loaded_it = record { built = Some (record { build = w.build; pairs = done.pairs }); applied = 0 }
+      loaded_it = record { built = Some (with_pairs w index done.pairs); applied = 0 }
 
       abbrev sorted : WorkValue
       sorted = with_index w index done.pairs 0

@@ -68,6 +68,7 @@ done_goes_on s (Feed index most) reply new does = let on = on_build s.live.build
 done_goes_on s (Apply index most) reply new does = let on = on_build s.live.build _ does.2 in keeps_log s new _ on.1.1 refl
 done_goes_on s Switch reply new does =
     let on = on_build s.live.build _ does.2 in same_log s new _ (ap (λ (t : CoreState). t.live.heap) on.1.2) (_, refl)
+done_goes_on s Fence reply new does = keeps_log s new _ does.1 refl
 done_goes_on s Abandon reply new does = keeps_log s new _ does.1 refl
 
 -- what is read of the rows and the spools alone
@@ -94,6 +95,7 @@ want_keeps {X} f s event fault new wants = by_event event wants where
   by_event (Feed index most) never = absurd never
   by_event (Apply index most) some = let on = on_build s.live.build _ some in ap (of_both f) on.1.2
   by_event Switch caught = let on = on_build s.live.build _ caught in ap (of_both f) on.1.3
+  by_event Fence never = absurd never
   by_event Abandon never = absurd never
 
 -- a step adds to the log alone
@@ -131,6 +133,7 @@ done_stakes s (Load index) reply new does = let on = on_build s.live.build _ doe
 done_stakes s (Feed index most) reply new does = let on = on_build s.live.build _ does.2 in ap stakes_of on.1.1
 done_stakes s (Apply index most) reply new does = let on = on_build s.live.build _ does.2 in ap stakes_of on.1.1
 done_stakes s Switch reply new does = let on = on_build s.live.build _ does.2 in ap stakes_of on.1.2
+done_stakes s Fence reply new does = ap stakes_of does.1
 done_stakes s Abandon reply new does = ap stakes_of does.1
 
 pub step_stakes : (s : CoreState) (event : Event) (reply : Reply) (new : CoreState) → Step s event reply new → stakes_of new ≡ stakes_of s
@@ -185,6 +188,7 @@ does_switch s Switch number verdicts new does =
       verdicts_are = verdicts_told ∙ on.1.1;
       new_is = ap (λ (t : CoreState). t.live) on.1.2;
     }
+does_switch s Fence number verdicts new does = absurd (let bad = does.0 in cc)
 does_switch s Abandon number verdicts new does = absurd (let bad = does.0 in cc)
 
 switches : (s : CoreState) (event : Event) (number : ℕ) (verdicts : List Outcome) (new : CoreState) → Step s event (Switched number verdicts) new → Switched_in s event number verdicts new

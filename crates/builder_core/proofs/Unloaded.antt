@@ -13,7 +13,7 @@ use Rattle.builder_core.specs.CatchingUp.{MayCatchUp}
 use Rattle.builder_core.specs.declared.event.Event.TheVariants.{Switch}
 use Rattle.builder_core.specs.CoreState.{BuildState, IndexState, WorkState, CoreState}
 use Rattle.builder_core.specs.Ranges.{open_range}
-use Rattle.builder_core.specs.Steps.{OnBuild, CatchesUp, AreFurther, build_cause, cause_if, index_refusal, apply_refusal, behind_refusal, switch_refusal}
+use Rattle.builder_core.specs.Steps.{OnBuild, CatchesUp, AreFurther, build_cause, cause_if, index_refusal, apply_refusal, behind_refusal, busy_refusal, switch_refusal}
 use Rattle.builder_core.specs.Workers.{all_unapplied, index_at, unloaded_index}
 use Rattle.std.proofs.lemmas.Option.{get_or_from_slice_get}
 use Rattle.builder_core.proofs.ApplyCauses.{first_none, inside_of}
@@ -95,7 +95,7 @@ module _
     (live : LiveValue) (building : BuildingValue) (b : BuildState) (w : WorkValue) (run : IsRunning live building b w) (fine : w.spoiled ≡ None)
     (all : open_range b ≡ None) where
   abbrev switch_cause : Option Fault
-  switch_cause = build_cause live.state.build (λ x. switch_refusal x live.state.heap.log (work_state building.workers building.work))
+  switch_cause = build_cause live.state.build (λ x. switch_refusal x live.state.heap (work_state building.workers building.work))
 
   unloaded_at : (o : Option ℕ) → o ≡ position (λ (index : IndexValue). not (is_some index.built)) w.indexes → unloaded_index (state_of building w) ≡ o
   unloaded_at o is = unloaded_seen w.indexes ∙ sym is
@@ -115,16 +115,20 @@ module _
         subst (λ (o : Option BuildState). OnBuild o (λ x. left ≡ all_unapplied x live.state.heap.log x.specs (work_state building.workers building.work).indexes)) run.build_is sum
         ∙ ap (λ (s : WorkState). all_unapplied b live.state.heap.log b.specs s.indexes) (state_is building w run.work_is fine)
 
-    behind_cause : switch_cause ≡ behind_refusal left
-    behind_cause = rw (run.build_is, state_is building w run.work_is fine, all, unloaded_at None none, left_is) refl
+    abbrev busy_cause : Option Fault
+    busy_cause = busy_refusal b (length (busy_txns live.state.heap))
+
+    last_causes : switch_cause ≡ first_cause (behind_refusal left) busy_cause
+    last_causes = rw (run.build_is, state_is building w run.work_is fine, all, unloaded_at None none, left_is) refl
 
     pub too_far_behind : 1024 < left → switch_cause ≡ Some (Behind left)
-    too_far_behind more = behind_cause ∙ ap (λ (test : Bool). cause_if test (Behind left)) (lt-ltb 1024 left more)
+    too_far_behind more = last_causes ∙ ap (λ (test : Bool). first_cause (cause_if test (Behind left)) busy_cause) (lt-ltb 1024 left more)
 
-    pub can_be_switched : left ≤ 1024 → switch_cause ≡ None
-    can_be_switched few =
-        behind_cause
-        ∙ ap (λ (test : Bool). cause_if test (Behind left)) (false_from_ne_true (nat_lt 1024 left) (λ more. let less = ltb-true 1024 left more in omega (arith, less, few)))
+    pub waits_for_writers : left ≤ 1024 → switch_cause ≡ busy_cause
+    waits_for_writers few =
+        last_causes
+        ∙ ap (λ (test : Bool). first_cause (cause_if test (Behind left)) busy_cause)
+        (false_from_ne_true (nat_lt 1024 left) (λ more. let less = ltb-true 1024 left more in omega (arith, less, few)))
 
 no_fault : (o : Option ℕ) → option_map NotLoaded o ≡ None → o ≡ None
 no_fault None none = refl
@@ -139,11 +143,11 @@ module _ (live : LiveValue) (building : BuildingValue) where
   may_catch_up works free = by_build live.state.build refl where
     by_build : (o : Option BuildState) → live.state.build ≡ o → MayCatchUp (core_state live building)
     by_build None gone =
-        absurd (let bad : Some NoBuild ≡ None = ap (λ (o : Option BuildState). build_cause o (λ b. switch_refusal b live.state.heap.log now)) (sym gone) ∙ free in cc)
+        absurd (let bad : Some NoBuild ≡ None = ap (λ (o : Option BuildState). build_cause o (λ b. switch_refusal b live.state.heap now)) (sym gone) ∙ free in cc)
     by_build (Some b) runs =
         let many = indexes_many live building b runs works in
-        let causes : switch_refusal b live.state.heap.log now ≡ None =
-        ap (λ (o : Option BuildState). build_cause o (λ x. switch_refusal x live.state.heap.log now)) (sym runs) ∙ free in
+        let causes : switch_refusal b live.state.heap now ≡ None =
+        ap (λ (o : Option BuildState). build_cause o (λ x. switch_refusal x live.state.heap now)) (sym runs) ∙ free in
         let fine = first_none now.spoiled _ causes in
         let scanned = first_none (option_map NotScanned (open_range b)) _ fine.1 in
         let loaded = first_none (option_map NotLoaded (unloaded_index now)) _ scanned.1 in

@@ -225,6 +225,7 @@ impl<S: Spool, T: Table> Core<S, T> {
             Event::Load { index } => self.load(*index),
             Event::Feed { index, most } => self.feed(*index, *most),
             Event::Apply { index, most } => self.apply(*index, *most),
+            Event::Fence => self.fence(),
             Event::Switch => self.switch(),
             Event::Abandon => self.abandon(),
         }
@@ -342,6 +343,13 @@ impl<S: Spool, T: Table> Core<S, T> {
         self.live.check_apply(index, &self.building)?;
         let entries = self.live.apply(index, most, &mut self.building)?;
         Ok(Reply::Applied { entries })
+    }
+
+    fn fence(&mut self) -> Result<Reply, Fault>
+        ensures { Answers self.old Event.Fence result self.new }
+    {
+        self.live.fence()?;
+        Ok(Reply::FenceSet)
     }
 
     fn switch(&mut self) -> Result<Reply, Fault>

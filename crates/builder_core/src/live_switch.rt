@@ -1,16 +1,17 @@
 //! The switch of a build: the entries that are left are applied to its indexes, which are then ready.
 ghost use Rattle.std.specs.Prelude.{◌≡◌, ◌+◌, ◌++◌, ◌^◌, ◌<◌, ◌≤◌, length, None, Some, IsSome, IfSome, IfOk, IfErr, OnOk, OnErr, MatchResult, vec_len, vec_capacity};
 ghost use Rattle.std.specs.List.{AllZip};
-ghost use Rattle.heap_table.specs.HeapState.{after_switch};
+ghost use Rattle.heap_table.specs.HeapState.{after_switch, busy_txns};
 ghost use Rattle.heap_table.specs.Pages.{KeepsRows};
 ghost use Rattle.builder_core.specs.Builds.{core_state, cause_of, WorksOn};
 ghost use Rattle.builder_core.specs.CatchingUp.{MayCatchUp, IndexIsFurther, IsDoneIndex, left_at, ready_of};
-ghost use Rattle.builder_core.specs.Steps.{Switches, OnBuild, CatchesUp, IsRefused, ready_from};
+ghost use Rattle.builder_core.specs.Steps.{Switches, OnBuild, CatchesUp, IsRefused, ready_from, busy_refusal};
 ghost use Rattle.builder_core.specs.Workers.{all_unapplied};
 ghost use Rattle.builder_core.specs.declared.event.Event.{Event};
 
 use crate::ending::end_spools;
 use crate::index_work::IndexWork;
+use crate::table_scan::TableScan;
 use crate::{Building, Live, ReadyIndex, Table};
 use heap_log::{Outcome, Verdicts};
 use heap_table::Heap;
@@ -78,6 +79,22 @@ impl<T: Table> Live<T> {
         if left > SWITCH_MAX {
             return Err(Fault::Behind(left));
         }
+        self.check_busy(build)
+    }
+
+    /// A build with a unique index waits until no open transaction has a write that stands.
+    fn check_busy(&self, build: &TableScan) -> Result<(), Fault>
+        ensures { MatchResult result
+            (λ _. busy_refusal build.now (length (busy_txns self.now.state.heap)) ≡ None)
+            (λ fault. busy_refusal build.now (length (busy_txns self.now.state.heap)) ≡ Some fault) }
+    {
+        if !build.has_unique() {
+            return Ok(());
+        }
+        let busy = self.heap.busy();
+        if busy > 0 {
+            return Err(Fault::Busy(busy));
+        }
         Ok(())
     }
 
@@ -129,7 +146,7 @@ impl<T: Table> Live<T> {
 
     /// Applies the entries that are left, makes the indexes of the build ready, and ends it and its spools; answered with the
     /// number of the log record, and what became of each index. [`Fault::NoBuild`], the fault of a spoiled build,
-    /// [`Fault::NotScanned`], [`Fault::NotLoaded`], [`Fault::Behind`]. Where memory is wanted, entries that were applied stay
+    /// [`Fault::NotScanned`], [`Fault::NotLoaded`], [`Fault::Behind`], [`Fault::Busy`]. Where memory is wanted, entries that were applied stay
     /// applied, and it can be called again.
     pub fn switch_in<S: Spool>(
         &mut self,
