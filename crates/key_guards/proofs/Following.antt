@@ -10,7 +10,8 @@ use Rattle.heap_log.specs.declared.record.LogRec.TheVariants.{Write, Undo, Commi
 use Rattle.heap_log.specs.Standing.{live_at, record_at, newest_standing, txn_of, IsWrite}
 use Rattle.heap_log.proofs.Growing.{undone-past}
 use Rattle.heap_table.specs.Holders.{committed}
-use Rattle.key_guards.specs.GuardLists.{key_taken, AreTakenIn}
+use Rattle.key_guards.specs.GuardLists.{key_taken, AreTakenIn, AreUndone}
+use Rattle.key_guards.proofs.Undoing.{list_undo}
 use Rattle.key_guards.specs.Guarded.{IsLetIn, GuardsValue, IsGuarded}
 use Rattle.key_guards.specs.TxnGuards.{TxnValue}
 use Rattle.key_guards.proofs.Logging.{Logged, logged}
@@ -51,6 +52,20 @@ guarded_switch spec log verdicts v undos h =
       unique = unique_switch spec log verdicts h.unique;
       listed = list_switch spec log (log ++ Switch verdicts ∷ []) verdicts v.txns added
           (guards_switch spec log (log ++ Switch verdicts ∷ []) verdicts added) h.listed;
+    }
+
+pub guarded_undo :
+    (spec : KeySpecValue) (s : HeapState) (txn n : ℕ) (v w : GuardsValue) → HoldsFollowLog s → UndoesNameEarlier s.log
+    → is_open s.active txn ≡ true → newest_standing s.log txn ≡ Some n → AreUndone n v.txns w.txns
+    → IsGuarded spec s.log v → IsGuarded spec (s.log ++ Undo txn n ∷ []) w
+guarded_undo spec s txn n v w holds undos opened newest after h =
+    let live : committed s.log txn ≡ false = holds.uncommitted txn opened in
+    let is : IsWrite s.log n = newest_standing-write s.log txn n newest in
+    let added : Logged s.log (Undo txn n) (s.log ++ Undo txn n ∷ []) = logged s.log (Undo txn n) undos (is.low, is.high) in
+    record {
+      unique = unique_undo spec s.log txn n live newest h.unique;
+      listed = list_undo spec s.log (s.log ++ Undo txn n ∷ []) txn n v.txns w.txns added
+          (guards_undo spec s.log (s.log ++ Undo txn n ∷ []) txn n added live newest (writes_are_held s holds)) newest after h.listed;
     }
 
 -- where all that stands is committed, nothing is guarded

@@ -3,14 +3,16 @@ use Rattle.std.proofs.Common.{◌≡◌, ◌≢◌, ℕ, zero, suc, ◌+◌, ◌
 use Rattle.std.specs.Prelude.{◌&&◌, ◌||◌, not, ◌==◌, filter}
 use Rattle.std.specs.List.{list_any, find, All, position, position_or_len}
 use Rattle.std.specs.Option.{option_map}
-use Rattle.std.proofs.Math.ListN.{set}
+use Rattle.std.proofs.Math.ListN.{set, get_or-append}
+use Rattle.std.proofs.Math.Seq.{get_or-append_seam}
+use Rattle.std.proofs.lemmas.List.Sums.{position_or_len_is, fails_before_first}
 use Rattle.std.specs.Str.{bytes_eq}
 use Rattle.std.proofs.lemmas.Slice.Eq.{bytes_eq-Decides}
 use Rattle.std.proofs.lemmas.Option.{same_Some}
 use Rattle.std.proofs.lemmas.List.Elements.{All-head, All-tail, All-weaker, All-append, All-cons, All-nil, All-filter, All-set}
 use Rattle.std.proofs.lemmas.List.Folds.{list_any-append, position_or_len-set}
 use Rattle.std.proofs.lemmas.List.Quantifiers.{position-Some}
-use Rattle.std.proofs.lemmas.Bool.{cases_eq, cases_Bool, cond-true, cond-false, false≢true, and_parts, and_from, or_cases, or_left, or_right, not-true, not_from_false, eqb-true, eq-eqb, ne_eqb}
+use Rattle.std.proofs.lemmas.Bool.{cases_eq, cases_lt, lt-ltb, cases_Bool, cond-true, cond-false, false≢true, and_parts, and_from, or_cases, or_left, or_right, not-true, not_from_false, eqb-true, eq-eqb, ne_eqb}
 use Rattle.keybytes.specs.Keys.{KeySpecValue, key_of}
 use Rattle.keybytes.specs.declared.cell.Cell.{Cell}
 use Rattle.keybytes.specs.declared.rid.Rid.{Rid}
@@ -231,6 +233,36 @@ list_other spec log txns txn key unique held h = at (find (is_other txn key) txn
         let P : ℕ → Type 0 = λ u. GuardsKey spec log u key in
         let guards_it : GuardsKey spec log t.txn key = subst P (taken_by log t.txn key number.0 t.taken in_log.each number.1) (guards_by spec log key number.0 took) in
         sym (other_guard_found spec log txn key t.txn unique held (λ e. false≢true (sym (not-true (t.txn == txn) parts.0) ∙ eq-eqb t.txn txn e)) guards_it)
+
+-- a transaction that is nowhere, and is put at the end, is there
+nowhere : (txns : List TxnValue) (txn : ℕ) → position (λ u. u.txn == txn) txns ≡ None → All (λ (u : TxnValue). (u.txn == txn) ≡ false) txns
+nowhere txns txn none at d l = elim (cases_lt (position_or_len p txns) (length txns)) [
+  | inl within ↦ absurd (some_none (position_or_len p txns) (sym (rw (lt-ltb (position_or_len p txns) (length txns) within) refl) ∙ none))
+  | inr past ↦ fails_before_first p txns at d (omega (arith, past, l))
+] where
+  p : TxnValue → Bool
+  p = λ u. u.txn == txn
+
+  some_none : (k : ℕ) → Some k ≡ None → ⊥
+  some_none k f = cc
+
+pub new_place : (txns kept : List TxnValue) (test : TxnValue → Bool) (txn : ℕ) (t : TxnValue) → position (λ u. u.txn == txn) txns ≡ None → t.txn ≡ txn
+    → kept ≡ filter test txns → position (λ u. u.txn == txn) (kept ++ t ∷ []) ≡ Some (length kept)
+new_place txns kept test txn t none is kept_is = rw (first, lt-ltb (length kept) (length (kept ++ t ∷ [])) within) refl
+  where
+    p : TxnValue → Bool
+    p = λ u. u.txn == txn
+
+    within : length kept < length (kept ++ t ∷ [])
+    within = omega (arith, length-append kept (t ∷ []))
+
+    not_kept : All (λ (u : TxnValue). p u ≡ false) kept
+    not_kept = rw kept_is (All-filter test (λ (u : TxnValue). p u ≡ false) txns (nowhere txns txn none))
+
+    first : position_or_len p (kept ++ t ∷ []) ≡ length kept
+    first = position_or_len_is p (kept ++ t ∷ []) (length kept) t (omega (arith, within))
+        (λ k l. ap p (get_or-append kept (t ∷ []) t k l) ∙ not_kept k t l)
+        (λ l. ap p (get_or-append_seam kept t [] t) ∙ eq-eqb t.txn txn is)
 
 -- the place of a transaction is the same after a change of its keys
 pub place_set : (txns : List TxnValue) (txn at : ℕ) (t d : TxnValue) → position (λ u. u.txn == txn) txns ≡ Some at → t.txn ≡ (get_or txns at d).txn

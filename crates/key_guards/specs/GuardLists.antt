@@ -1,5 +1,5 @@
 -- The guards by transaction, which follow the log.
-use Rattle.std.specs.Prelude.{◌≡◌, ◌≢◌, ◌<◌, ◌≤◌, ◌==◌, ℕ, Bool, ◌&&◌, not, if◌then◌else◌, List, [], ◌∷◌, length, Option, Some, None}
+use Rattle.std.specs.Prelude.{◌≡◌, ◌≢◌, ◌<◌, ◌≤◌, ◌==◌, ℕ, Bool, ◌&&◌, not, if◌then◌else◌, get_or, List, [], ◌∷◌, length, Option, Some, None}
 use Rattle.std.specs.List.{list_any, find, All}
 use Rattle.std.specs.Option.{option_map}
 use Rattle.std.specs.Str.{bytes_eq}
@@ -10,7 +10,7 @@ use Rattle.heap_log.specs.Standing.{record_at, txn_of}
 use Rattle.key_guards.specs.declared.taken.Taken.{Taken}
 use Rattle.key_guards.specs.UniqueKeys.{has_key}
 use Rattle.key_guards.specs.KeyRefusals.{took_key}
-use Rattle.key_guards.specs.TxnGuards.{TxnValue, has_taken}
+use Rattle.key_guards.specs.TxnGuards.{TxnValue, has_taken, without_top}
 
 -- whether that write took that key, among those of one transaction, and of all
 abbrev pub is_taken : List ℕ → ℕ → List Taken → Bool
@@ -46,6 +46,15 @@ pub record AreTakenIn (log : List LogRec) (t : TxnValue) : Type 0 where
 pub record AreGuards (spec : KeySpecValue) (log : List LogRec) (txns : List TxnValue) : Type 0 where
   pub each : All (AreTakenIn log) txns
   pub listed : (key : List ℕ) (n : ℕ) → is_listed txns key n ≡ took_key spec log key n
+
+-- each has the keys of the same transaction, without the last one where the write of that number took it
+pub record IsUndone (number : ℕ) (old new : TxnValue) : Type 0 where
+  pub txn : new.txn ≡ old.txn
+  pub taken : new.taken ≡ without_top number old.taken
+
+pub record AreUndone (number : ℕ) (old new : List TxnValue) : Type 0 where
+  pub count : length new ≡ length old
+  pub each : (at : ℕ) (d : TxnValue) → at < length old → IsUndone number (get_or old at d) (get_or new at d)
 
 -- the key that a row takes from the one before it, if it has another or is none
 abbrev pub key_taken : KeySpecValue → Option (List Cell) → Option (List Cell) → Option (List ℕ)

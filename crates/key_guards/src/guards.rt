@@ -11,7 +11,7 @@ ghost use Rattle.heap_table.specs.Sound.{HoldsFollowLog};
 ghost use Rattle.heap_table.specs.TablePairs.{pairs_at_rest};
 ghost use Rattle.key_guards.specs.UniqueKeys.{HaveOwnKeys, KeysAreUnique, UniqueKeysAreGuarded};
 ghost use Rattle.key_guards.specs.KeyRefusals.{other_guard};
-ghost use Rattle.key_guards.specs.GuardLists.{AreGuards, key_taken, other_in};
+ghost use Rattle.key_guards.specs.GuardLists.{AreGuards, AreUndone, key_taken, other_in};
 ghost use Rattle.key_guards.specs.TxnGuards.{is_nil};
 ghost use Rattle.key_guards.specs.Guarded.{HasRoomFor, IsGuarded, IsLetIn};
 
@@ -70,6 +70,15 @@ fn forget_txn(txns: &mut Vec<TxnGuards>, txn: u64)
     ensures { txns.new.items ≡ filter (λ t. not (t.txn == txn)) txns.old.items }
 {
     txns.retain(|t| !(t.txn() == txn));
+}
+
+/// Forgets what the write of that number took, where it is a transaction's newest one there.
+fn undo_each(txns: &mut Vec<TxnGuards>, number: usize)
+    ensures { AreUndone number txns.old.items txns.new.items }
+{
+    for i in 0..txns.len() {
+        txns[i].undo(number);
+    }
 }
 
 /// The transaction other than that one that took the key, if there is one.
@@ -139,9 +148,7 @@ impl Guards {
         ensures { (spec : KeySpecValue) (s : HeapState) → HoldsFollowLog s → UndoesNameEarlier s.log → is_open s.active txn ≡ true
             → newest_standing s.log txn ≡ Some number → IsGuarded spec s.log self.old → IsGuarded spec (s.log ++ Undo txn number ∷ []) self.new }
     {
-        for i in 0..self.txns.len() {
-            self.txns[i].undo(number);
-        }
+        undo_each(&mut self.txns, number);
     }
 
     /// Tells that the transaction committed: its keys are free from then on.
