@@ -1,5 +1,5 @@
 -- The guards by transaction follow the log.
-use Rattle.std.proofs.Common.{◌≡◌, ◌≢◌, ℕ, zero, suc, ◌+◌, ◌<◌, ◌≤◌, Bool, true, false, List, [], ◌∷◌, ◌++◌, length, get_or, Option, Some, None, refl, sym, ap, subst, ◌∙◌, arith, inl, inr, length-append, length-set}
+use Rattle.std.proofs.Common.{◌≡◌, ◌≢◌, ℕ, zero, suc, ◌+◌, ◌<◌, Bool, true, false, List, [], ◌∷◌, ◌++◌, length, get_or, Option, Some, None, refl, sym, ap, subst, ◌∙◌, arith, inl, inr, length-append, length-set}
 use Rattle.std.specs.Prelude.{◌&&◌, ◌||◌, not, ◌==◌, filter}
 use Rattle.std.specs.List.{list_any, find, All, position, position_or_len}
 use Rattle.std.specs.Option.{option_map}
@@ -18,11 +18,11 @@ use Rattle.keybytes.specs.declared.cell.Cell.{Cell}
 use Rattle.keybytes.specs.declared.rid.Rid.{Rid}
 use Rattle.heap_log.specs.declared.outcome.Outcome.{Outcome}
 use Rattle.heap_log.specs.declared.record.LogRec.{LogRec}
-use Rattle.heap_log.specs.declared.record.LogRec.TheVariants.{Write, Undo, Commit, Switch}
+use Rattle.heap_log.specs.declared.record.LogRec.TheVariants.{Write, Commit, Switch}
 use Rattle.heap_log.specs.Standing.{record_at, live_at, txn_of}
 use Rattle.heap_log.proofs.Records.{or_no}
 use Rattle.key_guards.specs.declared.taken.Taken.{Taken}
-use Rattle.key_guards.specs.TxnGuards.{TxnValue, has_taken, is_nil, without_top}
+use Rattle.key_guards.specs.TxnGuards.{TxnValue, has_taken, is_nil}
 use Rattle.key_guards.specs.KeyRefusals.{took_key, other_guard}
 use Rattle.key_guards.specs.GuardLists.{is_taken, is_listed, is_other, other_in, Ascends, IsTakenIn, AreTakenIn, AreGuards, key_taken}
 use Rattle.key_guards.specs.UniqueKeys.{has_key, KeysStayUnique, GuardsKey, WritesAreHeld}

@@ -1,7 +1,7 @@
 -- The guards by transaction follow the undo of a newest standing write.
-use Rattle.std.proofs.Common.{◌≡◌, ◌≢◌, ℕ, zero, suc, ◌+◌, ◌<◌, ◌≤◌, Bool, true, false, List, [], ◌∷◌, length, get_or, Some, refl, sym, ap, subst, ◌∙◌, arith, inl, inr}
+use Rattle.std.proofs.Common.{◌≡◌, ◌≢◌, ℕ, suc, ◌+◌, ◌<◌, ◌≤◌, Bool, true, false, List, [], ◌∷◌, length, get_or, Some, refl, sym, ap, ◌∙◌, arith, inl, inr}
 use Rattle.std.specs.Prelude.{◌&&◌, ◌||◌, not, ◌==◌}
-use Rattle.std.specs.List.{list_any, All}
+use Rattle.std.specs.List.{All}
 use Rattle.std.specs.Str.{bytes_eq}
 use Rattle.std.proofs.lemmas.List.Elements.{All-head, All-tail, All-cons, All-nil}
 use Rattle.std.proofs.lemmas.Bool.{cases_Bool, false≢true, eqb-true, eq-eqb, ne_eqb}
@@ -14,12 +14,12 @@ use Rattle.std.proofs.lemmas.List.Folds.{list_any_at}
 use Rattle.keybytes.specs.Keys.{KeySpecValue}
 use Rattle.heap_log.specs.declared.record.LogRec.{LogRec}
 use Rattle.heap_log.specs.declared.record.LogRec.TheVariants.{Undo}
-use Rattle.heap_log.specs.Standing.{record_at, stands_of, undone, is_write_of, row_at, standing_before, newest_standing, txn_of, IsWrite}
+use Rattle.heap_log.specs.Standing.{record_at, stands_of, row_at, standing_before, newest_standing, txn_of}
 use Rattle.heap_log.proofs.Last.{IsLast, last_below_some}
 use Rattle.heap_log.proofs.Numbers.{newest_standing-of}
 use Rattle.heap_log.proofs.Records.{txn_of-write}
 use Rattle.heap_table.specs.Holders.{committed}
-use Rattle.key_guards.specs.UniqueKeys.{has_key, GuardsKey}
+use Rattle.key_guards.specs.UniqueKeys.{has_key}
 use Rattle.key_guards.specs.KeyRefusals.{took_key}
 use Rattle.key_guards.specs.GuardSteps.{AddsToGuards}
 use Rattle.key_guards.proofs.Logging.{Logged}

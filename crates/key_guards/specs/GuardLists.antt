@@ -1,5 +1,5 @@
 -- The guards by transaction, which follow the log.
-use Rattle.std.specs.Prelude.{◌≡◌, ◌≢◌, ◌<◌, ◌≤◌, ◌==◌, ℕ, Bool, ◌&&◌, not, if◌then◌else◌, get_or, List, [], ◌∷◌, length, Option, Some, None}
+use Rattle.std.specs.Prelude.{◌≡◌, ◌<◌, ◌≤◌, ◌==◌, ℕ, Bool, ◌&&◌, not, if◌then◌else◌, get_or, List, [], ◌∷◌, length, Option, Some, None}
 use Rattle.std.specs.List.{list_any, find, All}
 use Rattle.std.specs.Option.{option_map}
 use Rattle.std.specs.Str.{bytes_eq}

@@ -108,8 +108,7 @@ impl Guards {
         ensures switched { (spec : KeySpecValue) (log : List LogRec) (verdicts : List Outcome) → UndoesNameEarlier log
             → IsGuarded spec log self.now → IsGuarded spec (log ++ Switch verdicts ∷ []) self.now }
         ensures guarded { (spec : KeySpecValue) (s : HeapState) → HoldsFollowLog s → IsGuarded spec s.log self.now → UniqueKeysAreGuarded spec s.log }
-    {
-    }
+    {}
 
     /// The transaction other than that one that guards the key, if there is one.
     pub fn other(&self, txn: u64, key: &Key) -> Option<u64>

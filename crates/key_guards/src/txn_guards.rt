@@ -1,7 +1,8 @@
 ghost use Rattle.std.specs.Prelude.{◌≡◌, ◌+◌, ◌∷◌, ◌++◌, [], OnOk, IfErr, IsTrue, ◌↔◌};
 ghost use Rattle.key_guards.specs.TxnGuards.{has_taken, is_nil, without_top, CanTake};
 
-use crate::{Taken, key_counts::KeyCounts};
+use crate::Taken;
+use crate::key_counts::KeyCounts;
 use keybytes::{Fault, Key};
 use std::alloc::Global;
 use std::marker::Model;

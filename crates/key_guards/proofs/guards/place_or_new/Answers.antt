@@ -1,5 +1,5 @@
 -- What is forgotten has no keys, and what is new has none.
-use Rattle.std.proofs.Common.{◌≡◌, ◌++◌, ◌∷◌, [], ◌+◌, ◌-◌, length, length-append, Some, List, ap, arith, subst, sym, ◌∙◌}
+use Rattle.std.proofs.Common.{◌≡◌, ◌++◌, ◌∷◌, [], ◌+◌, ◌-◌, length, length-append, Some, ap, arith, subst, sym, ◌∙◌}
 use Rattle.std.specs.Prelude.{◌==◌, not}
 use Rattle.std.specs.List.{position}
 use Rattle.key_guards.specs.TxnGuards.{TxnValue, is_nil}

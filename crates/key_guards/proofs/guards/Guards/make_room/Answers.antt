@@ -1,5 +1,5 @@
 -- The keys stay as they were.
-use Rattle.std.proofs.Common.{◌<◌, length, List, subst, sym, ap, ◌∙◌}
+use Rattle.std.proofs.Common.{◌<◌, length, subst, sym, ap, ◌∙◌}
 use Rattle.std.specs.Prelude.{◌==◌, OnOk}
 use Rattle.std.specs.List.{position}
 use Rattle.std.proofs.Math.ListN.{set}
@@ -24,8 +24,12 @@ returns-clause-room c =
     (c.make_room.ensures.txn ∙ ap (λ (t : TxnValue). t.txn) c.index_mut.ensures.value) in
     let within : c.in_ok-at.at < length c.place_or_new.new.txns.items =
     place_within c.place_or_new.new.txns.items c.args.txn c.in_ok-at.at c.make_room.new.self c.in_ok-at.ensures.at in
-    on_ok c.make_room.result (λ can. (c.in_ok-at.at, place, λ d.
-    subst (CanTake c.args.key.now) (sym (get_or-set_same c.place_or_new.new.txns.items c.in_ok-at.at c.make_room.new.self d within)) can)) c.make_room.ensures.room
+    on_ok c.make_room.result (λ can. (
+      c.in_ok-at.at,
+      place,
+      λ d.
+          subst (CanTake c.args.key.now) (sym (get_or-set_same c.place_or_new.new.txns.items c.in_ok-at.at c.make_room.new.self d within)) can,
+    )) c.make_room.ensures.room
   where
     on_ok : {X Y : Type 0} {A B : Type 0} (r : Result X Y) → (A → B) → OnOk r A → OnOk r B
     on_ok (Ok x) f a = f a

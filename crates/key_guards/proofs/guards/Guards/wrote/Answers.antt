@@ -2,7 +2,6 @@
 use Rattle.std.proofs.Common.{◌≡◌, ◌++◌, ◌∷◌, [], ℕ, Some, None, List, Option, ap, sym, subst, ◌∙◌}
 use Rattle.std.specs.Prelude.{◌==◌, IfSome}
 use Rattle.std.specs.List.{position}
-use Rattle.heap_log.specs.declared.record.LogRec.{LogRec}
 use Rattle.key_guards.specs.TxnGuards.{TxnValue}
 use Rattle.key_guards.specs.Guarded.{GuardsValue, HasRoomFor, IsGuarded}
 use Rattle.key_guards.proofs.Following.{guarded_write, guarded_kept}
