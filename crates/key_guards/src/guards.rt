@@ -1,4 +1,4 @@
-ghost use Rattle.std.specs.Prelude.{◌≡◌, ◌+◌, ◌<◌, ◌∷◌, ◌++◌, ◌==◌, not, filter, position, IfOk, [], ℕ, List, Option, length, true, Some, None, IfSome, IfErr, OnOk, vec_len, vec_capacity};
+ghost use Rattle.std.specs.Prelude.{◌≡◌, ◌+◌, ◌∷◌, ◌++◌, ◌==◌, not, filter, position, IfOk, [], ℕ, List, Option, length, true, Some, IfSome, IfErr, OnOk};
 ghost use Rattle.keybytes.specs.Keys.{KeySpecValue};
 ghost use Rattle.keybytes.specs.declared.cell.Cell.{Cell};
 ghost use Rattle.heap_log.specs.declared.outcome.Outcome.{Outcome};
@@ -117,7 +117,7 @@ impl Guards {
         other_txn(&self.txns, txn, key)
     }
 
-    /// Takes the memory to guard the key for the transaction.
+    /// Takes the memory to guard the key for the transaction. What no write uses stays until the transaction is forgotten.
     pub fn make_room(&mut self, txn: u64, key: &Key) -> Result<(), Fault>
         ensures room { OnOk result (HasRoomFor self.new txn key.now) }
         ensures memory { IfErr result (λ fault. fault ≡ Fault.Memory) }

@@ -1,4 +1,4 @@
-ghost use Rattle.std.specs.Prelude.{◌≡◌, ◌+◌, ◌∷◌, ◌++◌, [], OnOk, IfErr, IsTrue, ◌↔◌};
+ghost use Rattle.std.specs.Prelude.{◌≡◌, ◌+◌, ◌∷◌, ◌++◌, [], OnOk, IfErr};
 ghost use Rattle.key_guards.specs.TxnGuards.{has_taken, is_nil, without_top, CanTake};
 
 use crate::Taken;
@@ -72,6 +72,7 @@ impl TxnGuards {
         ensures txn { self.new.txn ≡ self.old.txn }
         ensures taken { self.new.taken ≡ self.old.taken ++ record { number = number; key = key } ∷ [] }
     {
+        // It tells that one more can be counted.
         let _capacity = self.taken.capacity();
         self.counts.raise(&key);
         self.taken.push_reserved(Taken { number, key });
