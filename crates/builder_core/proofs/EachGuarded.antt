@@ -1,11 +1,13 @@
 -- The guards of the ready indexes, one by one.
-use Rattle.std.proofs.Common.{◌≡◌, ℕ, ◌+◌, true, false, if◌then◌else◌, List, [], ◌∷◌, map, Option, None, Some, refl, sym, ap, ◌∙◌, subst, Bool}
+use Rattle.std.proofs.Common.{◌≡◌, ℕ, ◌+◌, true, false, if◌then◌else◌, List, [], ◌∷◌, map, Option, None, Some, refl, length, take, drop, ◌++◌, inl, inr, sym, ap, ◌∙◌, subst, Bool}
 use Rattle.std.specs.List.{All, AllZip}
 use Rattle.std.proofs.lemmas.Bool.{cond-true}
-use Rattle.std.proofs.lemmas.List.Elements.{All-nil, All-cons, All-tail}
+use Rattle.std.proofs.lemmas.List.Elements.{All-nil, All-cons, All-head, All-tail}
 use Rattle.keybytes.specs.Keys.{KeySpecValue}
 use Rattle.keybytes.specs.declared.cell.Cell.{Cell}
 use Rattle.keybytes.specs.declared.fault.Fault.{Fault}
+use Rattle.std.proofs.Math.Seq.{take-append_seam}
+use Rattle.keybytes.specs.Answered.{Refused}
 use Rattle.keybytes.specs.Faults.{first_cause}
 use Rattle.heap_log.specs.declared.record.LogRec.{LogRec}
 use Rattle.heap_table.specs.declared.ready.Ready.{Ready}
@@ -95,3 +97,27 @@ both_guarded log index rest indexes own others guards is guards_are are =
 pub as_many_guards : (log : List LogRec) (index : ReadyValue) (rest indexes : List ReadyValue) (guards : List GuardsValue) → indexes ≡ index ∷ rest
     → guards ≡ [] → AreGuarded log indexes guards → ⊥
 as_many_guards log index rest indexes guards is none are = subst (λ gs. AreGuarded log (index ∷ rest) gs) none (subst (λ is. AreGuarded log is guards) is are)
+
+-- a change that all let in is let in by the others
+pub rest_let_in :
+    (log : List LogRec) (index : ReadyValue) (rest indexes : List ReadyValue) (change : Ready) → indexes ≡ index ∷ rest → AreLetIn log indexes change
+    → AreLetIn log rest change
+rest_let_in log index rest indexes change is all =
+    All-tail (λ (i : ReadyValue). i.spec.unique ≡ true → (n : ℕ) × (key_refusal n i.spec log change.txn change.old change.new ≡ None)) index rest
+    (subst (λ ready. AreLetIn log ready change) is all)
+
+pub first_let_in :
+    (log : List LogRec) (index : ReadyValue) (rest indexes : List ReadyValue) (change : Ready) → indexes ≡ index ∷ rest → AreLetIn log indexes change
+    → index.spec.unique ≡ true → (n : ℕ) × (key_refusal n index.spec log change.txn change.old change.new ≡ None)
+first_let_in log index rest indexes change is all =
+    All-head (λ (i : ReadyValue). i.spec.unique ≡ true → (n : ℕ) × (key_refusal n i.spec log change.txn change.old change.new ≡ None)) index rest
+    (subst (λ ready. AreLetIn log ready change) is all)
+
+-- a call that is refused leaves the table as it was
+pub refused_same : {S : Type 0} (cause : Option Fault) (old new : S) (fault : Fault) → Refused cause (λ before after. after ≡ before) old fault new → new ≡ old
+refused_same cause old new fault (inl caused) = caused.1
+refused_same cause old new fault (inr wants) = wants.2
+
+-- slices of guards that are as many as before
+pub whole_guards : (len : ℕ) (new old : List GuardsValue) → length new ≡ len → take len (new ++ drop (length new) old) ≡ new
+whole_guards len new old same = ap (λ n. take n (new ++ drop (length new) old)) (sym same) ∙ take-append_seam new (drop (length new) old)

@@ -30,6 +30,7 @@ pub mod Noting
 pub mod OneKit
 pub mod OneRing
 pub mod OneWorker
+pub mod OwnGuards
 pub mod OwnSpools
 pub mod Partition
 pub mod Performed
@@ -44,6 +45,7 @@ pub mod ScanExamples
 pub mod ScanSteps
 pub mod Sealed
 pub mod Seen
+pub mod SharedKeys
 pub mod SideEnds
 pub mod SideFollows
 pub mod SideKept

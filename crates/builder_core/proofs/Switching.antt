@@ -201,7 +201,7 @@ does_switch s Switch number verdicts new does =
 does_switch s Fence number verdicts new does = absurd (let bad = does.0 in cc)
 does_switch s Abandon number verdicts new does = absurd (let bad = does.0 in cc)
 
-switches : (s : CoreState) (event : Event) (number : ℕ) (verdicts : List Outcome) (new : CoreState) → Step s event (Switched number verdicts) new → Switched_in s event number verdicts new
+pub switches : (s : CoreState) (event : Event) (number : ℕ) (verdicts : List Outcome) (new : CoreState) → Step s event (Switched number verdicts) new → Switched_in s event number verdicts new
 switches s event number verdicts new (inl refused) = absurd (let bad : Switched number verdicts ≡ Refused refused.0 = refused.1 in cc)
 switches s event number verdicts new (inr done) = does_switch s event number verdicts new done.1
 

@@ -1,7 +1,7 @@
 -- What each event does and why it is refused; one step, and a run of events.
 use Rattle.std.specs.Prelude.{◌≡◌, ℕ, ◌+◌, ◌-◌, ◌<◌, ◌≤◌, Bool, true, false, ◌&&◌, ◌||◌, not, ◌==◌, nat_lt, nat_le, min, if◌then◌else◌, is_some, is_none, List, []}
 use Rattle.std.specs.Prelude.{◌∷◌, ◌++◌, ◌*◌, ◌⊎◌, length, map, replicate, get_or, set, Option, Some, None, Result, Ok, Err}
-use Rattle.std.specs.List.{list_any, list_all, range_with_len, slice_get}
+use Rattle.std.specs.List.{list_any, list_all, slice_get}
 use Rattle.std.specs.Option.{option_map}
 use Rattle.keybytes.specs.Faults.{first_cause}
 use Rattle.keybytes.specs.Keys.{KeySpecValue}
@@ -11,7 +11,6 @@ use Rattle.keybytes.specs.declared.fault.Fault.{Fault}
 use Rattle.keybytes.specs.declared.fault.Fault.TheVariants.{BuildRunning, NoBuild, BadCount, BadColumn, RangeDone, RingFull, NotScanned, NotSealed}
 use Rattle.keybytes.specs.declared.fault.Fault.TheVariants.{NotLoaded, Behind, Busy, SpoolNotEmpty, NoPage, Memory}
 use Rattle.heap_log.specs.declared.outcome.Outcome.{Outcome}
-use Rattle.heap_log.specs.declared.outcome.Outcome.TheVariants.{Ready}
 use Rattle.heap_log.specs.declared.record.LogRec.{LogRec}
 use Rattle.heap_table.specs.Calls.{Begins, Inserts, Updates, Deletes, Undoes, Commits}
 use Rattle.heap_table.specs.HeapState.{HeapState, begin_refusal, txn_refusal, insert_refusal, update_refusal, delete_refusal, undo_refusal, after_switch}

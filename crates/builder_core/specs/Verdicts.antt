@@ -1,6 +1,7 @@
 -- What a switch says of each index of its build.
 use Rattle.std.specs.Prelude.{ℕ, ◌+◌, if◌then◌else◌, List, [], ◌∷◌, filter}
-use Rattle.keybytes.specs.Keys.{KeySpecValue}
+use Rattle.std.specs.List.{AllZip}
+use Rattle.keybytes.specs.Keys.{KeySpecValue, IsKeyOf}
 use Rattle.heap_log.specs.declared.outcome.Outcome.{Outcome}
 use Rattle.heap_log.specs.declared.outcome.Outcome.TheVariants.{Ready, Shared as Refused}
 use Rattle.heap_log.specs.declared.record.LogRec.{LogRec}
@@ -31,3 +32,12 @@ next_number number verdict = if accepts verdict then number + 1 else number
 abbrev pub outcomes : ℕ → List Verdict → List Outcome
 outcomes number [] = []
 outcomes number (verdict ∷ verdicts) = outcome number verdict ∷ outcomes (next_number number verdict) verdicts
+
+-- the key that an index was refused for is one of its specification
+abbrev pub HasKeyOf : KeySpecValue → Outcome → Type 0
+HasKeyOf spec (Ready number) = Unit {0}
+HasKeyOf spec (Refused key first second) = IsKeyOf spec key
+
+-- so it is of each of the refused ones
+abbrev pub HaveSharedKeys : List KeySpecValue → List Outcome → Type 0
+HaveSharedKeys specs verdicts = AllZip HasKeyOf specs verdicts

@@ -3,6 +3,7 @@ ghost use Rattle.builder_core.specs.Steps.{OnBuild};
 ghost use Rattle.keybytes.specs.Faults.{RefusedFor};
 ghost use Rattle.heap_log.specs.Standing.{live_at};
 ghost use Rattle.heap_table.specs.HeapState.{after_visit, row_missing};
+ghost use Rattle.heap_table.specs.Kept.{RowsFit};
 ghost use Rattle.heap_table.specs.Pages.{pages_written};
 ghost use Rattle.heap_table.specs.TablePairs.{pairs_at_rest};
 ghost use Rattle.keybytes.specs.Pairs.{HaveKeysOf, AreInColumnOrder};
@@ -14,6 +15,7 @@ ghost use Rattle.builder_core.specs.SideFiles.{AreEntriesLeft, HaveEntryKeys, No
 ghost use Rattle.builder_core.specs.CoreState.{abandoned, after_visits, ReadyFollowTable};
 ghost use Rattle.builder_core.specs.KeyCauses.{KeysAreGuarded};
 
+use crate::guarding::guards_laws;
 use crate::live_sides::reset_all;
 use crate::rest::at_rest;
 use crate::table_scan::TableScan;
@@ -112,6 +114,16 @@ impl<T: Table> Live<T> {
         ensures build { IfSome self.now.state.build (λ b. BuildIsSound b self.now.state.heap.log) }
     {
         self.heap.laws();
+        guards_laws(self.guards.as_slice());
+        let _build = &self.build;
+    }
+
+    /// Does nothing: its clauses tell what holds of the rows and of the build that runs.
+    pub(crate) fn rows(&self)
+        ensures rows { RowsFit self.now.state.heap.schema self.now.state.heap.log }
+        ensures follows { BuildFollows self.now.state.heap.schema self.now.state.heap.log self.now.state.build }
+    {
+        self.heap.laws();
         let _build = &self.build;
     }
 
@@ -146,6 +158,16 @@ impl<T: Table> Live<T> {
     {
         self.build_with(index)?;
         Ok(self.sides[index].entries())
+    }
+
+    /// What makes the keys of each index that is being built; none where no build runs.
+    pub fn specs(&self) -> Option<&[KeySpec]>
+        ensures { MatchOption result (self.now.state.build ≡ None) (λ specs. OnBuild self.now.state.build (λ b. specs.now ≡ b.specs)) }
+    {
+        match &self.build {
+            Some(build) => Some(build.specs()),
+            None => None,
+        }
     }
 
     /// What makes the keys of an index that is being built. [`Fault::NoBuild`], [`Fault::BadCount`].

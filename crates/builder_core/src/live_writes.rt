@@ -84,7 +84,6 @@ impl<T: Table> Live<T> {
         ensures works { (building : BuildingValue) → WorksOn self.old building → WorksOn self.new building }
     {
         let ready = self.heap.ready_delete(txn, rid)?;
-        check_change(&self.ready, &self.guards, &self.heap, &ready)?;
         changes::write(
             &mut self.ready,
             &mut self.guards,
@@ -122,6 +121,7 @@ impl<T: Table> Live<T> {
         ensures committed { Answered (txn_refusal self.old.state.heap txn) (OnHeap (Commits txn)) self.old.state result self.new.state }
         ensures works { (building : BuildingValue) → WorksOn self.old building → WorksOn self.new building }
     {
+        self.heap.laws();
         let number = self.heap.commit(txn)?;
         tell_commit(&mut self.guards, txn);
         Ok(number)

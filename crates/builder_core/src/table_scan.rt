@@ -88,6 +88,13 @@ impl TableScan {
         self.specs.len()
     }
 
+    /// What makes the keys of each of them.
+    pub fn specs(&self) -> &[KeySpec]
+        ensures { result.now ≡ self.now.specs }
+    {
+        self.specs.as_slice()
+    }
+
     /// What makes the keys of one of them.
     pub fn spec(&self, index: usize) -> &KeySpec
         requires { index < length self.now.specs }
