@@ -2,17 +2,18 @@
 use Rattle.std.proofs.Common.{◌≡◌, ℕ, true, false, List, [], ◌∷◌, refl, sym, ap, ◌∙◌, subst, inl, inr}
 use Rattle.std.proofs.lemmas.Bool.{both_ways}
 use Rattle.keybytes.specs.declared.pair.Pair.{Pair}
-use Rattle.keybytes.specs.Pairs.{AreOrdered}
+use Rattle.keybytes.specs.Pairs.{set_of, AreOrdered}
 use Rattle.btree.proofs.Sets.{rises_of}
 use Rattle.tree_nodes.specs.Lists.{In, IsRising}
 use Rattle.tree_nodes.specs.Order.{is_before}
 use Rattle.tree_nodes.proofs.Strict.{before-strict, pair_same}
 use Rattle.tree_nodes.proofs.Places.{one_way}
-use Rattle.unique_verdict.specs.Shared.{shared_pairs}
-use Rattle.unique_verdict.specs.Verdicts.{IsUnique, IsLeast}
+use Rattle.unique_verdict.specs.Shared.{shared_pairs, shared_of}
+use Rattle.unique_verdict.specs.Verdicts.{IsUnique, IsLeast, IsVerdict, first_shared}
 use Rattle.unique_verdict.proofs.Members.{one_or_two, not_one, lt_not_one}
 use Rattle.unique_verdict.proofs.SharedFacts.{shared_rises, shared_there, shared_other, in_shared}
 use Rattle.unique_verdict.proofs.OneKey.{between_key}
+use Rattle.unique_verdict.proofs.TreeSets.{shared_now}
 
 pub unique_none : (ps now : List Pair) → now ≡ [] → now ≡ shared_pairs ps → IsUnique ps
 unique_none ps now e f = record {
@@ -95,3 +96,12 @@ least_two a b ps now rest more o f e d key k =
     let M : Pair → Type 0 = λ x. IsLeast ps a x in
     subst L (pair_same a (record { key = key; rid = a.rid }) (sym k) refl)
     (subst M (pair_same b (record { key = key; rid = b.rid }) (second_key a b ps more r shape ∙ sym k) refl) (least_of a b ps more r shape))
+
+right_at : (ps now : List Pair) → AreOrdered ps → now ≡ shared_pairs ps → IsVerdict ps (first_shared now)
+right_at ps [] o f = unique_none ps [] refl f
+right_at ps (only ∷ []) o f = absurd (never_one only ps (only ∷ []) [] refl refl f)
+right_at ps (first ∷ second ∷ rest) o f = least_two first second ps (first ∷ second ∷ rest) (second ∷ rest) rest o f refl refl first.key refl
+
+-- what the shared pairs tell is the verdict
+pub verdict_right : (ps : List Pair) → AreOrdered ps → IsVerdict ps (first_shared (shared_of (set_of ps)))
+verdict_right ps o = right_at ps (shared_of (set_of ps)) o (shared_now ps o)

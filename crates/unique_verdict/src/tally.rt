@@ -3,8 +3,8 @@ ghost use Rattle.keybytes.specs.Pairs.{set_of, with_pair, without_pair, AreOrder
 ghost use Rattle.keybytes.specs.declared.pair.Pair.{Pair};
 ghost use Rattle.btree.specs.TreeValue.{is_key};
 ghost use Rattle.unique_verdict.specs.Counting.{counted};
-ghost use Rattle.unique_verdict.specs.Shared.{shared_of};
-ghost use Rattle.unique_verdict.specs.Verdicts.{IsVerdict};
+ghost use Rattle.unique_verdict.specs.Shared.{shared_of, shared_pairs};
+ghost use Rattle.unique_verdict.specs.Verdicts.{IsVerdict, first_shared};
 
 use crate::Verdict;
 use crate::key_holders::KeyHolders;
@@ -48,6 +48,12 @@ impl Tally {
         Ok(Tally { shared })
     }
 
+    /// Does nothing: its clauses tell of any pairs in order that the first two shared ones are the verdict, and which pairs are shared.
+    pub fn laws(&self)
+        ensures right { (pairs : List Pair) → AreOrdered pairs → IsVerdict pairs (first_shared (shared_of (set_of pairs))) }
+        ensures listed { (pairs : List Pair) → AreOrdered pairs → shared_of (set_of pairs) ≡ shared_pairs pairs }
+    {}
+
     /// Keeps the tally of a tree into which the pair is put next. An `Err` changes nothing.
     pub fn added(&mut self, tree: &Tree, key: &Key, rid: Rid) -> Result<(), Fault>
         requires { self.old ≡ shared_of (set_of tree.now.pairs) }
@@ -60,7 +66,7 @@ impl Tally {
         if has_pair(tree, key, rid) {
             return Ok(());
         }
-        let Some(other) = holders_in(tree, key)?.least() else {
+        let Some(other) = tree.first_rid(key) else {
             return Ok(());
         };
         let there = has_pair(&self.shared, key, other);
@@ -98,6 +104,7 @@ impl Tally {
 
     /// Whether keys are unique in the tree whose tally it is.
     pub fn verdict(&self) -> Result<Verdict, Fault>
+        ensures told { IfOk result (λ verdict. verdict ≡ first_shared self.now) }
         ensures is { IfOk result (λ verdict. (pairs : List Pair) → AreOrdered pairs → self.now ≡ shared_of (set_of pairs) → IsVerdict pairs verdict) }
         ensures memory { IfErr result (λ fault. fault ≡ Fault.Memory) }
     {
