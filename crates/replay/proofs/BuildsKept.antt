@@ -97,7 +97,7 @@ on_catch_up old new on = caught old.live.build refl on where
   caught (Some b) is (fed, indexes, further, same) = record {
     build = ap (λ (s : CoreState). is_some s.live.build) same ∙ sym (ap is_some is);
     fence = λ none. absurd (none_runs b old.live.build is none);
-  work = λ none. absurd (none_runs b old.live.build is none);
+    work = λ none. absurd (none_runs b old.live.build is none);
     spools = ap (λ (s : CoreState). s.spools) same;
   }
 

@@ -126,11 +126,19 @@ pub fn build_specs<T: Table>(
     ensures ok { IfOk result (λ specs. IfSome core.now.live.build (λ b. specs.items ≡ b.specs)) }
     ensures memory { IfErr result (λ fault. fault ≡ Fault.Memory) }
 {
-    let mut copies = Vec::new(alloc);
-    if let Some(specs) = core.specs() {
-        for spec in specs {
-            copies.push(spec.clone()?)?;
-        }
+    match core.specs() {
+        Some(specs) => copied_specs(alloc, specs),
+        None => Ok(Vec::new(alloc)),
+    }
+}
+
+fn copied_specs(alloc: Global, specs: &[KeySpec]) -> Result<Vec<KeySpec>, Fault>
+    ensures same { IfOk result (λ copies. copies.items ≡ specs.now) }
+    ensures memory { IfErr result (λ fault. fault ≡ Fault.Memory) }
+{
+    let mut copies = Vec::with_capacity(alloc, specs.len())?;
+    for spec in specs {
+        copies.push_reserved(spec.clone()?);
     }
     Ok(copies)
 }
