@@ -118,7 +118,8 @@ impl Tree {
         Ok(rids)
     }
 
-    /// The least RID that has the key. Takes no memory.
+    /// The least RID that has the key. Takes no memory. Removals join no leaves, so several empty ones may stand in a row; each costs one more
+    /// way down the tree.
     pub fn first_rid(&self, key: &Key) -> Option<Rid>
         ensures { result ≡ slice_get (rids_of key.now self.now.pairs) 0 }
     {

@@ -1,3 +1,4 @@
+pub mod Counting
 pub mod Following
 pub mod Given
 pub mod GuardChanges
@@ -8,3 +9,5 @@ pub mod Refusals
 pub mod Rows
 pub mod Steps
 pub mod Tables
+pub mod TakenLists
+pub mod Undoing

@@ -102,6 +102,11 @@ guards_by spec log key n e =
     let took = and_parts had (not has) both.1 in
     record { uncommitted = not-true (committed log t) live.1; number = n; stands = live.0; had = took.0; took = not-true has took.1 }
 
+-- a write that took a key stands
+pub took_stands : (spec : KeySpecValue) (log : List LogRec) (key : List ℕ) (n : ℕ) → took_key spec log key n ≡ true → stands_of log (txn_of (record_at log n)) n ≡ true
+unfolding guards_by
+took_stands spec log key n e = (guards_by spec log key n e).stands
+
 pub took_by : (spec : KeySpecValue) (log : List LogRec) (txn : ℕ) (key : List ℕ) (g : GuardsKey spec log txn key) → (txn_of (record_at log g.number) ≡ txn) × (took_key spec log key g.number ≡ true)
 took_by spec log txn key g =
     let n : ℕ = g.number in

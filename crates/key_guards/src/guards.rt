@@ -1,4 +1,4 @@
-ghost use Rattle.std.specs.Prelude.{◌≡◌, ◌+◌, ◌<◌, ◌∷◌, ◌++◌, [], ℕ, List, Option, length, true, Some, None, IfSome, IfErr, OnOk, vec_len, vec_capacity};
+ghost use Rattle.std.specs.Prelude.{◌≡◌, ◌+◌, ◌∷◌, ◌++◌, ◌==◌, not, filter, position, IfOk, [], ℕ, List, Option, length, true, Some, IfSome, IfErr, OnOk};
 ghost use Rattle.keybytes.specs.Keys.{KeySpecValue};
 ghost use Rattle.keybytes.specs.declared.cell.Cell.{Cell};
 ghost use Rattle.heap_log.specs.declared.outcome.Outcome.{Outcome};
@@ -11,10 +11,11 @@ ghost use Rattle.heap_table.specs.Sound.{HoldsFollowLog};
 ghost use Rattle.heap_table.specs.TablePairs.{pairs_at_rest};
 ghost use Rattle.key_guards.specs.UniqueKeys.{HaveOwnKeys, KeysAreUnique, UniqueKeysAreGuarded};
 ghost use Rattle.key_guards.specs.KeyRefusals.{other_guard};
-ghost use Rattle.key_guards.specs.GuardLists.{key_taken, other_in, with_taken, without_number, without_txn};
+ghost use Rattle.key_guards.specs.GuardLists.{AreGuards, AreUndone, key_taken, other_in};
+ghost use Rattle.key_guards.specs.TxnGuards.{is_nil};
 ghost use Rattle.key_guards.specs.Guarded.{HasRoomFor, IsGuarded, IsLetIn};
 
-use crate::Guard;
+use crate::txn_guards::TxnGuards;
 use keybytes::{Fault, Key, Rid};
 use std::alloc::Global;
 use std::marker::Model;
@@ -23,50 +24,70 @@ use std::marker::Model;
 /// for that is its own.
 #[derive(Drop)]
 pub struct Guards {
-    guards: Vec<Guard>,
+    txns: Vec<TxnGuards>,
 }
 
 impl Model for Guards {
-    ghost use Rattle.std.specs.Prelude.{◌-◌, vec_len, vec_capacity};
     ghost use Rattle.key_guards.specs.Guarded.{GuardsValue};
 
     ghost Value = { GuardsValue };
 
-    ghost view = { λ g. record { guards = g.guards.items; room = vec_capacity g.guards - vec_len g.guards } };
+    ghost view = { λ g. record { txns = g.txns.items } };
 }
 
-/// The transaction other than that one that guards the key, if there is one.
-fn other_guard(guards: &[Guard], txn: u64, key: &Key) -> Option<u64>
-    ensures { result ≡ other_in guards.now txn key.now }
+/// Where the transaction's keys are.
+fn place(txns: &Vec<TxnGuards>, txn: u64) -> Option<usize>
+    ensures { result ≡ position (λ t. t.txn == txn) txns.now.items }
 {
-    guards
-        .iter()
-        .find(|g| !(g.txn == txn) && g.key == *key)
-        .map(|g| g.txn)
+    txns.iter().position(|t| t.txn() == txn)
 }
 
-/// Adds what a write took, if anything.
-fn add_taken(guards: &mut Vec<Guard>, number: usize, txn: u64, taken: Option<Key>)
-    requires { IfSome taken (λ key. vec_len guards.old < vec_capacity guards.old) }
-    ensures { guards.new.items ≡ with_taken guards.old.items number txn taken }
+/// The same with a place that is new where there is none, after transactions without keys are forgotten.
+fn place_or_new(txns: &mut Vec<TxnGuards>, txn: u64) -> Result<usize, Fault>
+    ensures at { IfOk result (λ at. position (λ t. t.txn == txn) txns.new.items ≡ Some at) }
+    ensures memory { IfErr result (λ fault. fault ≡ Fault.Memory) }
+    ensures kept { (spec : KeySpecValue) (log : List LogRec) → AreGuards spec log txns.old.items → AreGuards spec log txns.new.items }
 {
-    if let Some(key) = taken {
-        guards.push_reserved(Guard { number, txn, key });
+    if let Some(at) = place(txns, txn) {
+        return Ok(at);
+    }
+    forget_empty(txns);
+    txns.reserve(1)?;
+    let alloc = *txns.allocator();
+    txns.push_reserved(TxnGuards::new(alloc, txn));
+    Ok(txns.len() - 1)
+}
+
+/// Forgets transactions without keys.
+fn forget_empty(txns: &mut Vec<TxnGuards>)
+    ensures { txns.new.items ≡ filter (λ t. not (is_nil t.taken)) txns.old.items }
+{
+    txns.retain(|t| !t.is_empty());
+}
+
+/// Forgets a transaction.
+fn forget_txn(txns: &mut Vec<TxnGuards>, txn: u64)
+    ensures { txns.new.items ≡ filter (λ t. not (t.txn == txn)) txns.old.items }
+{
+    txns.retain(|t| !(t.txn() == txn));
+}
+
+/// Forgets what the write of that number took, where it is a transaction's newest one there.
+fn undo_each(txns: &mut Vec<TxnGuards>, number: usize)
+    ensures { AreUndone number txns.old.items txns.new.items }
+{
+    for i in 0..txns.len() {
+        txns[i].undo(number);
     }
 }
 
-/// Forgets what that write took.
-fn forget_number(guards: &mut Vec<Guard>, number: usize)
-    ensures { guards.new.items ≡ without_number number guards.old.items }
+/// The transaction other than that one that took the key, if there is one.
+fn other_txn(txns: &Vec<TxnGuards>, txn: u64, key: &Key) -> Option<u64>
+    ensures { result ≡ other_in txns.now.items txn key.now }
 {
-    guards.retain(|g| !(g.number == number));
-}
-
-/// Forgets what that transaction took.
-fn forget_txn(guards: &mut Vec<Guard>, txn: u64)
-    ensures { guards.new.items ≡ without_txn txn guards.old.items }
-{
-    guards.retain(|g| !(g.txn == txn));
+    txns.iter()
+        .find(|t| !(t.txn() == txn) && t.has(key))
+        .map(|t| t.txn())
 }
 
 impl Guards {
@@ -78,7 +99,7 @@ impl Guards {
             → IsGuarded spec s.log result }
     {
         Guards {
-            guards: Vec::new(alloc),
+            txns: Vec::new(alloc),
         }
     }
 
@@ -87,24 +108,23 @@ impl Guards {
         ensures switched { (spec : KeySpecValue) (log : List LogRec) (verdicts : List Outcome) → UndoesNameEarlier log
             → IsGuarded spec log self.now → IsGuarded spec (log ++ Switch verdicts ∷ []) self.now }
         ensures guarded { (spec : KeySpecValue) (s : HeapState) → HoldsFollowLog s → IsGuarded spec s.log self.now → UniqueKeysAreGuarded spec s.log }
-    {
-    }
+    {}
 
     /// The transaction other than that one that guards the key, if there is one.
     pub fn other(&self, txn: u64, key: &Key) -> Option<u64>
         ensures { (spec : KeySpecValue) (s : HeapState) → HoldsFollowLog s → IsGuarded spec s.log self.now → result ≡ other_guard spec s.log txn key.now }
     {
-        other_guard(self.guards.as_slice(), txn, key)
+        other_txn(&self.txns, txn, key)
     }
 
-    /// Takes the memory to guard the key for the transaction.
+    /// Takes the memory to guard the key for the transaction. What no write uses stays until the transaction is forgotten.
     pub fn make_room(&mut self, txn: u64, key: &Key) -> Result<(), Fault>
         ensures room { OnOk result (HasRoomFor self.new txn key.now) }
         ensures memory { IfErr result (λ fault. fault ≡ Fault.Memory) }
         ensures kept { (spec : KeySpecValue) (log : List LogRec) → IsGuarded spec log self.old → IsGuarded spec log self.new }
     {
-        self.guards.reserve(1)?;
-        Ok(())
+        let at = place_or_new(&mut self.txns, txn)?;
+        self.txns[at].make_room(key)
     }
 
     /// Tells of a write of that number, which was performed, and of the key that it took from its row, if any.
@@ -114,7 +134,12 @@ impl Guards {
             → number ≡ length s.log + 1 → taken ≡ key_taken spec (live_at s.log rid) row → IsGuarded spec s.log self.old
             → IsGuarded spec (s.log ++ Write txn rid row ∷ []) self.new }
     {
-        add_taken(&mut self.guards, number, txn, taken);
+        let Some(key) = taken else {
+            return;
+        };
+        if let Some(at) = place(&self.txns, txn) {
+            self.txns[at].push(number, key);
+        }
     }
 
     /// Tells that the transaction's newest standing write, which is of that number, was undone.
@@ -122,7 +147,7 @@ impl Guards {
         ensures { (spec : KeySpecValue) (s : HeapState) → HoldsFollowLog s → UndoesNameEarlier s.log → is_open s.active txn ≡ true
             → newest_standing s.log txn ≡ Some number → IsGuarded spec s.log self.old → IsGuarded spec (s.log ++ Undo txn number ∷ []) self.new }
     {
-        forget_number(&mut self.guards, number);
+        undo_each(&mut self.txns, number);
     }
 
     /// Tells that the transaction committed: its keys are free from then on.
@@ -130,6 +155,6 @@ impl Guards {
         ensures { (spec : KeySpecValue) (log : List LogRec) → UndoesNameEarlier log → IsGuarded spec log self.old
             → IsGuarded spec (log ++ Commit txn ∷ []) self.new }
     {
-        forget_txn(&mut self.guards, txn);
+        forget_txn(&mut self.txns, txn);
     }
 }

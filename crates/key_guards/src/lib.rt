@@ -4,10 +4,15 @@
 //! undo would bring it back, and two rows would have it. The transaction guards the key until it commits or undoes that write.
 //! [`Guards`] keeps the keys so guarded of one index. Its owner asks it before each write for the other transaction that guards the new
 //! key, and tells it of each write, undo and commit.
+//!
+//! The keys stand by transaction, in the order of the writes, beside a map with how often each is taken. So a look-up goes down one
+//! map for each transaction that guards keys, an undo looks at the last key of each, and a commit drops the transaction's own.
 #![tactic(auto)]
 
-mod guard;
 mod guards;
+mod key_counts;
+mod taken;
+mod txn_guards;
 
-pub use guard::Guard;
 pub use guards::Guards;
+pub use taken::Taken;

@@ -60,7 +60,7 @@ impl Tally {
         if has_pair(tree, key, rid) {
             return Ok(());
         }
-        let Some(other) = holders_in(tree, key)?.least() else {
+        let Some(other) = tree.first_rid(key) else {
             return Ok(());
         };
         let there = has_pair(&self.shared, key, other);

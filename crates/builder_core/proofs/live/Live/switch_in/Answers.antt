@@ -5,6 +5,7 @@ use Rattle.std.proofs.lemmas.List.Elements.{All-filter}
 use Rattle.std.proofs.lemmas.Option.{same_Some}
 use Rattle.keybytes.specs.Keys.{KeySpecValue}
 use Rattle.heap_log.specs.declared.outcome.Outcome.{Outcome}
+use Rattle.heap_log.specs.declared.record.LogRec.{LogRec}
 use Rattle.heap_table.specs.HeapState.{HeapState, after_switch, after_fence}
 use Rattle.heap_table.specs.Pages.{KeepsRows}
 use Rattle.key_guards.specs.Guarded.{GuardsValue}
@@ -42,8 +43,8 @@ make_ready-requires-clause-indexes g c =
     let rows : RowsFit live.state.heap.schema live.state.heap.log =
     subst (λ (l : LiveValue). RowsFit l.state.heap.schema l.state.heap.log) c.self.view_is c.laws.ensures.rows in
     let done = all_done live building b w run may c.in_ok-catch_up.ensures.all rows in
-    subst (λ (specs : List KeySpecValue). AllZip IsDoneIndex specs c.into_indexes.result.items) c.into_specs.ensures
-    (subst (λ (is : List IndexValue). AllZip IsDoneIndex b.specs is) c.into_indexes.ensures done)
+    subst (λ (specs : List KeySpecValue). AllZip IsDoneIndex specs c.into_indexes-indexes.result.items) c.into_specs-specs.ensures
+    (subst (λ (is : List IndexValue). AllZip IsDoneIndex b.specs is) c.into_indexes-indexes.ensures done)
 
 pub invariant_of-self-2 : goal.invariant_of-self-2
 invariant_of-self-2 g c =
@@ -59,8 +60,8 @@ invariant_of-self-2 g c =
     (may_catch_up c.args.self.now c.args.building.now c.requires c.in_ok-check_switch.ensures) in
     let free = no_busy_cause (core_state c.args.self.now c.args.building.now) (core_state live building) c.in_ok-check_switch.ensures c.catch_up.ensures.further in
     let log = heap.log in
-    let is : ready_of c.into_specs.result.items c.into_indexes.result.items ≡ map (index_now log) (accepted log b.specs) =
-    sym (ap₂ ready_of c.into_specs.ensures c.into_indexes.ensures)
+    let is : ready_of c.into_specs-specs.result.items c.into_indexes-indexes.result.items ≡ map (index_now log) (accepted log b.specs) =
+    sym (ap₂ ready_of c.into_specs-specs.ensures c.into_indexes-indexes.ensures)
     ∙ all_ready live building b w run may c.in_ok-catch_up.ensures.all
     ∙ ap (λ (l : LiveValue). map (index_now l.state.heap.log) (accepted l.state.heap.log b.specs)) (sym c.self.view_is) in
     let items = c.make_ready.ensures.ready ∙ ap₂ (λ (xs ys : List ReadyValue). xs ++ ys) c.in_ok-noted.ensures.ready is in
@@ -71,14 +72,18 @@ invariant_of-self-2 g c =
     let columns : All (λ spec. spec.kinds ≡ heap.schema) b.specs =
     subst (λ (l : LiveValue). All (λ spec. spec.kinds ≡ l.state.heap.schema) b.specs) (sym c.self.view_is) run.follows.columns in
     let kinds = All-filter (λ spec. accepts (verdict_on log spec)) (λ spec. spec.kinds ≡ heap.schema) b.specs columns in
-    let free_for : All (λ index. MayBeGuarded heap index.spec) (ready_of c.into_specs.result.items c.into_indexes.result.items) =
-    subst (λ (ready : List ReadyValue). All (λ index. MayBeGuarded heap index.spec) ready) (ap₂ ready_of c.into_specs.ensures c.into_indexes.ensures)
+    let free_for : All (λ index. MayBeGuarded heap index.spec) (ready_of c.into_specs-specs.result.items c.into_indexes-indexes.result.items) =
+    subst (λ (ready : List ReadyValue). All (λ index. MayBeGuarded heap index.spec) ready) (ap₂ ready_of c.into_specs-specs.ensures c.into_indexes-indexes.ensures)
     (subst (λ (l : LiveValue). All (λ index. MayBeGuarded l.state.heap index.spec) (ready_of b.specs w.indexes)) (sym c.self.view_is)
     (all_may live building b w run may c.in_ok-catch_up.ensures.all free)) in
     let before = subst (λ (ready : List ReadyValue). AreGuarded log ready c.note_ready.new.guards.items) (sym c.in_ok-noted.ensures.ready)
     (subst (λ (guards : List GuardsValue). AreGuarded log c.self.inside.ready.items guards) (sym c.in_ok-noted.ensures.guards) c.self.invariant.6) in
     let guarded : AreGuarded log c.make_ready.new.ready.items c.make_ready.new.guards.items =
-    c.make_ready.ensures.guards heap c.laws.ensures.holds free_for before in (
+    c.make_ready.ensures.guards heap c.laws.ensures.holds free_for before in
+    let ready : List ReadyValue = c.make_ready.new.ready.items in
+    let verdicts : List Outcome = outcomes (length c.self.inside.ready.items) (map its_verdict c.indexes.result.now) in
+    let noted = c.guards_laws.ensures.switched log ready verdicts c.laws.ensures.undos
+    (subst (λ (guards : List GuardsValue). AreGuarded log ready guards) (sym c.deref.ensures.value) guarded) in (
       subst (AreIndexesOf left.schema left.log) (sym items)
           (indexes_more heap.schema left.schema log left.log c.self.inside.ready.items (accepted log b.specs) same rows c.self.invariant.0 kinds),
       rw c.take.ensures.after tt,
@@ -86,7 +91,8 @@ invariant_of-self-2 g c =
       rw c.take.ensures.after tt,
       c.self.invariant.4,
       c.self.invariant.5,
-      ?,
+      subst (λ (guards : List GuardsValue). AreGuarded left.log ready guards) c.deref.ensures.value
+          (subst (λ (l : List LogRec). AreGuarded l ready c.deref.result.now) (sym (ap (λ (h : HeapState). h.log) left_is)) noted),
     )
 
 pub returns-clause-switched : goal.returns-clause-switched
@@ -101,7 +107,9 @@ returns-clause-switched g c =
     let may = may_after (core_state c.args.self.now c.args.building.now) (core_state live building) c.catch_up.ensures.further
     (may_catch_up c.args.self.now c.args.building.now c.requires c.in_ok-check_switch.ensures) in
     let beside = c.building.inside in
-    let indexes : c.indexes.result.now ≡ w.indexes = ? in
+    let worked : c.in-Some.work.now ≡ w =
+    same_Some c.in-Some.work.now w (sym c.in-Some.ensures ∙ run.work_is) in
+    let indexes : c.indexes.result.now ≡ w.indexes = c.indexes.ensures ∙ ap (λ (x : WorkValue). x.indexes) worked in
     let verdicts_are : outcomes (length c.self.inside.ready.items) (map its_verdict c.indexes.result.now) ≡ verdicts_on live.state b =
     ap₂ (λ (n : ℕ) (is : List IndexValue). outcomes n (map its_verdict is)) (ap (λ (l : LiveValue). length l.state.ready) c.self.view_is) indexes
     ∙ all_verdicts live building b w run may c.in_ok-catch_up.ensures.all in
@@ -112,7 +120,7 @@ returns-clause-switched g c =
     ∙ ap (λ (l : LiveValue). after_switch l.state.heap (verdicts_on live.state b)) c.self.view_is) in
     let grown = c.make_ready.ensures.ready
     ∙ ap₂ (λ (xs ys : List ReadyValue). xs ++ ys) (c.in_ok-noted.ensures.ready ∙ ap (λ (l : LiveValue). l.state.ready) c.self.view_is)
-    (sym (ap₂ ready_of c.into_specs.ensures c.into_indexes.ensures)) in
+    (sym (ap₂ ready_of c.into_specs-specs.ensures c.into_indexes-indexes.ensures)) in
     let seen : BuildingValue = record {
       workers = beside.workers.items;
       sides = map take_end beside.side_ends.items;

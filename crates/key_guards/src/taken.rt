@@ -1,10 +1,9 @@
 use keybytes::Key;
 
 /// A key that a standing write took from its RID, and that an undo would bring back.
-#[derive(Debug, Drop)]
-pub struct Guard {
+#[derive(Drop)]
+pub struct Taken {
     /// The number of the write.
     pub number: usize,
-    pub txn: u64,
     pub key: Key,
 }
