@@ -27,7 +27,7 @@ returns-in_err-lines g c =
     let told = err_from_is_err_and c.from_residual-in_err-lines.result c.from_residual-in_err-lines.ensures.1 in
     let accepted = ap (λ (s : CoreState). key_columns_refusal s.live.heap.schema c.args.spec.columns.items) (sym c.core.ensures) ∙ c.in_ok-spec.ensures.accepted in
     rw (told.1) (record {
-      core = (c.rest.ensures.rows, inr (told.0, (refl, inr (accepted, told.2 ∙ c.in_err-lines.ensures.memory))));
+      core = (c.rest.ensures.rows, inr (told.0, refl, inr (accepted, told.2 ∙ c.in_err-lines.ensures.memory)));
       labels = refl;
       status = refl;
     })
