@@ -1,10 +1,10 @@
 -- The pairs of one key, and those of the keys in a range, among pairs that rise.
-use Rattle.std.proofs.Common.{◌≡◌, ℕ, Bool, true, false, List, [], ◌∷◌, map, refl, sym, ap, ◌∙◌, subst, inl, inr}
-use Rattle.std.specs.Prelude.{not, ◌&&◌, if◌then◌else◌}
-use Rattle.std.specs.List.{filter, take_while}
+use Rattle.std.proofs.Common.{◌≡◌, ℕ, Bool, true, false, List, [], ◌∷◌, map, None, Some, refl, sym, ap, ◌∙◌, subst, inl, inr}
+use Rattle.std.specs.Prelude.{not, ◌==◌, ◌&&◌, if◌then◌else◌}
+use Rattle.std.specs.List.{filter, take_while, slice_get}
 use Rattle.std.specs.declared.cmp.Ordering.{Ordering}
 use Rattle.std.specs.declared.cmp.Ordering.TheVariants.{Less, Equal, Greater}
-use Rattle.std.specs.Ordering.{nat_cmp, is_lt, is_eq, ordering_then, ordering_reverse}
+use Rattle.std.specs.Ordering.{nat_cmp, is_lt, is_eq, ordering_then, ordering_reverse, ordering_index}
 use Rattle.std.specs.Cmp.Lexicographic.{slice_cmp, nat_list_cmp_total}
 use Rattle.std.specs.FinMap.{slice_cmp-IsAntisymmetric, nat_cmp-IsAntisymmetric}
 use Rattle.std.proofs.lemmas.Bool.{cases_Bool, both_ways, false≢true, true≢false}
@@ -113,6 +113,36 @@ leading_is key (p ∷ ps) r = elim (cases_Bool (is_before p (first_of key))) [
   | inl e ↦ rw (e, less_apart (slice_cmp nat_cmp p.key key) (sym (before_first p key) ∙ e)) (leading_is key ps r.1)
   | inr e ↦ rw e (leading_rest key (p ∷ ps) r (from_key key p ps r e))
 ]
+
+-- what a comparison tells of the key
+pub key_other : (o : Ordering) → not (ordering_index o == 1) ≡ true → is_eq o ≡ false
+key_other Less e = refl
+key_other Equal e = absurd (false≢true e)
+key_other Greater e = refl
+
+pub key_same : (o : Ordering) → not (ordering_index o == 1) ≡ false → is_eq o ≡ true
+key_same Less e = absurd (true≢false e)
+key_same Equal e = refl
+key_same Greater e = absurd (true≢false e)
+
+-- the least of them: the first pair from the least of the key on has it, if the key has one
+pub least_none :
+    (key : List ℕ) (ps left : List Pair) → IsRising is_before ps → left ≡ from (first_of key) ps → left ≡ [] → None ≡ slice_get (rids_of key ps) 0
+least_none key ps left r is empty = ap (λ rids. slice_get rids 0) (ap (leading key) (sym empty ∙ is) ∙ leading_is key ps r)
+
+pub least_other :
+    (key : List ℕ) (p : Pair) (ps left rest : List Pair) → IsRising is_before ps → left ≡ from (first_of key) ps → left ≡ p ∷ rest → is_key key p ≡ false
+    → None ≡ slice_get (rids_of key ps) 0
+least_other key p ps left rest r is first other =
+    let none : leading key (p ∷ rest) ≡ [] = rw other refl in
+    ap (λ rids. slice_get rids 0) (sym none ∙ (ap (leading key) (sym first ∙ is) ∙ leading_is key ps r))
+
+pub least_there :
+    (key : List ℕ) (p : Pair) (ps left rest : List Pair) → IsRising is_before ps → left ≡ from (first_of key) ps → left ≡ p ∷ rest → is_key key p ≡ true
+    → Some p.rid ≡ slice_get (rids_of key ps) 0
+least_there key p ps left rest r is first same =
+    let there : leading key (p ∷ rest) ≡ p.rid ∷ leading key rest = rw same refl in
+    ap (λ rids. slice_get rids 0) (sym there ∙ (ap (leading key) (sym first ∙ is) ∙ leading_is key ps r))
 
 between_rest : (lo hi : List ℕ) (ps : List Pair) → IsRising is_before ps → ((p : Pair) → In p ps → is_less p.key lo ≡ false)
     → take_while (λ p. is_less p.key hi) ps ≡ pairs_between lo hi ps

@@ -1,5 +1,6 @@
 ghost use Rattle.std.specs.Prelude.{◌≡◌, true, [], length, map, IfOk, IfErr, OnOk, Some, if◌then◌else◌};
 ghost use Rattle.std.specs.FinMap.{contains_key};
+ghost use Rattle.std.specs.List.{slice_get};
 ghost use Rattle.keybytes.specs.Pairs.{set_of, with_pair, without_pair, AreOrdered};
 ghost use Rattle.tree_nodes.specs.Lists.{IsRising};
 ghost use Rattle.tree_nodes.specs.Order.{PairsRise};
@@ -115,6 +116,19 @@ impl Tree {
             rids.push(pair.rid)?;
         }
         Ok(rids)
+    }
+
+    /// The least RID that has the key. Takes no memory. Removals join no leaves, so several empty ones may stand in a row; each costs one more
+    /// way down the tree.
+    pub fn first_rid(&self, key: &Key) -> Option<Rid>
+        ensures { result ≡ slice_get (rids_of key.now self.now.pairs) 0 }
+    {
+        let mut pairs = self.from(key);
+        let pair = pairs.next()?;
+        if pair.key.cmp(key) != Ordering::Equal {
+            return None;
+        }
+        Some(pair.rid)
     }
 
     /// The pairs whose key isn't less than `lo`, and less than `hi`, in order. Of all that, `hi` alone is copied.

@@ -29,6 +29,8 @@ pub enum Ask {
     Update(u64, i64),
     /// The row at 0.0 goes.
     Delete(u64),
+    /// That row goes.
+    DeleteAt(u64, Rid),
     Undo(u64),
     Commit(u64),
     /// A build of one index starts, over ranges that end there.
@@ -39,6 +41,8 @@ pub enum Ask {
     StartBy(usize, usize),
     /// A build of so many indexes on the one column starts, by so many workers, over one range.
     StartOf(usize, usize),
+    /// A build of indexes on the one column starts, of which these are unique, by one worker over one range.
+    StartUnique(&'static [bool]),
     /// The next page of the first range.
     Scan,
     /// The next page of that range.
@@ -56,6 +60,7 @@ pub enum Ask {
     /// So many entries of that index at most.
     Feed(usize, usize),
     Apply(usize, usize),
+    Fence,
     Switch,
     Abandon,
 }
@@ -66,6 +71,7 @@ pub fn spools_of(ask: Ask) -> Option<usize> {
         Ask::Start(_) | Ask::StartEven(_) => Some(1),
         Ask::StartBy(workers, _) => Some(workers),
         Ask::StartOf(indexes, workers) => Some(workers.saturating_mul(indexes)),
+        Ask::StartUnique(are_unique) => Some(are_unique.len()),
         _ => None,
     }
 }
@@ -75,6 +81,18 @@ fn start(alloc: Global, indexes: usize, workers: usize, dealing: Dealing) -> Res
     for _ in 0..indexes {
         specs.push(spec(alloc)?)?;
     }
+    Ok(start_with(specs, workers, dealing))
+}
+
+fn start_unique(alloc: Global, are_unique: &[bool]) -> Result<Event, Fault> {
+    let mut specs = Vec::with_capacity(alloc, are_unique.len())?;
+    for unique in are_unique {
+        specs.push(KeySpec::new(alloc, &schema(alloc)?, vec![in alloc; 0]?, *unique)?)?;
+    }
+    Ok(start_with(specs, 1, Dealing::Even(1)))
+}
+
+fn start_with(specs: Vec<KeySpec>, workers: usize, dealing: Dealing) -> Event {
     let plan = Plan {
         specs,
         workers,
@@ -82,7 +100,7 @@ fn start(alloc: Global, indexes: usize, workers: usize, dealing: Dealing) -> Res
         tries: 3,
         keep_pairs: false,
     };
-    Ok(Event::Start { plan })
+    Event::Start { plan }
 }
 
 fn scan(range: usize, worker: usize) -> Event {
@@ -103,6 +121,7 @@ fn change(alloc: Global, ask: Ask) -> Result<Event, Fault> {
             row: number_row(alloc, number)?,
         }),
         Ask::Delete(txn) => Ok(Event::Delete { txn, rid }),
+        Ask::DeleteAt(txn, rid) => Ok(Event::Delete { txn, rid }),
         _ => Err(Fault::BadCount),
     }
 }
@@ -116,6 +135,7 @@ pub fn event(alloc: Global, ask: Ask) -> Result<Event, Fault> {
         Ask::StartEven(ranges) => start(alloc, 1, 1, Dealing::Even(ranges)),
         Ask::StartBy(workers, ranges) => start(alloc, 1, workers, Dealing::Even(ranges)),
         Ask::StartOf(indexes, workers) => start(alloc, indexes, workers, Dealing::Even(1)),
+        Ask::StartUnique(are_unique) => start_unique(alloc, are_unique),
         Ask::Scan => Ok(scan(0, 0)),
         Ask::ScanIn(range) => Ok(scan(range, 0)),
         Ask::ScanFor(range, worker) => Ok(scan(range, worker)),
@@ -126,6 +146,7 @@ pub fn event(alloc: Global, ask: Ask) -> Result<Event, Fault> {
         Ask::LoadOf(index) => Ok(Event::Load { index }),
         Ask::Feed(index, most) => Ok(Event::Feed { index, most }),
         Ask::Apply(index, most) => Ok(Event::Apply { index, most }),
+        Ask::Fence => Ok(Event::Fence),
         Ask::Switch => Ok(Event::Switch),
         Ask::Abandon => Ok(Event::Abandon),
         _ => change(alloc, ask),
@@ -145,7 +166,7 @@ pub fn numbers_in(reply: &Reply) -> Result<(usize, usize), Fault> {
         Reply::Loaded { pairs } => Ok((*pairs, 0)),
         Reply::Fed { entries } | Reply::Applied { entries } => Ok((*entries, 0)),
         Reply::Switched { number, .. } => Ok((*number, 0)),
-        Reply::Abandoned => Ok((0, 0)),
+        Reply::FenceSet | Reply::Abandoned => Ok((0, 0)),
         Reply::Refused { fault } => Err(*fault),
     }
 }

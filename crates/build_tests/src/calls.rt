@@ -2,14 +2,15 @@
 ghost use Rattle.std.specs.Prelude.{◌≡◌, map};
 ghost use Rattle.build_tests.specs.Owing.{IsOwed};
 
-use crate::asks::{Ask, answer, schema, spec, spools_of};
+use crate::asks::{Ask, answer, numbers_in, schema, spec, spools_of};
 use crate::entries::{are_entries, has_entries, has_pairs};
 use crate::kept::Kept;
 use crate::kind::Kind;
 use crate::pools::{QUOTA, new_pool};
 use crate::quota::Quota;
 use crate::stand::Stand;
-use builder_core::{Parts, Table};
+use crate::verdicts::{Became, are_told};
+use builder_core::{Event, Parts, Reply, Table};
 use heap_table::Heap;
 use keybytes::{Cell, Fault, Rid};
 use run_spool::{PlainSpool, Spool};
@@ -29,6 +30,8 @@ pub enum Call {
     /// To that index at most so many entries are applied, and so many are where memory doesn't run out. Where it does, the rest of
     /// them is when it is asked once more.
     Applies(usize, usize, usize),
+    /// The switch is answered with that number, and with these verdicts.
+    Switches(usize, &'static [Became]),
     /// So many pages of the first range are copied, each taken by worker 0 before the next.
     Pages(usize),
     Get(Rid, Result<Option<i64>, Fault>),
@@ -123,6 +126,28 @@ fn applies<S: Spool, T: Table>(
     }
 }
 
+/// A switch that is refused for want of memory is asked for once more.
+fn switches<S: Spool, T: Table>(
+    stand: &mut Stand<S, T>,
+    number: usize,
+    became: &[Became],
+) -> Result<bool, Fault> {
+    let mut reply = stand.step(Event::Switch);
+    if numbers_in(&reply) == Err(Fault::Memory) {
+        reply = stand.step(Event::Switch);
+    }
+    match &reply {
+        Reply::Switched {
+            number: told,
+            verdicts,
+        } => Ok(*told == number && are_told(verdicts.as_slice(), became)),
+        Reply::Refused {
+            fault: Fault::Memory,
+        } => Err(Fault::Memory),
+        _ => Ok(false),
+    }
+}
+
 /// Whether so many indexes are ready, each with the pairs of the table as it is now.
 fn follow<S: Spool, T: Table>(
     stand: &mut Stand<S, T>,
@@ -204,6 +229,7 @@ fn is_answered<S: Spool, T: Table, K: Kind<S>>(
         Call::Begins(count) => begins(stand, alloc, *count),
         Call::Rows(count) => inserts(stand, alloc, *count),
         Call::Applies(index, most, count) => applies(stand, alloc, *index, *most, *count),
+        Call::Switches(number, became) => switches(stand, *number, became),
         Call::Pages(count) => copies(stand, alloc, *count),
         Call::Get(rid, answer) => Ok(number_at(stand, *rid) == *answer),
         Call::Rest(answer) => {

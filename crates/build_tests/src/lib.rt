@@ -40,4 +40,8 @@ mod spools;
 #[cfg(test)]
 mod stand;
 #[cfg(test)]
+mod uniques;
+#[cfg(test)]
+mod verdicts;
+#[cfg(test)]
 mod workers;

@@ -1,5 +1,5 @@
 -- Entries that are taken from the side-file's ring and applied to the index, one after another.
-use Rattle.std.proofs.Common.{◌≡◌, ℕ, ◌+◌, ◌<◌, ◌≤◌, ◌^◌, true, List, [], ◌∷◌, ◌++◌, length, map, get_or, take, drop, set, set-set, append_assoc, Option, Some, None, refl, sym, ap, ap₂, ◌∙◌, subst, arith}
+use Rattle.std.proofs.Common.{◌≡◌, ℕ, ◌+◌, ◌<◌, ◌≤◌, ◌^◌, true, List, [], ◌∷◌, ◌++◌, length, map, get_or, take, drop, set, set-set, append_assoc, Option, Some, None, refl, sym, ap, ap₂, ◌∙◌, subst, arith, Bool}
 use Rattle.std.proofs.Common.{length-append, length-drop, take-add, drop-drop}
 use Rattle.std.proofs.lemmas.List.{append-nil, take-append-le, drop-append-le}
 use Rattle.std.proofs.lemmas.Option.{same_Some}
@@ -14,7 +14,7 @@ use Rattle.catch_up.specs.Applying.{Applied, Taken}
 use Rattle.catch_up.specs.Built.{BuiltValue, told_to}
 use Rattle.catch_up.proofs.Telling.{told_to-append}
 use Rattle.building.specs.TakeEnd.{TakeEnd, take_end}
-use Rattle.builder_core.specs.Builds.{BuildingValue, WorkValue, IndexValue, with_index}
+use Rattle.builder_core.specs.Builds.{BuildingValue, WorkValue, IndexValue, with_index, with_pairs}
 use Rattle.keybytes.specs.declared.pair.Pair.{Pair}
 use Rattle.std.specs.List.{slice_get}
 use Rattle.std.proofs.lemmas.List.{length-map, map-set}
@@ -44,8 +44,8 @@ one_taken (x ∷ []) known new more same few seen empty = refl
 one_taken (x ∷ y ∷ entries) known new more same few seen empty = absurd (omega (arith, few))
 
 -- the index of a build with other pairs, and other entries applied
-abbrev index_with : WorkValue → List Pair → ℕ → IndexValue
-index_with work pairs applied = record { built = Some (record { build = work.build; pairs = pairs }); applied = applied }
+abbrev index_with : WorkValue → ℕ → List Pair → ℕ → IndexValue
+index_with work index pairs applied = record { built = Some (with_pairs work index pairs); applied = applied }
 
 -- so many entries were applied
 pub has_applied :
@@ -73,12 +73,13 @@ has_applied index old new taking ring ring_new entries count after side taken ap
       more = prefix.0;
       known = first.1 ∙ ap (λ n. drop n (take_end ring).known ++ prefix.0) (sym many)
           ∙ ap (λ (e : TakeEnd Entry). drop count e.known ++ prefix.0) (sym side);
-      left = is ∙ ap (λ (n : ℕ). record old {
+      left = is ∙ ap₂ (λ (n : ℕ) (tallied : Bool). record old {
         sides = set old.sides index (take_end ring_new);
         work = Some (record taking.work {
-          indexes = set taking.work.indexes index (record { built = Some (record { build = n; pairs = after.pairs }); applied = taking.it.applied + count });
+          indexes = set taking.work.indexes index
+              (record { built = Some (record { build = n; unique = tallied; pairs = after.pairs }); applied = taking.it.applied + count });
         });
-      }) (applied.build ∙ taking.of_build);
+      }) (applied.build ∙ taking.of_build) (applied.unique ∙ taking.of_spec);
     }
 
 -- the same, where the index and the end of its ring were found in their places
@@ -136,7 +137,7 @@ module _ (index : ℕ) (old mid : BuildingValue) (m : ℕ) (first : HasApplied i
   its_work = with_index first.taking.work index first.pairs (first.taking.it.applied + m)
 
   abbrev its_built : BuiltValue
-  its_built = record { build = first.taking.work.build; pairs = first.pairs }
+  its_built = with_pairs first.taking.work index first.pairs
 
   mid_work : mid.work ≡ Some its_work
   mid_work = ap (λ (b : BuildingValue). b.work) first.left
@@ -144,9 +145,9 @@ module _ (index : ℕ) (old mid : BuildingValue) (m : ℕ) (first : HasApplied i
   mid_sides : mid.sides ≡ set old.sides index first.end
   mid_sides = ap (λ (b : BuildingValue). b.sides) first.left
 
-  its_index : slice_get its_work.indexes index ≡ Some (index_with first.taking.work first.pairs (first.taking.it.applied + m))
+  its_index : slice_get its_work.indexes index ≡ Some (index_with first.taking.work index first.pairs (first.taking.it.applied + m))
   its_index =
-      here_set first.taking.work.indexes index (index_with first.taking.work first.pairs (first.taking.it.applied + m))
+      here_set first.taking.work.indexes index (index_with first.taking.work index first.pairs (first.taking.it.applied + m))
       (below first.taking.work.indexes index first.taking.it first.taking.there)
 
   its_end : slice_get mid.sides index ≡ Some first.end
@@ -157,11 +158,12 @@ module _ (index : ℕ) (old mid : BuildingValue) (m : ℕ) (first : HasApplied i
   taking_more = record {
     work = its_work;
     runs = mid_work;
-    it = index_with first.taking.work first.pairs (first.taking.it.applied + m);
+    it = index_with first.taking.work index first.pairs (first.taking.it.applied + m);
     there = its_index;
     built = its_built;
     loaded = refl;
     of_build = refl;
+    of_spec = refl;
     end = first.end;
     at = its_end;
   }
@@ -170,7 +172,7 @@ module _ (index : ℕ) (old mid : BuildingValue) (m : ℕ) (first : HasApplied i
   pub applied_more : (new : BuildingValue) (n : ℕ) → m + n ≤ length first.taking.end.known → HasApplied index mid n new → HasApplied index old (m + n) new
   applied_more new n few next =
       let work_is : next.taking.work ≡ its_work = same_Some next.taking.work its_work (sym next.taking.runs ∙ mid_work) in
-      let it_is : next.taking.it ≡ index_with first.taking.work first.pairs (first.taking.it.applied + m) =
+      let it_is : next.taking.it ≡ index_with first.taking.work index first.pairs (first.taking.it.applied + m) =
       same_Some next.taking.it _ (sym next.taking.there ∙ ap (λ (w : WorkValue). slice_get w.indexes index) work_is ∙ its_index) in
       let built_is : next.taking.built ≡ its_built = same_Some next.taking.built its_built (sym next.taking.loaded ∙ ap (λ (i : IndexValue). i.built) it_is) in
       let end_is : next.taking.end ≡ first.end = same_Some next.taking.end first.end (sym next.taking.at ∙ its_end) in
@@ -224,8 +226,8 @@ module _ (index : ℕ) (old mid : BuildingValue) (m : ℕ) (first : HasApplied i
         once =
             ap₂ (λ (ends : List (TakeEnd Entry)) (indexes : List IndexValue). record old { sides = ends; work = Some (record first.taking.work { indexes = indexes }) })
             (set-set old.sides index first.end next.end)
-            (set-set first.taking.work.indexes index (index_with first.taking.work first.pairs (first.taking.it.applied + m))
-            (index_with first.taking.work next.pairs ((first.taking.it.applied + m) + n)))
+            (set-set first.taking.work.indexes index (index_with first.taking.work index first.pairs (first.taking.it.applied + m))
+            (index_with first.taking.work index next.pairs ((first.taking.it.applied + m) + n)))
 
   -- and the next can be applied
   pub can_go_on : (count : ℕ) → count ≤ length first.taking.end.known → first.taking.it.applied + count < 2 ^ 64 → m < count → CanApply index 1 mid
@@ -253,8 +255,8 @@ applied_none index building taking ordered = record {
   more = [];
   known = sym (append-nil taking.end.known);
   left =
-      let it_is : taking.it ≡ index_with taking.work taking.built.pairs (taking.it.applied + 0) = same_index in
-      let indexes : taking.work.indexes ≡ set taking.work.indexes index (index_with taking.work taking.built.pairs (taking.it.applied + 0)) =
+      let it_is : taking.it ≡ index_with taking.work index taking.built.pairs (taking.it.applied + 0) = same_index in
+      let indexes : taking.work.indexes ≡ set taking.work.indexes index (index_with taking.work index taking.built.pairs (taking.it.applied + 0)) =
       sym (set_same taking.work.indexes index taking.it taking.there) ∙ ap (set taking.work.indexes index) it_is in
       ap₂ (λ (ends : List (TakeEnd Entry)) (o : Option WorkValue). record building { sides = ends; work = o }) (sym (set_same building.sides index taking.end taking.at))
       (taking.runs ∙ ap (λ (is : List IndexValue). Some (record taking.work { indexes = is })) indexes);
@@ -262,10 +264,12 @@ applied_none index building taking ordered = record {
   zero_more : taking.it.applied ≡ taking.it.applied + 0
   zero_more = omega arith
 
-  same_index : taking.it ≡ index_with taking.work taking.built.pairs (taking.it.applied + 0)
+  same_index : taking.it ≡ index_with taking.work index taking.built.pairs (taking.it.applied + 0)
   same_index =
       ap (λ (o : Option BuiltValue). record { built = o; applied = taking.it.applied }) taking.loaded
-      ∙ ap₂ (λ (n k : ℕ). record { built = Some (record { build = n; pairs = taking.built.pairs }); applied = k }) taking.of_build zero_more
+      ∙ ap₂ (λ (n : ℕ) (tallied : Bool). record { built = Some (record { build = n; unique = tallied; pairs = taking.built.pairs }); applied = taking.it.applied })
+      taking.of_build taking.of_spec
+      ∙ ap (λ (k : ℕ). record { built = Some (with_pairs taking.work index taking.built.pairs); applied = k }) zero_more
 
 -- an index whose pairs are in order has them
 pub stays_built : (index : IndexValue) → is_some index.built ≡ true → (built : BuiltValue) × (index.built ≡ Some built)

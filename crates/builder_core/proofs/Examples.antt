@@ -126,7 +126,7 @@ work_of workers loaded = record { workers = workers; indexes = record { loaded =
 abbrev while_built : ℕ → List Copied → ℕ → Bool → CoreState
 while_built pages scans taken loaded = record {
   live = record {
-    heap = record { schema = Int ∷ []; slot_limit = 2; page_limit = 8; log = three_rows; active = []; begun = 3; visits = 0 };
+    heap = record { schema = Int ∷ []; slot_limit = 2; page_limit = 8; log = three_rows; active = []; begun = 3; fenced = false; visits = 0 };
     ready = [];
     builds = 1;
     build = Some (the_build pages (pages ∷ []) 1 scans);

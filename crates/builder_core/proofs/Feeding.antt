@@ -223,7 +223,7 @@ work_fed kinds log b index count (Some w) is = record {
   many = is.many;
   indexes = λ k spec it at there.
       let on = is.indexes k spec it at there in
-      record { all = on.all; none_before = on.none_before; there = on.there; loaded = on.loaded; of_build = on.of_build };
+      record { all = on.all; none_before = on.none_before; there = on.there; loaded = on.loaded; of_build = on.of_build; of_spec = on.of_spec };
 }
 
 -- no more was fed than there was

@@ -16,7 +16,7 @@ use Rattle.visibility.specs.SideEntries.{SideEntry}
 use Rattle.visibility.proofs.Changes.{apply-append}
 use Rattle.catch_up.specs.Built.{told_to}
 use Rattle.catch_up.proofs.Telling.{told_entries}
-use Rattle.builder_core.specs.Builds.{LiveValue, BuildingValue, WorkValue, IndexValue, IsRunning, IsCaughtUpTo, IsIndexOn, AreFed, IsUnloaded, WorksOn, with_index}
+use Rattle.builder_core.specs.Builds.{LiveValue, BuildingValue, WorkValue, IndexValue, IsRunning, IsCaughtUpTo, IsIndexOn, AreFed, IsUnloaded, WorksOn, with_index, with_pairs, is_unique}
 use Rattle.builder_core.specs.Builds.{work_state, core_state, index_state}
 use Rattle.building.specs.TakeEnd.{TakeEnd}
 use Rattle.catch_up.specs.Built.{BuiltValue}
@@ -85,7 +85,7 @@ same_taking index building x y =
 pub unloaded_before :
     (work : WorkValue) (index : ℕ) (pairs : List Pair) (applied k : ℕ) → index < length work.indexes → IsUnloaded k (with_index work index pairs applied) → IsUnloaded k work
 unloaded_before work index pairs applied k less none it at =
-    let new : IndexValue = record { built = Some (record { build = work.build; pairs = pairs }); applied = applied } in
+    let new : IndexValue = record { built = Some (with_pairs work index pairs); applied = applied } in
     elim (cases_Bool (k == index)) [
       | inl same ↦
           let there : slice_get (set work.indexes index new) k ≡ Some new =
@@ -119,6 +119,9 @@ module _ (index waiting : ℕ) (live : LiveValue) (building : BuildingValue) (t 
   seen_is : (t.end.known ≡ last_ones (fed_now - t.it.applied) t.put.sent) × (waiting ≡ fed_now - t.it.applied)
   seen_is = waiting_in_ring fed_now t.it.applied waiting t.put t.end ring t.sees
 
+  its_spec : is_unique (slice_get t.work.specs index) ≡ t.spec.unique
+  its_spec = ap is_unique (ap (λ specs. slice_get specs index) (sym t.run.on.specs) ∙ t.spec_at)
+
   taking : IsTakingEntries index building
   taking = record {
     work = t.work;
@@ -128,6 +131,7 @@ module _ (index waiting : ℕ) (live : LiveValue) (building : BuildingValue) (t 
     built = t.built;
     loaded = t.loaded;
     of_build = on.of_build t.built t.loaded ∙ sym t.run.on.number;
+    of_spec = on.of_spec t.built t.loaded ∙ sym its_spec;
     end = t.end;
     at = t.end_at;
   }
@@ -191,7 +195,7 @@ module _ (index waiting : ℕ) (live : LiveValue) (building : BuildingValue) (t 
         ∙ ap (λ es. apply_entries es scanned) (sym (next_of_first t.it.applied count fed_now entries within)))
 
     abbrev after_it : IndexValue
-    after_it = record { built = Some (record { build = t.work.build; pairs = done.pairs }); applied = t.it.applied + count }
+    after_it = record { built = Some (with_pairs t.work index done.pairs); applied = t.it.applied + count }
 
     abbrev after : WorkValue
     after = with_index t.work index done.pairs (t.it.applied + count)
@@ -212,6 +216,7 @@ module _ (index waiting : ℕ) (live : LiveValue) (building : BuildingValue) (t 
       there = omega (arith, within, t.fed.there);
       loaded = λ built is. subst (IsCaughtUpTo (t.it.applied + count) here live.state.heap.log) (let pairs : done.pairs ≡ built.pairs = cc in pairs) caught_up;
       of_build = λ built is. let number : t.work.build ≡ built.build = cc in sym number ∙ t.run.on.number;
+      of_spec = λ built is. let unique : is_unique (slice_get t.work.specs index) ≡ built.unique = cc in sym unique ∙ its_spec;
     }
 
     in_order : done.end.received ++ last_ones (fed_now - (t.it.applied + count)) t.put.sent ≡ t.put.sent

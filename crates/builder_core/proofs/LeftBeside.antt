@@ -1,5 +1,5 @@
 -- What a call leaves beside a table, put together from what its parts left.
-use Rattle.std.proofs.Common.{◌≡◌, ℕ, ◌-◌, ◌*◌, ◌<◌, length, Bool, false, ◌&&◌, List, [], ◌∷◌, All, map, set, Option, Some, None, refl, sym, ap, ◌∙◌, subst}
+use Rattle.std.proofs.Common.{◌≡◌, ℕ, ◌-◌, ◌*◌, ◌<◌, length, Bool, false, ◌&&◌, List, [], ◌∷◌, All, map, set, Option, Some, None, refl, sym, ap, ◌∙◌, subst, ap₂}
 use Rattle.std.specs.Prelude.{is_some}
 use Rattle.std.specs.List.{list_all, slice_get}
 use Rattle.spool_ledger.specs.Accounts.{Stake}
@@ -11,7 +11,7 @@ use Rattle.run_spool.specs.Spools.{AreSorted, holds_nothing}
 use Rattle.run_maker.specs.Making.{MakerValue}
 use Rattle.building.specs.WorkerValue.{WorkerValue}
 use Rattle.catch_up.specs.Built.{BuiltValue}
-use Rattle.builder_core.specs.Builds.{BuildingValue, WorkValue, IndexValue, IsUnloaded, with_index}
+use Rattle.builder_core.specs.Builds.{BuildingValue, WorkValue, IndexValue, IsUnloaded, with_index, is_unique}
 use Rattle.builder_core.specs.Columns.{column}
 use Rattle.builder_core.specs.Holding.{SpoolValue, Kit, runs_of, pairs_in, spool_value, spools_state, ended_column}
 use Rattle.builder_core.specs.Working.{AreEachOnce, CanLoad, HasTaken, HasTakenAt, IsSpoiled}
@@ -83,15 +83,16 @@ module _ (old seen : BuildingValue) (work held : WorkValue) (same : seen ≡ old
 
   -- the pairs of an index are put in order
   pub left_sorted :
-      (index : ℕ) (spools : List SpoolValue) (built : BuiltValue) → spools ≡ ended_column index (length work.specs) seen.spools → built.build ≡ held.build
+      (index : ℕ) (spools : List SpoolValue) (built : BuiltValue) → spools ≡ ended_column index (length work.specs) seen.spools → built.build ≡ held.build → built.unique ≡ is_unique (slice_get held.specs index)
       → record seen { spools = spools; work = Some (record held { indexes = set held.indexes index (record { built = Some built; applied = 0 }) }) }
       ≡ record old { spools = ended_column index (length work.specs) old.spools; work = Some (with_index work index built.pairs 0) }
-  left_sorted index spools built ended number = rw (ended, same, is) (ap of_build (number ∙ ap (λ (w : WorkValue). w.build) is)) where
-    of_build : ℕ → BuildingValue
-    of_build n = record old {
+  left_sorted index spools built ended number unique =
+      rw (ended, same, is) (ap₂ of_build (number ∙ ap (λ (w : WorkValue). w.build) is) (unique ∙ ap (λ (w : WorkValue). is_unique (slice_get w.specs index)) is)) where
+    of_build : ℕ → Bool → BuildingValue
+    of_build n tallied = record old {
       spools = ended_column index (length work.specs) old.spools;
       work = Some (record work {
-        indexes = set work.indexes index (record { built = Some (record { build = n; pairs = built.pairs }); applied = 0 });
+        indexes = set work.indexes index (record { built = Some (record { build = n; unique = tallied; pairs = built.pairs }); applied = 0 });
       });
     }
 

@@ -12,13 +12,17 @@ pub mod EntrySteps
 pub mod Examples
 pub mod FedBeside
 pub mod Feeding
+pub mod EachGuarded
 pub mod Following
+pub mod KeysAsked
+pub mod KeysTaken
 pub mod Kits
 pub mod LeftBeside
 pub mod LoadCauses
 pub mod Loaded
 pub mod Looked
 pub mod Looks
+pub mod MadeReady
 pub mod Making
 pub mod Merges
 pub mod NextPages
@@ -26,6 +30,7 @@ pub mod Noting
 pub mod OneKit
 pub mod OneRing
 pub mod OneWorker
+pub mod OwnGuards
 pub mod OwnSpools
 pub mod Partition
 pub mod Performed
@@ -40,6 +45,7 @@ pub mod ScanExamples
 pub mod ScanSteps
 pub mod Sealed
 pub mod Seen
+pub mod SharedKeys
 pub mod SideEnds
 pub mod SideFollows
 pub mod SideKept

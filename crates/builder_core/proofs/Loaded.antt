@@ -11,7 +11,7 @@ use Rattle.keybytes.specs.declared.fault.Fault.{Fault}
 use Rattle.keybytes.specs.declared.pair.Pair.{Pair}
 use Rattle.side_file.specs.Ends.{PutEnd}
 use Rattle.building.specs.declared.copied.Copied.{Copied}
-use Rattle.builder_core.specs.Builds.{LiveValue, BuildingValue, WorkValue, IndexValue, IsRunning, IsIndexOn, IsUnloaded, AreFed, WorksOn, with_index}
+use Rattle.builder_core.specs.Builds.{LiveValue, BuildingValue, WorkValue, IndexValue, IsRunning, IsIndexOn, IsUnloaded, AreFed, WorksOn, with_index, with_pairs}
 use Rattle.builder_core.specs.Builds.{work_state, core_state, index_state}
 use Rattle.builder_core.specs.CoreState.{BuildState, IndexState, WorkState, SpoolsState, scanning_of}
 use Rattle.builder_core.specs.Columns.{own_spools, column}
@@ -191,7 +191,7 @@ module _
 
     module _ (new : BuildingValue) (count : ℕ) (none : it.built ≡ None) (done : HasSorted index w building count new) where
       abbrev loaded_it : IndexValue
-      loaded_it = record { built = Some (record { build = w.build; pairs = done.pairs }); applied = 0 }
+      loaded_it = record { built = Some (with_pairs w index done.pairs); applied = 0 }
 
       abbrev sorted : WorkValue
       sorted = with_index w index done.pairs 0

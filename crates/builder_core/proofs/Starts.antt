@@ -115,14 +115,12 @@ has_counts live spools plan e =
     let few : Bool = nat_le plan.workers 16 in
     let some_index : Bool = nat_le 1 (length plan.specs.items) in
     let few_indexes : Bool = nat_le (length plan.specs.items) 8 in
-    let plain : Bool = not (list_any (λ spec. spec.unique) plan.specs.items) in
     let room : Bool = nat_le (length live.ready + length plan.specs.items) 32 in
     let number : Bool = nat_lt live.builds 18446744073709551615 in
-    let lent = and_parts (some && few && some_index && few_indexes && plain && room && number) (spools == plan.workers * length plan.specs.items) e in
-    let numbered = and_parts (some && few && some_index && few_indexes && plain && room) number lent.0 in
-    let roomy = and_parts (some && few && some_index && few_indexes && plain) room numbered.0 in
-    let each_plain = and_parts (some && few && some_index && few_indexes) plain roomy.0 in
-    let indexes = and_parts (some && few && some_index) few_indexes each_plain.0 in
+    let lent = and_parts (some && few && some_index && few_indexes && room && number) (spools == plan.workers * length plan.specs.items) e in
+    let numbered = and_parts (some && few && some_index && few_indexes && room) number lent.0 in
+    let roomy = and_parts (some && few && some_index && few_indexes) room numbered.0 in
+    let indexes = and_parts (some && few && some_index) few_indexes roomy.0 in
     let one_index = and_parts (some && few) some_index indexes.0 in
     let workers = and_parts some few one_index.0 in
     record {

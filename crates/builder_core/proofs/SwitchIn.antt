@@ -1,10 +1,10 @@
 -- What a switch makes ready.
-use Rattle.std.proofs.Common.{◌≡◌, ℕ, zero, suc, ◌+◌, ◌<◌, List, [], ◌∷◌, ◌++◌, length, Option, Some, None, refl, sym, ap, ap₂, ◌∙◌, subst, arith}
-use Rattle.std.specs.Prelude.{map}
+use Rattle.std.proofs.Common.{◌≡◌, ℕ, zero, suc, ◌+◌, ◌<◌, Bool, true, false, List, [], ◌∷◌, ◌++◌, length, Option, Some, None, refl, sym, ap, ap₂, ◌∙◌, subst, arith}
+use Rattle.std.specs.Prelude.{map, if◌then◌else◌}
 use Rattle.keybytes.specs.Keys.{KeySpecValue}
 use Rattle.keybytes.specs.declared.pair.Pair.{Pair}
 use Rattle.heap_log.specs.declared.outcome.Outcome.{Outcome}
-use Rattle.heap_table.specs.HeapState.{HeapState, after_switch}
+use Rattle.heap_table.specs.HeapState.{HeapState, after_switch, after_fence, busy_txns}
 use Rattle.heap_table.proofs.KeysAtRest.{keys_at_rest}
 use Rattle.heap_table.specs.Kept.{RowsFit}
 use Rattle.heap_table.specs.TablePairs.{index_pairs, pairs_at_rest}
@@ -12,17 +12,23 @@ use Rattle.keybytes.proofs.ColumnOrder.{column_order}
 use Rattle.keybytes.specs.Pairs.{HaveKeysOf, AreInColumnOrder}
 use Rattle.catch_up.specs.Built.{BuiltValue}
 use Rattle.builder_core.specs.Builds.{LiveValue, BuildingValue, WorkValue, IndexValue, IsRunning, state_unless, work_state, core_state, index_state}
-use Rattle.builder_core.specs.CatchingUp.{IsDoneIndex, MayCatchUp, built_pairs, ready_of}
+use Rattle.builder_core.specs.CatchingUp.{IsDoneIndex, MayBeGuarded, MayCatchUp, built_pairs, built_verdict, its_verdict, ready_of}
 use Rattle.heap_log.specs.declared.record.LogRec.{LogRec}
-use Rattle.std.specs.List.{AllZip, slice_get}
+use Rattle.std.specs.List.{All, AllZip, slice_get}
 use Rattle.std.proofs.lemmas.Option.{same_Some}
 use Rattle.builder_core.proofs.ApplyCauses.{fine_by}
 use Rattle.builder_core.proofs.Applying.{stays_built}
 use Rattle.builder_core.proofs.Places.{below, map_at}
 use Rattle.builder_core.specs.CoreState.{BuildState, IndexState, LiveState, ReadyValue, CoreState, SpoolsState, idle}
 use Rattle.builder_core.specs.Holding.{spools_state}
-use Rattle.builder_core.specs.Steps.{OnBuild, Switches, CatchesUp, AreFurther, apply_refusal, index_now, after_switch_in, verdicts_on}
+use Rattle.builder_core.specs.Steps.{OnBuild, Switches, CatchesUp, AreFurther, apply_refusal, busy_refusal, index_now, after_switch_in, verdicts_on}
+use Rattle.builder_core.specs.Verdicts.{accepted, outcomes, verdict_on}
 use Rattle.builder_core.specs.Workers.{all_unapplied, unapplied}
+use Rattle.unique_verdict.specs.Shared.{shared_pairs}
+use Rattle.unique_verdict.specs.Verdicts.{accepts, first_shared}
+use Rattle.unique_verdict.specs.declared.verdict.Verdict.{Verdict}
+use Rattle.unique_verdict.specs.declared.verdict.Verdict.TheVariants.{Unique}
+use Rattle.builder_core.proofs.MadeReady.{accepted_more, accepted_same, may_guard, no_writers, ready_more, ready_same}
 use Rattle.builder_core.proofs.FedBeside.{indexes_seen}
 use Rattle.builder_core.proofs.TableBuilds.{columns_at, switched_pairs}
 
@@ -50,6 +56,56 @@ none_of_each b log (s ∷ specs) (i ∷ indexes) zero spec index none at there =
 none_of_each b log (s ∷ specs) (i ∷ indexes) (suc k) spec index none at there =
     none_of_each b log specs indexes k spec index (let rest : all_unapplied b log specs indexes ≡ 0 = omega (arith, none) in rest) at there
 
+-- the index has the pairs of the rows that stand, with a tally if it is unique
+pub record IsAtRest (log : List LogRec) (spec : KeySpecValue) (index : IndexValue) : Type 0 where
+  pub built : BuiltValue
+  pub there : index.built ≡ Some built
+  pub pairs : built.pairs ≡ pairs_at_rest spec log
+  pub tallied : built.unique ≡ spec.unique
+
+-- so its verdict is the one on these rows
+verdict_is : (log : List LogRec) (spec : KeySpecValue) (index : IndexValue) → IsAtRest log spec index → its_verdict index ≡ verdict_on log spec
+verdict_is log spec index at =
+    ap built_verdict at.there
+    ∙ ap₂ (λ (tallied : Bool) (ps : List Pair). if tallied then first_shared (shared_pairs ps) else Unique) at.tallied at.pairs
+
+verdicts_are :
+    (log : List LogRec) (specs : List KeySpecValue) (indexes : List IndexValue) → length indexes ≡ length specs
+    → ((k : ℕ) (spec : KeySpecValue) (index : IndexValue) → slice_get specs k ≡ Some spec → slice_get indexes k ≡ Some index → IsAtRest log spec index)
+    → map its_verdict indexes ≡ map (verdict_on log) specs
+verdicts_are log [] [] many each = refl
+verdicts_are log [] (index ∷ indexes) many each = absurd (cc)
+verdicts_are log (spec ∷ specs) [] many each = absurd (cc)
+verdicts_are log (spec ∷ specs) (index ∷ indexes) many each =
+    ap₂ (λ (v : Verdict) (rest : List Verdict). v ∷ rest) (verdict_is log spec index (each 0 spec index refl refl))
+    (verdicts_are log specs indexes (omega (arith, many)) (λ k s i at there. each (suc k) s i at there))
+
+ready_are :
+    (log : List LogRec) (specs : List KeySpecValue) (indexes : List IndexValue) → length indexes ≡ length specs
+    → ((k : ℕ) (spec : KeySpecValue) (index : IndexValue) → slice_get specs k ≡ Some spec → slice_get indexes k ≡ Some index → IsAtRest log spec index)
+    → ready_of specs indexes ≡ map (index_now log) (accepted log specs)
+ready_are log [] indexes many each = refl
+ready_are log (spec ∷ specs) [] many each = absurd (cc)
+ready_are log (spec ∷ specs) (index ∷ indexes) many each =
+    by_verdict (accepts (verdict_on log spec)) refl (ready_are log specs indexes (omega (arith, many)) (λ k s i at there. each (suc k) s i at there)) where
+  here : IsAtRest log spec index
+  here = each 0 spec index refl refl
+
+  told : accepts (its_verdict index) ≡ accepts (verdict_on log spec)
+  told = ap accepts (verdict_is log spec index here)
+
+  by_verdict :
+      (b : Bool) → accepts (verdict_on log spec) ≡ b → ready_of specs indexes ≡ map (index_now log) (accepted log specs)
+      → ready_of (spec ∷ specs) (index ∷ indexes) ≡ map (index_now log) (accepted log (spec ∷ specs))
+  by_verdict true takes rest =
+      let pairs : built_pairs index.built ≡ pairs_at_rest spec log = ap built_pairs here.there ∙ here.pairs in
+      ready_more (spec ∷ specs) specs (index ∷ indexes) indexes spec index refl refl (told ∙ takes)
+      ∙ ap₂ (λ (ps : List Pair) (more : List ReadyValue). record { spec = spec; pairs = ps } ∷ more) pairs rest
+      ∙ sym (ap (map (index_now log)) (accepted_more log spec specs takes))
+  by_verdict false drops rest =
+      ready_same (spec ∷ specs) specs (index ∷ indexes) indexes spec index refl refl (told ∙ drops) ∙ rest
+      ∙ sym (ap (map (index_now log)) (accepted_same log spec specs drops))
+
 module _
     (live : LiveValue) (building : BuildingValue) (b : BuildState) (w : WorkValue) (run : IsRunning live building b w)
     (may : MayCatchUp (core_state live building))
@@ -60,7 +116,7 @@ module _
   -- each index has the pairs of the rows that stand
   pub index_done :
       (k : ℕ) (spec : KeySpecValue) (index : IndexValue) → slice_get b.specs k ≡ Some spec → slice_get w.indexes k ≡ Some index
-      → (built : BuiltValue) × (index.built ≡ Some built) × (built.pairs ≡ pairs_at_rest spec live.state.heap.log)
+      → IsAtRest live.state.heap.log spec index
   index_done k spec index at there =
       let on = run.on.indexes k spec index at there in
       let seen = map_at index_state w.indexes k index there in
@@ -75,31 +131,36 @@ module _
       ∙ subst (λ (o : Option BuildState). OnBuild o (λ x. all_unapplied x live.state.heap.log x.specs (work_state building.workers building.work).indexes ≡ 0)) run.build_is all in
       let left = none_of_each b live.state.heap.log b.specs (map index_state w.indexes) k spec (index_state index) none at seen in
       let built = stays_built index loaded in
-      (built.0, built.1, switched_pairs live.state.heap.schema live.state.heap.log b spec index built.0 run.follows on built.1 (omega (arith, left)))
+      record {
+        built = built.0;
+        there = built.1;
+        pairs = switched_pairs live.state.heap.schema live.state.heap.log b spec index built.0 run.follows on built.1 (omega (arith, left));
+        tallied = on.of_spec built.0 built.1;
+      }
 
-  ready_are :
-      (specs : List KeySpecValue) (indexes : List IndexValue) → length indexes ≡ length specs
-      → ((k : ℕ) (spec : KeySpecValue) (index : IndexValue) → slice_get specs k ≡ Some spec → slice_get indexes k ≡ Some index
-      → (built : BuiltValue) × (index.built ≡ Some built) × (built.pairs ≡ pairs_at_rest spec live.state.heap.log))
-      → ready_of specs indexes ≡ map (index_now live.state.heap.log) specs
-  ready_are [] indexes many each = refl
-  ready_are (spec ∷ specs) [] many each = absurd (cc)
-  ready_are (spec ∷ specs) (index ∷ indexes) many each =
-      let here = each 0 spec index refl refl in
-      let pairs : built_pairs index.built ≡ pairs_at_rest spec live.state.heap.log = ap built_pairs here.1 ∙ here.2 in
-      ap₂ (λ (ps : List Pair) (rest : List ReadyValue). record { spec = spec; pairs = ps } ∷ rest) pairs
-      (ready_are specs indexes (omega (arith, many)) (λ k s i at there. each (suc k) s i at there))
+  -- so the accepted are ready as a build at rest gives them
+  pub all_ready : ready_of b.specs w.indexes ≡ map (index_now live.state.heap.log) (accepted live.state.heap.log b.specs)
+  all_ready = ready_are live.state.heap.log b.specs w.indexes run.on.many index_done
 
-  -- so they are ready as a build at rest gives them
-  pub all_ready : ready_of b.specs w.indexes ≡ map (index_now live.state.heap.log) b.specs
-  all_ready = ready_are b.specs w.indexes run.on.many index_done
+  -- each with the verdict that the rows ask for
+  pub all_verdicts : outcomes (length live.state.ready) (map its_verdict w.indexes) ≡ verdicts_on live.state b
+  all_verdicts = ap (outcomes (length live.state.ready)) (verdicts_are live.state.heap.log b.specs w.indexes run.on.many index_done)
+
+  -- and guards may be begun for them, where the switch waited for no writer
+  pub all_may :
+      OnBuild live.state.build (λ b. busy_refusal b (length (busy_txns live.state.heap)) ≡ None)
+      → All (λ (index : ReadyValue). MayBeGuarded live.state.heap index.spec) (ready_of b.specs w.indexes)
+  all_may free =
+      let none = subst (λ (o : Option BuildState). OnBuild o (λ x. busy_refusal x (length (busy_txns live.state.heap)) ≡ None)) run.build_is free in
+      subst (λ (ready : List ReadyValue). All (λ (index : ReadyValue). MayBeGuarded live.state.heap index.spec) ready) (sym all_ready)
+      (may_guard live.state.heap b.specs (λ k spec at unique. no_writers b (busy_txns live.state.heap) k spec none at unique))
 
   -- and each can be ready
   done_each :
       RowsFit live.state.heap.schema live.state.heap.log → (specs : List KeySpecValue) (indexes : List IndexValue) → length indexes ≡ length specs
       → ((k : ℕ) (spec : KeySpecValue) → slice_get specs k ≡ Some spec → spec.kinds ≡ live.state.heap.schema)
       → ((k : ℕ) (spec : KeySpecValue) (index : IndexValue) → slice_get specs k ≡ Some spec → slice_get indexes k ≡ Some index
-      → (built : BuiltValue) × (index.built ≡ Some built) × (built.pairs ≡ pairs_at_rest spec live.state.heap.log))
+      → IsAtRest live.state.heap.log spec index)
       → AllZip IsDoneIndex specs indexes
   done_each rows [] [] many columns each = tt
   done_each rows [] (index ∷ indexes) many columns each = absurd (cc)
@@ -109,11 +170,11 @@ module _
       let rest = done_each rows specs indexes (omega (arith, many)) (λ k s at. columns (suc k) s at) (λ k s i at there. each (suc k) s i at there) in
       let first : IsDoneIndex spec index =
       record {
-        built = here.0;
-        there = here.1;
+        built = here.built;
+        there = here.there;
         index_is = λ key. record {
-          keys = subst (HaveKeysOf spec) (sym here.2) (keys_at_rest spec live.state.heap.schema live.state.heap.log (columns 0 spec refl) rows);
-          order = subst (AreInColumnOrder spec) (sym here.2) (column_order spec (index_pairs spec live.state.heap.log) key);
+          keys = subst (HaveKeysOf spec) (sym here.pairs) (keys_at_rest spec live.state.heap.schema live.state.heap.log (columns 0 spec refl) rows);
+          order = subst (AreInColumnOrder spec) (sym here.pairs) (column_order spec (index_pairs spec live.state.heap.log) key);
         };
       } in
       (first, rest)
@@ -126,7 +187,7 @@ module _
   -- what the switch leaves
   pub switches :
       (told : ℕ × List Outcome) (heap : HeapState) (ready : List ReadyValue) (build : Option BuildState) (new : BuildingValue)
-      → told.0 ≡ length live.state.heap.log + 1 → told.1 ≡ verdicts_on live.state b → heap ≡ after_switch live.state.heap (verdicts_on live.state b)
+      → told.0 ≡ length live.state.heap.log + 1 → told.1 ≡ verdicts_on live.state b → heap ≡ after_fence false (after_switch live.state.heap (verdicts_on live.state b))
       → ready ≡ live.state.ready ++ ready_of b.specs w.indexes → build ≡ None → new.work ≡ None
       → spools_state new.given new.spools ≡ spools_state building.given building.spools
       → Switches (core_state live building) told (record {
@@ -142,7 +203,7 @@ module _
       let left : CoreState = record { live = table; work = work_state new.workers new.work; spools = spools_state new.given new.spools } in
       let state : left ≡ record { live = after_switch_in live.state b; work = idle; spools = spools } =
       rw (none, gone, ended) (ap (λ h. Whole h ready) noted
-      ∙ ap (Whole (after_switch live.state.heap (verdicts_on live.state b))) (grown ∙ ap (λ is. live.state.ready ++ is) all_ready)) in
+      ∙ ap (Whole (after_fence false (after_switch live.state.heap (verdicts_on live.state b)))) (grown ∙ ap (λ is. live.state.ready ++ is) all_ready)) in
       subst (λ (o : Option BuildState). OnBuild o (λ b. (told.0 ≡ length live.state.heap.log + 1) × (told.1 ≡ verdicts_on live.state b)
       × (left ≡ record { live = after_switch_in live.state b; work = idle; spools = spools })))
       (sym run.build_is) (number, verdicts, state)

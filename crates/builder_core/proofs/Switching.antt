@@ -1,10 +1,18 @@
--- Each switch of a run makes its indexes ready with the pairs at rest of the rows then live.
-use Rattle.std.proofs.Common.{◌≡◌, ℕ, zero, suc, zero-add, ◌+◌, ◌<◌, arith, List, [], ◌∷◌, ◌++◌, length, take, append_assoc, append-nil, length-append}
+-- Each switch of a run decides on its indexes by the rows then live, and makes the accepted ready with the pairs at rest of these.
+use Rattle.std.proofs.Common.{◌≡◌, ℕ, zero, suc, zero-add, Bool, true, false, ◌+◌, ◌<◌, arith, List, [], ◌∷◌, ◌++◌, length, take, append_assoc, append-nil, length-append}
 use Rattle.std.proofs.Common.{Option, Some, None, refl, sym, ap, ◌∙◌, subst, inl, inr}
 use Rattle.std.specs.Prelude.{map}
 use Rattle.std.specs.List.{slice_get}
 use Rattle.std.proofs.Math.Seq.{take-append_seam}
+use Rattle.std.proofs.lemmas.Bool.{cond-true, cond-false}
+use Rattle.std.proofs.lemmas.List.{length-map}
 use Rattle.std.proofs.lemmas.Option.{same_Some}
+use Rattle.keybytes.specs.declared.pair.Pair.{Pair}
+use Rattle.keybytes.specs.declared.rid.Rid.{Rid}
+use Rattle.unique_verdict.specs.Shared.{shared_pairs}
+use Rattle.unique_verdict.specs.Verdicts.{IsLeast, IsUnique, IsVerdict, accepts, first_shared}
+use Rattle.unique_verdict.specs.declared.verdict.Verdict.{Verdict}
+use Rattle.unique_verdict.specs.declared.verdict.Verdict.TheVariants.{Unique, Shared}
 use Rattle.keybytes.specs.Keys.{KeySpecValue}
 use Rattle.heap_log.specs.Growing.{first_records}
 use Rattle.heap_log.specs.Standing.{newest_standing}
@@ -17,14 +25,16 @@ use Rattle.heap_table.specs.HeapState.{HeapState, after_step}
 use Rattle.heap_table.specs.TablePairs.{pairs_at_rest}
 use Rattle.heap_table.proofs.TablePairs.{pairs_kept}
 use Rattle.builder_core.specs.declared.event.Event.{Event}
-use Rattle.builder_core.specs.declared.event.Event.TheVariants.{Begin, Insert, Update, Delete, Undo, Commit, Start, Scan, Digest, Seal, Load, Feed, Apply, Switch, Abandon}
+use Rattle.builder_core.specs.declared.event.Event.TheVariants.{Begin, Insert, Update, Delete, Undo, Commit, Start, Scan, Digest, Seal, Load, Feed, Apply, Fence, Switch, Abandon}
 use Rattle.builder_core.specs.declared.reply.Reply.{Reply}
 use Rattle.builder_core.specs.declared.reply.Reply.TheVariants.{Switched, Refused}
 use Rattle.builder_core.specs.CoreState.{CoreState, LiveState, BuildState, ReadyValue, SpoolsState}
-use Rattle.builder_core.specs.Headline.{HasPairsAtRest, EachSwitchIsAtRest}
+use Rattle.builder_core.specs.Headline.{HasPairsAtRest, IsDecided, EachSwitchIsAtRest}
 use Rattle.keybytes.specs.declared.fault.Fault.{Fault}
 use Rattle.spool_ledger.specs.Accounts.{Stake}
-use Rattle.builder_core.specs.Steps.{Step, Run, Does, AfterWant, OnBuild, ready_from, index_now, after_switch_in, verdicts_on}
+use Rattle.builder_core.specs.Steps.{Step, Run, Does, AfterWant, OnBuild, index_now, after_switch_in, verdicts_on}
+use Rattle.builder_core.specs.Verdicts.{accepted, next_number, outcome, outcomes, verdict_on}
+use Rattle.builder_core.proofs.MadeReady.{accepted_more, accepted_same, verdict_is_right}
 
 -- the second log is the first, and more
 abbrev pub GoesOn : List LogRec → List LogRec → Type 0
@@ -68,6 +78,7 @@ done_goes_on s (Feed index most) reply new does = let on = on_build s.live.build
 done_goes_on s (Apply index most) reply new does = let on = on_build s.live.build _ does.2 in keeps_log s new _ on.1.1 refl
 done_goes_on s Switch reply new does =
     let on = on_build s.live.build _ does.2 in same_log s new _ (ap (λ (t : CoreState). t.live.heap) on.1.2) (_, refl)
+done_goes_on s Fence reply new does = keeps_log s new _ does.1 refl
 done_goes_on s Abandon reply new does = keeps_log s new _ does.1 refl
 
 -- what is read of the rows and the spools alone
@@ -94,6 +105,7 @@ want_keeps {X} f s event fault new wants = by_event event wants where
   by_event (Feed index most) never = absurd never
   by_event (Apply index most) some = let on = on_build s.live.build _ some in ap (of_both f) on.1.2
   by_event Switch caught = let on = on_build s.live.build _ caught in ap (of_both f) on.1.3
+  by_event Fence never = absurd never
   by_event Abandon never = absurd never
 
 -- a step adds to the log alone
@@ -131,6 +143,7 @@ done_stakes s (Load index) reply new does = let on = on_build s.live.build _ doe
 done_stakes s (Feed index most) reply new does = let on = on_build s.live.build _ does.2 in ap stakes_of on.1.1
 done_stakes s (Apply index most) reply new does = let on = on_build s.live.build _ does.2 in ap stakes_of on.1.1
 done_stakes s Switch reply new does = let on = on_build s.live.build _ does.2 in ap stakes_of on.1.2
+done_stakes s Fence reply new does = ap stakes_of does.1
 done_stakes s Abandon reply new does = ap stakes_of does.1
 
 pub step_stakes : (s : CoreState) (event : Event) (reply : Reply) (new : CoreState) → Step s event reply new → stakes_of new ≡ stakes_of s
@@ -185,45 +198,62 @@ does_switch s Switch number verdicts new does =
       verdicts_are = verdicts_told ∙ on.1.1;
       new_is = ap (λ (t : CoreState). t.live) on.1.2;
     }
+does_switch s Fence number verdicts new does = absurd (let bad = does.0 in cc)
 does_switch s Abandon number verdicts new does = absurd (let bad = does.0 in cc)
 
-switches : (s : CoreState) (event : Event) (number : ℕ) (verdicts : List Outcome) (new : CoreState) → Step s event (Switched number verdicts) new → Switched_in s event number verdicts new
+pub switches : (s : CoreState) (event : Event) (number : ℕ) (verdicts : List Outcome) (new : CoreState) → Step s event (Switched number verdicts) new → Switched_in s event number verdicts new
 switches s event number verdicts new (inl refused) = absurd (let bad : Switched number verdicts ≡ Refused refused.0 = refused.1 in cc)
 switches s event number verdicts new (inr done) = does_switch s event number verdicts new done.1
 
--- the verdicts that so many indexes are ready, one by one
-ready_at : (first count i k : ℕ) → slice_get (ready_from first count) i ≡ Some (Ready k) → (i < count) × (k ≡ first + i)
-ready_at first zero i k at = absurd (let bad : None ≡ Some (Ready k) = at in cc)
-ready_at first (suc count) zero k at =
-    let same : Ready first ≡ Ready k = same_Some (Ready first) (Ready k) at in
-    let number : first ≡ k = cc in
-    (omega arith, omega (arith, number))
-ready_at first (suc count) (suc i) k at =
-    let rest = ready_at (first + 1) count i k at in
-    (omega (arith, rest.0), omega (arith, rest.1))
-
 -- as many verdicts as indexes
-pub count_ready : (first count : ℕ) → length (ready_from first count) ≡ count
-count_ready first zero = refl
-count_ready first (suc count) = ap suc (count_ready (first + 1) count)
+pub count_outcomes : (first : ℕ) (verdicts : List Verdict) → length (outcomes first verdicts) ≡ length verdicts
+count_outcomes first [] = refl
+count_outcomes first (verdict ∷ verdicts) = ap suc (count_outcomes (next_number first verdict) verdicts)
 
--- one verdict more
-pub ready_push : (first count : ℕ) → ready_from first (count + 1) ≡ ready_from first count ++ Ready (first + count) ∷ []
-ready_push first zero = ap (λ n. Ready n ∷ []) (let same : first ≡ first + 0 = omega arith in same)
-ready_push first (suc count) =
-    ap (ready_from first) (let same : suc count + 1 ≡ suc (count + 1) = omega arith in same)
-    ∙ ap (λ os. Ready first ∷ os)
-    (ready_push (first + 1) count
-    ∙ ap (λ n. ready_from (first + 1) count ++ Ready n ∷ []) (let same : (first + 1) + count ≡ first + suc count = omega arith in same))
+-- what became of one index of several: an accepted one stands behind those that were accepted before it
+record IsTold (log : List LogRec) (specs : List KeySpecValue) (first : ℕ) (spec : KeySpecValue) (it : Outcome) : Type 0 where
+  before : ℕ
+  is : it ≡ outcome (first + before) (verdict_on log spec)
+  there : accepts (verdict_on log spec) ≡ true → slice_get (map (index_now log) (accepted log specs)) before ≡ Some (index_now log spec)
 
--- and the indexes behind those that were ready
-index_at :
-    (log : List LogRec) (specs : List KeySpecValue) (i : ℕ) (spec : KeySpecValue) → slice_get specs i ≡ Some spec
-    → slice_get (map (index_now log) specs) i ≡ Some (index_now log spec)
-index_at log [] i spec at = absurd (let bad : None ≡ Some spec = at in cc)
-index_at log (x ∷ specs) zero spec at = ap (λ s. Some (index_now log s)) (same_Some x spec at)
-index_at log (x ∷ specs) (suc i) spec at = index_at log specs i spec at
+told_at :
+    (log : List LogRec) (specs : List KeySpecValue) (first i : ℕ) (spec : KeySpecValue) (it : Outcome) → slice_get specs i ≡ Some spec
+    → slice_get (outcomes first (map (verdict_on log) specs)) i ≡ Some it → IsTold log specs first spec it
+told_at log [] first i spec it at there = absurd (let bad : None ≡ Some spec = at in cc)
+told_at log (x ∷ specs) first zero spec it at there =
+    let same : x ≡ spec = same_Some x spec at in
+    subst (λ (s : KeySpecValue). IsTold log (x ∷ specs) first s it) same
+    record {
+      before = 0;
+      is = sym (same_Some (outcome first (verdict_on log x)) it there) ∙ ap (λ n. outcome n (verdict_on log x)) (let none : first ≡ first + 0 = omega arith in none);
+      there = λ takes. ap (λ (ss : List KeySpecValue). slice_get (map (index_now log) ss) 0) (accepted_more log x specs takes);
+    }
+told_at log (x ∷ specs) first (suc i) spec it at there =
+    by_verdict (accepts (verdict_on log x)) refl (told_at log specs (next_number first (verdict_on log x)) i spec it at there) where
+  by_verdict : (b : Bool) → accepts (verdict_on log x) ≡ b → IsTold log specs (next_number first (verdict_on log x)) spec it → IsTold log (x ∷ specs) first spec it
+  by_verdict true takes rest = record {
+    before = suc rest.before;
+    is = rest.is
+        ∙ ap (λ n. outcome (n + rest.before) (verdict_on log spec)) (cond-true (accepts (verdict_on log x)) (first + 1) first takes)
+        ∙ ap (λ n. outcome n (verdict_on log spec)) (let next : (first + 1) + rest.before ≡ first + suc rest.before = omega arith in next);
+    there = λ own. ap (λ (ss : List KeySpecValue). slice_get (map (index_now log) ss) (suc rest.before)) (accepted_more log x specs takes) ∙ rest.there own;
+  }
+  by_verdict false drops rest = record {
+    before = rest.before;
+    is = rest.is ∙ ap (λ n. outcome (n + rest.before) (verdict_on log spec)) (cond-false (accepts (verdict_on log x)) (first + 1) first drops);
+    there = λ own. ap (λ (ss : List KeySpecValue). slice_get (map (index_now log) ss) rest.before) (accepted_same log x specs drops) ∙ rest.there own;
+  }
 
+-- an index that is not unique shares no key
+unique_of_shared :
+    (log : List LogRec) (spec : KeySpecValue) (key : List ℕ) (first second : Rid) → verdict_on log spec ≡ Shared key first second → spec.unique ≡ true
+unique_of_shared log spec key first second is = by_unique spec.unique refl where
+  by_unique : (b : Bool) → spec.unique ≡ b → spec.unique ≡ true
+  by_unique true unique = unique
+  by_unique false plain =
+      absurd (let bad : Unique ≡ Shared key first second = sym (cond-false spec.unique (first_shared (shared_pairs (pairs_at_rest spec log))) Unique plain) ∙ is in cc)
+
+-- the indexes behind those that were ready
 behind : (ready more : List ReadyValue) (i : ℕ) → slice_get (ready ++ more) (length ready + i) ≡ slice_get more i
 behind [] more i = ap (slice_get more) (zero-add i)
 behind (index ∷ ready) more i =
@@ -245,24 +275,48 @@ module _ (s : CoreState) (event : Event) (number : ℕ) (verdicts : List Outcome
       sym (ap (λ n. take n end.live.heap.log) (sym length_is) ∙ ap (take (length new.live.heap.log)) goes.1 ∙ take-append_seam new.live.heap.log goes.0)
 
   each_is : length verdicts ≡ length switch.build.specs
-  each_is = ap length switch.verdicts_are ∙ count_ready (length s.live.ready) (length switch.build.specs)
+  each_is =
+      ap length switch.verdicts_are ∙ count_outcomes (length s.live.ready) (map (verdict_on s.live.heap.log) switch.build.specs)
+      ∙ length-map switch.build.specs (verdict_on s.live.heap.log)
 
-  ready_is :
-      (i k : ℕ) (spec : KeySpecValue) → slice_get verdicts i ≡ Some (Ready k) → slice_get switch.build.specs i ≡ Some spec
-      → HasPairsAtRest (first_records number end.live.heap.log) new.live.ready spec k
-  ready_is i k spec at of =
+  -- the rows are those that the switch found
+  at_rest_is : (spec : KeySpecValue) → pairs_at_rest spec s.live.heap.log ≡ pairs_at_rest spec (first_records number end.live.heap.log)
+  at_rest_is spec =
       let log : List LogRec = s.live.heap.log in
-      let which = ready_at (length s.live.ready) (length switch.build.specs) i k (ap (λ vs. slice_get vs i) (sym switch.verdicts_are) ∙ at) in
-      let kept : pairs_at_rest spec new.live.heap.log ≡ pairs_at_rest spec log =
-      ap (pairs_at_rest spec) log_is ∙ pairs_kept spec log (log ++ noted ∷ []) (λ rid. live_kept log noted rid refl) in
+      sym (ap (pairs_at_rest spec) log_is ∙ pairs_kept spec log (log ++ noted ∷ []) (λ rid. live_kept log noted rid refl))
+      ∙ ap (pairs_at_rest spec) beginning_is
+
+  decided_by :
+      (spec : KeySpecValue) (it : Outcome) (told : IsTold s.live.heap.log switch.build.specs (length s.live.ready) spec it) (verdict : Verdict)
+      → verdict_on s.live.heap.log spec ≡ verdict → IsDecided (first_records number end.live.heap.log) new.live.ready spec it
+  decided_by spec it told Unique is =
+      let log : List LogRec = s.live.heap.log in
+      let more : List ReadyValue = map (index_now log) (accepted log switch.build.specs) in
+      let ready : it ≡ Ready (length s.live.ready + told.before) = told.is ∙ ap (outcome (length s.live.ready + told.before)) is in
+      let made : HasPairsAtRest (first_records number end.live.heap.log) new.live.ready spec (length s.live.ready + told.before) =
       record {
         index = index_now log spec;
-        there = ap (λ (live : LiveState). slice_get live.ready k) switch.new_is
-            ∙ ap (slice_get (s.live.ready ++ map (index_now log) switch.build.specs)) which.1
-            ∙ behind s.live.ready (map (index_now log) switch.build.specs) i ∙ index_at log switch.build.specs i spec of;
+        there = ap (λ (live : LiveState). slice_get live.ready (length s.live.ready + told.before)) switch.new_is
+            ∙ behind s.live.ready more told.before ∙ told.there (ap accepts is);
         of_spec = refl;
-        at_rest = sym kept ∙ ap (pairs_at_rest spec) beginning_is;
-      }
+        at_rest = at_rest_is spec;
+      } in
+      subst (IsDecided (first_records number end.live.heap.log) new.live.ready spec) (sym ready)
+      (made, λ unique. subst IsUnique (at_rest_is spec) (subst (IsVerdict (pairs_at_rest spec log)) is (verdict_is_right log spec unique)))
+  decided_by spec it told (Shared key first second) is =
+      let log : List LogRec = s.live.heap.log in
+      let unique = unique_of_shared log spec key first second is in
+      subst (IsDecided (first_records number end.live.heap.log) new.live.ready spec) (sym (told.is ∙ ap (outcome (length s.live.ready + told.before)) is))
+      (unique, subst (λ (pairs : List Pair). IsLeast pairs (record { key = key; rid = first }) (record { key = key; rid = second })) (at_rest_is spec)
+      (subst (IsVerdict (pairs_at_rest spec log)) is (verdict_is_right log spec unique)))
+
+  right_is :
+      (i : ℕ) (spec : KeySpecValue) (verdict : Outcome) → slice_get switch.build.specs i ≡ Some spec → slice_get verdicts i ≡ Some verdict
+      → IsDecided (first_records number end.live.heap.log) new.live.ready spec verdict
+  right_is i spec verdict at there =
+      let told = told_at s.live.heap.log switch.build.specs (length s.live.ready) i spec verdict at
+      (ap (λ vs. slice_get vs i) (sym switch.verdicts_are) ∙ there) in
+      decided_by spec verdict told (verdict_on s.live.heap.log spec) refl
 
 -- the headline, of every run
 pub each_switch : (start end : CoreState) (events : List Event) (replies : List Reply) → Run start events replies end → EachSwitchIsAtRest start end events replies
@@ -284,7 +338,7 @@ each_switch start end (event ∷ events) (reply ∷ replies) run zero number ver
       build = switch.build;
       running = switch.running;
       each = each_is start event number verdicts run.0 end switch goes;
-      ready = ready_is start event number verdicts run.0 end switch goes;
+      right = right_is start event number verdicts run.0 end switch goes;
     }
 each_switch start end (event ∷ events) (reply ∷ replies) run (suc place) number verdicts at =
     let rest = each_switch run.0 end events replies run.2 place number verdicts at in
@@ -298,5 +352,5 @@ each_switch start end (event ∷ events) (reply ∷ replies) run (suc place) num
       build = rest.build;
       running = rest.running;
       each = rest.each;
-      ready = rest.ready;
+      right = rest.right;
     }

@@ -93,6 +93,7 @@ index_grown kinds log rec b spec index build is = record {
       (sym (ap (take index.applied) grows ∙ take-append-le index.applied (side_entries here log) (entries_of here log rec) is.there))
       ∙ sym (ap (λ ps. keys (apply_entries (take index.applied (side_entries here (log ++ rec ∷ []))) (set_of ps))) (pairs_kept here log rec b.scans scans));
   of_build = is.of_build;
+  of_spec = is.of_spec;
 } where
   here : Scanning
   here = scanning_of b spec

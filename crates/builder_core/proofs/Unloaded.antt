@@ -8,12 +8,13 @@ use Rattle.std.proofs.lemmas.List.{length-map}
 use Rattle.keybytes.specs.declared.fault.Fault.{Fault}
 use Rattle.keybytes.specs.declared.fault.Fault.TheVariants.{NoBuild, NotLoaded, NotScanned, Behind}
 use Rattle.keybytes.specs.Faults.{first_cause}
+use Rattle.heap_table.specs.HeapState.{busy_txns}
 use Rattle.builder_core.specs.Builds.{LiveValue, BuildingValue, WorkValue, IndexValue, IsRunning, WorksOn, index_state, work_state, core_state, cause_of}
 use Rattle.builder_core.specs.CatchingUp.{MayCatchUp}
 use Rattle.builder_core.specs.declared.event.Event.TheVariants.{Switch}
 use Rattle.builder_core.specs.CoreState.{BuildState, IndexState, WorkState, CoreState}
 use Rattle.builder_core.specs.Ranges.{open_range}
-use Rattle.builder_core.specs.Steps.{OnBuild, CatchesUp, AreFurther, build_cause, cause_if, index_refusal, apply_refusal, behind_refusal, switch_refusal}
+use Rattle.builder_core.specs.Steps.{OnBuild, CatchesUp, AreFurther, build_cause, cause_if, index_refusal, apply_refusal, behind_refusal, busy_refusal, refusal, switch_refusal}
 use Rattle.builder_core.specs.Workers.{all_unapplied, index_at, unloaded_index}
 use Rattle.std.proofs.lemmas.Option.{get_or_from_slice_get}
 use Rattle.builder_core.proofs.ApplyCauses.{first_none, inside_of}
@@ -95,7 +96,7 @@ module _
     (live : LiveValue) (building : BuildingValue) (b : BuildState) (w : WorkValue) (run : IsRunning live building b w) (fine : w.spoiled ≡ None)
     (all : open_range b ≡ None) where
   abbrev switch_cause : Option Fault
-  switch_cause = build_cause live.state.build (λ x. switch_refusal x live.state.heap.log (work_state building.workers building.work))
+  switch_cause = build_cause live.state.build (λ x. switch_refusal x live.state.heap (work_state building.workers building.work))
 
   unloaded_at : (o : Option ℕ) → o ≡ position (λ (index : IndexValue). not (is_some index.built)) w.indexes → unloaded_index (state_of building w) ≡ o
   unloaded_at o is = unloaded_seen w.indexes ∙ sym is
@@ -115,16 +116,20 @@ module _
         subst (λ (o : Option BuildState). OnBuild o (λ x. left ≡ all_unapplied x live.state.heap.log x.specs (work_state building.workers building.work).indexes)) run.build_is sum
         ∙ ap (λ (s : WorkState). all_unapplied b live.state.heap.log b.specs s.indexes) (state_is building w run.work_is fine)
 
-    behind_cause : switch_cause ≡ behind_refusal left
-    behind_cause = rw (run.build_is, state_is building w run.work_is fine, all, unloaded_at None none, left_is) refl
+    last_causes : switch_cause ≡ first_cause (behind_refusal left) (busy_refusal b (length (busy_txns live.state.heap)))
+    last_causes =
+        ap (λ (o : Option BuildState). build_cause o (λ x. switch_refusal x live.state.heap (work_state building.workers building.work))) run.build_is
+        ∙ ap (switch_refusal b live.state.heap) (state_is building w run.work_is fine)
+        ∙ rw (all, unloaded_at None none, sym left_is) refl
 
     pub too_far_behind : 1024 < left → switch_cause ≡ Some (Behind left)
-    too_far_behind more = behind_cause ∙ ap (λ (test : Bool). cause_if test (Behind left)) (lt-ltb 1024 left more)
+    too_far_behind more = last_causes ∙ ap (λ (test : Bool). first_cause (cause_if test (Behind left)) (busy_refusal b (length (busy_txns live.state.heap)))) (lt-ltb 1024 left more)
 
-    pub can_be_switched : left ≤ 1024 → switch_cause ≡ None
-    can_be_switched few =
-        behind_cause
-        ∙ ap (λ (test : Bool). cause_if test (Behind left)) (false_from_ne_true (nat_lt 1024 left) (λ more. let less = ltb-true 1024 left more in omega (arith, less, few)))
+    pub waits_for_writers : left ≤ 1024 → switch_cause ≡ busy_refusal b (length (busy_txns live.state.heap))
+    waits_for_writers few =
+        last_causes
+        ∙ ap (λ (test : Bool). first_cause (cause_if test (Behind left)) (busy_refusal b (length (busy_txns live.state.heap))))
+        (false_from_ne_true (nat_lt 1024 left) (λ more. let less = ltb-true 1024 left more in omega (arith, less, few)))
 
 no_fault : (o : Option ℕ) → option_map NotLoaded o ≡ None → o ≡ None
 no_fault None none = refl
@@ -139,11 +144,11 @@ module _ (live : LiveValue) (building : BuildingValue) where
   may_catch_up works free = by_build live.state.build refl where
     by_build : (o : Option BuildState) → live.state.build ≡ o → MayCatchUp (core_state live building)
     by_build None gone =
-        absurd (let bad : Some NoBuild ≡ None = ap (λ (o : Option BuildState). build_cause o (λ b. switch_refusal b live.state.heap.log now)) (sym gone) ∙ free in cc)
+        absurd (let bad : Some NoBuild ≡ None = ap (λ (o : Option BuildState). build_cause o (λ b. switch_refusal b live.state.heap now)) (sym gone) ∙ free in cc)
     by_build (Some b) runs =
         let many = indexes_many live building b runs works in
-        let causes : switch_refusal b live.state.heap.log now ≡ None =
-        ap (λ (o : Option BuildState). build_cause o (λ x. switch_refusal x live.state.heap.log now)) (sym runs) ∙ free in
+        let causes : switch_refusal b live.state.heap now ≡ None =
+        ap (λ (o : Option BuildState). build_cause o (λ x. switch_refusal x live.state.heap now)) (sym runs) ∙ free in
         let fine = first_none now.spoiled _ causes in
         let scanned = first_none (option_map NotScanned (open_range b)) _ fine.1 in
         let loaded = first_none (option_map NotLoaded (unloaded_index now)) _ scanned.1 in
@@ -171,3 +176,23 @@ may_after s new caught may = by_build s.live.build refl caught where
       let same = (it.2.each index spec.0 spec.1).loaded in
       let was = subst (λ (o : Option BuildState). OnBuild o (λ x. (i : ℕ) → i < length x.specs → apply_refusal x s.work i ≡ None)) is may index less in
       ap (λ l. first_cause (index_refusal b index) (first_cause s.work.spoiled (cause_if (not l) (NotLoaded index)))) same ∙ was)
+
+-- nor does it keep writers that the switch waits for
+pub no_busy_cause :
+    (s new : CoreState) → refusal s Switch ≡ None → CatchesUp s new
+    → OnBuild new.live.build (λ b. busy_refusal b (length (busy_txns new.live.heap)) ≡ None)
+no_busy_cause s new free caught = by_build s.live.build refl caught where
+  Caught : BuildState → Type 0
+  Caught b = (fed : List ℕ) × (indexes : List IndexState) × AreFurther b s.live.heap.log s.work.indexes fed indexes
+      × (new ≡ record s { live = record s.live { build = Some (record b { fed = fed }) }; work = record s.work { indexes = indexes } })
+
+  by_build : (o : Option BuildState) → s.live.build ≡ o → OnBuild o Caught → OnBuild new.live.build (λ b. busy_refusal b (length (busy_txns new.live.heap)) ≡ None)
+  by_build None is it = absurd it
+  by_build (Some b) is it =
+      let causes : switch_refusal b s.live.heap s.work ≡ None =
+      ap (λ (o : Option BuildState). build_cause o (λ x. switch_refusal x s.live.heap s.work)) (sym is) ∙ free in
+      let fine = first_none s.work.spoiled _ causes in
+      let scanned = first_none (option_map NotScanned (open_range b)) _ fine.1 in
+      let loaded = first_none (option_map NotLoaded (unloaded_index s.work)) _ scanned.1 in
+      let near = first_none (behind_refusal (all_unapplied b s.live.heap.log b.specs s.work.indexes)) _ loaded.1 in
+      subst (λ (t : CoreState). OnBuild t.live.build (λ b. busy_refusal b (length (busy_txns t.live.heap)) ≡ None)) (sym it.3) near.1

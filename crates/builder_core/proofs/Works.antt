@@ -16,7 +16,7 @@ use Rattle.std.proofs.lemmas.List.Sorted.{list_any-IsPermutation}
 use Rattle.keybytes.specs.Pairs.{AreOrdered, pair_cmp, set_of}
 use Rattle.keybytes.proofs.PairSets.{contains-set_of, same_members}
 use Rattle.run_maker.specs.Making.{MakerValue}
-use Rattle.builder_core.specs.Builds.{WorkValue, IndexValue, IsIndexOn, IsWorkOn, IsCaughtUpTo, with_index, fresh, fresh_index}
+use Rattle.builder_core.specs.Builds.{WorkValue, IndexValue, IsIndexOn, IsWorkOn, IsCaughtUpTo, with_index, fresh, fresh_index, with_pairs, is_unique}
 use Rattle.builder_core.proofs.Places.{at_set, replicate_at}
 use Rattle.builder_core.specs.CoreState.{BuildState, scanning_of}
 use Rattle.builder_core.specs.Ranges.{open_range}
@@ -31,6 +31,7 @@ fresh_on log b s = record {
   there = omega arith;
   loaded = λ built e. absurd (cc);
   of_build = λ built e. absurd (cc);
+  of_spec = λ built e. absurd (cc);
 }
 
 pub fresh_work_on :
@@ -74,6 +75,7 @@ scanned_index_on log b spec index worker page is more = record {
       omega (arith, none);
   loaded = λ built t. absurd (let some : is_some index.built ≡ true = ap is_some t in more (is.all some));
   of_build = is.of_build;
+  of_spec = is.of_spec;
 }
 
 -- one page more was copied
@@ -132,7 +134,7 @@ pub sorted_work_on :
     → slice_get b.specs index ≡ Some spec → open_range b ≡ None → IsPermutation made (scanned_pairs (scanning_of b spec) log) → IsPermutation made pairs
     → AreOrdered pairs → IsWorkOn kinds log b (with_index work index pairs 0)
 sorted_work_on kinds log b work index spec made pairs is here all whole moved ordered =
-    set_work_on kinds log b work index spec (record { built = Some (record { build = work.build; pairs = pairs }); applied = 0 }) is here (record {
+    set_work_on kinds log b work index spec (record { built = Some (with_pairs work index pairs); applied = 0 }) is here (record {
       all = λ e. all;
       none_before = λ e. absurd (cc);
       there = omega arith;
@@ -143,4 +145,7 @@ sorted_work_on kinds log b work index spec made pairs is here all whole moved or
       of_build = λ built t.
           let same : work.build ≡ built.build = cc in
           sym same ∙ is.number;
+      of_spec = λ built t.
+          let same : is_unique (slice_get work.specs index) ≡ built.unique = cc in
+          sym same ∙ ap is_unique (ap (λ specs. slice_get specs index) (sym is.specs) ∙ here);
     })

@@ -1,5 +1,5 @@
 -- What a table and the workers of its build keep between events, and how the two go together.
-use Rattle.std.specs.Prelude.{◌≡◌, ℕ, ◌+◌, ◌==◌, ◌<◌, ◌≤◌, Bool, List, [], ◌++◌, length, map, min, take, set, replicate, is_some, true, Option}
+use Rattle.std.specs.Prelude.{◌≡◌, ℕ, ◌+◌, ◌==◌, ◌<◌, ◌≤◌, Bool, List, [], ◌++◌, length, map, min, take, set, replicate, is_some, true, false, Option}
 use Rattle.std.specs.Prelude.{Some, None}
 use Rattle.std.specs.FinMap.{keys}
 use Rattle.std.specs.List.{All, slice_get}
@@ -133,10 +133,19 @@ cause_of live building event = refusal (core_state live building) event
 abbrev pub given_up : BuildingValue → BuildingValue
 given_up building = record building { spools = map ended_spool building.spools; work = None }
 
+-- whether a specification, if there is one, is of a unique index
+abbrev pub is_unique : Option KeySpecValue → Bool
+is_unique None = false
+is_unique (Some spec) = spec.unique
+
+-- an index of the work with these pairs in order
+abbrev pub with_pairs : WorkValue → ℕ → List Pair → BuiltValue
+with_pairs work index pairs = record { build = work.build; unique = is_unique (slice_get work.specs index); pairs = pairs }
+
 -- these pairs are the index's, in order, with so many entries applied
 abbrev pub with_index : WorkValue → ℕ → List Pair → ℕ → WorkValue
 with_index work index pairs applied =
-    record work { indexes = set work.indexes index (record { built = Some (record { build = work.build; pairs = pairs }); applied = applied }) }
+    record work { indexes = set work.indexes index (record { built = Some (with_pairs work index pairs); applied = applied }) }
 
 -- a build of these indexes by so many workers, over the ranges that are cut so, which fed so many entries of each
 abbrev pub build_over : ℕ → List KeySpecValue → ℕ → ℕ → CutsValue → List Scan → List ℕ → BuildState
@@ -194,6 +203,8 @@ pub record IsIndexOn (log : List LogRec) (b : BuildState) (spec : KeySpecValue) 
   -- in order they are the index's, with that number
   pub loaded : (built : BuiltValue) → index.built ≡ Some built → IsCaughtUpTo index.applied (scanning_of b spec) log built.pairs
   pub of_build : (built : BuiltValue) → index.built ≡ Some built → built.build ≡ b.number
+  -- and keep a tally where the index is unique
+  pub of_spec : (built : BuiltValue) → index.built ≡ Some built → built.unique ≡ spec.unique
 
 -- it is the work on these indexes of that build
 abbrev pub AreIndexesOn : List LogRec → BuildState → List IndexValue → Type 0

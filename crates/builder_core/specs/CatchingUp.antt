@@ -1,9 +1,15 @@
 -- How the indexes of a build catch up at its switch, and what is then ready.
-use Rattle.std.specs.Prelude.{◌≡◌, ℕ, ◌<◌, List, [], ◌∷◌, set, length, true, Option, Some, None}
+use Rattle.std.specs.Prelude.{◌≡◌, ℕ, ◌<◌, if◌then◌else◌, List, [], ◌∷◌, set, length, true, Option, Some, None}
 use Rattle.std.specs.List.{slice_get}
 use Rattle.keybytes.specs.Keys.{KeySpecValue, are_key_columns}
 use Rattle.keybytes.specs.declared.pair.Pair.{Pair}
-use Rattle.catch_up.specs.Built.{BuiltValue}
+use Rattle.heap_table.specs.HeapState.{HeapState, busy_txns}
+use Rattle.heap_table.specs.TablePairs.{pairs_at_rest}
+use Rattle.unique_verdict.specs.Verdicts.{accepts}
+use Rattle.unique_verdict.specs.declared.verdict.Verdict.{Verdict}
+use Rattle.unique_verdict.specs.declared.verdict.Verdict.TheVariants.{Unique}
+use Rattle.key_guards.specs.UniqueKeys.{HaveOwnKeys}
+use Rattle.catch_up.specs.Built.{BuiltValue, verdict_of}
 use Rattle.builder_core.specs.Builds.{IndexValue}
 use Rattle.builder_core.specs.CoreState.{BuildState, IndexState, CoreState, ReadyValue, IsIndex}
 use Rattle.builder_core.specs.Steps.{OnBuild, IsFurther, apply_refusal}
@@ -47,6 +53,14 @@ pub record IndexIsFurther (index : ℕ) (s new : CoreState) : Type 0 where
   pub further : IsFurther (all_entries build s.live.heap.log spec) (fed_to build index) old fed (record old { applied = applied })
   pub new_is : new ≡ further_by s build index old fed applied
 
+-- whether the keys of an index of a build are unique, if it has to know that
+abbrev pub built_verdict : Option BuiltValue → Verdict
+built_verdict None = Unique
+built_verdict (Some built) = verdict_of built
+
+abbrev pub its_verdict : IndexValue → Verdict
+its_verdict index = built_verdict index.built
+
 -- an index of a build has its pairs, which can be those of a ready index if the columns of its specification make a key
 pub record IsDoneIndex (spec : KeySpecValue) (index : IndexValue) : Type 0 where
   pub built : BuiltValue
@@ -58,8 +72,13 @@ abbrev pub built_pairs : Option BuiltValue → List Pair
 built_pairs None = []
 built_pairs (Some built) = built.pairs
 
--- these are ready, each with its specification
+-- the accepted ones are ready, each with its specification
 abbrev pub ready_of : List KeySpecValue → List IndexValue → List ReadyValue
 ready_of [] indexes = []
 ready_of (spec ∷ specs) [] = []
-ready_of (spec ∷ specs) (index ∷ indexes) = record { spec = spec; pairs = built_pairs index.built } ∷ ready_of specs indexes
+ready_of (spec ∷ specs) (index ∷ indexes) =
+    if accepts (its_verdict index) then record { spec = spec; pairs = built_pairs index.built } ∷ ready_of specs indexes else ready_of specs indexes
+
+-- guards may be begun for an index of that specification: if it is unique, no open transaction has a write that stands, and no two pairs have one key
+abbrev pub MayBeGuarded : HeapState → KeySpecValue → Type 0
+MayBeGuarded heap spec = spec.unique ≡ true → (busy_txns heap ≡ []) × HaveOwnKeys (pairs_at_rest spec heap.log)

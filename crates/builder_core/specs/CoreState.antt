@@ -1,6 +1,6 @@
 -- A table, its ready indexes and the build that runs, as callers see them: what a lock has to keep, and beside it what the workers of
 -- the build do and the spools that they have.
-use Rattle.std.specs.Prelude.{◌≡◌, ℕ, zero, suc, Bool, List, [], Option, None, Some}
+use Rattle.std.specs.Prelude.{◌≡◌, ℕ, zero, suc, Bool, false, List, [], Option, None, Some}
 use Rattle.spool_ledger.specs.Accounts.{Stake}
 use Rattle.std.specs.List.{All}
 use Rattle.keybytes.specs.Keys.{KeySpecValue}
@@ -9,7 +9,7 @@ use Rattle.keybytes.specs.declared.fault.Fault.{Fault}
 use Rattle.keybytes.specs.declared.kind.Kind.{Kind}
 use Rattle.keybytes.specs.declared.pair.Pair.{Pair}
 use Rattle.heap_log.specs.declared.record.LogRec.{LogRec}
-use Rattle.heap_table.specs.HeapState.{HeapState, after_visit}
+use Rattle.heap_table.specs.HeapState.{HeapState, after_visit, after_fence}
 use Rattle.heap_table.specs.TablePairs.{pairs_at_rest}
 use Rattle.builder_core.specs.Scanning.{Scanning}
 use Rattle.builder_core.specs.declared.scan.Scan.{Scan}
@@ -105,9 +105,9 @@ with_live s live = record s { live = live }
 abbrev pub with_heap : CoreState → HeapState → CoreState
 with_heap s heap = with_live s (live_with_heap s.live heap)
 
--- the table once its build is given up
+-- the table once its build is given up: transactions may begin again
 abbrev pub abandoned : LiveState → LiveState
-abandoned live = record live { build = None }
+abandoned live = record live { heap = after_fence false live.heap; build = None }
 
 -- nothing runs
 abbrev pub opening : LiveState → SpoolsState → CoreState

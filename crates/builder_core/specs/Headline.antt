@@ -1,12 +1,13 @@
 -- The headline: each index as it is switched in has the pairs of the rows then live, as a build at rest gives them.
-use Rattle.std.specs.Prelude.{◌≡◌, ℕ, suc, List, length, take, drop, Some}
+use Rattle.std.specs.Prelude.{◌≡◌, ℕ, suc, true, List, length, take, drop, Some}
 use Rattle.std.specs.List.{slice_get}
 use Rattle.keybytes.specs.Keys.{KeySpecValue}
 use Rattle.heap_log.specs.Growing.{first_records}
 use Rattle.heap_log.specs.declared.outcome.Outcome.{Outcome}
-use Rattle.heap_log.specs.declared.outcome.Outcome.TheVariants.{Ready}
+use Rattle.heap_log.specs.declared.outcome.Outcome.TheVariants.{Ready, Shared}
 use Rattle.heap_log.specs.declared.record.LogRec.{LogRec}
 use Rattle.heap_table.specs.TablePairs.{pairs_at_rest}
+use Rattle.unique_verdict.specs.Verdicts.{IsUnique, IsLeast}
 use Rattle.builder_core.specs.declared.event.Event.{Event}
 use Rattle.builder_core.specs.declared.reply.Reply.{Reply}
 use Rattle.builder_core.specs.declared.reply.Reply.TheVariants.{Switched}
@@ -20,6 +21,13 @@ pub record HasPairsAtRest (log : List LogRec) (ready : List ReadyValue) (spec : 
   pub there : slice_get ready number ≡ Some index
   pub of_spec : index.spec ≡ spec
   pub at_rest : index.pairs ≡ pairs_at_rest spec log
+
+-- what became of an index by a switch that found that log: it is ready with its pairs at rest, no two RIDs of which have one key if it is unique; or it is
+-- unique and refused for the least key that two RIDs have, with its two least RIDs
+abbrev pub IsDecided : List LogRec → List ReadyValue → KeySpecValue → Outcome → Type 0
+IsDecided log ready spec (Ready number) = HasPairsAtRest log ready spec number × (spec.unique ≡ true → IsUnique (pairs_at_rest spec log))
+IsDecided log ready spec (Shared key first second) =
+    (spec.unique ≡ true) × IsLeast (pairs_at_rest spec log) (record { key = key; rid = first }) (record { key = key; rid = second })
 
 -- the switch that was answered in that place of the list of events, with the number of its log record and its verdicts, on a
 -- run that ends in that state
@@ -37,9 +45,9 @@ pub record SwitchesIn (start end : CoreState) (events : List Event) (replies : L
   pub build : BuildState
   pub running : found.live.build ≡ Some build
   pub each : length verdicts ≡ length build.specs
-  -- and each index that it made ready has the pairs of the rows that this beginning leaves
-  pub ready : (i k : ℕ) (spec : KeySpecValue) → slice_get verdicts i ≡ Some (Ready k) → slice_get build.specs i ≡ Some spec
-      → HasPairsAtRest (first_records number end.live.heap.log) left.live.ready spec k
+  -- which is right for the rows that this beginning leaves
+  pub right : (i : ℕ) (spec : KeySpecValue) (verdict : Outcome) → slice_get build.specs i ≡ Some spec → slice_get verdicts i ≡ Some verdict
+      → IsDecided (first_records number end.live.heap.log) left.live.ready spec verdict
 
 -- so does every switch of the run that decided
 abbrev pub EachSwitchIsAtRest : CoreState → CoreState → List Event → List Reply → Type 0

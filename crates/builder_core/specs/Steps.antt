@@ -1,7 +1,7 @@
 -- What each event does and why it is refused; one step, and a run of events.
 use Rattle.std.specs.Prelude.{◌≡◌, ℕ, ◌+◌, ◌-◌, ◌<◌, ◌≤◌, Bool, true, false, ◌&&◌, ◌||◌, not, ◌==◌, nat_lt, nat_le, min, if◌then◌else◌, is_some, is_none, List, []}
 use Rattle.std.specs.Prelude.{◌∷◌, ◌++◌, ◌*◌, ◌⊎◌, length, map, replicate, get_or, set, Option, Some, None, Result, Ok, Err}
-use Rattle.std.specs.List.{list_any, list_all, range_with_len, slice_get}
+use Rattle.std.specs.List.{list_any, list_all, slice_get}
 use Rattle.std.specs.Option.{option_map}
 use Rattle.keybytes.specs.Faults.{first_cause}
 use Rattle.keybytes.specs.Keys.{KeySpecValue}
@@ -9,23 +9,24 @@ use Rattle.keybytes.specs.declared.kind.Kind.{Kind}
 use Rattle.keybytes.specs.declared.kind.Kind.TheVariants.{Int, Text, Flag}
 use Rattle.keybytes.specs.declared.fault.Fault.{Fault}
 use Rattle.keybytes.specs.declared.fault.Fault.TheVariants.{BuildRunning, NoBuild, BadCount, BadColumn, RangeDone, RingFull, NotScanned, NotSealed}
-use Rattle.keybytes.specs.declared.fault.Fault.TheVariants.{NotLoaded, Behind, SpoolNotEmpty, NoPage, Memory}
+use Rattle.keybytes.specs.declared.fault.Fault.TheVariants.{NotLoaded, Behind, Busy, SpoolNotEmpty, NoPage, Memory}
 use Rattle.heap_log.specs.declared.outcome.Outcome.{Outcome}
-use Rattle.heap_log.specs.declared.outcome.Outcome.TheVariants.{Ready}
 use Rattle.heap_log.specs.declared.record.LogRec.{LogRec}
 use Rattle.heap_table.specs.Calls.{Begins, Inserts, Updates, Deletes, Undoes, Commits}
 use Rattle.heap_table.specs.HeapState.{HeapState, begin_refusal, txn_refusal, insert_refusal, update_refusal, delete_refusal, undo_refusal, after_switch}
-use Rattle.heap_table.specs.HeapState.{after_visit}
+use Rattle.heap_table.specs.HeapState.{after_visit, after_fence, busy_txns}
 use Rattle.heap_table.specs.Pages.{pages_written}
 use Rattle.heap_table.specs.TablePairs.{pairs_at_rest}
 use Rattle.builder_core.specs.declared.plan.Plan.{Plan}
 use Rattle.builder_core.specs.declared.event.Event.{Event}
-use Rattle.builder_core.specs.declared.event.Event.TheVariants.{Begin, Insert, Update, Delete, Undo, Commit, Start, Scan, Digest, Seal, Load, Feed, Apply, Switch, Abandon}
+use Rattle.builder_core.specs.declared.event.Event.TheVariants.{Begin, Insert, Update, Delete, Undo, Commit, Start, Scan, Digest, Seal, Load, Feed, Apply, Fence, Switch, Abandon}
 use Rattle.builder_core.specs.declared.reply.Reply.{Reply}
 use Rattle.builder_core.specs.declared.reply.Reply.TheVariants.{Begun, Written, Undone, Committed, Started, Scanned, Digested, Sealed, Loaded, Fed, Applied, Switched}
-use Rattle.builder_core.specs.declared.reply.Reply.TheVariants.{Abandoned, Refused}
+use Rattle.builder_core.specs.declared.reply.Reply.TheVariants.{FenceSet, Abandoned, Refused}
 use Rattle.builder_core.specs.CoreState.{ReadyValue, BuildState, LiveState, IndexState, WorkState, SpoolsState, CoreState, scanning_of, live_with_heap, with_live}
 use Rattle.builder_core.specs.CoreState.{opening, idle, spoiled_work, all_given}
+use Rattle.builder_core.specs.KeyCauses.{row_refusal, change_refusal}
+use Rattle.builder_core.specs.Verdicts.{accepted, outcomes, verdict_on}
 use Rattle.builder_core.specs.Ranges.{dealt_ends, dealing_refusal, next_page, open_range}
 use Rattle.builder_core.specs.Scanning.{scanned_pairs}
 use Rattle.builder_core.specs.Workers.{put_to, worker_at, waiting, loud_worker, index_at, unloaded_index, all_entries, all_unapplied, fed_to, unfed, in_ring}
@@ -90,12 +91,11 @@ indexes_most = 8
 abbrev pub ready_most : ℕ
 ready_most = 32
 
--- 1 to 16 workers, 1 to 8 indexes of which none is unique, room for them among the ready ones, a number for the build, and a spool
--- for each worker and index
+-- 1 to 16 workers, 1 to 8 indexes, room for them among the ready ones, a number for the build, and a spool for each worker and index
 abbrev pub counts_fit : LiveState → ℕ → Plan → Bool
 counts_fit live spools plan =
     nat_le 1 plan.workers && nat_le plan.workers workers_most && nat_le 1 (length plan.specs.items) && nat_le (length plan.specs.items) indexes_most
-    && not (list_any (λ spec. spec.unique) plan.specs.items) && nat_le (length live.ready + length plan.specs.items) ready_most
+    && nat_le (length live.ready + length plan.specs.items) ready_most
     && nat_lt live.builds 18446744073709551615 && (spools == plan.workers * length plan.specs.items)
 
 -- why the spools that are left start no build
@@ -141,7 +141,7 @@ Starts plan s pages new =
       spools = all_given s.spools;
     })
 
--- Scan, Digest, Seal, Load, Feed, Apply, Switch and Abandon.
+-- Scan, Digest, Seal, Load, Feed, Apply, Switch, Fence and Abandon.
 
 -- why the running build refuses an event; that none runs is a reason too
 abbrev pub build_cause : Option BuildState → (BuildState → Option Fault) → Option Fault
@@ -292,26 +292,27 @@ switch_most = 1024
 abbrev pub behind_refusal : ℕ → Option Fault
 behind_refusal left = cause_if (nat_lt switch_most left) (Behind left)
 
--- why the indexes do not become ready
-abbrev pub switch_refusal : BuildState → List LogRec → WorkState → Option Fault
-switch_refusal b log work =
+-- a build with a unique index waits until none of so many open transactions has a write that stands
+abbrev pub busy_refusal : BuildState → ℕ → Option Fault
+busy_refusal b busy = cause_if (list_any (λ spec. spec.unique) b.specs && nat_lt 0 busy) (Busy busy)
+
+-- why a switch does not decide
+abbrev pub switch_refusal : BuildState → HeapState → WorkState → Option Fault
+switch_refusal b heap work =
     first_cause work.spoiled
     (first_cause (option_map NotScanned (open_range b))
-    (first_cause (option_map NotLoaded (unloaded_index work)) (behind_refusal (all_unapplied b log b.specs work.indexes))))
+    (first_cause (option_map NotLoaded (unloaded_index work))
+    (first_cause (behind_refusal (all_unapplied b heap.log b.specs work.indexes)) (busy_refusal b (length (busy_txns heap))))))
 
--- the verdicts that so many indexes are ready, numbered from that number on
-abbrev pub ready_from : ℕ → ℕ → List Outcome
-ready_from number count = map Ready (range_with_len number count)
-
--- what becomes of each index of the build
+-- what becomes of each index of the build: the accepted ones are ready, numbered behind those that are
 abbrev pub verdicts_on : LiveState → BuildState → List Outcome
-verdicts_on live b = ready_from (length live.ready) (length b.specs)
+verdicts_on live b = outcomes (length live.ready) (map (verdict_on live.heap.log) b.specs)
 
--- the indexes of the build are ready, with the pairs of the rows that stand, and no build runs
+-- the accepted indexes of the build are ready, with the pairs of the rows that stand; no build runs, and transactions may begin
 abbrev pub after_switch_in : LiveState → BuildState → LiveState
 after_switch_in live b = record live {
-  heap = after_switch live.heap (verdicts_on live b);
-  ready = live.ready ++ map (index_now live.heap.log) b.specs;
+  heap = after_fence false (after_switch live.heap (verdicts_on live b));
+  ready = live.ready ++ map (index_now live.heap.log) (accepted live.heap.log b.specs);
   build = None;
 }
 
@@ -344,6 +345,10 @@ CatchesUp s new =
     (fed : List ℕ) × (indexes : List IndexState) × AreFurther b s.live.heap.log s.work.indexes fed indexes
     × (new ≡ record s { live = record s.live { build = Some (record b { fed = fed }) }; work = record s.work { indexes = indexes } }))
 
+-- no transaction may begin until the build has decided or is given up
+abbrev pub fenced : LiveState → LiveState
+fenced live = live_with_heap live (after_fence true live.heap)
+
 -- the build is given up, and with it all its work
 abbrev pub Abandons : CoreState → CoreState → Type 0
 Abandons s new = new ≡ opening s.live s.spools
@@ -353,8 +358,8 @@ Abandons s new = new ≡ opening s.live s.spools
 -- why an event is refused: the first of its causes
 abbrev pub refusal : CoreState → Event → Option Fault
 refusal s Begin = begin_refusal s.live.heap
-refusal s (Insert txn row) = insert_refusal s.live.heap txn row
-refusal s (Update txn rid row) = update_refusal s.live.heap txn rid row
+refusal s (Insert txn row) = row_refusal s.live txn row
+refusal s (Update txn rid row) = change_refusal s.live txn rid row
 refusal s (Delete txn rid) = delete_refusal s.live.heap txn rid
 refusal s (Undo txn) = undo_refusal s.live.heap txn
 refusal s (Commit txn) = txn_refusal s.live.heap txn
@@ -365,8 +370,28 @@ refusal s (Seal worker) = build_cause s.live.build (λ b. worker_refusal b s.wor
 refusal s (Load index) = build_cause s.live.build (λ b. load_refusal b s index)
 refusal s (Feed index most) = build_cause s.live.build (λ b. index_refusal b index)
 refusal s (Apply index most) = build_cause s.live.build (λ b. apply_refusal b s.work index)
-refusal s Switch = build_cause s.live.build (λ b. switch_refusal b s.live.heap.log s.work)
+refusal s Switch = build_cause s.live.build (λ b. switch_refusal b s.live.heap s.work)
+refusal s Fence = build_cause s.live.build (λ b. None)
 refusal s Abandon = build_cause s.live.build (λ b. None)
+
+-- the causes that are looked for before memory is taken: of a write all but those of keys, which take memory to be made
+abbrev pub early_refusal : CoreState → Event → Option Fault
+early_refusal s Begin = refusal s Begin
+early_refusal s (Insert txn row) = insert_refusal s.live.heap txn row
+early_refusal s (Update txn rid row) = update_refusal s.live.heap txn rid row
+early_refusal s (Delete txn rid) = refusal s (Delete txn rid)
+early_refusal s (Undo txn) = refusal s (Undo txn)
+early_refusal s (Commit txn) = refusal s (Commit txn)
+early_refusal s (Start plan) = refusal s (Start plan)
+early_refusal s (Scan range worker) = refusal s (Scan range worker)
+early_refusal s (Digest worker) = refusal s (Digest worker)
+early_refusal s (Seal worker) = refusal s (Seal worker)
+early_refusal s (Load index) = refusal s (Load index)
+early_refusal s (Feed index most) = refusal s (Feed index most)
+early_refusal s (Apply index most) = refusal s (Apply index most)
+early_refusal s Fence = refusal s Fence
+early_refusal s Switch = refusal s Switch
+early_refusal s Abandon = refusal s Abandon
 
 -- the reply to an event tells what that relation answers
 abbrev pub Tells : {R : Type 0} → (R → Reply) → (CoreState → R → CoreState → Type 0) → CoreState → Reply → CoreState → Type 0
@@ -388,6 +413,7 @@ Does s (Load index) reply new = Tells Loaded (Loads index) s reply new
 Does s (Feed index most) reply new = Tells Fed (Feeds index most) s reply new
 Does s (Apply index most) reply new = Tells Applied (Applies index most) s reply new
 Does s Switch reply new = Tells (λ told. Switched told.0 told.1) Switches s reply new
+Does s Fence reply new = (reply ≡ FenceSet) × (new ≡ with_live s (fenced s.live))
 Does s Abandon reply new = (reply ≡ Abandoned) × Abandons s new
 
 -- the build can't go on for that fault
@@ -415,7 +441,8 @@ IsWant (Load index) fault = fault ≡ Memory
 IsWant (Feed index most) fault = ⊥
 IsWant (Apply index most) fault = fault ≡ Memory
 IsWant Switch fault = fault ≡ Memory
--- to give a build up takes no memory
+-- nor does it to set the fence, or to give a build up
+IsWant Fence fault = ⊥
 IsWant Abandon fault = ⊥
 
 -- what want leaves: it changes nothing, but spoils a build whose pairs were being spooled or put in order, and what was applied stays
@@ -435,12 +462,13 @@ AfterWant (Load index) fault s new = ((index_at s.work.indexes index).loaded ≡
 AfterWant (Feed index most) fault s new = ⊥
 AfterWant (Apply index most) fault s new = AppliesSome index most s new
 AfterWant Switch fault s new = CatchesUp s new
+AfterWant Fence fault s new = ⊥
 AfterWant Abandon fault s new = ⊥
 
--- an event is refused for a fault: it has that cause, and nothing changes; or it has none, and wants what isn't there
+-- an event is refused for a fault: it has that cause, and nothing changes; or it has none that is looked for before, and wants what isn't there
 abbrev pub IsRefused : CoreState → Event → Fault → CoreState → Type 0
 IsRefused s event fault new =
-    ((refusal s event ≡ Some fault) × (new ≡ s)) ⊎ ((refusal s event ≡ None) × IsWant event fault × AfterWant event fault s new)
+    ((refusal s event ≡ Some fault) × (new ≡ s)) ⊎ ((early_refusal s event ≡ None) × IsWant event fault × AfterWant event fault s new)
 
 -- the reply to an event, or the fault of its refusal
 abbrev pub Answers : CoreState → Event → Result Reply Fault → CoreState → Type 0

@@ -16,7 +16,7 @@ use Rattle.run_maker.specs.Making.{MakerValue}
 use Rattle.building.specs.ImagePairs.{HaveRows}
 use Rattle.building.specs.Work.{next_images, after_digest}
 use Rattle.building.specs.WorkerValue.{WorkerValue}
-use Rattle.builder_core.specs.Builds.{BuildingValue, WorkValue, IndexValue, IsUnloaded, with_index}
+use Rattle.builder_core.specs.Builds.{BuildingValue, WorkValue, IndexValue, IsUnloaded, is_unique, with_index}
 use Rattle.builder_core.specs.Columns.{own_spools, with_own, column}
 use Rattle.builder_core.specs.Holding.{SpoolValue, Kit, IsFit, runs_of, pairs_in, stakes_of, kit_of, ended_column}
 
@@ -128,6 +128,7 @@ pub record IsTakingEntries (index : ℕ) (building : BuildingValue) : Type 0 whe
   pub built : BuiltValue
   pub loaded : it.built ≡ Some built
   pub of_build : built.build ≡ work.build
+  pub of_spec : built.unique ≡ is_unique (slice_get work.specs index)
   pub end : TakeEnd Entry
   pub at : slice_get building.sides index ≡ Some end
 

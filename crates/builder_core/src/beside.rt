@@ -8,12 +8,12 @@ ghost use Rattle.builder_core.specs.Working.{CanTake, HasTaken, one_copy, all_co
 
 use crate::ending::end_spools;
 use crate::index_work::IndexWork;
-use crate::merging::merged_tree;
+use crate::sorted::sorted_index;
 use crate::taking::{digest_at, seal_at};
 use crate::work::Work;
 use crate::{Ends, Table};
 use building::Worker;
-use catch_up::{Built, apply};
+use catch_up::apply;
 use keybytes::Fault;
 use rtrb::Consumer;
 use run_spool::{Spool, are_empty};
@@ -220,23 +220,16 @@ impl<S: Spool, T: Table> Building<S, T> {
         if work.is_loaded(index) {
             return Ok(0);
         }
-        let tree = match merged_tree(
-            alloc,
-            &mut self.spools,
-            index,
-            work.specs.len(),
-            work.workers,
-        ) {
-            Ok(tree) => tree,
+        let built = match sorted_index(alloc, &mut self.spools, index, work) {
+            Ok(built) => built,
             Err(fault) => {
                 work.spoiled = Some(fault);
                 return Err(fault);
             }
         };
-        let count = tree.len();
-        tree.laws();
+        let count = built.tree().len();
         work.indexes[index] = IndexWork {
-            built: Some(Built::new(work.build, tree)),
+            built: Some(built),
             applied: 0,
         };
         Ok(count)

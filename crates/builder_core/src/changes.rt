@@ -14,13 +14,16 @@ ghost use Rattle.building.specs.declared.copied.Copied.{Copied};
 ghost use Rattle.builder_core.specs.Rings.{PagesFollow};
 ghost use Rattle.builder_core.specs.Changing.{FitsBuild, IsChangeOf, AreChangesOf, HaveAppended, HaveNoted, without_room};
 ghost use Rattle.builder_core.specs.CoreState.{AreIndexesOf};
+ghost use Rattle.builder_core.specs.KeyCauses.{AreGuarded, AreLetIn};
 ghost use Rattle.builder_core.specs.SideFiles.{SidesFollow, put_ends};
 ghost use Rattle.builder_core.specs.Steps.{ready_now};
 
 use crate::ReadyIndex;
+use crate::guarding::{make_guard_room, tell};
 use crate::ready_changes::{change_tree, key_of, ready_change};
 use crate::table_scan::TableScan;
 use heap_table::{Heap, Performed, Ready, Undone};
+use key_guards::Guards;
 use keybytes::{Fault, Rid, Row};
 use side_file::{Entry, Op, SideFile};
 use std::alloc::Global;
@@ -166,6 +169,7 @@ fn perform(
 /// index is changed after it, when nothing more is wanted; for want of memory nothing changes.
 fn perform_with(
     indexes: &mut [ReadyIndex],
+    guards: &mut [Guards],
     heap: &mut Heap,
     alloc: Global,
     sides: &mut Vec<SideFile>,
@@ -174,6 +178,8 @@ fn perform_with(
 ) -> Result<Performed, Fault>
     requires ready { IsReady heap.old ready }
     requires indexes { AreIndexesOf heap.old.state.schema heap.old.state.log indexes.old }
+    requires guarded { AreGuarded heap.old.state.log indexes.old guards.old }
+    requires keys { ready.undone ≡ None → AreLetIn heap.old.state.log indexes.old ready }
     requires build { BuildFollows heap.old.state.schema heap.old.state.log build.now }
     requires sides { SidesFollow heap.old.state.log build.now sides.old.items }
     requires eight { length sides.old.items ≡ 8 }
@@ -181,7 +187,9 @@ fn perform_with(
     ensures rows { OnOk result (SetsRow heap.old.state.log ready.rid ready.new heap.new.state.log) }
     ensures answer { IfOk result (λ done. done ≡ answer_of heap.new.state ready.txn ready.rid ready.undone) }
     ensures ready { OnOk result (indexes.new ≡ ready_now heap.new.state.log indexes.old) }
+    ensures guarded { OnOk result (AreGuarded heap.new.state.log indexes.old guards.new) }
     ensures kept { OnErr result (indexes.new ≡ indexes.old) }
+    ensures still { OnErr result (AreGuarded heap.old.state.log indexes.old guards.new) }
     ensures follows { BuildFollows heap.new.state.schema heap.new.state.log build.now }
     ensures put { (builds : ℕ) (all : List (List Copied)) → PagesFollow heap.old.state.schema heap.old.state.log builds build.now all
         → PagesFollow heap.new.state.schema heap.new.state.log builds build.now all }
@@ -195,11 +203,16 @@ fn perform_with(
     let Some((index, rest)) = indexes.split_first_mut() else {
         return perform(heap, alloc, sides, build, ready);
     };
+    let Some((own, others)) = guards.split_first_mut() else {
+        unreachable!()
+    };
     heap.laws();
-    let rid = ready.rid;
+    let (rid, txn, undone) = (ready.rid, ready.txn(), ready.undone());
     let change = ready_change(&index.spec, &mut index.tree, &ready)?;
-    let done = perform_with(rest, heap, alloc, sides, build, ready)?;
-    change_tree(&mut index.tree, rid, change);
+    make_guard_room(own, &index.spec, txn, &change)?;
+    let done = perform_with(rest, others, heap, alloc, sides, build, ready)?;
+    let taken = change_tree(&mut index.tree, rid, change);
+    tell(own, &index.spec, txn, undone, heap.records(), taken);
     // The rows that stand fit the columns of the index, which make a key.
     heap.laws();
     let _columns = index.spec.columns();
@@ -209,6 +222,7 @@ fn perform_with(
 /// Does a write that was made ready; answered with its record's number and the RID.
 pub fn write(
     indexes: &mut Vec<ReadyIndex>,
+    guards: &mut Vec<Guards>,
     heap: &mut Heap,
     alloc: Global,
     sides: &mut Vec<SideFile>,
@@ -217,7 +231,9 @@ pub fn write(
 ) -> Result<(usize, Rid), Fault>
     requires ready { IsReady heap.old ready }
     requires write { ready.undone ≡ None }
+    requires keys { AreLetIn heap.old.state.log indexes.old.items ready }
     requires indexes { AreIndexesOf heap.old.state.schema heap.old.state.log indexes.old.items }
+    requires guarded { AreGuarded heap.old.state.log indexes.old.items guards.old.items }
     requires build { BuildFollows heap.old.state.schema heap.old.state.log build.now }
     requires sides { SidesFollow heap.old.state.log build.now sides.old.items }
     requires eight { length sides.old.items ≡ 8 }
@@ -227,6 +243,7 @@ pub fn write(
     ensures ready { OnOk result (indexes.new.items ≡ ready_now heap.new.state.log indexes.old.items) }
     ensures kept { OnErr result (indexes.new.items ≡ indexes.old.items) }
     ensures indexes { AreIndexesOf heap.new.state.schema heap.new.state.log indexes.new.items }
+    ensures guarded { AreGuarded heap.new.state.log indexes.new.items guards.new.items }
     ensures follows { BuildFollows heap.new.state.schema heap.new.state.log build.now }
     ensures put { (builds : ℕ) (all : List (List Copied)) → PagesFollow heap.old.state.schema heap.old.state.log builds build.now all
         → PagesFollow heap.new.state.schema heap.new.state.log builds build.now all }
@@ -238,7 +255,7 @@ pub fn write(
     ensures memory { IfErr result (λ fault. fault ≡ Fault.Memory) }
 {
     let Performed::Written { number, rid } = perform_with(
-        indexes, heap, alloc, sides, build, ready,
+        indexes, guards, heap, alloc, sides, build, ready,
     )?
     else {
         unreachable!()
@@ -249,6 +266,7 @@ pub fn write(
 /// Does an undo that was made ready.
 pub fn undo(
     indexes: &mut Vec<ReadyIndex>,
+    guards: &mut Vec<Guards>,
     heap: &mut Heap,
     alloc: Global,
     sides: &mut Vec<SideFile>,
@@ -258,6 +276,7 @@ pub fn undo(
     requires ready { IsReady heap.old ready }
     requires undo { IsSome ready.undone }
     requires indexes { AreIndexesOf heap.old.state.schema heap.old.state.log indexes.old.items }
+    requires guarded { AreGuarded heap.old.state.log indexes.old.items guards.old.items }
     requires build { BuildFollows heap.old.state.schema heap.old.state.log build.now }
     requires sides { SidesFollow heap.old.state.log build.now sides.old.items }
     requires eight { length sides.old.items ≡ 8 }
@@ -267,6 +286,7 @@ pub fn undo(
     ensures ready { OnOk result (indexes.new.items ≡ ready_now heap.new.state.log indexes.old.items) }
     ensures kept { OnErr result (indexes.new.items ≡ indexes.old.items) }
     ensures indexes { AreIndexesOf heap.new.state.schema heap.new.state.log indexes.new.items }
+    ensures guarded { AreGuarded heap.new.state.log indexes.new.items guards.new.items }
     ensures follows { BuildFollows heap.new.state.schema heap.new.state.log build.now }
     ensures put { (builds : ℕ) (all : List (List Copied)) → PagesFollow heap.old.state.schema heap.old.state.log builds build.now all
         → PagesFollow heap.new.state.schema heap.new.state.log builds build.now all }
@@ -277,7 +297,9 @@ pub fn undo(
     ensures unchanged { OnErr result (heap.new ≡ heap.old) }
     ensures memory { IfErr result (λ fault. fault ≡ Fault.Memory) }
 {
-    let Performed::Undone(undone) = perform_with(indexes, heap, alloc, sides, build, ready)? else {
+    let Performed::Undone(undone) = perform_with(
+        indexes, guards, heap, alloc, sides, build, ready,
+    )? else {
         unreachable!()
     };
     Ok(undone)

@@ -1,4 +1,4 @@
-ghost use Rattle.std.specs.Prelude.{◌≡◌, [], All, map, Some, None, is_some, IfOk, IfErr, OnOk, OnErr, MatchResult, slice_get};
+ghost use Rattle.std.specs.Prelude.{◌≡◌, ℕ, List, [], All, map, Some, None, is_some, IfOk, IfErr, OnOk, OnErr, MatchResult, MatchOption, slice_get};
 ghost use Rattle.keybytes.specs.Faults.{RefusedFor};
 ghost use Rattle.heap_log.specs.Standing.{live_at};
 ghost use Rattle.heap_table.specs.HeapState.{row_missing, after_visit};
@@ -8,7 +8,9 @@ ghost use Rattle.heap_table.specs.TablePairs.{pairs_at_rest};
 ghost use Rattle.builder_core.specs.CoreState.{opening, abandoned, after_visits, with_heap, ReadyFollowTable};
 ghost use Rattle.std.specs.VecDeque.Iter.{deque_iter_rest};
 ghost use Rattle.builder_core.specs.SideFiles.{AreEntriesLeft, HaveEntryKeys, side_refusal};
+ghost use Rattle.heap_log.specs.declared.outcome.Outcome.{Outcome};
 ghost use Rattle.builder_core.specs.Steps.{Step, Answers, OnBuild};
+ghost use Rattle.builder_core.specs.Verdicts.{HaveSharedKeys};
 ghost use Rattle.std.specs.Prelude.{IfSome};
 ghost use Rattle.builder_core.specs.Holding.{spools_in};
 ghost use Rattle.builder_core.specs.Invariant.{BuildIsSound};
@@ -141,6 +143,13 @@ impl<S: Spool, T: Table> Core<S, T> {
         self.live.get(rid)
     }
 
+    /// What makes the keys of each index that is being built; none where no build runs.
+    pub fn specs(&self) -> Option<&[KeySpec]>
+        ensures { MatchOption result (self.now.live.build ≡ None) (λ specs. OnBuild self.now.live.build (λ b. specs.now ≡ b.specs)) }
+    {
+        self.live.specs()
+    }
+
     /// What makes the keys of an index that is being built. [`Fault::NoBuild`], [`Fault::BadCount`].
     pub fn spec(&self, index: usize) -> Result<&KeySpec, Fault>
         ensures spec { IfOk result (λ spec. OnBuild self.now.live.build (λ b. slice_get b.specs index ≡ Some spec.now)) }
@@ -165,9 +174,12 @@ impl<S: Spool, T: Table> Core<S, T> {
     pub fn step(&mut self, event: Event) -> Reply
         ensures step { Step self.old event result self.new }
         ensures stakes { self.new.spools.stakes ≡ self.old.spools.stakes }
+        ensures keys { (number : ℕ) (verdicts : List Outcome) → result ≡ Reply.Switched number verdicts
+            → OnBuild self.old.live.build (λ b. HaveSharedKeys b.specs verdicts) }
         ensures ready { ReadyFollowTable self.new.live }
         ensures sound { IfSome self.new.live.build (λ b. BuildIsSound b self.new.live.heap.log) }
     {
+        self.live.rows();
         let answer = self.attempt_own(event);
         self.reply(answer)
     }
@@ -225,6 +237,7 @@ impl<S: Spool, T: Table> Core<S, T> {
             Event::Load { index } => self.load(*index),
             Event::Feed { index, most } => self.feed(*index, *most),
             Event::Apply { index, most } => self.apply(*index, *most),
+            Event::Fence => self.fence(),
             Event::Switch => self.switch(),
             Event::Abandon => self.abandon(),
         }
@@ -342,6 +355,13 @@ impl<S: Spool, T: Table> Core<S, T> {
         self.live.check_apply(index, &self.building)?;
         let entries = self.live.apply(index, most, &mut self.building)?;
         Ok(Reply::Applied { entries })
+    }
+
+    fn fence(&mut self) -> Result<Reply, Fault>
+        ensures { Answers self.old Event.Fence result self.new }
+    {
+        self.live.fence()?;
+        Ok(Reply::FenceSet)
     }
 
     fn switch(&mut self) -> Result<Reply, Fault>

@@ -9,7 +9,7 @@ use keybytes::{Rid, Row};
 /// build: a scan, a digest, a seal, a load, an apply and a switch are then refused so, right behind [`Fault::NoBuild`] and [`Fault::BadCount`].
 #[derive(Debug, Drop)]
 pub enum Event {
-    /// A transaction begins. [`Fault::TooManyTxns`].
+    /// A transaction begins. [`Fault::Fenced`], [`Fault::TooManyTxns`].
     Begin,
     /// The transaction inserts a row. [`Fault::NoSuchTxn`], [`Fault::TxnEnding`], [`Fault::RowShape`], [`Fault::TableFull`].
     Insert { txn: u64, row: Row },
@@ -23,7 +23,7 @@ pub enum Event {
     Undo { txn: u64 },
     /// The transaction ends, and keeps its writes. [`Fault::NoSuchTxn`], [`Fault::TxnEnding`].
     Commit { txn: u64 },
-    /// A build starts, of 1 to 8 indexes of which none is unique, by 1 to 16 workers over 1 to 256 ranges. [`Fault::BuildRunning`];
+    /// A build starts, of 1 to 8 indexes, by 1 to 16 workers over 1 to 256 ranges. [`Fault::BuildRunning`];
     /// [`Fault::BadCount`] for other counts, where more than 32 indexes would be ready with these, and where the spools that are left
     /// aren't one for each worker and index, that of worker w and index i at w times the indexes plus i;
     /// [`Fault::BadColumn`] for an index of other columns than the table's; [`Fault::BadRanges`] for other numbers of ranges, ends that
@@ -46,10 +46,14 @@ pub enum Event {
     /// At most so many entries that wait in the ring are applied to the pairs of the index. [`Fault::NoBuild`], [`Fault::BadCount`],
     /// [`Fault::NotLoaded`]. Those that were applied before memory was wanted stay applied.
     Apply { index: usize, most: usize },
+    /// From now on no transaction may begin, until a switch decides or the build is given up: so that those that are open come to
+    /// their end. [`Fault::NoBuild`]. Takes no memory.
+    Fence,
     /// The entries that are left are applied, the indexes of the build become ready, and the build ends. Entries that were applied
     /// before memory was wanted stay applied, and it can be asked for again. [`Fault::NoBuild`], [`Fault::NotScanned`],
-    /// [`Fault::NotLoaded`]; [`Fault::Behind`] while more than 1,024 entries of all side-files are left to apply.
+    /// [`Fault::NotLoaded`]; [`Fault::Behind`] while more than 1,024 entries of all side-files are left to apply; where an index of the
+    /// build is unique, [`Fault::Busy`] while open transactions have writes that stand, with their number.
     Switch,
-    /// The build is given up. [`Fault::NoBuild`].
+    /// The build is given up, and the fence with it. [`Fault::NoBuild`].
     Abandon,
 }

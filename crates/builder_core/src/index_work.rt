@@ -1,8 +1,12 @@
-ghost use Rattle.std.specs.Prelude.{◌≡◌, IsSome, IfSome};
+ghost use Rattle.std.specs.Prelude.{◌≡◌, IsSome, IfSome, IfOk, IfErr};
+ghost use Rattle.unique_verdict.specs.Verdicts.{accepts};
+ghost use Rattle.builder_core.specs.CatchingUp.{its_verdict};
 
 use btree::Tree;
 use catch_up::Built;
+use keybytes::Fault;
 use std::marker::Model;
+use unique_verdict::Verdict;
 
 /// The work on one index of a build.
 #[derive(Drop)]
@@ -22,6 +26,27 @@ impl Model for IndexWork {
 }
 
 impl IndexWork {
+    /// Whether its keys are unique, and which is shared if they aren't; one that needn't be unique is not asked.
+    pub(crate) fn verdict(&self) -> Result<Verdict, Fault>
+        ensures told { IfOk result (λ verdict. verdict ≡ its_verdict self.now) }
+        ensures memory { IfErr result (λ fault. fault ≡ Fault.Memory) }
+    {
+        match &self.built {
+            Some(built) => built.verdict(),
+            None => Ok(Verdict::Unique),
+        }
+    }
+
+    /// Whether that verdict accepts it. Takes no memory.
+    pub(crate) fn is_accepted(&self) -> bool
+        ensures { result ≡ accepts (its_verdict self.now) }
+    {
+        match &self.built {
+            Some(built) => built.is_accepted(),
+            None => true,
+        }
+    }
+
     /// Its pairs, which are in order.
     pub(crate) fn into_tree(self) -> Tree
         requires { IsSome self.built }

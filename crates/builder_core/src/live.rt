@@ -3,6 +3,7 @@ ghost use Rattle.builder_core.specs.Steps.{OnBuild};
 ghost use Rattle.keybytes.specs.Faults.{RefusedFor};
 ghost use Rattle.heap_log.specs.Standing.{live_at};
 ghost use Rattle.heap_table.specs.HeapState.{after_visit, row_missing};
+ghost use Rattle.heap_table.specs.Kept.{RowsFit};
 ghost use Rattle.heap_table.specs.Pages.{pages_written};
 ghost use Rattle.heap_table.specs.TablePairs.{pairs_at_rest};
 ghost use Rattle.keybytes.specs.Pairs.{HaveKeysOf, AreInColumnOrder};
@@ -12,13 +13,16 @@ ghost use Rattle.builder_core.specs.Invariant.{BuildIsSound, EachPageOnce};
 ghost use Rattle.std.specs.VecDeque.Iter.{deque_iter_rest};
 ghost use Rattle.builder_core.specs.SideFiles.{AreEntriesLeft, HaveEntryKeys, NoneAhead, side_refusal, put_ends};
 ghost use Rattle.builder_core.specs.CoreState.{abandoned, after_visits, ReadyFollowTable};
+ghost use Rattle.builder_core.specs.KeyCauses.{KeysAreGuarded};
 
+use crate::guarding::guards_laws;
 use crate::live_sides::reset_all;
 use crate::rest::at_rest;
 use crate::table_scan::TableScan;
 use crate::{Pair, ReadyIndex, Table};
 use building::PagePutter;
 use heap_table::Heap;
+use key_guards::Guards;
 use keybytes::{Fault, KeySpec, Rid, Row};
 use side_file::{Entry, SideFile};
 use std::alloc::Global;
@@ -33,6 +37,8 @@ pub struct Live<T: Table> {
     pub(crate) alloc: Global,
     pub(crate) heap: Heap,
     pub(crate) ready: Vec<ReadyIndex>,
+    /// Beside each ready index the keys that open transactions may give back.
+    pub(crate) guards: Vec<Guards>,
     pub(crate) builds: u64,
     pub(crate) build: Option<TableScan>,
     pub(crate) pages: Vec<PagePutter>,
@@ -42,6 +48,7 @@ pub struct Live<T: Table> {
 
 impl<T: Table> Model for Live<T> {
     ghost use Rattle.builder_core.specs.CoreState.{AreIndexesOf};
+    ghost use Rattle.builder_core.specs.KeyCauses.{AreGuarded};
     ghost use Rattle.builder_core.specs.Builds.{LiveValue, BuildFollows};
     ghost use Rattle.builder_core.specs.Rings.{all_sent, ArePutEnds, AreOfBuilds, PagesFollow};
     ghost use Rattle.builder_core.specs.SideFiles.{SidesFollow, put_ends};
@@ -58,7 +65,8 @@ impl<T: Table> Model for Live<T> {
         × BuildFollows live.heap.state.schema live.heap.state.log live.build
         × SidesFollow live.heap.state.log live.build live.sides.items
         × PagesFollow live.heap.state.schema live.heap.state.log live.builds live.build (all_sent live.pages.items)
-        × AreOfBuilds live.builds (all_sent live.pages.items) × ArePutEnds T.pages T.sides live.pages.items (put_ends live.sides.items) };
+        × AreOfBuilds live.builds (all_sent live.pages.items) × ArePutEnds T.pages T.sides live.pages.items (put_ends live.sides.items)
+        × AreGuarded live.heap.state.log live.ready.items live.guards.items };
 }
 
 impl<T: Table> Live<T> {
@@ -81,6 +89,7 @@ impl<T: Table> Live<T> {
             alloc,
             heap,
             ready: Vec::new(alloc),
+            guards: Vec::new(alloc),
             builds: 0,
             build: None,
             pages,
@@ -100,9 +109,21 @@ impl<T: Table> Live<T> {
     /// Does nothing: its clauses tell what holds of every table between two steps.
     pub fn laws(&self)
         ensures ready { ReadyFollowTable self.now.state }
+        ensures keys { KeysAreGuarded self.now.state.heap.log self.now.state.ready }
         ensures pages { IfSome self.now.state.build (λ b. EachPageOnce self.now.state.heap.schema self.now.state.heap.log b (all_sent self.now.pages)) }
         ensures build { IfSome self.now.state.build (λ b. BuildIsSound b self.now.state.heap.log) }
     {
+        self.heap.laws();
+        guards_laws(self.guards.as_slice());
+        let _build = &self.build;
+    }
+
+    /// Does nothing: its clauses tell what holds of the rows and of the build that runs.
+    pub(crate) fn rows(&self)
+        ensures rows { RowsFit self.now.state.heap.schema self.now.state.heap.log }
+        ensures follows { BuildFollows self.now.state.heap.schema self.now.state.heap.log self.now.state.build }
+    {
+        self.heap.laws();
         let _build = &self.build;
     }
 
@@ -139,6 +160,16 @@ impl<T: Table> Live<T> {
         Ok(self.sides[index].entries())
     }
 
+    /// What makes the keys of each index that is being built; none where no build runs.
+    pub fn specs(&self) -> Option<&[KeySpec]>
+        ensures { MatchOption result (self.now.state.build ≡ None) (λ specs. OnBuild self.now.state.build (λ b. specs.now ≡ b.specs)) }
+    {
+        match &self.build {
+            Some(build) => Some(build.specs()),
+            None => None,
+        }
+    }
+
     /// What makes the keys of an index that is being built. [`Fault::NoBuild`], [`Fault::BadCount`].
     pub fn spec(&self, index: usize) -> Result<&KeySpec, Fault>
         ensures spec { IfOk result (λ spec. OnBuild self.now.state.build (λ b. slice_get b.specs index ≡ Some spec.now)) }
@@ -164,10 +195,11 @@ impl<T: Table> Live<T> {
         Ok(build)
     }
 
-    /// Gives a running build up.
+    /// Gives a running build up; transactions may begin again.
     pub(crate) fn give_up(&mut self)
         ensures { self.new ≡ record self.old { state = abandoned self.old.state } }
     {
+        self.heap.set_fence(false);
         self.build = None;
         reset_all(&mut self.sides);
     }

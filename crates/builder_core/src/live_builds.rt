@@ -10,7 +10,7 @@ ghost use Rattle.builder_core.specs.Builds.{BuildingValue, given_up, core_state,
 ghost use Rattle.builder_core.specs.CoreState.{abandoned};
 ghost use Rattle.builder_core.specs.Ranges.{dealing_refusal, dealt_ends, next_page};
 ghost use Rattle.builder_core.specs.Rings.{begun_on};
-ghost use Rattle.builder_core.specs.Steps.{Starts, Scans, OnBuild, start_refusal, counts_fit, same_kinds};
+ghost use Rattle.builder_core.specs.Steps.{Starts, Scans, OnBuild, start_refusal, counts_fit, same_kinds, fenced};
 
 use crate::live_sides::empty_all;
 use crate::parts::{INDEXES_MAX, WORKERS_MAX};
@@ -27,18 +27,6 @@ use std::alloc::Global;
 
 /// The most indexes that a table may have.
 const READY_MAX: usize = 32;
-
-/// Whether one of the specifications is unique.
-fn is_one_unique(specs: &[KeySpec]) -> bool
-    ensures { result ≡ list_any (λ spec. spec.unique) specs.now }
-{
-    for spec in specs {
-        if spec.unique() {
-            return true;
-        }
-    }
-    false
-}
 
 /// Whether all specifications are of rows of these columns.
 fn are_of(specs: &[KeySpec], schema: &Schema) -> bool
@@ -138,8 +126,8 @@ impl<T: Table> Live<T> {
         Ok(())
     }
 
-    /// Whether a plan has 1 to 16 workers and 1 to 8 indexes, with a spool for each of both, none of the indexes is unique, and
-    /// there is room for them and for one build more.
+    /// Whether a plan has 1 to 16 workers and 1 to 8 indexes, with a spool for each of both, and there is room for them and for
+    /// one build more.
     fn counts_fit(&self, plan: &Plan, spools: usize) -> bool
         ensures { result ≡ counts_fit self.now.state spools plan.now }
     {
@@ -148,7 +136,6 @@ impl<T: Table> Live<T> {
             && plan.workers <= WORKERS_MAX
             && indexes >= 1
             && indexes <= INDEXES_MAX
-            && !is_one_unique(&plan.specs)
             && self.ready.len() <= READY_MAX - indexes
             && self.builds < u64::MAX
             && spools == plan.workers * indexes
@@ -206,7 +193,22 @@ impl<T: Table> Live<T> {
         Ok(page)
     }
 
-    /// Gives the build up. [`Fault::NoBuild`]. Takes no memory.
+    /// Lets no transaction begin until the build has decided or is given up. [`Fault::NoBuild`]. Takes no memory.
+    pub fn fence(&mut self) -> Result<(), Fault>
+        ensures fenced { OnOk result (self.new ≡ record self.old { state = fenced self.old.state }) }
+        ensures works { (building : BuildingValue) → WorksOn self.old building → WorksOn self.new building }
+        ensures accepted { OnOk result (IsSome self.old.state.build) }
+        ensures refused { IfErr result (λ fault. (fault ≡ Fault.NoBuild) × (self.old.state.build ≡ None)) }
+        ensures unchanged { OnErr result (self.new ≡ self.old) }
+    {
+        if self.build.is_none() {
+            return Err(Fault::NoBuild);
+        }
+        self.heap.set_fence(true);
+        Ok(())
+    }
+
+    /// Gives the build up, and the fence with it. [`Fault::NoBuild`]. Takes no memory.
     pub fn abandon(&mut self) -> Result<(), Fault>
         ensures abandoned { OnOk result (self.new ≡ record self.old { state = abandoned self.old.state }) }
         ensures works { OnOk result ((building : BuildingValue) → WorksOn self.new (given_up building)) }

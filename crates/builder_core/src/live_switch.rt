@@ -1,23 +1,31 @@
-//! The switch of a build: the entries that are left are applied to its indexes, which are then ready.
+//! The switch of a build: the entries that are left are applied to its indexes, of which the accepted are then ready.
 ghost use Rattle.std.specs.Prelude.{◌≡◌, ◌+◌, ◌++◌, ◌^◌, ◌<◌, ◌≤◌, length, None, Some, IsSome, IfSome, IfOk, IfErr, OnOk, OnErr, MatchResult, vec_len, vec_capacity};
+ghost use Rattle.std.specs.Prelude.{All, map};
 ghost use Rattle.std.specs.List.{AllZip};
-ghost use Rattle.heap_table.specs.HeapState.{after_switch};
+ghost use Rattle.heap_table.specs.HeapState.{HeapState, after_switch, busy_txns};
+ghost use Rattle.heap_table.specs.Sound.{HoldsFollowLog};
 ghost use Rattle.heap_table.specs.Pages.{KeepsRows};
 ghost use Rattle.builder_core.specs.Builds.{core_state, cause_of, WorksOn};
-ghost use Rattle.builder_core.specs.CatchingUp.{MayCatchUp, IndexIsFurther, IsDoneIndex, left_at, ready_of};
-ghost use Rattle.builder_core.specs.Steps.{Switches, OnBuild, CatchesUp, IsRefused, ready_from};
+ghost use Rattle.builder_core.specs.CatchingUp.{MayCatchUp, IndexIsFurther, IsDoneIndex, left_at, its_verdict, ready_of, MayBeGuarded};
+ghost use Rattle.builder_core.specs.Steps.{Switches, OnBuild, CatchesUp, IsRefused, busy_refusal};
+ghost use Rattle.builder_core.specs.KeyCauses.{AreGuarded};
+ghost use Rattle.builder_core.specs.Verdicts.{outcome, outcomes};
 ghost use Rattle.builder_core.specs.Workers.{all_unapplied};
 ghost use Rattle.builder_core.specs.declared.event.Event.{Event};
 
 use crate::ending::end_spools;
+use crate::guarding::guards_laws;
 use crate::index_work::IndexWork;
+use crate::table_scan::TableScan;
 use crate::{Building, Live, ReadyIndex, Table};
 use heap_log::{Outcome, Verdicts};
 use heap_table::Heap;
+use key_guards::Guards;
 use keybytes::{Fault, KeySpec};
 use run_spool::Spool;
 use side_file::RING_ENTRIES;
 use std::alloc::Global;
+use unique_verdict::Verdict;
 
 /// The most entries of all side-files that a switch applies.
 const SWITCH_MAX: usize = 1024;
@@ -78,6 +86,22 @@ impl<T: Table> Live<T> {
         if left > SWITCH_MAX {
             return Err(Fault::Behind(left));
         }
+        self.check_busy(build)
+    }
+
+    /// A build with a unique index waits until no open transaction has a write that stands.
+    fn check_busy(&self, build: &TableScan) -> Result<(), Fault>
+        ensures { MatchResult result
+            (λ _. busy_refusal build.now (length (busy_txns self.now.state.heap)) ≡ None)
+            (λ fault. busy_refusal build.now (length (busy_txns self.now.state.heap)) ≡ Some fault) }
+    {
+        if !build.has_unique() {
+            return Ok(());
+        }
+        let busy = self.heap.busy();
+        if busy > 0 {
+            return Err(Fault::Busy(busy));
+        }
         Ok(())
     }
 
@@ -129,7 +153,7 @@ impl<T: Table> Live<T> {
 
     /// Applies the entries that are left, makes the indexes of the build ready, and ends it and its spools; answered with the
     /// number of the log record, and what became of each index. [`Fault::NoBuild`], the fault of a spoiled build,
-    /// [`Fault::NotScanned`], [`Fault::NotLoaded`], [`Fault::Behind`]. Where memory is wanted, entries that were applied stay
+    /// [`Fault::NotScanned`], [`Fault::NotLoaded`], [`Fault::Behind`], [`Fault::Busy`]. Where memory is wanted, entries that were applied stay
     /// applied, and it can be called again.
     pub fn switch_in<S: Spool>(
         &mut self,
@@ -143,73 +167,111 @@ impl<T: Table> Live<T> {
     {
         self.check_switch(building)?;
         self.catch_up(building)?;
-        let Some(build) = self.build() else {
+        self.heap.laws();
+        let Some(work) = building.work() else {
             unreachable!()
         };
-        let count = build.indexes();
-        self.heap.laws();
-        let noted = note_ready(self.alloc, &mut self.heap, &mut self.ready, count)?;
+        let noted = note_ready(
+            self.alloc,
+            &mut self.heap,
+            &mut self.ready,
+            &mut self.guards,
+            work.indexes(),
+        )?;
+        self.heap.set_fence(false);
         let (Some(build), Some(work)) = (self.build.take(), building.work.take()) else {
             unreachable!()
         };
-        make_ready(&mut self.ready, build.into_specs(), work.into_indexes());
+        let (specs, indexes) = (build.into_specs(), work.into_indexes());
+        make_ready(self.alloc, &mut self.ready, &mut self.guards, specs, indexes);
+        guards_laws(&self.guards);
         end_spools(&mut building.spools);
         Ok(noted)
     }
 }
 
-/// The indexes of a build are ready, behind those that were so before.
-fn make_ready(ready: &mut Vec<ReadyIndex>, specs: Vec<KeySpec>, indexes: Vec<IndexWork>)
+/// The accepted indexes of a build are ready, behind those that were so before, and each has guards beside it; the refused are dropped.
+fn make_ready(
+    alloc: Global,
+    ready: &mut Vec<ReadyIndex>,
+    guards: &mut Vec<Guards>,
+    specs: Vec<KeySpec>,
+    indexes: Vec<IndexWork>,
+)
     requires many { length indexes.items ≡ length specs.items }
     requires room { vec_len ready.old + length specs.items ≤ vec_capacity ready.old }
+    requires guard_room { vec_len guards.old + length specs.items ≤ vec_capacity guards.old }
     requires indexes { AllZip IsDoneIndex specs.items indexes.items }
-    ensures { ready.new.items ≡ ready.old.items ++ ready_of specs.items indexes.items }
+    ensures ready { ready.new.items ≡ ready.old.items ++ ready_of specs.items indexes.items }
+    ensures guards { (heap : HeapState) → HoldsFollowLog heap → All (λ index. MayBeGuarded heap index.spec) (ready_of specs.items indexes.items)
+        → AreGuarded heap.log ready.old.items guards.old.items → AreGuarded heap.log ready.new.items guards.new.items }
 {
     let mut indexes = indexes.into_iter();
     for spec in specs {
         let Some(index) = indexes.next() else {
             unreachable!()
         };
-        // It tells that its columns make a key, whose bytes are then in the columns' order.
-        let _columns = spec.columns();
-        ready.push_reserved(ReadyIndex::new(spec, index.into_tree()));
+        if index.is_accepted() {
+            // It tells that its columns make a key, whose bytes are then in the columns' order.
+            let _columns = spec.columns();
+            ready.push_reserved(ReadyIndex::new(spec, index.into_tree()));
+            guards.push_reserved(Guards::new(alloc));
+        }
     }
 }
 
-/// Notes in the log that so many more indexes are ready, and makes room for them.
+/// Notes in the log what becomes of the indexes, and makes room for them and their guards.
 fn note_ready(
     alloc: Global,
     heap: &mut Heap,
     ready: &mut Vec<ReadyIndex>,
-    count: usize,
+    guards: &mut Vec<Guards>,
+    indexes: &[IndexWork],
 ) -> Result<(usize, Verdicts), Fault>
-    requires { count ≤ 8 }
+    requires { length indexes.now ≤ 8 }
     ensures number { IfOk result (λ done. done.0 ≡ length heap.old.state.log + 1) }
-    ensures verdicts { IfOk result (λ done. done.1 ≡ ready_from (length ready.old.items) count) }
-    ensures noted { OnOk result (heap.new.state ≡ after_switch heap.old.state (ready_from (length ready.old.items) count)) }
+    ensures verdicts { IfOk result (λ done. done.1 ≡ outcomes (length ready.old.items) (map its_verdict indexes.now)) }
+    ensures noted { OnOk result (heap.new.state ≡ after_switch heap.old.state (outcomes (length ready.old.items) (map its_verdict indexes.now))) }
     ensures rows { KeepsRows heap.old.state.log heap.new.state.log }
-    ensures room { OnOk result (vec_len ready.new + count ≤ vec_capacity ready.new) }
+    ensures room { OnOk result (vec_len ready.new + length indexes.now ≤ vec_capacity ready.new) }
+    ensures guard_room { OnOk result (vec_len guards.new + length indexes.now ≤ vec_capacity guards.new) }
     ensures ready { ready.new.items ≡ ready.old.items }
+    ensures guards { guards.new.items ≡ guards.old.items }
     ensures unchanged { OnErr result (heap.new ≡ heap.old) }
     ensures memory { IfErr result (λ fault. fault ≡ Fault.Memory) }
 {
     let first = ready.len();
-    ready.reserve(count)?;
-    let noted = verdicts_from(alloc, first, count)?;
-    let told = verdicts_from(alloc, first, count)?;
+    ready.reserve(indexes.len())?;
+    guards.reserve(indexes.len())?;
+    let noted = verdicts_from(alloc, first, indexes)?;
+    let told = verdicts_from(alloc, first, indexes)?;
     let number = heap.note(noted)?;
     Ok((number, Verdicts::new(told)))
 }
 
-/// That so many indexes are ready, numbered from the first on.
-fn verdicts_from(alloc: Global, first: usize, count: usize) -> Result<Vec<Outcome>, Fault>
-    requires { first + count < 2 ^ 64 }
-    ensures ok { IfOk result (λ verdicts. verdicts.items ≡ ready_from first count) }
+/// What becomes of the indexes: the accepted are ready, numbered from the first on.
+fn verdicts_from(alloc: Global, first: usize, indexes: &[IndexWork]) -> Result<Vec<Outcome>, Fault>
+    requires { first + length indexes.now < 2 ^ 64 }
+    ensures ok { IfOk result (λ verdicts. verdicts.items ≡ outcomes first (map its_verdict indexes.now)) }
     ensures memory { IfErr result (λ fault. fault ≡ Fault.Memory) }
 {
-    let mut verdicts = Vec::with_capacity(alloc, count)?;
-    for k in 0..count {
-        verdicts.push_reserved(Outcome::Ready(first + k));
+    let mut verdicts = Vec::with_capacity(alloc, indexes.len())?;
+    let mut number = first;
+    for index in indexes {
+        verdicts.push_reserved(outcome_of(number, index.verdict()?));
+        if index.is_accepted() {
+            number += 1;
+        }
     }
     Ok(verdicts)
+}
+
+/// What becomes of an index by its verdict; an accepted one is ready under that number.
+fn outcome_of(number: usize, verdict: Verdict) -> Outcome
+    ensures { result ≡ outcome number verdict }
+{
+    match verdict {
+        Verdict::Unique => Outcome::Ready(number),
+        Verdict::Shared { key, first, second } => Outcome::Shared { key, first, second },
+    }
 }

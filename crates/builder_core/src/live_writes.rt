@@ -1,11 +1,14 @@
 //! What transactions do to a table and its indexes.
-ghost use Rattle.std.specs.Prelude.{◌≡◌, Some, None, MatchResult};
+ghost use Rattle.std.specs.Prelude.{◌≡◌, Some, None, OnOk, IfErr};
 ghost use Rattle.keybytes.specs.Answered.{Answered};
 ghost use Rattle.heap_table.specs.Calls.{Begins, Inserts, Updates, Deletes, Undoes, Commits};
 ghost use Rattle.heap_table.specs.HeapState.{begin_refusal, txn_refusal, insert_refusal, update_refusal, delete_refusal, undo_refusal};
 ghost use Rattle.builder_core.specs.Builds.{BuildingValue, WorksOn};
+ghost use Rattle.builder_core.specs.KeyCauses.{AnsweredEarly, IsEarlyFault, row_refusal, change_refusal};
 ghost use Rattle.builder_core.specs.Steps.{OnHeap, OnRows};
 
+use crate::guarding::tell_commit;
+use crate::key_checks::{check_change, check_keys};
 use crate::{Live, Table, changes};
 use heap_table::Undone;
 use keybytes::{Fault, Rid, Row};
@@ -19,34 +22,36 @@ impl<T: Table> Live<T> {
         self.heap.begin()
     }
 
-    /// Why [`Live::insert`] would be refused. Takes no memory.
+    /// Why [`Live::insert`] would be refused; a key longer than 24 bytes takes memory to be made.
     pub fn check_insert(&self, txn: u64, row: &Row) -> Result<(), Fault>
-        ensures { MatchResult result
-            (λ _. insert_refusal self.now.state.heap txn row.now ≡ None)
-            (λ fault. insert_refusal self.now.state.heap txn row.now ≡ Some fault) }
+        ensures accepted { OnOk result (row_refusal self.now.state txn row.now ≡ None) }
+        ensures refused { IfErr result (IsEarlyFault (insert_refusal self.now.state.heap txn row.now) (row_refusal self.now.state txn row.now)) }
     {
-        let _place = self.heap.check_insert(txn, row)?;
-        Ok(())
+        let rid = self.heap.check_insert(txn, row)?;
+        check_keys(&self.ready, &self.guards, &self.heap, txn, rid, row)
     }
 
-    /// Why [`Live::update`] would be refused. Takes no memory.
+    /// Why [`Live::update`] would be refused, likewise.
     pub fn check_update(&self, txn: u64, rid: Rid, row: &Row) -> Result<(), Fault>
-        ensures { MatchResult result
-            (λ _. update_refusal self.now.state.heap txn rid row.now ≡ None)
-            (λ fault. update_refusal self.now.state.heap txn rid row.now ≡ Some fault) }
+        ensures accepted { OnOk result (change_refusal self.now.state txn rid row.now ≡ None) }
+        ensures refused { IfErr result (IsEarlyFault (update_refusal self.now.state.heap txn rid row.now) (change_refusal self.now.state txn rid row.now)) }
     {
-        self.heap.check_update(txn, rid, row)
+        self.heap.check_update(txn, rid, row)?;
+        check_keys(&self.ready, &self.guards, &self.heap, txn, rid, row)
     }
 
     /// The transaction inserts a row; answered with the record's number and the RID. Each ready index has its pair from then on, and
-    /// a running build that sees the RID hears of it by its side-file. Refused as [`heap_table::Heap::insert`].
+    /// a running build that sees the RID hears of it by its side-file. Refused as [`heap_table::Heap::insert`], and then by the first unique
+    /// index where another row has the key, [`Fault::Duplicate`], or another open transaction may give it back, [`Fault::KeyHeld`].
     pub fn insert(&mut self, txn: u64, row: Row) -> Result<(usize, Rid), Fault>
-        ensures inserted { Answered (insert_refusal self.old.state.heap txn row) (OnRows (Inserts txn row)) self.old.state result self.new.state }
+        ensures inserted { AnsweredEarly (insert_refusal self.old.state.heap txn row) (row_refusal self.old.state txn row) (OnRows (Inserts txn row)) self.old.state result self.new.state }
         ensures works { (building : BuildingValue) → WorksOn self.old building → WorksOn self.new building }
     {
         let ready = self.heap.ready_insert(txn, row)?;
+        check_change(&self.ready, &self.guards, &self.heap, &ready)?;
         changes::write(
             &mut self.ready,
+            &mut self.guards,
             &mut self.heap,
             self.alloc,
             &mut self.sides,
@@ -55,14 +60,16 @@ impl<T: Table> Live<T> {
         )
     }
 
-    /// The transaction gives a RID another row. Refused as [`heap_table::Heap::update`].
+    /// The transaction gives a RID another row. Refused as [`heap_table::Heap::update`], and then for its keys as [`Live::insert`].
     pub fn update(&mut self, txn: u64, rid: Rid, row: Row) -> Result<(usize, Rid), Fault>
-        ensures updated { Answered (update_refusal self.old.state.heap txn rid row) (OnRows (Updates txn rid row)) self.old.state result self.new.state }
+        ensures updated { AnsweredEarly (update_refusal self.old.state.heap txn rid row) (change_refusal self.old.state txn rid row) (OnRows (Updates txn rid row)) self.old.state result self.new.state }
         ensures works { (building : BuildingValue) → WorksOn self.old building → WorksOn self.new building }
     {
         let ready = self.heap.ready_update(txn, rid, row)?;
+        check_change(&self.ready, &self.guards, &self.heap, &ready)?;
         changes::write(
             &mut self.ready,
+            &mut self.guards,
             &mut self.heap,
             self.alloc,
             &mut self.sides,
@@ -79,6 +86,7 @@ impl<T: Table> Live<T> {
         let ready = self.heap.ready_delete(txn, rid)?;
         changes::write(
             &mut self.ready,
+            &mut self.guards,
             &mut self.heap,
             self.alloc,
             &mut self.sides,
@@ -96,6 +104,7 @@ impl<T: Table> Live<T> {
         match self.heap.ready_undo(txn)? {
             Some(ready) => changes::undo(
                 &mut self.ready,
+                &mut self.guards,
                 &mut self.heap,
                 self.alloc,
                 &mut self.sides,
@@ -112,6 +121,9 @@ impl<T: Table> Live<T> {
         ensures committed { Answered (txn_refusal self.old.state.heap txn) (OnHeap (Commits txn)) self.old.state result self.new.state }
         ensures works { (building : BuildingValue) → WorksOn self.old building → WorksOn self.new building }
     {
-        self.heap.commit(txn)
+        self.heap.laws();
+        let number = self.heap.commit(txn)?;
+        tell_commit(&mut self.guards, txn);
+        Ok(number)
     }
 }

@@ -4,6 +4,7 @@ ghost use Rattle.std.specs.Option.{option_map};
 ghost use Rattle.keybytes.specs.Cells.{fits};
 ghost use Rattle.keybytes.specs.Keys.{key_of};
 ghost use Rattle.keybytes.specs.Pairs.{pair_with, set_of, AreOrdered};
+ghost use Rattle.key_guards.specs.GuardLists.{key_taken};
 ghost use Rattle.visibility.specs.Applied.{apply_entries};
 ghost use Rattle.visibility.specs.SideEntries.{changes, entries_of_change};
 
@@ -30,6 +31,7 @@ pub fn ready_change(spec: &KeySpec, tree: &mut Tree, ready: &Ready) -> Result<Ch
     requires new_fits { IfSome ready.now.new (λ cells. fits spec.now.kinds cells ≡ true) }
     ensures change { IfOk result (λ change. entries_of_change ready.now.rid change
         ≡ changes (pair_with spec.now ready.now.rid ready.now.old) (pair_with spec.now ready.now.rid ready.now.new)) }
+    ensures taken { IfOk result (λ change. change.delete ≡ key_taken spec.now ready.now.old ready.now.new) }
     ensures room { IfOk result (λ change. IsSome change.insert → tree.new.room ≡ true) }
     ensures pairs { tree.new.pairs ≡ tree.old.pairs }
     ensures memory { IfErr result (λ fault. fault ≡ Fault.Memory) }
@@ -41,18 +43,20 @@ pub fn ready_change(spec: &KeySpec, tree: &mut Tree, ready: &Ready) -> Result<Ch
     Ok(change)
 }
 
-/// Takes the pair of the old key at the RID out of a tree, and puts the one of the new key in.
-pub fn change_tree(tree: &mut Tree, rid: Rid, change: Change)
+/// Takes the pair of the old key at the RID out of a tree, and puts the one of the new key in; gives the key that left.
+pub fn change_tree(tree: &mut Tree, rid: Rid, change: Change) -> Option<Key>
     requires { IsSome change.insert → tree.old.room ≡ true }
     ensures changed { set_of tree.new.pairs ≡ apply_entries (entries_of_change rid change) (set_of tree.old.pairs) }
     ensures order { AreOrdered tree.new.pairs }
+    ensures taken { result ≡ change.delete }
 {
     let Change { delete, insert } = change;
-    if let Some(key) = delete {
-        tree.remove(&key, rid);
+    if let Some(key) = &delete {
+        tree.remove(key, rid);
     }
     if let Some(key) = insert {
         tree.insert(key, rid);
     }
     tree.laws();
+    delete
 }

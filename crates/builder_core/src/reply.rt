@@ -29,6 +29,8 @@ pub enum Reply {
     Applied { entries: usize },
     /// With the number of the log record, and what became of each index of the build.
     Switched { number: usize, verdicts: Verdicts },
+    /// No transaction may begin for now.
+    FenceSet,
     /// The build was given up.
     Abandoned,
     /// With the cause.

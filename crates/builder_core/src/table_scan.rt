@@ -1,5 +1,6 @@
 //! What the table knows of the build that runs.
 ghost use Rattle.std.specs.Prelude.{◌≡◌, ◌≢◌, ℕ, ◌+◌, ◌^◌, ◌||◌, ◌++◌, ◌∷◌, ◌<◌, ◌≤◌, [], length, map, Some, is_some, nat_le, slice_get, IfOk, IfErr};
+ghost use Rattle.std.specs.List.{list_any};
 ghost use Rattle.scan_range.specs.Ranges.{at_start};
 ghost use Rattle.builder_core.specs.SideFiles.{sees};
 ghost use Rattle.builder_core.specs.CoreState.{BuildState};
@@ -87,12 +88,26 @@ impl TableScan {
         self.specs.len()
     }
 
+    /// What makes the keys of each of them.
+    pub fn specs(&self) -> &[KeySpec]
+        ensures { result.now ≡ self.now.specs }
+    {
+        self.specs.as_slice()
+    }
+
     /// What makes the keys of one of them.
     pub fn spec(&self, index: usize) -> &KeySpec
         requires { index < length self.now.specs }
         ensures { slice_get self.now.specs index ≡ Some result.now }
     {
         &self.specs[index]
+    }
+
+    /// Whether one of them is unique.
+    pub fn has_unique(&self) -> bool
+        ensures { result ≡ list_any (λ spec. spec.unique) self.now.specs }
+    {
+        self.specs.iter().any(|spec| spec.unique())
     }
 
     /// How many ranges its pages are cut into.

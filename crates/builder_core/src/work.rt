@@ -98,6 +98,13 @@ impl Work {
     }
 
     /// The work on each of its indexes.
+    pub fn indexes(&self) -> &[IndexWork]
+        ensures { result.now ≡ self.now.indexes }
+    {
+        &self.indexes
+    }
+
+    /// The same, taken out.
     pub fn into_indexes(self) -> Vec<IndexWork>
         ensures { self.indexes ≡ result.items }
     {

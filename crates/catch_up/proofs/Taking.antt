@@ -12,11 +12,12 @@ use Rattle.catch_up.specs.Built.{BuiltValue, told_to}
 use Rattle.catch_up.proofs.Telling.{told_to-append}
 
 pub applied_none : (a b : BuiltValue) → b ≡ a → Applied [] a b
-applied_none a b same = record { build = ap (λ v. v.build) same; pairs = ap (λ v. set_of v.pairs) same }
+applied_none a b same = record { build = ap (λ v. v.build) same; unique = ap (λ v. v.unique) same; pairs = ap (λ v. set_of v.pairs) same }
 
 pub applied_then : (es fs : List Entry) (a b c : BuiltValue) → Applied es a b → Applied fs b c → Applied (es ++ fs) a c
 applied_then es fs a b c first then = record {
   build = then.build ∙ first.build;
+  unique = then.unique ∙ first.unique;
   pairs = then.pairs ∙ ap (λ n. apply_entries (told_to n fs) (set_of b.pairs)) first.build
       ∙ ap (apply_entries (told_to a.build fs)) first.pairs
       ∙ sym (apply-append (told_to a.build es) (told_to a.build fs) (set_of a.pairs))

@@ -15,6 +15,7 @@ use Rattle.catch_up.specs.Built.{BuiltValue, told_to}
 -- those of the index's build were applied to it, in order, and those of another build left out
 pub record Applied (entries : List Entry) (old new : BuiltValue) : Type 0 where
   pub build : new.build ≡ old.build
+  pub unique : new.unique ≡ old.unique
   pub pairs : set_of new.pairs ≡ apply_entries (told_to old.build entries) (set_of old.pairs)
 
 module _ {P : Type 0} where

@@ -1,20 +1,26 @@
-ghost use Rattle.std.specs.Prelude.{◌≡◌, ◌+◌, ◌<◌, [], length, take, OnOk, OnErr, IfErr};
+ghost use Rattle.std.specs.Prelude.{◌≡◌, ◌+◌, ◌<◌, [], length, take, true, false, IfOk, OnOk, OnErr, IfErr};
 ghost use Rattle.rtrb.specs.Ring.{known_items};
 ghost use Rattle.keybytes.specs.Pairs.{AreOrdered};
 ghost use Rattle.catch_up.specs.Applying.{Applied, Taken};
+ghost use Rattle.catch_up.specs.Built.{verdict_of};
+ghost use Rattle.unique_verdict.specs.Verdicts.{accepts};
 
-use crate::changing::{change, make_room};
+use crate::changing::{change, count, make_room};
 use btree::Tree;
 use keybytes::Fault;
 use rtrb::Consumer;
 use side_file::Entry;
+use std::alloc::Global;
 use std::marker::Model;
+use unique_verdict::{Tally, Verdict};
 
-/// The tree of an index that is being built, and the number of its build. Contracts see the number and the pairs.
+/// The tree of an index that is being built, and the number of its build; where the index is to be unique, with a tally of the keys that
+/// two RIDs have, which is told of each change of the tree. Contracts see the number, whether there is a tally, and the pairs.
 #[derive(Drop)]
 pub struct Built {
     build: u64,
     tree: Tree,
+    tally: Option<Tally>,
 }
 
 impl Model for Built {
@@ -22,16 +28,61 @@ impl Model for Built {
 
     ghost Value = { BuiltValue };
 
-    ghost view = { λ built. record { build = built.build; pairs = built.tree.pairs } };
+    ghost use Rattle.std.specs.Prelude.{is_some};
+    ghost use Rattle.keybytes.specs.Pairs.{set_of};
+    ghost use Rattle.catch_up.specs.Built.{Tallies};
+
+    ghost view = { λ built. record { build = built.build; unique = is_some built.tally; pairs = built.tree.pairs } };
+
+    ghost invariant = { λ built. Tallies built.tally (set_of built.tree.pairs) };
 }
 
 impl Built {
     /// The index of a build, with the pairs that it scanned.
     pub fn new(build: u64, tree: Tree) -> Built
-        ensures build { result.build ≡ build }
-        ensures pairs { result.pairs ≡ tree.pairs }
+        ensures { result ≡ record { build = build; unique = false; pairs = tree.pairs } }
     {
-        Built { build, tree }
+        Built {
+            build,
+            tree,
+            tally: None,
+        }
+    }
+
+    /// The same of an index that is to be unique: its tally is made by one walk over its pairs.
+    pub fn unique(alloc: Global, build: u64, tree: Tree) -> Result<Built, Fault>
+        ensures ok { IfOk result (λ built. built ≡ record { build = build; unique = true; pairs = tree.pairs }) }
+        ensures memory { IfErr result (λ fault. fault ≡ Fault.Memory) }
+    {
+        let tally = Tally::of(alloc, &tree)?;
+        Ok(Built {
+            build,
+            tree,
+            tally: Some(tally),
+        })
+    }
+
+    /// Whether its keys are unique, as a [`Built::verdict`] would tell. Takes no memory.
+    pub fn is_accepted(&self) -> bool
+        ensures { result ≡ accepts (verdict_of self.now) }
+    {
+        self.tree.laws();
+        match &self.tally {
+            Some(tally) => tally.is_unique(),
+            None => true,
+        }
+    }
+
+    /// Whether its keys are unique, and which is shared if they aren't; one that keeps no tally may share them. No walk over the pairs.
+    pub fn verdict(&self) -> Result<Verdict, Fault>
+        ensures told { IfOk result (λ verdict. verdict ≡ verdict_of self.now) }
+        ensures memory { IfErr result (λ fault. fault ≡ Fault.Memory) }
+    {
+        self.tree.laws();
+        match &self.tally {
+            Some(tally) => tally.verdict(),
+            None => Ok(Verdict::Unique),
+        }
     }
 
     /// Does nothing: its clause tells what every index keeps.
@@ -73,7 +124,9 @@ impl Built {
         ensures unchanged { OnErr result (self.new ≡ self.old) }
         ensures memory { IfErr result (λ fault. fault ≡ Fault.Memory) }
     {
-        make_room(&mut self.tree, self.build, ring.peek_known())?;
+        let next = ring.peek_known();
+        make_room(&mut self.tree, self.build, next)?;
+        count(&mut self.tally, &self.tree, self.build, next)?;
         let entry = ring.pop_known();
         if entry.build == self.build {
             change(&mut self.tree, entry);

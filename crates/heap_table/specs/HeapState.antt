@@ -9,7 +9,7 @@ use Rattle.keybytes.specs.declared.cell.Cell.{Cell}
 use Rattle.keybytes.specs.declared.kind.Kind.{Kind}
 use Rattle.keybytes.specs.declared.rid.Rid.{Rid}
 use Rattle.keybytes.specs.declared.fault.Fault.{Fault}
-use Rattle.keybytes.specs.declared.fault.Fault.TheVariants.{NoSuchTxn, TxnEnding, TooManyTxns, TableFull, BadCount, NoSuchRow, RowHeld, PageFull}
+use Rattle.keybytes.specs.declared.fault.Fault.TheVariants.{NoSuchTxn, TxnEnding, Fenced, TooManyTxns, TableFull, BadCount, NoSuchRow, RowHeld, PageFull}
 use Rattle.heap_log.specs.declared.outcome.Outcome.{Outcome}
 use Rattle.heap_log.specs.declared.record.LogRec.{LogRec}
 use Rattle.heap_log.specs.declared.record.LogRec.TheVariants.{Write, Undo, Commit, Switch}
@@ -31,6 +31,8 @@ pub record HeapState : Type 0 where
   pub active : List OpenTxn
   -- the number of the transaction that was begun last
   pub begun : ℕ
+  -- whether no transaction may begin
+  pub fenced : Bool
   -- how often rows were given out
   pub visits : ℕ
 
@@ -42,7 +44,7 @@ abbrev pub limits_refusal : ℕ → ℕ → Option Fault
 limits_refusal slots pages = if are_limits slots pages then None else Some BadCount
 
 abbrev pub empty_heap : List Kind → ℕ → ℕ → HeapState
-empty_heap schema slots pages = record { schema = schema; slot_limit = slots; page_limit = pages; log = []; active = []; begun = 0; visits = 0 }
+empty_heap schema slots pages = record { schema = schema; slot_limit = slots; page_limit = pages; log = []; active = []; begun = 0; fenced = false; visits = 0 }
 
 abbrev pub is_open : List OpenTxn → ℕ → Bool
 is_open active txn = list_any (λ t. t.txn == txn) active
@@ -54,9 +56,13 @@ is_ending active txn = list_any (λ t. (t.txn == txn) && t.ending) active
 abbrev pub txn_refusal : HeapState → ℕ → Option Fault
 txn_refusal s txn = if is_open s.active txn then (if is_ending s.active txn then Some TxnEnding else None) else Some NoSuchTxn
 
--- why no transaction is begun: as many are open as may be, or the numbers are used up
+-- why one more transaction would be too many: as many are open as may be, or the numbers are used up
+abbrev pub number_refusal : HeapState → Option Fault
+number_refusal s = if nat_le open_most (length s.active) || (s.begun == 18446744073709551615) then Some TooManyTxns else None
+
+-- why no transaction is begun
 abbrev pub begin_refusal : HeapState → Option Fault
-begin_refusal s = if nat_le open_most (length s.active) || (s.begun == 18446744073709551615) then Some TooManyTxns else None
+begin_refusal s = if s.fenced then Some Fenced else number_refusal s
 
 abbrev pub page_of : HeapState → ℕ → PageValue
 page_of s page = record { slots = page_slots s.log page; limit = s.slot_limit }
@@ -128,6 +134,10 @@ mark txn t = if t.txn == txn then record t { ending = true } else t
 -- what the calls leave
 abbrev pub after_begin : HeapState → HeapState
 after_begin s = record s { active = s.active ++ record { txn = s.begun + 1; ending = false } ∷ []; begun = s.begun + 1 }
+
+-- transactions may begin from now on, or may not
+abbrev pub after_fence : Bool → HeapState → HeapState
+after_fence fenced s = record s { fenced = fenced }
 
 -- a record more
 abbrev pub logged : HeapState → LogRec → HeapState

@@ -12,6 +12,7 @@ heap_value h = record {
     log = h.log.records;
     active = h.open_txns.items;
     begun = h.begun;
+    fenced = h.fenced;
     visits = h.visits;
   };
   room = h.log.room;

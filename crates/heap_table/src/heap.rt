@@ -34,6 +34,7 @@ pub struct Heap {
     pages: Pages,
     open_txns: Vec<OpenTxn>,
     begun: u64,
+    fenced: bool,
     visits: u64,
 }
 
@@ -74,6 +75,7 @@ impl Heap {
             pages: Pages::new(alloc, slot_limit),
             open_txns: Vec::new(alloc),
             begun: 0,
+            fenced: false,
             visits: 0,
         })
     }

@@ -1,3 +1,5 @@
+ghost use Rattle.std.specs.Prelude.{◌≡◌};
+
 use heap_log::Rid;
 use keybytes::Row;
 
@@ -18,4 +20,20 @@ pub struct Ready {
     pub(crate) undone: Option<usize>,
     /// The bytes of the new row.
     pub(crate) bytes: Vec<u8>,
+}
+
+impl Ready {
+    /// Whose change it is.
+    pub fn txn(&self) -> u64
+        ensures { result ≡ self.now.txn }
+    {
+        self.txn
+    }
+
+    /// The number of the write that it undoes; none where it is a write itself.
+    pub fn undone(&self) -> Option<usize>
+        ensures { result ≡ self.now.undone }
+    {
+        self.undone
+    }
 }

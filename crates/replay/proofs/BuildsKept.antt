@@ -1,37 +1,41 @@
 -- What an event leaves of the build that runs and of the pages that are leased for it.
-use Rattle.std.proofs.Common.{◌≡◌, ◌<◌, ℕ, ◌+◌, true, false, List, length, Option, Some, None, inl, inr, refl, sym, ap, subst, ◌∙◌}
+use Rattle.std.proofs.Common.{◌≡◌, ◌<◌, ℕ, ◌+◌, true, false, Bool, List, length, Option, Some, None, inl, inr, refl, sym, ap, subst, ◌∙◌}
 use Rattle.std.specs.Prelude.{is_some}
 use Rattle.keybytes.specs.declared.fault.Fault.{Fault}
 use Rattle.keybytes.specs.declared.fault.Fault.TheVariants.{NoBuild}
 use Rattle.heap_log.specs.declared.outcome.Outcome.{Outcome}
-use Rattle.heap_table.specs.HeapState.{HeapState}
+use Rattle.heap_log.specs.Standing.{newest_standing}
+use Rattle.heap_table.specs.HeapState.{HeapState, after_step, after_fence}
 use Rattle.builder_core.specs.CoreState.{CoreState, LiveState, BuildState, IndexState, WorkState, SpoolsState, idle, opening, with_heap, with_live}
 use Rattle.builder_core.specs.Steps.{AfterWant, AreFurther, CatchesUp, Does, OnBuild, Step, after_apply, after_digest, after_feed, after_load, after_scan, after_seal, after_switch_in}
-use Rattle.builder_core.specs.Steps.{build_cause, load_refusal, next_applied, next_copies, next_fed, pairs_copied, refusal, spoiled_by, verdicts_on, worker_refusal}
+use Rattle.builder_core.specs.Steps.{build_cause, early_refusal, fenced, load_refusal, next_applied, next_copies, next_fed, pairs_copied, refusal, spoiled_by, verdicts_on, worker_refusal}
 use Rattle.builder_core.specs.Ranges.{next_page}
 use Rattle.builder_core.specs.Workers.{index_at, waiting}
 use Rattle.std.specs.List.{slice_get}
 use Rattle.std.specs.Prelude.{if◌then◌else◌}
 use Rattle.builder_core.specs.declared.event.Event.{Event}
-use Rattle.builder_core.specs.declared.event.Event.TheVariants.{Begin, Insert, Update, Delete, Undo, Commit, Start, Scan, Digest, Seal, Load, Feed, Apply, Switch, Abandon}
+use Rattle.builder_core.specs.declared.event.Event.TheVariants.{Begin, Insert, Update, Delete, Undo, Commit, Start, Scan, Digest, Seal, Load, Feed, Apply, Fence, Switch, Abandon}
 use Rattle.builder_core.specs.declared.plan.Plan.{Plan}
 use Rattle.builder_core.specs.declared.reply.Reply.{Reply}
 use Rattle.builder_core.specs.declared.reply.Reply.TheVariants.{Abandoned, Refused, Started, Switched}
 use Rattle.replay.specs.Leasing.{AreLeased, AreOf, IsAtRest, IsLeasing, KeepsBuild, LeasesFollow, LeasesValue, no_spools}
 
--- whether a build runs is as it was; the work is, where none does; and so are the spools
+-- whether a build runs is as it was; the fence and the work are, where none does; and so are the spools
 record IsKept (old new : CoreState) : Type 0 where
   build : is_some new.live.build ≡ is_some old.live.build
+  fence : old.live.build ≡ None → new.live.heap.fenced ≡ old.live.heap.fenced
   work : old.live.build ≡ None → new.work ≡ old.work
   spools : new.spools ≡ old.spools
 
 unchanged : (old new : CoreState) → new ≡ old → IsKept old new
-unchanged old new same = subst (IsKept old) (sym same) (record { build = refl; work = λ _. refl; spools = refl })
+unchanged old new same = subst (IsKept old) (sym same) (record { build = refl; fence = λ _. refl; work = λ _. refl; spools = refl })
 
 -- the rows have changed, and the ready indexes, or the heap alone
-on_table : (old new : CoreState) → new.live.build ≡ old.live.build → new ≡ with_live old new.live → IsKept old new
-on_table old new build same = record {
+on_table :
+    (old new : CoreState) → new.live.build ≡ old.live.build → new.live.heap.fenced ≡ old.live.heap.fenced → new ≡ with_live old new.live → IsKept old new
+on_table old new build fence same = record {
   build = ap is_some build;
+  fence = λ _. fence;
   work = λ _. ap (λ (s : CoreState). s.work) same;
   spools = ap (λ (s : CoreState). s.spools) same;
 }
@@ -45,6 +49,7 @@ on_scan : (old new : CoreState) (build : Option BuildState) (range worker page :
 on_scan old new None range worker page is on same = absurd on
 on_scan old new (Some b) range worker page is on same = record {
   build = ap (λ (live : LiveState). is_some live.build) on.1 ∙ sym (ap is_some is);
+  fence = λ none. absurd (none_runs b old.live.build is none);
   work = λ none. absurd (none_runs b old.live.build is none);
   spools = ap (λ (s : CoreState). s.spools) same;
 }
@@ -53,6 +58,7 @@ on_scan old new (Some b) range worker page is on same = record {
 at_work : (old new : CoreState) (b : BuildState) (work : WorkState) → old.live.build ≡ Some b → new ≡ record old { work = work } → IsKept old new
 at_work old new b work is same = record {
   build = ap (λ (s : CoreState). is_some s.live.build) same;
+  fence = λ none. absurd (none_runs b old.live.build is none);
   work = λ none. absurd (none_runs b old.live.build is none);
   spools = ap (λ (s : CoreState). s.spools) same;
 }
@@ -75,6 +81,7 @@ on_feed : (old new : CoreState) (build : Option BuildState) (Told : BuildState �
 on_feed old new None Told fed is on = absurd on
 on_feed old new (Some b) Told fed is on = record {
   build = ap (λ (s : CoreState). is_some s.live.build) on.1 ∙ sym (ap is_some is);
+  fence = λ none. absurd (none_runs b old.live.build is none);
   work = λ none. absurd (none_runs b old.live.build is none);
   spools = ap (λ (s : CoreState). s.spools) on.1;
 }
@@ -89,6 +96,7 @@ on_catch_up old new on = caught old.live.build refl on where
   caught None is on = absurd on
   caught (Some b) is (fed, indexes, further, same) = record {
     build = ap (λ (s : CoreState). is_some s.live.build) same ∙ sym (ap is_some is);
+    fence = λ none. absurd (none_runs b old.live.build is none);
     work = λ none. absurd (none_runs b old.live.build is none);
     spools = ap (λ (s : CoreState). s.spools) same;
   }
@@ -99,31 +107,53 @@ on_want : (old new : CoreState) (build : Option BuildState) (cause : BuildState 
 on_want old new None cause fault is none same = absurd (let both : Some NoBuild ≡ None = none in cc)
 on_want old new (Some b) cause fault is none same = at_work old new b (spoiled_by fault old).work is same
 
-done_keeps : (event : Event) (old new : CoreState) (told : Reply) → KeepsBuild event → Does old event told new → IsKept old new
-done_keeps Begin old new told keeps (answer, is, does) = on_table old new (ap (λ (live : LiveState). live.build) does.0.1) does.1
-done_keeps (Insert txn row) old new told keeps (answer, is, does) = on_table old new (ap (λ (live : LiveState). live.build) does.0.1) does.1
-done_keeps (Update txn rid row) old new told keeps (answer, is, does) = on_table old new (ap (λ (live : LiveState). live.build) does.0.1) does.1
-done_keeps (Delete txn rid) old new told keeps (answer, is, does) = on_table old new (ap (λ (live : LiveState). live.build) does.0.1) does.1
-done_keeps (Undo txn) old new told keeps (answer, is, does) = on_table old new (ap (λ (live : LiveState). live.build) does.0.1) does.1
-done_keeps (Commit txn) old new told keeps (answer, is, does) = on_table old new (ap (λ (live : LiveState). live.build) does.0.1) does.1
-done_keeps (Start plan) old new told keeps done = absurd keeps
-done_keeps (Scan range worker) old new told keeps (page, is, does) = on_scan old new old.live.build range worker page refl does.0 does.1
-done_keeps (Digest worker) old new told keeps (images, is, does) =
+-- an undo leaves the fence
+undo_fence : (s : HeapState) (txn : ℕ) (o : Option ℕ) → (after_step s txn o).fenced ≡ s.fenced
+undo_fence s txn None = refl
+undo_fence s txn (Some n) = refl
+
+-- the fence is set while a build runs
+on_fence : (old new : CoreState) → build_cause old.live.build (λ b. None) ≡ None → new ≡ with_live old (fenced old.live) → IsKept old new
+on_fence old new none same = record {
+  build = ap (λ (s : CoreState). is_some s.live.build) same;
+  fence = λ gone. absurd (let both : Some NoBuild ≡ None = ap (λ (o : Option BuildState). build_cause o (λ b. None)) (sym gone) ∙ none in cc);
+  work = λ _. ap (λ (s : CoreState). s.work) same;
+  spools = ap (λ (s : CoreState). s.spools) same;
+}
+
+done_keeps : (event : Event) (old new : CoreState) (told : Reply) → KeepsBuild event → refusal old event ≡ None → Does old event told new → IsKept old new
+done_keeps Begin old new told keeps none (answer, is, does) =
+    on_table old new (ap (λ (live : LiveState). live.build) does.0.1) (ap (λ (h : HeapState). h.fenced) does.0.0.1) does.1
+done_keeps (Insert txn row) old new told keeps none (answer, is, does) =
+    on_table old new (ap (λ (live : LiveState). live.build) does.0.1) (ap (λ (h : HeapState). h.fenced) does.0.0.2) does.1
+done_keeps (Update txn rid row) old new told keeps none (answer, is, does) =
+    on_table old new (ap (λ (live : LiveState). live.build) does.0.1) (ap (λ (h : HeapState). h.fenced) does.0.0.2) does.1
+done_keeps (Delete txn rid) old new told keeps none (answer, is, does) =
+    on_table old new (ap (λ (live : LiveState). live.build) does.0.1) (ap (λ (h : HeapState). h.fenced) does.0.0.2) does.1
+done_keeps (Undo txn) old new told keeps none (answer, is, does) =
+    on_table old new (ap (λ (live : LiveState). live.build) does.0.1)
+    (ap (λ (h : HeapState). h.fenced) does.0.0.2 ∙ undo_fence old.live.heap txn (newest_standing old.live.heap.log txn)) does.1
+done_keeps (Commit txn) old new told keeps none (answer, is, does) =
+    on_table old new (ap (λ (live : LiveState). live.build) does.0.1) (ap (λ (h : HeapState). h.fenced) does.0.0.1) does.1
+done_keeps (Start plan) old new told keeps none done = absurd keeps
+done_keeps (Scan range worker) old new told keeps none (page, is, does) = on_scan old new old.live.build range worker page refl does.0 does.1
+done_keeps (Digest worker) old new told keeps none (images, is, does) =
     on_work old new old.live.build (λ b. images ≡ next_copies b old.work worker) (λ b. after_digest b old.work worker) refl does
-done_keeps (Seal worker) old new told keeps (images, is, does) =
+done_keeps (Seal worker) old new told keeps none (images, is, does) =
     on_work old new old.live.build (λ b. images ≡ waiting b old.work worker) (λ b. after_seal b old.work worker) refl does
-done_keeps (Load index) old new told keeps (pairs, is, does) =
+done_keeps (Load index) old new told keeps none (pairs, is, does) =
     on_work old new old.live.build
     (λ b. pairs ≡ (if (index_at old.work.indexes index).loaded then 0 else pairs_copied b old.live.heap.log (slice_get b.specs index)))
     (λ b. after_load old.work index) refl does
-done_keeps (Feed index most) old new told keeps (count, is, does) =
+done_keeps (Feed index most) old new told keeps none (count, is, does) =
     on_feed old new old.live.build (λ b. count ≡ next_fed b old.live.heap.log old.work index most) (λ b. after_feed b index count) refl does
-done_keeps (Apply index most) old new told keeps (count, is, does) =
+done_keeps (Apply index most) old new told keeps none (count, is, does) =
     on_work old new old.live.build (λ b. count ≡ next_applied b old.work index most) (λ b. after_apply old.work index count) refl does
-done_keeps Switch old new told keeps done = absurd keeps
-done_keeps Abandon old new told keeps done = absurd keeps
+done_keeps Fence old new told keeps none done = on_fence old new none done.1
+done_keeps Switch old new told keeps none done = absurd keeps
+done_keeps Abandon old new told keeps none done = absurd keeps
 
-want_keeps : (event : Event) (old new : CoreState) (fault : Fault) → KeepsBuild event → refusal old event ≡ None → AfterWant event fault old new
+want_keeps : (event : Event) (old new : CoreState) (fault : Fault) → KeepsBuild event → early_refusal old event ≡ None → AfterWant event fault old new
     → IsKept old new
 want_keeps Begin old new fault keeps none after = unchanged old new after
 want_keeps (Insert txn row) old new fault keeps none after = unchanged old new after
@@ -142,13 +172,14 @@ want_keeps (Load index) old new fault keeps none after =
 want_keeps (Feed index most) old new fault keeps none after = absurd after
 want_keeps (Apply index most) old new fault keeps none after =
     on_some old new old.live.build (λ b count. count < next_applied b old.work index most) (λ count. after_apply old.work index count) refl after
+want_keeps Fence old new fault keeps none after = absurd after
 want_keeps Switch old new fault keeps none after = absurd keeps
 want_keeps Abandon old new fault keeps none after = absurd keeps
 
 step_keeps : (event : Event) (old new : CoreState) (told : Reply) → KeepsBuild event → Step old event told new → IsKept old new
 step_keeps event old new told keeps (inl (fault, is, inl (cause, same))) = unchanged old new same
 step_keeps event old new told keeps (inl (fault, is, inr (none, want, after))) = want_keeps event old new fault keeps none after
-step_keeps event old new told keeps (inr (none, done)) = done_keeps event old new told keeps done
+step_keeps event old new told keeps (inr (none, done)) = done_keeps event old new told keeps none done
 
 none_of : (build : Option BuildState) → is_some build ≡ false → build ≡ None
 none_of None off = refl
@@ -157,6 +188,7 @@ none_of (Some b) off = cc
 follows : (leases : Option LeasesValue) (old new : CoreState) → IsKept old new → LeasesFollow leases old → LeasesFollow leases new
 follows None old new kept rest = record {
   build = none_of new.live.build (kept.build ∙ ap is_some rest.build);
+  fence = kept.fence rest.build ∙ rest.fence;
   work = kept.work rest.build ∙ rest.work;
   spools = kept.spools ∙ rest.spools;
 }
@@ -171,9 +203,11 @@ pub follow_step : (leases : Option LeasesValue) (event : Event) (old new : CoreS
 follow_step leases event old new told keeps step before = follows leases old new (step_keeps event old new told keeps step) before
 
 -- so they are where only the heap has changed
-pub follow_heap : (leases : Option LeasesValue) (old new : CoreState) (heap : HeapState) → new ≡ with_heap old heap → LeasesFollow leases old → LeasesFollow leases new
-follow_heap leases old new heap same before =
-    follows leases old new (subst (IsKept old) (sym same) (record { build = refl; work = λ _. refl; spools = refl })) before
+pub follow_heap :
+    (leases : Option LeasesValue) (old new : CoreState) (heap : HeapState) → new ≡ with_heap old heap → heap.fenced ≡ old.live.heap.fenced
+    → LeasesFollow leases old → LeasesFollow leases new
+follow_heap leases old new heap same fence before =
+    follows leases old new (subst (IsKept old) (sym same) (record { build = refl; fence = λ _. fence; work = λ _. refl; spools = refl })) before
 
 pub follow_same : (leases : Option LeasesValue) (old new : CoreState) → new ≡ old → LeasesFollow leases old → LeasesFollow leases new
 follow_same leases old new same before = follows leases old new (unchanged old new same) before
@@ -181,13 +215,14 @@ follow_same leases old new same before = follows leases old new (unchanged old n
 -- a table at rest is as it would be opened
 pub at_rest : (s : CoreState) → IsAtRest s → opening s.live no_spools ≡ s
 at_rest s rest =
-    ap (λ (build : Option BuildState). record { live = record s.live { build = build }; work = idle; spools = no_spools }) (sym rest.build)
+    ap (λ (build : Option BuildState). record { live = record s.live { heap = after_fence false s.live.heap; build = build }; work = idle; spools = no_spools }) (sym rest.build)
+    ∙ ap (λ (fence : Bool). record { live = record s.live { heap = after_fence fence s.live.heap }; work = idle; spools = no_spools }) (sym rest.fence)
     ∙ ap (λ (work : WorkState). record { live = s.live; work = work; spools = no_spools }) (sym rest.work)
     ∙ ap (λ (spools : SpoolsState). record { live = s.live; work = s.work; spools = spools }) (sym rest.spools)
 
 -- what was opened rests
 pub opened : (live : LiveState) → LeasesFollow None (opening live no_spools)
-opened live = record { build = refl; work = refl; spools = refl }
+opened live = record { build = refl; fence = refl; work = refl; spools = refl }
 
 -- with no build the table rests
 pub resting : (leases : Option LeasesValue) (s : CoreState) → s.live.build ≡ None → LeasesFollow leases s → IsAtRest s

@@ -2,5 +2,6 @@ mod BuildsKept
 mod KeyedPairs
 mod Leased
 mod Replies
+mod SharedLines
 mod SpecLists
 mod TakenBack

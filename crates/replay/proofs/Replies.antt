@@ -7,10 +7,10 @@ use Rattle.builder_core.specs.CoreState.{CoreState}
 use Rattle.builder_core.specs.Steps.{Does, Step}
 use Rattle.heap_log.specs.declared.outcome.Outcome.{Outcome}
 use Rattle.builder_core.specs.declared.event.Event.{Event}
-use Rattle.builder_core.specs.declared.event.Event.TheVariants.{Begin, Insert, Update, Delete, Undo, Commit, Start, Scan, Digest, Seal, Load, Feed, Apply, Switch, Abandon}
+use Rattle.builder_core.specs.declared.event.Event.TheVariants.{Begin, Insert, Update, Delete, Undo, Commit, Start, Scan, Digest, Seal, Load, Feed, Apply, Fence, Switch, Abandon}
 use Rattle.builder_core.specs.declared.plan.Plan.{Plan}
 use Rattle.builder_core.specs.declared.reply.Reply.{Reply}
-use Rattle.builder_core.specs.declared.reply.Reply.TheVariants.{Begun, Written, Undone, Committed, Started, Scanned, Digested, Sealed, Loaded, Fed, Applied, Switched}
+use Rattle.builder_core.specs.declared.reply.Reply.TheVariants.{FenceSet, Begun, Written, Undone, Committed, Started, Scanned, Digested, Sealed, Loaded, Fed, Applied, Switched}
 use Rattle.builder_core.specs.declared.reply.Reply.TheVariants.{Abandoned, Refused}
 use Rattle.replay.specs.Leasing.{KeepsBuild}
 
@@ -68,6 +68,7 @@ record IsNone (other : Reply) : Type 0 where
   loaded : (pairs : ℕ) → other ≡ Loaded pairs → ⊥
   fed : (entries : ℕ) → other ≡ Fed entries → ⊥
   applied : (entries : ℕ) → other ≡ Applied entries → ⊥
+  fence_set : other ≡ FenceSet → ⊥
 
 done_so : (event : Event) (old new : CoreState) (other : Reply) → KeepsBuild event → Does old event other new → IsNone other → ⊥
 done_so Begin old new other keeps done none = none.begun _ done.1
@@ -83,6 +84,7 @@ done_so (Seal worker) old new other keeps done none = none.sealed _ done.1
 done_so (Load index) old new other keeps done none = none.loaded _ done.1
 done_so (Feed index most) old new other keeps done none = none.fed _ done.1
 done_so (Apply index most) old new other keeps done none = none.applied _ done.1
+done_so Fence old new other keeps done none = none.fence_set done.0
 done_so Switch old new other keeps done none = absurd keeps
 done_so Abandon old new other keeps done none = absurd keeps
 
@@ -92,8 +94,8 @@ pub kept : (event : Event) (old new : CoreState) (other : Reply) → KeepsBuild 
     → ((number left : ℕ) → other ≡ Undone number left → ⊥) → ((number : ℕ) → other ≡ Committed number → ⊥)
     → ((page : ℕ) → other ≡ Scanned page → ⊥) → ((images : ℕ) → other ≡ Digested images → ⊥) → ((images : ℕ) → other ≡ Sealed images → ⊥)
     → ((pairs : ℕ) → other ≡ Loaded pairs → ⊥) → ((entries : ℕ) → other ≡ Fed entries → ⊥) → ((entries : ℕ) → other ≡ Applied entries → ⊥)
-    → ((fault : Fault) → other ≡ Refused fault → ⊥) → ⊥
-kept event old new other keeps (inl refused) a b c d e f g h i j not_refused = not_refused refused.0 refused.1
-kept event old new other keeps (inr done) a b c d e f g h i j not_refused =
+    → (other ≡ FenceSet → ⊥) → ((fault : Fault) → other ≡ Refused fault → ⊥) → ⊥
+kept event old new other keeps (inl refused) a b c d e f g h i j k not_refused = not_refused refused.0 refused.1
+kept event old new other keeps (inr done) a b c d e f g h i j k not_refused =
     done_so event old new other keeps done.1
-    (record { begun = a; written = b; undone = c; committed = d; scanned = e; digested = f; sealed = g; loaded = h; fed = i; applied = j })
+    (record { begun = a; written = b; undone = c; committed = d; scanned = e; digested = f; sealed = g; loaded = h; fed = i; applied = j; fence_set = k })

@@ -1,6 +1,6 @@
 -- What a command does to the table, and what it is answered. A word of this file that ends with a table, an answer and a
 -- table says of the three what stands before a command, what it is answered and what it leaves.
-use Rattle.std.specs.Prelude.{◌≡◌, ◌≢◌, ℕ, zero, suc, false, List, Option, Some, None, Result, Ok, Err, ◌⊎◌}
+use Rattle.std.specs.Prelude.{◌≡◌, ◌≢◌, ℕ, zero, suc, false, Vec, List, [], Option, Some, None, Result, Ok, Err, ◌⊎◌}
 use Rattle.keybytes.specs.Faults.{RefusedFor}
 use Rattle.keybytes.specs.Rows.{row_refusal}
 use Rattle.keybytes.specs.declared.cell.Cell.{Cell}
@@ -11,7 +11,9 @@ use Rattle.heap_log.specs.Standing.{live_at}
 use Rattle.heap_log.specs.declared.outcome.Outcome.{Outcome}
 use Rattle.heap_table.specs.HeapState.{after_visit, is_open, row_missing}
 use Rattle.builder_core.specs.CoreState.{CoreState, with_heap}
-use Rattle.builder_core.specs.Steps.{Step}
+use Rattle.std.specs.List.{list_any}
+use Rattle.std.specs.declared.alloc.Global.{Global}
+use Rattle.builder_core.specs.Steps.{Step, OnBuild}
 use Rattle.builder_core.specs.declared.event.Event.{Event}
 use Rattle.builder_core.specs.declared.event.Event.TheVariants as event
 use Rattle.builder_core.specs.declared.plan.Plan.{Plan}
@@ -19,11 +21,13 @@ use Rattle.builder_core.specs.declared.reply.Reply.{Reply}
 use Rattle.builder_core.specs.declared.reply.Reply.TheVariants as reply
 use Rattle.script.specs.declared.command.Command.{Command}
 use Rattle.script.specs.declared.command.Command.TheVariants.{Row, Begin, Insert, Update, Delete, Undo, Commit, Get, Start as StartCommand, Scan, Digest}
-use Rattle.script.specs.declared.command.Command.TheVariants.{Seal, Load, Feed, Apply, Switch, Abandon, Side, Pairs, Rest}
+use Rattle.script.specs.declared.command.Command.TheVariants.{Seal, Load, Feed, Apply, Fence, Switch, Abandon, Side, Pairs, Rest}
 use Rattle.script.specs.declared.start.Start.{Start}
 use Rattle.replay.specs.Labels.{named}
 use Rattle.replay.specs.Leasing.{EndsBuild, FailsToStart, StartsOver}
-use Rattle.replay.specs.Listings.{ListsIndex, ListsRest, ListsSide}
+use Rattle.replay.specs.Limits.{is_refusal}
+use Rattle.replay.specs.Listings.{ListsIndex, ListsRest, ListsSide, ListsShared}
+use Rattle.replay.specs.declared.shared_line.SharedLine.{SharedLine}
 use Rattle.replay.specs.Plans.{IsPlanOf, planning_refusal, specs_refusal}
 use Rattle.replay.specs.declared.answer.Answer.{Answer}
 use Rattle.replay.specs.declared.answer.Answer.TheVariants as answer
@@ -43,6 +47,7 @@ answer_to (reply.Loaded pairs) = answer.Number pairs
 answer_to (reply.Fed entries) = answer.Number entries
 answer_to (reply.Applied entries) = answer.Number entries
 answer_to (reply.Switched number verdicts) = answer.Switched number verdicts 0
+answer_to reply.FenceSet = answer.Done
 answer_to reply.Abandoned = answer.Abandoned 0
 answer_to (reply.Refused fault) = answer.Refused fault
 
@@ -123,11 +128,16 @@ StartsBuild start old given new =
     ((plan : Plan) × IsPlanOf old.live.heap.schema start plan × StartsByPlan start.quota plan old given new)
     ⊎ ((fault : Fault) × (fault ≢ Memory → specs_refusal old.live.heap.schema start.specs.items ≡ Some fault) × Refuses fault old given new)
 
--- a switch decides: the build has ended, and no page of its spools is missing; or it is refused
+-- a switch decides: the build has ended, and no page of its spools is missing; of indexes that it refused lines tell, unless there was no memory for
+-- them; or there is no memory to go on with it, or it is refused
 abbrev pub Decides : CoreState → Answer → CoreState → Type 0
 Decides old given new =
     ((number : ℕ) × (verdicts : List Outcome)
-    × (given ≡ answer.Switched number verdicts 0) × EndsBuild event.Switch (reply.Switched number verdicts) old new)
+    × (given ≡ answer.Switched number verdicts 0) × (list_any is_refusal verdicts ≡ false) × EndsBuild event.Switch (reply.Switched number verdicts) old new)
+    ⊎ ((number : ℕ) × (verdicts : List Outcome) × (lines : Vec SharedLine Global)
+    × (given ≡ answer.SomeRefused number verdicts lines 0) × (OnBuild old.live.build (λ b. ListsShared 0 b.specs verdicts lines.items) ⊎ (lines.items ≡ []))
+    × EndsBuild event.Switch (reply.Switched number verdicts) old new)
+    ⊎ Refuses Memory old given new
     ⊎ ((fault : Fault) × (given ≡ answer.Refused fault) × Step old event.Switch (reply.Refused fault) new)
 
 -- the build is given up, and no page of its spools is missing; or that is refused
@@ -155,6 +165,7 @@ CarriesOut labels (Seal worker) old given new = Happens (event.Seal worker) old 
 CarriesOut labels (Load index) old given new = Happens (event.Load index) old given new
 CarriesOut labels (Feed index most) old given new = Happens (event.Feed index most) old given new
 CarriesOut labels (Apply index most) old given new = Happens (event.Apply index most) old given new
+CarriesOut labels Fence old given new = Happens event.Fence old given new
 CarriesOut labels Switch old given new = Decides old given new
 CarriesOut labels Abandon old given new = GivesUp old given new
 CarriesOut labels (Side index) old given new = ListsSide index old given new

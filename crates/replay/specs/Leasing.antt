@@ -1,5 +1,5 @@
 -- The pages that the spools of a build lease, and how a table stands before a build and behind it.
-use Rattle.std.specs.Prelude.{◌≡◌, ◌⊎◌, ℕ, ◌*◌, ◌≤◌, true, is_some, List, [], length, replicate, Option, Some, None}
+use Rattle.std.specs.Prelude.{◌≡◌, ◌⊎◌, ℕ, ◌*◌, ◌≤◌, true, false, is_some, List, [], length, replicate, Option, Some, None}
 use Rattle.std.specs.List.{All, sum_by}
 use Rattle.spool_ledger.specs.Accounts.{Stake, stake_of}
 use Rattle.spool_ledger.specs.Pools.{PoolValue}
@@ -12,7 +12,7 @@ use Rattle.builder_core.specs.CoreState.{CoreState, SpoolsState, idle, opening}
 use Rattle.builder_core.specs.Holding.{spools_in}
 use Rattle.builder_core.specs.Steps.{Step}
 use Rattle.builder_core.specs.declared.event.Event.{Event}
-use Rattle.builder_core.specs.declared.event.Event.TheVariants.{Begin, Insert, Update, Delete, Undo, Commit, Start, Scan, Digest, Seal, Load, Feed, Apply, Switch, Abandon}
+use Rattle.builder_core.specs.declared.event.Event.TheVariants.{Begin, Insert, Update, Delete, Undo, Commit, Start, Scan, Digest, Seal, Load, Feed, Apply, Fence, Switch, Abandon}
 use Rattle.builder_core.specs.declared.plan.Plan.{Plan}
 use Rattle.builder_core.specs.declared.reply.Reply.{Reply}
 use Rattle.builder_core.specs.declared.reply.Reply.TheVariants.{Refused}
@@ -48,9 +48,10 @@ pub record AreOf (leases : LeasesValue) (stakes : List (Option Stake)) : Type 0 
   pub out : sum_by pages_of (stakes_in stakes) ≡ leases.pool.out
   pub room : length stakes ≤ leases.room
 
--- no build runs beside the table, and there are no spools
+-- no build runs beside the table, transactions may begin, and there are no spools
 pub record IsAtRest (s : CoreState) : Type 0 where
   pub build : s.live.build ≡ None
+  pub fence : s.live.heap.fenced ≡ false
   pub work : s.work ≡ idle
   pub spools : s.spools ≡ no_spools
 
@@ -100,5 +101,6 @@ KeepsBuild (Seal worker) = Unit {0}
 KeepsBuild (Load index) = Unit {0}
 KeepsBuild (Feed index most) = Unit {0}
 KeepsBuild (Apply index most) = Unit {0}
+KeepsBuild Fence = Unit {0}
 KeepsBuild Switch = ⊥
 KeepsBuild Abandon = ⊥

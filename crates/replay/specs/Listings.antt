@@ -1,5 +1,5 @@
 -- The pairs of an index as they are listed: those of a ready one, and those of the table at rest.
-use Rattle.std.specs.Prelude.{◌≡◌, ℕ, Vec, slice_get, List, Option, Some, None, ◌⊎◌}
+use Rattle.std.specs.Prelude.{◌≡◌, ℕ, ◌+◌, Vec, slice_get, List, [], ◌∷◌, Option, Some, None, ◌⊎◌}
 use Rattle.std.specs.declared.alloc.Global.{Global}
 use Rattle.std.specs.List.{AllZip}
 use Rattle.keybytes.specs.Faults.{RefusedFor}
@@ -7,6 +7,10 @@ use Rattle.keybytes.specs.Keys.{KeySpecValue, HasKey, key_columns_refusal}
 use Rattle.keybytes.specs.declared.fault.Fault.{Fault}
 use Rattle.keybytes.specs.declared.fault.Fault.TheVariants.{BadCount}
 use Rattle.keybytes.specs.declared.kind.Kind.{Kind}
+use Rattle.keybytes.specs.declared.rid.Rid.{Rid}
+use Rattle.heap_log.specs.declared.outcome.Outcome.{Outcome}
+use Rattle.heap_log.specs.declared.outcome.Outcome.TheVariants.{Ready, Shared}
+use Rattle.replay.specs.declared.shared_line.SharedLine.{SharedLine}
 use Rattle.builder_core.specs.CoreState.{CoreState, ReadyValue, with_heap}
 use Rattle.heap_table.specs.TablePairs.{pairs_at_rest}
 use Rattle.keybytes.specs.declared.pair.Pair.{Pair}
@@ -30,6 +34,22 @@ ListsPair spec pair line = HasKey spec pair.key line.cells.items × (line.rid �
 -- the answer lists the pairs, a line each, in their order
 abbrev pub ListsPairs : KeySpecValue → List Pair → Answer → Type 0
 ListsPairs spec pairs given = (lines : Vec PairLine Global) × (given ≡ answer.Pairs lines) × AllZip (ListsPair spec) pairs lines.items
+
+-- the line tells of the refused index of that number: the columns of the key that two RIDs have, and the RIDs
+pub record TellsShared (index : ℕ) (spec : KeySpecValue) (key : List ℕ) (first second : Rid) (line : SharedLine) : Type 0 where
+  pub number : line.index ≡ index
+  pub cells : HasKey spec key line.cells.items
+  pub first_is : line.first ≡ first
+  pub second_is : line.second ≡ second
+
+-- the lines tell of the indexes that these verdicts refuse, in their order, where the first verdict is on the index of that number
+abbrev pub ListsShared : ℕ → List KeySpecValue → List Outcome → List SharedLine → Type 0
+ListsShared number specs [] lines = lines ≡ []
+ListsShared number [] (verdict ∷ verdicts) lines = ⊥
+ListsShared number (spec ∷ specs) (Ready k ∷ verdicts) lines = ListsShared (number + 1) specs verdicts lines
+ListsShared number (spec ∷ specs) (Shared key first second ∷ verdicts) [] = ⊥
+ListsShared number (spec ∷ specs) (Shared key first second ∷ verdicts) (line ∷ lines) =
+    TellsShared number spec key first second line × ListsShared (number + 1) specs verdicts lines
 
 -- the pairs of the ready index of that number, if there is one, are listed
 abbrev pub ListsReady : Option ReadyValue → Answer → Type 0

@@ -8,7 +8,7 @@ use Rattle.heap_table.specs.Limits.{pages_most}
 use Rattle.builder_core.specs.CoreState.{CoreState, LiveState, opening}
 use Rattle.script.specs.declared.command.Command.{Command}
 use Rattle.script.specs.declared.command.Command.TheVariants.{Row, Begin, Insert, Update, Delete, Undo, Commit, Get, Start as StartCommand, Scan, Digest}
-use Rattle.script.specs.declared.command.Command.TheVariants.{Seal, Load, Feed, Apply, Switch, Abandon, Side, Pairs, Rest}
+use Rattle.script.specs.declared.command.Command.TheVariants.{Seal, Load, Feed, Apply, Fence, Switch, Abandon, Side, Pairs, Rest}
 use Rattle.script.specs.declared.numbered_command.NumberedCommand.{NumberedCommand}
 use Rattle.script.specs.Scripts.{SpellsScript}
 use Rattle.script.specs.declared.script.Script.{Script}
@@ -70,6 +70,7 @@ NotesCommand old (Seal worker) given new = new ≡ old
 NotesCommand old (Load index) given new = new ≡ old
 NotesCommand old (Feed index most) given new = new ≡ old
 NotesCommand old (Apply index most) given new = new ≡ old
+NotesCommand old Fence given new = new ≡ old
 NotesCommand old Switch given new = new ≡ old
 NotesCommand old Abandon given new = new ≡ old
 NotesCommand old (Side index) given new = new ≡ old
@@ -85,6 +86,7 @@ status_after status (answer.Written number rid) = status
 status_after status (answer.Undone number left) = status
 status_after status (answer.Cells row) = status
 status_after status (answer.Switched number verdicts pages) = if list_any is_refusal verdicts then IndexRefused else status
+status_after status (answer.SomeRefused number verdicts lines pages) = IndexRefused
 status_after status (answer.Pairs lines) = status
 status_after status (answer.Entries lines) = status
 status_after status (answer.Abandoned pages) = status

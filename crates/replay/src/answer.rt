@@ -1,5 +1,6 @@
 use crate::entry_line::EntryLine;
 use crate::pair_line::PairLine;
+use crate::shared_line::SharedLine;
 use heap_log::Verdicts;
 use keybytes::{Fault, Rid, Row};
 
@@ -33,6 +34,13 @@ pub enum Answer {
     Switched {
         number: usize,
         verdicts: Verdicts,
+        pages: usize,
+    },
+    /// The same, where it refused indexes, with a line for each of these.
+    SomeRefused {
+        number: usize,
+        verdicts: Verdicts,
+        shared: Vec<SharedLine>,
         pages: usize,
     },
     /// The pairs of an index, in order.

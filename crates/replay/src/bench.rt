@@ -5,7 +5,8 @@ ghost use Rattle.heap_log.specs.Standing.{live_at};
 ghost use Rattle.heap_table.specs.HeapState.{after_visit, row_missing};
 ghost use Rattle.heap_table.specs.TablePairs.{pairs_at_rest};
 ghost use Rattle.builder_core.specs.CoreState.{opening, with_heap};
-ghost use Rattle.builder_core.specs.Steps.{Step};
+ghost use Rattle.builder_core.specs.Steps.{Step, OnBuild};
+ghost use Rattle.builder_core.specs.Verdicts.{HaveSharedKeys};
 ghost use Rattle.replay.specs.Leasing.{AreLeased, EndsBuild, FailsToStart, KeepsBuild, StartsOver, no_spools, plain_stake};
 ghost use Rattle.replay.specs.Listings.{OnlyVisits};
 
@@ -110,6 +111,7 @@ impl<T: Table> Bench<T> {
     /// and the verdicts stands how many of their pages are missing.
     pub fn switch(&mut self) -> Result<(usize, Verdicts, usize), Fault>
         ensures decided { IfOk result (λ told. EndsBuild Event.Switch (Reply.Switched told.0 told.1) self.old self.new) }
+        ensures keys { IfOk result (λ told. OnBuild self.old.live.build (λ b. HaveSharedKeys b.specs told.1)) }
         ensures back { IfOk result (λ told. told.2 ≡ 0) }
         ensures refused { IfErr result (λ fault. Step self.old Event.Switch (Reply.Refused fault) self.new) }
     {

@@ -18,6 +18,7 @@ mod plan;
 mod report;
 mod run;
 mod session;
+mod shared_line;
 mod status;
 mod txn;
 

@@ -1,16 +1,21 @@
-ghost use Rattle.std.specs.Prelude.{◌≡◌, IfOk, IfErr};
+ghost use Rattle.std.specs.Prelude.{◌≡◌, ◌+◌, ◌^◌, ◌<◌, ◌⊎◌, ◌++◌, [], List, length, IfOk, IfErr, IfSome, OnOk};
+ghost use Rattle.builder_core.specs.Verdicts.{HaveSharedKeys};
+ghost use Rattle.replay.specs.declared.shared_line.SharedLine.{SharedLine};
 ghost use Rattle.std.specs.List.{AllZip};
 ghost use Rattle.keybytes.specs.Pairs.{HaveKeysOf};
 ghost use Rattle.std.specs.List.{All};
 ghost use Rattle.std.specs.VecDeque.Iter.{deque_iter_rest};
 ghost use Rattle.keybytes.specs.Keys.{IsKeyOf};
-ghost use Rattle.replay.specs.Listings.{ListsPair, ListsEntry};
+ghost use Rattle.replay.specs.Listings.{ListsPair, ListsEntry, ListsShared};
 
 use crate::entry_line::EntryLine;
 use crate::pair_line::PairLine;
+use crate::shared_line::SharedLine;
 use btree::Tree;
-use builder_core::{Entry, Pair};
+use builder_core::{Core, Entry, Pair, Table};
+use heap_log::Outcome;
 use keybytes::{Fault, KeySpec};
+use run_spool::PlainSpool;
 use std::alloc::Global;
 use std::collections::vec_deque::Iter;
 
@@ -72,4 +77,68 @@ pub fn entry_lines(
         })?;
     }
     Ok(lines)
+}
+
+/// Lines that tell of the indexes that the verdicts refuse; none where there is no memory for them, since the switch has decided by then.
+pub fn shared_lines(alloc: Global, specs: &[KeySpec], verdicts: &[Outcome]) -> Vec<SharedLine>
+    requires keys { HaveSharedKeys specs.now verdicts.now }
+    ensures lists { ListsShared 0 specs.now verdicts.now result.items ⊎ (result.items ≡ []) }
+{
+    let mut lines = Vec::new(alloc);
+    match add_shared(&mut lines, 0, specs, verdicts) {
+        Ok(()) => lines,
+        Err(_) => Vec::new(alloc),
+    }
+}
+
+/// Puts such lines behind those that are there, where the first verdict is on the index of that number.
+fn add_shared(
+    lines: &mut Vec<SharedLine>,
+    number: usize,
+    specs: &[KeySpec],
+    verdicts: &[Outcome],
+) -> Result<(), Fault>
+    requires keys { HaveSharedKeys specs.now verdicts.now }
+    requires few { number + length specs.now < 2 ^ 64 }
+    ensures lists { OnOk result ((told : List SharedLine) × (lines.new.items ≡ lines.old.items ++ told) × ListsShared number specs.now verdicts.now told) }
+    ensures memory { IfErr result (λ fault. fault ≡ Fault.Memory) }
+{
+    let (Some((spec, specs)), Some((verdict, verdicts))) = (specs.split_first(), verdicts.split_first())
+    else {
+        return Ok(());
+    };
+    if let Outcome::Shared { key, first, second } = verdict {
+        lines.push(SharedLine {
+            index: number,
+            cells: spec.cells(key)?,
+            first: *first,
+            second: *second,
+        })?;
+    }
+    add_shared(lines, number + 1, specs, verdicts)
+}
+
+/// Copies of what makes the keys of the indexes that are being built.
+pub fn build_specs<T: Table>(
+    alloc: Global,
+    core: &Core<PlainSpool, T>,
+) -> Result<Vec<KeySpec>, Fault>
+    ensures ok { IfOk result (λ specs. IfSome core.now.live.build (λ b. specs.items ≡ b.specs)) }
+    ensures memory { IfErr result (λ fault. fault ≡ Fault.Memory) }
+{
+    match core.specs() {
+        Some(specs) => copied_specs(alloc, specs),
+        None => Ok(Vec::new(alloc)),
+    }
+}
+
+fn copied_specs(alloc: Global, specs: &[KeySpec]) -> Result<Vec<KeySpec>, Fault>
+    ensures same { IfOk result (λ copies. copies.items ≡ specs.now) }
+    ensures memory { IfErr result (λ fault. fault ≡ Fault.Memory) }
+{
+    let mut copies = Vec::with_capacity(alloc, specs.len())?;
+    for spec in specs {
+        copies.push_reserved(spec.clone()?);
+    }
+    Ok(copies)
 }

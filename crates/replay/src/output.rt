@@ -7,6 +7,7 @@ use crate::answer::Answer;
 use crate::entry_line::EntryLine;
 use crate::output_failed::OutputFailed;
 use crate::pair_line::PairLine;
+use crate::shared_line::SharedLine;
 use arrayvec::ArrayString;
 use builder_core::Op;
 use csv::{Writer, WriterBuilder};
@@ -77,6 +78,11 @@ impl<W: io::Write + Drop> Output<W> {
                 number,
                 verdicts,
                 ..
+            }
+            | Answer::SomeRefused {
+                number,
+                verdicts,
+                ..
             } => {
                 self.field(*number)?;
                 self.verdicts(verdicts)
@@ -109,6 +115,12 @@ impl<W: io::Write + Drop> Output<W> {
             Answer::Switched { pages, .. } | Answer::Abandoned { pages } => {
                 self.pages(number, *pages)
             }
+            Answer::SomeRefused { shared, pages, .. } => {
+                for line in shared {
+                    self.shared(number, line)?;
+                }
+                self.pages(number, *pages)
+            }
             Answer::Pairs { lines } => {
                 for line in lines {
                     self.pair(number, line)?;
@@ -131,6 +143,16 @@ impl<W: io::Write + Drop> Output<W> {
     {
         self.fields(number, "pages")?;
         self.field(missing)?;
+        self.end()
+    }
+
+    fn shared(&mut self, number: usize, line: &SharedLine) -> Result<(), OutputFailed>
+        ensures { OnOk result (fields_written self.new.writer ≡ 0) }
+    {
+        self.fields(number, "shared")?;
+        self.field(line.index)?;
+        self.cells(line.cells.as_slice())?;
+        self.fields(line.first, line.second)?;
         self.end()
     }
 

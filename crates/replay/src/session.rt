@@ -16,7 +16,7 @@ use crate::answer::Answer;
 use crate::bench::Bench;
 use crate::entry_line::EntryLine;
 use crate::labels::Labels;
-use crate::listing::{entry_lines, pair_lines, tree_lines};
+use crate::listing::{build_specs, entry_lines, pair_lines, tree_lines, shared_lines};
 use crate::plan::{dealing_of, is_in_limits};
 use crate::status::Status;
 use crate::txn::{begin, put, take_back};
@@ -83,6 +83,7 @@ impl Session {
             Command::Load { index } => step(bench, Event::Load { index }),
             Command::Feed { index, most } => step(bench, Event::Feed { index, most }),
             Command::Apply { index, most } => step(bench, Event::Apply { index, most }),
+            Command::Fence => step(bench, Event::Fence),
             Command::Switch => self.switch(bench),
             Command::Abandon => self.abandon(bench),
             Command::Side { index } => self.side(bench.core(), index),
@@ -227,13 +228,21 @@ impl Session {
     fn switch<T: Table>(&mut self, bench: &mut Bench<T>) -> Result<Answer, Fault>
         ensures { Answers (state_of bench.old self.old) Command.Switch result (state_of bench.new self.new) }
     {
+        let specs = build_specs(self.alloc, bench.core())?;
         let (number, verdicts, pages) = bench.switch()?;
-        if has_refused(&verdicts) {
-            self.status = Status::IndexRefused;
+        if !has_refused(&verdicts) {
+            return Ok(Answer::Switched {
+                number,
+                verdicts,
+                pages,
+            });
         }
-        Ok(Answer::Switched {
+        self.status = Status::IndexRefused;
+        let shared = shared_lines(self.alloc, specs.as_slice(), verdicts.as_slice());
+        Ok(Answer::SomeRefused {
             number,
             verdicts,
+            shared,
             pages,
         })
     }
@@ -316,6 +325,7 @@ fn step<T: Table>(bench: &mut Bench<T>, event: Event) -> Result<Answer, Fault>
         | Reply::Applied { entries: count } => Answer::Number {
             number: count as u64,
         },
+        Reply::FenceSet => Answer::Done,
         Reply::Refused { fault } => return Err(fault),
         _ => unreachable!(),
     })

@@ -6,6 +6,7 @@ mod catching_up;
 mod several_indexes;
 mod tables;
 mod transactions;
+mod unique_indexes;
 mod while_in_use;
 
 use crate::case::Case;
@@ -13,7 +14,7 @@ use crate::printed::Printed;
 use std::alloc::{AllocError, Global};
 use std::test::Fail;
 
-fn cases() -> [&'static [Case]; 7] {
+fn cases() -> [&'static [Case]; 8] {
     [
         &tables::CASES,
         &transactions::CASES,
@@ -21,6 +22,7 @@ fn cases() -> [&'static [Case]; 7] {
         &while_in_use::CASES,
         &catching_up::CASES,
         &several_indexes::CASES,
+        &unique_indexes::CASES,
         &bad_scripts::CASES,
     ]
 }

@@ -7,7 +7,7 @@ use Rattle.script.specs.Lines.{SpellLine, SpellParts, SpellTable, SpellsLabel, n
 use Rattle.script.specs.Shapes.{Fit, HasShape, IsRemark, IsSpelled, parts_of, repeated_of, written}
 use Rattle.script.specs.declared.command.Command.{Command}
 use Rattle.script.specs.declared.command.Command.TheVariants.{Row, Begin, Insert, Update, Delete, Undo, Commit, Get, Start as StartCommand, Scan, Digest, Seal}
-use Rattle.script.specs.declared.command.Command.TheVariants.{Load, Feed, Apply, Switch, Abandon, Side, Pairs, Rest}
+use Rattle.script.specs.declared.command.Command.TheVariants.{Load, Feed, Apply, Fence, Switch, Abandon, Side, Pairs, Rest}
 use Rattle.script.specs.declared.command_name.CommandName.{CommandName}
 use Rattle.script.specs.declared.command_name.CommandName.TheVariants as name
 use Rattle.script.specs.declared.line.Line.{Line}
@@ -97,6 +97,8 @@ command_fits fields (Feed index most) spelled = two_fit SpellsNumber part.Number
 command_fits fields (Apply index most) spelled = two_fit SpellsNumber part.Number number_part fields index most spelled
 command_fits [] Switch spelled = tt
 command_fits (f ∷ fs) Switch spelled = cc
+command_fits [] Fence spelled = tt
+command_fits (f ∷ fs) Fence spelled = cc
 command_fits [] Abandon spelled = tt
 command_fits (f ∷ fs) Abandon spelled = cc
 command_fits fields (Side index) spelled = one_fits SpellsNumber part.Number number_part fields index spelled
@@ -131,6 +133,7 @@ named text =
     else if bytes_eq text (codes "load") then name.Load
     else if bytes_eq text (codes "feed") then name.Feed
     else if bytes_eq text (codes "apply") then name.Apply
+    else if bytes_eq text (codes "fence") then name.Fence
     else if bytes_eq text (codes "switch") then name.Switch
     else if bytes_eq text (codes "abandon") then name.Abandon
     else if bytes_eq text (codes "side") then name.Side
@@ -155,6 +158,7 @@ named_written name.Seal = refl
 named_written name.Load = refl
 named_written name.Feed = refl
 named_written name.Apply = refl
+named_written name.Fence = refl
 named_written name.Switch = refl
 named_written name.Abandon = refl
 named_written name.Side = refl
@@ -183,6 +187,7 @@ begins_plain name.Seal = refl
 begins_plain name.Load = refl
 begins_plain name.Feed = refl
 begins_plain name.Apply = refl
+begins_plain name.Fence = refl
 begins_plain name.Switch = refl
 begins_plain name.Abandon = refl
 begins_plain name.Side = refl
@@ -210,6 +215,7 @@ not_table (Seal worker) is = cc
 not_table (Load index) is = cc
 not_table (Feed index most) is = cc
 not_table (Apply index most) is = cc
+not_table Fence is = cc
 not_table Switch is = cc
 not_table Abandon is = cc
 not_table (Side index) is = cc

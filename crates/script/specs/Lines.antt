@@ -9,7 +9,7 @@ use Rattle.script.specs.declared.line.Line.{Line}
 use Rattle.script.specs.declared.line.Line.TheVariants.{PassedOver, Table as TableLine, Command as CommandLine}
 use Rattle.script.specs.declared.command.Command.{Command}
 use Rattle.script.specs.declared.command.Command.TheVariants.{Row, Begin, Insert, Update, Delete, Undo, Commit, Get, Start as StartCommand, Scan, Digest, Seal}
-use Rattle.script.specs.declared.command.Command.TheVariants.{Load, Feed, Apply, Switch, Abandon, Side, Pairs, Rest}
+use Rattle.script.specs.declared.command.Command.TheVariants.{Load, Feed, Apply, Fence, Switch, Abandon, Side, Pairs, Rest}
 use Rattle.script.specs.declared.command_name.CommandName.{CommandName}
 use Rattle.script.specs.declared.command_name.CommandName.TheVariants as name
 use Rattle.script.specs.declared.start.Start.{Start}
@@ -67,6 +67,7 @@ name_of (Load index) = name.Load
 name_of (Feed index most) = name.Feed
 name_of (Apply index most) = name.Apply
 name_of Switch = name.Switch
+name_of Fence = name.Fence
 name_of Abandon = name.Abandon
 name_of (Side index) = name.Side
 name_of (Pairs number) = name.Pairs
@@ -90,6 +91,7 @@ SpellParts fields (Load index) = AllZip SpellsNumber fields (index ∷ [])
 SpellParts fields (Feed index most) = AllZip SpellsNumber fields (index ∷ most ∷ [])
 SpellParts fields (Apply index most) = AllZip SpellsNumber fields (index ∷ most ∷ [])
 SpellParts fields Switch = fields ≡ []
+SpellParts fields Fence = fields ≡ []
 SpellParts fields Abandon = fields ≡ []
 SpellParts fields (Side index) = AllZip SpellsNumber fields (index ∷ [])
 SpellParts fields (Pairs number) = AllZip SpellsNumber fields (number ∷ [])

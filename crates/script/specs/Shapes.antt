@@ -7,7 +7,7 @@ use Rattle.keybytes.specs.declared.rid.Rid.{Rid}
 use Rattle.script.specs.Fields.{is_label, SpellsCell, SpellsDealing, SpellsKind, SpellsNumber, SpellsRid, SpellsSpec}
 use Rattle.script.specs.declared.command_name.CommandName.{CommandName}
 use Rattle.script.specs.declared.command_name.CommandName.TheVariants.{Table, Row, Begin, Insert, Update, Delete, Undo, Commit, Get, Start, Scan, Digest, Seal}
-use Rattle.script.specs.declared.command_name.CommandName.TheVariants.{Load, Feed, Apply, Switch, Abandon, Side, Pairs, Rest}
+use Rattle.script.specs.declared.command_name.CommandName.TheVariants.{Load, Feed, Apply, Fence, Switch, Abandon, Side, Pairs, Rest}
 use Rattle.script.specs.declared.dealing.Dealing.{Dealing}
 use Rattle.script.specs.declared.part.Part.{Part}
 use Rattle.script.specs.declared.part.Part.TheVariants as part
@@ -32,6 +32,7 @@ written Load = codes "load"
 written Feed = codes "feed"
 written Apply = codes "apply"
 written Switch = codes "switch"
+written Fence = codes "fence"
 written Abandon = codes "abandon"
 written Side = codes "side"
 written Pairs = codes "pairs"
@@ -56,6 +57,7 @@ parts_of Load = part.Number ∷ []
 parts_of Feed = part.Number ∷ part.Number ∷ []
 parts_of Apply = part.Number ∷ part.Number ∷ []
 parts_of Switch = []
+parts_of Fence = []
 parts_of Abandon = []
 parts_of Side = part.Number ∷ []
 parts_of Pairs = part.Number ∷ []
@@ -80,6 +82,7 @@ repeated_of Load = None
 repeated_of Feed = None
 repeated_of Apply = None
 repeated_of Switch = None
+repeated_of Fence = None
 repeated_of Abandon = None
 repeated_of Side = None
 repeated_of Pairs = None

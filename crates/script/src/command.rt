@@ -62,6 +62,8 @@ pub enum Command {
         index: usize,
         most: usize,
     },
+    /// Lets no transaction begin until the build has decided or is given up.
+    Fence,
     Switch,
     /// Gives the build up.
     Abandon,

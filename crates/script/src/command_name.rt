@@ -23,6 +23,7 @@ pub enum CommandName {
     Load,
     Feed,
     Apply,
+    Fence,
     Switch,
     Abandon,
     Side,
@@ -52,6 +53,7 @@ impl CommandName {
             "load" => CommandName::Load,
             "feed" => CommandName::Feed,
             "apply" => CommandName::Apply,
+            "fence" => CommandName::Fence,
             "switch" => CommandName::Switch,
             "abandon" => CommandName::Abandon,
             "side" => CommandName::Side,
@@ -83,7 +85,7 @@ impl CommandName {
             | CommandName::Load
             | CommandName::Side
             | CommandName::Pairs => &[Part::Number],
-            CommandName::Switch | CommandName::Abandon => &[],
+            CommandName::Fence | CommandName::Switch | CommandName::Abandon => &[],
             CommandName::Rest => &[Part::Spec],
         }
     }
@@ -129,6 +131,7 @@ impl CommandName {
             CommandName::Load => "load,I",
             CommandName::Feed => "feed,I,K",
             CommandName::Apply => "apply,I,K",
+            CommandName::Fence => "fence",
             CommandName::Switch => "switch",
             CommandName::Abandon => "abandon",
             CommandName::Side => "side,I",

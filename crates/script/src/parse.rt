@@ -137,6 +137,10 @@ fn named(alloc: Global, name: CommandName, fields: &[&str]) -> Result<Line, Reco
             let (index, most) = two_counts(fields)?;
             Command::Apply { index, most }
         }
+        CommandName::Fence => {
+            none(fields)?;
+            Command::Fence
+        }
         CommandName::Switch => {
             none(fields)?;
             Command::Switch

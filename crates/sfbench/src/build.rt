@@ -9,6 +9,7 @@ use btree::Tree;
 use builder_core::{
     Core, Dealing, Event, INDEXES_MAX, Pair, Parts, Plan, Reply, Table, WORKERS_MAX,
 };
+use heap_log::Outcome;
 use heap_table::{Heap, PAGES_MAX, SLOTS_MAX};
 use keybytes::{Fault, KeySpec, Kind, Rid, Row, Schema};
 use run_spool::PlainSpool;
@@ -113,10 +114,11 @@ pub fn specs<T: Table>(
     alloc: Global,
     core: &Core<PlainSpool, T>,
     indexes: usize,
+    unique: bool,
 ) -> Result<Vec<KeySpec>, Failure> {
     let mut specs = Vec::with_capacity(alloc, indexes)?;
     for index in 0..indexes {
-        specs.push(spec(alloc, core, index)?)?;
+        specs.push(spec(alloc, core, index, unique)?)?;
     }
     Ok(specs)
 }
@@ -126,12 +128,13 @@ fn spec<T: Table>(
     alloc: Global,
     core: &Core<PlainSpool, T>,
     index: usize,
+    unique: bool,
 ) -> Result<KeySpec, Failure>
     ensures { IfOk result (λ spec. spec.kinds ≡ core.now.live.heap.schema) }
 {
     let schema = core.schema();
     let column = index % schema.kinds().len();
-    match KeySpec::new(alloc, schema, vec![in alloc; column]?, false) {
+    match KeySpec::new(alloc, schema, vec![in alloc; column]?, unique) {
         Ok(spec) => Ok(spec),
         Err(fault) => Err(Failure::Refused("the key of an index", fault)),
     }
@@ -165,14 +168,15 @@ fn spools_over(alloc: Global, accounts: Vec<Account>) -> Result<Vec<PlainSpool>,
 pub fn start<T: Table>(
     alloc: Global,
     core: &mut Core<PlainSpool, T>,
-    indexes: usize,
+    specs: Vec<KeySpec>,
     quota: usize,
     ends: Vec<u32>,
 ) -> Result<(), Failure>
     requires { quota ≤ 1024 }
 {
+    let indexes = specs.len();
     let plan = Plan {
-        specs: specs(alloc, core, indexes)?,
+        specs,
         workers: ends.len(),
         dealing: Dealing::Ends(ends),
         tries: 1,
@@ -236,9 +240,16 @@ pub fn apply<T: Table>(
     Ok(entries)
 }
 
-/// Makes the indexes ready.
+/// Makes the indexes ready, or tells the first that is refused.
 pub fn switch<T: Table>(core: &mut Core<PlainSpool, T>) -> Result<(), Failure> {
-    ask(core, "the switch", Event::Switch)?;
+    let Reply::Switched { verdicts, .. } = ask(core, "the switch", Event::Switch)? else {
+        unreachable!()
+    };
+    for (index, verdict) in verdicts.as_slice().iter().enumerate() {
+        if let Outcome::Shared { .. } = verdict {
+            return Err(Failure::Shared(index));
+        }
+    }
     Ok(())
 }
 
@@ -256,7 +267,8 @@ pub fn compare<T: Table>(
     core: &mut Core<PlainSpool, T>,
     index: usize,
 ) -> Result<(), Failure> {
-    let spec = spec(alloc, core, index)?;
+    // Its pairs are the same whether it is unique or not.
+    let spec = spec(alloc, core, index, false)?;
     let rest = match core.rest(&spec) {
         Ok(rest) => rest,
         Err(fault) => return Err(Failure::Refused("the pairs at rest", fault)),

@@ -89,6 +89,7 @@ fn options(matches: &ArgMatches<'_>, columns: Vec<Column>) -> Option<Options> {
         rows,
         columns,
         indexes: matches.get_one("indexes")?,
+        unique: matches.get_flag("unique"),
         workers,
         writes: matches.get_one("writes")?,
         seed: matches.get_one("seed")?,
@@ -104,6 +105,7 @@ fn command<'a>(alloc: Global) -> Result<Command<'a>, AllocError> {
         .arg(rows(alloc))?
         .arg(column_list(alloc))?
         .arg(indexes(alloc))?
+        .arg(unique(alloc))?
         .arg(workers(alloc))?
         .arg(writes(alloc))?
         .arg(seed(alloc))?
@@ -138,6 +140,13 @@ fn indexes<'a>(alloc: Global) -> Arg<'a> {
         )
         .value_parser(value_parser!(usize).range(1..=8))
         .default_value("1")
+}
+
+fn unique<'a>(alloc: Global) -> Arg<'a> {
+    Arg::new(alloc, "unique")
+        .long("unique")
+        .help("The indexes are unique: where rows share a key the run fails")
+        .action(ArgAction::SetTrue)
 }
 
 fn workers<'a>(alloc: Global) -> Arg<'a> {

@@ -12,6 +12,9 @@ pub enum Failure {
     /// With the index, from 0, and the first of its pairs that the table doesn't have there.
     #[error("index {0} is not what the table gives: pair {1} differs")]
     Differs(usize, usize),
+    /// With the index, from 0.
+    #[error("unique index {0} is refused: rows share a key")]
+    Shared(usize),
     #[error("no memory")]
     Memory,
     #[error("{0}")]

@@ -11,6 +11,8 @@ pub struct Options {
     pub columns: Vec<Column>,
     /// How many indexes the build makes.
     pub indexes: usize,
+    /// Whether rows may not share a key of any of them.
+    pub unique: bool,
     /// How many workers make their pairs.
     pub workers: usize,
     /// How many updates are made before the build, and as many while its pages are copied.

@@ -119,7 +119,8 @@ fn start<T: Table>(
     let quota = quota(options.rows, options.key_size(), options.workers);
     let mut watch = Watch::new();
     let start = Instant::now(rt)?;
-    build::start(rt.alloc(), core, options.indexes, quota, ends)?;
+    let specs = build::specs(rt.alloc(), core, options.indexes, options.unique)?;
+    build::start(rt.alloc(), core, specs, quota, ends)?;
     watch.add(rt, start)?;
     Ok(Figure::new(rt, &watch, options.rows))
 }

@@ -1,6 +1,7 @@
 //! A small run with what it prints, and the words that are refused.
 
 use crate::command_line;
+use crate::failure::Failure;
 use crate::peak::peak_in;
 use crate::report::print;
 use crate::run::run;
@@ -89,6 +90,26 @@ fn eight_indexes(rt: HostRuntime) -> Result<(), Fail> {
         "--csv",
     ];
     assert_eq!(rt; phases(&rt, words.as_slice())?.as_str(), PHASES);
+    Ok(())
+}
+
+/// Random numbers differ, and of 600 texts of one letter some are the same.
+#[test]
+fn unique_indexes(rt: HostRuntime) -> Result<(), Fail> {
+    let numbers = [
+        "sfbench", "--rows", "600", "--unique", "--writes", "50", "--csv",
+    ];
+    assert_eq!(rt; phases(&rt, numbers.as_slice())?.as_str(), PHASES);
+    let letters = [
+        "sfbench",
+        "--rows",
+        "600",
+        "--columns",
+        "text:1",
+        "--unique",
+    ];
+    let options = command_line::read(rt.alloc(), letters.as_slice())?;
+    assert!(rt; matches!(run(&rt, &options), Err(Failure::Shared(0))));
     Ok(())
 }
 

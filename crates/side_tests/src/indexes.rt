@@ -6,6 +6,7 @@ use keybytes::{Fault, Key, Rid};
 use side_file::{Entry, Op};
 use std::alloc::Global;
 use std::test::Fail;
+use unique_verdict::Verdict;
 
 /// An entry in short: the number of its build, what it does, the byte of its key and the page of its RID.
 type Short = (u64, Op, u8, u32);
@@ -137,4 +138,61 @@ fn ten_entries(alloc: Global) -> Result<bool, Fault> {
 #[test]
 fn an_index_where_memory_may_run_out(rt: HostRuntime) {
     assert!(rt; ten_entries(rt.alloc()) == Ok(true));
+}
+
+/// The pages of the RIDs that share the key of one byte, if that is what the verdict says.
+fn shared_pages(verdict: &Verdict, byte: u8) -> Option<(u32, u32)> {
+    match verdict {
+        Verdict::Shared { key, first, second } if key.bytes() == [byte].as_slice() => {
+            Some((first.page, second.page))
+        }
+        _ => None,
+    }
+}
+
+/// Two RIDs have a key between an insert and a delete. An index without a tally says nothing of that.
+#[test]
+fn keys_that_are_shared_for_a_while(rt: HostRuntime) -> Result<(), Fail> {
+    let alloc = rt.alloc();
+    let mut both = BothEnds::new(alloc)?;
+    for (op, byte, page) in [
+        (Op::Insert, b'a', 0),
+        (Op::Insert, b'b', 2),
+        (Op::Insert, b'b', 1),
+        (Op::Delete, b'b', 2),
+    ] {
+        both.append(entry(alloc, (7, op, byte, page))?)?;
+    }
+    both.feed(4);
+    let mut built = Built::unique(alloc, 7, Tree::new(alloc))?;
+    assert!(rt; both.apply(&mut built, 2)? == 2 && matches!(built.verdict()?, Verdict::Unique));
+    assert!(rt; both.apply(&mut built, 1)? == 1);
+    assert_eq!(rt; shared_pages(&built.verdict()?, b'b'), Some((1, 2)));
+    assert!(rt; both.apply(&mut built, 1)? == 1 && matches!(built.verdict()?, Verdict::Unique));
+    assert!(rt; pages(alloc, &built)?.as_slice() == [0, 1].as_slice());
+    Ok(())
+}
+
+/// Two entries with one key.
+fn shares_a_key(alloc: Global, mut built: Built) -> Result<bool, Fault> {
+    let mut both = BothEnds::new(alloc)?;
+    for page in 0..2 {
+        both.append(entry(alloc, (7, Op::Insert, b'a', page))?)?;
+    }
+    both.take_turns(&mut built, 1)?;
+    Ok(shared_pages(&built.verdict()?, b'a') == Some((0, 1)))
+}
+
+fn shares_a_key_if_unique(alloc: Global) -> Result<bool, Fault> {
+    shares_a_key(alloc, Built::unique(alloc, 7, Tree::new(alloc))?)
+}
+
+#[test]
+fn a_tally_is_kept_where_it_is_asked_for(rt: HostRuntime) {
+    assert!(rt; shares_a_key(rt.alloc(), empty(rt.alloc(), 7)) == Ok(false));
+}
+
+#[test]
+fn a_tally_where_memory_may_run_out(rt: HostRuntime) {
+    assert!(rt; shares_a_key_if_unique(rt.alloc()) == Ok(true));
 }

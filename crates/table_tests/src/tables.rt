@@ -131,6 +131,8 @@ fn copied_to(heap: &mut Heap, page: u32, image: &mut PageImage) -> Result<Option
 /// A call of a table, and what it answers.
 enum Call {
     Begin(u64, Result<u64, Fault>),
+    /// No transaction may begin from now on, or each may.
+    Fence(bool),
     Write(u64, Write, Result<(usize, Rid), Fault>),
     Undo(u64, Result<(usize, usize), Fault>),
     Commit(u64, Result<usize, Fault>),
@@ -148,6 +150,10 @@ enum Call {
 fn is_answered(heap: &mut Heap, call: &Call, is_ready: bool) -> bool {
     match call {
         Call::Begin(count, answer) => begin(heap, *count) == *answer,
+        Call::Fence(fenced) => {
+            heap.set_fence(*fenced);
+            true
+        }
         Call::Write(txn, asked, answer) if is_ready => write_ready(heap, *txn, *asked) == *answer,
         Call::Write(txn, asked, answer) => write_at_once(heap, *txn, *asked) == *answer,
         Call::Undo(txn, answer) if is_ready => undo_ready(heap, *txn) == *answer,
@@ -375,4 +381,38 @@ fn checks_before_memory_is_taken(rt: HostRuntime) {
         Err(fault) => Err(fault),
     };
     assert_eq!(rt; checked, Ok((9, Ok(FIRST), Err(Fault::NoSuchRow))));
+}
+
+/// A table that is fenced while a transaction is open: that one writes and commits, another begins only once the fence is lifted.
+const FENCES: [Call; 9] = [
+    Call::Begin(1, Ok(1)),
+    Call::Fence(true),
+    Call::Begin(1, Err(Fault::Fenced)),
+    Call::Write(1, Write::Insert(5), Ok((1, FIRST))),
+    Call::Undo(1, Ok((2, 0))),
+    Call::Commit(1, Err(Fault::NoSuchTxn)),
+    Call::Begin(1, Err(Fault::Fenced)),
+    Call::Fence(false),
+    Call::Begin(1, Ok(2)),
+];
+
+const COMMITS_BEHIND_A_FENCE: [Call; 8] = [
+    Call::Begin(64, Ok(64)),
+    Call::Fence(true),
+    Call::Begin(1, Err(Fault::Fenced)),
+    Call::Write(1, Write::Insert(5), Ok((1, FIRST))),
+    Call::Commit(1, Ok(2)),
+    Call::Fence(false),
+    Call::Begin(1, Ok(65)),
+    Call::Begin(1, Err(Fault::TooManyTxns)),
+];
+
+#[test]
+fn a_fenced_table(rt: HostRuntime) {
+    for calls in [FENCES.as_slice(), COMMITS_BEHIND_A_FENCE.as_slice()] {
+        assert_eq!(rt;
+            differing(rt.alloc(), NUMBERS, 1, 1, calls, false),
+            Ok(None)
+        );
+    }
 }

@@ -63,6 +63,8 @@ fn one_key_and_a_range(rt: HostRuntime) -> Result<(), Fail> {
     let low = key(rt.alloc(), 49)?;
     let rids = tree.rids(&low)?;
     assert_eq!(rt; rids.as_slice(), [rid(147), rid(148), rid(149)].as_slice());
+    assert_eq!(rt; tree.first_rid(&low), Some(rid(147)));
+    assert_eq!(rt; tree.first_rid(&key(rt.alloc(), 1_000)?), None);
     let mut count = 0_u32;
     for _ in tree.range(&low, &key(rt.alloc(), 60)?)? {
         count = count.wrapping_add(1);

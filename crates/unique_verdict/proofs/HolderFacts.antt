@@ -1,7 +1,7 @@
 -- The pairs of a key, and how many they are.
 use Rattle.std.proofs.Common.{◌≡◌, ◌⊎◌, ℕ, Bool, true, false, List, [], ◌∷◌, map, Option, refl, sym, ap, ◌∙◌, subst, inl, inr}
 use Rattle.std.specs.Prelude as prelude
-use Rattle.std.specs.List.{filter}
+use Rattle.std.specs.List.{filter, slice_get}
 use Rattle.std.proofs.lemmas.Bool.{false≢true}
 use Rattle.keybytes.specs.declared.pair.Pair.{Pair}
 use Rattle.keybytes.specs.declared.rid.Rid.{Rid}
@@ -9,7 +9,7 @@ use Rattle.tree_nodes.specs.Lists.{In, IsRising, without}
 use Rattle.tree_nodes.specs.Order.{is_before}
 use Rattle.tree_nodes.proofs.Strict.{before-strict, pair_same}
 use Rattle.btree.specs.TreeValue.{is_key, rids_of}
-use Rattle.unique_verdict.specs.Holders.{holders, least_of}
+use Rattle.unique_verdict.specs.Holders.{holders}
 use Rattle.unique_verdict.specs.declared.key_holders.KeyHolders.{KeyHolders}
 use Rattle.unique_verdict.specs.declared.key_holders.KeyHolders.TheVariants.{None, One, Two, More}
 use Rattle.unique_verdict.specs.Shared.{shared_pairs}
@@ -41,29 +41,24 @@ abbrev rid_or : Rid → Option Rid → Rid
 rid_or d prelude.None = d
 rid_or d (prelude.Some rid) = rid
 
-least_first : (q : Pair) (qs : List Pair) → least_of (holders (map (λ p. p.rid) (q ∷ qs))) ≡ prelude.Some q.rid
-least_first q [] = refl
-least_first q (s ∷ []) = refl
-least_first q (s ∷ t ∷ qs) = refl
-
-none_left : (key : List ℕ) (pairs left : List Pair) → OfKey key pairs left → least_of (holders (map (λ p. p.rid) left)) ≡ prelude.None
+none_left : (key : List ℕ) (pairs left : List Pair) → OfKey key pairs left → slice_get (map (λ p. p.rid) left) 0 ≡ prelude.None
     → (p : Pair) → In p pairs → p.key ≡ key → ⊥
 none_left key pairs [] f e p i k = f.all p i k
-none_left key pairs (q ∷ qs) f e p i k = absurd (false≢true (ap is_some (sym e ∙ least_first q qs)))
+none_left key pairs (q ∷ qs) f e p i k = absurd (false≢true (ap is_some (sym e)))
 
-some_left : (key : List ℕ) (pairs left : List Pair) (r : Rid) → OfKey key pairs left → least_of (holders (map (λ p. p.rid) left)) ≡ prelude.Some r
+some_left : (key : List ℕ) (pairs left : List Pair) (r : Rid) → OfKey key pairs left → slice_get (map (λ p. p.rid) left) 0 ≡ prelude.Some r
     → In (record { key = key; rid = r }) pairs
 some_left key pairs [] r f e = absurd (false≢true (ap is_some e))
 some_left key pairs (q ∷ qs) r f e =
     let P : Pair → Type 0 = λ x. In x pairs in
-    subst P (pair_same q (record { key = key; rid = r }) (f.have q (inl refl)) (ap (rid_or r) (sym (least_first q qs) ∙ e))) (f.within q (inl refl))
+    subst P (pair_same q (record { key = key; rid = r }) (f.have q (inl refl)) (ap (rid_or r) e)) (f.within q (inl refl))
 
 -- no RID has the key
-pub none_has : (key : List ℕ) (pairs : List Pair) → IsRising is_before pairs → least_of (holders (rids_of key pairs)) ≡ prelude.None
+pub none_has : (key : List ℕ) (pairs : List Pair) → IsRising is_before pairs → slice_get (rids_of key pairs) 0 ≡ prelude.None
     → (p : Pair) → In p pairs → p.key ≡ key → ⊥
 none_has key pairs r e = none_left key pairs _ (of_key key pairs r) e
 
-pub least_has : (key : List ℕ) (pairs : List Pair) (rid : Rid) → IsRising is_before pairs → least_of (holders (rids_of key pairs)) ≡ prelude.Some rid
+pub least_has : (key : List ℕ) (pairs : List Pair) (rid : Rid) → IsRising is_before pairs → slice_get (rids_of key pairs) 0 ≡ prelude.Some rid
     → In (record { key = key; rid = rid }) pairs
 least_has key pairs rid r e = some_left key pairs _ rid (of_key key pairs r) e
 

@@ -9,7 +9,7 @@ use Rattle.tree_nodes.specs.Order.{is_before}
 use Rattle.tree_nodes.proofs.Strict.{before-strict, pair_same}
 use Rattle.tree_nodes.proofs.Places.{one_way}
 use Rattle.unique_verdict.specs.Shared.{shared_pairs}
-use Rattle.unique_verdict.specs.Verdicts.{IsUnique, IsLeast}
+use Rattle.unique_verdict.specs.Verdicts.{IsUnique, IsLeast, IsVerdict, first_shared}
 use Rattle.unique_verdict.proofs.Members.{one_or_two, not_one, lt_not_one}
 use Rattle.unique_verdict.proofs.SharedFacts.{shared_rises, shared_there, shared_other, in_shared}
 use Rattle.unique_verdict.proofs.OneKey.{between_key}
@@ -95,3 +95,11 @@ least_two a b ps now rest more o f e d key k =
     let M : Pair → Type 0 = λ x. IsLeast ps a x in
     subst L (pair_same a (record { key = key; rid = a.rid }) (sym k) refl)
     (subst M (pair_same b (record { key = key; rid = b.rid }) (second_key a b ps more r shape ∙ sym k) refl) (least_of a b ps more r shape))
+
+-- it is the verdict of any pairs in order
+pub verdict_right : (pairs : List Pair) → AreOrdered pairs → IsVerdict pairs (first_shared (shared_pairs pairs))
+verdict_right pairs o = by_shared (shared_pairs pairs) refl where
+  by_shared : (now : List Pair) → now ≡ shared_pairs pairs → IsVerdict pairs (first_shared now)
+  by_shared [] f = unique_none pairs [] refl f
+  by_shared (only ∷ []) f = absurd (never_one only pairs (only ∷ []) [] refl refl f)
+  by_shared (first ∷ second ∷ rest) f = least_two first second pairs (first ∷ second ∷ rest) (second ∷ rest) rest o f refl refl first.key refl

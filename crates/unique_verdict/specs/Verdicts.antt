@@ -1,5 +1,5 @@
 -- What a verdict says of the pairs.
-use Rattle.std.specs.Prelude.{◌≡◌, true, false, List}
+use Rattle.std.specs.Prelude.{◌≡◌, Bool, true, false, List, [], ◌∷◌}
 use Rattle.keybytes.specs.declared.pair.Pair.{Pair}
 use Rattle.tree_nodes.specs.Lists.{In}
 use Rattle.tree_nodes.specs.Order.{is_before}
@@ -17,6 +17,17 @@ pub record IsLeast (pairs : List Pair) (first second : Pair) : Type 0 where
   pub apart : is_before first second ≡ true
   pub first_least : (p q : Pair) → In p pairs → In q pairs → p.key ≡ q.key → is_before p q ≡ true → is_before p first ≡ false
   pub second_least : (p q : Pair) → In p pairs → In q pairs → p.key ≡ q.key → is_before p q ≡ true → is_before q second ≡ false
+
+-- the verdict that the pairs with a shared key tell, in order: where there are none keys are unique, else the first two have the least key
+abbrev pub first_shared : List Pair → Verdict
+first_shared [] = Unique
+first_shared (only ∷ []) = Unique
+first_shared (first ∷ second ∷ rest) = Shared first.key first.rid second.rid
+
+-- whether that is the verdict
+abbrev pub accepts : Verdict → Bool
+accepts Unique = true
+accepts (Shared key first second) = false
 
 abbrev pub IsVerdict : List Pair → Verdict → Type 0
 IsVerdict pairs Unique = IsUnique pairs

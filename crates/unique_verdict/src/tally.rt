@@ -4,7 +4,7 @@ ghost use Rattle.keybytes.specs.declared.pair.Pair.{Pair};
 ghost use Rattle.btree.specs.TreeValue.{is_key};
 ghost use Rattle.unique_verdict.specs.Counting.{counted};
 ghost use Rattle.unique_verdict.specs.Shared.{shared_of};
-ghost use Rattle.unique_verdict.specs.Verdicts.{IsVerdict};
+ghost use Rattle.unique_verdict.specs.Verdicts.{IsVerdict, first_shared, accepts};
 
 use crate::Verdict;
 use crate::key_holders::KeyHolders;
@@ -60,7 +60,7 @@ impl Tally {
         if has_pair(tree, key, rid) {
             return Ok(());
         }
-        let Some(other) = holders_in(tree, key)?.least() else {
+        let Some(other) = tree.first_rid(key) else {
             return Ok(());
         };
         let there = has_pair(&self.shared, key, other);
@@ -96,8 +96,17 @@ impl Tally {
         Ok(())
     }
 
-    /// Whether keys are unique in the tree whose tally it is.
+    /// Whether keys are unique in the tree whose tally it is. Takes no memory.
+    pub fn is_unique(&self) -> bool
+        ensures { result ≡ accepts (first_shared self.now) }
+    {
+        let mut pairs = self.shared.iter();
+        pairs.next().is_none() || pairs.next().is_none()
+    }
+
+    /// Whether keys are unique in the tree whose tally it is, and which is shared if they aren't. The copy of a long key takes memory.
     pub fn verdict(&self) -> Result<Verdict, Fault>
+        ensures told { IfOk result (λ verdict. verdict ≡ first_shared self.now) }
         ensures is { IfOk result (λ verdict. (pairs : List Pair) → AreOrdered pairs → self.now ≡ shared_of (set_of pairs) → IsVerdict pairs verdict) }
         ensures memory { IfErr result (λ fault. fault ≡ Fault.Memory) }
     {

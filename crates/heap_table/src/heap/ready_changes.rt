@@ -14,11 +14,14 @@ use keybytes::{Fault, Rid, Row};
 impl Heap {
     /// Why an insert of the row would be refused, and else where it would go. Takes no memory.
     pub fn check_insert(&self, txn: u64, row: &Row) -> Result<Rid, Fault>
+        ensures empty { IfOk result (λ rid. live_at self.now.state.log rid ≡ None) }
         ensures place { IfOk result (λ rid. insert_place self.now.state (length (row_bytes row.now)) ≡ Some rid) }
         ensures accepted { OnOk result (insert_refusal self.now.state txn row.now ≡ None) }
         ensures refused { IfErr result (λ fault. insert_refusal self.now.state txn row.now ≡ Some fault) }
     {
         self.check_row(txn, row)?;
+        // That no row stands there is known once the pages are reached.
+        let _pages = &self.pages;
         self.place(row.size())
     }
 
@@ -63,6 +66,7 @@ impl Heap {
     pub fn ready_insert(&mut self, txn: u64, row: Row) -> Result<Ready, Fault>
         ensures ready { IfOk result (λ ready. IsReady self.new ready) }
         ensures writes { IfOk result (λ ready. Writes ready txn (Some row)) }
+        ensures empty { IfOk result (λ ready. ready.old ≡ None) }
         ensures place { IfOk result (λ ready. insert_place self.old.state (length (row_bytes row)) ≡ Some ready.rid) }
         ensures same { OnOk result (self.new.state ≡ self.old.state) }
         ensures accepted { OnOk result (insert_refusal self.old.state txn row ≡ None) }

@@ -2,7 +2,7 @@
 ghost use Rattle.std.specs.Prelude.{◌≡◌, Some, None, MatchResult};
 ghost use Rattle.keybytes.specs.Answered.{Answered};
 ghost use Rattle.heap_table.specs.Calls.{OnState, Begins, Commits, Notes};
-ghost use Rattle.heap_table.specs.HeapState.{is_open, is_ending, txn_refusal, held_refusal, begin_refusal};
+ghost use Rattle.heap_table.specs.HeapState.{is_open, is_ending, txn_refusal, held_refusal, begin_refusal, after_fence};
 ghost use Rattle.heap_table.specs.Holders.{holder};
 ghost use Rattle.heap_table.specs.Pages.{KeepsRows};
 
@@ -27,10 +27,22 @@ fn has_ending(open_txns: &[OpenTxn], txn: u64) -> bool
 }
 
 impl Heap {
-    /// Begins the next transaction; [`Fault::TooManyTxns`] where [`OPEN_MAX`] are open or the numbers are used up.
+    /// From now on no transaction may begin, or each may. Those that are open go on.
+    pub fn set_fence(&mut self, fenced: bool)
+        ensures state { self.new.state ≡ after_fence fenced self.old.state }
+        ensures room { self.new.room ≡ self.old.room }
+    {
+        self.fenced = fenced;
+    }
+
+    /// Begins the next transaction; [`Fault::Fenced`] where none may begin, [`Fault::TooManyTxns`] where [`OPEN_MAX`] are open or the
+    /// numbers are used up.
     pub fn begin(&mut self) -> Result<u64, Fault>
         ensures { Answered (begin_refusal self.old.state) (OnState Begins) self.old result self.new }
     {
+        if self.fenced {
+            return Err(Fault::Fenced);
+        }
         if self.open_txns.len() >= OPEN_MAX || self.begun == u64::MAX {
             return Err(Fault::TooManyTxns);
         }

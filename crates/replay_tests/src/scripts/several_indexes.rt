@@ -101,7 +101,7 @@ pairs,3
         script: b"table,4,int
 row,1
 start,1,4,1,n:0,n:0,n:0,n:0,n:0,n:0,n:0,n:0,n:0
-start,1,4,1,n:0,u:0
+start,17,4,1,n:0,n:0
 start,2,1,even:2,n:0,n:0
 scan,0,0
 scan,1,1

@@ -1,9 +1,13 @@
-use Rattle.std.proofs.Common.{◌≡◌, ◌≤◌, vec_capacity}
-use Rattle.builder_core.specs.Steps.{ready_from}
+use Rattle.std.proofs.Common.{◌≡◌, ◌+◌, ◌++◌, ◌≤◌, drop, length, vec_capacity}
+use Rattle.std.specs.Prelude.{map}
+use Rattle.builder_core.specs.CatchingUp.{its_verdict}
+use Rattle.builder_core.specs.Verdicts.{outcomes}
 use Rattle.builder_core.proofs.live_switch.verdicts_from.Given as goal
 
-abbrev pub invariant-loop-k : goal.invariant-loop-k
-invariant-loop-k l = record {
-  made : l.verdicts.items ≡ ready_from l.first l.k;
-  room : l.count ≤ vec_capacity l.verdicts;
+abbrev pub invariant-loop-index : goal.invariant-loop-index
+invariant-loop-index l = record {
+  made : l.verdicts.items ++ outcomes l.number (map its_verdict (drop l.index-index l.indexes)) ≡ outcomes l.first (map its_verdict l.indexes);
+  some : length l.verdicts.items ≤ l.index-index;
+  room : length l.indexes ≤ vec_capacity l.verdicts;
+  numbered : l.number ≤ l.first + l.index-index;
 }

@@ -1,4 +1,4 @@
-use Rattle.std.proofs.Common.{rules, Result, Ok, Err, OnErr, ◌≡◌, ◌≤◌, ◌<◌, ◌+◌, [], List, length, take, length-take, ap, arith}
+use Rattle.std.proofs.Common.{rules, Result, Ok, Err, OnErr, ◌≡◌, List, length, take, length-take, arith}
 use Rattle.std.proofs.lemmas.List.{nil_from_length}
 use Rattle.rtrb.specs.Ring.{known_items}
 use Rattle.side_file.specs.declared.entry.Entry.{Entry}

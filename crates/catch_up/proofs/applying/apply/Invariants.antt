@@ -1,4 +1,4 @@
-use Rattle.std.proofs.Common.{◌≡◌, ℕ, ◌+◌, length}
+use Rattle.std.proofs.Common.{◌≡◌, ◌+◌, length}
 use Rattle.rtrb.specs.Ring.{known_items}
 use Rattle.catch_up.proofs.Taking.{AppliedSoFar}
 use Rattle.catch_up.proofs.applying.apply.Given as goal

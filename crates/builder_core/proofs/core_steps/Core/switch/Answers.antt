@@ -6,7 +6,7 @@ use Rattle.builder_core.proofs.core_steps.Core.switch.Goals as goal
 
 pub returns : goal.returns
 returns g c = (
-  subst (λ (s : CoreState). build_cause s.live.build (λ b. switch_refusal b s.live.heap.log s.work) ≡ None) c.self.view_is c.in_ok-number.ensures.accepted,
+  subst (λ (s : CoreState). build_cause s.live.build (λ b. switch_refusal b s.live.heap s.work) ≡ None) c.self.view_is c.in_ok-number.ensures.accepted,
   (
     (c.in_ok-number.number, c.in_ok-number.verdicts),
     refl,

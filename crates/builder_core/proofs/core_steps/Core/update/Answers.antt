@@ -1,6 +1,6 @@
 use Rattle.std.proofs.Common.{◌≡◌, None, subst}
 use Rattle.heap_table.specs.Calls.{Updates}
-use Rattle.heap_table.specs.HeapState.{update_refusal}
+use Rattle.builder_core.specs.KeyCauses.{change_refusal}
 use Rattle.builder_core.specs.CoreState.{CoreState}
 use Rattle.builder_core.specs.declared.reply.Reply.TheVariants.{Written}
 use Rattle.builder_core.proofs.Told.{tells_on_live}
@@ -8,7 +8,7 @@ use Rattle.builder_core.proofs.core_steps.Core.update.Goals as goal
 
 pub returns : goal.returns
 returns g c = (
-  subst (λ (s : CoreState). update_refusal s.live.heap c.args.txn c.args.rid c.args.row ≡ None) c.self.view_is c.in_ok-number.ensures.updated.0,
+  subst (λ (s : CoreState). change_refusal s.live c.args.txn c.args.rid c.args.row ≡ None) c.self.view_is c.in_ok-number.ensures.updated.0,
   tells_on_live (λ w. Written w.0 w.1) (Updates c.args.txn c.args.rid c.args.row) c.args.self.now c.self.inside.live c.update.new.self c.self.inside.building
       (c.in_ok-number.number, c.in_ok-number.rid) c.self.view_is c.in_ok-number.ensures.updated.1,
 )

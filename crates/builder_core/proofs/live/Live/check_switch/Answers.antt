@@ -1,8 +1,10 @@
-use Rattle.std.proofs.Common.{rules, ◌≡◌, None, arith}
+use Rattle.std.proofs.Common.{rules, ◌≡◌, Option, None, Some, sym, subst, arith}
+use Rattle.std.specs.Prelude.{MatchResult}
+use Rattle.keybytes.specs.declared.fault.Fault.{Fault}
 use Rattle.builder_core.specs.CoreState.{BuildState}
 use Rattle.builder_core.specs.Ranges.{open_range}
 use Rattle.builder_core.proofs.Refusals.{running}
-use Rattle.builder_core.proofs.Unloaded.{one_unloaded, too_far_behind, can_be_switched}
+use Rattle.builder_core.proofs.Unloaded.{one_unloaded, too_far_behind, waits_for_writers}
 use Rattle.builder_core.proofs.live.Live.check_switch.Goals as goal
 
 pub returns-in-Some-first_unloaded : goal.returns-in-Some-first_unloaded
@@ -26,5 +28,6 @@ returns g c =
     let b : BuildState = c.in-Some-Some.build.now in
     let run = running c.args.self.now c.args.building.now b c.in-Some-Some.work.now c.in-Some-Some.ensures.build c.in-Some-Some.ensures' c.build.ensures.follows c.requires in
     let all : open_range b ≡ None = search rules in
-    can_be_switched c.args.self.now c.args.building.now b c.in-Some-Some.work.now run c.in_ok-check.ensures all c.in_default-first_unloaded.ensures
-    c.unapplied-left.result c.unapplied-left.ensures (omega (arith, c.if-left-gt-SWITCH_MAX.false))
+    let cause = waits_for_writers c.args.self.now c.args.building.now b c.in-Some-Some.work.now run c.in_ok-check.ensures all c.in_default-first_unloaded.ensures
+    c.unapplied-left.result c.unapplied-left.ensures (omega (arith, c.if-left-gt-SWITCH_MAX.false)) in
+    subst (λ (o : Option Fault). MatchResult c.check_busy.result (λ _. o ≡ None) (λ fault. o ≡ Some fault)) (sym cause) c.check_busy.ensures

@@ -76,6 +76,7 @@ invariant_of-self g c =
           (record { number = put.number; put = put.put }),
       c.self.invariant.4,
       put_ends_stay _ _ _ sides c.args.index old new c.self.invariant.5 c.index_mut-side.ensures.value fed.fed.ring,
+      c.self.invariant.6,
     )
 
 pub returns-clause-fed : goal.returns-clause-fed

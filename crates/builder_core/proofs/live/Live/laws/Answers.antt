@@ -1,4 +1,4 @@
-use Rattle.std.proofs.Common.{◌≡◌, ◌∙◌, length, subst}
+use Rattle.std.proofs.Common.{◌≡◌, ◌∙◌, length, sym, subst}
 use Rattle.std.proofs.lemmas.List.{length-map}
 use Rattle.side_file.specs.Ends.{PutEnd}
 use Rattle.building.specs.declared.copied.Copied.{Copied}
@@ -7,6 +7,7 @@ use Rattle.builder_core.specs.Builds.{LiveValue}
 use Rattle.builder_core.specs.Invariant.{BuildIsSound, EachPageOnce}
 use Rattle.builder_core.specs.Rings.{all_sent}
 use Rattle.builder_core.proofs.Sound.{runs_sound, runs_once}
+use Rattle.builder_core.specs.KeyCauses.{KeysAreGuarded, AreGuarded}
 use Rattle.builder_core.proofs.live.Live.laws.Goals as goal
 
 pub returns-clause-build : goal.returns-clause-build
@@ -22,3 +23,9 @@ returns-clause-pages g c =
     let sixteen : length all ≡ 16 = length-map inside.pages.items (λ (end : PutEnd Copied). end.sent) ∙ c.self.invariant.5.sixteen in
     subst (λ (l : LiveValue). IfSome l.state.build (λ b. EachPageOnce l.state.heap.schema l.state.heap.log b (all_sent l.pages))) c.self.view_is
     (runs_once inside.heap.state.schema inside.heap.state.log inside.builds inside.build all c.self.invariant.1 c.self.invariant.3 sixteen)
+
+pub returns-clause-keys : goal.returns-clause-keys
+returns-clause-keys g c =
+    subst (λ (l : LiveValue). KeysAreGuarded l.state.heap.log l.state.ready) c.self.view_is
+    (c.guards_laws.ensures.keys c.self.inside.heap.state c.self.inside.ready.items c.laws.ensures.holds
+    (subst (λ gs. AreGuarded c.self.inside.heap.state.log c.self.inside.ready.items gs) (sym c.as_slice.ensures.value) c.self.invariant.6))

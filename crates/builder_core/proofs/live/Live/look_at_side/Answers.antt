@@ -35,6 +35,7 @@ invariant_of-self g c =
       c.self.invariant.3,
       c.self.invariant.4,
       put_ends_stay _ _ _ sides c.args.index c.index_mut-side.result.now c.beside-waiting.new.self c.self.invariant.5 c.index_mut-side.ensures.value looks.ring,
+      c.self.invariant.6,
     )
 
 pub invariant_of-building : goal.invariant_of-building

@@ -12,6 +12,7 @@ use Rattle.builder_core.specs.CoreState.{AreIndexesOf, BuildState, LiveState}
 use Rattle.builder_core.specs.Rings.{all_sent, AreOfBuilds, HasPut, PagesFollow}
 use Rattle.builder_core.specs.Ranges.{next_page}
 use Rattle.builder_core.specs.SideFiles.{HaveEntries, SidesFollow, put_ends}
+use Rattle.builder_core.specs.KeyCauses.{AreGuarded}
 use Rattle.builder_core.specs.Steps.{OnBuild}
 use Rattle.builder_core.proofs.Places.{here_set, map_at}
 use Rattle.builder_core.proofs.SideKept.{sides_next}
@@ -34,6 +35,7 @@ invariant_of-self g c =
       subst (AreOfBuilds inside.builds) (sym same) c.self.invariant.4,
       put_ends_set g.T.Table.pages g.T.Table.sides inside.pages.items (put_ends inside.sides.items) c.args.worker new old c.self.invariant.5 c.index_mut.ensures.value
           c.has_room.ensures.looked.ring,
+      c.self.invariant.6,
     )
 
 pub returns-then-not-has_room-clause-works : goal.returns-then-not-has_room-clause-works
@@ -142,6 +144,7 @@ invariant_of-self-2 g c =
       put_ends_set g.T.Table.pages g.T.Table.sides (set pages c.args.worker looked) (put_ends inside.sides.items) c.args.worker new at
           (put_ends_set g.T.Table.pages g.T.Table.sides pages (put_ends inside.sides.items) c.args.worker looked old c.self.invariant.5 c.index_mut.ensures.value c.has_room.ensures.looked.ring)
           c.index_mut-2.ensures.value ring,
+      subst (λ (h : HeapState). AreGuarded h.log inside.ready.items inside.guards.items) (sym c.copy_page.ensures.visited) c.self.invariant.6,
     )
 
 pub returns-clause-works : goal.returns-clause-works

@@ -7,3 +7,6 @@ invariant-loop-line g l = fields_written l.self.writer ≡ 0
 
 abbrev pub invariant-loop-line-2 : goal.invariant-loop-line-2
 invariant-loop-line-2 g l = fields_written l.self.writer ≡ 0
+
+abbrev pub invariant-loop-line-3 : goal.invariant-loop-line-3
+invariant-loop-line-3 g l = fields_written l.self.writer ≡ 0

@@ -1,5 +1,6 @@
-use Rattle.std.proofs.Common.{ap, inl, refl, ◌∙◌}
-use Rattle.keybytes.specs.Keys.{KeySpecValue}
+use Rattle.std.proofs.Common.{ap, inl, inr, refl, sym, ◌∙◌}
+use Rattle.std.proofs.lemmas.Result.{err_from_is_err_and}
+use Rattle.keybytes.specs.Keys.{KeySpecValue, key_columns_refusal}
 use Rattle.heap_table.specs.TablePairs.{pairs_at_rest}
 use Rattle.builder_core.specs.CoreState.{CoreState}
 use Rattle.replay.specs.Listings.{key_spec_of}
@@ -20,3 +21,13 @@ returns g c =
       labels = refl;
       status = refl;
     }
+
+pub returns-in_err-lines : goal.returns-in_err-lines
+returns-in_err-lines g c =
+    let told = err_from_is_err_and c.from_residual-in_err-lines.result c.from_residual-in_err-lines.ensures.1 in
+    let accepted = ap (λ (s : CoreState). key_columns_refusal s.live.heap.schema c.args.spec.columns.items) (sym c.core.ensures) ∙ c.in_ok-spec.ensures.accepted in
+    rw (told.1) (record {
+      core = (c.rest.ensures.rows, inr (told.0, refl, inr (accepted, told.2 ∙ c.in_err-lines.ensures.memory)));
+      labels = refl;
+      status = refl;
+    })

@@ -6,7 +6,6 @@ use Rattle.tree_nodes.specs.Order.{is_before}
 use Rattle.tree_nodes.proofs.Strict.{before-strict}
 use Rattle.tree_nodes.proofs.Places.{put_present}
 use Rattle.btree.proofs.Sets.{rises_of}
-use Rattle.unique_verdict.specs.Holders.{least_of}
 use Rattle.unique_verdict.specs.Shared.{shared_pairs}
 use Rattle.unique_verdict.proofs.Members.{in_has, without_put}
 use Rattle.unique_verdict.proofs.HolderFacts.{none_has, least_has}
@@ -28,7 +27,7 @@ returns-in_default-clause-shared c =
     let pairs = c.args.tree.now.pairs in
     let rise = rises_of _ c.laws.ensures in
     c.requires ∙ shared_now pairs c.laws.ensures
-    ∙ sym (put_alone p pairs rise (none_has c.args.key.now pairs rise (sym (c.in_default.ensures ∙ ap least_of c.in_ok-holders_in.ensures.holders))))
+    ∙ sym (put_alone p pairs rise (none_has c.args.key.now pairs rise (sym c.in_default.ensures)))
     ∙ sym (shared_with p pairs c.laws.ensures)
 
 pub returns-then-not-there-clause-unchanged : goal.returns-then-not-there-clause-unchanged
@@ -55,8 +54,7 @@ returns-clause-shared c =
     let other : Pair = record { key = c.args.key.now; rid = c.in-Some.other } in
     let pairs = c.args.tree.now.pairs in
     let rise = rises_of _ c.laws.ensures in
-    let there : In other pairs = least_has c.args.key.now pairs c.in-Some.other rise (sym (c.in-Some.ensures
-    ∙ ap least_of c.in_ok-holders_in.ensures.holders)) in
+    let there : In other pairs = least_has c.args.key.now pairs c.in-Some.other rise (sym c.in-Some.ensures) in
     let I : Pair → Type 0 = λ x. In x pairs in
     c.in_default-put_copy.ensures.ok
     ∙ ap (put is_before p) (c.in_ok-put_copy.ensures.ok ∙ ap (put is_before other) (c.self.view_is ∙ c.requires ∙ shared_now pairs c.laws.ensures))

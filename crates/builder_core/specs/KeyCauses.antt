@@ -1,0 +1,67 @@
+-- Why a transaction may not write a row, for the sake of the ready indexes that are unique.
+use Rattle.std.specs.List.{All, AllZip}
+use Rattle.std.specs.Prelude.{◌≡◌, ℕ, ◌+◌, ◌⊎◌, true, if◌then◌else◌, List, [], ◌∷◌, Option, None, Some, Result, Ok, Err}
+use Rattle.keybytes.specs.Faults.{first_cause}
+use Rattle.keybytes.specs.Keys.{KeySpecValue}
+use Rattle.keybytes.specs.declared.cell.Cell.{Cell}
+use Rattle.keybytes.specs.declared.fault.Fault.{Fault}
+use Rattle.keybytes.specs.declared.fault.Fault.TheVariants.{Memory}
+use Rattle.keybytes.specs.declared.rid.Rid.{Rid}
+use Rattle.heap_log.specs.Standing.{live_at}
+use Rattle.heap_log.specs.declared.record.LogRec.{LogRec}
+use Rattle.heap_table.specs.HeapState.{insert_refusal, update_refusal}
+use Rattle.heap_table.specs.declared.ready.Ready.{Ready}
+use Rattle.key_guards.specs.Guarded.{GuardsValue, IsGuarded}
+use Rattle.key_guards.specs.KeyRefusals.{key_refusal}
+use Rattle.key_guards.specs.UniqueKeys.{UniqueKeysAreGuarded}
+use Rattle.builder_core.specs.CoreState.{ReadyValue, LiveState}
+
+-- why an index under that number refuses to have the new row in the place of the old one: it is unique, and another row has the key, or another
+-- transaction may give it back
+abbrev pub index_cause : ℕ → KeySpecValue → List LogRec → ℕ → Option (List Cell) → Option (List Cell) → Option Fault
+index_cause number spec log txn old new = if spec.unique then key_refusal number spec log txn old new else None
+
+-- why the transaction may not put the new row in the place of the old one: the first of these indexes that refuses it, where they are numbered from that number on
+abbrev pub keys_refusal : ℕ → List ReadyValue → List LogRec → ℕ → Option (List Cell) → Option (List Cell) → Option Fault
+keys_refusal number [] log txn old new = None
+keys_refusal number (index ∷ ready) log txn old new =
+    first_cause (index_cause number index.spec log txn old new) (keys_refusal (number + 1) ready log txn old new)
+
+-- an index of that specification has guards that follow the log, if it is unique
+abbrev pub HasGuards : List LogRec → KeySpecValue → GuardsValue → Type 0
+HasGuards log spec guards = spec.unique ≡ true → IsGuarded spec log guards
+
+-- so has each of these indexes
+abbrev pub AreGuarded : List LogRec → List ReadyValue → List GuardsValue → Type 0
+AreGuarded log ready guards = AllZip (λ index g. HasGuards log index.spec g) ready guards
+
+-- no unique one of these indexes, under whatever number, refuses the change
+abbrev pub AreLetIn : List LogRec → List ReadyValue → Ready → Type 0
+AreLetIn log ready change =
+    All (λ index. index.spec.unique ≡ true → (number : ℕ) × (key_refusal number index.spec log change.txn change.old change.new ≡ None)) ready
+
+-- the unique ones keep their keys apart, now and after any rollback
+abbrev pub KeysAreGuarded : List LogRec → List ReadyValue → Type 0
+KeysAreGuarded log ready = All (λ index. index.spec.unique ≡ true → UniqueKeysAreGuarded index.spec log) ready
+
+-- that is the cause, or there was no memory to make a key
+abbrev pub IsKeyFault : Option Fault → Fault → Type 0
+IsKeyFault cause fault = (cause ≡ Some fault) ⊎ (fault ≡ Memory)
+
+-- a fault that refuses a call: its cause, or want of memory, which hides no early cause
+abbrev pub IsEarlyFault : Option Fault → Option Fault → Fault → Type 0
+IsEarlyFault early cause fault = (cause ≡ Some fault) ⊎ ((early ≡ None) × (fault ≡ Memory))
+
+-- a call with these causes of refusal, if any: it does what it is for, or is refused and changes nothing
+abbrev pub AnsweredEarly : {S R : Type 0} → Option Fault → Option Fault → (S → R → S → Type 0) → S → Result R Fault → S → Type 0
+AnsweredEarly early cause Does old (Ok answer) new = (cause ≡ None) × Does old answer new
+AnsweredEarly early cause Does old (Err fault) new = ((cause ≡ Some fault) × (new ≡ old)) ⊎ ((early ≡ None) × (fault ≡ Memory) × (new ≡ old))
+
+-- why a table with its indexes refuses to insert a row
+abbrev pub row_refusal : LiveState → ℕ → List Cell → Option Fault
+row_refusal live txn cells = first_cause (insert_refusal live.heap txn cells) (keys_refusal 0 live.ready live.heap.log txn None (Some cells))
+
+-- why it refuses to give a RID another row
+abbrev pub change_refusal : LiveState → ℕ → Rid → List Cell → Option Fault
+change_refusal live txn rid cells =
+    first_cause (update_refusal live.heap txn rid cells) (keys_refusal 0 live.ready live.heap.log txn (live_at live.heap.log rid) (Some cells))

@@ -1,0 +1,13 @@
+pub mod Counting
+pub mod Following
+pub mod Given
+pub mod GuardChanges
+pub mod GuardLists
+pub mod Logging
+pub mod OneGuard
+pub mod Refusals
+pub mod Rows
+pub mod Steps
+pub mod Tables
+pub mod TakenLists
+pub mod Undoing
