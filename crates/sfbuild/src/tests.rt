@@ -79,6 +79,6 @@ fn that_ask_for_the_version(rt: HostRuntime) {
     let text = version.as_ref().map(|text| text.as_str());
     assert_eq!(rt;
         text,
-        Some("sfbuild 0.1.0 (rattle-kit-13b logic dac8208d650f15bf)\n")
+        Some("sfbuild 0.1.0 (rattle-kit-13f logic dac8208d650f15bf)\n")
     );
 }
