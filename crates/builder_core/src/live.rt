@@ -5,6 +5,7 @@ ghost use Rattle.heap_log.specs.Standing.{live_at};
 ghost use Rattle.heap_table.specs.HeapState.{after_visit, row_missing};
 ghost use Rattle.heap_table.specs.Kept.{RowsFit};
 ghost use Rattle.heap_table.specs.Pages.{pages_written};
+ghost use Rattle.heap_table.specs.Sound.{HoldsFollowLog};
 ghost use Rattle.heap_table.specs.TablePairs.{pairs_at_rest};
 ghost use Rattle.keybytes.specs.Pairs.{HaveKeysOf, AreInColumnOrder};
 ghost use Rattle.builder_core.specs.Builds.{BuildFollows, value_with_heap};
@@ -108,6 +109,7 @@ impl<T: Table> Live<T> {
 
     /// Does nothing: its clauses tell what holds of every table between two steps.
     pub fn laws(&self)
+        ensures holds { HoldsFollowLog self.now.state.heap }
         ensures ready { ReadyFollowTable self.now.state }
         ensures keys { KeysAreGuarded self.now.state.heap.log self.now.state.ready }
         ensures pages { IfSome self.now.state.build (λ b. EachPageOnce self.now.state.heap.schema self.now.state.heap.log b (all_sent self.now.pages)) }

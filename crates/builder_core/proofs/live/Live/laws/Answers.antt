@@ -8,6 +8,7 @@ use Rattle.builder_core.specs.Invariant.{BuildIsSound, EachPageOnce}
 use Rattle.builder_core.specs.Rings.{all_sent}
 use Rattle.builder_core.proofs.Sound.{runs_sound, runs_once}
 use Rattle.builder_core.specs.KeyCauses.{KeysAreGuarded, AreGuarded}
+use Rattle.heap_table.specs.Sound.{HoldsFollowLog}
 use Rattle.builder_core.proofs.live.Live.laws.Goals as goal
 
 pub returns-clause-build : goal.returns-clause-build
@@ -29,3 +30,6 @@ returns-clause-keys g c =
     subst (λ (l : LiveValue). KeysAreGuarded l.state.heap.log l.state.ready) c.self.view_is
     (c.guards_laws.ensures.keys c.self.inside.heap.state c.self.inside.ready.items c.laws.ensures.holds
     (subst (λ gs. AreGuarded c.self.inside.heap.state.log c.self.inside.ready.items gs) (sym c.as_slice.ensures.value) c.self.invariant.6))
+
+pub returns-clause-holds : goal.returns-clause-holds
+returns-clause-holds g c = subst (λ (l : LiveValue). HoldsFollowLog l.state.heap) c.self.view_is c.laws.ensures.holds
