@@ -38,6 +38,14 @@ if_so : (test : Bool) (a b : Option Fault) → IsOther a → IsOther b → IsOth
 if_so true a b p q = p
 if_so false a b p q = q
 
+-- a cause that stands where the test holds, and another one where it doesn't
+some_if : (test : Bool) (fault : Fault) (b : Option Fault) → IsOther (Some fault) → IsOther b → IsOther (if test then Some fault else b)
+some_if test fault b other p = if_so test (Some fault) b other p
+
+-- and one that stands where it doesn't hold
+some_else : (test : Bool) (fault : Fault) → IsOther (Some fault) → IsOther (if test then None else Some fault)
+some_else test fault other = if_so test None (Some fault) none other
+
 first : (a b : Option Fault) → IsOther a → IsOther b → IsOther (first_cause a b)
 first None b p q = q
 first (Some fault) b p q = p
@@ -51,10 +59,10 @@ of_number None fault other = none
 of_number (Some n) fault other = other n
 
 txn_other : (s : HeapState) (txn : ℕ) → IsOther (txn_refusal s txn)
-txn_other s txn = if_so _ _ _ (if_so _ _ _ (λ is. cc) none) (λ is. cc)
+txn_other s txn = if_so _ _ (Some NoSuchTxn) (some_if _ TxnEnding None (λ is. cc) none) (λ is. cc)
 
 new_row_other : (s : HeapState) (txn : ℕ) (cells : List Cell) → IsOther (new_row_refusal s txn cells)
-new_row_other s txn cells = first _ _ (txn_other s txn) (if_so _ _ _ none (λ is. cc))
+new_row_other s txn cells = first _ _ (txn_other s txn) (some_else _ RowShape (λ is. cc))
 
 place_other : (o : Option Rid) → IsOther (place_refusal o)
 place_other None = λ is. cc
@@ -62,7 +70,7 @@ place_other (Some rid) = none
 
 held_other : (txn : ℕ) (o : Option ℕ) → IsOther (held_refusal txn o)
 held_other txn None = none
-held_other txn (Some other) = if_so _ _ _ none (λ is. cc)
+held_other txn (Some other) = some_else _ (RowHeld other) (λ is. cc)
 
 row_other : (o : Option (List Cell)) → IsOther (row_missing o)
 row_other None = λ is. cc
@@ -73,7 +81,7 @@ insert_other s txn cells = first _ _ (new_row_other s txn cells) (place_other _)
 
 update_other : (s : HeapState) (txn : ℕ) (rid : Rid) (cells : List Cell) → IsOther (update_refusal s txn rid cells)
 update_other s txn rid cells =
-    first _ _ (new_row_other s txn cells) (first _ _ (held_other txn _) (first _ _ (row_other _) (if_so _ _ _ none (λ is. cc))))
+    first _ _ (new_row_other s txn cells) (first _ _ (held_other txn _) (first _ _ (row_other _) (some_else _ PageFull (λ is. cc))))
 
 duplicate_other : (index : ℕ) (o : Option Rid) → IsOther (duplicate_refusal index o)
 duplicate_other index None = none
@@ -93,30 +101,36 @@ keys_other number (index ∷ ready) log txn old new =
     first _ _ (if_so _ _ _ (key_other number index.spec log txn old new) none) (keys_other (number + 1) ready log txn old new)
 
 dealing_other : (pages : ℕ) (dealing : Dealing) → IsOther (dealing_refusal pages dealing)
-dealing_other pages (Ends ends) = if_so _ _ _ none (λ is. cc)
-dealing_other pages (Even ranges) = if_so _ _ _ none (λ is. cc)
+dealing_other pages (Ends ends) = some_else _ BadRanges (λ is. cc)
+dealing_other pages (Even ranges) = some_else _ BadRanges (λ is. cc)
 
 -- a cause that stands where the test holds
 if_test : (test : Bool) (fault : Fault) → IsOther (Some fault) → IsOther (cause_if test fault)
-if_test test fault other = if_so test (Some fault) None other none
+if_test test fault other = some_if test fault None other none
+
+behind_other : (n : ℕ) → IsOther (Some (Behind n))
+behind_other n is = cc
+
+busy_other : (n : ℕ) → IsOther (Some (Busy n))
+busy_other n is = cc
 
 module _ (s : CoreState) (fine : s.work.spoiled ≡ None) where
   unspoiled : IsOther s.work.spoiled
   unspoiled is = let both : None ≡ Some NoPage = sym fine ∙ is in cc
 
   pub other_cause : (event : Event) → IsOther (refusal s event)
-  other_cause Begin = if_so _ _ _ (λ is. cc) (if_so _ _ _ (λ is. cc) none)
+  other_cause Begin = some_if _ Fenced _ (λ is. cc) (some_if _ TooManyTxns None (λ is. cc) none)
   other_cause (Insert txn row) = first _ _ (insert_other s.live.heap txn row) (keys_other 0 s.live.ready s.live.heap.log txn None (Some row))
   other_cause (Update txn rid row) = first _ _ (update_other s.live.heap txn rid row) (keys_other 0 s.live.ready s.live.heap.log txn _ (Some row))
   other_cause (Delete txn rid) = first _ _ (txn_other s.live.heap txn) (first _ _ (held_other txn _) (row_other _))
-  other_cause (Undo txn) = if_so _ _ _ none (λ is. cc)
+  other_cause (Undo txn) = some_else _ NoSuchTxn (λ is. cc)
   other_cause (Commit txn) = txn_other s.live.heap txn
   other_cause (Start plan) =
       first _ _ (if_test _ BuildRunning (λ is. cc)) (first _ _ (if_test _ BadCount (λ is. cc)) (first _ _ (if_test _ BadColumn (λ is. cc))
       (first _ _ (dealing_other _ plan.dealing) (if_test _ SpoolNotEmpty (λ is. cc)))))
   other_cause (Scan range worker) =
       of_build s.live.build _ (λ b.
-      first _ _ (if_test _ BadCount (λ is. cc)) (first _ _ unspoiled (first _ _ (if_so _ _ _ (λ is. cc) none) (if_test _ RingFull (λ is. cc)))))
+      first _ _ (if_test _ BadCount (λ is. cc)) (first _ _ unspoiled (first _ _ (some_if _ RangeDone None (λ is. cc) none) (if_test _ RingFull (λ is. cc)))))
   other_cause (Digest worker) = of_build s.live.build _ (λ b. first _ _ (if_test _ BadCount (λ is. cc)) unspoiled)
   other_cause (Seal worker) = of_build s.live.build _ (λ b. first _ _ (if_test _ BadCount (λ is. cc)) unspoiled)
   other_cause (Load index) =
@@ -129,7 +143,7 @@ module _ (s : CoreState) (fine : s.work.spoiled ≡ None) where
   other_cause Switch =
       of_build s.live.build _ (λ b.
       first _ _ unspoiled (first _ _ (of_number _ NotScanned (λ n is. cc)) (first _ _ (of_number _ NotLoaded (λ n is. cc))
-      (first _ _ (if_test _ (Behind _) (λ is. cc)) (if_test _ (Busy _) (λ is. cc))))))
+      (first _ _ (if_test _ (Behind _) (behind_other _)) (if_test _ (Busy _) (busy_other _))))))
   other_cause Fence = of_build s.live.build _ (λ b. none)
   other_cause Abandon = of_build s.live.build _ (λ b. none)
 

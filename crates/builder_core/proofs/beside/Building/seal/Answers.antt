@@ -1,5 +1,6 @@
 use Rattle.std.proofs.Common.{length, map, subst, List, Option}
 use Rattle.spool_ledger.specs.Accounts.{Stake}
+use Rattle.keybytes.specs.Keys.{KeySpecValue}
 use Rattle.builder_core.specs.FullSpools.{WasFull}
 use Rattle.builder_core.specs.Holding.{spool_value}
 use Rattle.builder_core.proofs.FullSpools.{full_seen}
@@ -20,5 +21,8 @@ returns-in-Err-clause-full g c = λ is.
     let spools = c.self.inside.spools.items in
     let specs = c.work.inside.specs.items in
     let seen = stakes_seen spool.runs spool.open_run spool.stake spools in
+    let full : WasFull spool.is_full spool.stake (length specs) c.args.worker (map spool.stake spools) =
+    subst (λ (specs : List KeySpecValue). WasFull spool.is_full spool.stake (length specs) c.args.worker (map spool.stake spools)) c.deref.ensures.value
+    (c.in-Err.ensures.full is) in
     full_seen spool.is_full spool.stake c.args.self.now _ c.in-Some.work _ c.self.view_is c.in-Some.is c.work.view_is c.args.worker
-    (subst (λ (stakes : List (Option Stake)). WasFull spool.is_full spool.stake (length specs) c.args.worker stakes) seen (c.in-Err.ensures.full is))
+    (subst (λ (stakes : List (Option Stake)). WasFull spool.is_full spool.stake (length specs) c.args.worker stakes) seen full)
