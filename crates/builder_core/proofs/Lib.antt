@@ -14,6 +14,7 @@ pub mod FedBeside
 pub mod Feeding
 pub mod EachGuarded
 pub mod Following
+pub mod FullSpools
 pub mod KeysAsked
 pub mod KeysTaken
 pub mod Kits
@@ -32,6 +33,7 @@ pub mod OneRing
 pub mod OneWorker
 pub mod OwnGuards
 pub mod OwnSpools
+pub mod PageCauses
 pub mod Partition
 pub mod Performed
 pub mod Places

@@ -3,6 +3,7 @@ pub mod CatchingUp
 pub mod Changing
 pub mod Columns
 pub mod CoreState
+pub mod FullSpools
 pub mod Headline
 pub mod Holding
 pub mod Invariant

@@ -1,9 +1,11 @@
 //! What stands beside a table.
 ghost use Rattle.std.specs.Prelude.{◌≡◌, ℕ, ◌<◌, ◌≤◌, ◌⊎◌, OnOk, [], All, length, map, false, None, Some, IfSome, IfOk, IfErr, OnErr, MatchOption};
 ghost use Rattle.std.specs.List.{list_all};
+ghost use Rattle.run_spool.specs.Spools.{NoPageOnlyIf};
 ghost use Rattle.building.specs.Work.{after_seal};
 ghost use Rattle.builder_core.specs.Builds.{given_up, IsUnloaded};
-ghost use Rattle.builder_core.specs.Holding.{spool_value, spools_state, Digested, Sealed};
+ghost use Rattle.builder_core.specs.FullSpools.{WasFull};
+ghost use Rattle.builder_core.specs.Holding.{spool_value, spools_state, stakes_of, Digested, Sealed};
 ghost use Rattle.builder_core.specs.Working.{CanTake, HasTaken, one_copy, all_copies, CanLoad, HasLoaded, CanApply, HasApplied, IsSpoiled};
 
 use crate::ending::end_spools;
@@ -159,6 +161,8 @@ impl<S: Spool, T: Table> Building<S, T> {
         ensures taken { IfOk result (λ images. HasTaken worker one_copy (λ w. w) Digested self.old images self.new) }
         ensures spoiled { IfErr result (λ fault. IsSpoiled fault self.old self.new) }
         ensures fault { IfErr result (λ fault. (fault ≡ Fault.NoPage) ⊎ (fault ≡ Fault.Memory)) }
+        ensures full { IfErr result (NoPageOnlyIf (IfSome self.old.work
+            (λ work. WasFull S.is_full S.stake (length work.specs) worker (stakes_of self.old.spools)))) }
     {
         let Some(work) = &mut self.work else {
             unreachable!()
@@ -185,6 +189,8 @@ impl<S: Spool, T: Table> Building<S, T> {
         ensures taken { IfOk result (λ images. HasTaken worker all_copies after_seal Sealed self.old images self.new) }
         ensures spoiled { IfErr result (λ fault. IsSpoiled fault self.old self.new) }
         ensures fault { IfErr result (λ fault. (fault ≡ Fault.NoPage) ⊎ (fault ≡ Fault.Memory)) }
+        ensures full { IfErr result (NoPageOnlyIf (IfSome self.old.work
+            (λ work. WasFull S.is_full S.stake (length work.specs) worker (stakes_of self.old.spools)))) }
     {
         let Some(work) = &mut self.work else {
             unreachable!()

@@ -11,6 +11,7 @@ ghost use Rattle.builder_core.specs.SideFiles.{AreEntriesLeft, HaveEntryKeys, si
 ghost use Rattle.heap_log.specs.declared.outcome.Outcome.{Outcome};
 ghost use Rattle.builder_core.specs.Steps.{Step, Answers, OnBuild};
 ghost use Rattle.builder_core.specs.Verdicts.{HaveSharedKeys};
+ghost use Rattle.builder_core.specs.FullSpools.{IfSpooling, NoPageOnlyIfFull, WantedPage};
 ghost use Rattle.std.specs.Prelude.{IfSome};
 ghost use Rattle.builder_core.specs.Holding.{spools_in};
 ghost use Rattle.builder_core.specs.Invariant.{BuildIsSound};
@@ -176,6 +177,7 @@ impl<S: Spool, T: Table> Core<S, T> {
         ensures stakes { self.new.spools.stakes ≡ self.old.spools.stakes }
         ensures keys { (number : ℕ) (verdicts : List Outcome) → result ≡ Reply.Switched number verdicts
             → OnBuild self.old.live.build (λ b. HaveSharedKeys b.specs verdicts) }
+        ensures full { result ≡ Reply.Refused Fault.NoPage → self.old.work.spoiled ≡ None → WantedPage S.is_full S.stake self.old event }
         ensures ready { ReadyFollowTable self.new.live }
         ensures sound { IfSome self.new.live.build (λ b. BuildIsSound b self.new.live.heap.log) }
     {
@@ -210,7 +212,8 @@ impl<S: Spool, T: Table> Core<S, T> {
 
     /// Does one event of its own, or tells why not: the row of a write is handed on.
     fn attempt_own(&mut self, event: Event) -> Result<Reply, Fault>
-        ensures { Answers self.old event result self.new }
+        ensures answers { Answers self.old event result self.new }
+        ensures full { IfSpooling event (λ worker. IfErr result (NoPageOnlyIfFull S.is_full S.stake self.old worker)) }
     {
         match event {
             Event::Insert { txn, row } => self.insert(txn, row),
@@ -221,7 +224,8 @@ impl<S: Spool, T: Table> Core<S, T> {
 
     /// Does one event that it is lent, or tells why not.
     fn attempt(&mut self, event: &Event) -> Result<Reply, Fault>
-        ensures { Answers self.old event.now result self.new }
+        ensures answers { Answers self.old event.now result self.new }
+        ensures full { IfSpooling event.now (λ worker. IfErr result (NoPageOnlyIfFull S.is_full S.stake self.old worker)) }
     {
         match event {
             Event::Begin => self.begin(),
@@ -319,7 +323,8 @@ impl<S: Spool, T: Table> Core<S, T> {
     }
 
     fn digest(&mut self, worker: usize) -> Result<Reply, Fault>
-        ensures { Answers self.old (Event.Digest worker) result self.new }
+        ensures answers { Answers self.old (Event.Digest worker) result self.new }
+        ensures full { IfErr result (NoPageOnlyIfFull S.is_full S.stake self.old worker) }
     {
         self.live.check_worker(worker, &self.building)?;
         let images = self.live.digest(worker, &mut self.building)?;
@@ -327,7 +332,8 @@ impl<S: Spool, T: Table> Core<S, T> {
     }
 
     fn seal(&mut self, worker: usize) -> Result<Reply, Fault>
-        ensures { Answers self.old (Event.Seal worker) result self.new }
+        ensures answers { Answers self.old (Event.Seal worker) result self.new }
+        ensures full { IfErr result (NoPageOnlyIfFull S.is_full S.stake self.old worker) }
     {
         self.live.check_worker(worker, &self.building)?;
         let images = self.live.seal(worker, &mut self.building)?;

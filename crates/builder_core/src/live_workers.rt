@@ -1,9 +1,11 @@
 //! The steps of a build in which its workers have a part, with both ends of their rings at hand.
 ghost use Rattle.std.specs.Prelude.{◌≡◌, ◌++◌, ◌<◌, ◌≤◌, ◌+◌, length, slice_get, false, Some, None, IsSome, IfSome, IfOk, IfErr, OnOk, OnErr, MatchOption, MatchResult};
 ghost use Rattle.side_file.specs.Ends.{PutEnd};
+ghost use Rattle.run_spool.specs.Spools.{NoPageOnlyIf};
 ghost use Rattle.building.specs.WorkerValue.{WorkerValue};
 ghost use Rattle.building.specs.declared.copied.Copied.{Copied};
 ghost use Rattle.builder_core.specs.Builds.{core_state, cause_of, put_refusal, HasLooked, SeesRing, MayWork, MayLoad, WorksOn};
+ghost use Rattle.builder_core.specs.FullSpools.{WorkerWasFull};
 ghost use Rattle.builder_core.specs.Rings.{all_sent, AreDone, IsUnfinished, PagesFollow};
 ghost use Rattle.builder_core.specs.Steps.{Waits, Digests, Seals, Loads, spoiled_by, IsWorkWant};
 ghost use Rattle.builder_core.specs.Workers.{index_at};
@@ -123,6 +125,7 @@ impl<T: Table> Live<T> {
         ensures spoiled { IfErr result (λ fault. core_state self.new building.new ≡ spoiled_by fault (core_state self.old building.old)) }
         ensures works { WorksOn self.new building.new }
         ensures fault { IfErr result IsWorkWant }
+        ensures full { IfErr result (NoPageOnlyIf (WorkerWasFull S.is_full S.stake (core_state self.old building.old) worker)) }
     {
         if self.look(worker, building) == 0 {
             return Ok(0);
@@ -143,6 +146,7 @@ impl<T: Table> Live<T> {
         ensures spoiled { IfErr result (λ fault. core_state self.new building.new ≡ spoiled_by fault (core_state self.old building.old)) }
         ensures works { WorksOn self.new building.new }
         ensures fault { IfErr result IsWorkWant }
+        ensures full { IfErr result (NoPageOnlyIf (WorkerWasFull S.is_full S.stake (core_state self.old building.old) worker)) }
     {
         self.look(worker, building);
         building.seal(worker)

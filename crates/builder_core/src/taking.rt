@@ -1,6 +1,8 @@
 //! A worker of a build, with its maker and its spools at hand.
-ghost use Rattle.std.specs.Prelude.{◌≡◌, ◌⊎◌, map, IfOk, IfErr};
+ghost use Rattle.std.specs.Prelude.{◌≡◌, ◌⊎◌, length, map, IfOk, IfErr};
+ghost use Rattle.run_spool.specs.Spools.{NoPageOnlyIf};
 ghost use Rattle.building.specs.Work.{after_seal};
+ghost use Rattle.builder_core.specs.FullSpools.{WasFull};
 ghost use Rattle.builder_core.specs.Rings.{take_rings};
 ghost use Rattle.builder_core.specs.Holding.{spool_value, Digested, Sealed};
 ghost use Rattle.builder_core.specs.Working.{CanTakeAt, HasTakenAt, one_copy, all_copies};
@@ -25,6 +27,7 @@ pub fn digest_at<S: Spool>(
     ensures rings { take_rings workers.new.items ≡ take_rings workers.old.items }
     ensures stakes { map S.stake spools.new.items ≡ map S.stake spools.old.items }
     ensures fault { IfErr result (λ fault. (fault ≡ Fault.NoPage) ⊎ (fault ≡ Fault.Memory)) }
+    ensures full { IfErr result (NoPageOnlyIf (WasFull S.is_full S.stake (length specs.now) worker (map S.stake spools.old.items))) }
 {
     let (_, rest) = spools.as_mut_slice().split_at_mut(worker * specs.len());
     let (own, _) = rest.split_at_mut(specs.len());
@@ -50,6 +53,7 @@ pub fn seal_at<S: Spool>(
     ensures rings { take_rings workers.new.items ≡ take_rings workers.old.items }
     ensures stakes { map S.stake spools.new.items ≡ map S.stake spools.old.items }
     ensures fault { IfErr result (λ fault. (fault ≡ Fault.NoPage) ⊎ (fault ≡ Fault.Memory)) }
+    ensures full { IfErr result (NoPageOnlyIf (WasFull S.is_full S.stake (length specs.now) worker (map S.stake spools.old.items))) }
 {
     let (_, rest) = spools.as_mut_slice().split_at_mut(worker * specs.len());
     let (own, _) = rest.split_at_mut(specs.len());

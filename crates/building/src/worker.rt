@@ -1,7 +1,7 @@
 ghost use Rattle.std.specs.Prelude.{◌≡◌, ◌≤◌, ◌<◌, ◌⊎◌, ◌+◌, ◌++◌, [], ℕ, All, length, map};
 ghost use Rattle.std.specs.Prelude.{IfErr, IfOk, OnOk, OnErr};
 ghost use Rattle.side_file.specs.Ends.{ring_take};
-ghost use Rattle.run_spool.specs.Spools.{AreSorted};
+ghost use Rattle.run_spool.specs.Spools.{AreSorted, HasFull, NoPageOnlyIf};
 ghost use Rattle.run_maker.specs.Making.{AreReady};
 ghost use Rattle.building.specs.Holding.{TakesAll, HoldsMore};
 ghost use Rattle.building.specs.ImagePairs.{HaveRows};
@@ -128,6 +128,7 @@ impl Worker {
         ensures build { self.new.build ≡ self.old.build }
         ensures end { self.new.end ≡ after_taking 1 self.old.end }
         ensures fault { IfErr result (λ fault. (fault ≡ Fault.NoPage) ⊎ (fault ≡ Fault.Memory)) }
+        ensures full { IfErr result (NoPageOnlyIf (HasFull S.is_full spools.new)) }
     {
         let copied = self.ring.pop_known();
         if copied.build != self.build {
@@ -161,6 +162,7 @@ impl Worker {
         ensures ring { self.new.end.ring ≡ self.old.end.ring }
         ensures failed { OnErr result ((n : ℕ) × (n ≤ length self.old.end.known) × (self.new.end ≡ after_taking n self.old.end)) }
         ensures fault { IfErr result (λ fault. (fault ≡ Fault.NoPage) ⊎ (fault ≡ Fault.Memory)) }
+        ensures full { IfErr result (NoPageOnlyIf (HasFull S.is_full spools.new)) }
     {
         let mut images = 0;
         for _ in 0..self.seen() {

@@ -3,7 +3,7 @@ ghost use Rattle.std.specs.Prelude.{◌≡◌, ◌⊎◌, ℕ, All, Option, List
 ghost use Rattle.keybytes.specs.declared.cell.Cell.{Cell};
 ghost use Rattle.heap_table.specs.Images.{image_slot, Shows};
 ghost use Rattle.heap_table.specs.Pages.{rid_at};
-ghost use Rattle.run_spool.specs.Spools.{AreSorted};
+ghost use Rattle.run_spool.specs.Spools.{AreSorted, HasFull, NoPageOnlyIf};
 ghost use Rattle.run_maker.specs.ImagePairs.{HasRows};
 ghost use Rattle.run_maker.specs.Making.{AreReady, TakesRow, Takes};
 
@@ -32,6 +32,7 @@ pub(crate) fn add_image<S: Spool>(
     ensures sorted { All AreSorted (map S.runs spools.old) → All AreSorted (map S.runs spools.new) }
     ensures stakes { map S.stake spools.new ≡ map S.stake spools.old }
     ensures fault { IfErr result (λ fault. (fault ≡ Fault.NoPage) ⊎ (fault ≡ Fault.Memory)) }
+    ensures full { IfErr result (NoPageOnlyIf (HasFull S.is_full spools.new)) }
 {
     for slot in 0..image.slots() {
         add_slot(image, slot, schema, specs, begun, spools)?;
@@ -60,6 +61,7 @@ fn add_slot<S: Spool>(
     ensures sorted { All AreSorted (map S.runs spools.old) → All AreSorted (map S.runs spools.new) }
     ensures stakes { map S.stake spools.new ≡ map S.stake spools.old }
     ensures fault { IfErr result (λ fault. (fault ≡ Fault.NoPage) ⊎ (fault ≡ Fault.Memory)) }
+    ensures full { IfErr result (NoPageOnlyIf (HasFull S.is_full spools.new)) }
 {
     let Some(row) = image.row(slot, schema)? else {
         return Ok(());

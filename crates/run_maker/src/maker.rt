@@ -1,6 +1,6 @@
-ghost use Rattle.std.specs.Prelude.{◌≡◌, ◌<◌, ◌⊎◌, [], ℕ, All, Option, List, IfOk, IfErr, OnOk, map, length, true, false};
+ghost use Rattle.std.specs.Prelude.{◌≡◌, ◌<◌, ◌⊎◌, [], ℕ, All, Option, List, IfOk, IfErr, OnOk, OnErr, map, length, true, false};
 ghost use Rattle.keybytes.specs.declared.cell.Cell.{Cell};
-ghost use Rattle.run_spool.specs.Spools.{AreSorted};
+ghost use Rattle.run_spool.specs.Spools.{AreSorted, HasFull, NoPageOnlyIf};
 ghost use Rattle.run_maker.specs.ImagePairs.{HasRows};
 ghost use Rattle.run_maker.specs.Making.{AreReady, Takes, Seals};
 
@@ -79,6 +79,7 @@ impl Maker {
         ensures schema { self.new.schema ≡ self.old.schema }
         ensures specs { self.new.specs ≡ self.old.specs }
         ensures fault { IfErr result (λ fault. (fault ≡ Fault.NoPage) ⊎ (fault ≡ Fault.Memory)) }
+        ensures full { IfErr result (NoPageOnlyIf (HasFull S.is_full spools.new)) }
     {
         add_image(&image, &self.schema, &self.specs, &mut self.begun, spools)
     }
@@ -95,6 +96,7 @@ impl Maker {
         ensures schema { self.new.schema ≡ self.old.schema }
         ensures specs { self.new.specs ≡ self.old.specs }
         ensures no_page { IfErr result (λ fault. fault ≡ Fault.NoPage) }
+        ensures full { OnErr result (HasFull S.is_full spools.new) }
     {
         close_all(&mut self.begun, spools)
     }

@@ -1,5 +1,5 @@
-ghost use Rattle.std.specs.Prelude.{◌≡◌, ◌<◌, ◌⊎◌, ◌↔◌, [], ◌∷◌, IfErr, OnOk, IsTrue, length};
-ghost use Rattle.run_spool.specs.Spools.{NoneEmpty, AreSorted};
+ghost use Rattle.std.specs.Prelude.{◌≡◌, ◌<◌, ◌⊎◌, ◌↔◌, [], ◌∷◌, ◌++◌, IfErr, OnOk, OnErr, IsTrue, length};
+ghost use Rattle.run_spool.specs.Spools.{NoneEmpty, AreSorted, IsFullForOneOf, NoPageOnlyIf};
 ghost use Rattle.run_maker.specs.Spooling.{Spooled, Adds};
 
 use crate::spooling::spool_run;
@@ -62,6 +62,7 @@ impl OpenRun {
         ensures short { length self.new < 4096 }
         ensures stake { S.stake spool.new ≡ S.stake spool.old }
         ensures fault { IfErr result (λ fault. (fault ≡ Fault.NoPage) ⊎ (fault ≡ Fault.Memory)) }
+        ensures full { IfErr result (NoPageOnlyIf (IsFullForOneOf S.is_full (self.old ++ pair ∷ []) spool.new)) }
     {
         self.pairs.push(pair)?;
         if self.pairs.len() < RUN_PAIRS {
@@ -81,6 +82,7 @@ impl OpenRun {
         ensures open_run { OnOk result (S.open_run spool.new ≡ []) }
         ensures stake { S.stake spool.new ≡ S.stake spool.old }
         ensures no_page { IfErr result (λ fault. fault ≡ Fault.NoPage) }
+        ensures full { OnErr result (IsFullForOneOf S.is_full self.old spool.new) }
     {
         spool_run(&mut self.pairs, spool)
     }

@@ -1,8 +1,8 @@
 //! The pairs of a row, one for each index.
-ghost use Rattle.std.specs.Prelude.{◌≡◌, ◌⊎◌, [], ◌∷◌, All, Some, IfErr, OnOk, map, length, true};
+ghost use Rattle.std.specs.Prelude.{◌≡◌, ◌⊎◌, [], ◌∷◌, ◌++◌, All, Some, IfErr, OnOk, map, length, true};
 ghost use Rattle.keybytes.specs.Cells.{fits};
 ghost use Rattle.keybytes.specs.Keys.{key_of};
-ghost use Rattle.run_spool.specs.Spools.{NoneEmpty, AreSorted};
+ghost use Rattle.run_spool.specs.Spools.{NoneEmpty, AreSorted, IsFullForOneOf, HasFull, NoPageOnlyIf};
 ghost use Rattle.run_maker.specs.Spooling.{Adds};
 ghost use Rattle.run_maker.specs.Making.{AreReady, TakesRow};
 
@@ -28,6 +28,8 @@ fn add_key<S: Spool>(
     ensures open_run { OnOk result (S.open_run spool.new ≡ []) }
     ensures stake { S.stake spool.new ≡ S.stake spool.old }
     ensures fault { IfErr result (λ fault. (fault ≡ Fault.NoPage) ⊎ (fault ≡ Fault.Memory)) }
+    ensures full { IfErr result (NoPageOnlyIf
+        (IsFullForOneOf S.is_full (begun.old ++ record { key = key_of spec.now row.now; rid = rid } ∷ []) spool.new)) }
 {
     let key = spec.key(row)?;
     begun.add(Pair { key, rid }, spool)
@@ -51,6 +53,7 @@ pub(crate) fn add_row<S: Spool>(
     ensures sorted { All AreSorted (map S.runs spools.old) → All AreSorted (map S.runs spools.new) }
     ensures stakes { map S.stake spools.new ≡ map S.stake spools.old }
     ensures fault { IfErr result (λ fault. (fault ≡ Fault.NoPage) ⊎ (fault ≡ Fault.Memory)) }
+    ensures full { IfErr result (NoPageOnlyIf (HasFull S.is_full spools.new)) }
 {
     for i in 0..specs.len() {
         add_key(&specs[i], row, rid, &mut begun[i], &mut spools[i])?;

@@ -1,5 +1,5 @@
 ghost use Rattle.std.specs.Prelude.{◌≡◌, ◌<◌, ◌⊎◌, [], IfErr, OnOk, OnErr, length};
-ghost use Rattle.run_spool.specs.Spools.{NoneEmpty, AreSorted};
+ghost use Rattle.run_spool.specs.Spools.{NoneEmpty, AreSorted, IsFullForOneOf};
 ghost use Rattle.run_maker.specs.Spooling.{Spooled};
 
 use crate::sorting::sort;
@@ -20,6 +20,7 @@ pub(crate) fn spool_run<S: Spool>(pairs: &mut Vec<Pair>, spool: &mut S) -> Resul
     ensures lost { OnErr result (length pairs.new.items < length pairs.old.items) }
     ensures stake { S.stake spool.new ≡ S.stake spool.old }
     ensures no_page { IfErr result (λ fault. fault ≡ Fault.NoPage) }
+    ensures full { OnErr result (IsFullForOneOf S.is_full pairs.old.items spool.new) }
 {
     sort(pairs);
     // (the first is taken from the end, so that the memory stays here)

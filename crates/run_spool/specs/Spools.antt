@@ -1,9 +1,11 @@
 -- Spools of every kind.
-use Rattle.std.specs.Prelude.{[], ◌∷◌, ◌++◌, ◌<◌, ◌==◌, ◌&&◌, Bool, List, All, length, Option, option_map, filter_map}
-use Rattle.std.specs.List.{flat_map}
+use Rattle.std.specs.Prelude.{◌≡◌, ℕ, [], ◌∷◌, ◌++◌, ◌<◌, ◌==◌, ◌&&◌, Bool, List, All, Contains, length, Option, Some, option_map, filter_map}
+use Rattle.std.specs.List.{flat_map, slice_get}
 use Rattle.std.specs.List.Sorted.{IsSorted}
 use Rattle.spool_ledger.specs.Accounts.{Stake}
 use Rattle.keybytes.specs.Pairs.{pair_cmp}
+use Rattle.keybytes.specs.declared.fault.Fault.{Fault}
+use Rattle.keybytes.specs.declared.fault.Fault.TheVariants.{NoPage}
 use Rattle.keybytes.specs.declared.pair.Pair.{Pair}
 
 -- the closed runs with the open one behind them, if it has anything
@@ -34,3 +36,23 @@ stakes_in stakes = filter_map (λ stake. stake) stakes
 -- the same pool, with no page
 abbrev pub without_pages : Option Stake → Option Stake
 without_pages stake = option_map (λ s. record { pool = s.pool; quota = 0 }) stake
+
+-- there is a pair for which the spool has no room left
+abbrev pub IsFullForOne : {S : Type 0} → (S → Pair → Type 0) → S → Type 0
+IsFullForOne is_full spool = (pair : Pair) × is_full spool pair
+
+-- one of these pairs is such a pair
+abbrev pub IsFullForOneOf : {S : Type 0} → (S → Pair → Type 0) → List Pair → S → Type 0
+IsFullForOneOf is_full pairs spool = (pair : Pair) × Contains pairs pair × is_full spool pair
+
+module _ {S : Type 0} where
+  -- one of these spools has no room left for a pair
+  pub record HasFull (is_full : S → Pair → Type 0) (spools : List S) : Type 0 where
+    pub index : ℕ
+    pub spool : S
+    pub there : slice_get spools index ≡ Some spool
+    pub full : IsFullForOne is_full spool
+
+-- if a fault tells that a page is wanted, this holds
+abbrev pub NoPageOnlyIf : Type 0 → Fault → Type 0
+NoPageOnlyIf P fault = fault ≡ NoPage → P

@@ -91,6 +91,7 @@ impl PlainSpool {
         ensures pushed { IfOk result (λ _. self.new ≡ with_pushed self.old pair) }
         ensures room { IfOk result (λ _. IsFull self.old pair → ⊥) }
         ensures full { IfErr result (λ refused. IsFull self.old pair) }
+        ensures still { OnErr result (IsFull self.new pair) }
         ensures back { IfErr result (λ refused. (refused.0 ≡ pair) × (refused.1 ≡ Fault.NoPage)) }
         ensures same { OnErr result (self.new ≡ self.old) }
         ensures runs { self.new.runs ≡ self.old.runs }

@@ -38,6 +38,7 @@ pub trait Spool: Drop {
         ensures ok { OnOk result (open_run self.new ≡ open_run self.old ++ pair ∷ []) }
         ensures room { OnOk result (is_full self.old pair → ⊥) }
         ensures full { OnErr result (is_full self.old pair) }
+        ensures still { OnErr result (is_full self.new pair) }
         ensures back { IfErr result (λ refused. (refused.0 ≡ pair) × (refused.1 ≡ Fault.NoPage)) }
         ensures err { OnErr result (open_run self.new ≡ open_run self.old) }
         ensures runs { runs self.new ≡ runs self.old }

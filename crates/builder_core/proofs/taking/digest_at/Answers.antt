@@ -1,14 +1,17 @@
 use Rattle.std.proofs.Common.{◌≡◌, ◌∙◌, ◌*◌, map, length, take, drop, refl, ap, arith}
-use Rattle.std.proofs.lemmas.Result.{IfOk-at_ok}
+use Rattle.std.proofs.lemmas.Result.{IfOk-at_ok, IfErr-weaker}
+use Rattle.run_spool.specs.Spools.{HasFull, NoPageOnlyIf}
 use Rattle.run_maker.specs.Making.{MakerValue, AreReady, Holdings}
 use Rattle.building.specs.Holding.{TakesAll}
 use Rattle.building.specs.TakeEnd.{TakeEnd}
 use Rattle.building.specs.Work.{next_images, after_digest}
 use Rattle.building.specs.WorkerValue.{WorkerValue}
 use Rattle.building.specs.declared.copied.Copied.{Copied}
+use Rattle.builder_core.specs.FullSpools.{WasFull}
 use Rattle.builder_core.specs.Holding.{Digested}
 use Rattle.builder_core.specs.Rings.{take_rings}
 use Rattle.builder_core.specs.Working.{one_copy}
+use Rattle.builder_core.proofs.FullSpools.{lent_full}
 use Rattle.builder_core.proofs.OneKit.{if_ok, lent_ready, lent_many, its_rows, has_taken, stakes_back}
 use Rattle.builder_core.proofs.Places.{kept}
 use Rattle.builder_core.proofs.taking.digest_at.Goals as goal
@@ -47,6 +50,18 @@ returns-clause-stakes g c =
     c.digest-taken.new.spools c.digest-taken.ensures.stakes c.args.spools.now.len c.split_at_mut-rest.result.0.now c.split_at_mut-own.result.1.now _
     (omega (arith, c.args.spools.now.ok)) (c.split_at_mut-rest.ensures.front ∙ ap (take (c.args.worker * n)) c.as_mut_slice.ensures.value)
     (c.split_at_mut-own.ensures.back ∙ ap (drop n) rest)
+
+pub returns-clause-full : goal.returns-clause-full
+returns-clause-full g c =
+    let n = length c.args.specs.now in
+    let own = c.split_at_mut-own.result.0.now in
+    let left = c.digest-taken.new.spools in
+    let rest = c.split_at_mut-rest.ensures.back ∙ ap (drop (c.args.worker * n)) c.as_mut_slice.ensures.value in
+    IfErr-weaker c.digest-taken.result (NoPageOnlyIf (HasFull g.S.Spool.is_full left))
+    (NoPageOnlyIf (WasFull g.S.Spool.is_full g.S.Spool.stake n c.args.worker (map g.S.Spool.stake c.args.spools.now.items)))
+    (λ fault only is. lent_full g.S.Spool.is_full g.S.Spool.stake n c.args.worker c.args.spools.now.items own left
+    (c.split_at_mut-own.ensures.front ∙ ap (take n) rest) c.digest-taken.ensures.stakes (only is))
+    c.digest-taken.ensures.full
 
 pub returns-clause-rings : goal.returns-clause-rings
 returns-clause-rings g c =

@@ -1,12 +1,15 @@
 use Rattle.std.proofs.Common.{◌≡◌, ◌∙◌, ◌*◌, [], All, map, length, take, drop, refl, ap, arith}
-use Rattle.std.proofs.lemmas.Result.{IfOk-at_ok}
+use Rattle.std.proofs.lemmas.Result.{IfOk-at_ok, IfErr-weaker}
+use Rattle.run_spool.specs.Spools.{HasFull, NoPageOnlyIf}
 use Rattle.run_maker.specs.Making.{MakerValue, AreReady, Holdings}
 use Rattle.building.specs.Holding.{HoldsMore}
 use Rattle.building.specs.Work.{next_images, after_digest, after_seal}
 use Rattle.building.specs.WorkerValue.{WorkerValue}
+use Rattle.builder_core.specs.FullSpools.{WasFull}
 use Rattle.builder_core.specs.Holding.{Sealed}
 use Rattle.builder_core.specs.Rings.{take_rings}
 use Rattle.builder_core.specs.Working.{all_copies}
+use Rattle.builder_core.proofs.FullSpools.{lent_full}
 use Rattle.builder_core.proofs.OneKit.{if_ok, lent_ready, lent_many, its_rows, has_taken, stakes_back}
 use Rattle.builder_core.proofs.Places.{kept}
 use Rattle.builder_core.proofs.taking.seal_at.Goals as goal
@@ -45,6 +48,18 @@ returns-clause-stakes g c =
     c.seal-taken.new.spools c.seal-taken.ensures.stakes c.args.spools.now.len c.split_at_mut-rest.result.0.now c.split_at_mut-own.result.1.now _
     (omega (arith, c.args.spools.now.ok)) (c.split_at_mut-rest.ensures.front ∙ ap (take (c.args.worker * n)) c.as_mut_slice.ensures.value)
     (c.split_at_mut-own.ensures.back ∙ ap (drop n) rest)
+
+pub returns-clause-full : goal.returns-clause-full
+returns-clause-full g c =
+    let n = length c.args.specs.now in
+    let own = c.split_at_mut-own.result.0.now in
+    let left = c.seal-taken.new.spools in
+    let rest = c.split_at_mut-rest.ensures.back ∙ ap (drop (c.args.worker * n)) c.as_mut_slice.ensures.value in
+    IfErr-weaker c.seal-taken.result (NoPageOnlyIf (HasFull g.S.Spool.is_full left))
+    (NoPageOnlyIf (WasFull g.S.Spool.is_full g.S.Spool.stake n c.args.worker (map g.S.Spool.stake c.args.spools.now.items)))
+    (λ fault only is. lent_full g.S.Spool.is_full g.S.Spool.stake n c.args.worker c.args.spools.now.items own left
+    (c.split_at_mut-own.ensures.front ∙ ap (take n) rest) c.seal-taken.ensures.stakes (only is))
+    c.seal-taken.ensures.full
 
 pub returns-clause-rings : goal.returns-clause-rings
 returns-clause-rings g c =

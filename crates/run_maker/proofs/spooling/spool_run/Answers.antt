@@ -4,7 +4,7 @@ use Rattle.std.proofs.lemmas.List.{nil_from_length}
 use Rattle.keybytes.specs.Pairs.{pair_cmp}
 use Rattle.keybytes.specs.declared.pair.Pair.{Pair}
 use Rattle.run_spool.specs.Spools.{AreSorted, with_closed_run}
-use Rattle.run_maker.proofs.Spoolings.{closed_sorted, moved_all}
+use Rattle.run_maker.proofs.Spoolings.{closed_sorted, moved_all, was_there}
 use Rattle.run_maker.proofs.spooling.spool_run.Goals as goal
 
 pub returns-clause-sorted : goal.returns-clause-sorted
@@ -17,3 +17,9 @@ returns-clause-sorted g c = λ all.
     let closed = c.end_run.ensures.runs ∙ ap (λ (rs : List (List Pair)). with_closed_run rs run) c.loop-pair.invariant.runs in
     subst AreSorted (sym closed) (closed_sorted (g.S.Spool.runs c.args.spool.now) run (subst (IsSorted pair_cmp) (sym run_is) c.sort.ensures.sorted)
     all)
+
+pub returns-in-Err-clause-full : goal.returns-in-Err-clause-full
+returns-in-Err-clause-full g c =
+    let there = was_there c.args.pairs.now.items c.sort.new.pairs.items c.reverse.new.self.items (g.S.Spool.open_run c.loop-pair.spool) c.loop-pair.pairs.items
+    c.pop.new.self.items c.in-Some.pair c.sort.ensures.permutation c.reverse.ensures.items c.loop-pair.invariant.moved c.in-Some.ensures.items in
+    (c.in-Some.pair, there, c.in-Err.ensures.still)

@@ -3,4 +3,4 @@ use Rattle.builder_core.proofs.core_steps.Core.answer.Goals as goal
 
 pub returns-clause-step : goal.returns-clause-step
 returns-clause-step g c =
-    stepped c.args.self.now c.args.event.now c.attempt-answer.result c.reply.result c.attempt-answer.new.self c.attempt-answer.ensures c.reply.ensures.reply
+    stepped c.args.self.now c.args.event.now c.attempt-answer.result c.reply.result c.attempt-answer.new.self c.attempt-answer.ensures.answers c.reply.ensures.reply

@@ -5,6 +5,7 @@ use Rattle.builder_core.specs.CoreState.{CoreState, BuildState}
 use Rattle.builder_core.specs.Steps.{Step, OnBuild}
 use Rattle.builder_core.specs.Verdicts.{HaveSharedKeys}
 use Rattle.builder_core.specs.declared.reply.Reply.{Reply}
+use Rattle.builder_core.proofs.PageCauses.{wanted_page}
 use Rattle.builder_core.proofs.SharedKeys.{shared_keys}
 use Rattle.builder_core.proofs.Switching.{step_stakes, switches}
 use Rattle.builder_core.proofs.Told.{stepped}
@@ -12,7 +13,7 @@ use Rattle.builder_core.proofs.core_steps.Core.step.Goals as goal
 
 pub returns-clause-step : goal.returns-clause-step
 returns-clause-step g c =
-    stepped c.args.self.now c.args.event c.attempt_own-answer.result c.reply.result c.attempt_own-answer.new.self c.attempt_own-answer.ensures c.reply.ensures.reply
+    stepped c.args.self.now c.args.event c.attempt_own-answer.result c.reply.result c.attempt_own-answer.new.self c.attempt_own-answer.ensures.answers c.reply.ensures.reply
 
 pub returns-clause-stakes : goal.returns-clause-stakes
 returns-clause-stakes g c = step_stakes c.args.self.now c.args.event c.reply.result c.attempt_own-answer.new.self (returns-clause-step g c)
@@ -28,3 +29,8 @@ returns-clause-keys g c = λ number verdicts is.
     let its = subst (BuildFollows s.live.heap.schema s.live.heap.log) switch.running follows in
     subst (λ (o : Option BuildState). OnBuild o (λ b. HaveSharedKeys b.specs verdicts)) (sym switch.running)
     (subst (HaveSharedKeys switch.build.specs) (sym switch.verdicts_are) (shared_keys s.live.heap.schema s.live.heap.log (length s.live.ready) switch.build.specs rows its.columns))
+
+pub returns-clause-full : goal.returns-clause-full
+returns-clause-full g c =
+    wanted_page g.S.Spool.is_full g.S.Spool.stake c.args.self.now c.args.event c.attempt_own-answer.result c.reply.result c.attempt_own-answer.new.self
+    c.attempt_own-answer.ensures.answers c.reply.ensures.reply c.attempt_own-answer.ensures.full

@@ -1,11 +1,16 @@
-use Rattle.std.proofs.Common.{◌≡◌, subst, arith}
-use Rattle.std.specs.Prelude.{IfOk, IfErr}
+use Rattle.std.proofs.Common.{◌≡◌, length, subst, arith}
+use Rattle.std.specs.Prelude.{IfOk, IfErr, IfSome}
+use Rattle.std.proofs.lemmas.Result.{IfErr-weaker}
 use Rattle.side_file.specs.Ends.{PutEnd}
+use Rattle.run_spool.specs.Spools.{NoPageOnlyIf}
 use Rattle.building.specs.declared.copied.Copied.{Copied}
 use Rattle.builder_core.specs.Builds.{LiveValue, BuildingValue, core_state}
 use Rattle.builder_core.specs.CoreState.{CoreState}
+use Rattle.builder_core.specs.FullSpools.{WasFull, WorkerWasFull}
+use Rattle.builder_core.specs.Holding.{stakes_of}
 use Rattle.builder_core.specs.Steps.{Seals, spoiled_by}
 use Rattle.builder_core.specs.Working.{all_copies}
+use Rattle.builder_core.proofs.FullSpools.{full_in_build}
 use Rattle.builder_core.proofs.Looked.{state_looked, runs_looked}
 use Rattle.builder_core.proofs.Places.{map_at}
 use Rattle.builder_core.proofs.Sealed.{works_after_seal, seals_after}
@@ -66,3 +71,16 @@ returns-clause-spoiled g c =
     subst (λ (s : CoreState). IfErr c.seal.result (λ fault. core_state live c.seal.new.self ≡ spoiled_by fault s))
     (state_looked c.args.self.now live c.args.building.now building c.look.ensures.looked)
     (spoiled_after live building c.seal.new.self may.build may.work run c.seal.result c.seal.ensures.spoiled)
+
+pub returns-clause-full : goal.returns-clause-full
+returns-clause-full g c =
+    let live : LiveValue = c.args.self.now in
+    let old : BuildingValue = c.args.building.now in
+    let building : BuildingValue = c.look.new.building in
+    let is_full = g.S.Spool.is_full in
+    let stake = g.S.Spool.stake in
+    let looked = c.look.ensures.looked in
+    IfErr-weaker c.seal.result (NoPageOnlyIf (IfSome building.work (λ work. WasFull is_full stake (length work.specs) c.args.worker (stakes_of building.spools))))
+    (NoPageOnlyIf (WorkerWasFull is_full stake (core_state live old) c.args.worker))
+    (λ fault only is. full_in_build is_full stake live old building c.args.worker c.requires.runs looked.work looked.spools (only is))
+    c.seal.ensures.full

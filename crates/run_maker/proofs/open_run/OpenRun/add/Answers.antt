@@ -1,6 +1,8 @@
 use Rattle.std.proofs.Common.{◌≡◌, ◌∷◌, ◌++◌, ◌∙◌, [], List, arith, length, ap, sym, subst}
 use Rattle.std.proofs.lemmas.List.{length_push}
+use Rattle.std.proofs.lemmas.Result.{IfErr-weaker}
 use Rattle.keybytes.specs.declared.pair.Pair.{Pair}
+use Rattle.run_spool.specs.Spools.{IsFullForOneOf, NoPageOnlyIf}
 use Rattle.run_maker.specs.Spooling.{Adds}
 use Rattle.run_maker.proofs.Spoolings.{spooled_adds, both_ok}
 use Rattle.run_maker.proofs.open_run.OpenRun.add.Goals as goal
@@ -25,3 +27,13 @@ returns-clause-added g c =
     subst (λ (ps : List Pair). Adds (c.args.pair ∷ []) (g.S.Spool.runs c.args.spool.now) begun (g.S.Spool.runs c.spool_run.new.spool) ps) (sym left)
     (spooled_adds (g.S.Spool.runs c.args.spool.now) (g.S.Spool.runs c.spool_run.new.spool) begun c.args.pair pairs is full spooled))
     c.spool_run.ensures.spooled c.spool_run.ensures.left
+
+pub returns-clause-full : goal.returns-clause-full
+returns-clause-full g c =
+    let begun = c.args.self.now in
+    let pairs = c.push.new.self.items in
+    let spool = c.spool_run.new.spool in
+    let is_full = g.S.Spool.is_full in
+    let is : pairs ≡ begun ++ c.args.pair ∷ [] = c.in_ok-push.ensures.items ∙ ap (λ (ps : List Pair). ps ++ c.args.pair ∷ []) c.self.view_is in
+    IfErr-weaker c.spool_run.result (λ _. IsFullForOneOf is_full pairs spool) (NoPageOnlyIf (IsFullForOneOf is_full (begun ++ c.args.pair ∷ []) spool))
+    (λ fault full _. subst (λ (ps : List Pair). IsFullForOneOf is_full ps spool) is full) c.spool_run.ensures.full
