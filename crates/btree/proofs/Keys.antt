@@ -1,5 +1,5 @@
 -- The pairs of one key, and those of the keys in a range, among pairs that rise.
-use Rattle.std.proofs.Common.{◌≡◌, ℕ, Bool, true, false, List, [], ◌∷◌, map, None, Some, refl, sym, ap, ◌∙◌, subst, inl, inr}
+use Rattle.std.proofs.Common.{◌≡◌, ℕ, Bool, true, false, List, [], ◌∷◌, ◌++◌, map, Option, None, Some, refl, sym, ap, ◌∙◌, subst, inl, inr}
 use Rattle.std.specs.Prelude.{not, ◌==◌, ◌&&◌, if◌then◌else◌}
 use Rattle.std.specs.List.{filter, take_while, slice_get}
 use Rattle.std.specs.declared.cmp.Ordering.{Ordering}
@@ -165,3 +165,77 @@ between_is lo hi (p ∷ ps) r = elim (cases_Bool (is_before p (first_of lo))) [
   | inl e ↦ rw (e, sym (before_first p lo) ∙ e) (between_is lo hi ps r.1)
   | inr e ↦ rw e (between_rest lo hi (p ∷ ps) r (from_key lo p ps r e))
 ]
+
+-- ---- a walk over rising pairs for a key, which ends at the first one that isn't less
+
+abbrev pub met_at : Ordering → Rid → Option Rid → Option Rid
+met_at Less rid rest = rest
+met_at Equal rid rest = Some rid
+met_at Greater rid rest = None
+
+abbrev pub met : List ℕ → List Pair → Option Rid
+met key [] = None
+met key (p ∷ ps) = met_at (slice_cmp nat_cmp p.key key) p.rid (met key ps)
+
+-- it finds the least RID that has the key
+pub met_is : (key : List ℕ) (ps : List Pair) → IsRising is_before ps → met key ps ≡ slice_get (rids_of key ps) 0
+met_is key [] r = refl
+met_is key (p ∷ ps) r = by_order (met_is key ps r.1) (slice_cmp nat_cmp p.key key) refl where
+  by_order : met key ps ≡ slice_get (rids_of key ps) 0 → (o : Ordering) → slice_cmp nat_cmp p.key key ≡ o → met key (p ∷ ps) ≡ slice_get (rids_of key (p ∷ ps)) 0
+  by_order rest Less is = rw is rest
+  by_order rest Equal is = rw is refl
+  by_order rest Greater is =
+      rw is (sym (ap (λ (qs : List Pair). slice_get (map (λ q. q.rid) qs) 0)
+      (filter_none (is_key key) ps (λ q i. past key p q (ap is_lt is) (ap is_eq is) (r.0 q i)))))
+
+-- what it meets next
+pub met_equal :
+    (key : List ℕ) (p : Pair) (ps left rest : List Pair) (o : Ordering) → IsRising is_before ps → met key left ≡ met key ps → left ≡ p ∷ rest
+    → o ≡ slice_cmp nat_cmp p.key key → o ≡ Equal → Some p.rid ≡ slice_get (rids_of key ps) 0
+met_equal key p ps left rest o r was first is same =
+    let here : met key (p ∷ rest) ≡ Some p.rid = rw (sym is ∙ same) refl in sym here ∙ ap (met key) (sym first) ∙ was ∙ met_is key ps r
+
+pub met_greater :
+    (key : List ℕ) (p : Pair) (ps left rest : List Pair) (o : Ordering) → IsRising is_before ps → met key left ≡ met key ps → left ≡ p ∷ rest
+    → o ≡ slice_cmp nat_cmp p.key key → o ≡ Greater → None ≡ slice_get (rids_of key ps) 0
+met_greater key p ps left rest o r was first is above =
+    let here : met key (p ∷ rest) ≡ None = rw (sym is ∙ above) refl in sym here ∙ ap (met key) (sym first) ∙ was ∙ met_is key ps r
+
+pub met_less :
+    (key : List ℕ) (p : Pair) (ps left rest : List Pair) (o : Ordering) → met key left ≡ met key ps → left ≡ p ∷ rest → o ≡ slice_cmp nat_cmp p.key key
+    → o ≡ Less → met key rest ≡ met key ps
+met_less key p ps left rest o was first is below =
+    let here : met key (p ∷ rest) ≡ met key rest = rw (sym is ∙ below) refl in sym here ∙ ap (met key) (sym first) ∙ was
+
+pub met_end :
+    (key : List ℕ) (ps left : List Pair) → IsRising is_before ps → met key left ≡ met key ps → left ≡ [] → None ≡ slice_get (rids_of key ps) 0
+met_end key ps left r was empty = ap (met key) (sym empty) ∙ was ∙ met_is key ps r
+
+lt_is : (o : Ordering) → is_lt o ≡ true → o ≡ Less
+lt_is Less e = refl
+lt_is Equal e = absurd (false≢true e)
+lt_is Greater e = absurd (false≢true e)
+
+-- it may begin at a key that has only lesser ones below it than this one
+pub met_from :
+    (key front : List ℕ) (ps : List Pair) → ((xs : List ℕ) → is_less xs front ≡ true → is_less xs key ≡ true) → met key (from (first_of front) ps) ≡ met key ps
+met_from key front [] below = refl
+met_from key front (p ∷ ps) below = elim (cases_Bool (is_before p (first_of front))) [
+  | inl e ↦
+      let less : slice_cmp nat_cmp p.key key ≡ Less = lt_is (slice_cmp nat_cmp p.key key) (below p.key (sym (before_first p front) ∙ e)) in
+      rw (e, less) (met_from key front ps below)
+  | inr e ↦ rw e refl
+]
+
+then_longer : (o r s : Ordering) → (is_lt r ≡ true → is_lt s ≡ true) → is_lt (ordering_then o r) ≡ true → is_lt (ordering_then o s) ≡ true
+then_longer Less r s f e = refl
+then_longer Equal r s f e = f e
+then_longer Greater r s f e = absurd (false≢true e)
+
+-- what is less than the front of a key is less than the key
+pub less_longer : (xs ys zs : List ℕ) → is_less xs ys ≡ true → is_less xs (ys ++ zs) ≡ true
+less_longer [] [] zs e = absurd (false≢true e)
+less_longer [] (y ∷ ys) zs e = refl
+less_longer (x ∷ xs) [] zs e = absurd (false≢true e)
+less_longer (x ∷ xs) (y ∷ ys) zs e =
+    then_longer (nat_cmp x y) (slice_cmp nat_cmp xs ys) (slice_cmp nat_cmp xs (ys ++ zs)) (less_longer xs ys zs) e

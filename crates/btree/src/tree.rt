@@ -1,4 +1,4 @@
-ghost use Rattle.std.specs.Prelude.{◌≡◌, true, [], length, map, IfOk, IfErr, OnOk, Some, if◌then◌else◌};
+ghost use Rattle.std.specs.Prelude.{◌≡◌, true, [], length, map, min, take, IfOk, IfErr, OnOk, Some, if◌then◌else◌};
 ghost use Rattle.std.specs.FinMap.{contains_key};
 ghost use Rattle.std.specs.List.{slice_get};
 ghost use Rattle.keybytes.specs.Pairs.{set_of, with_pair, without_pair, AreOrdered};
@@ -15,7 +15,7 @@ use crate::pairs::Pairs;
 use crate::range::Range;
 use crate::rooting::{Rooted, insert_under, remove_under};
 use crate::spare::Spare;
-use keybytes::{Fault, Key, Pair, Rid};
+use keybytes::{Fault, KEY_INLINE, Key, Pair, Rid};
 use std::alloc::Global;
 use std::cmp::Ordering;
 use std::marker::Model;
@@ -131,6 +131,23 @@ impl Tree {
         Some(pair.rid)
     }
 
+    /// The same of a key that is given as bytes, for want of the memory for a key: beside the way down the tree it looks at the pairs that
+    /// begin with as many of the bytes as a key keeps in place.
+    pub fn first_rid_of_bytes(&self, bytes: &[u8]) -> Option<Rid>
+        ensures { result ≡ slice_get (rids_of bytes.now self.now.pairs) 0 }
+    {
+        let front = front_key(self.alloc, bytes);
+        let mut pairs = self.from(&front);
+        while let Some(pair) = pairs.next() {
+            match pair.key.bytes().cmp(&bytes) {
+                Ordering::Less => {}
+                Ordering::Equal => return Some(pair.rid),
+                Ordering::Greater => return None,
+            }
+        }
+        None
+    }
+
     /// The pairs whose key isn't less than `lo`, and less than `hi`, in order. Of all that, `hi` alone is copied.
     pub fn range(&self, lo: &Key, hi: &Key) -> Result<Range<'_>, Fault>
         ensures pairs { IfOk result (λ range. range_left range ≡ pairs_between lo.now hi.now self.now.pairs) }
@@ -201,6 +218,18 @@ impl Tree {
         let found = remove_under(&mut self.root, key, rid);
         self.count -= one_if(found);
         found
+    }
+}
+
+/// As many of the bytes as a key keeps in place.
+fn front_key(alloc: Global, bytes: &[u8]) -> Key
+    ensures { result ≡ take (min (length bytes.now) 24) bytes.now }
+{
+    let mut front = Key::new(alloc);
+    let len = bytes.len().min(KEY_INLINE);
+    match front.add(&bytes[..len]) {
+        Ok(()) => front,
+        Err(_) => unreachable!(),
     }
 }
 

@@ -66,6 +66,13 @@ let_in_from number log (index ∷ ready) change free =
     All-cons (λ (i : ReadyValue). i.spec.unique ≡ true → (n : ℕ) × (key_refusal n i.spec log change.txn change.old change.new ≡ None)) index ready
     (λ unique. (number, sym (cond-true index.spec.unique (key_refusal number index.spec log change.txn change.old change.new) None unique) ∙ parts.0)) (let_in_from (number + 1) log ready change parts.1)
 
+pub let_in_by :
+    (log : List LogRec) (ready : List ReadyValue) (change : Ready) (txn : ℕ) (old new : Option (List Cell)) → change.txn ≡ txn → change.old ≡ old
+    → change.new ≡ new → keys_refusal 0 ready log txn old new ≡ None → AreLetIn log ready change
+let_in_by log ready change txn old new by was is free =
+    let_in_from 0 log ready change (ap (λ t. keys_refusal 0 ready log t change.old change.new) by ∙ ap (λ o. keys_refusal 0 ready log txn o change.new) was
+    ∙ ap (keys_refusal 0 ready log txn old) is ∙ free)
+
 -- none refuses a change that leaves no row
 pub no_row_is_let_in :
     (number : ℕ) (ready : List ReadyValue) (log : List LogRec) (txn : ℕ) (old : Option (List Cell)) → keys_refusal number ready log txn old None ≡ None

@@ -14,6 +14,7 @@ use Rattle.keybytes.specs.declared.fault.Fault.TheVariants.{Duplicate}
 use Rattle.keybytes.specs.declared.pair.Pair.{Pair}
 use Rattle.keybytes.specs.declared.rid.Rid.{Rid}
 use Rattle.keybytes.specs.Pairs.{pair_cmp, pair_with}
+use Rattle.builder_core.specs.CoreState.{ReadyValue}
 use Rattle.std.specs.Ordering.{eq_by_cmp}
 use Rattle.keybytes.proofs.PairSets.{is_in, is_pair, in_set, itself, tied_pairs}
 use Rattle.heap_table.proofs.TablePairs.{all_listed, row_written}
@@ -24,7 +25,6 @@ use Rattle.btree.specs.TreeValue.{is_key, rids_of}
 use Rattle.unique_verdict.proofs.OneKey.{key_same, has_same}
 use Rattle.key_guards.specs.KeyRefusals.{rid_with, other_guard, duplicate_refusal, guarded_refusal, new_key_refusal, key_refusal}
 use Rattle.key_guards.specs.UniqueKeys.{has_key, KeysAreUnique}
-use Rattle.builder_core.specs.KeyCauses.{IsKeyFault}
 use Rattle.std.specs.Prelude.{Result, Ok, Err, MatchResult, OnOk, IfErr}
 use Rattle.key_guards.proofs.Refusals.{find_passes, no_rid_with}
 
@@ -79,6 +79,13 @@ row_with spec log key rid found =
       let same : q ≡ record { key = key_of spec cells; rid = q.rid } = tied_pairs q _ there in
       ap (λ (p : Pair). bytes_eq p.key key) (sym same) ∙ passes
 
+-- what the tree answers is the row that has the key
+pub found_row : (index : ReadyValue) (pairs : List Pair) (log : List LogRec) (key : List ℕ) (cells : List Cell) (rid : Option Rid) → key ≡ key_of index.spec cells
+    → pairs ≡ pairs_at_rest index.spec log → rid ≡ slice_get (rids_of key pairs) 0 → rid ≡ rid_with index.spec log (key_of index.spec cells)
+found_row index pairs log key cells rid is_key are found_is =
+    found_is ∙ ap (λ ps. slice_get (rids_of key ps) 0) are ∙ ap (λ k. slice_get (rids_of k (pairs_at_rest index.spec log)) 0) is_key
+    ∙ first_with (key_of index.spec cells) (pairs_at_rest index.spec log)
+
 module _ (number : ℕ) (spec : KeySpecValue) (log : List LogRec) (txn : ℕ) (rid : Rid) (cells : List Cell) where
   abbrev its_key : List ℕ
   its_key = key_of spec cells
@@ -115,17 +122,15 @@ module _ {T : Type 0} (r : Result T Fault) (told cause : Option Fault) (same : c
     by_result (Ok v) none = same ∙ none
     by_result (Err fault) some = tt
 
-  pub told_cause : IfErr r (λ fault. IsKeyFault cause fault)
+  pub told_cause : IfErr r (λ fault. cause ≡ Some fault)
   told_cause = by_result r is where
-    by_result : (x : Result T Fault) → MatchResult x (λ _. told ≡ None) (λ fault. told ≡ Some fault) → IfErr x (λ fault. IsKeyFault cause fault)
+    by_result : (x : Result T Fault) → MatchResult x (λ _. told ≡ None) (λ fault. told ≡ Some fault) → IfErr x (λ fault. cause ≡ Some fault)
     by_result (Ok v) none = tt
-    by_result (Err fault) some = inl (same ∙ some)
+    by_result (Err fault) some = same ∙ some
 
 -- a fault of the first cause is one of both, and so is one of the second where the first doesn't stand
-pub first_fault : (first second : Option Fault) (fault : Fault) → IsKeyFault first fault → IsKeyFault (first_cause first second) fault
-first_fault first second fault (inl is) = inl (ap (λ o. first_cause o second) is)
-first_fault first second fault (inr memory) = inr memory
+pub first_fault : (first second : Option Fault) (fault : Fault) → first ≡ Some fault → first_cause first second ≡ Some fault
+first_fault first second fault is = ap (λ o. first_cause o second) is
 
-pub second_fault : (first second : Option Fault) (fault : Fault) → first ≡ None → IsKeyFault second fault → IsKeyFault (first_cause first second) fault
-second_fault first second fault none (inl is) = inl (ap (λ o. first_cause o second) none ∙ is)
-second_fault first second fault none (inr memory) = inr memory
+pub second_fault : (first second : Option Fault) (fault : Fault) → first ≡ None → second ≡ Some fault → first_cause first second ≡ Some fault
+second_fault first second fault none is = ap (λ o. first_cause o second) none ∙ is

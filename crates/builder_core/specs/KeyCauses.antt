@@ -1,11 +1,10 @@
 -- Why a transaction may not write a row, for the sake of the ready indexes that are unique.
 use Rattle.std.specs.List.{All, AllZip}
-use Rattle.std.specs.Prelude.{◌≡◌, ℕ, ◌+◌, ◌⊎◌, true, if◌then◌else◌, List, [], ◌∷◌, Option, None, Some, Result, Ok, Err}
+use Rattle.std.specs.Prelude.{◌≡◌, ℕ, ◌+◌, true, if◌then◌else◌, List, [], ◌∷◌, Option, None, Some}
 use Rattle.keybytes.specs.Faults.{first_cause}
 use Rattle.keybytes.specs.Keys.{KeySpecValue}
 use Rattle.keybytes.specs.declared.cell.Cell.{Cell}
 use Rattle.keybytes.specs.declared.fault.Fault.{Fault}
-use Rattle.keybytes.specs.declared.fault.Fault.TheVariants.{Memory}
 use Rattle.keybytes.specs.declared.rid.Rid.{Rid}
 use Rattle.heap_log.specs.Standing.{live_at}
 use Rattle.heap_log.specs.declared.record.LogRec.{LogRec}
@@ -43,19 +42,6 @@ AreLetIn log ready change =
 -- the unique ones keep their keys apart, now and after any rollback
 abbrev pub KeysAreGuarded : List LogRec → List ReadyValue → Type 0
 KeysAreGuarded log ready = All (λ index. index.spec.unique ≡ true → UniqueKeysAreGuarded index.spec log) ready
-
--- that is the cause, or there was no memory to make a key
-abbrev pub IsKeyFault : Option Fault → Fault → Type 0
-IsKeyFault cause fault = (cause ≡ Some fault) ⊎ (fault ≡ Memory)
-
--- a fault that refuses a call: its cause, or want of memory, which hides no early cause
-abbrev pub IsEarlyFault : Option Fault → Option Fault → Fault → Type 0
-IsEarlyFault early cause fault = (cause ≡ Some fault) ⊎ ((early ≡ None) × (fault ≡ Memory))
-
--- a call with these causes of refusal, if any: it does what it is for, or is refused and changes nothing
-abbrev pub AnsweredEarly : {S R : Type 0} → Option Fault → Option Fault → (S → R → S → Type 0) → S → Result R Fault → S → Type 0
-AnsweredEarly early cause Does old (Ok answer) new = (cause ≡ None) × Does old answer new
-AnsweredEarly early cause Does old (Err fault) new = ((cause ≡ Some fault) × (new ≡ old)) ⊎ ((early ≡ None) × (fault ≡ Memory) × (new ≡ old))
 
 -- why a table with its indexes refuses to insert a row
 abbrev pub row_refusal : LiveState → ℕ → List Cell → Option Fault

@@ -13,7 +13,7 @@ use Rattle.keybytes.specs.declared.fault.Fault.TheVariants.{NotLoaded, Behind, B
 use Rattle.heap_log.specs.declared.outcome.Outcome.{Outcome}
 use Rattle.heap_log.specs.declared.record.LogRec.{LogRec}
 use Rattle.heap_table.specs.Calls.{Begins, Inserts, Updates, Deletes, Undoes, Commits}
-use Rattle.heap_table.specs.HeapState.{HeapState, begin_refusal, txn_refusal, insert_refusal, update_refusal, delete_refusal, undo_refusal, after_switch}
+use Rattle.heap_table.specs.HeapState.{HeapState, begin_refusal, txn_refusal, delete_refusal, undo_refusal, after_switch}
 use Rattle.heap_table.specs.HeapState.{after_visit, after_fence, busy_txns}
 use Rattle.heap_table.specs.Pages.{pages_written}
 use Rattle.heap_table.specs.TablePairs.{pairs_at_rest}
@@ -374,25 +374,6 @@ refusal s Switch = build_cause s.live.build (λ b. switch_refusal b s.live.heap 
 refusal s Fence = build_cause s.live.build (λ b. None)
 refusal s Abandon = build_cause s.live.build (λ b. None)
 
--- the causes that are looked for before memory is taken: of a write all but those of keys, which take memory to be made
-abbrev pub early_refusal : CoreState → Event → Option Fault
-early_refusal s Begin = refusal s Begin
-early_refusal s (Insert txn row) = insert_refusal s.live.heap txn row
-early_refusal s (Update txn rid row) = update_refusal s.live.heap txn rid row
-early_refusal s (Delete txn rid) = refusal s (Delete txn rid)
-early_refusal s (Undo txn) = refusal s (Undo txn)
-early_refusal s (Commit txn) = refusal s (Commit txn)
-early_refusal s (Start plan) = refusal s (Start plan)
-early_refusal s (Scan range worker) = refusal s (Scan range worker)
-early_refusal s (Digest worker) = refusal s (Digest worker)
-early_refusal s (Seal worker) = refusal s (Seal worker)
-early_refusal s (Load index) = refusal s (Load index)
-early_refusal s (Feed index most) = refusal s (Feed index most)
-early_refusal s (Apply index most) = refusal s (Apply index most)
-early_refusal s Fence = refusal s Fence
-early_refusal s Switch = refusal s Switch
-early_refusal s Abandon = refusal s Abandon
-
 -- the reply to an event tells what that relation answers
 abbrev pub Tells : {R : Type 0} → (R → Reply) → (CoreState → R → CoreState → Type 0) → CoreState → Reply → CoreState → Type 0
 Tells {R} told Does s reply new = (answer : R) × (reply ≡ told answer) × Does s answer new
@@ -465,10 +446,10 @@ AfterWant Switch fault s new = CatchesUp s new
 AfterWant Fence fault s new = ⊥
 AfterWant Abandon fault s new = ⊥
 
--- an event is refused for a fault: it has that cause, and nothing changes; or it has none that is looked for before, and wants what isn't there
+-- an event is refused for a fault: it has that cause, and nothing changes; or it has none, and wants what isn't there
 abbrev pub IsRefused : CoreState → Event → Fault → CoreState → Type 0
 IsRefused s event fault new =
-    ((refusal s event ≡ Some fault) × (new ≡ s)) ⊎ ((early_refusal s event ≡ None) × IsWant event fault × AfterWant event fault s new)
+    ((refusal s event ≡ Some fault) × (new ≡ s)) ⊎ ((refusal s event ≡ None) × IsWant event fault × AfterWant event fault s new)
 
 -- the reply to an event, or the fault of its refusal
 abbrev pub Answers : CoreState → Event → Result Reply Fault → CoreState → Type 0

@@ -265,7 +265,8 @@ impl<S: Spool, T: Table> Core<S, T> {
         ensures { Answers self.old (Event.Insert txn row.now) result self.new }
     {
         self.live.check_insert(txn, row)?;
-        self.insert(txn, row.clone()?)
+        let (number, rid) = self.live.insert_free(txn, row.clone()?)?;
+        Ok(Reply::Written { number, rid })
     }
 
     fn update(&mut self, txn: u64, rid: Rid, row: Row) -> Result<Reply, Fault>
@@ -279,7 +280,8 @@ impl<S: Spool, T: Table> Core<S, T> {
         ensures { Answers self.old (Event.Update txn rid row.now) result self.new }
     {
         self.live.check_update(txn, rid, row)?;
-        self.update(txn, rid, row.clone()?)
+        let (number, rid) = self.live.update_free(txn, rid, row.clone()?)?;
+        Ok(Reply::Written { number, rid })
     }
 
     fn delete(&mut self, txn: u64, rid: Rid) -> Result<Reply, Fault>

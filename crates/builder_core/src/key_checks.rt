@@ -1,43 +1,21 @@
 //! Whether a row may have its keys, for the sake of the ready indexes that are unique.
 ghost use Rattle.std.specs.Prelude.{◌≡◌, ◌+◌, ◌^◌, ◌<◌, length, true, None, Some, OnOk, IfErr, MatchResult};
 ghost use Rattle.keybytes.specs.Cells.{fits};
+ghost use Rattle.keybytes.specs.Keys.{key_of};
 ghost use Rattle.heap_log.specs.Standing.{live_at};
 ghost use Rattle.heap_table.specs.TablePairs.{pairs_at_rest};
 ghost use Rattle.key_guards.specs.Guarded.{IsGuarded};
-ghost use Rattle.key_guards.specs.KeyRefusals.{key_refusal, guarded_refusal};
+ghost use Rattle.key_guards.specs.KeyRefusals.{key_refusal, guarded_refusal, rid_with, other_guard};
 ghost use Rattle.builder_core.specs.CoreState.{AreIndexesOf};
-ghost use Rattle.builder_core.specs.KeyCauses.{keys_refusal, AreGuarded, AreLetIn, HasGuards, IsKeyFault, index_cause};
-ghost use Rattle.heap_table.specs.Ready.{IsReady};
+ghost use Rattle.builder_core.specs.KeyCauses.{keys_refusal, AreGuarded, HasGuards, index_cause};
 
 use crate::ReadyIndex;
-use heap_table::{Heap, Ready};
+use heap_table::Heap;
 use key_guards::Guards;
 use keybytes::{Fault, Rid, Row};
 
-/// Why a write that was made ready can't be done, for the sake of the unique indexes.
-pub fn check_change(
-    indexes: &[ReadyIndex],
-    guards: &[Guards],
-    heap: &Heap,
-    ready: &Ready,
-) -> Result<(), Fault>
-    requires ready { IsReady heap.now ready.now }
-    requires indexes { AreIndexesOf heap.now.state.schema heap.now.state.log indexes.now }
-    requires guarded { AreGuarded heap.now.state.log indexes.now guards.now }
-    ensures accepted { OnOk result (keys_refusal 0 indexes.now heap.now.state.log ready.now.txn ready.now.old ready.now.new ≡ None) }
-    ensures let_in { OnOk result (AreLetIn heap.now.state.log indexes.now ready.now) }
-    ensures refused { IfErr result (λ fault. IsKeyFault (keys_refusal 0 indexes.now heap.now.state.log ready.now.txn ready.now.old ready.now.new) fault) }
-{
-    heap.laws();
-    match &ready.new {
-        Some(row) => check_keys(indexes, guards, heap, ready.txn(), ready.rid, row),
-        None => Ok(()),
-    }
-}
-
 /// Why the transaction may not put that row at the RID: the first unique index tells where another row has its key, or which transaction
-/// may give the key back. Costs a way down the tree of each unique index. Want of memory for a key longer than 24 bytes comes before its
-/// causes.
+/// may give the key back. Takes no memory that it could want, and costs a way down the tree of each unique index.
 pub fn check_keys(
     indexes: &[ReadyIndex],
     guards: &[Guards],
@@ -50,7 +28,7 @@ pub fn check_keys(
     requires guarded { AreGuarded heap.now.state.log indexes.now guards.now }
     requires fits { fits heap.now.state.schema row.now ≡ true }
     ensures accepted { OnOk result (keys_refusal 0 indexes.now heap.now.state.log txn (live_at heap.now.state.log rid) (Some row.now) ≡ None) }
-    ensures refused { IfErr result (λ fault. IsKeyFault (keys_refusal 0 indexes.now heap.now.state.log txn (live_at heap.now.state.log rid) (Some row.now)) fault) }
+    ensures refused { IfErr result (λ fault. keys_refusal 0 indexes.now heap.now.state.log txn (live_at heap.now.state.log rid) (Some row.now) ≡ Some fault) }
 {
     check_from(0, indexes, guards, heap, txn, rid, row)
 }
@@ -70,7 +48,7 @@ fn check_from(
     requires guarded { AreGuarded heap.now.state.log indexes.now guards.now }
     requires fits { fits heap.now.state.schema row.now ≡ true }
     ensures accepted { OnOk result (keys_refusal number indexes.now heap.now.state.log txn (live_at heap.now.state.log rid) (Some row.now) ≡ None) }
-    ensures refused { IfErr result (λ fault. IsKeyFault (keys_refusal number indexes.now heap.now.state.log txn (live_at heap.now.state.log rid) (Some row.now)) fault) }
+    ensures refused { IfErr result (λ fault. keys_refusal number indexes.now heap.now.state.log txn (live_at heap.now.state.log rid) (Some row.now) ≡ Some fault) }
 {
     let (Some((index, rest)), Some((own, others))) = (indexes.split_first(), guards.split_first())
     else {
@@ -95,7 +73,7 @@ fn check_index(
     requires guarded { HasGuards heap.now.state.log index.now.spec guards.now }
     requires fits { fits heap.now.state.schema row.now ≡ true }
     ensures accepted { OnOk result (index_cause number index.now.spec heap.now.state.log txn (live_at heap.now.state.log rid) (Some row.now) ≡ None) }
-    ensures refused { IfErr result (λ fault. IsKeyFault (index_cause number index.now.spec heap.now.state.log txn (live_at heap.now.state.log rid) (Some row.now)) fault) }
+    ensures refused { IfErr result (λ fault. index_cause number index.now.spec heap.now.state.log txn (live_at heap.now.state.log rid) (Some row.now) ≡ Some fault) }
 {
     if !index.spec.unique() {
         return Ok(());
@@ -118,17 +96,60 @@ fn check_key(
     requires guarded { IsGuarded index.now.spec heap.now.state.log guards.now }
     requires fits { fits heap.now.state.schema row.now ≡ true }
     ensures accepted { OnOk result (key_refusal number index.now.spec heap.now.state.log txn (live_at heap.now.state.log rid) (Some row.now) ≡ None) }
-    ensures refused { IfErr result (λ fault. IsKeyFault (key_refusal number index.now.spec heap.now.state.log txn (live_at heap.now.state.log rid) (Some row.now)) fault) }
+    ensures refused { IfErr result (λ fault. key_refusal number index.now.spec heap.now.state.log txn (live_at heap.now.state.log rid) (Some row.now) ≡ Some fault) }
 {
     heap.laws();
     guards.laws();
-    index.tree.laws();
-    let key = index.spec.key(row)?;
-    match index.tree.first_rid(&key) {
+    let (holder, guard) = ask(index, guards, heap, txn, row);
+    match holder {
         Some(other) if other == rid => Ok(()),
         Some(other) => Err(Fault::Duplicate(number, other)),
-        None => check_guard(number, guards.other(txn, &key)),
+        None => check_guard(number, guard),
     }
+}
+
+/// Which row has that row's key, and which other transaction may give it back.
+fn ask(
+    index: &ReadyIndex,
+    guards: &Guards,
+    heap: &Heap,
+    txn: u64,
+    row: &Row,
+) -> (Option<Rid>, Option<u64>)
+    requires columns { index.now.spec.kinds ≡ heap.now.state.schema }
+    requires pairs { index.now.pairs ≡ pairs_at_rest index.now.spec heap.now.state.log }
+    requires guarded { IsGuarded index.now.spec heap.now.state.log guards.now }
+    requires fits { fits heap.now.state.schema row.now ≡ true }
+    ensures holder { result.0 ≡ rid_with index.now.spec heap.now.state.log (key_of index.now.spec row.now) }
+    ensures guard { result.1 ≡ other_guard index.now.spec heap.now.state.log txn (key_of index.now.spec row.now) }
+{
+    let Ok(key) = index.spec.key(row) else {
+        return ask_in_place(index, guards, heap, txn, row);
+    };
+    heap.laws();
+    (index.tree.first_rid(&key), guards.other(txn, &key))
+}
+
+/// The same where there is no memory for the key, which takes some if it is longer than 24 bytes: it is looked for by its bytes.
+#[cold]
+fn ask_in_place(
+    index: &ReadyIndex,
+    guards: &Guards,
+    heap: &Heap,
+    txn: u64,
+    row: &Row,
+) -> (Option<Rid>, Option<u64>)
+    requires columns { index.now.spec.kinds ≡ heap.now.state.schema }
+    requires pairs { index.now.pairs ≡ pairs_at_rest index.now.spec heap.now.state.log }
+    requires guarded { IsGuarded index.now.spec heap.now.state.log guards.now }
+    requires fits { fits heap.now.state.schema row.now ≡ true }
+    ensures holder { result.0 ≡ rid_with index.now.spec heap.now.state.log (key_of index.now.spec row.now) }
+    ensures guard { result.1 ≡ other_guard index.now.spec heap.now.state.log txn (key_of index.now.spec row.now) }
+{
+    heap.laws();
+    let key = index.spec.key_in_place(row);
+    let bytes = key.bytes();
+    (index.tree.first_rid_of_bytes(bytes), guards.other_of_bytes(txn, bytes))
 }
 
 /// Another transaction may give the key back.

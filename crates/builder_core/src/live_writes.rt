@@ -2,13 +2,13 @@
 ghost use Rattle.std.specs.Prelude.{◌≡◌, Some, None, OnOk, IfErr};
 ghost use Rattle.keybytes.specs.Answered.{Answered};
 ghost use Rattle.heap_table.specs.Calls.{Begins, Inserts, Updates, Deletes, Undoes, Commits};
-ghost use Rattle.heap_table.specs.HeapState.{begin_refusal, txn_refusal, insert_refusal, update_refusal, delete_refusal, undo_refusal};
+ghost use Rattle.heap_table.specs.HeapState.{begin_refusal, txn_refusal, delete_refusal, undo_refusal};
 ghost use Rattle.builder_core.specs.Builds.{BuildingValue, WorksOn};
-ghost use Rattle.builder_core.specs.KeyCauses.{AnsweredEarly, IsEarlyFault, row_refusal, change_refusal};
+ghost use Rattle.builder_core.specs.KeyCauses.{row_refusal, change_refusal};
 ghost use Rattle.builder_core.specs.Steps.{OnHeap, OnRows};
 
 use crate::guarding::tell_commit;
-use crate::key_checks::{check_change, check_keys};
+use crate::key_checks::check_keys;
 use crate::{Live, Table, changes};
 use heap_table::Undone;
 use keybytes::{Fault, Rid, Row};
@@ -22,10 +22,10 @@ impl<T: Table> Live<T> {
         self.heap.begin()
     }
 
-    /// Why [`Live::insert`] would be refused; a key longer than 24 bytes takes memory to be made.
+    /// Why [`Live::insert`] would be refused. Want of memory is no answer.
     pub fn check_insert(&self, txn: u64, row: &Row) -> Result<(), Fault>
         ensures accepted { OnOk result (row_refusal self.now.state txn row.now ≡ None) }
-        ensures refused { IfErr result (IsEarlyFault (insert_refusal self.now.state.heap txn row.now) (row_refusal self.now.state txn row.now)) }
+        ensures refused { IfErr result (λ fault. row_refusal self.now.state txn row.now ≡ Some fault) }
     {
         let rid = self.heap.check_insert(txn, row)?;
         check_keys(&self.ready, &self.guards, &self.heap, txn, rid, row)
@@ -34,7 +34,7 @@ impl<T: Table> Live<T> {
     /// Why [`Live::update`] would be refused, likewise.
     pub fn check_update(&self, txn: u64, rid: Rid, row: &Row) -> Result<(), Fault>
         ensures accepted { OnOk result (change_refusal self.now.state txn rid row.now ≡ None) }
-        ensures refused { IfErr result (IsEarlyFault (update_refusal self.now.state.heap txn rid row.now) (change_refusal self.now.state txn rid row.now)) }
+        ensures refused { IfErr result (λ fault. change_refusal self.now.state txn rid row.now ≡ Some fault) }
     {
         self.heap.check_update(txn, rid, row)?;
         check_keys(&self.ready, &self.guards, &self.heap, txn, rid, row)
@@ -44,11 +44,20 @@ impl<T: Table> Live<T> {
     /// a running build that sees the RID hears of it by its side-file. Refused as [`heap_table::Heap::insert`], and then by the first unique
     /// index where another row has the key, [`Fault::Duplicate`], or another open transaction may give it back, [`Fault::KeyHeld`].
     pub fn insert(&mut self, txn: u64, row: Row) -> Result<(usize, Rid), Fault>
-        ensures inserted { AnsweredEarly (insert_refusal self.old.state.heap txn row) (row_refusal self.old.state txn row) (OnRows (Inserts txn row)) self.old.state result self.new.state }
+        ensures inserted { Answered (row_refusal self.old.state txn row) (OnRows (Inserts txn row)) self.old.state result self.new.state }
+        ensures works { (building : BuildingValue) → WorksOn self.old building → WorksOn self.new building }
+    {
+        self.check_insert(txn, &row)?;
+        self.insert_free(txn, row)
+    }
+
+    /// The same of a row that nothing refuses.
+    pub(crate) fn insert_free(&mut self, txn: u64, row: Row) -> Result<(usize, Rid), Fault>
+        requires { row_refusal self.old.state txn row ≡ None }
+        ensures inserted { Answered (row_refusal self.old.state txn row) (OnRows (Inserts txn row)) self.old.state result self.new.state }
         ensures works { (building : BuildingValue) → WorksOn self.old building → WorksOn self.new building }
     {
         let ready = self.heap.ready_insert(txn, row)?;
-        check_change(&self.ready, &self.guards, &self.heap, &ready)?;
         changes::write(
             &mut self.ready,
             &mut self.guards,
@@ -62,11 +71,25 @@ impl<T: Table> Live<T> {
 
     /// The transaction gives a RID another row. Refused as [`heap_table::Heap::update`], and then for its keys as [`Live::insert`].
     pub fn update(&mut self, txn: u64, rid: Rid, row: Row) -> Result<(usize, Rid), Fault>
-        ensures updated { AnsweredEarly (update_refusal self.old.state.heap txn rid row) (change_refusal self.old.state txn rid row) (OnRows (Updates txn rid row)) self.old.state result self.new.state }
+        ensures updated { Answered (change_refusal self.old.state txn rid row) (OnRows (Updates txn rid row)) self.old.state result self.new.state }
+        ensures works { (building : BuildingValue) → WorksOn self.old building → WorksOn self.new building }
+    {
+        self.check_update(txn, rid, &row)?;
+        self.update_free(txn, rid, row)
+    }
+
+    /// The same where nothing refuses the row.
+    pub(crate) fn update_free(
+        &mut self,
+        txn: u64,
+        rid: Rid,
+        row: Row,
+    ) -> Result<(usize, Rid), Fault>
+        requires { change_refusal self.old.state txn rid row ≡ None }
+        ensures updated { Answered (change_refusal self.old.state txn rid row) (OnRows (Updates txn rid row)) self.old.state result self.new.state }
         ensures works { (building : BuildingValue) → WorksOn self.old building → WorksOn self.new building }
     {
         let ready = self.heap.ready_update(txn, rid, row)?;
-        check_change(&self.ready, &self.guards, &self.heap, &ready)?;
         changes::write(
             &mut self.ready,
             &mut self.guards,

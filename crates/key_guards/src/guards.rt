@@ -90,6 +90,15 @@ fn other_txn(txns: &Vec<TxnGuards>, txn: u64, key: &Key) -> Option<u64>
         .map(|t| t.txn())
 }
 
+/// The same of a key that is given as bytes.
+fn other_txn_of_bytes(txns: &Vec<TxnGuards>, txn: u64, bytes: &[u8]) -> Option<u64>
+    ensures { result ≡ other_in txns.now.items txn bytes.now }
+{
+    txns.iter()
+        .find(|t| !(t.txn() == txn) && t.has_bytes(bytes))
+        .map(|t| t.txn())
+}
+
 impl Guards {
     /// For an index whose keys are unique, at a moment when no open transaction has a standing write.
     pub fn new(alloc: Global) -> Guards
@@ -115,6 +124,13 @@ impl Guards {
         ensures { (spec : KeySpecValue) (s : HeapState) → HoldsFollowLog s → IsGuarded spec s.log self.now → result ≡ other_guard spec s.log txn key.now }
     {
         other_txn(&self.txns, txn, key)
+    }
+
+    /// The same of a key that is given as bytes, for want of the memory for a key: it looks at each key that is guarded.
+    pub fn other_of_bytes(&self, txn: u64, bytes: &[u8]) -> Option<u64>
+        ensures { (spec : KeySpecValue) (s : HeapState) → HoldsFollowLog s → IsGuarded spec s.log self.now → result ≡ other_guard spec s.log txn bytes.now }
+    {
+        other_txn_of_bytes(&self.txns, txn, bytes)
     }
 
     /// Takes the memory to guard the key for the transaction. What no write uses stays until the transaction is forgotten.

@@ -56,6 +56,13 @@ impl TxnGuards {
         self.counts.count(key) > 0
     }
 
+    /// The same of a key that is given as bytes: each key is looked at.
+    pub fn has_bytes(&self, bytes: &[u8]) -> bool
+        ensures { result ≡ has_taken bytes.now self.now.taken }
+    {
+        self.taken.iter().any(|taken| taken.key.bytes() == bytes)
+    }
+
     pub fn make_room(&mut self, key: &Key) -> Result<(), Fault>
         ensures room { OnOk result (CanTake key.now self.new) }
         ensures memory { IfErr result (λ fault. fault ≡ Fault.Memory) }

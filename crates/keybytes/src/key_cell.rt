@@ -8,8 +8,9 @@ ghost use Rattle.std.specs.Prelude.{◌≡◌, ◌+◌, ◌≤◌, ◌++◌, Lis
 ghost use Rattle.keybytes.specs.Keys.{cell_key, text_key, BeginsWithCellKey, BeginsWithTextKey};
 ghost use Rattle.keybytes.specs.declared.cell.Cell.{Cell};
 
-use crate::{Cell, Fault, Key, Kind, Text};
+use crate::{Cell, Fault, Kind, Text};
 use byteorder::{BigEndian, ByteOrder};
+use smallvec::SmallVec;
 use std::alloc::Global;
 
 /// The tag of Null.
@@ -30,43 +31,54 @@ const SIGN: u64 = 1 << 63;
 /// The bytes of a number behind its tag.
 const INT_LEN: usize = 8;
 
-/// Puts the cell's bytes behind the key; after an `Err` some of them stand there.
-pub fn add_cell(key: &mut Key, cell: &Cell) -> Result<(), Fault>
-    requires { length key.old + length (cell_key cell.now) ≤ 812 }
-    ensures ok { OnOk result (key.new ≡ key.old ++ cell_key cell.now) }
+/// Puts the cell's bytes behind those of the key that are there, and takes memory only where they have no room; after an `Err` some of
+/// them stand there.
+pub fn add_cell<const N: usize>(key: &mut SmallVec<u8, N>, cell: &Cell) -> Result<(), Fault>
+    ensures ok { OnOk result (key.new.items ≡ key.old.items ++ cell_key cell.now) }
     ensures memory { IfErr result (λ fault. fault ≡ Fault.Memory) }
-    ensures inline { length key.old + length (cell_key cell.now) ≤ 24 → IsOk result }
+    ensures room { length key.old.items + length (cell_key cell.now) ≤ key.old.capacity → IsOk result }
+    ensures capacity { key.old.capacity ≤ key.new.capacity }
 {
     match cell {
-        Cell::Null => key.add(&[NULL]),
+        Cell::Null => add(key, &[NULL]),
         Cell::Int(number) => {
             let mut bytes = [VALUE; 1 + INT_LEN];
             let raised = number.cast_unsigned().wrapping_add(SIGN);
             BigEndian::write_u64(&mut bytes[1..], raised);
-            key.add(&bytes)
+            add(key, &bytes)
         }
         Cell::Text(text) => {
-            key.add(&[VALUE])?;
+            add(key, &[VALUE])?;
             add_text(key, text.as_str().as_bytes())
         }
-        Cell::Flag(flag) => key.add(&[VALUE, u8::from(*flag)]),
+        Cell::Flag(flag) => add(key, &[VALUE, u8::from(*flag)]),
     }
 }
 
-fn add_text(key: &mut Key, text: &[u8]) -> Result<(), Fault>
-    requires { length key.old + length (text_key text.now) ≤ 812 }
-    ensures ok { OnOk result (key.new ≡ key.old ++ text_key text.now) }
+fn add_text<const N: usize>(key: &mut SmallVec<u8, N>, text: &[u8]) -> Result<(), Fault>
+    ensures ok { OnOk result (key.new.items ≡ key.old.items ++ text_key text.now) }
     ensures memory { IfErr result (λ fault. fault ≡ Fault.Memory) }
-    ensures inline { length key.old + length (text_key text.now) ≤ 24 → IsOk result }
+    ensures room { length key.old.items + length (text_key text.now) ≤ key.old.capacity → IsOk result }
+    ensures capacity { key.old.capacity ≤ key.new.capacity }
 {
     for byte in text {
         if *byte == 0 {
-            key.add(&[0, OWN_ZERO])?;
+            add(key, &[0, OWN_ZERO])?;
         } else {
-            key.add(&[*byte])?;
+            add(key, &[*byte])?;
         }
     }
-    key.add(&[0, TEXT_END])
+    add(key, &[0, TEXT_END])
+}
+
+fn add<const N: usize>(key: &mut SmallVec<u8, N>, bytes: &[u8]) -> Result<(), Fault>
+    ensures ok { OnOk result (key.new.items ≡ key.old.items ++ bytes.now) }
+    ensures memory { IfErr result (λ fault. fault ≡ Fault.Memory) }
+    ensures room { length key.old.items + length bytes.now ≤ key.old.capacity → IsOk result }
+    ensures capacity { key.old.capacity ≤ key.new.capacity }
+{
+    key.extend_from_slice(bytes)?;
+    Ok(())
 }
 
 /// The cell of a column of that kind whose bytes stand in front, and how many they are.

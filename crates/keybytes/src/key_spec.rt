@@ -1,11 +1,12 @@
-ghost use Rattle.std.specs.Prelude.{◌≡◌, ◌≤◌, ◌↔◌, List, IsTrue, IsOk, IfOk, IfErr, OnOk, true, None, length};
+ghost use Rattle.std.specs.Prelude.{◌≡◌, ◌≤◌, ◌↔◌, List, [], IsTrue, IsOk, IfOk, IfErr, OnOk, true, None, length};
 ghost use Rattle.keybytes.specs.Cells.{fits};
 ghost use Rattle.keybytes.specs.Faults.{RefusedFor};
 ghost use Rattle.keybytes.specs.Keys.{are_key_columns, key_columns, key_columns_refusal, key_of, HasKey, IsKeyOf, IsRowOf, StandsForColumns};
 ghost use Rattle.keybytes.specs.declared.cell.Cell.{Cell};
 
 use crate::key_cell::{add_cell, read_cell};
-use crate::{Cell, Fault, Key, Kind, Row, Schema};
+use crate::{Cell, Fault, Key, KeyInPlace, Kind, Row, Schema};
+use smallvec::SmallVec;
 use std::alloc::Global;
 use std::marker::Model;
 
@@ -105,12 +106,40 @@ impl KeySpec {
         ensures memory { IfErr result (λ fault. fault ≡ Fault.Memory) }
         ensures inline { length (key_of self.now row.now) ≤ 24 → IsOk result }
     {
-        let cells = row.cells();
-        let mut key = Key::new(*self.kinds.allocator());
-        for column in &self.columns {
-            add_cell(&mut key, &cells[*column])?;
+        let mut bytes = SmallVec::new(*self.kinds.allocator());
+        self.write(row, &mut bytes)?;
+        Ok(Key { bytes })
+    }
+
+    /// The bytes of the row's key, in place: for a moment when there is no memory for the key.
+    pub fn key_in_place(&self, row: &Row) -> KeyInPlace
+        requires { fits self.now.kinds row.now ≡ true }
+        ensures { result ≡ key_of self.now row.now }
+    {
+        let mut bytes = SmallVec::new(*self.kinds.allocator());
+        match self.write(row, &mut bytes) {
+            Ok(()) => KeyInPlace { bytes },
+            Err(_) => unreachable!(),
         }
-        Ok(key)
+    }
+
+    /// Writes the bytes of the row's key, and takes memory only where they have no room.
+    fn write<const N: usize>(&self, row: &Row, bytes: &mut SmallVec<u8, N>) -> Result<(), Fault>
+        requires fits { fits self.now.kinds row.now ≡ true }
+        requires empty { bytes.old.items ≡ [] }
+        ensures value { OnOk result (bytes.new.items ≡ key_of self.now row.now) }
+        ensures memory { IfErr result (λ fault. fault ≡ Fault.Memory) }
+        ensures room { length (key_of self.now row.now) ≤ bytes.old.capacity → IsOk result }
+        ensures capacity { bytes.old.capacity ≤ bytes.new.capacity }
+        ensures size { length (key_of self.now row.now) ≤ 812 }
+        ensures laws { OnOk result (StandsForColumns self.now row.now (key_of self.now row.now)) }
+        ensures is_key { OnOk result (IsKeyOf self.now (key_of self.now row.now)) }
+    {
+        let cells = row.cells();
+        for column in &self.columns {
+            add_cell(bytes, &cells[*column])?;
+        }
+        Ok(())
     }
 
     /// The columns that a key of this specification stands for, in the key's order.

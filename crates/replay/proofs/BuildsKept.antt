@@ -8,7 +8,7 @@ use Rattle.heap_log.specs.Standing.{newest_standing}
 use Rattle.heap_table.specs.HeapState.{HeapState, after_step, after_fence}
 use Rattle.builder_core.specs.CoreState.{CoreState, LiveState, BuildState, IndexState, WorkState, SpoolsState, idle, opening, with_heap, with_live}
 use Rattle.builder_core.specs.Steps.{AfterWant, AreFurther, CatchesUp, Does, OnBuild, Step, after_apply, after_digest, after_feed, after_load, after_scan, after_seal, after_switch_in}
-use Rattle.builder_core.specs.Steps.{build_cause, early_refusal, fenced, load_refusal, next_applied, next_copies, next_fed, pairs_copied, refusal, spoiled_by, verdicts_on, worker_refusal}
+use Rattle.builder_core.specs.Steps.{build_cause, fenced, load_refusal, next_applied, next_copies, next_fed, pairs_copied, refusal, spoiled_by, verdicts_on, worker_refusal}
 use Rattle.builder_core.specs.Ranges.{next_page}
 use Rattle.builder_core.specs.Workers.{index_at, waiting}
 use Rattle.std.specs.List.{slice_get}
@@ -153,7 +153,7 @@ done_keeps Fence old new told keeps none done = on_fence old new none done.1
 done_keeps Switch old new told keeps none done = absurd keeps
 done_keeps Abandon old new told keeps none done = absurd keeps
 
-want_keeps : (event : Event) (old new : CoreState) (fault : Fault) → KeepsBuild event → early_refusal old event ≡ None → AfterWant event fault old new
+want_keeps : (event : Event) (old new : CoreState) (fault : Fault) → KeepsBuild event → refusal old event ≡ None → AfterWant event fault old new
     → IsKept old new
 want_keeps Begin old new fault keeps none after = unchanged old new after
 want_keeps (Insert txn row) old new fault keeps none after = unchanged old new after

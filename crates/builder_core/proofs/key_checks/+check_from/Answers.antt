@@ -1,10 +1,10 @@
-use Rattle.std.proofs.Common.{◌+◌, Some, length, ap, sym, ◌∙◌, subst, arith}
+use Rattle.std.proofs.Common.{◌≡◌, ◌+◌, Some, length, ap, sym, ◌∙◌, subst, arith}
 use Rattle.std.proofs.lemmas.Result.{IfErr-weaker, on_ok_weaker, err_from_is_err_and}
 use Rattle.heap_log.specs.Standing.{live_at}
 use Rattle.keybytes.specs.Faults.{first_cause}
 use Rattle.builder_core.proofs.EachGuarded.{both_guarded, rest_indexes}
 use Rattle.builder_core.proofs.KeysAsked.{first_fault, second_fault}
-use Rattle.builder_core.specs.KeyCauses.{keys_refusal, index_cause, IsKeyFault}
+use Rattle.builder_core.specs.KeyCauses.{keys_refusal, index_cause}
 use Rattle.builder_core.proofs.key_checks.+check_from.Goals as goal
 
 pub returns-in_err-check_index-clause-refused : goal.returns-in_err-check_index-clause-refused
@@ -15,8 +15,8 @@ returns-in_err-check_index-clause-refused t c =
     let first = index_cause c.args.number c.in-Some-Some.index.now.spec log c.args.txn old new in
     let second = keys_refusal (c.args.number + 1) c.in-Some-Some.rest.now log c.args.txn old new in
     let told = err_from_is_err_and c.from_residual.result c.from_residual.ensures.1 in
-    rw (told.1) (subst (λ ready. IsKeyFault (keys_refusal c.args.number ready log c.args.txn old new) told.0) (sym c.in-Some-Some.ensures.cases.0)
-    (first_fault first second told.0 (subst (IsKeyFault first) (sym told.2) c.in_err-check_index.ensures.refused)))
+    rw (told.1) (subst (λ ready. keys_refusal c.args.number ready log c.args.txn old new ≡ Some told.0) (sym c.in-Some-Some.ensures.cases.0)
+    (first_fault first second told.0 (subst (λ fault. first ≡ Some fault) (sym told.2) c.in_err-check_index.ensures.refused)))
 
 pub returns-clause-accepted : goal.returns-clause-accepted
 returns-clause-accepted t c =
@@ -35,8 +35,8 @@ returns-clause-refused t c =
     let is = c.in-Some-Some.ensures.cases.0 in
     let first = index_cause c.args.number c.in-Some-Some.index.now.spec log c.args.txn old new in
     let second = keys_refusal (c.args.number + 1) c.in-Some-Some.rest.now log c.args.txn old new in
-    IfErr-weaker c.check_from.result (λ fault. IsKeyFault second fault) (λ fault. IsKeyFault (keys_refusal c.args.number c.args.indexes.now log c.args.txn old new) fault)
-    (λ fault is_second. subst (λ ready. IsKeyFault (keys_refusal c.args.number ready log c.args.txn old new) fault) (sym is)
+    IfErr-weaker c.check_from.result (λ fault. second ≡ Some fault) (λ fault. keys_refusal c.args.number c.args.indexes.now log c.args.txn old new ≡ Some fault)
+    (λ fault is_second. subst (λ ready. keys_refusal c.args.number ready log c.args.txn old new ≡ Some fault) (sym is)
     (second_fault first second fault c.in_ok-check_index.ensures.accepted is_second)) c.check_from.ensures.refused
 
 pub check_from-requires : goal.check_from-requires

@@ -1,14 +1,14 @@
-use Rattle.std.proofs.Common.{◌≡◌, ℕ, ◌<◌, ◌≤◌, true, List, length, take, take_all, get_or, map, slice_index_or, sym, ap, ap₂, ◌∙◌, subst, arith}
+use Rattle.std.proofs.Common.{◌≡◌, ℕ, ◌<◌, ◌≤◌, true, List, length, take, take_all, get_or, map, slice_index_or, ap, ap₂, ◌∙◌, subst, refl, arith}
 use Rattle.std.proofs.lemmas.Bool.{false≢true}
 use Rattle.keybytes.specs.Cells.{fits}
-use Rattle.keybytes.specs.Keys.{KeySpecValue, are_key_columns, key_bytes, key_of, IsRowOf, StandsForColumns}
+use Rattle.keybytes.specs.Keys.{KeySpecValue, are_key_columns, key_bytes, key_of, IsRowOf}
 use Rattle.keybytes.specs.Rows.{IsRow}
 use Rattle.keybytes.specs.declared.cell.Cell.{Cell}
 use Rattle.keybytes.specs.declared.cell.Cell.TheVariants.{Null}
 use Rattle.keybytes.proofs.KeyLaws.{key_of-laws}
 use Rattle.keybytes.proofs.KeyWrites.{column-within, length-key_of, column-more, column-room}
 use Rattle.keybytes.proofs.Spelling.{length-fits}
-use Rattle.keybytes.proofs.key_spec.KeySpec.key.Goals as goal
+use Rattle.keybytes.proofs.key_spec.KeySpec.write.Goals as goal
 
 -- the column at a place of the specification is one of the row's
 there : (spec inside : KeySpecValue) (row cells : List Cell) (items : List ℕ) (i : ℕ) → inside ≡ spec → are_key_columns inside.kinds inside.columns ≡ true
@@ -39,59 +39,54 @@ done spec inside row cells items i key is_spec is_items is_cells written ended =
     ∙ whole spec inside row cells items is_spec is_items is_cells
 
 pub offset_bounds-cells-column : goal.offset_bounds-cells-column
-offset_bounds-cells-column c =
+offset_bounds-cells-column g c =
     let within = there c.args.self.now _ c.args.row.now _ _ _ c.self.view_is c.self.invariant c.deref-column-items.ensures.value c.cells-cells.ensures.cells
-    c.requires c.loop-column-test.true in
+    c.requires.fits c.loop-column-test.true in
     omega (arith, within, ap length c.cells-cells.ensures.cells, c.cells-cells.ensures.row.few)
 
 pub bounds-cells-column : goal.bounds-cells-column
-bounds-cells-column c =
-    there c.args.self.now _ c.args.row.now _ _ _ c.self.view_is c.self.invariant c.deref-column-items.ensures.value c.cells-cells.ensures.cells c.requires
-    c.loop-column-test.true
+bounds-cells-column g c =
+    there c.args.self.now _ c.args.row.now _ _ _ c.self.view_is c.self.invariant c.deref-column-items.ensures.value c.cells-cells.ensures.cells
+    c.requires.fits c.loop-column-test.true
 
-pub add_cell-requires : goal.add_cell-requires
-add_cell-requires c =
+pub returns-in_err-add_cell-clause-room : goal.returns-in_err-add_cell-clause-room
+returns-in_err-add_cell-clause-room g c enough =
     let within = there c.args.self.now _ c.args.row.now _ _ _ c.self.view_is c.self.invariant c.deref-column-items.ensures.value c.cells-cells.ensures.cells
-    c.requires c.loop-column-test.true in
-    let room = column-room _ _ _ _ _ c.loop-column.invariant c.loop-column-test.true within c.index-cells-column.is in
+    c.requires.fits c.loop-column-test.true in
+    let need = column-room _ _ _ _ _ c.loop-column.invariant.written c.loop-column-test.true within c.index-cells-column.is in
     let all = whole c.args.self.now _ c.args.row.now _ _ c.self.view_is c.deref-column-items.ensures.value c.cells-cells.ensures.cells in
-    omega (arith, room, ap length all, size c.args.self.now _ c.args.row.now c.self.view_is c.self.invariant c.cells-cells.ensures.row)
+    absurd (false≢true (c.in_err-add_cell.ensures.room (omega (arith, need, ap length all, enough, c.loop-column.invariant.room))))
 
-pub returns-in_err-add_cell-clause-inline : goal.returns-in_err-add_cell-clause-inline
-returns-in_err-add_cell-clause-inline c short =
-    let within = there c.args.self.now _ c.args.row.now _ _ _ c.self.view_is c.self.invariant c.deref-column-items.ensures.value c.cells-cells.ensures.cells
-    c.requires c.loop-column-test.true in
-    let room = column-room _ _ _ _ _ c.loop-column.invariant c.loop-column-test.true within c.index-cells-column.is in
-    let all = whole c.args.self.now _ c.args.row.now _ _ c.self.view_is c.deref-column-items.ensures.value c.cells-cells.ensures.cells in
-    absurd (false≢true (c.in_err-add_cell.ensures.inline (omega (arith, room, ap length all, short))))
+pub returns-in_err-add_cell-clause-size : goal.returns-in_err-add_cell-clause-size
+returns-in_err-add_cell-clause-size g c = size c.args.self.now _ c.args.row.now c.self.view_is c.self.invariant c.cells-cells.ensures.row
 
 pub loop-column-preserved : goal.loop-column-preserved
-loop-column-preserved c =
+loop-column-preserved g c =
     let within = there c.args.self.now _ c.args.row.now _ _ _ c.self.view_is c.self.invariant c.deref-column-items.ensures.value c.cells-cells.ensures.cells
-    c.requires c.loop-column-test.true in
-    c.in_ok-add_cell.ensures.ok ∙ column-more _ _ _ _ _ c.loop-column.invariant c.loop-column-test.true within c.index-cells-column.is
+    c.requires.fits c.loop-column-test.true in
+    record {
+      written = c.in_ok-add_cell.ensures.ok ∙ column-more _ _ _ _ _ c.loop-column.invariant.written c.loop-column-test.true within c.index-cells-column.is;
+      room = omega (arith, c.loop-column.invariant.room, c.in_ok-add_cell.ensures.capacity);
+    }
+
+pub returns-clause-value : goal.returns-clause-value
+returns-clause-value g c =
+    done c.args.self.now _ c.args.row.now _ _ _ _ c.self.view_is c.deref-column-items.ensures.value c.cells-cells.ensures.cells
+    c.loop-column.invariant.written c.loop-column-test.false
 
 pub returns-clause-size : goal.returns-clause-size
-returns-clause-size c =
-    let is_key = done c.args.self.now _ c.args.row.now _ _ _ _ c.self.view_is c.deref-column-items.ensures.value c.cells-cells.ensures.cells
-    c.loop-column.invariant c.loop-column-test.false in
-    omega (arith, ap length is_key, size c.args.self.now _ c.args.row.now c.self.view_is c.self.invariant c.cells-cells.ensures.row)
+returns-clause-size g c = size c.args.self.now _ c.args.row.now c.self.view_is c.self.invariant c.cells-cells.ensures.row
 
 -- what the key has by the laws, and that its columns are the row's
 held : (spec inside : KeySpecValue) → inside ≡ spec → are_key_columns inside.kinds inside.columns ≡ true → are_key_columns spec.kinds spec.columns ≡ true
 held spec inside is_spec there = subst (λ (s : KeySpecValue). are_key_columns s.kinds s.columns ≡ true) is_spec there
 
 pub returns-clause-laws : goal.returns-clause-laws
-returns-clause-laws c =
-    let is_key = done c.args.self.now _ c.args.row.now _ _ _ _ c.self.view_is c.deref-column-items.ensures.value c.cells-cells.ensures.cells
-    c.loop-column.invariant c.loop-column-test.false in
-    let is_row : IsRowOf c.args.self.now c.args.row.now = record { is_row = c.cells-cells.ensures.row; fits_kinds = c.requires } in
-    subst (StandsForColumns c.args.self.now c.args.row.now) (sym is_key)
-    (key_of-laws c.args.self.now c.args.row.now (held c.args.self.now _ c.self.view_is c.self.invariant) is_row)
+returns-clause-laws g c =
+    key_of-laws c.args.self.now c.args.row.now (held c.args.self.now _ c.self.view_is c.self.invariant)
+    (record { is_row = c.cells-cells.ensures.row; fits_kinds = c.requires.fits })
 
 pub returns-clause-is_key : goal.returns-clause-is_key
-returns-clause-is_key c =
-    let is_key = done c.args.self.now _ c.args.row.now _ _ _ _ c.self.view_is c.deref-column-items.ensures.value c.cells-cells.ensures.cells
-    c.loop-column.invariant c.loop-column-test.false in
-    let is_row : IsRowOf c.args.self.now c.args.row.now = record { is_row = c.cells-cells.ensures.row; fits_kinds = c.requires } in
-    (c.args.row.now, (is_row, sym is_key))
+returns-clause-is_key g c =
+    let is_row : IsRowOf c.args.self.now c.args.row.now = record { is_row = c.cells-cells.ensures.row; fits_kinds = c.requires.fits } in
+    (c.args.row.now, (is_row, refl))
