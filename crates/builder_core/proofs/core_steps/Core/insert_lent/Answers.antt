@@ -1,5 +1,6 @@
-use Rattle.std.proofs.Common.{◌≡◌, None, List, sym, subst}
+use Rattle.std.proofs.Common.{◌≡◌, ℕ, None, List, sym, subst}
 use Rattle.keybytes.specs.declared.cell.Cell.{Cell}
+use Rattle.keybytes.specs.declared.rid.Rid.{Rid}
 use Rattle.heap_table.specs.Calls.{Inserts}
 use Rattle.builder_core.specs.KeyCauses.{row_refusal}
 use Rattle.builder_core.specs.CoreState.{CoreState}
@@ -15,7 +16,7 @@ insert_free-requires g c =
 pub returns : goal.returns
 returns g c =
     let row = c.args.row.now in
-    let written = (c.in_ok-number.number, c.in_ok-number.rid) in
+    let written : ℕ × Rid = (c.in_ok-number.number, c.in_ok-number.rid) in
     let does = subst (λ (cells : List Cell). OnRows (Inserts c.args.txn cells) c.self.inside.live.state written c.insert_free.new.self.state) c.in_ok-clone.ensures.same
     c.in_ok-number.ensures.inserted.1 in (
       subst (λ (s : CoreState). row_refusal s.live c.args.txn row ≡ None) c.self.view_is c.in_ok-check_insert.ensures.accepted,
