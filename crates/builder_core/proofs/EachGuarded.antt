@@ -79,9 +79,9 @@ pub no_row_is_let_in :
 no_row_is_let_in number [] log txn old = refl
 no_row_is_let_in number (index ∷ ready) log txn old =
     by_test (keys_refusal (number + 1) ready log txn old None) (no_row_is_let_in (number + 1) ready log txn old) index.spec.unique where
-  by_test : (rest : Option Fault) → rest ≡ None → (t : Bool) → first_cause (if t then None else None) rest ≡ None
-  by_test rest none true = none
-  by_test rest none false = none
+      by_test : (rest : Option Fault) → rest ≡ None → (t : Bool) → first_cause (if t then None else None) rest ≡ None
+      by_test rest none true = none
+      by_test rest none false = none
 
 -- what holds of all holds of the first and of the others
 pub rest_indexes :

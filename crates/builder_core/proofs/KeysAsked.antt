@@ -73,11 +73,11 @@ row_with spec log key rid found =
     sym (all_listed spec log (written_rids log) (row_written log) q) ∙ sym (in_set q (filter_map (pair_at spec log) (written_rids log)))
     ∙ found_in (λ pair. bytes_eq pair.key key) (pairs_at_rest spec log) q it.1 in
     subst (λ r. has_key spec key (live_at log r) ≡ true) it.2 (at q passes (live_at log q.rid) there) where
-  at : (q : Pair) → bytes_eq q.key key ≡ true → (row : Option (List Cell)) → is_pair (pair_with spec q.rid row) q ≡ true → has_key spec key row ≡ true
-  at q passes None there = absurd (false≢true there)
-  at q passes (Some cells) there =
-      let same : q ≡ record { key = key_of spec cells; rid = q.rid } = tied_pairs q _ there in
-      ap (λ (p : Pair). bytes_eq p.key key) (sym same) ∙ passes
+      at : (q : Pair) → bytes_eq q.key key ≡ true → (row : Option (List Cell)) → is_pair (pair_with spec q.rid row) q ≡ true → has_key spec key row ≡ true
+      at q passes None there = absurd (false≢true there)
+      at q passes (Some cells) there =
+          let same : q ≡ record { key = key_of spec cells; rid = q.rid } = tied_pairs q _ there in
+          ap (λ (p : Pair). bytes_eq p.key key) (sym same) ∙ passes
 
 -- what the tree answers is the row that has the key
 pub found_row : (index : ReadyValue) (pairs : List Pair) (log : List LogRec) (key : List ℕ) (cells : List Cell) (rid : Option Rid) → key ≡ key_of index.spec cells

@@ -88,13 +88,13 @@ module _ (old seen : BuildingValue) (work held : WorkValue) (same : seen ≡ old
       ≡ record old { spools = ended_column index (length work.specs) old.spools; work = Some (with_index work index built.pairs 0) }
   left_sorted index spools built ended number unique =
       rw (ended, same, is) (ap₂ of_build (number ∙ ap (λ (w : WorkValue). w.build) is) (unique ∙ ap (λ (w : WorkValue). is_unique (slice_get w.specs index)) is)) where
-    of_build : ℕ → Bool → BuildingValue
-    of_build n tallied = record old {
-      spools = ended_column index (length work.specs) old.spools;
-      work = Some (record work {
-        indexes = set work.indexes index (record { built = Some (record { build = n; unique = tallied; pairs = built.pairs }); applied = 0 });
-      });
-    }
+        of_build : ℕ → Bool → BuildingValue
+        of_build n tallied = record old {
+          spools = ended_column index (length work.specs) old.spools;
+          work = Some (record work {
+            indexes = set work.indexes index (record { built = Some (record { build = n; unique = tallied; pairs = built.pairs }); applied = 0 });
+          });
+        }
 
   -- its pairs can be put in order
   pub can_load : (index : ℕ) → CanLoad index old → CanSort index work seen.spools

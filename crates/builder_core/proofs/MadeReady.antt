@@ -88,18 +88,18 @@ pub may_guard :
 may_guard heap [] free = All-nil _
 may_guard heap (spec ∷ specs) free =
     by_verdict (accepts (verdict_on heap.log spec)) refl (may_guard heap specs (λ k s at. free (suc k) s at)) where
-  May : List ReadyValue → Type 0
-  May ready = All (λ (index : ReadyValue). MayBeGuarded heap index.spec) ready
+      May : List ReadyValue → Type 0
+      May ready = All (λ (index : ReadyValue). MayBeGuarded heap index.spec) ready
 
-  made : List KeySpecValue → List ReadyValue
-  made = map (index_now heap.log)
+      made : List KeySpecValue → List ReadyValue
+      made = map (index_now heap.log)
 
-  by_verdict : (b : Bool) → accepts (verdict_on heap.log spec) ≡ b → May (made (accepted heap.log specs)) → May (made (accepted heap.log (spec ∷ specs)))
-  by_verdict true takes rest =
-      let first : MayBeGuarded heap spec = λ unique. (free 0 spec refl unique, own_keys _ (unique_of _ _ (verdict_is_right heap.log spec unique) takes)) in
-      subst (λ (ss : List KeySpecValue). May (made ss)) (sym (accepted_more heap.log spec specs takes))
-      (All-cons (λ (index : ReadyValue). MayBeGuarded heap index.spec) (index_now heap.log spec) (made (accepted heap.log specs)) first rest)
-  by_verdict false drops rest = subst (λ (ss : List KeySpecValue). May (made ss)) (sym (accepted_same heap.log spec specs drops)) rest
+      by_verdict : (b : Bool) → accepts (verdict_on heap.log spec) ≡ b → May (made (accepted heap.log specs)) → May (made (accepted heap.log (spec ∷ specs)))
+      by_verdict true takes rest =
+          let first : MayBeGuarded heap spec = λ unique. (free 0 spec refl unique, own_keys _ (unique_of _ _ (verdict_is_right heap.log spec unique) takes)) in
+          subst (λ (ss : List KeySpecValue). May (made ss)) (sym (accepted_more heap.log spec specs takes))
+          (All-cons (λ (index : ReadyValue). MayBeGuarded heap index.spec) (index_now heap.log spec) (made (accepted heap.log specs)) first rest)
+      by_verdict false drops rest = subst (λ (ss : List KeySpecValue). May (made ss)) (sym (accepted_same heap.log spec specs drops)) rest
 
 any_unique :
     (specs : List KeySpecValue) (k : ℕ) (spec : KeySpecValue) → slice_get specs k ≡ Some spec → spec.unique ≡ true

@@ -88,23 +88,23 @@ ready_are log [] indexes many each = refl
 ready_are log (spec ∷ specs) [] many each = absurd (cc)
 ready_are log (spec ∷ specs) (index ∷ indexes) many each =
     by_verdict (accepts (verdict_on log spec)) refl (ready_are log specs indexes (omega (arith, many)) (λ k s i at there. each (suc k) s i at there)) where
-  here : IsAtRest log spec index
-  here = each 0 spec index refl refl
+      here : IsAtRest log spec index
+      here = each 0 spec index refl refl
 
-  told : accepts (its_verdict index) ≡ accepts (verdict_on log spec)
-  told = ap accepts (verdict_is log spec index here)
+      told : accepts (its_verdict index) ≡ accepts (verdict_on log spec)
+      told = ap accepts (verdict_is log spec index here)
 
-  by_verdict :
-      (b : Bool) → accepts (verdict_on log spec) ≡ b → ready_of specs indexes ≡ map (index_now log) (accepted log specs)
-      → ready_of (spec ∷ specs) (index ∷ indexes) ≡ map (index_now log) (accepted log (spec ∷ specs))
-  by_verdict true takes rest =
-      let pairs : built_pairs index.built ≡ pairs_at_rest spec log = ap built_pairs here.there ∙ here.pairs in
-      ready_more (spec ∷ specs) specs (index ∷ indexes) indexes spec index refl refl (told ∙ takes)
-      ∙ ap₂ (λ (ps : List Pair) (more : List ReadyValue). record { spec = spec; pairs = ps } ∷ more) pairs rest
-      ∙ sym (ap (map (index_now log)) (accepted_more log spec specs takes))
-  by_verdict false drops rest =
-      ready_same (spec ∷ specs) specs (index ∷ indexes) indexes spec index refl refl (told ∙ drops) ∙ rest
-      ∙ sym (ap (map (index_now log)) (accepted_same log spec specs drops))
+      by_verdict :
+          (b : Bool) → accepts (verdict_on log spec) ≡ b → ready_of specs indexes ≡ map (index_now log) (accepted log specs)
+          → ready_of (spec ∷ specs) (index ∷ indexes) ≡ map (index_now log) (accepted log (spec ∷ specs))
+      by_verdict true takes rest =
+          let pairs : built_pairs index.built ≡ pairs_at_rest spec log = ap built_pairs here.there ∙ here.pairs in
+          ready_more (spec ∷ specs) specs (index ∷ indexes) indexes spec index refl refl (told ∙ takes)
+          ∙ ap₂ (λ (ps : List Pair) (more : List ReadyValue). record { spec = spec; pairs = ps } ∷ more) pairs rest
+          ∙ sym (ap (map (index_now log)) (accepted_more log spec specs takes))
+      by_verdict false drops rest =
+          ready_same (spec ∷ specs) specs (index ∷ indexes) indexes spec index refl refl (told ∙ drops) ∙ rest
+          ∙ sym (ap (map (index_now log)) (accepted_same log spec specs drops))
 
 module _
     (live : LiveValue) (building : BuildingValue) (b : BuildState) (w : WorkValue) (run : IsRunning live building b w)

@@ -230,19 +230,19 @@ told_at log (x ∷ specs) first zero spec it at there =
     }
 told_at log (x ∷ specs) first (suc i) spec it at there =
     by_verdict (accepts (verdict_on log x)) refl (told_at log specs (next_number first (verdict_on log x)) i spec it at there) where
-  by_verdict : (b : Bool) → accepts (verdict_on log x) ≡ b → IsTold log specs (next_number first (verdict_on log x)) spec it → IsTold log (x ∷ specs) first spec it
-  by_verdict true takes rest = record {
-    before = suc rest.before;
-    is = rest.is
-        ∙ ap (λ n. outcome (n + rest.before) (verdict_on log spec)) (cond-true (accepts (verdict_on log x)) (first + 1) first takes)
-        ∙ ap (λ n. outcome n (verdict_on log spec)) (let next : (first + 1) + rest.before ≡ first + suc rest.before = omega arith in next);
-    there = λ own. ap (λ (ss : List KeySpecValue). slice_get (map (index_now log) ss) (suc rest.before)) (accepted_more log x specs takes) ∙ rest.there own;
-  }
-  by_verdict false drops rest = record {
-    before = rest.before;
-    is = rest.is ∙ ap (λ n. outcome (n + rest.before) (verdict_on log spec)) (cond-false (accepts (verdict_on log x)) (first + 1) first drops);
-    there = λ own. ap (λ (ss : List KeySpecValue). slice_get (map (index_now log) ss) rest.before) (accepted_same log x specs drops) ∙ rest.there own;
-  }
+      by_verdict : (b : Bool) → accepts (verdict_on log x) ≡ b → IsTold log specs (next_number first (verdict_on log x)) spec it → IsTold log (x ∷ specs) first spec it
+      by_verdict true takes rest = record {
+        before = suc rest.before;
+        is = rest.is
+            ∙ ap (λ n. outcome (n + rest.before) (verdict_on log spec)) (cond-true (accepts (verdict_on log x)) (first + 1) first takes)
+            ∙ ap (λ n. outcome n (verdict_on log spec)) (let next : (first + 1) + rest.before ≡ first + suc rest.before = omega arith in next);
+        there = λ own. ap (λ (ss : List KeySpecValue). slice_get (map (index_now log) ss) (suc rest.before)) (accepted_more log x specs takes) ∙ rest.there own;
+      }
+      by_verdict false drops rest = record {
+        before = rest.before;
+        is = rest.is ∙ ap (λ n. outcome (n + rest.before) (verdict_on log spec)) (cond-false (accepts (verdict_on log x)) (first + 1) first drops);
+        there = λ own. ap (λ (ss : List KeySpecValue). slice_get (map (index_now log) ss) rest.before) (accepted_same log x specs drops) ∙ rest.there own;
+      }
 
 -- an index that is not unique shares no key
 unique_of_shared :
@@ -306,9 +306,11 @@ module _ (s : CoreState) (event : Event) (number : ℕ) (verdicts : List Outcome
   decided_by spec it told (Shared key first second) is =
       let log : List LogRec = s.live.heap.log in
       let unique = unique_of_shared log spec key first second is in
-      subst (IsDecided (first_records number end.live.heap.log) new.live.ready spec) (sym (told.is ∙ ap (outcome (length s.live.ready + told.before)) is))
-      (unique, subst (λ (pairs : List Pair). IsLeast pairs (record { key = key; rid = first }) (record { key = key; rid = second })) (at_rest_is spec)
-      (subst (IsVerdict (pairs_at_rest spec log)) is (verdict_is_right log spec unique)))
+      subst (IsDecided (first_records number end.live.heap.log) new.live.ready spec) (sym (told.is ∙ ap (outcome (length s.live.ready + told.before)) is)) (
+        unique,
+        subst (λ (pairs : List Pair). IsLeast pairs (record { key = key; rid = first }) (record { key = key; rid = second })) (at_rest_is spec)
+            (subst (IsVerdict (pairs_at_rest spec log)) is (verdict_is_right log spec unique)),
+      )
 
   right_is :
       (i : ℕ) (spec : KeySpecValue) (verdict : Outcome) → slice_get switch.build.specs i ≡ Some spec → slice_get verdicts i ≡ Some verdict

@@ -297,9 +297,8 @@ pub fn undo(
     ensures unchanged { OnErr result (heap.new ≡ heap.old) }
     ensures memory { IfErr result (λ fault. fault ≡ Fault.Memory) }
 {
-    let Performed::Undone(undone) = perform_with(
-        indexes, guards, heap, alloc, sides, build, ready,
-    )? else {
+    let Performed::Undone(undone) = perform_with(indexes, guards, heap, alloc, sides, build, ready)?
+    else {
         unreachable!()
     };
     Ok(undone)

@@ -149,7 +149,10 @@ fn ask_in_place(
     heap.laws();
     let key = index.spec.key_in_place(row);
     let bytes = key.bytes();
-    (index.tree.first_rid_of_bytes(bytes), guards.other_of_bytes(txn, bytes))
+    (
+        index.tree.first_rid_of_bytes(bytes),
+        guards.other_of_bytes(txn, bytes),
+    )
 }
 
 /// Another transaction may give the key back.

@@ -183,7 +183,13 @@ impl<T: Table> Live<T> {
             unreachable!()
         };
         let (specs, indexes) = (build.into_specs(), work.into_indexes());
-        make_ready(self.alloc, &mut self.ready, &mut self.guards, specs, indexes);
+        make_ready(
+            self.alloc,
+            &mut self.ready,
+            &mut self.guards,
+            specs,
+            indexes,
+        );
         guards_laws(&self.guards);
         end_spools(&mut building.spools);
         Ok(noted)

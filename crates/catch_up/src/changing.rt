@@ -22,12 +22,7 @@ pub fn make_room(tree: &mut Tree, build: u64, entry: &Entry) -> Result<(), Fault
 }
 
 /// Tells the tally, if one is kept, of the entry that the tree has next, where that is of this build.
-pub fn count(
-    tally: &mut Option<Tally>,
-    tree: &Tree,
-    build: u64,
-    entry: &Entry,
-) -> Result<(), Fault>
+pub fn count(tally: &mut Option<Tally>, tree: &Tree, build: u64, entry: &Entry) -> Result<(), Fault>
     requires { Tallies tally.old (set_of tree.now.pairs) }
     ensures told { OnOk result (entry.now.build ≡ build → Tallies tally.new (apply_entry (told entry.now) (set_of tree.now.pairs))) }
     ensures other { OnOk result (entry.now.build ≢ build → Tallies tally.new (set_of tree.now.pairs)) }

@@ -103,8 +103,10 @@ fn add_shared(
     ensures lists { OnOk result ((told : List SharedLine) × (lines.new.items ≡ lines.old.items ++ told) × ListsShared number specs.now verdicts.now told) }
     ensures memory { IfErr result (λ fault. fault ≡ Fault.Memory) }
 {
-    let (Some((spec, specs)), Some((verdict, verdicts))) = (specs.split_first(), verdicts.split_first())
-    else {
+    let (Some((spec, specs)), Some((verdict, verdicts))) = (
+        specs.split_first(),
+        verdicts.split_first(),
+    ) else {
         return Ok(());
     };
     if let Outcome::Shared { key, first, second } = verdict {

@@ -16,7 +16,7 @@ use crate::answer::Answer;
 use crate::bench::Bench;
 use crate::entry_line::EntryLine;
 use crate::labels::Labels;
-use crate::listing::{build_specs, entry_lines, pair_lines, tree_lines, shared_lines};
+use crate::listing::{build_specs, entry_lines, pair_lines, shared_lines, tree_lines};
 use crate::plan::{dealing_of, is_in_limits};
 use crate::status::Status;
 use crate::txn::{begin, put, take_back};
