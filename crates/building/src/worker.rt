@@ -127,6 +127,8 @@ impl Worker {
         ensures specs { maker.new.specs ≡ maker.old.specs }
         ensures build { self.new.build ≡ self.old.build }
         ensures end { self.new.end ≡ after_taking 1 self.old.end }
+        ensures uncounted { OnErr result (self.new.taken ≡ self.old.taken) }
+        ensures unsealed { self.new.sealed ≡ self.old.sealed }
         ensures fault { IfErr result (λ fault. (fault ≡ Fault.NoPage) ⊎ (fault ≡ Fault.Memory)) }
         ensures full { IfErr result (NoPageOnlyIf (HasFull S.is_full spools.new)) }
     {
@@ -160,6 +162,7 @@ impl Worker {
         ensures specs { maker.new.specs ≡ maker.old.specs }
         ensures build { self.new.build ≡ self.old.build }
         ensures ring { self.new.end.ring ≡ self.old.end.ring }
+        ensures unsealed { OnErr result (self.new.sealed ≡ self.old.sealed) }
         ensures failed { OnErr result ((n : ℕ) × (n ≤ length self.old.end.known) × (self.new.end ≡ after_taking n self.old.end)) }
         ensures fault { IfErr result (λ fault. (fault ≡ Fault.NoPage) ⊎ (fault ≡ Fault.Memory)) }
         ensures full { IfErr result (NoPageOnlyIf (HasFull S.is_full spools.new)) }
