@@ -1,4 +1,4 @@
-ghost use Rattle.std.specs.Prelude.{◌≡◌, ◌+◌, ◌<◌, [], length, take, true, false, IfOk, OnOk, OnErr, IfErr};
+ghost use Rattle.std.specs.Prelude.{◌≡◌, ◌+◌, ◌<◌, [], length, take, true, false, IsOk, IfOk, OnOk, OnErr, IfErr};
 ghost use Rattle.rtrb.specs.Ring.{known_items};
 ghost use Rattle.keybytes.specs.Pairs.{AreOrdered};
 ghost use Rattle.catch_up.specs.Applying.{Applied, Taken};
@@ -76,6 +76,7 @@ impl Built {
     /// Whether its keys are unique, and which is shared if they aren't; one that keeps no tally may share them. No walk over the pairs.
     pub fn verdict(&self) -> Result<Verdict, Fault>
         ensures told { IfOk result (λ verdict. verdict ≡ verdict_of self.now) }
+        ensures sure { self.now.unique ≡ false → IsOk result }
         ensures memory { IfErr result (λ fault. fault ≡ Fault.Memory) }
     {
         self.tree.laws();
