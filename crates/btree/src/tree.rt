@@ -1,4 +1,4 @@
-ghost use Rattle.std.specs.Prelude.{◌≡◌, true, [], length, map, min, take, IfOk, IfErr, OnOk, Some, if◌then◌else◌};
+ghost use Rattle.std.specs.Prelude.{◌≡◌, true, [], length, map, min, take, IsOk, IfOk, IfErr, OnOk, Some, if◌then◌else◌};
 ghost use Rattle.std.specs.FinMap.{contains_key};
 ghost use Rattle.std.specs.List.{slice_get};
 ghost use Rattle.keybytes.specs.Pairs.{set_of, with_pair, without_pair, AreOrdered};
@@ -180,6 +180,7 @@ impl Tree {
     pub fn make_room(&mut self, _key: &Key) -> Result<(), Fault>
         ensures pairs { self.new.pairs ≡ self.old.pairs }
         ensures ok { OnOk result (self.new.room ≡ true) }
+        ensures sure { self.old.room ≡ true → IsOk result }
         ensures memory { IfErr result (λ fault. fault ≡ Fault.Memory) }
     {
         if self.ready {
