@@ -1,6 +1,7 @@
 -- Digests of a worker, one after another.
-use Rattle.std.proofs.Common.{◌≡◌, ℕ, ◌+◌, ◌*◌, ◌/◌, ◌%◌, ◌≤◌, List, ◌++◌, length, take, drop, append_assoc, refl, sym}
+use Rattle.std.proofs.Common.{◌≡◌, ℕ, ◌+◌, ◌*◌, ◌/◌, ◌%◌, ◌==◌, ◌≤◌, true, List, [], ◌∷◌, ◌++◌, length, take, drop, append_assoc, refl, sym}
 use Rattle.std.proofs.Common.{ap, ap₂, ◌∙◌, subst, arith, length-append}
+use Rattle.std.proofs.lemmas.Bool.Decides.{nat_tests}
 use Rattle.std.proofs.lemmas.List.{length-take, drop-drop, take-append-drop}
 use Rattle.std.proofs.Math.Nat.{mod-add-div', add-mul-mod_self_right}
 use Rattle.std.proofs.Math.Seq.{take-add}
@@ -16,6 +17,14 @@ use Rattle.building.proofs.ManyPairs.{rows_first, rows_others, images-append, im
 
 abbrev ImageList : Type 0
 ImageList = List ImageValue
+
+-- the next copy of its build
+pub next_one :
+    (worker : WorkerValue) (copied : Copied) (rest : List Copied) → worker.end.known ≡ copied ∷ rest → copied.build ≡ worker.build
+    → next_images 1 worker ≡ copied.image ∷ []
+next_one worker copied rest known own =
+    let is : (copied.build == worker.build) ≡ true = grind (arith, nat_tests) in
+    rw (known, is) refl
 
 -- the next n copies, and the m after them
 pub taking_more : {X : Type 0} (n m : ℕ) (end : TakeEnd X) → after_taking m (after_taking n end) ≡ after_taking (n + m) end

@@ -1,5 +1,5 @@
 -- What is held of copies that are taken one after another.
-use Rattle.std.proofs.Common.{◌≡◌, ℕ, zero, suc, List, [], ◌∷◌, ◌++◌, All, length, get_or, append-nil, refl, sym, ap₂, ◌∙◌, subst, arith}
+use Rattle.std.proofs.Common.{◌≡◌, ℕ, zero, suc, List, [], ◌∷◌, ◌++◌, All, length, get_or, append-nil, refl, sym, ap, ap₂, ◌∙◌, subst, arith}
 use Rattle.std.specs.Prelude.{IsPermutation}
 use Rattle.std.proofs.lemmas.List.Elements.{All-head, All-tail}
 use Rattle.std.proofs.lemmas.List.Sorted.{IsPermutation-append_right, IsPermutation-trans}
@@ -7,10 +7,20 @@ use Rattle.keybytes.specs.Keys.{KeySpecValue}
 use Rattle.keybytes.specs.declared.pair.Pair.{Pair}
 use Rattle.heap_table.specs.Images.{ImageValue}
 use Rattle.run_spool.specs.Spools.{all_pairs, with_closed_run}
-use Rattle.run_maker.specs.Making.{Holdings, AddsAt, Seals, spec_at}
+use Rattle.run_maker.specs.Making.{Holdings, AddsAt, Takes, Seals, spec_at}
 use Rattle.run_maker.proofs.Spoolings.{adds_more, all_closed}
 use Rattle.building.specs.Holding.{TakesAll, HoldsMore, held_at}
+use Rattle.building.specs.ImagePairs.{HavePairs}
 use Rattle.building.proofs.ManyPairs.{have_split}
+
+-- a single image
+pub takes_one :
+    (specs : List KeySpecValue) (image : ImageValue) (images : List ImageValue) (old new : Holdings) → images ≡ image ∷ [] → Takes specs image old new
+    → TakesAll specs images old new
+takes_one specs image images old new one takes = λ i lt made have.
+    let here : HavePairs (spec_at specs i) (image ∷ []) made = subst (λ xs. HavePairs (spec_at specs i) xs made) one have in
+    let is : made ≡ here.0 = here.4 ∙ (ap (λ ps. here.0 ++ ps) here.3 ∙ append-nil here.0) in
+    subst (λ ps. AddsAt i ps old new) (sym is) (takes i lt here.0 here.2)
 
 -- images, and then more of them
 pub takes_more :

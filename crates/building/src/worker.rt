@@ -3,6 +3,7 @@ ghost use Rattle.std.specs.Prelude.{IfErr, IfOk, OnOk, OnErr};
 ghost use Rattle.side_file.specs.Ends.{ring_take};
 ghost use Rattle.run_spool.specs.Spools.{AreSorted, HasFull, NoPageOnlyIf};
 ghost use Rattle.run_maker.specs.Making.{AreReady};
+ghost use Rattle.run_maker.specs.Spooling.{MemoryOnlyIf};
 ghost use Rattle.building.specs.Holding.{TakesAll, HoldsMore};
 ghost use Rattle.building.specs.ImagePairs.{HaveRows};
 ghost use Rattle.building.specs.TakeEnd.{take_end, after_taking, PutEndLooked};
@@ -131,6 +132,7 @@ impl Worker {
         ensures unsealed { self.new.sealed ≡ self.old.sealed }
         ensures fault { IfErr result (λ fault. (fault ≡ Fault.NoPage) ⊎ (fault ≡ Fault.Memory)) }
         ensures full { IfErr result (NoPageOnlyIf (HasFull S.is_full spools.new)) }
+        ensures want { IfErr result (MemoryOnlyIf (AreReady (map S.runs spools.new) (map S.open_run spools.new))) }
     {
         let copied = self.ring.pop_known();
         if copied.build != self.build {
@@ -166,6 +168,7 @@ impl Worker {
         ensures failed { OnErr result ((n : ℕ) × (n ≤ length self.old.end.known) × (self.new.end ≡ after_taking n self.old.end)) }
         ensures fault { IfErr result (λ fault. (fault ≡ Fault.NoPage) ⊎ (fault ≡ Fault.Memory)) }
         ensures full { IfErr result (NoPageOnlyIf (HasFull S.is_full spools.new)) }
+        ensures want { IfErr result (MemoryOnlyIf (AreReady (map S.runs spools.new) (map S.open_run spools.new))) }
     {
         let mut images = 0;
         for _ in 0..self.seen() {

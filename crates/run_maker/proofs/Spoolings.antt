@@ -1,10 +1,10 @@
 -- What a run that is spooled leaves, and pairs that are held one after another.
-use Rattle.std.proofs.Common.{◌≡◌, ℕ, ◌+◌, ◌%◌, List, [], ◌∷◌, ◌++◌, length, reverse, append_assoc, append-nil, sym, ap, ◌∙◌, subst, arith}
+use Rattle.std.proofs.Common.{◌≡◌, ℕ, ◌+◌, ◌%◌, ◌<◌, List, [], ◌∷◌, ◌++◌, length, reverse, append_assoc, append-nil, sym, ap, ◌∙◌, subst, arith}
 use Rattle.std.specs.Prelude.{Result, Ok, Err, OnOk, Contains, IsPermutation}
 use Rattle.std.specs.List.Sorted.{IsSorted}
 use Rattle.std.proofs.lemmas.List.{length_push, length-append, reverse-reverse}
 use Rattle.std.proofs.lemmas.List.Elements.{All-push, Contains-push, Contains-append_right}
-use Rattle.std.proofs.lemmas.List.Sorted.{Contains-permutation, IsPermutation-append_left, IsPermutation-append_right, IsPermutation-reverse, IsPermutation-sym, IsPermutation-trans}
+use Rattle.std.proofs.lemmas.List.Sorted.{Contains-permutation, IsPermutation-append_left, IsPermutation-append_right, IsPermutation-reverse, IsPermutation-sym, IsPermutation-trans, length_permutation}
 use Rattle.std.proofs.lemmas.Grind.{flat_map-append}
 use Rattle.keybytes.specs.Pairs.{pair_cmp}
 use Rattle.keybytes.specs.declared.pair.Pair.{Pair}
@@ -22,6 +22,11 @@ all_closed runs [] = sym (append-nil (all_pairs runs))
 all_closed runs (first ∷ run) =
     flat_map-append (λ (r : List Pair). r) runs ((first ∷ run) ∷ []) ∙ ap (λ (r : List Pair). all_pairs runs ++ r) (append-nil (first ∷ run))
 
+-- a run of some pairs is one run more
+pub one_closed : (runs : List (List Pair)) (run : List Pair) → 0 < length run → length (with_closed_run runs run) ≡ length runs + 1
+one_closed runs [] some = absurd (omega arith)
+one_closed runs (first ∷ run) some = length_push runs (first ∷ run)
+
 -- the pair that makes a run full
 pub spooled_adds : (old new : List (List Pair)) (begun : List Pair) (pair : Pair) (pairs : List Pair) → pairs ≡ begun ++ pair ∷ [] → length pairs ≡ 4096
     → Spooled pairs old new
@@ -31,9 +36,11 @@ spooled_adds old new begun pair pairs is full s =
     let held : (all_pairs old ++ begun) ++ pair ∷ [] ≡ all_pairs old ++ pairs =
     append_assoc (all_pairs old) begun (pair ∷ []) ∙ ap (λ (ps : List Pair). all_pairs old ++ ps) (sym is) in
     let long : length begun + 1 ≡ 4096 = omega (arith, full, ap length is, length_push begun pair) in
+    let some : 0 < length s.run = omega (arith, full, length_permutation pairs s.run s.same) in
     record {
       all = rw (held, whole) (IsPermutation-append_right (all_pairs old) pairs s.run s.same);
       count = sym (ap (λ (n : ℕ). n % 4096) long);
+      runs_many = omega (arith, long, ap length s.closed, one_closed old s.run some);
     }
 
 -- pairs, and then more
@@ -47,6 +54,7 @@ adds_more made more runs0 begun0 runs1 begun1 runs2 begun2 first then =
       all = rw (← append_assoc start made more)
           (IsPermutation-trans _ _ _ (IsPermutation-append_left more (start ++ made) middle first.all) then.all);
       count = omega (arith, first.count, then.count, length-append made more);
+      runs_many = omega (arith, first.runs_many, then.runs_many, length-append made more);
     }
 
 -- what is taken from the end of a list that is turned round comes in the list's order

@@ -1,7 +1,9 @@
 -- Pairs that are sorted and spooled.
-use Rattle.std.specs.Prelude.{◌≡◌, ◌+◌, ◌%◌, List, ◌++◌, length, IsPermutation}
+use Rattle.std.specs.Prelude.{◌≡◌, ◌+◌, ◌*◌, ◌%◌, List, ◌++◌, length, IsPermutation}
 use Rattle.std.specs.List.Sorted.{IsSorted}
 use Rattle.keybytes.specs.Pairs.{pair_cmp}
+use Rattle.keybytes.specs.declared.fault.Fault.{Fault}
+use Rattle.keybytes.specs.declared.fault.Fault.TheVariants.{Memory}
 use Rattle.keybytes.specs.declared.pair.Pair.{Pair}
 use Rattle.run_spool.specs.Spools.{all_pairs, with_closed_run}
 
@@ -17,3 +19,9 @@ pub record Spooled (pairs : List Pair) (old new : List (List Pair)) : Type 0 whe
 pub record Adds (made : List Pair) (old_runs : List (List Pair)) (old_open : List Pair) (runs : List (List Pair)) (begun : List Pair) : Type 0 where
   pub all : IsPermutation ((all_pairs old_runs ++ old_open) ++ made) (all_pairs runs ++ begun)
   pub count : length begun % 4096 ≡ (length old_open + length made) % 4096
+  -- each run more has 4,096 of them
+  pub runs_many : 4096 * length runs + length begun ≡ 4096 * length old_runs + (length old_open + length made)
+
+-- if a fault tells that memory is wanted, this holds
+abbrev pub MemoryOnlyIf : Type 0 → Fault → Type 0
+MemoryOnlyIf P fault = fault ≡ Memory → P

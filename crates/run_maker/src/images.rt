@@ -6,6 +6,7 @@ ghost use Rattle.heap_table.specs.Pages.{rid_at};
 ghost use Rattle.run_spool.specs.Spools.{AreSorted, HasFull, NoPageOnlyIf};
 ghost use Rattle.run_maker.specs.ImagePairs.{HasRows};
 ghost use Rattle.run_maker.specs.Making.{AreReady, TakesRow, Takes};
+ghost use Rattle.run_maker.specs.Spooling.{MemoryOnlyIf};
 
 use crate::open_run::OpenRun;
 use crate::rows::add_row;
@@ -33,6 +34,7 @@ pub(crate) fn add_image<S: Spool>(
     ensures stakes { map S.stake spools.new ≡ map S.stake spools.old }
     ensures fault { IfErr result (λ fault. (fault ≡ Fault.NoPage) ⊎ (fault ≡ Fault.Memory)) }
     ensures full { IfErr result (NoPageOnlyIf (HasFull S.is_full spools.new)) }
+    ensures want { IfErr result (MemoryOnlyIf (AreReady (map S.runs spools.new) (map S.open_run spools.new))) }
 {
     for slot in 0..image.slots() {
         add_slot(image, slot, schema, specs, begun, spools)?;
@@ -62,6 +64,7 @@ fn add_slot<S: Spool>(
     ensures stakes { map S.stake spools.new ≡ map S.stake spools.old }
     ensures fault { IfErr result (λ fault. (fault ≡ Fault.NoPage) ⊎ (fault ≡ Fault.Memory)) }
     ensures full { IfErr result (NoPageOnlyIf (HasFull S.is_full spools.new)) }
+    ensures want { IfErr result (MemoryOnlyIf (AreReady (map S.runs spools.new) (map S.open_run spools.new))) }
 {
     let Some(row) = image.row(slot, schema)? else {
         return Ok(());

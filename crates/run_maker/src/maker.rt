@@ -3,6 +3,7 @@ ghost use Rattle.keybytes.specs.declared.cell.Cell.{Cell};
 ghost use Rattle.run_spool.specs.Spools.{AreSorted, HasFull, NoPageOnlyIf};
 ghost use Rattle.run_maker.specs.ImagePairs.{HasRows};
 ghost use Rattle.run_maker.specs.Making.{AreReady, Takes, Seals};
+ghost use Rattle.run_maker.specs.Spooling.{MemoryOnlyIf};
 
 use crate::images::add_image;
 use crate::open_run::OpenRun;
@@ -80,6 +81,7 @@ impl Maker {
         ensures specs { self.new.specs ≡ self.old.specs }
         ensures fault { IfErr result (λ fault. (fault ≡ Fault.NoPage) ⊎ (fault ≡ Fault.Memory)) }
         ensures full { IfErr result (NoPageOnlyIf (HasFull S.is_full spools.new)) }
+        ensures want { IfErr result (MemoryOnlyIf (AreReady (map S.runs spools.new) (map S.open_run spools.new))) }
     {
         add_image(&image, &self.schema, &self.specs, &mut self.begun, spools)
     }

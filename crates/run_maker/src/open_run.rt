@@ -1,6 +1,6 @@
 ghost use Rattle.std.specs.Prelude.{◌≡◌, ◌<◌, ◌⊎◌, ◌↔◌, [], ◌∷◌, ◌++◌, IfErr, OnOk, OnErr, IsTrue, length};
 ghost use Rattle.run_spool.specs.Spools.{NoneEmpty, AreSorted, IsFullForOneOf, NoPageOnlyIf};
-ghost use Rattle.run_maker.specs.Spooling.{Spooled, Adds};
+ghost use Rattle.run_maker.specs.Spooling.{Spooled, Adds, MemoryOnlyIf};
 
 use crate::spooling::spool_run;
 use keybytes::{Fault, Pair};
@@ -63,6 +63,8 @@ impl OpenRun {
         ensures stake { S.stake spool.new ≡ S.stake spool.old }
         ensures fault { IfErr result (λ fault. (fault ≡ Fault.NoPage) ⊎ (fault ≡ Fault.Memory)) }
         ensures full { IfErr result (NoPageOnlyIf (IsFullForOneOf S.is_full (self.old ++ pair ∷ []) spool.new)) }
+        ensures unchanged { IfErr result (MemoryOnlyIf (self.new ≡ self.old)) }
+        ensures untouched { IfErr result (MemoryOnlyIf (spool.new ≡ spool.old)) }
     {
         self.pairs.push(pair)?;
         if self.pairs.len() < RUN_PAIRS {

@@ -3,7 +3,7 @@ ghost use Rattle.std.specs.Prelude.{◌≡◌, ◌⊎◌, [], ◌∷◌, ◌++�
 ghost use Rattle.keybytes.specs.Cells.{fits};
 ghost use Rattle.keybytes.specs.Keys.{key_of};
 ghost use Rattle.run_spool.specs.Spools.{NoneEmpty, AreSorted, IsFullForOneOf, HasFull, NoPageOnlyIf};
-ghost use Rattle.run_maker.specs.Spooling.{Adds};
+ghost use Rattle.run_maker.specs.Spooling.{Adds, MemoryOnlyIf};
 ghost use Rattle.run_maker.specs.Making.{AreReady, TakesRow};
 
 use crate::open_run::OpenRun;
@@ -30,6 +30,8 @@ fn add_key<S: Spool>(
     ensures fault { IfErr result (λ fault. (fault ≡ Fault.NoPage) ⊎ (fault ≡ Fault.Memory)) }
     ensures full { IfErr result (NoPageOnlyIf
         (IsFullForOneOf S.is_full (begun.old ++ record { key = key_of spec.now row.now; rid = rid } ∷ []) spool.new)) }
+    ensures unchanged { IfErr result (MemoryOnlyIf (begun.new ≡ begun.old)) }
+    ensures untouched { IfErr result (MemoryOnlyIf (spool.new ≡ spool.old)) }
 {
     let key = spec.key(row)?;
     begun.add(Pair { key, rid }, spool)
@@ -54,6 +56,7 @@ pub(crate) fn add_row<S: Spool>(
     ensures stakes { map S.stake spools.new ≡ map S.stake spools.old }
     ensures fault { IfErr result (λ fault. (fault ≡ Fault.NoPage) ⊎ (fault ≡ Fault.Memory)) }
     ensures full { IfErr result (NoPageOnlyIf (HasFull S.is_full spools.new)) }
+    ensures want { IfErr result (MemoryOnlyIf (AreReady (map S.runs spools.new) (map S.open_run spools.new))) }
 {
     for i in 0..specs.len() {
         add_key(&specs[i], row, rid, &mut begun[i], &mut spools[i])?;
