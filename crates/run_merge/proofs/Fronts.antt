@@ -9,7 +9,7 @@ use Rattle.keybytes.proofs.Heads.{numbers_decide}
 use Rattle.keybytes.specs.Rids.{rid_cmp}
 use Rattle.keybytes.specs.declared.pair.Pair.{Pair}
 use Rattle.run_merge.specs.Fronts.{IsNumber, HasFront}
-use Rattle.run_merge.specs.Leading.{is_ahead}
+use Rattle.run_merge.specs.Leading.{is_ahead, compares_of}
 
 is_greater : (m n : ℕ) (o : Ordering) → MatchOrdering o (m < n) (m ≡ n) (n < m) → n < m → o ≡ Greater
 is_greater m n Less is above = absurd (omega (arith, is, above))
@@ -30,3 +30,9 @@ fronts_lead None other m n p q above = refl
 fronts_lead (Some pair) None m n p q above = absurd q
 fronts_lead (Some pair) (Some other) m n p q above =
     ap (λ (o : Ordering). is_lt (ordering_then o (rid_cmp pair.rid other.rid))) (keys_follow pair.key other.key m n p q above)
+
+-- two heads with numbers are compared
+pub fronts_compare : (head other : Option Pair) (m n : ℕ) → HasFront head m → HasFront other n → 1 ≡ compares_of head other
+fronts_compare None other m n p q = absurd p
+fronts_compare (Some pair) None m n p q = absurd q
+fronts_compare (Some pair) (Some other) m n p q = refl

@@ -1,12 +1,12 @@
 -- The ways in a tree of games, and what a change of one head leaves as it is.
 use Rattle.std.proofs.Common.{false, ◌≡◌, ◌≢◌, ℕ, zero, suc, ◌+◌, ◌-◌, ◌*◌, ◌/◌, ◌^◌, ◌≤◌}
 use Rattle.std.proofs.Common.{◌<◌, List, length, get_or, set, refl, sym, ap, ◌∙◌, subst, arith, inl, inr}
-use Rattle.std.specs.Prelude.{Option, None}
-use Rattle.std.proofs.lemmas.Bool.{cases_eq, cases_lt}
+use Rattle.std.specs.Prelude.{Option, None, Some, IsSome}
+use Rattle.std.proofs.lemmas.Bool.{cases_eq, cases_lt, false≢true}
 use Rattle.std.proofs.lemmas.List.{get_or-set_other, length-set, get_or_past, get_or_default}
 use Rattle.std.proofs.lemmas.Nat.{pow-add, pow_below}
 use Rattle.std.proofs.Math.Nat.{mul-le-mul_right, mul_assoc}
-use Rattle.run_merge.specs.Leading.{is_ahead, MayLead}
+use Rattle.run_merge.specs.Leading.{is_ahead, compares_of, MayLead}
 use Rattle.run_merge.specs.Tournaments.{IsWinner, up, IsAbove, HasLeaves, IsPlayed, IsWon}
 use Rattle.keybytes.specs.declared.pair.Pair.{Pair}
 use Rattle.run_merge.proofs.Order.{leads_itself, leads_chain}
@@ -191,6 +191,57 @@ way_up node made more room small le =
           let turn : node / 2 * (2 * 2 ^ made) ≡ node / 2 * 2 * 2 ^ made = sym (mul_assoc (node / 2) 2 (2 ^ made)) in
           rw (e, double) (omega (arith, turn, mul-le-mul_right (2 ^ made) half, le))
     ]
+
+-- a level up, and one comparison more
+pub way_wide : (node made more room : ℕ) → more ≡ 1 → room < (node + 1) * 2 ^ made → room < (node / 2 + 1) * 2 ^ (made + more)
+way_wide node made more room one lt =
+    let e : made + more ≡ made + 1 = omega (arith, one) in
+    let half : node + 1 ≤ (node / 2 + 1) * 2 = omega arith in
+    let double : 2 ^ (made + 1) ≡ 2 * 2 ^ made = omega (arith, pow-add 2 made 1) in
+    let turn : (node / 2 + 1) * (2 * 2 ^ made) ≡ (node / 2 + 1) * 2 * 2 ^ made = sym (mul_assoc (node / 2 + 1) 2 (2 ^ made)) in
+    rw (e, double) (omega (arith, turn, mul-le-mul_right (2 ^ made) half, lt))
+
+-- and at the root
+pub root_wide : (node made room : ℕ) → node ≡ 1 → room < (node + 1) * 2 ^ made → room < 2 * 2 ^ made
+root_wide node made room is lt = subst (λ (n : ℕ). room < (n + 1) * 2 ^ made) is lt
+
+-- what a count that these comparisons were added to tells
+pub wide_since : (count leaf made old new : ℕ) → count + leaf < 2 * 2 ^ made → new ≡ old + made → count < 2 * 2 ^ (new - old)
+wide_since count leaf made old new lt is =
+    let e : new - old ≡ made = omega (arith, is) in
+    rw e (omega (arith, lt))
+
+-- a game takes at most one comparison
+pub compares_few : (one other : Option Pair) → compares_of one other ≤ 1
+compares_few None other = omega arith
+compares_few (Some pair) None = omega arith
+compares_few (Some pair) (Some other) = omega arith
+
+-- nor does what tells their number
+pub made_few : (one other : Option Pair) (made : ℕ) → made ≡ compares_of one other → made ≤ 1
+made_few one other made is = omega (arith, is, compares_few one other)
+
+-- and one where both runs have a pair
+pub compares_one : (one other : Option Pair) → IsSome one → IsSome other → compares_of one other ≡ 1
+compares_one None other some some-other = absurd (false≢true some)
+compares_one (Some pair) None some some-other = absurd (false≢true some-other)
+compares_one (Some pair) (Some other) some some-other = refl
+
+-- what two heads that were read say of the comparisons
+pub compares_read : (heads : List (Option Pair)) (left right made : ℕ) (x y : Option Pair) → left < length heads → right < length heads
+    → x ≡ get_or heads left x → y ≡ get_or heads right y → made ≡ compares_of x y
+    → made ≡ compares_of (get_or heads left None) (get_or heads right None)
+compares_read heads left right made x y l r is-x is-y h =
+    let at-x : get_or heads left None ≡ x = get_or_default heads left None x l ∙ sym is-x in
+    let at-y : get_or heads right None ≡ y = get_or_default heads right None y r ∙ sym is-y in
+    rw (at-x, at-y) h
+
+-- all games are counted
+pub all_counted : (node made count : ℕ) → (0 < count → 0 < node) → node ≤ 1 → made + node ≡ count → made ≡ count - 1
+all_counted node made zero some low is = omega (arith, is)
+all_counted node made (suc count) some low is =
+    let more : 0 < node = some (omega arith) in
+    omega (arith, low, is, more)
 
 -- games on a way are few
 pub few_made : (node made room : ℕ) → 0 < node → node * 2 ^ made ≤ room → 2 ^ made ≤ room

@@ -1,5 +1,5 @@
 -- The order of pairs as a test, and the order of the heads of runs.
-use Rattle.std.specs.Prelude.{◌≡◌, ◌<◌, ℕ, Bool, true, false, Option, Some, None, List, length, get_or}
+use Rattle.std.specs.Prelude.{◌≡◌, ◌<◌, ℕ, Bool, true, false, Option, Some, None, IsSome, List, length, get_or}
 use Rattle.std.specs.Ordering.{is_lt}
 use Rattle.keybytes.specs.Pairs.{pair_cmp}
 use Rattle.keybytes.specs.declared.pair.Pair.{Pair}
@@ -17,6 +17,16 @@ is_ahead (Some pair) (Some other) = is_before pair other
 -- the head at i may be given before the one at j
 abbrev pub MayLead : List (Option Pair) → ℕ → ℕ → Type 0
 MayLead heads i j = is_ahead (get_or heads j None) (get_or heads i None) ≡ false
+
+-- how many comparisons of two pairs tell which of two heads is given first: none where one of the runs has no pair left
+abbrev pub compares_of : Option Pair → Option Pair → ℕ
+compares_of None other = 0
+compares_of (Some pair) None = 0
+compares_of (Some pair) (Some other) = 1
+
+-- each run has a pair left
+abbrev pub NoneDone : List (Option Pair) → Type 0
+NoneDone heads = (place : ℕ) → place < length heads → IsSome (get_or heads place None)
 
 -- no run has a pair left
 abbrev pub AllDone : List (Option Pair) → Type 0

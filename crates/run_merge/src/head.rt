@@ -1,7 +1,7 @@
 ghost use Rattle.std.specs.Prelude.{◌≡◌, ◌<◌, ◌≤◌, Option, length, true, false};
 ghost use Rattle.keybytes.specs.Heads.{AreBytes};
 ghost use Rattle.run_merge.specs.Fronts.{IsFront, IsNumber};
-ghost use Rattle.run_merge.specs.Leading.{is_ahead};
+ghost use Rattle.run_merge.specs.Leading.{is_ahead, compares_of};
 
 use byteorder::{BigEndian, ByteOrder};
 use keybytes::Pair;
@@ -63,7 +63,7 @@ impl Head {
     pub(crate) fn leads(&self, other: &Head) -> (bool, u64)
         ensures leads { result.0 ≡ true → is_ahead other.now self.now ≡ false }
         ensures follows { result.0 ≡ false → is_ahead self.now other.now ≡ false }
-        ensures compares { result.1 ≤ 1 }
+        ensures compares { result.1 ≡ compares_of self.now other.now }
     {
         pair_leads(&self.pair, &other.pair)
     }
@@ -73,7 +73,7 @@ impl Head {
 fn pair_leads(head: &Option<Pair>, against: &Option<Pair>) -> (bool, u64)
     ensures leads { result.0 ≡ true → is_ahead against.now head.now ≡ false }
     ensures follows { result.0 ≡ false → is_ahead head.now against.now ≡ false }
-    ensures compares { result.1 ≤ 1 }
+    ensures compares { result.1 ≡ compares_of head.now against.now }
 {
     match (head, against) {
         (Some(pair), Some(other)) => {

@@ -1,5 +1,5 @@
-ghost use Rattle.std.specs.Prelude.{◌≡◌, ◌<◌, ◌≤◌, ◌+◌, ◌-◌, ◌^◌, ℕ, None, IfOk, IfErr, MatchOption, length, get_or, set};
-ghost use Rattle.run_merge.specs.Leading.{AllDone, IsFirst};
+ghost use Rattle.std.specs.Prelude.{◌≡◌, ◌<◌, ◌≤◌, ◌+◌, ◌-◌, ◌*◌, ◌^◌, ℕ, None, IfOk, IfErr, MatchOption, length, get_or, set};
+ghost use Rattle.run_merge.specs.Leading.{AllDone, NoneDone, IsFirst};
 
 use crate::head::Head;
 use crate::losers::{losers_of, replay};
@@ -35,6 +35,7 @@ impl Heads {
     pub(crate) fn new(alloc: Global, heads: Vec<Head>) -> Result<Heads, Fault>
         ensures heads { IfOk result (λ new. new.heads ≡ heads.items) }
         ensures compares { IfOk result (λ new. new.compares ≤ length heads.items - 1) }
+        ensures counted { IfOk result (λ new. NoneDone heads.items → new.compares ≡ length heads.items - 1) }
         ensures memory { IfErr result (λ fault. fault ≡ Fault.Memory) }
     {
         let mut wins = leaves(alloc, &heads)?;
@@ -61,12 +62,16 @@ impl Heads {
         Some(first)
     }
 
-    /// Puts the next head of its run in place of the first one, with at most as many comparisons as the tree has levels.
+    /// Puts the next head of its run in place of the first one, with at most as many comparisons as the tree has levels, and one
+    /// fewer at least where each run has a pair.
     pub(crate) fn put(&mut self, head: Option<Pair>) -> Option<Pair>
         requires { 0 < length self.old.heads }
         ensures heads { self.new.heads ≡ set self.old.heads self.old.first head }
         ensures given { result ≡ get_or self.old.heads self.old.first None }
         ensures compares { (d : ℕ) → length self.old.heads ≤ 2 ^ d → self.new.compares ≤ self.old.compares + d }
+        ensures grows { self.old.compares ≤ self.new.compares }
+        ensures counted { NoneDone self.new.heads → self.new.compares < u64.MAX
+            → length self.new.heads < 2 * 2 ^ (self.new.compares - self.old.compares) }
     {
         let first = self.nodes[0];
         let next = Head::new(head);

@@ -84,6 +84,7 @@ impl Lanes {
         ensures merge { IsMerge (all_runs (map S.runs spools.new)) self.new.runs self.new.heads }
         ensures given { IfOk result (λ given. Gives (all_runs (map S.runs spools.old)) given (all_runs (map S.runs spools.new))) }
         ensures compares { (d : ℕ) → length self.old.runs ≤ 2 ^ d → self.new.compares ≤ self.old.compares + d }
+        ensures grows { self.old.compares ≤ self.new.compares }
         ensures seconds { AreSeconds (all_runs (map S.runs spools.new)) self.new.runs self.new.seconds }
         ensures places { ArePlaces (map S.runs spools.new) self.new.runs self.new.places }
         ensures ways { self.new.runs ≡ self.old.runs }

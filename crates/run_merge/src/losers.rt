@@ -1,6 +1,7 @@
 //! The games on the way of a new head to the root. Node 0 names the winner of all, and each node n above it the loser of the
 //! game between those who won at 2 n and at 2 n + 1: so one look at each node of the way tells whom to play.
-ghost use Rattle.std.specs.Prelude.{◌≡◌, ◌<◌, ◌≤◌, ◌+◌, ◌^◌, ◌⊎◌, ℕ, IfOk, IfErr, length};
+ghost use Rattle.std.specs.Prelude.{◌≡◌, ◌<◌, ◌≤◌, ◌+◌, ◌^◌, ◌*◌, ◌⊎◌, ℕ, None, IfOk, IfErr, length, get_or};
+ghost use Rattle.run_merge.specs.Leading.{NoneDone, compares_of};
 ghost use Rattle.run_merge.specs.Tournaments.{IsWinner, IsWon};
 ghost use Rattle.run_merge.specs.Losers.{IsLost, IsReplay};
 
@@ -15,7 +16,7 @@ fn game(heads: &[Head], one: usize, other: usize) -> (usize, usize, u64)
     requires other { other < length heads.now }
     ensures winner { IsWinner heads.now result.0 one other }
     ensures loser { ((result.0 ≡ one) × (result.1 ≡ other)) ⊎ ((result.0 ≡ other) × (result.1 ≡ one)) }
-    ensures compares { result.2 ≤ 1 }
+    ensures compares { result.2 ≡ compares_of (get_or heads.now one None) (get_or heads.now other None) }
 {
     let (won, compares) = winner(heads, one, other);
     // (the other one of the two, by no branch: who wins can't be foretold)
@@ -28,6 +29,7 @@ pub(crate) fn replay(nodes: &mut [usize], heads: &[Head], leaf: usize) -> u64
     requires replay { IsReplay heads.now nodes.old (length heads.now + leaf) leaf }
     ensures lost { IsLost heads.now nodes.new }
     ensures compares { (d : ℕ) → length heads.now ≤ 2 ^ d → result ≤ d }
+    ensures counted { NoneDone heads.now → length heads.now + leaf < 2 * 2 ^ result }
 {
     let mut winner = leaf;
     let mut node = heads.len() + leaf;

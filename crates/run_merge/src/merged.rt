@@ -69,6 +69,7 @@ impl<S: Spool> Merged<S> {
         ensures stakes { self.new.stakes ≡ self.old.stakes }
         ensures ways { self.new.ways ≡ self.old.ways }
         ensures compares { (d : ℕ) → self.old.ways ≤ 2 ^ d → self.new.compares ≤ self.old.compares + d }
+        ensures grows { self.old.compares ≤ self.new.compares }
         ensures memory { IfErr result (λ fault. fault ≡ Fault.Memory) }
     {
         self.lanes.step(&mut self.spools)
@@ -81,6 +82,8 @@ impl<S: Spool> Merged<S> {
         ensures freed { IfOk result (λ _. all_pairs (all_runs self.new.runs) ≡ []) }
         ensures open_runs { self.new.open_runs ≡ self.old.open_runs }
         ensures stakes { self.new.stakes ≡ self.old.stakes }
+        ensures ways { self.new.ways ≡ self.old.ways }
+        ensures grows { self.old.compares ≤ self.new.compares }
         ensures memory { IfErr result (λ fault. fault ≡ Fault.Memory) }
     {
         let mut pairs = Vec::new(alloc);

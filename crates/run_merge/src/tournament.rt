@@ -1,7 +1,8 @@
 //! The games of a tree of heads, played from nothing. The root is node 1, the two nodes below n are 2 n and 2 n + 1, and the
 //! second half of all are the leaves, of which the kth names the kth head. Each node above names the winner of the game between
 //! its two.
-ghost use Rattle.std.specs.Prelude.{◌≡◌, ◌<◌, ◌≤◌, ◌+◌, ◌-◌, ◌*◌, ℕ, IfOk, IfErr, length};
+ghost use Rattle.std.specs.Prelude.{◌≡◌, ◌<◌, ◌≤◌, ◌+◌, ◌-◌, ◌*◌, ℕ, None, IfOk, IfErr, length, get_or};
+ghost use Rattle.run_merge.specs.Leading.{NoneDone, compares_of};
 ghost use Rattle.run_merge.specs.Tournaments.{IsWinner, IsPlayed, HasLeaves, IsWon};
 
 use crate::head::Head;
@@ -14,7 +15,7 @@ pub(crate) fn winner(heads: &[Head], left: usize, right: usize) -> (usize, u64)
     requires left { left < length heads.now }
     requires right { right < length heads.now }
     ensures winner { IsWinner heads.now result.0 left right }
-    ensures compares { result.1 ≤ 1 }
+    ensures compares { result.1 ≡ compares_of (get_or heads.now left None) (get_or heads.now right None) }
 {
     let front = heads[left].front();
     let against = heads[right].front();
@@ -35,7 +36,7 @@ fn close_winner(heads: &[Head], left: usize, right: usize) -> (usize, u64)
     requires left { left < length heads.now }
     requires right { right < length heads.now }
     ensures winner { IsWinner heads.now result.0 left right }
-    ensures compares { result.1 ≤ 1 }
+    ensures compares { result.1 ≡ compares_of (get_or heads.now left None) (get_or heads.now right None) }
 {
     let (leads, compares) = heads[left].leads(&heads[right]);
     if leads {
@@ -55,6 +56,7 @@ fn play(nodes: &mut [usize], heads: &[Head], node: usize) -> u64
     ensures others { (n : ℕ) → 0 < n → (n ≡ node → ⊥) → (2 * n ≡ node → ⊥) → (2 * n + 1 ≡ node → ⊥)
         → IsPlayed heads.now nodes.old n → IsPlayed heads.now nodes.new n }
     ensures compares { result ≤ 1 }
+    ensures counted { NoneDone heads.now → result ≡ 1 }
 {
     let (won, compares) = winner(heads, nodes[2 * node], nodes[2 * node + 1]);
     nodes[node] = won;
@@ -66,6 +68,7 @@ pub(crate) fn play_all(nodes: &mut [usize], heads: &[Head]) -> u64
     requires tree { HasLeaves heads.now nodes.old }
     ensures won { IsWon heads.now nodes.new }
     ensures compares { result ≤ length heads.now - 1 }
+    ensures counted { NoneDone heads.now → result ≡ length heads.now - 1 }
 {
     let mut node = heads.len();
     let mut compares = 0;

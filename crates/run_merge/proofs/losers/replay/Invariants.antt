@@ -1,4 +1,5 @@
 use Rattle.std.proofs.Common.{◌+◌, ◌*◌, ◌^◌, ◌<◌, ◌≤◌, length}
+use Rattle.run_merge.specs.Leading.{NoneDone}
 use Rattle.run_merge.specs.Losers.{IsReplay}
 use Rattle.run_merge.proofs.losers.replay.Given as goal
 
@@ -7,6 +8,7 @@ invariant-loop-node l = record {
   some : 0 < l.node;
   inside : l.node < 2 * length l.heads;
   way : l.node * 2 ^ l.compares ≤ length l.heads + l.leaf;
+  counted : NoneDone l.heads → length l.heads + l.leaf < (l.node + 1) * 2 ^ l.compares;
   winner : l.winner < length l.heads;
   replay : IsReplay l.heads l.nodes l.node l.winner;
 }

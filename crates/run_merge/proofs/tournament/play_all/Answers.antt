@@ -1,5 +1,5 @@
-use Rattle.std.proofs.Common.{arith, ◌≡◌, ◌+◌, ◌-◌, ◌<◌}
-use Rattle.run_merge.proofs.Games.{all_more}
+use Rattle.std.proofs.Common.{arith, ◌≡◌, ◌+◌, ◌-◌, ◌<◌, length}
+use Rattle.run_merge.proofs.Games.{all_more, all_counted}
 use Rattle.run_merge.proofs.tournament.play_all.Goals as goal
 
 pub loop-node-preserved : goal.loop-node-preserved
@@ -14,4 +14,10 @@ loop-node-preserved c =
       done = all_more c.args.heads.now c.loop-node.nodes c.play-compares.new.nodes node (node - 1) next some c.loop-node.invariant.done
           c.play-compares.ensures.here c.play-compares.ensures.others;
       compares = omega arith;
+      counted = λ pairs. omega (arith, c.loop-node.invariant.counted pairs, c.play-compares.ensures.counted pairs);
     }
+
+pub returns-clause-counted : goal.returns-clause-counted
+returns-clause-counted c = λ pairs.
+    all_counted c.loop-node.node c.loop-node.compares (length c.args.heads.now) c.loop-node.invariant.some (omega (arith, c.loop-node-test.false))
+    (c.loop-node.invariant.counted pairs)

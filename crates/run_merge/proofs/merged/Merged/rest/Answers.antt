@@ -30,4 +30,6 @@ loop-pairs-preserved g c =
       all = IsPermutation-pop_more (all_pairs (all_runs c.args.self.now.runs)) done (all_pairs old) (all_pairs new) x was.all got.1;
       open_runs = c.in_ok-pair.ensures.open_runs ∙ was.open_runs;
       stakes = c.in_ok-pair.ensures.stakes ∙ was.stakes;
+      ways = c.in_ok-pair.ensures.ways ∙ was.ways;
+      grows = omega (arith, c.in_ok-pair.ensures.grows, was.grows);
     }

@@ -1,4 +1,4 @@
-use Rattle.std.proofs.Common.{◌≡◌, ◌++◌, All, length}
+use Rattle.std.proofs.Common.{◌≡◌, ◌≤◌, ◌++◌, All, length}
 use Rattle.std.specs.List.Sorted.{IsSorted, IsPermutation}
 use Rattle.keybytes.specs.Pairs.{pair_cmp}
 use Rattle.run_spool.specs.Spools.{all_pairs}
@@ -12,6 +12,8 @@ invariant-loop-pairs g l = record {
   all : IsPermutation (all_pairs (all_runs l.fn.self.runs)) (l.pairs.items ++ all_pairs (all_runs l.self.runs));
   open_runs : l.self.open_runs ≡ l.fn.self.open_runs;
   stakes : l.self.stakes ≡ l.fn.self.stakes;
+  ways : l.self.ways ≡ l.fn.self.ways;
+  grows : l.fn.self.compares ≤ l.self.compares;
 }
 
 abbrev pub decreases-loop-pairs : goal.decreases-loop-pairs
