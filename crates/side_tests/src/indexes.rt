@@ -150,26 +150,49 @@ fn shared_pages(verdict: &Verdict, byte: u8) -> Option<(u32, u32)> {
     }
 }
 
-/// Two RIDs have a key between an insert and a delete. An index without a tally says nothing of that.
+/// The entries of `b` between which two RIDs have that key.
+const SHARED_FOR_A_WHILE: [Short; 4] = [
+    (7, Op::Insert, b'a', 0),
+    (7, Op::Insert, b'b', 2),
+    (7, Op::Insert, b'b', 1),
+    (7, Op::Delete, b'b', 2),
+];
+
+/// A side-file whose ring has the entries.
+fn fed_with(alloc: Global, entries: &[Short]) -> Result<BothEnds, Fault> {
+    let mut both = BothEnds::new(alloc)?;
+    for short in entries {
+        both.append(entry(alloc, *short)?)?;
+    }
+    both.feed(entries.len());
+    Ok(both)
+}
+
+/// The pages of the RIDs that share the key `b` once that many entries more are applied.
+fn shared_after(
+    both: &mut BothEnds,
+    built: &mut Built,
+    count: usize,
+) -> Result<Option<(u32, u32)>, Fault> {
+    both.apply(built, count)?;
+    Ok(shared_pages(&built.verdict()?, b'b'))
+}
+
+/// What an index that is to be unique says after two entries, three and four.
+fn shared_in_turn(alloc: Global) -> Result<Vec<Option<(u32, u32)>>, Fault> {
+    let mut both = fed_with(alloc, &SHARED_FOR_A_WHILE)?;
+    let mut built = Built::unique(alloc, 7, Tree::new(alloc))?;
+    let mut said = Vec::new(alloc);
+    for count in [2, 1, 1] {
+        said.push(shared_after(&mut both, &mut built, count)?)?;
+    }
+    Ok(said)
+}
+
 #[test]
 fn keys_that_are_shared_for_a_while(rt: HostRuntime) -> Result<(), Fail> {
-    let alloc = rt.alloc();
-    let mut both = BothEnds::new(alloc)?;
-    for (op, byte, page) in [
-        (Op::Insert, b'a', 0),
-        (Op::Insert, b'b', 2),
-        (Op::Insert, b'b', 1),
-        (Op::Delete, b'b', 2),
-    ] {
-        both.append(entry(alloc, (7, op, byte, page))?)?;
-    }
-    both.feed(4);
-    let mut built = Built::unique(alloc, 7, Tree::new(alloc))?;
-    assert!(rt; both.apply(&mut built, 2)? == 2 && matches!(built.verdict()?, Verdict::Unique));
-    assert!(rt; both.apply(&mut built, 1)? == 1);
-    assert_eq!(rt; shared_pages(&built.verdict()?, b'b'), Some((1, 2)));
-    assert!(rt; both.apply(&mut built, 1)? == 1 && matches!(built.verdict()?, Verdict::Unique));
-    assert!(rt; pages(alloc, &built)?.as_slice() == [0, 1].as_slice());
+    let said = shared_in_turn(rt.alloc())?;
+    assert!(rt; said.as_slice() == [None, Some((1, 2)), None].as_slice());
     Ok(())
 }
 
