@@ -4,7 +4,7 @@ use crate::copies::Copies;
 use crate::fixtures::{key, mixed, pair, rid};
 use btree::Tree;
 use bulk_load::load;
-use keybytes::{Fault, Pair};
+use keybytes::{Fault, Pair, Rid};
 use std::alloc::Global;
 use std::test::Fail;
 
@@ -57,19 +57,39 @@ fn every_second_pair_removed(rt: HostRuntime) -> Result<(), Fail> {
     Ok(())
 }
 
+/// The RIDs of the key of 49, the least of them, and the least of a key that no pair has.
+fn rids_of_keys(alloc: Global, tree: &Tree) -> Result<(Vec<Rid>, Option<Rid>, Option<Rid>), Fault> {
+    let there = key(alloc, 49)?;
+    let absent = key(alloc, 1_000)?;
+    Ok((
+        tree.rids(&there)?,
+        tree.first_rid(&there),
+        tree.first_rid(&absent),
+    ))
+}
+
 #[test]
-fn one_key_and_a_range(rt: HostRuntime) -> Result<(), Fail> {
+fn one_key(rt: HostRuntime) -> Result<(), Fail> {
     let tree = filled(rt.alloc())?;
-    let low = key(rt.alloc(), 49)?;
-    let rids = tree.rids(&low)?;
+    let (rids, first, none) = rids_of_keys(rt.alloc(), &tree)?;
     assert_eq!(rt; rids.as_slice(), [rid(147), rid(148), rid(149)].as_slice());
-    assert_eq!(rt; tree.first_rid(&low), Some(rid(147)));
-    assert_eq!(rt; tree.first_rid(&key(rt.alloc(), 1_000)?), None);
+    assert_eq!(rt; (first, none), (Some(rid(147)), None));
+    Ok(())
+}
+
+/// How many pairs have keys from that of the one number on, and below that of the other.
+fn pairs_between(alloc: Global, tree: &Tree, first: u32, end: u32) -> Result<u32, Fault> {
     let mut count = 0_u32;
-    for _ in tree.range(&low, &key(rt.alloc(), 60)?)? {
+    for _ in tree.range(&key(alloc, first)?, &key(alloc, end)?)? {
         count = count.wrapping_add(1);
     }
-    assert_eq!(rt; count, 33);
+    Ok(count)
+}
+
+#[test]
+fn a_range(rt: HostRuntime) -> Result<(), Fail> {
+    let tree = filled(rt.alloc())?;
+    assert_eq!(rt; pairs_between(rt.alloc(), &tree, 49, 60)?, 33);
     Ok(())
 }
 
