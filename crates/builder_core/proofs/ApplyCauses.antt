@@ -19,7 +19,8 @@ use Rattle.std.specs.List.{slice_get}
 use Rattle.std.proofs.lemmas.Option.{get_or_from_slice_get}
 use Rattle.builder_core.proofs.Places.{below, there_is, map_at}
 use Rattle.builder_core.proofs.Applying.{stays_built}
-use Rattle.builder_core.specs.Steps.{OnBuild, Applies, AppliesSome, refusal, build_cause, cause_if, apply_refusal, index_refusal, next_applied, after_apply}
+use Rattle.builder_core.specs.BuildSteps.{OnBuild, Applies, AppliesSome, build_cause, cause_if, apply_refusal, index_refusal, next_applied, after_apply}
+use Rattle.builder_core.specs.Steps.{refusal}
 use Rattle.builder_core.specs.Working.{CanApply, HasApplied}
 use Rattle.builder_core.specs.declared.event.Event.TheVariants.{Apply}
 use Rattle.builder_core.proofs.Feeding.{works_side_looked, state_side_looked}

@@ -19,7 +19,7 @@ use Rattle.heap_table.specs.TablePairs.{pairs_at_rest}
 use Rattle.keybytes.specs.declared.kind.Kind.{Kind}
 use Rattle.builder_core.specs.CoreState.{ReadyValue, AreIndexesOf}
 use Rattle.builder_core.specs.KeyCauses.{HasGuards, AreGuarded, AreLetIn, KeysAreGuarded, keys_refusal}
-use Rattle.builder_core.specs.Steps.{ready_now}
+use Rattle.builder_core.specs.BuildSteps.{ready_now}
 
 -- the first of them and the others follow a log
 pub guards_then :

@@ -23,7 +23,8 @@ use Rattle.builder_core.specs.CoreState.{BuildState, WorkerState, WorkState, Cor
 use Rattle.builder_core.specs.Scanning.{scanned_pairs}
 use Rattle.scan_range.specs.Cuts.{range_pages, cuts_refusal}
 use Rattle.builder_core.specs.Ranges.{dealt_ends, dealing_refusal, next_page, open_range}
-use Rattle.builder_core.specs.Steps.{refusal, spools_refusal, Does, AfterWant, IsRefused}
+use Rattle.builder_core.specs.BuildSteps.{spools_refusal}
+use Rattle.builder_core.specs.Steps.{refusal, Does, AfterWant, IsRefused}
 use Rattle.builder_core.specs.Holding.{spools_state}
 use Rattle.builder_core.specs.Workers.{waiting, fill_runs, loud_worker}
 use Rattle.builder_core.specs.declared.scan.Scan.{Scan as Copied}

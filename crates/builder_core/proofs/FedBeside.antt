@@ -14,7 +14,7 @@ use Rattle.side_file.specs.declared.entry.Entry.{Entry}
 use Rattle.std.proofs.lemmas.Option.{same_Some, get_or_from_slice_get}
 use Rattle.builder_core.proofs.Places.{there_is, map_at}
 use Rattle.builder_core.proofs.ApplyCauses.{index_below}
-use Rattle.builder_core.specs.Steps.{OnBuild, Feeds, build_cause, index_refusal, next_fed, after_feed}
+use Rattle.builder_core.specs.BuildSteps.{OnBuild, Feeds, build_cause, index_refusal, next_fed, after_feed}
 use Rattle.builder_core.specs.Workers.{fed_to, in_ring, index_at, unfed}
 use Rattle.builder_core.proofs.Feeding.{state_side_looked, works_side_looked, waiting_in_ring}
 use Rattle.builder_core.proofs.Refusals.{running}

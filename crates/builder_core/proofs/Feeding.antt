@@ -23,7 +23,7 @@ use Rattle.builder_core.specs.Builds.{LiveValue, BuildingValue, WorkValue, Index
 use Rattle.builder_core.specs.CoreState.{BuildState, scanning_of}
 use Rattle.builder_core.specs.SideFiles.{IsFed, HasEntries, HaveEntries, SidesFollow, AreFedEntries, HasLookedAtSide, SeesSide}
 use Rattle.builder_core.proofs.Places.{at_set, set_there, set_elsewhere}
-use Rattle.builder_core.specs.Steps.{after_feed}
+use Rattle.builder_core.specs.BuildSteps.{after_feed}
 use Rattle.builder_core.specs.Workers.{fed_to, unfed}
 
 -- looking at the ring

@@ -20,7 +20,7 @@ use Rattle.builder_core.specs.CoreState.{BuildState, ReadyValue, AreIndexesOf, F
 use Rattle.heap_log.specs.declared.record.LogRec.TheVariants.{Commit}
 use Rattle.side_file.specs.SideFileValue.{SideFileValue}
 use Rattle.builder_core.specs.SideFiles.{SidesFollow}
-use Rattle.builder_core.specs.Steps.{index_now}
+use Rattle.builder_core.specs.BuildSteps.{index_now}
 use Rattle.builder_core.proofs.EntrySteps.{commit_entries}
 use Rattle.builder_core.proofs.SideKept.{sides_plain}
 use Rattle.builder_core.proofs.Places.{mapped_all, mapped_of}

@@ -11,7 +11,7 @@ use Rattle.builder_core.specs.Columns.{own_spools}
 use Rattle.builder_core.specs.CoreState.{BuildState}
 use Rattle.builder_core.specs.FullSpools.{WasFull, WorkerWasFull}
 use Rattle.builder_core.specs.Holding.{SpoolValue, stakes_of}
-use Rattle.builder_core.specs.Steps.{OnBuild}
+use Rattle.builder_core.specs.BuildSteps.{OnBuild}
 use Rattle.builder_core.proofs.OwnSpools.{map_own, own_there}
 use Rattle.builder_core.proofs.Places.{map_at}
 

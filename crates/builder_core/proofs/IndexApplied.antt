@@ -31,7 +31,7 @@ use Rattle.builder_core.specs.CoreState.{BuildState, IndexState, WorkState, scan
 use Rattle.builder_core.specs.Scanning.{Scanning, scanned_pairs}
 use Rattle.builder_core.specs.SideEntries.{side_entries}
 use Rattle.builder_core.specs.SideFiles.{IsFed, AreFedEntries, SeesSide}
-use Rattle.builder_core.specs.Steps.{after_apply}
+use Rattle.builder_core.specs.BuildSteps.{after_apply}
 use Rattle.builder_core.specs.Workers.{fed_to, in_ring, index_at}
 use Rattle.builder_core.specs.Working.{IsTakingEntries, CanApply, HasApplied}
 use Rattle.builder_core.proofs.Feeding.{waiting_in_ring}

@@ -17,7 +17,7 @@ use Rattle.builder_core.specs.Builds.{LiveValue, BuildingValue, WorkValue, work_
 use Rattle.builder_core.specs.CoreState.{BuildState, WorkState}
 use Rattle.builder_core.specs.Ranges.{first_that, open_range}
 use Rattle.builder_core.specs.Rings.{all_sent, ArePut, AreDone, IsUnfinished, IsDone}
-use Rattle.builder_core.specs.Steps.{cause_if, build_cause, load_refusal}
+use Rattle.builder_core.specs.BuildSteps.{cause_if, build_cause, load_refusal}
 use Rattle.builder_core.specs.Workers.{is_quiet, worker_at, loud_worker}
 use Rattle.builder_core.proofs.NextPages.{first_left, none_left}
 use Rattle.builder_core.proofs.Places.{there_is, map_at}

@@ -23,7 +23,7 @@ use Rattle.std.proofs.lemmas.List.Concat.{flat_map-append}
 use Rattle.builder_core.specs.Ranges.{open_range}
 use Rattle.builder_core.specs.Rings.{all_sent, ArePut, AreDone, PagesFollow}
 use Rattle.builder_core.specs.Scanning.{pairs_at_scan, scanned_pairs}
-use Rattle.builder_core.specs.Steps.{OnBuild, Loads, pairs_copied, after_load}
+use Rattle.builder_core.specs.BuildSteps.{OnBuild, Loads, pairs_copied, after_load}
 use Rattle.builder_core.specs.SideFiles.{IsFed}
 use Rattle.builder_core.specs.Workers.{put_to, fed_to, index_at}
 use Rattle.catch_up.specs.Built.{BuiltValue}

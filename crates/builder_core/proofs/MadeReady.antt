@@ -24,7 +24,7 @@ use Rattle.builder_core.specs.Builds.{IndexValue}
 use Rattle.builder_core.specs.CatchingUp.{MayBeGuarded, built_pairs, its_verdict, ready_of}
 use Rattle.builder_core.specs.CoreState.{BuildState, ReadyValue}
 use Rattle.builder_core.specs.KeyCauses.{AreGuarded, HasGuards}
-use Rattle.builder_core.specs.Steps.{busy_refusal, cause_if, index_now}
+use Rattle.builder_core.specs.BuildSteps.{busy_refusal, cause_if, index_now}
 use Rattle.builder_core.specs.Verdicts.{accepted, verdict_on}
 use Rattle.builder_core.proofs.IndexApplied.{set_ordered}
 

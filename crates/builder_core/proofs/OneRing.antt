@@ -17,7 +17,7 @@ use Rattle.builder_core.specs.Builds.{LiveValue, BuildingValue, WorkValue, Build
 use Rattle.builder_core.specs.CoreState.{BuildState, LiveState}
 use Rattle.builder_core.specs.Ranges.{next_page}
 use Rattle.builder_core.specs.Rings.{all_sent, AreOfBuilds, ArePut, ArePutEnds, AreTaking, HasPut}
-use Rattle.builder_core.specs.Steps.{OnBuild}
+use Rattle.builder_core.specs.BuildSteps.{OnBuild}
 use Rattle.builder_core.proofs.Places.{kept, all_at}
 use Rattle.building.proofs.Taking.{put_taking}
 use Rattle.builder_core.proofs.AtWork.{taking_put}

@@ -19,7 +19,8 @@ use Rattle.builder_core.specs.CoreState.{CoreState, BuildState, ReadyValue}
 use Rattle.builder_core.specs.FullSpools.{IfSpooling, NoPageOnlyIfFull, WantedPage}
 use Rattle.builder_core.specs.KeyCauses.{keys_refusal}
 use Rattle.builder_core.specs.Ranges.{dealing_refusal}
-use Rattle.builder_core.specs.Steps.{Answers, Does, IsRefused, refusal, cause_if, build_cause}
+use Rattle.builder_core.specs.BuildSteps.{cause_if, build_cause}
+use Rattle.builder_core.specs.Steps.{Answers, Does, IsRefused, refusal}
 use Rattle.builder_core.specs.declared.dealing.Dealing.{Dealing}
 use Rattle.builder_core.specs.declared.dealing.Dealing.TheVariants.{Ends, Even}
 use Rattle.builder_core.specs.declared.event.Event.{Event}

@@ -34,7 +34,8 @@ use Rattle.visibility.specs.Applied.{apply_entries}
 use Rattle.visibility.specs.SideEntries.{SideEntry, changes}
 use Rattle.builder_core.proofs.TableBuilds.{set_of-keys}
 use Rattle.builder_core.specs.CoreState.{ReadyValue, LiveState, IsIndex, FollowTable, AreIndexesOf, live_with_heap}
-use Rattle.builder_core.specs.Steps.{OnRows, index_now, ready_now}
+use Rattle.builder_core.specs.BuildSteps.{index_now, ready_now}
+use Rattle.builder_core.specs.Steps.{OnRows}
 
 module _ (spec : KeySpecValue) (log new : List LogRec) (rid : Rid) (cells : Option (List Cell)) (sets : SetsRow log rid cells new) where
   -- what the new row changes at its RID

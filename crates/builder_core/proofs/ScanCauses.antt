@@ -9,7 +9,8 @@ use Rattle.builder_core.specs.Builds.{LiveValue, BuildingValue, WorkValue, IsRun
 use Rattle.builder_core.specs.CoreState.{BuildState, CoreState, WorkState}
 use Rattle.builder_core.specs.Ranges.{next_page}
 use Rattle.builder_core.specs.Rings.{all_sent, PagesFollow}
-use Rattle.builder_core.specs.Steps.{cause_if, refusal, range_refusal}
+use Rattle.builder_core.specs.BuildSteps.{cause_if, range_refusal}
+use Rattle.builder_core.specs.Steps.{refusal}
 use Rattle.builder_core.specs.Workers.{waiting}
 use Rattle.builder_core.specs.declared.event.Event.TheVariants.{Scan}
 use Rattle.builder_core.proofs.Looked.{runs_looked, state_looked}

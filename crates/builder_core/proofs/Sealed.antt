@@ -15,7 +15,8 @@ use Rattle.builder_core.specs.Builds.{LiveValue, BuildingValue, WorkValue, IsRun
 use Rattle.builder_core.specs.CoreState.{BuildState, WorkerState, WorkState, SpoolsState}
 use Rattle.builder_core.specs.Holding.{SpoolValue, Sealed, kit_of, spools_state}
 use Rattle.builder_core.specs.Rings.{all_sent, ArePut}
-use Rattle.builder_core.specs.Steps.{OnBuild, Seals, after_seal as sealed}
+use Rattle.builder_core.specs.BuildSteps.{OnBuild, Seals}
+use Rattle.builder_core.specs.Steps.{after_seal as sealed}
 use Rattle.builder_core.specs.Workers.{put_to, waiting}
 use Rattle.builder_core.specs.Working.{HasTaken, HasTakenAt, IsSpoiled, all_copies}
 use Rattle.builder_core.proofs.Copies.{copies_count}

@@ -23,7 +23,7 @@ use Rattle.builder_core.specs.CoreState.{LiveState, SpoolsState}
 use Rattle.scan_range.specs.Cuts.{are_cuts}
 use Rattle.scan_range.proofs.EvenEnds.{even_are_cuts, even_fit}
 use Rattle.builder_core.specs.Ranges.{dealt_ends, dealing_refusal}
-use Rattle.builder_core.specs.Steps.{same_kind, same_kinds, counts_fit, cause_if, spools_refusal, start_refusal, fresh_work}
+use Rattle.builder_core.specs.BuildSteps.{same_kind, same_kinds, counts_fit, cause_if, spools_refusal, start_refusal, fresh_work}
 use Rattle.keybytes.specs.Faults.{first_cause}
 
 same_kind-true : (a b : Kind) → same_kind a b ≡ true → a ≡ b

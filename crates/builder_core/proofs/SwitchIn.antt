@@ -21,7 +21,7 @@ use Rattle.builder_core.proofs.Applying.{stays_built}
 use Rattle.builder_core.proofs.Places.{below, map_at}
 use Rattle.builder_core.specs.CoreState.{BuildState, IndexState, LiveState, ReadyValue, CoreState, SpoolsState, idle}
 use Rattle.builder_core.specs.Holding.{spools_state}
-use Rattle.builder_core.specs.Steps.{OnBuild, Switches, CatchesUp, AreFurther, apply_refusal, busy_refusal, index_now, after_switch_in, verdicts_on}
+use Rattle.builder_core.specs.BuildSteps.{OnBuild, Switches, CatchesUp, AreFurther, apply_refusal, busy_refusal, index_now, after_switch_in, verdicts_on}
 use Rattle.builder_core.specs.Verdicts.{accepted, outcomes, verdict_on}
 use Rattle.builder_core.specs.Workers.{all_unapplied, unapplied}
 use Rattle.unique_verdict.specs.Shared.{shared_pairs}

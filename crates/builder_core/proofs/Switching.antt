@@ -32,7 +32,8 @@ use Rattle.builder_core.specs.CoreState.{CoreState, LiveState, BuildState, Ready
 use Rattle.builder_core.specs.Headline.{HasPairsAtRest, IsDecided, EachSwitchIsAtRest}
 use Rattle.keybytes.specs.declared.fault.Fault.{Fault}
 use Rattle.spool_ledger.specs.Accounts.{Stake}
-use Rattle.builder_core.specs.Steps.{Step, Run, Does, AfterWant, OnBuild, index_now, after_switch_in, verdicts_on}
+use Rattle.builder_core.specs.BuildSteps.{OnBuild, index_now, after_switch_in, verdicts_on}
+use Rattle.builder_core.specs.Steps.{Step, Run, Does, AfterWant}
 use Rattle.builder_core.specs.Verdicts.{accepted, next_number, outcome, outcomes, verdict_on}
 use Rattle.builder_core.proofs.MadeReady.{accepted_more, accepted_same, verdict_is_right}
 

@@ -14,11 +14,12 @@ use Rattle.builder_core.specs.CatchingUp.{MayCatchUp}
 use Rattle.builder_core.specs.declared.event.Event.TheVariants.{Switch}
 use Rattle.builder_core.specs.CoreState.{BuildState, IndexState, WorkState, CoreState}
 use Rattle.builder_core.specs.Ranges.{open_range}
-use Rattle.builder_core.specs.Steps.{OnBuild, CatchesUp, AreFurther, build_cause, cause_if, index_refusal, apply_refusal, behind_refusal, busy_refusal, refusal, switch_refusal}
+use Rattle.builder_core.specs.BuildSteps.{OnBuild, CatchesUp, AreFurther, build_cause, cause_if, index_refusal, apply_refusal, behind_refusal, busy_refusal, switch_refusal}
+use Rattle.builder_core.specs.Steps.{refusal}
 use Rattle.builder_core.specs.Workers.{all_unapplied, index_at, unloaded_index}
 use Rattle.std.proofs.lemmas.Option.{get_or_from_slice_get}
 use Rattle.builder_core.proofs.ApplyCauses.{first_none, inside_of}
-use Rattle.builder_core.proofs.CatchingUp.{indexes_many}
+use Rattle.builder_core.proofs.LeftOver.{indexes_many}
 use Rattle.builder_core.proofs.Refusals.{state_of, state_is}
 use Rattle.builder_core.proofs.Places.{below, there_is}
 

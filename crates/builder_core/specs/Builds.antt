@@ -26,7 +26,8 @@ use Rattle.builder_core.specs.Holding.{SpoolValue, spools_state, ended_spool, fr
 use Rattle.builder_core.specs.Rings.{all_sent, AreForWorkers, AreLooked, AreTaking, AreDone}
 use Rattle.builder_core.specs.Scanning.{Scanning, IsScanned, ReadOnce, scanned_at, scanned_pairs}
 use Rattle.builder_core.specs.SideFiles.{IsFed, HasLookedAtSide, SeesSide}
-use Rattle.builder_core.specs.Steps.{refusal, cause_if, build_cause, counts_refusal, range_refusal, ring_most, after_feed}
+use Rattle.builder_core.specs.BuildSteps.{cause_if, build_cause, counts_refusal, range_refusal, ring_most, after_feed}
+use Rattle.builder_core.specs.Steps.{refusal}
 use Rattle.builder_core.specs.declared.event.Event.{Event}
 use Rattle.builder_core.specs.Workers.{fed_to, unfed}
 use Rattle.builder_core.specs.SideEntries.{side_entries}

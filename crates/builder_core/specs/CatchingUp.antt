@@ -12,7 +12,7 @@ use Rattle.key_guards.specs.UniqueKeys.{HaveOwnKeys}
 use Rattle.catch_up.specs.Built.{BuiltValue, verdict_of}
 use Rattle.builder_core.specs.Builds.{IndexValue}
 use Rattle.builder_core.specs.CoreState.{BuildState, IndexState, CoreState, ReadyValue, IsIndex}
-use Rattle.builder_core.specs.Steps.{OnBuild, IsFurther, apply_refusal}
+use Rattle.builder_core.specs.BuildSteps.{OnBuild, IsFurther, apply_refusal}
 use Rattle.builder_core.specs.Workers.{all_entries, unapplied, fed_to, index_at}
 
 -- how many entries of an index were not applied yet

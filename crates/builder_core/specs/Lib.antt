@@ -1,3 +1,4 @@
+pub mod BuildSteps
 pub mod Builds
 pub mod CatchingUp
 pub mod Changing

@@ -16,7 +16,7 @@ ghost use Rattle.builder_core.specs.Changing.{FitsBuild, IsChangeOf, AreChangesO
 ghost use Rattle.builder_core.specs.CoreState.{AreIndexesOf};
 ghost use Rattle.builder_core.specs.KeyCauses.{AreGuarded, AreLetIn};
 ghost use Rattle.builder_core.specs.SideFiles.{SidesFollow, put_ends};
-ghost use Rattle.builder_core.specs.Steps.{ready_now};
+ghost use Rattle.builder_core.specs.BuildSteps.{ready_now};
 
 use crate::ReadyIndex;
 use crate::guarding::{make_guard_room, tell};

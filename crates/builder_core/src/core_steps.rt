@@ -9,7 +9,8 @@ ghost use Rattle.builder_core.specs.CoreState.{opening, abandoned, after_visits,
 ghost use Rattle.std.specs.VecDeque.Iter.{deque_iter_rest};
 ghost use Rattle.builder_core.specs.SideFiles.{AreEntriesLeft, HaveEntryKeys, side_refusal};
 ghost use Rattle.heap_log.specs.declared.outcome.Outcome.{Outcome};
-ghost use Rattle.builder_core.specs.Steps.{Step, Answers, OnBuild};
+ghost use Rattle.builder_core.specs.BuildSteps.{OnBuild};
+ghost use Rattle.builder_core.specs.Steps.{Step, Answers};
 ghost use Rattle.builder_core.specs.Verdicts.{HaveSharedKeys};
 ghost use Rattle.builder_core.specs.FullSpools.{IfSpooling, NoPageOnlyIfFull, WantedPage};
 ghost use Rattle.std.specs.Prelude.{IfSome};

@@ -1,5 +1,5 @@
-ghost use Rattle.std.specs.Prelude.{◌≡◌, IsSome, IfSome, IfOk, IfErr};
-ghost use Rattle.unique_verdict.specs.Verdicts.{accepts};
+ghost use Rattle.std.specs.Prelude.{◌≡◌, IsSome, IfSome, IfOk, IfErr, IsOk};
+ghost use Rattle.unique_verdict.specs.Verdicts.{IsShort, accepts};
 ghost use Rattle.builder_core.specs.CatchingUp.{its_verdict};
 
 use btree::Tree;
@@ -29,6 +29,7 @@ impl IndexWork {
     /// Whether its keys are unique, and which is shared if they aren't; one that needn't be unique is not asked.
     pub(crate) fn verdict(&self) -> Result<Verdict, Fault>
         ensures told { IfOk result (λ verdict. verdict ≡ its_verdict self.now) }
+        ensures sure { IsShort (its_verdict self.now) → IsOk result }
         ensures memory { IfErr result (λ fault. fault ≡ Fault.Memory) }
     {
         match &self.built {

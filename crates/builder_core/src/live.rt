@@ -1,5 +1,5 @@
 ghost use Rattle.std.specs.Prelude.{◌≡◌, ◌<◌, length, [], Some, None, IfOk, IfErr, IfSome, OnOk, OnErr, MatchOption, slice_get};
-ghost use Rattle.builder_core.specs.Steps.{OnBuild};
+ghost use Rattle.builder_core.specs.BuildSteps.{OnBuild};
 ghost use Rattle.keybytes.specs.Faults.{RefusedFor};
 ghost use Rattle.heap_log.specs.Standing.{live_at};
 ghost use Rattle.heap_table.specs.HeapState.{after_visit, row_missing};

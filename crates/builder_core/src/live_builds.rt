@@ -10,7 +10,7 @@ ghost use Rattle.builder_core.specs.Builds.{BuildingValue, given_up, core_state,
 ghost use Rattle.builder_core.specs.CoreState.{abandoned};
 ghost use Rattle.builder_core.specs.Ranges.{dealing_refusal, dealt_ends, next_page};
 ghost use Rattle.builder_core.specs.Rings.{begun_on};
-ghost use Rattle.builder_core.specs.Steps.{Starts, Scans, OnBuild, start_refusal, counts_fit, same_kinds, fenced};
+ghost use Rattle.builder_core.specs.BuildSteps.{Starts, Scans, OnBuild, start_refusal, counts_fit, same_kinds, fenced};
 
 use crate::live_sides::empty_all;
 use crate::parts::{INDEXES_MAX, WORKERS_MAX};

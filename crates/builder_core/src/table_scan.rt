@@ -7,7 +7,7 @@ ghost use Rattle.builder_core.specs.CoreState.{BuildState};
 ghost use Rattle.builder_core.specs.Builds.{AreScansOf, build_over};
 ghost use Rattle.builder_core.specs.Ranges.{next_page, open_range};
 ghost use Rattle.builder_core.specs.Scanning.{scanned_at};
-ghost use Rattle.builder_core.specs.Steps.{after_feed};
+ghost use Rattle.builder_core.specs.BuildSteps.{after_feed};
 ghost use Rattle.builder_core.specs.Workers.{fed_to};
 
 use crate::Scan;

@@ -1,5 +1,5 @@
 -- What the calls of a worker leave.
-use Rattle.std.specs.Prelude.{ℕ, ◌+◌, ◌≤◌, List, length, take}
+use Rattle.std.specs.Prelude.{◌≡◌, ℕ, ◌+◌, ◌≤◌, List, length, take}
 use Rattle.heap_table.specs.Images.{ImageValue}
 use Rattle.building.specs.declared.copied.Copied.{Copied}
 use Rattle.building.specs.Copies.{images_of}
@@ -25,6 +25,11 @@ next_images n worker = images_of worker.build (take n worker.end.known)
 -- the first n copies that it has seen are taken
 abbrev pub after_digest : ℕ → WorkerValue → WorkerValue
 after_digest n worker = record worker { end = after_taking n worker.end; taken = worker.taken + length (next_images n worker) }
+
+-- it stopped: the first n copies that it has seen are taken, and all of them counted but perhaps the last
+abbrev pub StopsAfter : ℕ → WorkerValue → WorkerValue → Type 0
+StopsAfter n old new =
+    (counted : ℕ) × (counted ≤ n) × (n ≤ counted + 1) × (new ≡ record (after_digest counted old) { end = after_taking n old.end })
 
 -- all that is taken is sealed
 abbrev pub after_seal : WorkerValue → WorkerValue

@@ -7,7 +7,7 @@ ghost use Rattle.run_maker.specs.Spooling.{MemoryOnlyIf};
 ghost use Rattle.building.specs.Holding.{TakesAll, HoldsMore};
 ghost use Rattle.building.specs.ImagePairs.{HaveRows};
 ghost use Rattle.building.specs.TakeEnd.{take_end, after_taking, PutEndLooked};
-ghost use Rattle.building.specs.Work.{at_start, IsWorker, knowing, next_images, after_digest, after_seal};
+ghost use Rattle.building.specs.Work.{at_start, IsWorker, StopsAfter, knowing, next_images, after_digest, after_seal};
 
 use crate::{Copied, PagePutter};
 use keybytes::Fault;
@@ -164,8 +164,7 @@ impl Worker {
         ensures specs { maker.new.specs ≡ maker.old.specs }
         ensures build { self.new.build ≡ self.old.build }
         ensures ring { self.new.end.ring ≡ self.old.end.ring }
-        ensures unsealed { OnErr result (self.new.sealed ≡ self.old.sealed) }
-        ensures failed { OnErr result ((n : ℕ) × (n ≤ length self.old.end.known) × (self.new.end ≡ after_taking n self.old.end)) }
+        ensures failed { OnErr result ((n : ℕ) × (n ≤ length self.old.end.known) × StopsAfter n self.old self.new) }
         ensures fault { IfErr result (λ fault. (fault ≡ Fault.NoPage) ⊎ (fault ≡ Fault.Memory)) }
         ensures full { IfErr result (NoPageOnlyIf (HasFull S.is_full spools.new)) }
         ensures want { IfErr result (MemoryOnlyIf (AreReady (map S.runs spools.new) (map S.open_run spools.new))) }

@@ -1,5 +1,5 @@
 -- What applying the entries that wait leaves of an index, of its side-file and of the ring between them.
-use Rattle.std.specs.Prelude.{◌≡◌, ℕ, ◌<◌, ◌≤◌, List, [], ◌++◌, length, Result, IfOk, OnOk, OnErr, IfErr}
+use Rattle.std.specs.Prelude.{◌≡◌, ℕ, ◌<◌, ◌≤◌, List, [], ◌∷◌, ◌++◌, length, Result, IfOk, OnOk, OnErr, IfErr}
 use Rattle.std.specs.declared.alloc.Global.{Global}
 use mathlib.Core.List.{IsPrefix}
 use Rattle.rtrb.specs.declared.consumer.Consumer.{Consumer}
@@ -10,7 +10,7 @@ use Rattle.keybytes.specs.declared.fault.Fault.TheVariants.{Memory}
 use Rattle.side_file.specs.Ends.{ring_take}
 use Rattle.side_file.specs.declared.entry.Entry.{Entry}
 use Rattle.visibility.specs.Applied.{apply_entries}
-use Rattle.catch_up.specs.Built.{BuiltValue, told_to}
+use Rattle.catch_up.specs.Built.{BuiltValue, MayWant, told_to}
 
 -- those of the index's build were applied to it, in order, and those of another build left out
 pub record Applied (entries : List Entry) (old new : BuiltValue) : Type 0 where
@@ -25,6 +25,10 @@ module _ {P : Type 0} where
     pub received : received new ≡ received old ++ entries
     pub known : IsPrefix (known_items old) (entries ++ known_items new)
 
+  -- the entry that the ring has next may want memory
+  abbrev pub NextMayWant : BuiltValue → Consumer Entry Global P → Type 0
+  NextMayWant built ring = (entry : Entry) × IsPrefix (entry ∷ []) (known_items ring) × MayWant built entry
+
   -- at most k entries are taken and applied: fewer only for want of memory, or where no more is known to be in the ring
   pub record Applies
       (k : ℕ) (old : BuiltValue) (before : Consumer Entry Global P) (answer : Result ℕ Fault) (new : BuiltValue) (after : Consumer Entry Global P) : Type 0 where
@@ -35,4 +39,5 @@ module _ {P : Type 0} where
     pub count : IfOk answer (λ count. count ≡ length entries)
     pub all : OnOk answer (length entries < k → known_items after ≡ [])
     pub short : OnErr answer (length entries < k)
+    pub needed : OnErr answer (NextMayWant new after)
     pub memory : IfErr answer (λ fault. fault ≡ Memory)

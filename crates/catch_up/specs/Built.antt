@@ -1,5 +1,5 @@
 -- An index that is being built, and what the entries of its side-file do to it.
-use Rattle.std.specs.Prelude.{◌≡◌, ℕ, ◌==◌, Bool, if◌then◌else◌, List, map, filter, Option, IfSome}
+use Rattle.std.specs.Prelude.{◌≡◌, ◌⊎◌, ℕ, ◌==◌, Bool, true, if◌then◌else◌, List, map, filter, Option, IfSome}
 use Rattle.std.specs.FinSet.{FinSet}
 use Rattle.keybytes.specs.Pairs.{pair_cmp}
 use Rattle.unique_verdict.specs.Shared.{shared_of, shared_pairs}
@@ -25,6 +25,10 @@ verdict_of built = if built.unique then first_shared (shared_pairs built.pairs) 
 -- where a tally is kept, it is that of these pairs
 abbrev pub Tallies : Option (List Pair) → FinSet pair_cmp → Type 0
 Tallies tally pairs = IfSome tally (λ shared. shared ≡ shared_of pairs)
+
+-- whether an entry may want memory: one of the index's build that puts a pair in, or of which a tally is told
+abbrev pub MayWant : BuiltValue → Entry → Type 0
+MayWant built entry = (entry.build ≡ built.build) × ((entry.op ≡ Insert) ⊎ (built.unique ≡ true))
 
 abbrev pub change_by : Op → Pair → SideEntry
 change_by Delete pair = delete pair

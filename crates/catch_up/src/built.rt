@@ -1,9 +1,9 @@
 ghost use Rattle.std.specs.Prelude.{◌≡◌, ◌+◌, ◌<◌, [], length, take, true, false, IfOk, OnOk, OnErr, IfErr, IsOk};
 ghost use Rattle.rtrb.specs.Ring.{known_items};
 ghost use Rattle.keybytes.specs.Pairs.{AreOrdered};
-ghost use Rattle.catch_up.specs.Applying.{Applied, Taken};
+ghost use Rattle.catch_up.specs.Applying.{Applied, NextMayWant, Taken};
 ghost use Rattle.catch_up.specs.Built.{verdict_of};
-ghost use Rattle.unique_verdict.specs.Verdicts.{accepts};
+ghost use Rattle.unique_verdict.specs.Verdicts.{IsShort, accepts};
 
 use crate::changing::{change, count, make_room};
 use btree::Tree;
@@ -77,7 +77,7 @@ impl Built {
     /// copy of a long key that is shared.
     pub fn verdict(&self) -> Result<Verdict, Fault>
         ensures told { IfOk result (λ verdict. verdict ≡ verdict_of self.now) }
-        ensures sure { accepts (verdict_of self.now) ≡ true → IsOk result }
+        ensures sure { IsShort (verdict_of self.now) → IsOk result }
         ensures memory { IfErr result (λ fault. fault ≡ Fault.Memory) }
     {
         self.tree.laws();
@@ -124,6 +124,7 @@ impl Built {
         ensures applied { OnOk result (Applied (take 1 (known_items ring.old)) self.old self.new) }
         ensures waits { OnErr result (Taken [] ring.old ring.new) }
         ensures unchanged { OnErr result (self.new ≡ self.old) }
+        ensures needed { OnErr result (NextMayWant self.new ring.new) }
         ensures memory { IfErr result (λ fault. fault ≡ Fault.Memory) }
     {
         let next = ring.peek_known();

@@ -13,6 +13,7 @@ use unique_verdict::Tally;
 pub fn make_room(tree: &mut Tree, build: u64, entry: &Entry) -> Result<(), Fault>
     ensures room { OnOk result (entry.now.build ≡ build → entry.now.op ≡ Op.Insert → tree.new.room ≡ true) }
     ensures pairs { tree.new.pairs ≡ tree.old.pairs }
+    ensures needed { OnErr result ((entry.now.build ≡ build) × (entry.now.op ≡ Op.Insert)) }
     ensures memory { IfErr result (λ fault. fault ≡ Fault.Memory) }
 {
     match entry.op {
@@ -28,6 +29,7 @@ pub fn count(tally: &mut Option<Tally>, tree: &Tree, build: u64, entry: &Entry) 
     ensures other { OnOk result (entry.now.build ≢ build → Tallies tally.new (set_of tree.now.pairs)) }
     ensures unchanged { OnErr result (Tallies tally.new (set_of tree.now.pairs)) }
     ensures kept { is_some tally.new ≡ is_some tally.old }
+    ensures needed { OnErr result ((entry.now.build ≡ build) × (is_some tally.old ≡ true)) }
     ensures memory { IfErr result (λ fault. fault ≡ Fault.Memory) }
 {
     let Some(tally) = tally else {

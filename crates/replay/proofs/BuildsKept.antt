@@ -7,8 +7,10 @@ use Rattle.heap_log.specs.declared.outcome.Outcome.{Outcome}
 use Rattle.heap_log.specs.Standing.{newest_standing}
 use Rattle.heap_table.specs.HeapState.{HeapState, after_step, after_fence}
 use Rattle.builder_core.specs.CoreState.{CoreState, LiveState, BuildState, IndexState, WorkState, SpoolsState, idle, opening, with_heap, with_live}
-use Rattle.builder_core.specs.Steps.{AfterWant, AreFurther, CatchesUp, Does, OnBuild, Step, after_apply, after_digest, after_feed, after_load, after_scan, after_seal, after_switch_in}
-use Rattle.builder_core.specs.Steps.{build_cause, fenced, load_refusal, next_applied, next_copies, next_fed, pairs_copied, refusal, spoiled_by, verdicts_on, worker_refusal}
+use Rattle.builder_core.specs.BuildSteps.{AreFurther, CatchesUp, OnBuild, after_apply, after_digest, after_feed, after_load, after_scan, after_seal, after_switch_in}
+use Rattle.builder_core.specs.Steps.{AfterWant, Does, Step}
+use Rattle.builder_core.specs.BuildSteps.{build_cause, fenced, load_refusal, next_applied, next_copies, next_fed, pairs_copied, verdicts_on, worker_refusal}
+use Rattle.builder_core.specs.Steps.{refusal, spoiled_by}
 use Rattle.builder_core.specs.Ranges.{next_page}
 use Rattle.builder_core.specs.Workers.{index_at, waiting}
 use Rattle.std.specs.List.{slice_get}

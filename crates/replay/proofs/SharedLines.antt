@@ -4,7 +4,7 @@ use Rattle.std.specs.Prelude.{IfSome}
 use Rattle.keybytes.specs.Keys.{KeySpecValue}
 use Rattle.heap_log.specs.declared.outcome.Outcome.{Outcome}
 use Rattle.builder_core.specs.CoreState.{BuildState}
-use Rattle.builder_core.specs.Steps.{OnBuild}
+use Rattle.builder_core.specs.BuildSteps.{OnBuild}
 use Rattle.replay.specs.Listings.{ListsShared}
 use Rattle.replay.specs.declared.shared_line.SharedLine.{SharedLine}
 

@@ -13,7 +13,8 @@ use Rattle.heap_table.specs.HeapState.{after_visit, is_open, row_missing}
 use Rattle.builder_core.specs.CoreState.{CoreState, with_heap}
 use Rattle.std.specs.List.{list_any}
 use Rattle.std.specs.declared.alloc.Global.{Global}
-use Rattle.builder_core.specs.Steps.{Step, OnBuild}
+use Rattle.builder_core.specs.BuildSteps.{OnBuild}
+use Rattle.builder_core.specs.Steps.{Step}
 use Rattle.builder_core.specs.declared.event.Event.{Event}
 use Rattle.builder_core.specs.declared.event.Event.TheVariants as event
 use Rattle.builder_core.specs.declared.plan.Plan.{Plan}

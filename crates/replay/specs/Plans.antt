@@ -6,7 +6,7 @@ use Rattle.keybytes.specs.declared.fault.Fault.{Fault}
 use Rattle.keybytes.specs.declared.fault.Fault.TheVariants.{BadCount, BuildRunning}
 use Rattle.keybytes.specs.declared.kind.Kind.{Kind}
 use Rattle.builder_core.specs.CoreState.{CoreState}
-use Rattle.builder_core.specs.Steps.{cause_if}
+use Rattle.builder_core.specs.BuildSteps.{cause_if}
 use Rattle.builder_core.specs.declared.dealing.Dealing.{Dealing}
 use Rattle.builder_core.specs.declared.dealing.Dealing.TheVariants.{Ends, Even}
 use Rattle.builder_core.specs.declared.plan.Plan.{Plan}

@@ -1,5 +1,5 @@
 -- What a verdict says of the pairs.
-use Rattle.std.specs.Prelude.{◌≡◌, Bool, true, false, List, [], ◌∷◌}
+use Rattle.std.specs.Prelude.{◌≡◌, ◌≤◌, ⊤, Bool, true, false, List, [], ◌∷◌, length}
 use Rattle.keybytes.specs.declared.pair.Pair.{Pair}
 use Rattle.tree_nodes.specs.Lists.{In}
 use Rattle.tree_nodes.specs.Order.{is_before}
@@ -28,6 +28,11 @@ first_shared (first ∷ second ∷ rest) = Shared first.key first.rid second.rid
 abbrev pub accepts : Verdict → Bool
 accepts Unique = true
 accepts (Shared key first second) = false
+
+-- whether to tell it takes no memory: a key that it names has at most 24 bytes
+abbrev pub IsShort : Verdict → Type 0
+IsShort Unique = ⊤
+IsShort (Shared key first second) = length key ≤ 24
 
 abbrev pub IsVerdict : List Pair → Verdict → Type 0
 IsVerdict pairs Unique = IsUnique pairs

@@ -1,10 +1,10 @@
-ghost use Rattle.std.specs.Prelude.{◌≡◌, List, Some, true, IfOk, IfErr, OnOk, OnErr, IsOk};
+ghost use Rattle.std.specs.Prelude.{◌≡◌, List, Some, IfOk, IfErr, OnOk, OnErr, IsOk};
 ghost use Rattle.keybytes.specs.Pairs.{set_of, with_pair, without_pair, AreOrdered};
 ghost use Rattle.keybytes.specs.declared.pair.Pair.{Pair};
 ghost use Rattle.btree.specs.TreeValue.{is_key};
 ghost use Rattle.unique_verdict.specs.Counting.{counted};
 ghost use Rattle.unique_verdict.specs.Shared.{shared_of};
-ghost use Rattle.unique_verdict.specs.Verdicts.{IsVerdict, first_shared, accepts};
+ghost use Rattle.unique_verdict.specs.Verdicts.{IsVerdict, IsShort, first_shared, accepts};
 
 use crate::Verdict;
 use crate::key_holders::KeyHolders;
@@ -107,7 +107,7 @@ impl Tally {
     /// Whether keys are unique in the tree whose tally it is, and which is shared if they aren't. The copy of a long key takes memory.
     pub fn verdict(&self) -> Result<Verdict, Fault>
         ensures told { IfOk result (λ verdict. verdict ≡ first_shared self.now) }
-        ensures sure { accepts (first_shared self.now) ≡ true → IsOk result }
+        ensures sure { IsShort (first_shared self.now) → IsOk result }
         ensures is { IfOk result (λ verdict. (pairs : List Pair) → AreOrdered pairs → self.now ≡ shared_of (set_of pairs) → IsVerdict pairs verdict) }
         ensures memory { IfErr result (λ fault. fault ≡ Fault.Memory) }
     {

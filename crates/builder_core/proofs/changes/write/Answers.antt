@@ -4,7 +4,7 @@ use Rattle.builder_core.specs.KeyCauses.{AreGuarded}
 use Rattle.builder_core.proofs.EachGuarded.{guarded_now, whole_guards}
 use Rattle.builder_core.proofs.Performed.{schema_stays}
 use Rattle.builder_core.proofs.ReadyFollow.{whole_slice, written_indexes}
-use Rattle.builder_core.specs.Steps.{ready_now}
+use Rattle.builder_core.specs.BuildSteps.{ready_now}
 use Rattle.builder_core.proofs.changes.write.Goals as goal
 
 pub returns-clause-indexes : goal.returns-clause-indexes

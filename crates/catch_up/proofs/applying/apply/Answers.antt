@@ -23,6 +23,7 @@ returns-in_err-take_next c =
       count = search rules;
       all = search rules;
       short = on_err c.from_residual.result (omega (arith, so_far.count, c.loop-test.true, c.min-count.ensures));
+      needed = on_err c.from_residual.result c.in_err-take_next.ensures.needed;
       memory = search rules;
     }
 
@@ -50,5 +51,6 @@ returns c =
           omega (arith, few, so_far.count, c.loop.auto, c.loop-test.false, c.loop.invariant.rest, c.min-count.ensures, c.slots.ensures.value)
           );
       short = search rules;
+      needed = search rules;
       memory = search rules;
     }

@@ -2,7 +2,8 @@ use Rattle.std.proofs.Common.{Option, length, sym, subst}
 use Rattle.heap_table.specs.Kept.{RowsFit}
 use Rattle.builder_core.specs.Builds.{BuildFollows}
 use Rattle.builder_core.specs.CoreState.{CoreState, BuildState}
-use Rattle.builder_core.specs.Steps.{Step, OnBuild}
+use Rattle.builder_core.specs.BuildSteps.{OnBuild}
+use Rattle.builder_core.specs.Steps.{Step}
 use Rattle.builder_core.specs.Verdicts.{HaveSharedKeys}
 use Rattle.builder_core.specs.declared.reply.Reply.{Reply}
 use Rattle.builder_core.proofs.PageCauses.{wanted_page}

@@ -1,7 +1,7 @@
 use Rattle.std.proofs.Common.{◌≡◌, None, refl, subst}
 use Rattle.builder_core.specs.Builds.{core_state}
 use Rattle.builder_core.specs.CoreState.{CoreState}
-use Rattle.builder_core.specs.Steps.{Switches, build_cause, switch_refusal}
+use Rattle.builder_core.specs.BuildSteps.{Switches, build_cause, switch_refusal}
 use Rattle.builder_core.proofs.core_steps.Core.switch.Goals as goal
 
 pub returns : goal.returns

@@ -4,7 +4,7 @@ use Rattle.builder_core.specs.Builds.{LiveValue, BuildingValue, WorkValue}
 use Rattle.builder_core.specs.CoreState.{BuildState, CoreState}
 use Rattle.builder_core.specs.Ranges.{open_range}
 use Rattle.builder_core.specs.Rings.{all_sent, AreDone, IsUnfinished}
-use Rattle.builder_core.specs.Steps.{build_cause, load_refusal}
+use Rattle.builder_core.specs.BuildSteps.{build_cause, load_refusal}
 use Rattle.builder_core.proofs.LoadCauses.{load_free, load_loud}
 use Rattle.builder_core.proofs.Looked.{works_looked, state_looked, runs_looked}
 use Rattle.builder_core.proofs.Refusals.{running}

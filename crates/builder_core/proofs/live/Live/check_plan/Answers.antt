@@ -8,7 +8,7 @@ use Rattle.heap_table.specs.Pages.{pages_written}
 use Rattle.builder_core.specs.Builds.{LiveValue, core_state}
 use Rattle.builder_core.specs.CoreState.{LiveState, SpoolsState}
 use Rattle.builder_core.specs.Ranges.{dealing_refusal}
-use Rattle.builder_core.specs.Steps.{counts_fit, same_kinds}
+use Rattle.builder_core.specs.BuildSteps.{counts_fit, same_kinds}
 use Rattle.builder_core.specs.declared.plan.Plan.{Plan}
 use Rattle.builder_core.proofs.Starts.{bad_column, bad_ranges, bad_spools, nothing_bad}
 use Rattle.builder_core.proofs.live.Live.check_plan.Goals as goal

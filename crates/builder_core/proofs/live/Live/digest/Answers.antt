@@ -8,7 +8,8 @@ use Rattle.builder_core.specs.Builds.{LiveValue, BuildingValue, core_state}
 use Rattle.builder_core.specs.CoreState.{CoreState}
 use Rattle.builder_core.specs.FullSpools.{WasFull, WorkerWasFull}
 use Rattle.builder_core.specs.Holding.{stakes_of}
-use Rattle.builder_core.specs.Steps.{Waits, Digests, spoiled_by}
+use Rattle.builder_core.specs.BuildSteps.{Waits, Digests}
+use Rattle.builder_core.specs.Steps.{spoiled_by}
 use Rattle.builder_core.proofs.FullSpools.{full_in_build}
 use Rattle.builder_core.proofs.Looked.{works_looked, state_looked, runs_looked}
 use Rattle.builder_core.proofs.Places.{map_at}

@@ -11,7 +11,7 @@ use Rattle.builder_core.specs.CoreState.{BuildState}
 use Rattle.builder_core.specs.Rings.{all_sent, HasPut, PagesFollow}
 use Rattle.builder_core.specs.SideFiles.{HasEntries, HaveEntries, SidesFollow, put_ends}
 use Rattle.side_file.specs.Changes.{feed_most}
-use Rattle.builder_core.specs.Steps.{after_feed}
+use Rattle.builder_core.specs.BuildSteps.{after_feed}
 use Rattle.builder_core.specs.Workers.{unfed}
 use Rattle.builder_core.proofs.Feeding.{left_unfed, fed_countable, follow_fed, build_fed, work_fed, sides_fed}
 use Rattle.builder_core.proofs.Places.{at_index, map_at, there_is}

@@ -13,7 +13,7 @@ use Rattle.builder_core.specs.Rings.{all_sent, AreOfBuilds, HasPut, PagesFollow}
 use Rattle.builder_core.specs.Ranges.{next_page}
 use Rattle.builder_core.specs.SideFiles.{HaveEntries, SidesFollow, put_ends}
 use Rattle.builder_core.specs.KeyCauses.{AreGuarded}
-use Rattle.builder_core.specs.Steps.{OnBuild}
+use Rattle.builder_core.specs.BuildSteps.{OnBuild}
 use Rattle.builder_core.proofs.Places.{here_set, map_at}
 use Rattle.builder_core.proofs.SideKept.{sides_next}
 use Rattle.builder_core.proofs.TableBuilds.{scanned_next, work_of_next}

@@ -8,7 +8,8 @@ use Rattle.builder_core.specs.Builds.{LiveValue, BuildingValue, core_state}
 use Rattle.builder_core.specs.CoreState.{CoreState}
 use Rattle.builder_core.specs.FullSpools.{WasFull, WorkerWasFull}
 use Rattle.builder_core.specs.Holding.{stakes_of}
-use Rattle.builder_core.specs.Steps.{Seals, spoiled_by}
+use Rattle.builder_core.specs.BuildSteps.{Seals}
+use Rattle.builder_core.specs.Steps.{spoiled_by}
 use Rattle.builder_core.specs.Working.{all_copies}
 use Rattle.builder_core.proofs.FullSpools.{full_in_build}
 use Rattle.builder_core.proofs.Looked.{state_looked, runs_looked}

@@ -20,7 +20,7 @@ use Rattle.builder_core.specs.declared.plan.Plan.{Plan}
 use Rattle.builder_core.proofs.Kits.{each_empty}
 use Rattle.run_spool.specs.Spools.{holds_nothing}
 use Rattle.builder_core.specs.Rings.{all_sent, AreOfBuilds, ArePutEnds, begun_on}
-use Rattle.builder_core.specs.Steps.{started, fresh_work}
+use Rattle.builder_core.specs.BuildSteps.{started, fresh_work}
 use Rattle.builder_core.proofs.Puts.{pages_started, builds_more}
 use Rattle.builder_core.proofs.SideKept.{sides_opened}
 use Rattle.builder_core.proofs.Started.{build_on, build_is_on, started_follows, put_ends_started, take_ends_started, started_works}

@@ -16,7 +16,7 @@ use Rattle.builder_core.specs.Builds.{LiveValue, BuildingValue, WorkValue, Index
 use Rattle.builder_core.specs.CatchingUp.{IsDoneIndex, MayBeGuarded, its_verdict, ready_of}
 use Rattle.builder_core.specs.CoreState.{AreIndexesOf, BuildState, ReadyValue, CoreState}
 use Rattle.builder_core.specs.Holding.{spool_value, spools_state}
-use Rattle.builder_core.specs.Steps.{Switches, index_now, verdicts_on}
+use Rattle.builder_core.specs.BuildSteps.{Switches, index_now, verdicts_on}
 use Rattle.builder_core.specs.KeyCauses.{AreGuarded}
 use Rattle.builder_core.specs.Verdicts.{accepted, outcomes, verdict_on}
 use Rattle.builder_core.proofs.Following.{indexes_more}

@@ -1,6 +1,6 @@
 use Rattle.std.proofs.Common.{◌≡◌, ◌≤◌, ◌*◌, ◌^◌}
 use Rattle.builder_core.specs.Builds.{core_state}
-use Rattle.builder_core.proofs.CatchingUp.{left_before}
+use Rattle.builder_core.proofs.LeftOver.{left_before}
 use Rattle.builder_core.proofs.live.Live.unapplied.Given as goal
 
 abbrev pub invariant-loop-index : goal.invariant-loop-index

@@ -4,7 +4,7 @@ use Rattle.side_file.specs.declared.entry.Entry.{Entry}
 use Rattle.building.specs.TakeEnd.{TakeEnd, take_end}
 use Rattle.builder_core.specs.Builds.{LiveValue, BuildingValue, BuildFollows}
 use Rattle.builder_core.specs.SideFiles.{SidesFollow}
-use Rattle.builder_core.proofs.CatchingUp.{left_known}
+use Rattle.builder_core.proofs.LeftOver.{left_known}
 use Rattle.builder_core.proofs.SideEnds.{eight_sides}
 use Rattle.builder_core.proofs.live.Live.unapplied_of.Goals as goal
 

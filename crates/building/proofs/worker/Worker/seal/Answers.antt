@@ -9,7 +9,7 @@ use Rattle.building.specs.ImagePairs.{HaveRows}
 use Rattle.building.specs.TakeEnd.{after_taking}
 use Rattle.building.specs.Work.{next_images, after_digest}
 use Rattle.building.specs.WorkerValue.{WorkerValue}
-use Rattle.building.proofs.Digests.{can_next, digest_more, images_more, taking_more, next_few}
+use Rattle.building.proofs.Digests.{can_next, digest_more, images_more, taking_more, next_few, same_worker}
 use Rattle.building.proofs.Holding.{takes_more, takes_sealed}
 use Rattle.building.proofs.worker.Worker.seal.Goals as goal
 
@@ -26,11 +26,19 @@ pub returns-in_err-images-clause-failed : goal.returns-in_err-images-clause-fail
 returns-in_err-images-clause-failed g c =
     let worker = c.args.self.now in
     let p = err_from_is_err_and c.from_residual.result c.from_residual.ensures.1 in
+    let counted = c.loop.counter in
+    let build = ap (λ (w : WorkerValue). w.build) c.loop.invariant.taken in
     let end = ap (λ (w : WorkerValue). w.end) c.loop.invariant.taken in
+    let taken = ap (λ (w : WorkerValue). w.taken) c.loop.invariant.taken in
+    let sealed = ap (λ (w : WorkerValue). w.sealed) c.loop.invariant.taken in
     rw p.1 (
-      c.loop.counter + 1,
+      counted + 1,
       omega arith,
-      c.digest.ensures.end ∙ (ap (λ end. after_taking 1 end) end ∙ taking_more c.loop.counter 1 worker.end),
+      (counted, omega arith, omega arith, same_worker c.digest.new.self (record (after_digest counted worker) { end = after_taking (counted + 1) worker.end })
+          (c.digest.ensures.build ∙ build)
+          (c.digest.ensures.end ∙ (ap (λ end. after_taking 1 end) end ∙ taking_more counted 1 worker.end))
+          (c.in_err-images.ensures.uncounted ∙ taken)
+          (c.digest.ensures.unsealed ∙ sealed)),
     )
 
 pub overflow_add-images : goal.overflow_add-images

@@ -1,6 +1,6 @@
 use Rattle.std.proofs.Common.{refl, subst}
 use Rattle.builder_core.specs.CoreState.{CoreState}
-use Rattle.builder_core.specs.Steps.{OnBuild}
+use Rattle.builder_core.specs.BuildSteps.{OnBuild}
 use Rattle.builder_core.specs.Verdicts.{HaveSharedKeys}
 use Rattle.replay.proofs.bench.Bench.switch.Goals as goal
 

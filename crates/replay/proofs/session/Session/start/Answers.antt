@@ -3,7 +3,7 @@ use Rattle.keybytes.specs.Faults.{first_cause}
 use Rattle.keybytes.specs.declared.fault.Fault.{Fault}
 use Rattle.keybytes.specs.declared.fault.Fault.TheVariants.{BadCount, BuildRunning}
 use Rattle.builder_core.specs.CoreState.{CoreState}
-use Rattle.builder_core.specs.Steps.{cause_if}
+use Rattle.builder_core.specs.BuildSteps.{cause_if}
 use Rattle.replay.specs.Answers.{StartsBuild, Unless, answer_of}
 use Rattle.replay.specs.declared.answer.Answer.TheVariants.{Number}
 use Rattle.replay.specs.Limits.{is_in_limits}

@@ -1,7 +1,7 @@
 use Rattle.std.proofs.Common.{◌≡◌, ◌⊎◌, ℕ, [], ap, refl, subst, inl, inr}
 use Rattle.std.specs.Prelude.{IfSome}
 use Rattle.builder_core.specs.CoreState.{CoreState}
-use Rattle.builder_core.specs.Steps.{OnBuild}
+use Rattle.builder_core.specs.BuildSteps.{OnBuild}
 use Rattle.builder_core.specs.Verdicts.{HaveSharedKeys}
 use Rattle.replay.proofs.SharedLines.{lists_or_none}
 use Rattle.replay.specs.Listings.{ListsShared}
