@@ -1,3 +1,4 @@
+pub mod AllFollow
 pub mod ApplyCauses
 pub mod Applying
 pub mod AtWork

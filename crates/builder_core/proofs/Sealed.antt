@@ -16,7 +16,7 @@ use Rattle.builder_core.specs.CoreState.{BuildState, WorkerState, WorkState, Spo
 use Rattle.builder_core.specs.Holding.{SpoolValue, Sealed, kit_of, spools_state}
 use Rattle.builder_core.specs.Rings.{all_sent, ArePut}
 use Rattle.builder_core.specs.BuildSteps.{OnBuild, Seals}
-use Rattle.builder_core.specs.Steps.{after_seal as sealed}
+use Rattle.builder_core.specs.BuildSteps.{after_seal as sealed}
 use Rattle.builder_core.specs.Workers.{put_to, waiting}
 use Rattle.builder_core.specs.Working.{HasTaken, HasTakenAt, IsSpoiled, all_copies}
 use Rattle.builder_core.proofs.Copies.{copies_count}

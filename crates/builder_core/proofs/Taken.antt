@@ -16,7 +16,7 @@ use Rattle.builder_core.specs.CoreState.{BuildState, WorkerState, WorkState, Spo
 use Rattle.builder_core.specs.Holding.{SpoolValue, Digested, kit_of, spools_state}
 use Rattle.builder_core.specs.Rings.{all_sent, ArePut}
 use Rattle.builder_core.specs.BuildSteps.{OnBuild, Waits, Digests, next_copies}
-use Rattle.builder_core.specs.Steps.{after_digest as digested}
+use Rattle.builder_core.specs.BuildSteps.{after_digest as digested}
 use Rattle.builder_core.specs.Workers.{waiting, worker_at}
 use Rattle.builder_core.specs.Working.{HasTaken, HasTakenAt, IsSpoiled, one_copy}
 use Rattle.builder_core.proofs.Refusals.{state_is, waiting_is, worker_there}

@@ -1,17 +1,23 @@
--- What a change of a row, made ready, appends to the side-files of a build.
-use Rattle.std.specs.Prelude.{◌≡◌, ℕ, true, List, [], ◌++◌, map, Option, Some, None, IfSome}
+-- What a change of a row, made ready, appends to the side-files of a build, and what goes on beside it.
+use Rattle.std.specs.Prelude.{◌≡◌, ℕ, true, List, [], ◌++◌, length, map, Option, Some, None, IfSome}
 use Rattle.std.specs.List.{All, slice_get}
 use Rattle.keybytes.specs.Cells.{fits}
 use Rattle.keybytes.specs.Keys.{KeySpecValue}
 use Rattle.keybytes.specs.declared.rid.Rid.{Rid}
+use Rattle.heap_table.specs.HeapState.{HeapState}
 use Rattle.heap_table.specs.declared.ready.Ready.{Ready}
+use Rattle.key_guards.specs.Guarded.{GuardsValue}
+use Rattle.building.specs.declared.copied.Copied.{Copied}
 use Rattle.side_file.specs.Entries.{entry_of}
 use Rattle.side_file.specs.SideFileValue.{SideFileValue}
 use Rattle.side_file.specs.declared.entry.Entry.{Entry}
 use Rattle.visibility.specs.SideEntries.{entries_of_change}
 use Rattle.visibility.specs.declared.change.Change.{Change}
-use Rattle.builder_core.specs.CoreState.{BuildState}
-use Rattle.builder_core.specs.SideFiles.{noted}
+use Rattle.builder_core.specs.Builds.{WorkValue, BuildFollows, IsWorkOf}
+use Rattle.builder_core.specs.CoreState.{BuildState, ReadyValue, AreIndexesOf}
+use Rattle.builder_core.specs.KeyCauses.{AreGuarded}
+use Rattle.builder_core.specs.Rings.{PagesFollow}
+use Rattle.builder_core.specs.SideFiles.{SidesFollow, noted, put_ends}
 
 -- the rows that stand before and after the change have the columns of that specification
 pub record FitsColumns (ready : Ready) (spec : KeySpecValue) : Type 0 where
@@ -56,3 +62,22 @@ abbrev pub HaveNoted : BuildState → Ready → List SideFileValue → List Side
 HaveNoted b ready olds news =
     (k : ℕ) (spec : KeySpecValue) (old new : SideFileValue) → slice_get b.specs k ≡ Some spec → slice_get olds k ≡ Some old → slice_get news k ≡ Some new
     → IsLonger (map (entry_of b.number) (noted b spec ready.rid ready.old ready.new)) old new
+
+-- the running build and the side-files of its indexes follow the table
+pub record BuildHears (heap : HeapState) (build : Option BuildState) (sides : List SideFileValue) : Type 0 where
+  pub follows : BuildFollows heap.schema heap.log build
+  pub noted : SidesFollow heap.log build sides
+  pub eight : length sides ≡ 8
+
+-- after a change too, and what was put for the build, and its work, goes on as it was
+pub record HasHeard (build : Option BuildState) (old : HeapState) (olds : List SideFileValue) (new : HeapState) (news : List SideFileValue) : Type 0 where
+  pub follows : BuildFollows new.schema new.log build
+  pub noted : SidesFollow new.log build news
+  pub ends : put_ends news ≡ put_ends olds
+  pub put : (builds : ℕ) (all : List (List Copied)) → PagesFollow old.schema old.log builds build all → PagesFollow new.schema new.log builds build all
+  pub works : (work : Option WorkValue) → IsWorkOf old.schema old.log build work → IsWorkOf new.schema new.log build work
+
+-- the ready indexes follow the table, and the guards beside them
+pub record IndexesFollow (heap : HeapState) (ready : List ReadyValue) (guards : List GuardsValue) : Type 0 where
+  pub indexes : AreIndexesOf heap.schema heap.log ready
+  pub guarded : AreGuarded heap.log ready guards

@@ -2,16 +2,18 @@
 use Rattle.std.specs.List.{All, AllZip}
 use Rattle.std.specs.Prelude.{◌≡◌, ℕ, ◌+◌, true, if◌then◌else◌, List, [], ◌∷◌, Option, None, Some}
 use Rattle.keybytes.specs.Faults.{first_cause}
-use Rattle.keybytes.specs.Keys.{KeySpecValue}
+use Rattle.keybytes.specs.Cells.{fits}
+use Rattle.keybytes.specs.Keys.{KeySpecValue, key_of}
 use Rattle.keybytes.specs.declared.cell.Cell.{Cell}
 use Rattle.keybytes.specs.declared.fault.Fault.{Fault}
 use Rattle.keybytes.specs.declared.rid.Rid.{Rid}
 use Rattle.heap_log.specs.Standing.{live_at}
 use Rattle.heap_log.specs.declared.record.LogRec.{LogRec}
-use Rattle.heap_table.specs.HeapState.{insert_refusal, update_refusal}
+use Rattle.heap_table.specs.HeapState.{HeapState, insert_refusal, update_refusal}
+use Rattle.heap_table.specs.TablePairs.{pairs_at_rest}
 use Rattle.heap_table.specs.declared.ready.Ready.{Ready}
 use Rattle.key_guards.specs.Guarded.{GuardsValue, IsGuarded}
-use Rattle.key_guards.specs.KeyRefusals.{key_refusal}
+use Rattle.key_guards.specs.KeyRefusals.{key_refusal, rid_with, other_guard}
 use Rattle.key_guards.specs.UniqueKeys.{UniqueKeysAreGuarded}
 use Rattle.builder_core.specs.CoreState.{ReadyValue, LiveState}
 
@@ -33,6 +35,17 @@ HasGuards log spec guards = spec.unique ≡ true → IsGuarded spec log guards
 -- so has each of these indexes
 abbrev pub AreGuarded : List LogRec → List ReadyValue → List GuardsValue → Type 0
 AreGuarded log ready guards = AllZip (λ index g. HasGuards log index.spec g) ready guards
+
+-- a unique index and its guards follow the table, and the row fits its columns
+pub record MayAsk (heap : HeapState) (index : ReadyValue) (guards : GuardsValue) (cells : List Cell) : Type 0 where
+  pub columns : index.spec.kinds ≡ heap.schema
+  pub pairs : index.pairs ≡ pairs_at_rest index.spec heap.log
+  pub guarded : IsGuarded index.spec heap.log guards
+  pub fits : fits heap.schema cells ≡ true
+
+-- these are the row that has the key of these cells, and another transaction that may give it back
+abbrev pub AreFound : KeySpecValue → List LogRec → ℕ → List Cell → Option Rid → Option ℕ → Type 0
+AreFound spec log txn cells holder guard = (holder ≡ rid_with spec log (key_of spec cells)) × (guard ≡ other_guard spec log txn (key_of spec cells))
 
 -- no unique one of these indexes, under whatever number, refuses the change
 abbrev pub AreLetIn : List LogRec → List ReadyValue → Ready → Type 0

@@ -9,13 +9,9 @@ ghost use Rattle.heap_table.specs.Ready.{IsReady, after_ready, answer_of};
 ghost use Rattle.visibility.specs.SideEntries.{entries_of_change};
 ghost use Rattle.side_file.specs.Entries.{entry_of};
 ghost use Rattle.side_file.specs.SideFileValue.{SideFileValue};
-ghost use Rattle.builder_core.specs.Builds.{WorkValue, BuildFollows, IsWorkOf};
-ghost use Rattle.building.specs.declared.copied.Copied.{Copied};
-ghost use Rattle.builder_core.specs.Rings.{PagesFollow};
-ghost use Rattle.builder_core.specs.Changing.{FitsBuild, IsChangeOf, AreChangesOf, HaveAppended, HaveNoted, without_room};
-ghost use Rattle.builder_core.specs.CoreState.{AreIndexesOf};
+ghost use Rattle.builder_core.specs.Changing.{FitsBuild, IsChangeOf, AreChangesOf, HaveAppended, HaveNoted, BuildHears, HasHeard, IndexesFollow, without_room};
 ghost use Rattle.builder_core.specs.KeyCauses.{AreGuarded, AreLetIn};
-ghost use Rattle.builder_core.specs.SideFiles.{SidesFollow, put_ends};
+ghost use Rattle.builder_core.specs.SideFiles.{put_ends};
 ghost use Rattle.builder_core.specs.BuildSteps.{ready_now};
 
 use crate::ReadyIndex;
@@ -144,19 +140,11 @@ fn perform(
     ready: Ready,
 ) -> Result<Performed, Fault>
     requires ready { IsReady heap.old ready }
-    requires build { BuildFollows heap.old.state.schema heap.old.state.log build.now }
-    requires sides { SidesFollow heap.old.state.log build.now sides.old.items }
-    requires eight { length sides.old.items ≡ 8 }
+    requires build { BuildHears heap.old.state build.now sides.old.items }
     ensures performed { OnOk result (heap.new.state ≡ after_ready heap.old.state ready) }
     ensures rows { OnOk result (SetsRow heap.old.state.log ready.rid ready.new heap.new.state.log) }
     ensures answer { IfOk result (λ done. done ≡ answer_of heap.new.state ready.txn ready.rid ready.undone) }
-    ensures follows { BuildFollows heap.new.state.schema heap.new.state.log build.now }
-    ensures put { (builds : ℕ) (all : List (List Copied)) → PagesFollow heap.old.state.schema heap.old.state.log builds build.now all
-        → PagesFollow heap.new.state.schema heap.new.state.log builds build.now all }
-    ensures works { (work : Option WorkValue) → IsWorkOf heap.old.state.schema heap.old.state.log build.now work
-        → IsWorkOf heap.new.state.schema heap.new.state.log build.now work }
-    ensures noted { SidesFollow heap.new.state.log build.now sides.new.items }
-    ensures ends { put_ends sides.new.items ≡ put_ends sides.old.items }
+    ensures heard { HasHeard build.now heap.old.state sides.old.items heap.new.state sides.new.items }
     ensures unchanged { OnErr result (heap.new ≡ heap.old) }
     ensures memory { IfErr result (λ fault. fault ≡ Fault.Memory) }
 {
@@ -177,12 +165,9 @@ fn perform_with(
     ready: Ready,
 ) -> Result<Performed, Fault>
     requires ready { IsReady heap.old ready }
-    requires indexes { AreIndexesOf heap.old.state.schema heap.old.state.log indexes.old }
-    requires guarded { AreGuarded heap.old.state.log indexes.old guards.old }
+    requires indexes { IndexesFollow heap.old.state indexes.old guards.old }
     requires keys { ready.undone ≡ None → AreLetIn heap.old.state.log indexes.old ready }
-    requires build { BuildFollows heap.old.state.schema heap.old.state.log build.now }
-    requires sides { SidesFollow heap.old.state.log build.now sides.old.items }
-    requires eight { length sides.old.items ≡ 8 }
+    requires build { BuildHears heap.old.state build.now sides.old.items }
     ensures performed { OnOk result (heap.new.state ≡ after_ready heap.old.state ready) }
     ensures rows { OnOk result (SetsRow heap.old.state.log ready.rid ready.new heap.new.state.log) }
     ensures answer { IfOk result (λ done. done ≡ answer_of heap.new.state ready.txn ready.rid ready.undone) }
@@ -190,13 +175,7 @@ fn perform_with(
     ensures guarded { OnOk result (AreGuarded heap.new.state.log indexes.old guards.new) }
     ensures kept { OnErr result (indexes.new ≡ indexes.old) }
     ensures still { OnErr result (AreGuarded heap.old.state.log indexes.old guards.new) }
-    ensures follows { BuildFollows heap.new.state.schema heap.new.state.log build.now }
-    ensures put { (builds : ℕ) (all : List (List Copied)) → PagesFollow heap.old.state.schema heap.old.state.log builds build.now all
-        → PagesFollow heap.new.state.schema heap.new.state.log builds build.now all }
-    ensures works { (work : Option WorkValue) → IsWorkOf heap.old.state.schema heap.old.state.log build.now work
-        → IsWorkOf heap.new.state.schema heap.new.state.log build.now work }
-    ensures noted { SidesFollow heap.new.state.log build.now sides.new.items }
-    ensures ends { put_ends sides.new.items ≡ put_ends sides.old.items }
+    ensures heard { HasHeard build.now heap.old.state sides.old.items heap.new.state sides.new.items }
     ensures unchanged { OnErr result (heap.new ≡ heap.old) }
     ensures memory { IfErr result (λ fault. fault ≡ Fault.Memory) }
 {
@@ -232,25 +211,15 @@ pub fn write(
     requires ready { IsReady heap.old ready }
     requires write { ready.undone ≡ None }
     requires keys { AreLetIn heap.old.state.log indexes.old.items ready }
-    requires indexes { AreIndexesOf heap.old.state.schema heap.old.state.log indexes.old.items }
-    requires guarded { AreGuarded heap.old.state.log indexes.old.items guards.old.items }
-    requires build { BuildFollows heap.old.state.schema heap.old.state.log build.now }
-    requires sides { SidesFollow heap.old.state.log build.now sides.old.items }
-    requires eight { length sides.old.items ≡ 8 }
+    requires indexes { IndexesFollow heap.old.state indexes.old.items guards.old.items }
+    requires build { BuildHears heap.old.state build.now sides.old.items }
     ensures written { OnOk result (heap.new.state ≡ after_write heap.old.state ready.txn ready.rid ready.new) }
     ensures number { IfOk result (λ written. written.0 ≡ length heap.new.state.log) }
     ensures rid { IfOk result (λ written. written.1 ≡ ready.rid) }
     ensures ready { OnOk result (indexes.new.items ≡ ready_now heap.new.state.log indexes.old.items) }
     ensures kept { OnErr result (indexes.new.items ≡ indexes.old.items) }
-    ensures indexes { AreIndexesOf heap.new.state.schema heap.new.state.log indexes.new.items }
-    ensures guarded { AreGuarded heap.new.state.log indexes.new.items guards.new.items }
-    ensures follows { BuildFollows heap.new.state.schema heap.new.state.log build.now }
-    ensures put { (builds : ℕ) (all : List (List Copied)) → PagesFollow heap.old.state.schema heap.old.state.log builds build.now all
-        → PagesFollow heap.new.state.schema heap.new.state.log builds build.now all }
-    ensures works { (work : Option WorkValue) → IsWorkOf heap.old.state.schema heap.old.state.log build.now work
-        → IsWorkOf heap.new.state.schema heap.new.state.log build.now work }
-    ensures noted { SidesFollow heap.new.state.log build.now sides.new.items }
-    ensures ends { put_ends sides.new.items ≡ put_ends sides.old.items }
+    ensures indexes { IndexesFollow heap.new.state indexes.new.items guards.new.items }
+    ensures heard { HasHeard build.now heap.old.state sides.old.items heap.new.state sides.new.items }
     ensures unchanged { OnErr result (heap.new ≡ heap.old) }
     ensures memory { IfErr result (λ fault. fault ≡ Fault.Memory) }
 {
@@ -275,25 +244,15 @@ pub fn undo(
 ) -> Result<Undone, Fault>
     requires ready { IsReady heap.old ready }
     requires undo { IsSome ready.undone }
-    requires indexes { AreIndexesOf heap.old.state.schema heap.old.state.log indexes.old.items }
-    requires guarded { AreGuarded heap.old.state.log indexes.old.items guards.old.items }
-    requires build { BuildFollows heap.old.state.schema heap.old.state.log build.now }
-    requires sides { SidesFollow heap.old.state.log build.now sides.old.items }
-    requires eight { length sides.old.items ≡ 8 }
+    requires indexes { IndexesFollow heap.old.state indexes.old.items guards.old.items }
+    requires build { BuildHears heap.old.state build.now sides.old.items }
     ensures undone { OnOk result ((n : ℕ) → ready.undone ≡ Some n → heap.new.state ≡ after_undo heap.old.state ready.txn n) }
     ensures number { IfOk result (λ undone. undone.number ≡ length heap.new.state.log) }
     ensures left { IfOk result (λ undone. undone.left ≡ standing_count heap.new.state.log ready.txn) }
     ensures ready { OnOk result (indexes.new.items ≡ ready_now heap.new.state.log indexes.old.items) }
     ensures kept { OnErr result (indexes.new.items ≡ indexes.old.items) }
-    ensures indexes { AreIndexesOf heap.new.state.schema heap.new.state.log indexes.new.items }
-    ensures guarded { AreGuarded heap.new.state.log indexes.new.items guards.new.items }
-    ensures follows { BuildFollows heap.new.state.schema heap.new.state.log build.now }
-    ensures put { (builds : ℕ) (all : List (List Copied)) → PagesFollow heap.old.state.schema heap.old.state.log builds build.now all
-        → PagesFollow heap.new.state.schema heap.new.state.log builds build.now all }
-    ensures works { (work : Option WorkValue) → IsWorkOf heap.old.state.schema heap.old.state.log build.now work
-        → IsWorkOf heap.new.state.schema heap.new.state.log build.now work }
-    ensures noted { SidesFollow heap.new.state.log build.now sides.new.items }
-    ensures ends { put_ends sides.new.items ≡ put_ends sides.old.items }
+    ensures indexes { IndexesFollow heap.new.state indexes.new.items guards.new.items }
+    ensures heard { HasHeard build.now heap.old.state sides.old.items heap.new.state sides.new.items }
     ensures unchanged { OnErr result (heap.new ≡ heap.old) }
     ensures memory { IfErr result (λ fault. fault ≡ Fault.Memory) }
 {

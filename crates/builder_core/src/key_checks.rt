@@ -1,13 +1,11 @@
 //! Whether a row may have its keys, for the sake of the ready indexes that are unique.
 ghost use Rattle.std.specs.Prelude.{◌≡◌, ◌+◌, ◌^◌, ◌<◌, length, true, None, Some, OnOk, IfErr, MatchResult};
 ghost use Rattle.keybytes.specs.Cells.{fits};
-ghost use Rattle.keybytes.specs.Keys.{key_of};
 ghost use Rattle.heap_log.specs.Standing.{live_at};
 ghost use Rattle.heap_table.specs.TablePairs.{pairs_at_rest};
-ghost use Rattle.key_guards.specs.Guarded.{IsGuarded};
-ghost use Rattle.key_guards.specs.KeyRefusals.{key_refusal, guarded_refusal, rid_with, other_guard};
+ghost use Rattle.key_guards.specs.KeyRefusals.{key_refusal, guarded_refusal};
 ghost use Rattle.builder_core.specs.CoreState.{AreIndexesOf};
-ghost use Rattle.builder_core.specs.KeyCauses.{keys_refusal, AreGuarded, HasGuards, index_cause};
+ghost use Rattle.builder_core.specs.KeyCauses.{keys_refusal, AreFound, AreGuarded, HasGuards, MayAsk, index_cause};
 
 use crate::ReadyIndex;
 use heap_table::Heap;
@@ -91,10 +89,7 @@ fn check_key(
     rid: Rid,
     row: &Row,
 ) -> Result<(), Fault>
-    requires columns { index.now.spec.kinds ≡ heap.now.state.schema }
-    requires pairs { index.now.pairs ≡ pairs_at_rest index.now.spec heap.now.state.log }
-    requires guarded { IsGuarded index.now.spec heap.now.state.log guards.now }
-    requires fits { fits heap.now.state.schema row.now ≡ true }
+    requires { MayAsk heap.now.state index.now guards.now row.now }
     ensures accepted { OnOk result (key_refusal number index.now.spec heap.now.state.log txn (live_at heap.now.state.log rid) (Some row.now) ≡ None) }
     ensures refused { IfErr result (λ fault. key_refusal number index.now.spec heap.now.state.log txn (live_at heap.now.state.log rid) (Some row.now) ≡ Some fault) }
 {
@@ -116,12 +111,8 @@ fn ask(
     txn: u64,
     row: &Row,
 ) -> (Option<Rid>, Option<u64>)
-    requires columns { index.now.spec.kinds ≡ heap.now.state.schema }
-    requires pairs { index.now.pairs ≡ pairs_at_rest index.now.spec heap.now.state.log }
-    requires guarded { IsGuarded index.now.spec heap.now.state.log guards.now }
-    requires fits { fits heap.now.state.schema row.now ≡ true }
-    ensures holder { result.0 ≡ rid_with index.now.spec heap.now.state.log (key_of index.now.spec row.now) }
-    ensures guard { result.1 ≡ other_guard index.now.spec heap.now.state.log txn (key_of index.now.spec row.now) }
+    requires { MayAsk heap.now.state index.now guards.now row.now }
+    ensures { AreFound index.now.spec heap.now.state.log txn row.now result.0 result.1 }
 {
     let Ok(key) = index.spec.key(row) else {
         return ask_in_place(index, guards, heap, txn, row);
@@ -139,12 +130,8 @@ fn ask_in_place(
     txn: u64,
     row: &Row,
 ) -> (Option<Rid>, Option<u64>)
-    requires columns { index.now.spec.kinds ≡ heap.now.state.schema }
-    requires pairs { index.now.pairs ≡ pairs_at_rest index.now.spec heap.now.state.log }
-    requires guarded { IsGuarded index.now.spec heap.now.state.log guards.now }
-    requires fits { fits heap.now.state.schema row.now ≡ true }
-    ensures holder { result.0 ≡ rid_with index.now.spec heap.now.state.log (key_of index.now.spec row.now) }
-    ensures guard { result.1 ≡ other_guard index.now.spec heap.now.state.log txn (key_of index.now.spec row.now) }
+    requires { MayAsk heap.now.state index.now guards.now row.now }
+    ensures { AreFound index.now.spec heap.now.state.log txn row.now result.0 result.1 }
 {
     heap.laws();
     let key = index.spec.key_in_place(row);

@@ -21,10 +21,10 @@ invariant_of-index-2 t c =
     let same : spec ≡ index.spec = ap (λ (x : ReadyValue). x.spec) c.index.view_is in
     let had = c.ready_change.ensures.pairs ∙ ap (λ (x : ReadyValue). x.pairs) c.index.view_is in
     let left = first_follows spec old.log new.log ready.rid ready.new c.in_ok-done.ensures.rows index c.in-Some.rest.now c.args.indexes.now ready.old
-    c.ready_change.new.tree.pairs c.change_tree-taken.new.tree.pairs (entries_of_change ready.rid c.in_ok-change.change) c.in-Some.ensures.cases.0 c.requires.indexes.follow
+    c.ready_change.new.tree.pairs c.change_tree-taken.new.tree.pairs (entries_of_change ready.rid c.in_ok-change.change) c.in-Some.ensures.cases.0 c.requires.indexes.indexes.follow
     same had c.requires.ready.old c.in_ok-change.ensures.change c.change_tree-taken.ensures.changed c.change_tree-taken.ensures.order in
     let columns = ap (λ (s : KeySpecValue). s.kinds) same
-    ∙ first_columns old.schema old.log index c.in-Some.rest.now c.args.indexes.now c.in-Some.ensures.cases.0 c.requires.indexes
+    ∙ first_columns old.schema old.log index c.in-Some.rest.now c.args.indexes.now c.in-Some.ensures.cases.0 c.requires.indexes.indexes
     ∙ sym (ap (λ (h : HeapState). h.schema) c.in_ok-done.ensures.performed ∙ schema_stays old ready.txn ready.rid ready.undone ready.new) in
     rest_is_index spec new.schema new.log c.change_tree-taken.new.tree.pairs columns c.laws-2.ensures.rows c.columns-columns.ensures.key left
 
@@ -38,7 +38,7 @@ returns-clause-ready t c =
     let same : spec ≡ index.spec = ap (λ (x : ReadyValue). x.spec) c.index.view_is in
     let had = c.ready_change.ensures.pairs ∙ ap (λ (x : ReadyValue). x.pairs) c.index.view_is in
     let left = first_follows spec old.log new.log ready.rid ready.new c.in_ok-done.ensures.rows index c.in-Some.rest.now c.args.indexes.now ready.old
-    c.ready_change.new.tree.pairs c.change_tree-taken.new.tree.pairs (entries_of_change ready.rid c.in_ok-change.change) c.in-Some.ensures.cases.0 c.requires.indexes.follow
+    c.ready_change.new.tree.pairs c.change_tree-taken.new.tree.pairs (entries_of_change ready.rid c.in_ok-change.change) c.in-Some.ensures.cases.0 c.requires.indexes.indexes.follow
     same had c.requires.ready.old c.in_ok-change.ensures.change c.change_tree-taken.ensures.changed c.change_tree-taken.ensures.order in
     all_now new.log index c.in-Some.rest.now c.args.indexes.now spec c.change_tree-taken.new.tree.pairs c.perform_with.new.indexes c.in-Some.ensures.cases.0 same left
     c.in_ok-done.ensures.ready
@@ -49,18 +49,18 @@ perform_with-requires t c =
     let is = c.in-Some.ensures.cases.0 in
     let fewer = ap length is in
     let both = both_guarded log c.in-Some.index.now c.in-Some.rest.now c.args.indexes.now c.in-Some-split_first_mut.own.now c.in-Some-split_first_mut.others.now
-    c.args.guards.now is c.in-Some-split_first_mut.ensures.cases.0 c.requires.guarded in (
+    c.args.guards.now is c.in-Some-split_first_mut.ensures.cases.0 c.requires.indexes.guarded in (
       omega (arith, fewer),
       (
         c.requires.ready,
         (
-          rest_indexes c.args.heap.now.state.schema log c.in-Some.index.now c.in-Some.rest.now c.args.indexes.now is c.requires.indexes,
+          record {
+            indexes = rest_indexes c.args.heap.now.state.schema log c.in-Some.index.now c.in-Some.rest.now c.args.indexes.now is c.requires.indexes.indexes;
+            guarded = both.1;
+          },
           (
-            both.1,
-            (
-              λ none. rest_let_in log c.in-Some.index.now c.in-Some.rest.now c.args.indexes.now c.args.ready is (c.requires.keys none),
-              (c.requires.build, (c.requires.sides, c.requires.eight)),
-            ),
+            λ none. rest_let_in log c.in-Some.index.now c.in-Some.rest.now c.args.indexes.now c.args.ready is (c.requires.keys none),
+            c.requires.build,
           ),
         ),
       ),
@@ -76,7 +76,7 @@ returns-clause-guarded t c =
     let is = c.in-Some.ensures.cases.0 in
     let same : spec ≡ index.spec = ap (λ (x : ReadyValue). x.spec) c.index.view_is in
     let both = both_guarded old.log index c.in-Some.rest.now c.args.indexes.now c.in-Some-split_first_mut.own.now c.in-Some-split_first_mut.others.now
-    c.args.guards.now is c.in-Some-split_first_mut.ensures.cases.0 c.requires.guarded in
+    c.args.guards.now is c.in-Some-split_first_mut.ensures.cases.0 c.requires.indexes.guarded in
     let own = c.make_guard_room.new.guards in
     let now = c.tell.new.guards in
     let taken = c.change_tree-taken.result in

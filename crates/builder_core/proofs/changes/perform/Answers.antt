@@ -14,50 +14,40 @@ pub note-requires-clause-fits : goal.note-requires-clause-fits
 note-requires-clause-fits c =
     let heap = c.args.heap.now in
     let ready = c.args.ready in
-    fits_build heap.state ready (c.laws.ensures.ready ready c.requires.ready) c.args.build.now c.requires.build
+    fits_build heap.state ready (c.laws.ensures.ready ready c.requires.ready) c.args.build.now c.requires.build.follows
 
 pub note-requires-clause-many : goal.note-requires-clause-many
-note-requires-clause-many c = few_specs c.args.heap.now.state c.args.build.now c.args.sides.now.items c.requires.build c.requires.eight
+note-requires-clause-many c = few_specs c.args.heap.now.state c.args.build.now c.args.sides.now.items c.requires.build.follows c.requires.build.eight
 
-pub returns-clause-follows : goal.returns-clause-follows
-returns-clause-follows c =
+pub returns-clause-heard : goal.returns-clause-heard
+returns-clause-heard c =
     let heap = c.args.heap.now in
     let ready = c.args.ready in
+    let build = c.args.build.now in
+    let olds = c.args.sides.now.items in
+    let news = c.note.new.sides.items in
+    let lawful = c.laws.ensures.ready ready c.requires.ready in
     let done = c.perform.ensures.performed in
     let rows = subst (λ (h : HeapState). SetsRow heap.state.log ready.rid ready.new h.log) done c.perform.ensures.rows in
-    subst (λ (h : HeapState). BuildFollows h.schema h.log c.args.build.now) (sym done)
-    (follows_on heap ready c.requires.ready (c.laws.ensures.ready ready c.requires.ready) rows c.args.build.now c.requires.build)
+    let many : length olds ≡ length news = as_long (λ (s : SideFileValue). s.end) (λ (s : SideFileValue). s.end) olds news (sym c.note.ensures.ends) in
+    let was = c.requires.build in
+    record {
+      follows = subst (λ (h : HeapState). BuildFollows h.schema h.log build) (sym done) (follows_on heap ready c.requires.ready lawful rows build was.follows);
+      noted = subst (λ (h : HeapState). SidesFollow h.log build news) (sym done)
+          (sides_follow_on heap ready c.requires.ready lawful rows build olds news many was.follows was.noted c.in_ok-note.ensures.noted);
+      ends = c.note.ensures.ends;
+      put = λ builds all put. subst (λ (h : HeapState). PagesFollow h.schema h.log builds build all) (sym done)
+          (pages_on heap ready c.requires.ready lawful rows builds build all was.follows put);
+      works = λ work works. subst (λ (h : HeapState). IsWorkOf h.schema h.log build work) (sym done)
+          (works_on heap ready c.requires.ready lawful rows build work was.follows works);
+    }
 
-pub returns-clause-works : goal.returns-clause-works
-returns-clause-works c = λ work works.
-    let heap = c.args.heap.now in
-    let ready = c.args.ready in
-    let done = c.perform.ensures.performed in
-    let rows = subst (λ (h : HeapState). SetsRow heap.state.log ready.rid ready.new h.log) done c.perform.ensures.rows in
-    subst (λ (h : HeapState). IsWorkOf h.schema h.log c.args.build.now work) (sym done)
-    (works_on heap ready c.requires.ready (c.laws.ensures.ready ready c.requires.ready) rows c.args.build.now work c.requires.build works)
-
-pub returns-clause-put : goal.returns-clause-put
-returns-clause-put c = λ builds all put.
-    let heap = c.args.heap.now in
-    let ready = c.args.ready in
-    let done = c.perform.ensures.performed in
-    let rows = subst (λ (h : HeapState). SetsRow heap.state.log ready.rid ready.new h.log) done c.perform.ensures.rows in
-    subst (λ (h : HeapState). PagesFollow h.schema h.log builds c.args.build.now all) (sym done)
-    (pages_on heap ready c.requires.ready (c.laws.ensures.ready ready c.requires.ready) rows builds c.args.build.now all c.requires.build put)
-
-pub returns-clause-noted : goal.returns-clause-noted
-returns-clause-noted c =
-    let heap = c.args.heap.now in
-    let ready = c.args.ready in
-    let done = c.perform.ensures.performed in
-    let rows = subst (λ (h : HeapState). SetsRow heap.state.log ready.rid ready.new h.log) done c.perform.ensures.rows in
-    let many : length c.args.sides.now.items ≡ length c.note.new.sides.items =
-    as_long (λ (s : SideFileValue). s.end) (λ (s : SideFileValue). s.end) c.args.sides.now.items c.note.new.sides.items (sym c.note.ensures.ends) in
-    subst (λ (h : HeapState). SidesFollow h.log c.args.build.now c.note.new.sides.items) (sym done)
-    (sides_follow_on heap ready c.requires.ready (c.laws.ensures.ready ready c.requires.ready) rows c.args.build.now c.args.sides.now.items c.note.new.sides.items many
-    c.requires.build c.requires.sides c.in_ok-note.ensures.noted)
-
-pub returns-in_err-note-clause-noted : goal.returns-in_err-note-clause-noted
-returns-in_err-note-clause-noted c =
-    sides_stay c.args.heap.now.state.log c.args.build.now c.args.sides.now.items c.note.new.sides.items c.requires.sides c.in_err-note.ensures.unchanged
+pub returns-in_err-note-clause-heard : goal.returns-in_err-note-clause-heard
+returns-in_err-note-clause-heard c = record {
+  follows = c.requires.build.follows;
+  noted =
+      sides_stay c.args.heap.now.state.log c.args.build.now c.args.sides.now.items c.note.new.sides.items c.requires.build.noted c.in_err-note.ensures.unchanged;
+  ends = c.note.ensures.ends;
+  put = λ builds all put. put;
+  works = λ work works. works;
+}
