@@ -22,6 +22,7 @@ pub trait Source {
 }
 
 impl Source for IntoIter<Pair> {
+    ghost use Rattle.std.specs.Prelude.{◌≡◌, [], ◌∷◌, IfOk, IfErr, IsOk, MatchOption};
     ghost use Rattle.std.specs.Vec.Iter.{into_iter_items};
 
     ghost left = { into_iter_items };
@@ -30,7 +31,12 @@ impl Source for IntoIter<Pair> {
 
     ghost kept = { λ _. tt };
 
-    fn next(&mut self) -> Result<Option<Pair>, Fault> {
+    /// Takes no memory.
+    fn next(&mut self) -> Result<Option<Pair>, Fault>
+        ensures first { IfOk result (λ next. MatchOption next (into_iter_items self.old ≡ []) (λ pair. into_iter_items self.old ≡ pair ∷ into_iter_items self.new)) }
+        ensures memory { IfErr result (λ fault. fault ≡ Fault.Memory) }
+        ensures sure { IsOk result }
+    {
         Ok(Iterator::next(self))
     }
 }
