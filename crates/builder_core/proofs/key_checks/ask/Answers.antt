@@ -10,6 +10,6 @@ returns c =
     let index : ReadyValue = c.args.index.now in
     let key : c.in-Ok.key ≡ key_of index.spec c.args.row.now = c.in-Ok.ensures.value ∙ ap (λ (i : ReadyValue). key_of i.spec c.args.row.now) c.index.view_is in (
       found_row index c.index.inside.tree.pairs c.args.heap.now.state.log c.in-Ok.key c.args.row.now _ key
-      (ap (λ (i : ReadyValue). i.pairs) c.index.view_is ∙ c.requires.pairs) c.first_rid.ensures,
+          (ap (λ (i : ReadyValue). i.pairs) c.index.view_is ∙ c.requires.pairs) c.first_rid.ensures,
       c.other.ensures index.spec c.args.heap.now.state c.laws.ensures.holds c.requires.guarded ∙ ap (other_guard index.spec c.args.heap.now.state.log c.args.txn) key,
     )

@@ -10,6 +10,6 @@ returns c =
     let index : ReadyValue = c.args.index.now in
     let key : c.bytes-bytes.result.now ≡ key_of index.spec c.args.row.now = c.bytes-bytes.ensures ∙ c.key_in_place-key.ensures ∙ ap (λ (i : ReadyValue). key_of i.spec c.args.row.now) c.index.view_is in (
       found_row index c.index.inside.tree.pairs c.args.heap.now.state.log c.bytes-bytes.result.now c.args.row.now _ key
-      (ap (λ (i : ReadyValue). i.pairs) c.index.view_is ∙ c.requires.pairs) c.first_rid_of_bytes.ensures,
+          (ap (λ (i : ReadyValue). i.pairs) c.index.view_is ∙ c.requires.pairs) c.first_rid_of_bytes.ensures,
       c.other_of_bytes.ensures index.spec c.args.heap.now.state c.laws.ensures.holds c.requires.guarded ∙ ap (other_guard index.spec c.args.heap.now.state.log c.args.txn) key,
     )

@@ -34,11 +34,16 @@ returns-in_err-images-clause-failed g c =
     rw p.1 (
       counted + 1,
       omega arith,
-      (counted, omega arith, omega arith, same_worker c.digest.new.self (record (after_digest counted worker) { end = after_taking (counted + 1) worker.end })
-          (c.digest.ensures.build ∙ build)
-          (c.digest.ensures.end ∙ (ap (λ end. after_taking 1 end) end ∙ taking_more counted 1 worker.end))
-          (c.in_err-images.ensures.uncounted ∙ taken)
-          (c.digest.ensures.unsealed ∙ sealed)),
+      (
+        counted,
+        omega arith,
+        omega arith,
+        same_worker c.digest.new.self (record (after_digest counted worker) { end = after_taking (counted + 1) worker.end })
+            (c.digest.ensures.build ∙ build)
+            (c.digest.ensures.end ∙ (ap (λ end. after_taking 1 end) end ∙ taking_more counted 1 worker.end))
+            (c.in_err-images.ensures.uncounted ∙ taken)
+            (c.digest.ensures.unsealed ∙ sealed),
+      ),
     )
 
 pub overflow_add-images : goal.overflow_add-images
