@@ -44,12 +44,26 @@ impl Write for Full {
 
 const SCRIPT: &[u8] = b"table,2,int\nrow,5\n";
 
-/// Whether a run and a check of a script that breaks off so say just that.
+/// A script that breaks off before its bad record is told.
+fn breaking_off(kind: io::ErrorKind) -> Broken<'static> {
+    Broken {
+        text: b"table,2,int\nrow,5\nfly\n",
+        kind,
+    }
+}
+
+/// Whether a run of it says just that.
+fn is_told(alloc: Global, kind: io::ErrorKind, said: &str) -> bool {
+    Printed::by_replay(alloc, breaking_off(kind)).parts() == ("", said, 2)
+}
+
+/// Whether a check does.
+fn is_checked(alloc: Global, kind: io::ErrorKind, said: &str) -> bool {
+    Printed::by_check(alloc, breaking_off(kind)).parts() == ("", said, 2)
+}
+
 fn is_said(alloc: Global, kind: io::ErrorKind, said: &str) -> bool {
-    let text: &[u8] = b"table,2,int\nrow,5\nfly\n";
-    let run = Printed::by_replay(alloc, Broken { text, kind });
-    let check = Printed::by_check(alloc, Broken { text, kind });
-    run.parts() == ("", said, 2) && check.parts() == ("", said, 2)
+    is_told(alloc, kind, said) && is_checked(alloc, kind, said)
 }
 
 #[test]
@@ -84,12 +98,34 @@ fn checked(alloc: Global, room: usize) -> Option<u8> {
     err.is_empty().then_some(status)
 }
 
+/// The room of an output, and the status of a run over it.
+static REPLAYED: [(usize, u8); 7] = [(0, 2), (1, 2), (4, 2), (5, 2), (13, 2), (14, 0), (15, 0)];
+
+/// The same of a check.
+static CHECKED: [(usize, u8); 5] = [(0, 2), (1, 2), (27, 2), (28, 0), (29, 0)];
+
+/// The first room over which a run has another status.
+fn replayed_otherwise(alloc: Global) -> Option<usize> {
+    for (room, status) in &REPLAYED {
+        if replayed(alloc, *room) != Some(*status) {
+            return Some(*room);
+        }
+    }
+    None
+}
+
+/// The first room over which a check has another status.
+fn checked_otherwise(alloc: Global) -> Option<usize> {
+    for (room, status) in &CHECKED {
+        if checked(alloc, *room) != Some(*status) {
+            return Some(*room);
+        }
+    }
+    None
+}
+
 #[test]
 fn an_output_that_fills_up(rt: HostRuntime) {
-    for (room, status) in [(0, 2), (1, 2), (4, 2), (5, 2), (13, 2), (14, 0), (15, 0)] {
-        assert_eq!(rt; replayed(rt.alloc(), room), Some(status), "{room}");
-    }
-    for (room, status) in [(0, 2), (1, 2), (27, 2), (28, 0), (29, 0)] {
-        assert_eq!(rt; checked(rt.alloc(), room), Some(status), "{room}");
-    }
+    assert_eq!(rt; replayed_otherwise(rt.alloc()), None);
+    assert_eq!(rt; checked_otherwise(rt.alloc()), None);
 }

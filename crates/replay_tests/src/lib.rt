@@ -1,8 +1,11 @@
-//! Tests of the library `replay`: whole scripts with what they print, and readers and writers that fail.
+//! Tests of the libraries `replay` and `script`: whole scripts with what they print, what is said of bad ones, and readers and writers
+//! that fail.
 #![tactic(auto)]
 
 #[cfg(test)]
 mod case;
+#[cfg(test)]
+mod explanations;
 #[cfg(test)]
 mod faulty;
 #[cfg(test)]
@@ -11,3 +14,5 @@ mod many_entries;
 mod printed;
 #[cfg(test)]
 mod scripts;
+#[cfg(test)]
+mod spellings;

@@ -4,11 +4,20 @@ use std::io::Read;
 use std::str;
 
 /// What a script printed to its two streams, and its exit status.
-#[derive(Drop)]
 pub struct Printed {
     out: Vec<u8>,
     err: Vec<u8>,
     status: u8,
+}
+
+impl Drop for Printed {
+    fn drop(self) {
+        let Printed {
+            out: _,
+            err: _,
+            status: _,
+        } = self;
+    }
 }
 
 impl Printed {
@@ -33,6 +42,12 @@ impl Printed {
         let out = text(self.out.as_slice());
         let err = text(self.err.as_slice());
         (out, err, self.status)
+    }
+
+    /// Whether the answers end so, and nothing else is told.
+    pub fn ends_with(&self, end: &str) -> bool {
+        let (out, err, status) = self.parts();
+        out.ends_with(end) && (err, status) == ("", 0)
     }
 }
 

@@ -4,6 +4,7 @@ mod bad_scripts;
 mod builds;
 mod catching_up;
 mod several_indexes;
+mod spelled;
 mod tables;
 mod transactions;
 mod unique_indexes;
@@ -11,10 +12,9 @@ mod while_in_use;
 
 use crate::case::Case;
 use crate::printed::Printed;
-use std::alloc::{AllocError, Global};
-use std::test::Fail;
+use std::alloc::Global;
 
-fn cases() -> [&'static [Case]; 8] {
+fn cases() -> [&'static [Case]; 9] {
     [
         &tables::CASES,
         &transactions::CASES,
@@ -24,15 +24,21 @@ fn cases() -> [&'static [Case]; 8] {
         &several_indexes::CASES,
         &unique_indexes::CASES,
         &bad_scripts::CASES,
+        &spelled::CASES,
     ]
 }
 
-/// The first case that prints something else, with what it prints.
-fn replayed_otherwise(alloc: Global, cases: &[Case]) -> Option<(&str, Printed)> {
-    for case in cases {
-        let printed = Printed::by_replay(alloc, case.script);
-        if printed.parts() != case.replayed() {
-            return Some((case.name, printed));
+fn is_replayed(alloc: Global, case: &Case) -> bool {
+    Printed::by_replay(alloc, case.script).parts() == case.replayed()
+}
+
+/// The first case that prints something else.
+fn replayed_otherwise(alloc: Global) -> Option<&'static str> {
+    for cases in cases() {
+        for case in cases {
+            if !is_replayed(alloc, case) {
+                return Some(case.name);
+            }
         }
     }
     None
@@ -40,19 +46,20 @@ fn replayed_otherwise(alloc: Global, cases: &[Case]) -> Option<(&str, Printed)> 
 
 #[test]
 fn print_what_they_are_to(rt: HostRuntime) {
-    for cases in cases() {
-        if let Some((name, printed)) = replayed_otherwise(rt.alloc(), cases) {
-            assert!(rt; false, "{name}: {:?}", printed.parts());
-        }
-    }
+    assert_eq!(rt; replayed_otherwise(rt.alloc()), None);
 }
 
-/// The first case of which a check says something else, with what it says.
-fn checked_otherwise(alloc: Global, cases: &[Case]) -> Option<(&str, Printed)> {
-    for case in cases {
-        let printed = Printed::by_check(alloc, case.script);
-        if printed.parts() != case.checked() {
-            return Some((case.name, printed));
+fn is_checked(alloc: Global, case: &Case) -> bool {
+    Printed::by_check(alloc, case.script).parts() == case.checked()
+}
+
+/// The first case of which a check says something else.
+fn checked_otherwise(alloc: Global) -> Option<&'static str> {
+    for cases in cases() {
+        for case in cases {
+            if !is_checked(alloc, case) {
+                return Some(case.name);
+            }
         }
     }
     None
@@ -60,32 +67,5 @@ fn checked_otherwise(alloc: Global, cases: &[Case]) -> Option<(&str, Printed)> {
 
 #[test]
 fn are_checked(rt: HostRuntime) {
-    for cases in cases() {
-        if let Some((name, printed)) = checked_otherwise(rt.alloc(), cases) {
-            assert!(rt; false, "{name}: {:?}", printed.parts());
-        }
-    }
-}
-
-/// As many refused rows as transactions may be open, and one row more.
-fn refused_rows(alloc: Global) -> Result<String, AllocError> {
-    let mut script = String::from_str(alloc, "table,2,int\n")?;
-    for _ in 0..64 {
-        script.push_str("row,true\n")?;
-    }
-    script.push_str("row,5\nbegin,A\n")?;
-    Ok(script)
-}
-
-#[test]
-fn leave_no_transaction_of_a_refused_row_open(rt: HostRuntime) -> Result<(), Fail> {
-    let script = refused_rows(rt.alloc())?;
-    let printed = Printed::by_replay(rt.alloc(), script.as_bytes());
-    let (out, err, status) = printed.parts();
-    assert!(rt;
-        out.ends_with("65,refused,12,RowShape\n66,ok,0.0\n67,ok,66\n"),
-        "{out}"
-    );
-    assert_eq!(rt; (err, status), ("", 0));
-    Ok(())
+    assert_eq!(rt; checked_otherwise(rt.alloc()), None);
 }

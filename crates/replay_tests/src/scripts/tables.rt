@@ -2,7 +2,7 @@
 
 use crate::case::Case;
 
-pub const CASES: [Case; 6] = [
+pub const CASES: [Case; 7] = [
     Case {
         name: "a slot limit past its own limit",
         script: b"table,256,int
@@ -101,5 +101,148 @@ get,0.2
         err: "",
         status: 0,
         check: "script: 17 records, all good\n",
+    },
+    // As many refused rows as transactions may be open.
+    Case {
+        name: "refused rows leave no transaction open",
+        script: b"table,2,int
+row,true
+row,true
+row,true
+row,true
+row,true
+row,true
+row,true
+row,true
+row,true
+row,true
+row,true
+row,true
+row,true
+row,true
+row,true
+row,true
+row,true
+row,true
+row,true
+row,true
+row,true
+row,true
+row,true
+row,true
+row,true
+row,true
+row,true
+row,true
+row,true
+row,true
+row,true
+row,true
+row,true
+row,true
+row,true
+row,true
+row,true
+row,true
+row,true
+row,true
+row,true
+row,true
+row,true
+row,true
+row,true
+row,true
+row,true
+row,true
+row,true
+row,true
+row,true
+row,true
+row,true
+row,true
+row,true
+row,true
+row,true
+row,true
+row,true
+row,true
+row,true
+row,true
+row,true
+row,true
+row,5
+begin,A
+",
+        out: "1,ok
+2,refused,12,RowShape
+3,refused,12,RowShape
+4,refused,12,RowShape
+5,refused,12,RowShape
+6,refused,12,RowShape
+7,refused,12,RowShape
+8,refused,12,RowShape
+9,refused,12,RowShape
+10,refused,12,RowShape
+11,refused,12,RowShape
+12,refused,12,RowShape
+13,refused,12,RowShape
+14,refused,12,RowShape
+15,refused,12,RowShape
+16,refused,12,RowShape
+17,refused,12,RowShape
+18,refused,12,RowShape
+19,refused,12,RowShape
+20,refused,12,RowShape
+21,refused,12,RowShape
+22,refused,12,RowShape
+23,refused,12,RowShape
+24,refused,12,RowShape
+25,refused,12,RowShape
+26,refused,12,RowShape
+27,refused,12,RowShape
+28,refused,12,RowShape
+29,refused,12,RowShape
+30,refused,12,RowShape
+31,refused,12,RowShape
+32,refused,12,RowShape
+33,refused,12,RowShape
+34,refused,12,RowShape
+35,refused,12,RowShape
+36,refused,12,RowShape
+37,refused,12,RowShape
+38,refused,12,RowShape
+39,refused,12,RowShape
+40,refused,12,RowShape
+41,refused,12,RowShape
+42,refused,12,RowShape
+43,refused,12,RowShape
+44,refused,12,RowShape
+45,refused,12,RowShape
+46,refused,12,RowShape
+47,refused,12,RowShape
+48,refused,12,RowShape
+49,refused,12,RowShape
+50,refused,12,RowShape
+51,refused,12,RowShape
+52,refused,12,RowShape
+53,refused,12,RowShape
+54,refused,12,RowShape
+55,refused,12,RowShape
+56,refused,12,RowShape
+57,refused,12,RowShape
+58,refused,12,RowShape
+59,refused,12,RowShape
+60,refused,12,RowShape
+61,refused,12,RowShape
+62,refused,12,RowShape
+63,refused,12,RowShape
+64,refused,12,RowShape
+65,refused,12,RowShape
+66,ok,0.0
+67,ok,66
+",
+        err: "",
+        status: 0,
+        check: "script: 67 records, all good\n",
     },
 ];
