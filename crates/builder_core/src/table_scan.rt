@@ -201,14 +201,14 @@ impl TableScan {
     {
         let TableScan {
             number: _,
-            specs,
+            specs: own_specs,
             workers: _,
             opened: _,
             ranges: _,
             scans: _,
             fed: _,
         } = self;
-        specs
+        own_specs
     }
 }
 
