@@ -5,9 +5,15 @@ use crate::Fault;
 use std::marker::Model;
 
 /// The text of a cell. Contracts see its bytes, which are UTF-8.
-#[derive(Debug, Drop)]
+#[derive(Debug)]
 pub struct Text {
     string: String,
+}
+
+impl Drop for Text {
+    fn drop(self) {
+        let Text { string: _ } = self;
+    }
 }
 
 impl Model for Text {
