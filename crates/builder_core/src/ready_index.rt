@@ -14,10 +14,7 @@ pub struct ReadyIndex {
 
 impl Drop for ReadyIndex {
     fn drop(self) {
-        let ReadyIndex {
-            spec: _,
-            tree: _,
-        } = self;
+        let ReadyIndex { spec: _, tree: _ } = self;
     }
 }
 

@@ -22,7 +22,6 @@ pub const KEY_INLINE: usize = 24;
 const HEAD: usize = 8;
 
 /// The bytes of a key, at most [`KEY_MAX`], in the order of lists of bytes. Contracts see the list of the bytes.
-#[derive(Debug)]
 pub struct Key {
     pub(crate) bytes: SmallVec<u8, KEY_INLINE>,
 }

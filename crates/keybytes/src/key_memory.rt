@@ -6,7 +6,6 @@ use smallvec::SmallVec;
 use std::alloc::Global;
 
 /// Memory for the copy of any key, taken before the copy is made.
-#[derive(Debug)]
 pub struct KeyMemory {
     bytes: SmallVec<u8, KEY_INLINE>,
     ghost empty: { bytes.items ≡ [] },

@@ -16,7 +16,6 @@ pub const KEY_COLUMNS_MAX: usize = 4;
 /// Which columns of a table make the key of an index, and whether the index is unique.
 ///
 /// Keys of one specification compare as their columns do, and none begins another.
-#[derive(Debug)]
 pub struct KeySpec {
     kinds: Vec<Kind>,
     columns: Vec<usize>,

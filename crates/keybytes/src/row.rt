@@ -13,7 +13,6 @@ use std::marker::Model;
 pub const CELLS_MAX: usize = 12;
 
 /// A row: 1 to 12 cells, none with a text of more than 100 bytes. Contracts see the list of its cells.
-#[derive(Debug)]
 pub struct Row {
     cells: Vec<Cell>,
 }

@@ -8,7 +8,6 @@ use std::marker::Model;
 pub const COLUMNS_MAX: usize = 12;
 
 /// The kinds of a table's columns, 1 to 12 of them.
-#[derive(Debug)]
 pub struct Schema {
     kinds: Vec<Kind>,
 }

@@ -5,7 +5,6 @@ use crate::Fault;
 use std::marker::Model;
 
 /// The text of a cell. Contracts see its bytes, which are UTF-8.
-#[derive(Debug)]
 pub struct Text {
     string: String,
 }

@@ -15,10 +15,7 @@ pub struct Ranges {
 
 impl Drop for Ranges {
     fn drop(self) {
-        let Ranges {
-            cuts: _,
-            next: _,
-        } = self;
+        let Ranges { cuts: _, next: _ } = self;
     }
 }
 
