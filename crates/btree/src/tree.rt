@@ -22,7 +22,6 @@ use std::marker::Model;
 
 /// Pairs of a key and a RID in order, none twice. Contracts see the list of the pairs, whether there is room for one more,
 /// and which pairs each leaf has.
-#[derive(Drop)]
 pub struct Tree {
     alloc: Global,
     root: Option<Node>,
@@ -30,6 +29,19 @@ pub struct Tree {
     count: usize,
     spare: Spare,
     ready: bool,
+}
+
+impl Drop for Tree {
+    fn drop(self) {
+        let Tree {
+            alloc: _,
+            root: _,
+            height: _,
+            count: _,
+            spare: _,
+            ready: _,
+        } = self;
+    }
 }
 
 impl Model for Tree {

@@ -1,5 +1,5 @@
 /// How the pages of a table are dealt into ranges.
-#[derive(Debug, Drop)]
+#[derive(Drop)]
 pub enum Dealing {
     /// With the page behind each range; the last of them is the number of pages.
     Ends(Vec<u32>),

@@ -7,7 +7,7 @@ use keybytes::{Rid, Row};
 /// index follows a write and an undo. [`Fault::Memory`] is answered only where none of them has its cause, and so is
 /// [`Fault::NoPage`] of a digest or a seal, where a spool had no room for a pair. In a digest, a seal or a load either spoils the
 /// build: a scan, a digest, a seal, a load, an apply and a switch are then refused so, right behind [`Fault::NoBuild`] and [`Fault::BadCount`].
-#[derive(Debug, Drop)]
+#[derive(Drop)]
 pub enum Event {
     /// A transaction begins. [`Fault::Fenced`], [`Fault::TooManyTxns`].
     Begin,

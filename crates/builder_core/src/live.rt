@@ -33,7 +33,6 @@ use std::marker::{Model, PhantomData};
 /// A table, its ready indexes, each of which has the pairs of the rows that stand, which pages the running build copied, and the
 /// ends of the rings that the table puts into: all that a lock has to keep once threads share it. What stands beside it is a
 /// [`crate::Building`].
-#[derive(Drop)]
 pub struct Live<T: Table> {
     pub(crate) alloc: Global,
     pub(crate) heap: Heap,
@@ -45,6 +44,22 @@ pub struct Live<T: Table> {
     pub(crate) pages: Vec<PagePutter>,
     pub(crate) sides: Vec<SideFile>,
     of: PhantomData<T>,
+}
+
+impl<T: Table> Drop for Live<T> {
+    fn drop(self) {
+        let Live {
+            alloc: _,
+            heap: _,
+            ready: _,
+            guards: _,
+            builds: _,
+            build: _,
+            pages: _,
+            sides: _,
+            of: _,
+        } = self;
+    }
 }
 
 impl<T: Table> Model for Live<T> {

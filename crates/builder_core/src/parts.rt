@@ -19,7 +19,6 @@ pub const WORKERS_MAX: usize = 16;
 pub const INDEXES_MAX: usize = 8;
 
 /// A heap with the rings of all builds of its indexes, before the table has a name.
-#[derive(Drop)]
 pub struct Parts {
     alloc: Global,
     heap: Heap,
@@ -27,6 +26,19 @@ pub struct Parts {
     workers: Vec<Worker>,
     sides: Vec<SideFile>,
     side_ends: Vec<Consumer<Entry>>,
+}
+
+impl Drop for Parts {
+    fn drop(self) {
+        let Parts {
+            alloc: _,
+            heap: _,
+            pages: _,
+            workers: _,
+            sides: _,
+            side_ends: _,
+        } = self;
+    }
 }
 
 impl Model for Parts {

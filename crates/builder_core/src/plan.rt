@@ -2,7 +2,7 @@ use crate::Dealing;
 use keybytes::KeySpec;
 
 /// What an index build is to do.
-#[derive(Debug, Drop)]
+#[derive(Drop)]
 pub struct Plan {
     /// The indexes to build, in their order.
     pub specs: Vec<KeySpec>,

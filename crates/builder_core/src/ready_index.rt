@@ -7,10 +7,15 @@ use keybytes::KeySpec;
 use std::marker::Model;
 
 /// An index that is ready: its specification, and its pairs in order.
-#[derive(Drop)]
 pub struct ReadyIndex {
     pub(crate) spec: KeySpec,
     pub(crate) tree: Tree,
+}
+
+impl Drop for ReadyIndex {
+    fn drop(self) {
+        let ReadyIndex { spec: _, tree: _ } = self;
+    }
 }
 
 impl Model for ReadyIndex {

@@ -2,7 +2,7 @@ use heap_log::Verdicts;
 use keybytes::{Fault, Rid};
 
 /// What an event is answered.
-#[derive(Debug, Drop)]
+#[derive(Drop)]
 pub enum Reply {
     /// With the number of the transaction.
     Begun { txn: u64 },

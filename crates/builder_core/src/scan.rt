@@ -1,5 +1,5 @@
 /// A page that a build copied, and when: how long the table's log was then tells which changes the copy shows.
-#[derive(Debug, Clone, Copy)]
+#[derive(Clone, Copy)]
 pub struct Scan {
     /// The worker that it was copied for.
     pub worker: usize,

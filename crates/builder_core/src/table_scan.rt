@@ -19,7 +19,6 @@ use visibility::visible;
 
 /// A running build: how far each of its ranges is, which pages were copied, in their order, and how many entries of each index's
 /// side-file were fed.
-#[derive(Drop)]
 pub struct TableScan {
     number: u64,
     specs: Vec<KeySpec>,
@@ -28,6 +27,20 @@ pub struct TableScan {
     ranges: Ranges,
     scans: Vec<Scan>,
     fed: Vec<usize>,
+}
+
+impl Drop for TableScan {
+    fn drop(self) {
+        let TableScan {
+            number: _,
+            specs: _,
+            workers: _,
+            opened: _,
+            ranges: _,
+            scans: _,
+            fed: _,
+        } = self;
+    }
 }
 
 impl Model for TableScan {
@@ -186,8 +199,16 @@ impl TableScan {
     pub fn into_specs(self) -> Vec<KeySpec>
         ensures { self.specs ≡ result.items }
     {
-        let TableScan { specs, .. } = self;
-        specs
+        let TableScan {
+            number: _,
+            specs: own_specs,
+            workers: _,
+            opened: _,
+            ranges: _,
+            scans: _,
+            fed: _,
+        } = self;
+        own_specs
     }
 }
 

@@ -11,7 +11,6 @@ use std::alloc::Global;
 use std::marker::Model;
 
 /// The work of a build.
-#[derive(Drop)]
 pub struct Work {
     pub(crate) build: u64,
     pub(crate) specs: Vec<KeySpec>,
@@ -19,6 +18,19 @@ pub struct Work {
     pub(crate) makers: Vec<Maker>,
     pub(crate) indexes: Vec<IndexWork>,
     pub(crate) spoiled: Option<Fault>,
+}
+
+impl Drop for Work {
+    fn drop(self) {
+        let Work {
+            build: _,
+            specs: _,
+            workers: _,
+            makers: _,
+            indexes: _,
+            spoiled: _,
+        } = self;
+    }
 }
 
 impl Model for Work {
@@ -108,7 +120,15 @@ impl Work {
     pub fn into_indexes(self) -> Vec<IndexWork>
         ensures { self.indexes ≡ result.items }
     {
-        self.indexes
+        let Work {
+            build: _,
+            specs: _,
+            workers: _,
+            makers: _,
+            indexes,
+            spoiled: _,
+        } = self;
+        indexes
     }
 }
 

@@ -13,9 +13,14 @@ use std::marker::Model;
 pub const RING_IMAGES: usize = 4;
 
 /// The end of a ring that puts copies of pages. Contracts see all that was ever put, and the places known to be free.
-#[derive(Drop)]
 pub struct PagePutter {
     producer: Producer<Copied>,
+}
+
+impl Drop for PagePutter {
+    fn drop(self) {
+        let PagePutter { producer: _ } = self;
+    }
 }
 
 impl Model for PagePutter {

@@ -17,13 +17,23 @@ use run_spool::Spool;
 use std::marker::Model;
 
 /// A worker of a build: its end of its ring, and how far it is. It is lent the maker of its pairs and the spools that keep them.
-#[derive(Drop)]
 pub struct Worker {
     build: u64,
     ring: Consumer<Copied>,
     taken: usize,
     /// How many were taken when it last sealed.
     sealed: usize,
+}
+
+impl Drop for Worker {
+    fn drop(self) {
+        let Worker {
+            build: _,
+            ring: _,
+            taken: _,
+            sealed: _,
+        } = self;
+    }
 }
 
 impl Model for Worker {

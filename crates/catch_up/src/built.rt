@@ -16,11 +16,20 @@ use unique_verdict::{Tally, Verdict};
 
 /// The tree of an index that is being built, and the number of its build; where the index is to be unique, with a tally of the keys that
 /// two RIDs have, which is told of each change of the tree. Contracts see the number, whether there is a tally, and the pairs.
-#[derive(Drop)]
 pub struct Built {
     build: u64,
     tree: Tree,
     tally: Option<Tally>,
+}
+
+impl Drop for Built {
+    fn drop(self) {
+        let Built {
+            build: _,
+            tree: _,
+            tally: _,
+        } = self;
+    }
 }
 
 impl Model for Built {
@@ -112,7 +121,12 @@ impl Built {
     pub fn into_tree(self) -> Tree
         ensures { result.pairs ≡ self.pairs }
     {
-        self.tree
+        let Built {
+            build: _,
+            tree,
+            tally: _,
+        } = self;
+        tree
     }
 
     /// Takes the next entry out of the ring, which is known to have one, and applies it if it is of this build. Room for its pair

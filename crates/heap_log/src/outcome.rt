@@ -4,7 +4,7 @@ ghost use Rattle.heap_log.specs.Copies.{IsInline};
 use keybytes::{Fault, Key, Rid};
 
 /// The verdict on one index of a build.
-#[derive(Debug, Drop)]
+#[derive(Drop)]
 pub enum Outcome {
     /// The index is ready, under that number, from 0.
     Ready(usize),

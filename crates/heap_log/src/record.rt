@@ -5,7 +5,7 @@ use crate::Verdicts;
 use keybytes::{Fault, Rid, Row};
 
 /// A record of the log.
-#[derive(Debug, Drop)]
+#[derive(Drop)]
 pub enum LogRec {
     /// The transaction wrote the row that stands at a RID from here on; none where it deleted one.
     Write {

@@ -5,7 +5,7 @@ use keybytes::Fault;
 use std::marker::Model;
 
 /// The verdicts on the indexes of a build, in their order. Contracts see the list.
-#[derive(Debug, Drop)]
+#[derive(Drop)]
 pub struct Verdicts {
     outcomes: Vec<Outcome>,
 }

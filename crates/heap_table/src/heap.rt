@@ -25,7 +25,6 @@ use std::marker::Model;
 
 /// A table of rows in pages. Contracts see its state, which is its log and its open transactions, and the room for
 /// changes that it has memory for; the rows are those that the log leaves standing. A refused call changes nothing.
-#[derive(Drop)]
 pub struct Heap {
     schema: Schema,
     slot_limit: u8,
@@ -36,6 +35,22 @@ pub struct Heap {
     begun: u64,
     fenced: bool,
     visits: u64,
+}
+
+impl Drop for Heap {
+    fn drop(self) {
+        let Heap {
+            schema: _,
+            slot_limit: _,
+            page_limit: _,
+            log: _,
+            pages: _,
+            open_txns: _,
+            begun: _,
+            fenced: _,
+            visits: _,
+        } = self;
+    }
 }
 
 impl Model for Heap {

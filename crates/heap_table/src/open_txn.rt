@@ -1,5 +1,5 @@
 /// An open transaction.
-#[derive(Clone, Copy, Debug, PartialEq, Eq)]
+#[derive(Clone, Copy, PartialEq, Eq)]
 pub struct OpenTxn {
     pub txn: u64,
     /// An undo of it has begun, so that it can only be undone further.

@@ -1,5 +1,5 @@
 /// What an undo step answers.
-#[derive(Clone, Copy, Debug, PartialEq, Eq)]
+#[derive(Clone, Copy, PartialEq, Eq)]
 pub struct Undone {
     /// The number of its record; 0 where the transaction had no write, so that it ended without one.
     pub number: usize,

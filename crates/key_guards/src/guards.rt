@@ -22,9 +22,14 @@ use std::marker::Model;
 
 /// The keys of one unique index that open transactions guard. Contracts say that it follows a table's log; what it keeps
 /// for that is its own.
-#[derive(Drop)]
 pub struct Guards {
     txns: Vec<TxnGuards>,
+}
+
+impl Drop for Guards {
+    fn drop(self) {
+        let Guards { txns: _ } = self;
+    }
 }
 
 impl Model for Guards {

@@ -8,7 +8,7 @@ use crate::{Fault, Kind, Text};
 pub const TEXT_MAX: usize = 100;
 
 /// One column's value in a row.
-#[derive(Debug, Drop)]
+#[derive(Drop)]
 pub enum Cell {
     Null,
     Int(i64),

@@ -3,78 +3,50 @@ ghost use Rattle.keybytes.specs.Faults.{number_of, name_of};
 
 use crate::Rid;
 use std::alloc::{AllocError, AllocFailed};
-use thiserror::Error;
+use std::error::Error;
+use std::fmt;
 
 /// Why a call was refused. Each refusal has a number, under which scripts and their readers know it.
-#[derive(Clone, Copy, Debug, PartialEq, Eq, Error)]
+#[derive(Clone, Copy, PartialEq, Eq)]
 pub enum Fault {
-    #[error("a column is not there, is named twice, or there are too few or too many")]
     BadColumn,
-    #[error("a text is longer than 100 bytes")]
     TextTooLong,
-    #[error("the row does not fit the table's columns")]
     RowShape,
-    #[error("the table has no page left for the row")]
     TableFull,
-    #[error("no row stands there")]
     NoSuchRow,
     /// With the transaction that holds the row.
-    #[error("transaction {0} holds the row until it ends")]
     RowHeld(u64),
-    #[error("the page has no room for the row")]
     PageFull,
-    #[error("no such transaction is open")]
     NoSuchTxn,
-    #[error("no further transaction can be opened")]
     TooManyTxns,
-    #[error("the transaction is being undone")]
     TxnEnding,
-    #[error("new transactions wait until the index build has decided")]
     Fenced,
     /// With the ready index and the RID that has the key.
-    #[error("ready index {0} has the key already, at {1}")]
     Duplicate(usize, Rid),
     /// With the ready index and the transaction that took the key away.
-    #[error("transaction {1} may still give the key of ready index {0} back")]
     KeyHeld(usize, u64),
-    #[error("an index build is running")]
     BuildRunning,
-    #[error("no index build is running")]
     NoBuild,
-    #[error("the page ranges do not cover the table, or there are too many")]
     BadRanges,
-    #[error("a number is out of its limits")]
     BadCount,
-    #[error("a spool is not empty")]
     SpoolNotEmpty,
-    #[error("every page of the range is scanned")]
     RangeDone,
-    #[error("the worker has not taken its page copies yet")]
     RingFull,
     /// With the lowest range that has a page left to scan.
-    #[error("range {0} is not scanned to its end")]
     NotScanned(usize),
     /// With the index that is not loaded.
-    #[error("index {0} is not loaded")]
     NotLoaded(usize),
     /// With the number of changes not applied yet.
-    #[error("{0} changes are not applied yet")]
     Behind(usize),
     /// With the number of open transactions that have written.
-    #[error("{0} open transactions have written")]
     Busy(usize),
-    #[error("no page is left to lease")]
     NoPage,
     /// With the number of pages that are missing.
-    #[error("{0} leased pages are missing")]
     Short(usize),
     /// With the record's number in the script, from 1.
-    #[error("record {0} is bad")]
     BadScript(usize),
     /// With the lowest worker that has something left to seal.
-    #[error("worker {0} is not sealed")]
     NotSealed(usize),
-    #[error("no memory")]
     Memory,
 }
 
@@ -152,7 +124,70 @@ impl Fault {
             Fault::Memory => "Memory",
         }
     }
+
+    /// What a refusal without numbers says.
+    fn words(self) -> &'static str {
+        match self {
+            Fault::BadColumn =>
+                "a column is not there, is named twice, or there are too few or too many",
+            Fault::TextTooLong => "a text is longer than 100 bytes",
+            Fault::RowShape => "the row does not fit the table's columns",
+            Fault::TableFull => "the table has no page left for the row",
+            Fault::NoSuchRow => "no row stands there",
+            Fault::PageFull => "the page has no room for the row",
+            Fault::NoSuchTxn => "no such transaction is open",
+            Fault::TooManyTxns => "no further transaction can be opened",
+            Fault::TxnEnding => "the transaction is being undone",
+            Fault::Fenced => "new transactions wait until the index build has decided",
+            Fault::BuildRunning => "an index build is running",
+            Fault::NoBuild => "no index build is running",
+            Fault::BadRanges => "the page ranges do not cover the table, or there are too many",
+            Fault::BadCount => "a number is out of its limits",
+            Fault::SpoolNotEmpty => "a spool is not empty",
+            Fault::RangeDone => "every page of the range is scanned",
+            Fault::RingFull => "the worker has not taken its page copies yet",
+            Fault::NoPage => "no page is left to lease",
+            Fault::Memory => "no memory",
+            _ => "",
+        }
+    }
 }
+
+impl fmt::Display for Fault {
+    fn fmt<W: fmt::Write>(&self, f: &mut fmt::Formatter<W>) -> fmt::Result {
+        let words = self.words();
+        match self {
+            Fault::RowHeld(txn) => write!(f, "transaction {txn} holds the row until it ends"),
+            Fault::Duplicate(index, rid) => {
+                write!(f, "ready index {index} has the key already, at {rid}")
+            }
+            Fault::KeyHeld(index, txn) => {
+                write!(
+                    f,
+                    "transaction {txn} may still give the key of ready index {index} back"
+                )
+            }
+            Fault::NotScanned(range) => write!(f, "range {range} is not scanned to its end"),
+            Fault::NotLoaded(index) => write!(f, "index {index} is not loaded"),
+            Fault::Behind(changes) => write!(f, "{changes} changes are not applied yet"),
+            Fault::Busy(txns) => write!(f, "{txns} open transactions have written"),
+            Fault::Short(pages) => write!(f, "{pages} leased pages are missing"),
+            Fault::BadScript(record) => write!(f, "record {record} is bad"),
+            Fault::NotSealed(worker) => write!(f, "worker {worker} is not sealed"),
+            _ => f.write_str(words),
+        }
+    }
+}
+
+impl fmt::Debug for Fault {
+    /// The name, and what the refusal says.
+    fn fmt<W: fmt::Write>(&self, f: &mut fmt::Formatter<W>) -> fmt::Result {
+        let name = self.name();
+        write!(f, "{name}: {self}")
+    }
+}
+
+impl Error for Fault {}
 
 impl From<AllocError> for Fault {
     ghost use Rattle.std.specs.Prelude.{◌≡◌};

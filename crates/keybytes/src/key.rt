@@ -22,9 +22,14 @@ pub const KEY_INLINE: usize = 24;
 const HEAD: usize = 8;
 
 /// The bytes of a key, at most [`KEY_MAX`], in the order of lists of bytes. Contracts see the list of the bytes.
-#[derive(Debug, Drop)]
 pub struct Key {
     pub(crate) bytes: SmallVec<u8, KEY_INLINE>,
+}
+
+impl Drop for Key {
+    fn drop(self) {
+        let Key { bytes: _ } = self;
+    }
 }
 
 impl Model for Key {

@@ -6,9 +6,14 @@ use std::marker::Model;
 
 /// The bytes of a key, kept in place whatever their number: they take no memory, and can be looked for, but not put into an index.
 /// Contracts see the list of the bytes.
-#[derive(Debug, Drop)]
 pub struct KeyInPlace {
     pub(crate) bytes: SmallVec<u8, KEY_MAX>,
+}
+
+impl Drop for KeyInPlace {
+    fn drop(self) {
+        let KeyInPlace { bytes: _ } = self;
+    }
 }
 
 impl Model for KeyInPlace {

@@ -6,11 +6,16 @@ use smallvec::SmallVec;
 use std::alloc::Global;
 
 /// Memory for the copy of any key, taken before the copy is made.
-#[derive(Debug, Drop)]
 pub struct KeyMemory {
     bytes: SmallVec<u8, KEY_INLINE>,
     ghost empty: { bytes.items ≡ [] },
     ghost room: { 812 ≤ bytes.capacity },
+}
+
+impl Drop for KeyMemory {
+    fn drop(self) {
+        let KeyMemory { bytes: _ } = self;
+    }
 }
 
 impl KeyMemory {

@@ -16,11 +16,20 @@ pub const KEY_COLUMNS_MAX: usize = 4;
 /// Which columns of a table make the key of an index, and whether the index is unique.
 ///
 /// Keys of one specification compare as their columns do, and none begins another.
-#[derive(Debug, Drop)]
 pub struct KeySpec {
     kinds: Vec<Kind>,
     columns: Vec<usize>,
     unique: bool,
+}
+
+impl Drop for KeySpec {
+    fn drop(self) {
+        let KeySpec {
+            kinds: _,
+            columns: _,
+            unique: _,
+        } = self;
+    }
 }
 
 impl Model for KeySpec {

@@ -1,5 +1,5 @@
 /// What a column's cells are, Null aside: every column takes Null.
-#[derive(Clone, Copy, Debug, PartialEq, Eq)]
+#[derive(Clone, Copy, PartialEq, Eq)]
 pub enum Kind {
     Int,
     Text,

@@ -1,7 +1,7 @@
 use crate::{Key, Rid};
 
 /// An entry of an index: the key of a row, and where the row stands. Pairs are ordered by key, then by RID.
-#[derive(Debug, Drop, PartialEq, Eq, PartialOrd, Ord)]
+#[derive(Drop, PartialEq, Eq, PartialOrd, Ord)]
 pub struct Pair {
     pub key: Key,
     pub rid: Rid,

@@ -13,9 +13,14 @@ use std::marker::Model;
 pub const CELLS_MAX: usize = 12;
 
 /// A row: 1 to 12 cells, none with a text of more than 100 bytes. Contracts see the list of its cells.
-#[derive(Debug, Drop)]
 pub struct Row {
     cells: Vec<Cell>,
+}
+
+impl Drop for Row {
+    fn drop(self) {
+        let Row { cells: _ } = self;
+    }
 }
 
 impl Model for Row {

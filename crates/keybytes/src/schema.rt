@@ -8,9 +8,14 @@ use std::marker::Model;
 pub const COLUMNS_MAX: usize = 12;
 
 /// The kinds of a table's columns, 1 to 12 of them.
-#[derive(Debug, Drop)]
 pub struct Schema {
     kinds: Vec<Kind>,
+}
+
+impl Drop for Schema {
+    fn drop(self) {
+        let Schema { kinds: _ } = self;
+    }
 }
 
 impl Model for Schema {

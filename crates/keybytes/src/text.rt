@@ -5,9 +5,14 @@ use crate::Fault;
 use std::marker::Model;
 
 /// The text of a cell. Contracts see its bytes, which are UTF-8.
-#[derive(Debug, Drop)]
 pub struct Text {
     string: String,
+}
+
+impl Drop for Text {
+    fn drop(self) {
+        let Text { string: _ } = self;
+    }
 }
 
 impl Model for Text {

@@ -19,11 +19,20 @@ use std::marker::Model;
 ///
 /// Each call that spools is lent the spool of each index, in the order of the indexes. After a refusal a part of the pairs is
 /// spooled, and maker and spools are fit only to be given up.
-#[derive(Drop)]
 pub struct Maker {
     schema: Schema,
     specs: Vec<KeySpec>,
     begun: Vec<OpenRun>,
+}
+
+impl Drop for Maker {
+    fn drop(self) {
+        let Maker {
+            schema: _,
+            specs: _,
+            begun: _,
+        } = self;
+    }
 }
 
 impl Model for Maker {

@@ -22,7 +22,6 @@ use std::mem;
 ///
 /// It takes its memory when it is made: a frame for each page of the quota, and a place for as many closed runs. A run with a
 /// pair has a page, so there are no more runs than that as long as no closed run is empty while pairs are pushed.
-#[derive(Drop)]
 pub struct PlainSpool {
     account: Account,
     /// The frames that have no page.
@@ -31,6 +30,18 @@ pub struct PlainSpool {
     open_run: Chain,
     /// The number of pairs of the open run.
     open_len: usize,
+}
+
+impl Drop for PlainSpool {
+    fn drop(self) {
+        let PlainSpool {
+            account: _,
+            spare: _,
+            runs: _,
+            open_run: _,
+            open_len: _,
+        } = self;
+    }
 }
 
 impl Model for PlainSpool {

@@ -10,7 +10,7 @@ use std::marker::Model;
 pub const RANGES_MAX: usize = 256;
 
 /// Where the ranges of a build end: the page behind each of them. A range may be empty.
-#[derive(Debug, Drop)]
+#[derive(Drop)]
 pub struct Cuts {
     pages: u32,
     ends: Vec<u32>,

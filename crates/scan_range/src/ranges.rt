@@ -8,10 +8,15 @@ use std::alloc::Global;
 use std::marker::Model;
 
 /// How far each range of a build is: the page that comes next in it.
-#[derive(Drop)]
 pub struct Ranges {
     cuts: Cuts,
     next: Vec<u32>,
+}
+
+impl Drop for Ranges {
+    fn drop(self) {
+        let Ranges { cuts: _, next: _ } = self;
+    }
 }
 
 impl Model for Ranges {

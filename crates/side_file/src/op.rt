@@ -1,5 +1,5 @@
 /// What a change does to the pair of an entry.
-#[derive(Clone, Copy, Debug, PartialEq, Eq)]
+#[derive(Clone, Copy, PartialEq, Eq)]
 pub enum Op {
     Delete,
     Insert,

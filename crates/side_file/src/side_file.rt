@@ -22,13 +22,23 @@ const ENTRIES_END: usize = 1_152_921_504_606_846_976;
 
 /// The entries of an index that is being built. Contracts see those fed since the last reset, those left, the room for more,
 /// and this end of the ring.
-#[derive(Drop)]
 pub struct SideFile {
     producer: Producer<Entry>,
     left: VecDeque<Entry>,
     /// How many were fed since the last reset: the last ones that the ring was sent.
     fed: usize,
     room: usize,
+}
+
+impl Drop for SideFile {
+    fn drop(self) {
+        let SideFile {
+            producer: _,
+            left: _,
+            fed: _,
+            room: _,
+        } = self;
+    }
 }
 
 impl Model for SideFile {

@@ -13,7 +13,7 @@ use std::marker::Model;
 pub const LEAF_MAX: usize = 32;
 
 /// At most [`LEAF_MAX`] pairs in order, none twice. Contracts see the list of the pairs.
-#[derive(Debug, Drop)]
+#[derive(Drop)]
 pub struct Leaf {
     pairs: Vec<Pair>,
 }

@@ -1,7 +1,7 @@
 use keybytes::Rid;
 
 /// The RIDs that have a key: as many as a tally has to know.
-#[derive(Clone, Copy, Debug)]
+#[derive(Clone, Copy)]
 pub enum KeyHolders {
     None,
     One(Rid),

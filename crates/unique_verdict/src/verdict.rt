@@ -1,7 +1,7 @@
 use keybytes::{Key, Rid};
 
 /// Whether keys are unique.
-#[derive(Debug, Drop)]
+#[derive(Drop)]
 pub enum Verdict {
     Unique,
     /// The least key that two RIDs have, and its two least RIDs.
