@@ -10,4 +10,6 @@ mod pages;
 #[cfg(test)]
 mod rows_and_keys;
 #[cfg(test)]
+mod stories;
+#[cfg(test)]
 mod tables;

@@ -5,7 +5,6 @@ ghost use Rattle.std.specs.Prelude.{◌≡◌, ◌≤◌, None, OnOk};
 use heap_log::{Log, LogRec, Outcome, Rid, Verdicts};
 use keybytes::{Fault, Key};
 use std::alloc::Global;
-use std::test::Fail;
 
 const FIRST: Rid = Rid { page: 0, slot: 0 };
 
@@ -54,12 +53,11 @@ fn add(log: &mut Log, record: Bare) -> Result<(), Fault> {
     Ok(())
 }
 
-fn log_of(alloc: Global, records: &[Bare]) -> Result<Log, Fault> {
-    let mut log = Log::new(alloc);
+fn add_all(log: &mut Log, records: &[Bare]) -> Result<(), Fault> {
     for record in records {
-        add(&mut log, *record)?;
+        add(log, *record)?;
     }
-    Ok(log)
+    Ok(())
 }
 
 /// Where a write leads: to the standing one before it at its RID, and to the one before it of its transaction.
@@ -89,11 +87,17 @@ fn leads_back(log: &Log) -> bool {
         && before(log, 7) == Some((Some(2), Some(2)))
 }
 
+/// Whether a log of these records knows all that.
+fn is_known(log: &mut Log) -> Result<bool, Fault> {
+    add_all(log, &RECORDS)?;
+    Ok(log.len() == 7 && knows_writes(log) && leads_back(log))
+}
+
 #[test]
-fn answers_of_a_short_log(rt: HostRuntime) -> Result<(), Fail> {
-    let log = log_of(rt.alloc(), &RECORDS)?;
-    assert!(rt; log.len() == 7 && knows_writes(&log) && leads_back(&log));
-    Ok(())
+fn answers_of_a_short_log(rt: HostRuntime) {
+    let mut log = Log::new(rt.alloc());
+    let is_known = is_known(&mut log);
+    assert!(rt; is_known == Ok(true));
 }
 
 /// Makes room, once more where memory was refused, which has changed nothing.
@@ -123,7 +127,8 @@ fn two_writes(log: &mut Log) -> Result<Option<(Option<usize>, Option<usize>)>, F
 #[test]
 fn a_log_where_memory_may_run_out(rt: HostRuntime) {
     let mut log = Log::new(rt.alloc());
-    assert!(rt; two_writes(&mut log) == Ok(Some((Some(1), Some(1)))));
+    let before = two_writes(&mut log);
+    assert!(rt; before == Ok(Some((Some(1), Some(1)))));
 }
 
 const LONG: &[u8] = b"a key too long to be kept in place";
@@ -136,16 +141,20 @@ fn long_key(alloc: Global) -> Result<Key, Fault> {
     Ok(key)
 }
 
-/// Whether the copy of a switch that refuses an index, two of whose rows share the long key, is one.
-fn copies_a_switch(alloc: Global) -> Result<bool, Fault> {
+/// A switch that refuses an index, two of whose rows share the long key.
+fn refusing_switch(alloc: Global) -> Result<LogRec, Fault> {
     let refused = Outcome::Shared {
         key: long_key(alloc)?,
         first: FIRST,
         second: SECOND,
     };
     let verdicts = Verdicts::new(vec![in alloc; refused]?);
-    let switch = LogRec::Switch { verdicts };
-    Ok(refuses_long(&switch.clone()?))
+    Ok(LogRec::Switch { verdicts })
+}
+
+/// Whether its copy is one.
+fn copies_a_switch(alloc: Global) -> Result<bool, Fault> {
+    Ok(refuses_long(&refusing_switch(alloc)?.clone()?))
 }
 
 fn refuses_long(record: &LogRec) -> bool {

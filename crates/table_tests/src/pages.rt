@@ -2,7 +2,6 @@
 
 use keybytes::Fault;
 use slotted_page::{MAX_ROW_SIZE, PAGE_SIZE, Page, image_row, image_slots};
-use std::test::Fail;
 
 /// A change of a page.
 #[derive(Clone, Copy)]
@@ -41,11 +40,16 @@ fn make(page: &mut Page, change: Change) -> Result<(), Fault> {
     Ok(())
 }
 
+fn make_all(page: &mut Page, changes: &[Change]) -> Result<(), Fault> {
+    for change in changes {
+        make(page, *change)?;
+    }
+    Ok(())
+}
+
 fn page_after(slot_limit: u8, changes: &[Change]) -> Result<Page, Fault> {
     let mut page = Page::new(slot_limit)?;
-    for change in changes {
-        make(&mut page, *change)?;
-    }
+    make_all(&mut page, changes)?;
     Ok(page)
 }
 
@@ -62,7 +66,7 @@ const LONG: &[u8] = &[1; MAX_ROW_SIZE];
 
 const OTHER: &[u8] = &[2; MAX_ROW_SIZE];
 
-const CASES: [Case; 7] = [
+static CASES: [Case; 7] = [
     Case {
         changes: &[],
         rows: &[],
@@ -147,22 +151,35 @@ fn is_left(page: &Page, case: &Case) -> bool {
     has_rows(page, case.rows) && page.greatest_insert() == case.room && floor(page) == case.floor
 }
 
-#[test]
-fn what_changes_leave(rt: HostRuntime) -> Result<(), Fail> {
+fn is_left_by(case: &Case) -> Result<bool, Fault> {
+    Ok(is_left(&page_after(255, case.changes)?, case))
+}
+
+/// The number of the first case that leaves something else.
+fn left_otherwise() -> Option<usize> {
     for (number, case) in CASES.iter().enumerate() {
-        assert!(rt;
-            is_left(&page_after(255, case.changes)?, case),
-            "case {number}"
-        );
+        if is_left_by(case) != Ok(true) {
+            return Some(number);
+        }
     }
-    Ok(())
+    None
+}
+
+#[test]
+fn what_changes_leave(rt: HostRuntime) {
+    assert_eq!(rt; left_otherwise(), None);
+}
+
+/// Why these changes of a page with that many slots are refused.
+fn refusal(slot_limit: u8, changes: &[Change]) -> Option<Fault> {
+    page_after(slot_limit, changes).err()
 }
 
 #[test]
 fn refused_pages_and_rows(rt: HostRuntime) {
-    assert!(rt; page_after(0, &[]).err() == Some(Fault::BadCount));
-    let full = page_after(1, &[Change::Insert(b"one"), Change::Insert(b"two")]);
-    assert!(rt; full.err() == Some(Fault::PageFull));
+    assert!(rt; refusal(0, &[]) == Some(Fault::BadCount));
+    let changes = [Change::Insert(b"one"), Change::Insert(b"two")];
+    assert!(rt; refusal(1, &changes) == Some(Fault::PageFull));
 }
 
 /// Whether a row is away while its slot is held, and another one comes in its place, for which there was room.
@@ -200,13 +217,17 @@ fn has_copy(page: &Page, bytes: &[u8; PAGE_SIZE]) -> bool {
     image == *bytes && image_slots(&image) == page.slots() && is_first && is_alone
 }
 
-#[test]
-fn the_copy_of_a_page(rt: HostRuntime) -> Result<(), Fail> {
+fn is_copied() -> Result<bool, Fault> {
     let changes = [
         Change::Insert(b"abc"),
         Change::Insert(b"defgh"),
         Change::Hold(1),
     ];
-    assert!(rt; has_copy(&page_after(255, &changes)?, &expected_copy()));
-    Ok(())
+    let page = page_after(255, &changes)?;
+    Ok(has_copy(&page, &expected_copy()))
+}
+
+#[test]
+fn the_copy_of_a_page(rt: HostRuntime) {
+    assert!(rt; is_copied() == Ok(true));
 }

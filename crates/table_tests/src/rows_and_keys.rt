@@ -2,7 +2,7 @@
 
 use crate::fixtures::schema;
 use keybytes::{Cell, Fault, Key, KeySpec, Kind, Rid, Row, Schema, Text};
-use std::alloc::Global;
+use std::alloc::{AllocError, Global};
 use std::test::Fail;
 
 /// The bytes of a row, and of its key by all columns.
@@ -88,34 +88,48 @@ fn spec(alloc: Global, schema: &Schema, columns: &[usize]) -> Result<KeySpec, Fa
     KeySpec::new(alloc, schema, columns.to_vec(alloc)?, true)?.clone()
 }
 
-/// A row's key, and the bytes of the columns that it stands for, where these are all columns of the row.
-fn key_and_columns(spec: &KeySpec, schema: &Schema, row: &Row) -> Result<(Key, Vec<u8>), Fault> {
+/// Whether the row of these bytes is that of the key's cells.
+fn is_of_key(spec: &KeySpec, schema: &Schema, key: &Key, bytes: &[u8]) -> Result<bool, Fault> {
+    let row = Row::new(spec.cells(key)?)?;
+    Ok(row.to_bytes(schema)?.as_slice() == bytes)
+}
+
+fn has_key(spec: &KeySpec, schema: &Schema, row: &Row, keyed: &Keyed) -> Result<bool, Fault> {
     if !spec.is_of(schema) || !row.fits(schema) {
         return Err(Fault::RowShape);
     }
     let key = spec.key(row)?;
-    let bytes = Row::new(spec.cells(&key)?)?.to_bytes(schema)?;
-    Ok((key, bytes))
+    if key.bytes() != keyed.key {
+        return Ok(false);
+    }
+    is_of_key(spec, schema, &key, keyed.row)
 }
 
-fn there_and_back(alloc: Global, keyed: &Keyed) -> Result<(Key, Vec<u8>), Fault> {
+fn is_read(alloc: Global, schema: &Schema, keyed: &Keyed) -> Result<bool, Fault> {
+    let spec = spec(alloc, schema, keyed.columns)?;
+    let row = Row::read(alloc, keyed.row, schema)?.clone()?;
+    has_key(&spec, schema, &row, keyed)
+}
+
+/// Whether the bytes are those of a row with that key, whose cells give the row back.
+fn is_keyed(alloc: Global, keyed: &Keyed) -> Result<bool, Fault> {
     let schema = schema(alloc, keyed.kinds)?.clone()?;
-    let spec = spec(alloc, &schema, keyed.columns)?;
-    let row = Row::read(alloc, keyed.row, &schema)?.clone()?;
-    key_and_columns(&spec, &schema, &row)
+    is_read(alloc, &schema, keyed)
+}
+
+/// The bytes of the first row that has another key.
+fn keyed_otherwise(alloc: Global) -> Option<&'static [u8]> {
+    for keyed in &KEYED {
+        if is_keyed(alloc, keyed) != Ok(true) {
+            return Some(keyed.row);
+        }
+    }
+    None
 }
 
 #[test]
-fn rows_and_their_keys(rt: HostRuntime) -> Result<(), Fail> {
-    for keyed in &KEYED {
-        let (key, bytes) = there_and_back(rt.alloc(), keyed)?;
-        assert!(rt;
-            key.bytes() == keyed.key && bytes.as_slice() == keyed.row,
-            "{:?}",
-            keyed.row
-        );
-    }
-    Ok(())
+fn rows_and_their_keys(rt: HostRuntime) {
+    assert_eq!(rt; keyed_otherwise(rt.alloc()), None);
 }
 
 /// Bytes that are no row of the mixed columns.
@@ -130,14 +144,19 @@ fn read_mixed(alloc: Global, bytes: &[u8]) -> Result<Row, Fault> {
     Row::read(alloc, bytes, &schema(alloc, MIXED)?)
 }
 
+/// The first of these bytes that are read, or refused for something else.
+fn read(alloc: Global) -> Option<&'static [u8]> {
+    for (bytes, fault) in &UNREAD {
+        if read_mixed(alloc, bytes).err() != Some(*fault) {
+            return Some(*bytes);
+        }
+    }
+    None
+}
+
 #[test]
 fn bytes_that_are_no_row(rt: HostRuntime) {
-    for (bytes, fault) in &UNREAD {
-        assert!(rt;
-            read_mixed(rt.alloc(), bytes).err() == Some(*fault),
-            "{bytes:?}"
-        );
-    }
+    assert_eq!(rt; read(rt.alloc()), None);
 }
 
 /// The specification of these columns of five.
@@ -147,25 +166,54 @@ fn spec_of_five(alloc: Global, columns: &[usize]) -> Result<KeySpec, Fault> {
 
 const REFUSED: [&[usize]; 4] = [&[], &[0, 1, 2, 3, 4], &[1, 1], &[5]];
 
-#[test]
-fn columns_of_keys(rt: HostRuntime) -> Result<(), Fail> {
-    let spec = spec_of_five(rt.alloc(), &[2, 0])?;
-    assert!(rt; spec.columns() == &[2, 0][..] && spec.unique());
+/// The first of these columns that make a key, or are refused for something else.
+fn taken(alloc: Global) -> Option<&'static [usize]> {
     for columns in &REFUSED {
-        assert!(rt;
-            spec_of_five(rt.alloc(), columns).err() == Some(Fault::BadColumn),
-            "{columns:?}"
-        );
+        if spec_of_five(alloc, columns).err() != Some(Fault::BadColumn) {
+            return Some(*columns);
+        }
     }
-    Ok(())
+    None
+}
+
+fn has_columns(spec: &KeySpec, columns: &[usize]) -> bool {
+    spec.columns() == columns && spec.unique()
+}
+
+/// Whether a key of these columns is made, a unique one.
+fn are_taken(alloc: Global, columns: &[usize]) -> Result<bool, Fault> {
+    Ok(has_columns(&spec_of_five(alloc, columns)?, columns))
+}
+
+#[test]
+fn columns_of_keys(rt: HostRuntime) {
+    assert!(rt; are_taken(rt.alloc(), &[2, 0]) == Ok(true));
+    assert_eq!(rt; taken(rt.alloc()), None);
+}
+
+fn is_short_text(cell: &Cell) -> bool {
+    cell.is_short() && cell.fits(Kind::Text) && !cell.fits(Kind::Flag)
+}
+
+/// Whether the cell of a word's copy is a short text.
+fn has_cell(text: &Text) -> Result<bool, Fault> {
+    Ok(is_short_text(&Cell::Text(text.clone()?)))
+}
+
+fn is_word(text: Text) -> bool {
+    text.into_string().as_str() == "word"
+}
+
+fn word(alloc: Global) -> Result<Text, Fault> {
+    Ok(Text::new("word".to_string(alloc)?))
 }
 
 #[test]
 fn a_text_and_its_cell(rt: HostRuntime) -> Result<(), Fail> {
-    let text = Text::new("word".to_string(rt.alloc())?);
-    let cell = Cell::Text(text.clone()?);
-    assert!(rt; cell.is_short() && cell.fits(Kind::Text) && !cell.fits(Kind::Flag));
-    assert!(rt; text.into_string().as_str() == "word");
+    let text = word(rt.alloc())?;
+    let is_cell = has_cell(&text);
+    let is_word = is_word(text);
+    assert!(rt; is_cell == Ok(true) && is_word);
     Ok(())
 }
 
@@ -198,16 +246,26 @@ const KNOWN: [Known; 3] = [
     },
 ];
 
+fn is_printed(alloc: Global, known: &Known) -> Result<bool, AllocError> {
+    let fault = known.fault;
+    let printed = format!(in alloc; "{fault}")?;
+    Ok(printed.as_str() == known.text)
+}
+
+/// The name of the first refusal that is known otherwise.
+fn known_otherwise(alloc: Global) -> Result<Option<&'static str>, AllocError> {
+    for known in &KNOWN {
+        let is_named = known.fault.number() == known.number && known.fault.name() == known.name;
+        if !is_named || !is_printed(alloc, known)? {
+            return Ok(Some(known.name));
+        }
+    }
+    Ok(None)
+}
+
 #[test]
 fn refusals_as_scripts_know_them(rt: HostRuntime) -> Result<(), Fail> {
-    for known in &KNOWN {
-        let fault = known.fault;
-        let printed = format!(in rt.alloc(); "{fault}")?;
-        assert!(rt;
-            fault.number() == known.number && fault.name() == known.name,
-            "{fault:?}"
-        );
-        assert!(rt; printed.as_str() == known.text, "{printed}");
-    }
+    let other = known_otherwise(rt.alloc())?;
+    assert_eq!(rt; other, None);
     Ok(())
 }

@@ -1,15 +1,17 @@
-//! The heap table: its changes, at once and made ready before, its reads, and which page an insert takes.
+//! A table's calls: changes, at once and made ready before, and reads.
+ghost use Rattle.std.specs.Prelude.{IfOk};
+ghost use Rattle.heap_table.specs.Ready.{IsReady};
 
 use crate::fixtures::schema;
-use heap_table::{Heap, PageImage, Performed};
+use heap_table::{Heap, PageImage, Performed, Ready};
 use keybytes::{Cell, Fault, Kind, Rid, Row, Text};
 use std::alloc::Global;
 
-const FIRST: Rid = Rid { page: 0, slot: 0 };
+pub const FIRST: Rid = Rid { page: 0, slot: 0 };
 
-const SECOND: Rid = Rid { page: 1, slot: 0 };
+pub const SECOND: Rid = Rid { page: 1, slot: 0 };
 
-const LAST: Rid = Rid { page: 299, slot: 0 };
+pub const LAST: Rid = Rid { page: 299, slot: 0 };
 
 fn number_row(alloc: Global, number: i64) -> Result<Row, Fault> {
     Row::new(vec![in alloc; Cell::Int(number)]?)
@@ -26,7 +28,7 @@ fn text_row(alloc: Global, letters: usize) -> Result<Row, Fault> {
 
 /// A write of a table of one column of numbers, or of twelve columns of texts.
 #[derive(Clone, Copy)]
-enum Write {
+pub enum Write {
     Insert(i64),
     /// Of so many letters in each column.
     InsertTexts(usize),
@@ -44,15 +46,21 @@ fn write_at_once(heap: &mut Heap, txn: u64, write: Write) -> Result<(usize, Rid)
     }
 }
 
+fn made_ready(heap: &mut Heap, txn: u64, write: Write) -> Result<Ready, Fault>
+    ensures { IfOk result (λ ready. IsReady heap.new ready) }
+{
+    let alloc = heap.allocator();
+    match write {
+        Write::Insert(number) => heap.ready_insert(txn, number_row(alloc, number)?),
+        Write::InsertTexts(letters) => heap.ready_insert(txn, text_row(alloc, letters)?),
+        Write::Update(rid, number) => heap.ready_update(txn, rid, number_row(alloc, number)?),
+        Write::Delete(rid) => heap.ready_delete(txn, rid),
+    }
+}
+
 /// Makes a write ready, and then performs it.
 fn write_ready(heap: &mut Heap, txn: u64, write: Write) -> Result<(usize, Rid), Fault> {
-    let alloc = heap.allocator();
-    let ready = match write {
-        Write::Insert(number) => heap.ready_insert(txn, number_row(alloc, number)?)?,
-        Write::InsertTexts(letters) => heap.ready_insert(txn, text_row(alloc, letters)?)?,
-        Write::Update(rid, number) => heap.ready_update(txn, rid, number_row(alloc, number)?)?,
-        Write::Delete(rid) => heap.ready_delete(txn, rid)?,
-    };
+    let ready = made_ready(heap, txn, write)?;
     match heap.perform(ready) {
         Performed::Written { number, rid } => Ok((number, rid)),
         Performed::Undone(_) => Err(Fault::NoSuchRow),
@@ -128,8 +136,27 @@ fn copied_to(heap: &mut Heap, page: u32, image: &mut PageImage) -> Result<Option
     Ok(row.as_ref().and_then(number_in))
 }
 
+/// A row of one number, as a table sees it before it takes memory: its size, where it would be inserted, and whether the row at 0.0
+/// would become it.
+type Checked = (usize, Result<Rid, Fault>, Result<(), Fault>);
+
+fn checks(heap: &Heap, row: &Row) -> Checked {
+    heap.laws();
+    (
+        row.size(),
+        heap.check_insert(1, row),
+        heap.check_update(1, FIRST, row),
+    )
+}
+
+/// Whether a row of that number is seen so.
+fn is_checked(heap: &Heap, number: i64, checked: &Checked) -> Result<bool, Fault> {
+    let row = number_row(heap.allocator(), number)?;
+    Ok(checks(heap, &row) == *checked)
+}
+
 /// A call of a table, and what it answers.
-enum Call {
+pub enum Call {
     Begin(u64, Result<u64, Fault>),
     /// No transaction may begin from now on, or each may.
     Fence(bool),
@@ -141,6 +168,8 @@ enum Call {
     Get(Rid, Result<Option<i64>, Fault>),
     List(u32, Result<Option<(Rid, Option<i64>)>, Fault>),
     Copy(u32, Result<Option<i64>, Fault>),
+    /// What a row of that number would be told.
+    Check(i64, Checked),
     Busy(usize),
     Visits(u64),
     Records(usize),
@@ -164,6 +193,7 @@ fn is_answered(heap: &mut Heap, call: &Call, is_ready: bool) -> bool {
         Call::Get(rid, answer) => number_at(heap, *rid) == *answer,
         Call::List(page, answer) => listed(heap, *page) == *answer,
         Call::Copy(page, answer) => copied(heap, *page) == *answer,
+        Call::Check(number, answer) => is_checked(heap, *number, answer) == Ok(true),
         Call::Busy(answer) => heap.busy() == *answer,
         Call::Visits(answer) => heap.visits() == *answer,
         Call::Records(answer) => heap.log().len() == *answer,
@@ -180,239 +210,19 @@ fn first_other(heap: &mut Heap, calls: &[Call], is_ready: bool) -> Option<usize>
     None
 }
 
-/// The same of an empty table.
-fn differing(
-    alloc: Global,
-    kinds: &[Kind],
-    slots: u8,
-    pages: u32,
-    calls: &[Call],
-    is_ready: bool,
-) -> Result<Option<usize>, Fault> {
-    let mut heap = Heap::new(alloc, schema(alloc, kinds)?, slots, pages)?;
-    Ok(first_other(&mut heap, calls, is_ready))
+/// The calls of a new table, and whether its changes are made ready first.
+pub struct Story {
+    pub name: &'static str,
+    pub kinds: &'static [Kind],
+    pub slots: u8,
+    pub pages: u32,
+    pub is_ready: bool,
+    pub calls: &'static [Call],
 }
 
-const NUMBERS: &[Kind] = &[Kind::Int];
-
-const CHANGES: [Call; 17] = [
-    Call::Begin(2, Ok(2)),
-    Call::Write(1, Write::Insert(5), Ok((1, FIRST))),
-    Call::Write(2, Write::Delete(FIRST), Err(Fault::RowHeld(1))),
-    Call::Write(1, Write::Update(FIRST, 6), Ok((2, FIRST))),
-    Call::Write(1, Write::Delete(FIRST), Ok((3, FIRST))),
-    Call::Write(1, Write::Update(FIRST, 7), Err(Fault::NoSuchRow)),
-    Call::Write(2, Write::Insert(8), Ok((4, SECOND))),
-    Call::Write(2, Write::Insert(9), Err(Fault::TableFull)),
-    Call::Write(2, Write::InsertTexts(9), Err(Fault::RowShape)),
-    Call::Write(3, Write::Insert(9), Err(Fault::NoSuchTxn)),
-    Call::Undo(1, Ok((5, 2))),
-    Call::Write(1, Write::Insert(9), Err(Fault::TxnEnding)),
-    Call::Undo(1, Ok((6, 1))),
-    Call::Undo(1, Ok((7, 0))),
-    Call::Undo(1, Err(Fault::NoSuchTxn)),
-    Call::Write(2, Write::Insert(9), Ok((8, FIRST))),
-    Call::Get(FIRST, Ok(Some(9))),
-];
-
-#[test]
-fn changes_at_once(rt: HostRuntime) {
-    assert_eq!(rt;
-        differing(rt.alloc(), NUMBERS, 1, 2, &CHANGES, false),
-        Ok(None)
-    );
-}
-
-#[test]
-fn changes_made_ready(rt: HostRuntime) {
-    assert_eq!(rt;
-        differing(rt.alloc(), NUMBERS, 1, 2, &CHANGES, true),
-        Ok(None)
-    );
-}
-
-const READS: [Call; 17] = [
-    Call::Begin(1, Ok(1)),
-    Call::Write(1, Write::Insert(5), Ok((1, FIRST))),
-    Call::Get(FIRST, Ok(Some(5))),
-    Call::Get(SECOND, Err(Fault::NoSuchRow)),
-    Call::Visits(1),
-    Call::List(0, Ok(Some((FIRST, Some(5))))),
-    Call::Visits(2),
-    Call::Copy(0, Ok(Some(5))),
-    Call::Visits(3),
-    Call::Busy(1),
-    Call::Commit(1, Ok(2)),
-    Call::Busy(0),
-    Call::Commit(1, Err(Fault::NoSuchTxn)),
-    Call::Note(Ok(3)),
-    Call::Records(3),
-    Call::Visits(4),
-    Call::Undo(1, Err(Fault::NoSuchTxn)),
-];
-
-#[test]
-fn reads_are_visits(rt: HostRuntime) {
-    assert_eq!(rt;
-        differing(rt.alloc(), NUMBERS, 4, 4, &READS, false),
-        Ok(None)
-    );
-}
-
-const BEGINS: [Call; 4] = [
-    Call::Begin(64, Ok(64)),
-    Call::Begin(1, Err(Fault::TooManyTxns)),
-    Call::Commit(1, Ok(1)),
-    Call::Begin(1, Ok(65)),
-];
-
-#[test]
-fn open_transactions(rt: HostRuntime) {
-    assert_eq!(rt;
-        differing(rt.alloc(), NUMBERS, 1, 1, &BEGINS, false),
-        Ok(None)
-    );
-}
-
-#[test]
-fn refused_tables(rt: HostRuntime) {
-    for (slots, pages) in [(0, 1), (1, 0), (1, 65_537)] {
-        assert_eq!(rt;
-            differing(rt.alloc(), NUMBERS, slots, pages, &[], false),
-            Err(Fault::BadCount)
-        );
-    }
-}
-
-/// Three rows of 1,224 bytes leave 392 of a page: a row of 396 doesn't fit there, and one of 384 does.
-const PLACES: [Call; 13] = [
-    Call::Begin(1, Ok(1)),
-    Call::Write(1, Write::InsertTexts(100), Ok((1, FIRST))),
-    Call::Write(
-        1,
-        Write::InsertTexts(100),
-        Ok((2, Rid { page: 0, slot: 1 })),
-    ),
-    Call::Write(
-        1,
-        Write::InsertTexts(100),
-        Ok((3, Rid { page: 0, slot: 2 })),
-    ),
-    Call::Write(1, Write::InsertTexts(100), Ok((4, SECOND))),
-    Call::Write(
-        1,
-        Write::InsertTexts(100),
-        Ok((5, Rid { page: 1, slot: 1 })),
-    ),
-    Call::Write(
-        1,
-        Write::InsertTexts(100),
-        Ok((6, Rid { page: 1, slot: 2 })),
-    ),
-    Call::Write(
-        1,
-        Write::InsertTexts(100),
-        Ok((7, Rid { page: 2, slot: 0 })),
-    ),
-    Call::Write(1, Write::InsertTexts(31), Ok((8, Rid { page: 2, slot: 1 }))),
-    Call::Write(1, Write::InsertTexts(30), Ok((9, Rid { page: 0, slot: 3 }))),
-    Call::Write(
-        1,
-        Write::InsertTexts(30),
-        Ok((10, Rid { page: 1, slot: 3 })),
-    ),
-    Call::Write(
-        1,
-        Write::InsertTexts(30),
-        Ok((11, Rid { page: 2, slot: 2 })),
-    ),
-    Call::Write(1, Write::InsertTexts(0), Ok((12, Rid { page: 2, slot: 3 }))),
-];
-
-#[test]
-fn the_lowest_page_with_room(rt: HostRuntime) {
-    assert_eq!(rt;
-        differing(rt.alloc(), &[Kind::Text; 12], 255, 8, &PLACES, false),
-        Ok(None)
-    );
-}
-
-/// 300 pages of one slot are full, and then the last one's row is gone.
-const FULL: [Call; 6] = [
-    Call::Begin(2, Ok(2)),
-    Call::Fill(300, Ok(LAST)),
-    Call::Write(1, Write::Insert(5), Err(Fault::TableFull)),
-    Call::Write(1, Write::Delete(LAST), Ok((301, LAST))),
-    Call::Commit(1, Ok(302)),
-    Call::Write(2, Write::Insert(6), Ok((303, LAST))),
-];
-
-#[test]
-fn the_last_of_300_pages(rt: HostRuntime) {
-    assert_eq!(rt;
-        differing(rt.alloc(), NUMBERS, 1, 300, &FULL, false),
-        Ok(None)
-    );
-}
-
-/// What a table would say to a row: where it would be inserted, and whether an update would take it.
-fn checks(heap: &Heap, row: &Row) -> (Result<Rid, Fault>, Result<(), Fault>) {
-    heap.laws();
-    (heap.check_insert(1, row), heap.check_update(1, FIRST, row))
-}
-
-/// The checks of a row of one number, with the row's size, on a new table with an open transaction.
-fn checks_of_a_number(
-    heap: &mut Heap,
-) -> Result<(usize, Result<Rid, Fault>, Result<(), Fault>), Fault> {
-    let row = number_row(heap.allocator(), 5)?;
-    heap.begin()?;
-    let (insert, update) = checks(heap, &row);
-    Ok((row.size(), insert, update))
-}
-
-#[test]
-fn checks_before_memory_is_taken(rt: HostRuntime) {
-    let checked = match schema(rt.alloc(), &[Kind::Int]) {
-        Ok(schema) => match Heap::new(rt.alloc(), schema, 1, 1) {
-            Ok(mut heap) => checks_of_a_number(&mut heap),
-            Err(fault) => Err(fault),
-        },
-        Err(fault) => Err(fault),
-    };
-    assert_eq!(rt; checked, Ok((9, Ok(FIRST), Err(Fault::NoSuchRow))));
-}
-
-/// A table that is fenced while a transaction is open: that one writes and commits, another begins only once the fence is lifted.
-const FENCES: [Call; 9] = [
-    Call::Begin(1, Ok(1)),
-    Call::Fence(true),
-    Call::Begin(1, Err(Fault::Fenced)),
-    Call::Write(1, Write::Insert(5), Ok((1, FIRST))),
-    Call::Undo(1, Ok((2, 0))),
-    Call::Commit(1, Err(Fault::NoSuchTxn)),
-    Call::Begin(1, Err(Fault::Fenced)),
-    Call::Fence(false),
-    Call::Begin(1, Ok(2)),
-];
-
-const COMMITS_BEHIND_A_FENCE: [Call; 8] = [
-    Call::Begin(64, Ok(64)),
-    Call::Fence(true),
-    Call::Begin(1, Err(Fault::Fenced)),
-    Call::Write(1, Write::Insert(5), Ok((1, FIRST))),
-    Call::Commit(1, Ok(2)),
-    Call::Fence(false),
-    Call::Begin(1, Ok(65)),
-    Call::Begin(1, Err(Fault::TooManyTxns)),
-];
-
-#[test]
-fn a_fenced_table(rt: HostRuntime) {
-    for calls in [FENCES.as_slice(), COMMITS_BEHIND_A_FENCE.as_slice()] {
-        assert_eq!(rt;
-            differing(rt.alloc(), NUMBERS, 1, 1, calls, false),
-            Ok(None)
-        );
-    }
+/// The first call that is answered otherwise, or why there is no such table.
+pub fn differing(alloc: Global, story: &Story) -> Result<Option<usize>, Fault> {
+    let schema = schema(alloc, story.kinds)?;
+    let mut heap = Heap::new(alloc, schema, story.slots, story.pages)?;
+    Ok(first_other(&mut heap, story.calls, story.is_ready))
 }
