@@ -13,8 +13,6 @@
 
 mod copied;
 mod page_putter;
-#[cfg(test)]
-mod tests;
 mod worker;
 
 pub use copied::Copied;

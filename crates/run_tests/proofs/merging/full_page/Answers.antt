@@ -7,8 +7,8 @@ use Rattle.run_tests.proofs.merging.full_page.Goals as goal
 
 pub returns : goal.returns
 returns c =
-    let new = c.fill.new.spools in
+    let new = c.fill_from_table.new.spools in
     let old = c.in_ok-spools.spools in
-    let long : length new ≡ old.len = omega (arith, c.fill.auto.spools, c.as_mut_slice.ensures.len, old.ok.0) in
+    let long : length new ≡ old.len = omega (arith, c.fill_from_table.auto.spools, c.as_mut_slice.ensures.len, old.ok.0) in
     subst (λ (xs : List SpoolValue). AreSorted (all_runs (map runs_of xs))) (sym (written_back old.len new (drop (length new) old.items) long))
-    c.in_ok-fill.ensures
+    c.in_ok-fill_from_table.ensures

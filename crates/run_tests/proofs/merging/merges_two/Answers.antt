@@ -6,7 +6,7 @@ use Rattle.run_tests.proofs.merging.merges_two.Goals as goal
 
 pub merge-requires : goal.merge-requires
 merge-requires g c =
-    let new = c.fill.new.spools in
-    let long : length new ≡ c.args.spools.len = omega (arith, c.fill.auto.spools, c.as_mut_slice.ensures.len, c.args.spools.ok.0) in
+    let new = c.fill_from_table.new.spools in
+    let long : length new ≡ c.args.spools.len = omega (arith, c.fill_from_table.auto.spools, c.as_mut_slice.ensures.len, c.args.spools.ok.0) in
     subst (λ (xs : List g.row.S.Denot). AreSorted (all_runs (map g.S.Spool.runs xs)))
-    (sym (written_back c.args.spools.len new (drop (length new) c.args.spools.items) long)) c.in_ok-fill.ensures
+    (sym (written_back c.args.spools.len new (drop (length new) c.args.spools.items) long)) c.in_ok-fill_from_table.ensures

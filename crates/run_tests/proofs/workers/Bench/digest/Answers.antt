@@ -2,7 +2,7 @@ use Rattle.std.proofs.Common.{sym, subst}
 use Rattle.building.specs.ImagePairs.{EachHasRows}
 use Rattle.building.proofs.ManyPairs.{each_rows}
 use Rattle.building.proofs.Digests.{can_digest}
-use Rattle.building.proofs.tests.Bench.digest.Goals as goal
+use Rattle.run_tests.proofs.workers.Bench.digest.Goals as goal
 
 pub digest-requires-clause-rows : goal.digest-requires-clause-rows
 digest-requires-clause-rows g c =

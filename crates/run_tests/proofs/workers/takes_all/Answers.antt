@@ -1,7 +1,7 @@
 use Rattle.std.proofs.Common.{List, sym, subst}
 use Rattle.keybytes.specs.declared.kind.Kind.{Kind}
 use Rattle.building.specs.ImagePairs.{EachHasRows}
-use Rattle.building.proofs.tests.takes_all.Goals as goal
+use Rattle.run_tests.proofs.workers.takes_all.Goals as goal
 
 pub seal-requires-clause-each : goal.seal-requires-clause-each
 seal-requires-clause-each g c =

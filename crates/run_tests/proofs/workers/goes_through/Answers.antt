@@ -1,7 +1,7 @@
 use Rattle.std.proofs.Common.{List, ◌∙◌, sym, subst}
 use Rattle.keybytes.specs.declared.kind.Kind.{Kind}
 use Rattle.building.specs.ImagePairs.{EachHasRows}
-use Rattle.building.proofs.tests.goes_through.Goals as goal
+use Rattle.run_tests.proofs.workers.goes_through.Goals as goal
 
 pub takes_all-requires-clause-each : goal.takes_all-requires-clause-each
 takes_all-requires-clause-each c =

@@ -5,7 +5,7 @@ ghost use Rattle.run_spool.specs.PlainSpools.{new_spool};
 ghost use Rattle.run_maker.specs.Making.{AreReady};
 ghost use Rattle.building.specs.ImagePairs.{EachHasRows};
 
-use crate::{Copied, PagePutter, Worker, page_ring};
+use building::{Copied, PagePutter, Worker, page_ring};
 use heap_table::{Heap, PageImage};
 use keybytes::{Cell, Fault, Key, KeySpec, Kind, Rid, Row, Schema};
 use run_maker::Maker;

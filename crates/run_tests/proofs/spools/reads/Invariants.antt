@@ -1,5 +1,5 @@
 use Rattle.std.proofs.Common.{◌≡◌, [], length, get_or}
-use Rattle.spool_tests.proofs.spools.reads.Given as goal
+use Rattle.run_tests.proofs.spools.reads.Given as goal
 
 abbrev pub invariant-loop-j : goal.invariant-loop-j
 invariant-loop-j g l = record {

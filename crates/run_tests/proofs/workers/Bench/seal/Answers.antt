@@ -2,7 +2,7 @@ use Rattle.std.proofs.Common.{length, sym, subst}
 use Rattle.building.specs.ImagePairs.{EachHasRows}
 use Rattle.building.proofs.ManyPairs.{each_rows}
 use Rattle.building.proofs.Digests.{can_digest}
-use Rattle.building.proofs.tests.Bench.seal.Goals as goal
+use Rattle.run_tests.proofs.workers.Bench.seal.Goals as goal
 
 pub seal-requires-clause-rows : goal.seal-requires-clause-rows
 seal-requires-clause-rows g c =

@@ -6,7 +6,7 @@ use Rattle.run_maker.specs.ImagePairs.{HasRows}
 use Rattle.building.specs.declared.copied.Copied.{Copied}
 use Rattle.building.specs.ImagePairs.{EachHasRows}
 use Rattle.building.proofs.PageCopies.{copy_rows}
-use Rattle.building.proofs.tests.Bench.put.Goals as goal
+use Rattle.run_tests.proofs.workers.Bench.put.Goals as goal
 
 pub returns-then-not-has_room-clause-each : goal.returns-then-not-has_room-clause-each
 returns-then-not-has_room-clause-each c =
