@@ -1,7 +1,7 @@
 //! Rows and keys, their bytes, and refusals as scripts know them.
 
 use crate::fixtures::schema;
-use keybytes::{Cell, Fault, Key, KeySpec, Kind, Rid, Row, Schema, Text};
+use keybytes::{Cell, Fault, KeySpec, Kind, Rid, Row, Schema, Text};
 use std::alloc::{AllocError, Global};
 use std::test::Fail;
 
@@ -88,10 +88,8 @@ fn spec(alloc: Global, schema: &Schema, columns: &[usize]) -> Result<KeySpec, Fa
     KeySpec::new(alloc, schema, columns.to_vec(alloc)?, true)?.clone()
 }
 
-/// Whether the row of these bytes is that of the key's cells.
-fn is_of_key(spec: &KeySpec, schema: &Schema, key: &Key, bytes: &[u8]) -> Result<bool, Fault> {
-    let row = Row::new(spec.cells(key)?)?;
-    Ok(row.to_bytes(schema)?.as_slice() == bytes)
+fn are_of(keyed: &Keyed, key: &[u8], row: &[u8]) -> bool {
+    key == keyed.key && row == keyed.row
 }
 
 fn has_key(spec: &KeySpec, schema: &Schema, row: &Row, keyed: &Keyed) -> Result<bool, Fault> {
@@ -99,10 +97,8 @@ fn has_key(spec: &KeySpec, schema: &Schema, row: &Row, keyed: &Keyed) -> Result<
         return Err(Fault::RowShape);
     }
     let key = spec.key(row)?;
-    if key.bytes() != keyed.key {
-        return Ok(false);
-    }
-    is_of_key(spec, schema, &key, keyed.row)
+    let bytes = Row::new(spec.cells(&key)?)?.to_bytes(schema)?;
+    Ok(are_of(keyed, key.bytes(), bytes.as_slice()))
 }
 
 fn is_read(alloc: Global, schema: &Schema, keyed: &Keyed) -> Result<bool, Fault> {
