@@ -1,4 +1,4 @@
-use Rattle.bench_runs.proofs.run.run.Given as goal
+use Rattle.bench_runs.proofs.running.run.Given as goal
 
 -- the table is named by its own rings
 abbrev pub ghosts-run_on : goal.ghosts-run_on
