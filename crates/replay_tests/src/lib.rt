@@ -1,5 +1,5 @@
 //! Tests of the libraries `replay` and `script`: whole scripts with what they print, what is said of bad ones, and readers and writers
-//! that fail.
+//! that fail; of `words`: those that `sfbuild` takes; and of `bench_runs`: small runs with what they print.
 #![tactic(auto)]
 
 #[cfg(test)]
@@ -11,7 +11,11 @@ mod faulty;
 #[cfg(test)]
 mod many_entries;
 #[cfg(test)]
+mod measured_runs;
+#[cfg(test)]
 mod printed;
+#[cfg(test)]
+mod program_words;
 #[cfg(test)]
 mod scripts;
 #[cfg(test)]

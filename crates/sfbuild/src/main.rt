@@ -1,23 +1,19 @@
 //! The program `sfbuild`: builds the index of a table, as a script tells it to.
 //!
-//! [`command_line`] reads the words that the program is given, and the library [`replay`] runs the script or looks at it.
+//! The library [`words`] reads the words that the program is given, and the library [`replay`] runs the script or looks at it.
 //! `main` only hands the script and the standard streams in.
 #![tactic(auto)]
 
-mod command_line;
-#[cfg(test)]
-mod tests;
-
-use command_line::{Choice, Task};
 use replay::Status;
 use script::ScriptError;
 use std::fs::File;
 use std::io::Read;
 use std::process::ExitCode;
 use std::{env, io};
+use words::{Choice, Task};
 
 fn main(rt: HostRuntime) -> ExitCode {
-    let status = match words(&rt) {
+    let status = match given(&rt) {
         Ok(words) => obey(&rt, words.as_slice()),
         Err(error) => {
             let _ = eprintln!(rt; "sfbuild: {error}");
@@ -28,14 +24,14 @@ fn main(rt: HostRuntime) -> ExitCode {
 }
 
 /// The words that the program was given, its own name first.
-fn words(rt: &HostRuntime) -> io::Result<Vec<String>> {
+fn given(rt: &HostRuntime) -> io::Result<Vec<String>> {
     let words = env::args(rt)?.collect(rt.alloc())?;
     Ok(words)
 }
 
 /// Does what the words ask for, and answers the program's exit status.
 fn obey(rt: &HostRuntime, words: &[String]) -> u8 {
-    match command_line::read(rt.alloc(), words) {
+    match words::read(rt.alloc(), words) {
         Ok(Choice { task, script }) => run(rt, task, script),
         Err(error) => print(rt, &error),
     }

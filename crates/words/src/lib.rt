@@ -1,4 +1,5 @@
-//! The words that the program understands.
+//! The words that the program `sfbuild` understands.
+#![tactic(auto)]
 
 use clap::error::ErrorKind;
 use clap::{Arg, ArgAction, ArgMatches, Command, Error};
@@ -27,14 +28,14 @@ pairs of an index on its first column. `sfbuild replay three.csv` then prints
 `sfbuild check three.csv` runs nothing, and says whether all records are good.";
 
 /// What the words ask for: something that is to be done with a script, which is a file's path, or `-` for standard input.
-#[derive(Drop)]
+#[derive(Clone, Copy)]
 pub struct Choice<'a> {
     pub task: Task,
     pub script: &'a str,
 }
 
 /// What is to be done with a script.
-#[derive(Clone, Copy, PartialEq, Eq)]
+#[derive(Clone, Copy)]
 pub enum Task {
     Replay,
     Check,
@@ -52,58 +53,51 @@ pub fn read<'a, S: AsStr>(alloc: Global, words: &'a [S]) -> Result<Choice<'a>, E
 
 fn chosen<'a>(matches: &ArgMatches<'a>) -> Option<Choice<'a>> {
     let (name, arguments) = matches.subcommand()?;
-    let task = task_named(name)?;
+    let task = match name {
+        "replay" => Task::Replay,
+        "check" => Task::Check,
+        _ => return None,
+    };
     let script = arguments.get_str("SCRIPT")?;
     Some(Choice { task, script })
 }
 
-fn task_named(name: &str) -> Option<Task> {
-    match name {
-        "replay" => Some(Task::Replay),
-        "check" => Some(Task::Check),
-        _ => None,
-    }
-}
-
 fn missing(alloc: Global) -> Result<Error, AllocError> {
-    let mut command = command(alloc)?;
-    command.error(ErrorKind::MissingSubcommand, "a command is missing")
+    command(alloc)?.error(ErrorKind::MissingSubcommand, "a command is missing")
 }
 
 fn command<'a>(alloc: Global) -> Result<Command<'a>, AllocError> {
-    let replay = replay(alloc)?;
-    let check = check(alloc)?;
-    let command = program(alloc).subcommand(replay)?;
-    command.subcommand(check)
-}
-
-/// The program without its commands.
-fn program<'a>(alloc: Global) -> Command<'a> {
+    let replay = task_command(
+        alloc,
+        "replay",
+        "Runs the records of a script one after the other, and prints an answer for each",
+    )?;
+    let check = task_command(
+        alloc,
+        "check",
+        "Runs nothing, and says whether all records of a script are good, or what is wrong with the first bad one",
+    )?;
     Command::new(alloc, "sfbuild")
         .version(VERSION)
         .about("Builds the index of a table, as a script tells it to")
         .after_help(EXAMPLE)
         .subcommand_required(true)
+        .subcommand(replay)?
+        .subcommand(check)
 }
 
-fn replay<'a>(alloc: Global) -> Result<Command<'a>, AllocError> {
-    Command::new(alloc, "replay")
-        .about("Runs the records of a script one after the other, and prints an answer for each")
-        .after_help(EXAMPLE)
-        .arg(script(alloc))
-}
-
-fn check<'a>(alloc: Global) -> Result<Command<'a>, AllocError> {
-    Command::new(alloc, "check")
-        .about(
-            "Runs nothing, and says whether all records of a script are good, or what is wrong with the first bad one",
-        )
-        .arg(script(alloc))
-}
-
-fn script<'a>(alloc: Global) -> Arg<'a> {
-    Arg::new(alloc, "SCRIPT")
+/// The command of a task.
+fn task_command<'a>(
+    alloc: Global,
+    name: &'a str,
+    about: &'a str,
+) -> Result<Command<'a>, AllocError> {
+    let script = Arg::new(alloc, "SCRIPT")
         .help("The script's file, or - for standard input")
         .required(true)
-        .action(ArgAction::Set)
+        .action(ArgAction::Set);
+    Command::new(alloc, name)
+        .about(about)
+        .after_help(EXAMPLE)
+        .arg(script)
 }

@@ -1,4 +1,4 @@
-//! Small runs with what they print, and the words that are refused.
+//! Small runs of `sfbench` with what they print, and the words that it refuses.
 
 use bench_runs::{Failure, peak_in, printed, read, run};
 use std::alloc::Global;
@@ -125,20 +125,18 @@ fn a_table_of_figures(rt: HostRuntime) -> Result<(), Fail> {
     Ok(())
 }
 
-/// The place of the first words that are not refused, if there are any.
-fn first_read(alloc: Global, refused: &[&[&str]]) -> Option<usize> {
-    for (place, words) in refused.iter().enumerate() {
-        match read(alloc, words) {
-            Err(error) if error.use_stderr() && error.exit_code() == 2 => {}
-            _ => return Some(place),
-        }
+fn are_refused(alloc: Global, words: &[&str]) -> bool {
+    match read(alloc, words) {
+        Ok(_) => false,
+        Err(error) => error.use_stderr() && error.exit_code() == 2,
     }
-    None
 }
 
 #[test]
 fn words_that_are_refused(rt: HostRuntime) {
-    assert_eq!(rt; first_read(rt.alloc(), &REFUSED), None);
+    for words in REFUSED {
+        assert!(rt; are_refused(rt.alloc(), words));
+    }
 }
 
 #[test]

@@ -1,0 +1,96 @@
+//! The words that the program `sfbuild` takes, and those that it refuses.
+
+use clap::Error;
+use clap::error::ErrorKind;
+use std::alloc::Global;
+use std::test::Fail;
+use words::{Task, read};
+
+/// Commands with their tasks.
+static TASKS: [(&str, Task); 2] = [("replay", Task::Replay), ("check", Task::Check)];
+
+static SCRIPTS: [&str; 3] = ["three.csv", "-", "./a b"];
+
+static REFUSED: [&[&str]; 7] = [
+    &["sfbuild"],
+    &["sfbuild", "fly"],
+    &["sfbuild", "replay"],
+    &["sfbuild", "check"],
+    &["sfbuild", "replay", "a", "b"],
+    &["sfbuild", "check", "--fast", "a"],
+    &["sfbuild", "-", "a"],
+];
+
+static HELPED: [&[&str]; 3] = [
+    &["sfbuild", "--help"],
+    &["sfbuild", "replay", "--help"],
+    &["sfbuild", "help", "replay"],
+];
+
+/// Whether these words ask for that task with that script.
+fn ask_for(alloc: Global, words: &[&str], task: Task, script: &str) -> bool {
+    match read(alloc, words) {
+        Ok(choice) => choice.task as u8 == task as u8 && choice.script == script,
+        Err(_) => false,
+    }
+}
+
+#[test]
+fn name_a_script(rt: HostRuntime) {
+    for (name, task) in TASKS {
+        for script in SCRIPTS {
+            let words = ["sfbuild", name, script];
+            assert!(rt; ask_for(rt.alloc(), words.as_slice(), task, script));
+        }
+    }
+}
+
+fn are_refused(alloc: Global, words: &[&str]) -> bool {
+    match read(alloc, words) {
+        Ok(_) => false,
+        Err(error) => error.use_stderr() && error.exit_code() == 2,
+    }
+}
+
+#[test]
+fn that_are_refused(rt: HostRuntime) {
+    for words in REFUSED {
+        assert!(rt; are_refused(rt.alloc(), words));
+    }
+}
+
+/// What words are answered that ask for help or the version; nothing where they ask for something else.
+fn answered(alloc: Global, words: &[&str], kind: ErrorKind) -> Result<String, Fail> {
+    match read(alloc, words) {
+        Ok(_) => Ok(String::new(alloc)),
+        Err(error) => told(alloc, &error, kind),
+    }
+}
+
+fn told(alloc: Global, error: &Error, kind: ErrorKind) -> Result<String, Fail> {
+    if error.kind() != kind || error.use_stderr() || error.exit_code() != 0 {
+        return Ok(String::new(alloc));
+    }
+    Ok(error.to_string(alloc)?)
+}
+
+#[test]
+fn that_ask_for_help(rt: HostRuntime) -> Result<(), Fail> {
+    for words in HELPED {
+        let text = answered(rt.alloc(), words, ErrorKind::DisplayHelp)?;
+        assert!(rt; text.as_str().contains("table,2,int"));
+        assert!(rt; text.as_str().contains("sfbuild check three.csv"));
+    }
+    Ok(())
+}
+
+#[test]
+fn that_ask_for_the_version(rt: HostRuntime) -> Result<(), Fail> {
+    let words = ["sfbuild", "--version"];
+    let version = answered(rt.alloc(), words.as_slice(), ErrorKind::DisplayVersion)?;
+    assert_eq!(rt;
+        version.as_str(),
+        "sfbuild 0.1.0 (rattle-kit-13f logic dac8208d650f15bf)\n"
+    );
+    Ok(())
+}
