@@ -91,9 +91,6 @@ fn named(alloc: Global, name: CommandName, fields: &[&str]) -> Result<Line, Reco
         CommandName::Row => Command::Row {
             cells: cells(alloc, fields)?,
         },
-        CommandName::Begin => Command::Begin {
-            label: only_label(alloc, fields)?,
-        },
         CommandName::Insert => {
             let (label, cells) = label_and_cells(alloc, fields)?;
             Command::Insert { label, cells }
@@ -106,58 +103,54 @@ fn named(alloc: Global, name: CommandName, fields: &[&str]) -> Result<Line, Reco
             let (label, rid) = label_and_rid(alloc, fields)?;
             Command::Delete { label, rid }
         }
-        CommandName::Undo => Command::Undo {
-            label: only_label(alloc, fields)?,
-        },
-        CommandName::Commit => Command::Commit {
-            label: only_label(alloc, fields)?,
-        },
         CommandName::Get => Command::Get {
             rid: only_rid(fields)?,
         },
         CommandName::Start => Command::Start(start(alloc, fields)?),
+        CommandName::Rest => Command::Rest {
+            spec: only_spec(alloc, fields)?,
+        },
+        CommandName::Begin | CommandName::Undo | CommandName::Commit => {
+            let label = only_label(alloc, fields)?;
+            match name {
+                CommandName::Undo => Command::Undo { label },
+                CommandName::Commit => Command::Commit { label },
+                _ => Command::Begin { label },
+            }
+        }
         CommandName::Scan => {
             let (range, worker) = two_counts(fields)?;
             Command::Scan { range, worker }
         }
-        CommandName::Digest => Command::Digest {
-            worker: only_count(fields)?,
-        },
-        CommandName::Seal => Command::Seal {
-            worker: only_count(fields)?,
-        },
-        CommandName::Load => Command::Load {
-            index: only_count(fields)?,
-        },
-        CommandName::Feed => {
+        CommandName::Feed | CommandName::Apply => {
             let (index, most) = two_counts(fields)?;
-            Command::Feed { index, most }
+            match name {
+                CommandName::Feed => Command::Feed { index, most },
+                _ => Command::Apply { index, most },
+            }
         }
-        CommandName::Apply => {
-            let (index, most) = two_counts(fields)?;
-            Command::Apply { index, most }
+        CommandName::Digest
+        | CommandName::Seal
+        | CommandName::Load
+        | CommandName::Side
+        | CommandName::Pairs => {
+            let number = only_count(fields)?;
+            match name {
+                CommandName::Digest => Command::Digest { worker: number },
+                CommandName::Seal => Command::Seal { worker: number },
+                CommandName::Load => Command::Load { index: number },
+                CommandName::Side => Command::Side { index: number },
+                _ => Command::Pairs { number },
+            }
         }
-        CommandName::Fence => {
+        CommandName::Fence | CommandName::Switch | CommandName::Abandon => {
             none(fields)?;
-            Command::Fence
+            match name {
+                CommandName::Fence => Command::Fence,
+                CommandName::Switch => Command::Switch,
+                _ => Command::Abandon,
+            }
         }
-        CommandName::Switch => {
-            none(fields)?;
-            Command::Switch
-        }
-        CommandName::Abandon => {
-            none(fields)?;
-            Command::Abandon
-        }
-        CommandName::Side => Command::Side {
-            index: only_count(fields)?,
-        },
-        CommandName::Pairs => Command::Pairs {
-            number: only_count(fields)?,
-        },
-        CommandName::Rest => Command::Rest {
-            spec: only_spec(alloc, fields)?,
-        },
     }))
 }
 
