@@ -1,4 +1,4 @@
-use Rattle.script.proofs.parse.label_rid_and_cells.Goals as goal
+use Rattle.script.proofs.parse.update.Goals as goal
 
 pub returns-in_err-rid-clause-refused : goal.returns-in_err-rid-clause-refused
 returns-in_err-rid-clause-refused c = λ _ fits.
