@@ -4,7 +4,6 @@ use heap_log::Outcome;
 use keybytes::Rid;
 
 /// The verdict on an index.
-#[derive(Clone, Copy)]
 pub enum Became {
     /// It is ready, under that number.
     Ready(usize),

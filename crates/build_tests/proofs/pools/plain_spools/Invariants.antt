@@ -7,5 +7,5 @@ abbrev pub invariant-loop : goal.invariant-loop
 invariant-loop l = record {
   owed : IsOwed l.pool (map (λ spool. Some (stake_of spool.account)) l.spools.items);
   count : length l.spools.items ≡ l.counter;
-  room : vec_capacity l.spools ≡ l.fn.count;
+  room : vec_capacity l.spools ≡ l.fn.stock.count;
 }
