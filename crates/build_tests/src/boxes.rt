@@ -4,9 +4,10 @@ ghost use Rattle.std.specs.Prelude.{◌≡◌};
 use crate::made::list_spool;
 use crate::pools::{QUOTA, new_pool, plain_spool, room};
 use crate::stories::{Other, Story, other_reply, run_on, table};
-use builder_core::{Event, Parts, Table};
+use builder_core::{Event, Parts, Reply, Table};
 use keybytes::Fault;
 use run_spool::{Spool, give_up_all};
+use spool_ledger::Pool;
 use std::alloc::Global;
 use std::marker::Brand;
 
@@ -17,7 +18,22 @@ fn accounts_behind<S: Spool>(alloc: Global, spools: Vec<S>) -> Result<usize, Fau
     Ok(accounts.len())
 }
 
-/// The first other reply to the list of a story, of a table under its name. One account has to stand behind the spools.
+/// The first other reply to the list of a story. One account has to stand behind the spools.
+fn other_told(
+    alloc: Global,
+    replies: Result<Vec<Reply>, Fault>,
+    accounts: Result<usize, Fault>,
+    story: &Story,
+) -> Other {
+    let replies = replies?;
+    match accounts {
+        Ok(1) => other_reply(alloc, &replies, story),
+        Ok(_) => Err(Fault::BadCount),
+        Err(fault) => Err(fault),
+    }
+}
+
+/// The same of a table under its name.
 fn other_on<S: Spool, T: Table>(
     alloc: Global,
     parts: Parts,
@@ -29,11 +45,7 @@ fn other_on<S: Spool, T: Table>(
     requires sides { parts.sides ≡ T.sides }
 {
     let (_, _, spools, replies) = run_on::<S, T>(alloc, parts, spools, events);
-    match (replies, accounts_behind(alloc, spools)) {
-        (Ok(replies), Ok(1)) => other_reply(alloc, &replies, story),
-        (Err(fault), _) | (_, Err(fault)) => Err(fault),
-        _ => Err(Fault::BadCount),
-    }
+    other_told(alloc, replies, accounts_behind(alloc, spools), story)
 }
 
 fn other_beside<S: Spool>(alloc: Global, spools: Vec<S>, events: &[Event], story: &Story) -> Other {
@@ -42,9 +54,14 @@ fn other_beside<S: Spool>(alloc: Global, spools: Vec<S>, events: &[Event], story
 }
 
 /// The first worker's spool is a plain one, the second's keeps its runs in lists.
-pub fn other_over_both(alloc: Global, events: &[Event], story: &Story) -> Other {
-    let mut pool = new_pool(alloc)?;
-    let plain: Box<dyn Spool + Send> = Box::new(alloc, plain_spool(alloc, &mut pool, QUOTA)?)?;
+fn other_over(alloc: Global, pool: &mut Pool, events: &[Event], story: &Story) -> Other {
+    let plain: Box<dyn Spool + Send> = Box::new(alloc, plain_spool(alloc, pool, QUOTA)?)?;
     let list: Box<dyn Spool + Send> = Box::new(alloc, list_spool(alloc)?)?;
     other_beside(alloc, vec![in alloc; plain, list]?, events, story)
+}
+
+/// What the story of spools of both kinds tells otherwise.
+pub fn other_over_both(alloc: Global, events: &[Event], story: &Story) -> Other {
+    let mut pool = new_pool(alloc)?;
+    other_over(alloc, &mut pool, events, story)
 }

@@ -78,7 +78,7 @@ const IN_USE: [Call; 20] = [
 ];
 
 const READS: [Call; 3] = [
-    Call::Get(Rid { page: 1, slot: 0 }, Ok(Some(5))),
+    Call::Get(Rid { page: 1, slot: 0 }, Ok(5)),
     Call::Get(Rid { page: 1, slot: 1 }, Err(Fault::NoSuchRow)),
     Call::Rest(true),
 ];

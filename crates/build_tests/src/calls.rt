@@ -22,12 +22,12 @@ pub enum Call {
     Renew(usize),
     /// One spool of a page, which has a pair, comes in the place of the others.
     Uses,
-    /// To that index at most so many entries are applied, and so many are where memory doesn't run out. Where it does, the rest of
-    /// them is when it is asked once more.
-    Applies(usize, usize, usize),
+    /// That applies so many entries where memory doesn't run out. Where it does, it applies the rest of them when it is asked once
+    /// more.
+    Applies(Ask, usize),
     /// The switch is answered with that number, and with these verdicts.
     Switches(usize, &'static [Became]),
-    Get(Rid, Result<Option<i64>, Fault>),
+    Get(Rid, Result<i64, Fault>),
     /// Whether an index would have the pairs of the three rows now.
     Rest(bool),
     /// So many indexes are ready, each on the table's column and with the pairs of the table as it is now.
@@ -70,7 +70,7 @@ impl<S: Made, T: Table> Asked for Stand<S, T> {
             Call::Event(ask, answer) => answers(self, alloc, *ask, answer),
             Call::Renew(count) => self.renew(alloc, QUOTA, *count, false),
             Call::Uses => self.renew(alloc, 1, 1, true),
-            Call::Applies(index, most, count) => applies(self, *index, *most, *count),
+            Call::Applies(ask, count) => applies(self, alloc, *ask, *count),
             Call::Switches(number, became) => switches(self, *number, became),
             Call::Get(rid, answer) => Ok(number_at(self, *rid) == *answer),
             Call::Rest(are) => Ok(are_entries(&self.rest(alloc)?) == *are),
@@ -82,8 +82,12 @@ impl<S: Made, T: Table> Asked for Stand<S, T> {
 }
 
 /// The numbers in the reply to an event.
-fn told<S: Made, T: Table>(stand: &mut Stand<S, T>, event: Event) -> Result<(usize, usize), Fault> {
-    numbers_in(&stand.step(event))
+fn told<S: Made, T: Table>(
+    stand: &mut Stand<S, T>,
+    alloc: Global,
+    ask: Ask,
+) -> Result<(usize, usize), Fault> {
+    numbers_in(&stand.step(event(alloc, ask)?))
 }
 
 /// An event that is refused for want of memory is asked for once more.
@@ -93,21 +97,21 @@ fn answers<S: Made, T: Table>(
     ask: Ask,
     answer: &Result<(usize, usize), Fault>,
 ) -> Result<bool, Fault> {
-    match told(stand, event(alloc, ask)?) {
-        Err(Fault::Memory) => is_told(told(stand, event(alloc, ask)?), answer),
+    match told(stand, alloc, ask) {
+        Err(Fault::Memory) => is_told(told(stand, alloc, ask), answer),
         first => is_told(first, answer),
     }
 }
 
 fn applies<S: Made, T: Table>(
     stand: &mut Stand<S, T>,
-    index: usize,
-    most: usize,
+    alloc: Global,
+    ask: Ask,
     count: usize,
 ) -> Result<bool, Fault> {
-    match told(stand, Event::Apply { index, most }) {
+    match told(stand, alloc, ask) {
         Err(Fault::Memory) => {
-            let (rest, _) = told(stand, Event::Apply { index, most })?;
+            let (rest, _) = told(stand, alloc, ask)?;
             Ok(0 < rest && rest <= count)
         }
         first => is_told(first, &Ok((count, 0))),
@@ -148,15 +152,15 @@ fn switches<S: Made, T: Table>(
     }
 }
 
-fn number_in(cells: &[Cell]) -> Option<i64> {
+fn number_in(cells: &[Cell]) -> Result<i64, Fault> {
     match cells {
-        [Cell::Int(number)] => Some(*number),
-        _ => None,
+        [Cell::Int(number)] => Ok(*number),
+        _ => Err(Fault::RowShape),
     }
 }
 
-fn number_at<S: Made, T: Table>(stand: &mut Stand<S, T>, rid: Rid) -> Result<Option<i64>, Fault> {
-    Ok(number_in(stand.get(rid)?.cells()))
+fn number_at<S: Made, T: Table>(stand: &mut Stand<S, T>, rid: Rid) -> Result<i64, Fault> {
+    number_in(stand.get(rid)?.cells())
 }
 
 /// Whether that index is on the table's column, and has these pairs.

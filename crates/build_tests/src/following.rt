@@ -36,7 +36,7 @@ const ROLLED_BACK: [Call; 17] = [
     Call::Event(Ask::Delete(4, FIRST), Ok((12, 0))),
     Call::Follow(2),
     Call::Event(Ask::Undo(4), Ok((13, 3))),
-    Call::Get(FIRST, Ok(Some(1))),
+    Call::Get(FIRST, Ok(1)),
     Call::Follow(2),
     Call::Event(Ask::Undo(4), Ok((14, 2))),
     Call::Follow(2),

@@ -37,7 +37,7 @@ const THREE: [Call; 31] = [
     Call::Event(Ask::Feed(3, 1), Err(Fault::BadCount)),
     Call::Event(Ask::Feed(0, 1), Ok((1, 0))),
     Call::Event(Ask::Apply(0, 1), Err(Fault::NotLoaded(0))),
-    Call::Applies(2, 2, 2),
+    Call::Applies(Ask::Apply(2, 2), 2),
     Call::Event(Ask::Apply(2, 9), Ok((0, 0))),
     Call::Event(Ask::Apply(3, 1), Err(Fault::BadCount)),
     Call::Event(Ask::Load(0), Ok((3, 0))),

@@ -134,6 +134,15 @@ fn other_behind<A: Asked>(alloc: Global, asked: &mut A, replies: &[Reply], story
     }
 }
 
+fn other_told<A: Asked>(
+    alloc: Global,
+    asked: &mut A,
+    replies: Result<Vec<Reply>, Fault>,
+    story: &Story,
+) -> Other {
+    other_behind(alloc, asked, &replies?, story)
+}
+
 /// The story of a table under its name. The pool has all its pages in the end, also where memory ran out.
 fn other_on<S: Made, T: Table>(
     alloc: Global,
@@ -149,10 +158,7 @@ fn other_on<S: Made, T: Table>(
 {
     let (live, ends, spools, replies) = run_on::<S, T>(alloc, parts, spools, events);
     let mut stand = Stand::new(live, ends, pool, spools);
-    let told = match replies {
-        Ok(replies) => other_behind(alloc, &mut stand, &replies, story),
-        Err(fault) => Err(fault),
-    };
+    let told = other_told(alloc, &mut stand, replies, story);
     match stand.end(alloc) {
         Ok(pool) => told_of_whole(alloc, pool, told),
         Err(fault) => Err(fault),
@@ -168,22 +174,14 @@ fn told_of_whole(alloc: Global, pool: Pool, told: Other) -> Other {
     }
 }
 
-fn other_beside<S: Made>(
-    alloc: Global,
-    pool: Pool,
-    spools: Vec<S>,
-    events: &[Event],
-    story: &Story,
-) -> Other
-    requires { IsOwed pool (map S.stake spools.items) }
-{
-    let parts = table(alloc, story.on.slots)?;
+fn other_beside<S: Made>(alloc: Global, parts: Parts, events: &[Event], story: &Story) -> Other {
+    let (pool, spools) = stocked::<S>(alloc, story.on.stock)?;
     other_on::<S, Brand>(alloc, parts, pool, spools, events, story)
 }
 
 fn other_with<S: Made>(alloc: Global, events: &[Event], story: &Story) -> Other {
-    let (pool, spools) = stocked::<S>(alloc, story.on.stock)?;
-    other_beside(alloc, pool, spools, events, story)
+    let parts = table(alloc, story.on.slots)?;
+    other_beside::<S>(alloc, parts, events, story)
 }
 
 fn other_over(alloc: Global, events: &[Event], story: &Story) -> Other {
