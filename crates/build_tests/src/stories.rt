@@ -159,19 +159,15 @@ fn other_on<S: Made, T: Table>(
     let (live, ends, spools, replies) = run_on::<S, T>(alloc, parts, spools, events);
     let mut stand = Stand::new(live, ends, pool, spools);
     let told = other_told(alloc, &mut stand, replies, story);
-    match stand.end(alloc) {
-        Ok(pool) => told_of_whole(alloc, pool, told),
-        Err(fault) => Err(fault),
-    }
+    told_of_whole(alloc, stand.end(alloc), told)
 }
 
 /// What is told where the pool has all its pages; else it is that.
-fn told_of_whole(alloc: Global, pool: Pool, told: Other) -> Other {
-    match is_whole(alloc, pool) {
-        Ok(true) => told,
-        Ok(false) => Err(Fault::BadCount),
-        Err(fault) => Err(fault),
+fn told_of_whole(alloc: Global, pool: Result<Pool, Fault>, told: Other) -> Other {
+    if is_whole(alloc, pool?)? {
+        return told;
     }
+    Err(Fault::BadCount)
 }
 
 fn other_beside<S: Made>(alloc: Global, parts: Parts, events: &[Event], story: &Story) -> Other {

@@ -1,4 +1,4 @@
-use Rattle.std.proofs.Common.{◌≡◌, ◌≤◌, ◌+◌, Some, map, length, vec_capacity}
+use Rattle.std.proofs.Common.{◌≡◌, Some, map, length, vec_capacity}
 use Rattle.spool_ledger.specs.Accounts.{stake_of}
 use Rattle.build_tests.specs.Owing.{IsOwed}
 use Rattle.build_tests.proofs.pools.plain_spools.Given as goal
