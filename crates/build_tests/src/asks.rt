@@ -4,6 +4,7 @@ use builder_core::{Dealing, Event, Plan, Reply};
 use keybytes::{Cell, Fault, KeySpec, Kind, Rid, Row, Schema};
 use std::alloc::Global;
 
+/// Where the first row stands.
 pub const FIRST: Rid = Rid { page: 0, slot: 0 };
 
 /// A table's one column, of numbers.
@@ -16,6 +17,7 @@ pub fn spec(alloc: Global, unique: bool) -> Result<KeySpec, Fault> {
     KeySpec::new(alloc, &schema(alloc)?, vec![in alloc; 0]?, unique)
 }
 
+/// A row of that number.
 pub fn number_row(alloc: Global, number: i64) -> Result<Row, Fault> {
     Row::new(vec![in alloc; Cell::Int(number)]?)
 }
@@ -115,6 +117,7 @@ fn made_event(alloc: Global, ask: Ask) -> Result<Event, Fault> {
     }
 }
 
+/// The event of an ask.
 pub fn event(alloc: Global, ask: Ask) -> Result<Event, Fault> {
     match ask {
         Ask::Begin => Ok(Event::Begin),

@@ -18,6 +18,7 @@ pub const ROWS: [Call; 9] = [
     Call::Event(Ask::Commit(3), Ok((6, 0))),
 ];
 
+/// A build from its start to its switch, with steps that come too early.
 pub const BUILD: [Call; 15] = [
     Call::Event(Ask::StartEven(1, 1, 1), Ok((2, 0))),
     Call::Event(Ask::Scan(0, 0), Ok((0, 0))),

@@ -40,6 +40,7 @@ const BOTH_KINDS: Setting = Setting {
     },
 };
 
+/// Event by event over a spool that keeps its runs in lists, and as a list of events over both kinds.
 pub static STORIES: [Story; 2] = [
     Story {
         name: "a build over lists",

@@ -93,6 +93,7 @@ const BAD_RANGES: [Call; 8] = [
     Call::Event(Ask::Scan(0, 0), Err(Fault::RangeDone)),
 ];
 
+/// The ranges in either order, even ones, empty ones and bad ones.
 pub static STORIES: [Story; 5] = [
     Story {
         name: "the first range first",

@@ -25,6 +25,7 @@ const ENDS_WITH_A_BUILD: [Call; 5] = [
     Call::Event(Ask::Switch, Ok((242, 0))),
 ];
 
+/// Where memory may run out no page is lost by an allocation that fails in a build.
 pub static STORIES: [Story; 4] = [
     Story {
         name: "a list that ends in a build",

@@ -97,6 +97,7 @@ const ABANDONED: [Call; 17] = [
     Call::Follow(2),
 ];
 
+/// They are built in one scan.
 pub static STORIES: [Story; 3] = [
     Story {
         name: "three indexes and eight more",

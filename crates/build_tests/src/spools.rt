@@ -134,6 +134,7 @@ const TWO_OF_A_PAGE: Setting = Setting {
     },
 };
 
+/// A build that wants a page is spoiled, and one that fits in it is not.
 pub static STORIES: [Story; 6] = [
     Story {
         name: "a start with a spool that has a pair",

@@ -51,6 +51,7 @@ impl<S: Made, T: Table> Stand<S, T> {
         Stand { core, pool }
     }
 
+    /// The core.
     pub fn core(&self) -> &Core<S, T> {
         &self.core
     }

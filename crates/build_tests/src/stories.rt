@@ -46,6 +46,7 @@ pub const NO_SPOOL: Setting = Setting {
     },
 };
 
+/// One spool beside such a table.
 pub const ONE_SPOOL: Setting = Setting {
     kind: Kind::Plain,
     slots: 2,
@@ -56,6 +57,7 @@ pub const ONE_SPOOL: Setting = Setting {
     },
 };
 
+/// Two spools beside it.
 pub const TWO_SPOOLS: Setting = Setting {
     kind: Kind::Plain,
     slots: 2,
@@ -77,7 +79,9 @@ pub const ONE_PAGE: Setting = Setting {
     },
 };
 
+/// A table, and what is done on it.
 pub struct Story {
+    /// By which a test names it that fails.
     pub name: &'static str,
     pub on: Setting,
     /// What is done first, as one list of events.

@@ -91,6 +91,7 @@ const WHILE_WRITTEN: [Call; 13] = [
     Call::Event(Ask::Switch, Ok((12, 0))),
 ];
 
+/// Each worker takes what is put for it.
 pub static STORIES: [Story; 4] = [
     Story {
         name: "two workers",
