@@ -1,34 +1,10 @@
 //! The program `sfbench`: measures how fast indexes are built on a table of random rows.
 //!
-//! [`command_line`] reads what is to be measured into [`Options`]. [`run`] does one phase after the other, compares each index with
-//! the table and hands out the [`Figures`](figures::Figures), which [`report`] prints. All that is asked of the core stands in [`build`].
+//! The library [`bench_runs`] reads the words that the program is given, does what they ask for and prints the figures. `main` only
+//! hands the words and the standard streams in.
 #![tactic(auto)]
 
-mod afterwards;
-mod bench;
-mod build;
-mod catching_up;
-mod column;
-mod command_line;
-mod copying;
-mod failure;
-mod figure;
-mod figures;
-mod filling;
-mod look_ups;
-mod options;
-mod peak;
-mod progress;
-mod report;
-mod run;
-mod spool_pages;
-mod stretch;
-#[cfg(test)]
-mod tests;
-mod updates;
-mod watch;
-
-use options::Options;
+use bench_runs::Options;
 use std::process::ExitCode;
 use std::{env, io};
 
@@ -57,7 +33,7 @@ fn words(rt: &HostRuntime) -> io::Result<Vec<String>> {
 
 /// Does what the words ask for, and answers the program's exit status.
 fn obey(rt: &HostRuntime, words: &[String]) -> u8 {
-    match command_line::read(rt.alloc(), words) {
+    match bench_runs::read(rt.alloc(), words) {
         Ok(options) => measure(rt, &options),
         Err(error) => print(rt, &error),
     }
@@ -73,14 +49,14 @@ fn print(rt: &HostRuntime, error: &clap::Error) -> u8 {
 
 /// Runs what is asked for and prints its figures, or says why there are none.
 fn measure(rt: &HostRuntime, options: &Options) -> u8 {
-    let figures = match run::run(rt, options) {
+    let figures = match bench_runs::run(rt, options) {
         Ok(figures) => figures,
         Err(failure) => {
             let _ = eprintln!(rt; "sfbench: {failure}");
             return FAILED;
         }
     };
-    match report::print(rt.alloc(), rt.stdout(), options, &figures) {
+    match bench_runs::print(rt.alloc(), &mut rt.stdout(), options, &figures) {
         Ok(()) => DONE,
         Err(_) => FAILED,
     }

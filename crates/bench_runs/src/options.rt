@@ -1,0 +1,60 @@
+ghost use Rattle.std.specs.Prelude.{◌≤◌, ◌<◌};
+
+use crate::column::Column;
+
+/// What is to be measured.
+pub struct Options {
+    /// How many rows the table has.
+    pub rows: u32,
+    /// Its columns.
+    pub columns: Vec<Column>,
+    /// How many indexes the build makes.
+    pub indexes: usize,
+    /// Whether rows may not share a key of any of them.
+    pub unique: bool,
+    /// How many workers make their pairs.
+    pub workers: usize,
+    /// How many updates are made before the build, and as many while its pages are copied.
+    pub writes: u32,
+    /// What the rows are drawn by.
+    pub seed: u64,
+    /// Whether the figures are printed as comma-separated records.
+    pub csv: bool,
+    pub ghost some: { 0 < workers },
+    pub ghost most: { workers ≤ 16 },
+}
+
+impl Drop for Options {
+    fn drop(self) {
+        let Options {
+            rows: _,
+            columns: _,
+            indexes: _,
+            unique: _,
+            workers: _,
+            writes: _,
+            seed: _,
+            csv: _,
+        } = self;
+    }
+}
+
+impl Options {
+    /// The bytes of the longest key of an index: each is on one column.
+    pub fn key_size(&self) -> usize
+        ensures { result ≤ 258 }
+    {
+        key_size(self.columns.as_slice())
+    }
+}
+
+/// The bytes of the longest key on one of these columns.
+pub fn key_size(columns: &[Column]) -> usize
+    ensures { result ≤ 258 }
+{
+    let mut longest = 0;
+    for column in columns {
+        longest = longest.max(column.key_size());
+    }
+    longest
+}
