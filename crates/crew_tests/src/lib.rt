@@ -1,0 +1,13 @@
+//! Tests of a table that threads share, by its public calls alone.
+#![tactic(auto)]
+
+#[cfg(test)]
+mod contending;
+#[cfg(test)]
+mod one_session;
+#[cfg(test)]
+mod stories;
+#[cfg(test)]
+mod tables;
+#[cfg(test)]
+mod two_sessions;
