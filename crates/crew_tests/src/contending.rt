@@ -2,7 +2,7 @@
 
 use crate::tables::number_row;
 use crate::two_sessions::gather;
-use crew::{Opened, Receipt, Session, Table};
+use crew::{Opened, Receipt, Session, Table, UndoStep};
 use keybytes::{Fault, Rid};
 use std::alloc::Global;
 use std::sync::Wait;
@@ -32,23 +32,33 @@ fn change<T: Opened, R: Wait>(
     }
 }
 
-/// Undoes what a transaction wrote, till it has ended.
+/// One step of a rollback; answered with how many writes are left.
+fn undo_one<T: Opened, R: Wait>(
+    rt: &R,
+    session: &mut Session<'_, T>,
+    receipts: &mut Vec<Receipt<T>>,
+    txn: u64,
+) -> Result<usize, Fault> {
+    let UndoStep { receipt, left } = session.undo(rt, txn)?;
+    match receipt {
+        Some(receipt) => receipts.push(receipt)?,
+        None => {}
+    }
+    Ok(left)
+}
+
+/// Undoes what a transaction wrote, two writes at most, till it has ended.
 fn undo_all<T: Opened, R: Wait>(
     rt: &R,
     session: &mut Session<'_, T>,
     receipts: &mut Vec<Receipt<T>>,
     txn: u64,
 ) -> Result<(), Fault> {
-    for _ in 0..3 {
-        let step = session.undo(rt, txn)?;
-        if let Some(receipt) = step.receipt {
-            receipts.push(receipt)?;
-        }
-        if step.left == 0 {
-            return Ok(());
-        }
+    if undo_one(rt, session, receipts, txn)? == 0 || undo_one(rt, session, receipts, txn)? == 0 {
+        Ok(())
+    } else {
+        Err(Fault::TxnEnding)
     }
-    Err(Fault::TxnEnding)
 }
 
 /// Each third transaction changes two rows and is undone; the others change one, and commit.
@@ -89,16 +99,11 @@ fn contend_in_two<T: Opened + Send + Sync, R: Threads + Wait + Sync>(
     one: Session<'_, T>,
     two: Session<'_, T>,
 ) -> (Vec<Receipt<T>>, Result<(), Fault>) {
-    let (mut receipts, told) = {
-        let (a, b) = join(
-            rt,
-            move || written(rt, alloc, one),
-            move || written(rt, alloc, two),
-        );
-        let (receipts, told) = a;
-        (receipts, (told, b))
-    };
-    let (first, second) = told;
+    let ((mut receipts, first), second) = join(
+        rt,
+        move || written(rt, alloc, one),
+        move || written(rt, alloc, two),
+    );
     let gathered = gather(&mut receipts, second);
     (receipts, first.and(gathered))
 }
