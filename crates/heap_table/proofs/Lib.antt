@@ -1,3 +1,4 @@
+pub mod Crosses
 pub mod Done
 pub mod Holding
 pub mod KeptChanges
