@@ -1,4 +1,4 @@
--- A session may go to another thread.
+-- Threads may share a table, and a session may go to another thread.
 use denote.RattleType.{RattleType}
 use denote.Ref.{NamedLft}
 use denote.Param.Send.{IsSend, IsSync, sendable}
@@ -17,7 +17,7 @@ module _ (T : RattleType) (o : opened.Ghosts T.Denot) (n : named.Ghosts T.Denot)
   locked_send : IsSend (Locked.the_row T o n t)
   locked_send = search (live_send, keeper.the_send, sendable) depth 20
 
-  table_sync : IsSync (Table.the_row T o n t)
+  pub table_sync : IsSync (Table.the_row T o n t)
   table_sync = search (locked_send, sendable, crosses) depth 20
 
   pub session_send : (κ : NamedLft) → IsSend (Session.the_row κ T o n t)
