@@ -1,6 +1,6 @@
 -- Which numbers receipts in order match, and that their order doesn't matter.
-use Rattle.std.proofs.Common.{◌≡◌, ◌≢◌, ℕ, zero, suc, ◌+◌, ◌-◌, ◌<◌, ◌≤◌, Bool, true, false, List, length, get_or, refl, sym, ap, ◌∙◌, subst, arith, ⊎_elim, inl, inr}
-use Rattle.std.specs.Prelude.{◌⊎◌, ◌==◌, cond}
+use Rattle.std.proofs.Common.{◌≡◌, ℕ, zero, suc, ◌+◌, ◌-◌, ◌<◌, ◌≤◌, true, false, List, length, get_or, refl, sym, ap, ◌∙◌, arith, ⊎_elim, inl, inr}
+use Rattle.std.specs.Prelude.{◌==◌, cond}
 use Rattle.std.specs.List.Sorted.{IsPermutation, IsNonDecreasingBy}
 use Rattle.std.proofs.lemmas.Bool.{eq-eqb, ne_eqb, eqb-true, eqb-false, cases_Bool, cases_lt}
 use Rattle.std.proofs.lemmas.List.{get_or_default}
@@ -17,10 +17,10 @@ pub unmatched :
 unmatched receipts place number order below above =
     list_any_none (λ receipt. length receipt == number) receipts
     (λ k d within. ne_eqb (length (get_or receipts k d)) number (λ same.
-      ⊎_elim
-      (λ (before : k < place). omega (arith, below k d before, same))
-      (λ (behind : place ≤ k). omega (arith, above d (omega (arith, behind, within)), order place k d behind within, same))
-      (cases_lt k place)))
+    ⊎_elim
+    (λ (before : k < place). omega (arith, below k d before, same))
+    (λ (behind : place ≤ k). omega (arith, above d (omega (arith, behind, within)), order place k d behind within, same))
+    (cases_lt k place)))
 
 -- one of them is for the record
 pub matched :

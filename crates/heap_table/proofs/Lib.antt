@@ -1,4 +1,3 @@
-pub mod Crosses
 pub mod Done
 pub mod Holding
 pub mod KeptChanges

@@ -1,4 +1,4 @@
-use Rattle.std.proofs.Common.{ℕ, List, ap, ◌∙◌, subst}
+use Rattle.std.proofs.Common.{List, ap, ◌∙◌, subst}
 use mathlib.Core.List.{IsPrefix}
 use Rattle.heap_log.specs.declared.record.LogRec.{LogRec}
 use Rattle.builder_core.specs.Builds.{LiveValue}

@@ -1,4 +1,4 @@
-use Rattle.std.proofs.Common.{rules, ◌≡◌, List, length}
+use Rattle.std.proofs.Common.{rules, length}
 use Rattle.std.proofs.lemmas.List.Sorted.{IsNonDecreasingBy-from_sort_by_key}
 use Rattle.heap_log.specs.declared.record.LogRec.{LogRec}
 use Rattle.crew.proofs.closing.sorted.Goals as goal
