@@ -2,7 +2,6 @@ ghost use Rattle.std.specs.Prelude.{◌≡◌, ◌≤◌, IfSome};
 ghost use Rattle.bench_runs.specs.Columns.{IsMeasured, key_size, kind_of};
 
 use keybytes::Kind;
-use std::fmt;
 
 /// The most bytes of a text in a row.
 const TEXT_MAX: u8 = 100;
@@ -48,15 +47,6 @@ impl Column {
         match self {
             Column::Int => 9,
             Column::Text(length) => usize::from(length) + 3,
-        }
-    }
-}
-
-impl fmt::Display for Column {
-    fn fmt<W: fmt::Write>(&self, f: &mut fmt::Formatter<W>) -> fmt::Result {
-        match self {
-            Column::Int => f.write_str("int"),
-            Column::Text(length) => write!(f, "text:{length}"),
         }
     }
 }

@@ -1,12 +1,12 @@
 //! The words that the program understands.
-ghost use Rattle.std.specs.Prelude.{◌≤◌, ◌<◌};
 
 use crate::column::Column;
-use crate::options::{Options, key_size};
+use crate::options::Options;
 use crate::spool_pages::workers_for;
 use builder_core::WORKERS_MAX;
+use clap::builder::ValueParser;
 use clap::error::ErrorKind;
-use clap::{Arg, ArgAction, ArgMatches, Command, Error, value_parser};
+use clap::{Arg, ArgAction, ArgMatches, Command, Error};
 use std::alloc::{AllocError, Global};
 use std::convert::AsStr;
 
@@ -37,196 +37,176 @@ the exit status is 2. `peak` is the most memory that the program ever had by the
 
 Example: sfbench --rows 1000000 --columns int,text:20 --writes 100000";
 
+/// An option of the program.
+struct Word {
+    name: &'static str,
+    help: &'static str,
+    /// What stands for its value in the help; a flag has none.
+    value: Option<&'static str>,
+    default: Option<&'static str>,
+    delimiter: Option<char>,
+    parser: ValueParser<'static>,
+}
+
+const FLAG: Word = Word {
+    name: "",
+    help: "",
+    value: None,
+    default: None,
+    delimiter: None,
+    parser: ValueParser::String,
+};
+
+static WORDS: [Word; 8] = [
+    Word {
+        name: "rows",
+        help: "How many rows the table has",
+        value: Some("N"),
+        default: Some("1000000"),
+        parser: ValueParser::Signed(1, 4_294_967_295),
+        ..FLAG
+    },
+    Word {
+        name: "columns",
+        help: "The columns, up to 12: `int`, or `text:N` for texts of N bytes; as int,text:20",
+        value: Some("LIST"),
+        default: Some("int"),
+        delimiter: Some(','),
+        ..FLAG
+    },
+    Word {
+        name: "indexes",
+        help: "How many indexes the build makes: one on the first column, one on the second, and so on around",
+        value: Some("I"),
+        default: Some("1"),
+        parser: ValueParser::Unsigned(1, 8),
+        ..FLAG
+    },
+    Word {
+        name: "unique",
+        help: "The indexes are unique: where rows share a key the run fails",
+        ..FLAG
+    },
+    Word {
+        name: "workers",
+        help: "How many workers make the pairs, in turn in one thread [default: as many as the rows need]",
+        value: Some("W"),
+        parser: ValueParser::Unsigned(1, 16),
+        ..FLAG
+    },
+    Word {
+        name: "writes",
+        help: "How many updates are made between the scans, in all, and as many before the build",
+        value: Some("M"),
+        default: Some("0"),
+        parser: ValueParser::Signed(0, 4_294_967_295),
+        ..FLAG
+    },
+    Word {
+        name: "seed",
+        help: "What the rows are drawn by: the same seed gives the same table",
+        value: Some("S"),
+        default: Some("1992"),
+        parser: ValueParser::Unsigned(0, u64::MAX),
+        ..FLAG
+    },
+    Word {
+        name: "csv",
+        help: "Prints the figures as comma-separated records: phase, seconds, rows, rows_a_second, peak_kib",
+        ..FLAG
+    },
+];
+
+/// Why nothing can be run.
+#[derive(Clone, Copy)]
+enum Refusal {
+    Column,
+    Rows,
+    Memory,
+}
+
 /// Reads the words, the first of which is the program's name. The error is what to print, and where: a refusal, or
 /// help or the version that was asked for.
 pub fn read<'a, S: AsStr>(alloc: Global, words: &'a [S]) -> Result<Options, Error> {
     let matches = command(alloc)?.try_get_matches_from(words)?;
-    chosen(alloc, &matches)
-}
-
-fn chosen(alloc: Global, matches: &ArgMatches<'_>) -> Result<Options, Error> {
-    match columns(alloc, matches)? {
-        Some(columns) => with_columns(alloc, matches, columns),
-        None => Err(refusal(
-            alloc,
-            "a column is `int`, or `text:` with a number from 1 to 100",
-        )?),
+    let mut options = Options::new(alloc);
+    match choose(&matches, &mut options) {
+        Ok(()) => Ok(options),
+        Err(refusal) => Err(told(alloc, refusal)?),
     }
 }
 
-/// What is chosen, with these columns.
-fn with_columns(
-    alloc: Global,
-    matches: &ArgMatches<'_>,
-    columns: Vec<Column>,
-) -> Result<Options, Error> {
-    match options(matches, columns) {
-        Some(options) => Ok(options),
-        None => Err(refusal(
-            alloc,
-            "so many rows find no room in the spools of 16 workers",
-        )?),
-    }
-}
-
-fn refusal(alloc: Global, message: &str) -> Result<Error, AllocError> {
-    let mut command = command(alloc)?;
-    command.error(ErrorKind::ValueValidation, message)
-}
-
-/// The columns; none where one isn't spelled as a column is.
-fn columns(alloc: Global, matches: &ArgMatches<'_>) -> Result<Option<Vec<Column>>, AllocError> {
-    let mut columns = Vec::new(alloc);
-    let are_good = add_columns(matches, &mut columns)?;
-    Ok(are_good.then_some(columns))
-}
-
-/// Puts the columns into the list, and answers whether each is spelled as a column is.
-fn add_columns(matches: &ArgMatches<'_>, columns: &mut Vec<Column>) -> Result<bool, AllocError> {
-    let Some(texts) = matches.get_strs("columns") else {
-        return Ok(false);
+/// What is printed where nothing can be run.
+fn told(alloc: Global, refusal: Refusal) -> Result<Error, AllocError> {
+    let message = match refusal {
+        Refusal::Column => "a column is `int`, or `text:` with a number from 1 to 100",
+        Refusal::Rows => "so many rows find no room in the spools of 16 workers",
+        Refusal::Memory => return Err(AllocError),
     };
-    for text in texts {
+    command(alloc)?.error(ErrorKind::ValueValidation, message)
+}
+
+/// Writes down what is chosen.
+fn choose(matches: &ArgMatches<'_>, options: &mut Options) -> Result<(), Refusal> {
+    add_columns(matches, &mut options.columns)?;
+    options.rows = number(matches, "rows");
+    options.indexes = number(matches, "indexes") as usize;
+    options.unique = matches.get_flag("unique");
+    options.writes = number(matches, "writes");
+    options.seed = matches.get_one("seed").unwrap_or(0);
+    options.csv = matches.get_flag("csv");
+    options.workers = match matches.get_one::<usize>("workers") {
+        Some(workers) => workers.clamp(1, WORKERS_MAX),
+        None => match workers_for(options.rows, options.key_size()) {
+            Some(workers) => workers,
+            None => return Err(Refusal::Rows),
+        },
+    };
+    Ok(())
+}
+
+fn number(matches: &ArgMatches<'_>, name: &str) -> u32 {
+    matches.get_one(name).unwrap_or(0)
+}
+
+/// Puts the columns into the list.
+fn add_columns(matches: &ArgMatches<'_>, columns: &mut Vec<Column>) -> Result<(), Refusal> {
+    for text in matches.get_strs("columns").unwrap_or(&[]) {
         match Column::parse(text) {
-            Some(column) => columns.push(column)?,
-            None => return Ok(false),
+            Some(column) => {
+                if columns.push(column).is_err() {
+                    return Err(Refusal::Memory);
+                }
+            }
+            None => return Err(Refusal::Column),
         }
     }
-    Ok(true)
-}
-
-/// The other options; none where the pairs of so many rows are too many for any number of workers.
-fn options(matches: &ArgMatches<'_>, columns: Vec<Column>) -> Option<Options> {
-    let numbers = numbers(matches, key_size(columns.as_slice()))?;
-    Some(Options {
-        rows: numbers.rows,
-        columns,
-        indexes: numbers.indexes,
-        unique: matches.get_flag("unique"),
-        workers: numbers.workers,
-        writes: numbers.writes,
-        seed: numbers.seed,
-        csv: matches.get_flag("csv"),
-    })
-}
-
-/// The options that are numbers.
-#[derive(Clone, Copy)]
-struct Counts {
-    rows: u32,
-    indexes: usize,
-    workers: usize,
-    writes: u32,
-    seed: u64,
-    ghost some: { 0 < workers },
-    ghost most: { workers ≤ 16 },
-}
-
-fn numbers(matches: &ArgMatches<'_>, key_size: usize) -> Option<Counts>
-    requires { key_size ≤ 258 }
-{
-    let rows = matches.get_one("rows")?;
-    let workers = match matches.get_one("workers") {
-        Some(workers) => workers,
-        None => workers_for(rows, key_size)?,
-    };
-    if !(1..=WORKERS_MAX).contains(&workers) {
-        return None;
-    }
-    Some(Counts {
-        rows,
-        indexes: matches.get_one("indexes")?,
-        workers,
-        writes: matches.get_one("writes")?,
-        seed: matches.get_one("seed")?,
-    })
+    Ok(())
 }
 
 fn command<'a>(alloc: Global) -> Result<Command<'a>, AllocError> {
-    Command::new(alloc, "sfbench")
+    let mut command = Command::new(alloc, "sfbench")
         .version(VERSION)
         .about("Measures how fast indexes are built on a table of random rows")
-        .after_help(EXPLANATION)
-        .arg(rows(alloc))?
-        .arg(column_list(alloc))?
-        .arg(indexes(alloc))?
-        .arg(unique(alloc))?
-        .arg(workers(alloc))?
-        .arg(writes(alloc))?
-        .arg(seed(alloc))?
-        .arg(csv(alloc))
+        .after_help(EXPLANATION);
+    for word in &WORDS {
+        command = command.arg(arg(alloc, word))?;
+    }
+    Ok(command)
 }
 
-fn rows<'a>(alloc: Global) -> Arg<'a> {
-    Arg::new(alloc, "rows")
-        .long("rows")
-        .value_name("N")
-        .help("How many rows the table has")
-        .value_parser(value_parser!(u32).range(1..))
-        .default_value("1000000")
-}
-
-fn column_list<'a>(alloc: Global) -> Arg<'a> {
-    Arg::new(alloc, "columns")
-        .long("columns")
-        .value_name("LIST")
-        .help("The columns, up to 12: `int`, or `text:N` for texts of N bytes; as int,text:20")
-        .value_delimiter(',')
+fn arg<'a>(alloc: Global, word: &'static Word) -> Arg<'a> {
+    let mut arg = Arg::new(alloc, word.name).long(word.name).help(word.help);
+    let Some(value) = word.value else {
+        return arg.action(ArgAction::SetTrue);
+    };
+    if let Some(delimiter) = word.delimiter {
+        arg = arg.value_delimiter(delimiter);
+    }
+    if let Some(default) = word.default {
+        arg = arg.default_value(default);
+    }
+    arg.value_name(value)
+        .value_parser(word.parser)
         .action(ArgAction::Set)
-        .default_value("int")
-}
-
-fn indexes<'a>(alloc: Global) -> Arg<'a> {
-    Arg::new(alloc, "indexes")
-        .long("indexes")
-        .value_name("I")
-        .help(
-            "How many indexes the build makes: one on the first column, one on the second, and so on around",
-        )
-        .value_parser(value_parser!(usize).range(1..=8))
-        .default_value("1")
-}
-
-fn unique<'a>(alloc: Global) -> Arg<'a> {
-    Arg::new(alloc, "unique")
-        .long("unique")
-        .help("The indexes are unique: where rows share a key the run fails")
-        .action(ArgAction::SetTrue)
-}
-
-fn workers<'a>(alloc: Global) -> Arg<'a> {
-    Arg::new(alloc, "workers")
-        .long("workers")
-        .value_name("W")
-        .help(
-            "How many workers make the pairs, in turn in one thread [default: as many as the rows need]",
-        )
-        .value_parser(value_parser!(usize).range(1..=16))
-}
-
-fn writes<'a>(alloc: Global) -> Arg<'a> {
-    Arg::new(alloc, "writes")
-        .long("writes")
-        .value_name("M")
-        .help("How many updates are made between the scans, in all, and as many before the build")
-        .value_parser(value_parser!(u32))
-        .default_value("0")
-}
-
-fn seed<'a>(alloc: Global) -> Arg<'a> {
-    Arg::new(alloc, "seed")
-        .long("seed")
-        .value_name("S")
-        .help("What the rows are drawn by: the same seed gives the same table")
-        .value_parser(value_parser!(u64))
-        .default_value("1992")
-}
-
-fn csv<'a>(alloc: Global) -> Arg<'a> {
-    Arg::new(alloc, "csv")
-        .long("csv")
-        .help(
-            "Prints the figures as comma-separated records: phase, seconds, rows, rows_a_second, peak_kib",
-        )
-        .action(ArgAction::SetTrue)
 }

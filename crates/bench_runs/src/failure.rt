@@ -1,9 +1,8 @@
 use keybytes::Fault;
-use std::alloc::{AllocError, AllocFailed};
 use std::{fmt, io};
 
 /// Why a run gave no figures.
-#[derive(Drop)]
+#[derive(Clone, Copy)]
 pub enum Failure {
     /// With what was asked of the core, and why it doesn't do it.
     Refused(&'static str, Fault),
@@ -29,29 +28,5 @@ impl fmt::Display for Failure {
             Failure::Memory => f.write_str("no memory"),
             Failure::Io(error) => write!(f, "{error}"),
         }
-    }
-}
-
-impl fmt::Debug for Failure {
-    fn fmt<W: fmt::Write>(&self, f: &mut fmt::Formatter<W>) -> fmt::Result {
-        write!(f, "{self}")
-    }
-}
-
-impl From<AllocError> for Failure {
-    fn from(_error: AllocError) -> Failure {
-        Failure::Memory
-    }
-}
-
-impl<T: Drop> From<AllocFailed<T>> for Failure {
-    fn from(_error: AllocFailed<T>) -> Failure {
-        Failure::Memory
-    }
-}
-
-impl From<io::Error> for Failure {
-    fn from(error: io::Error) -> Failure {
-        Failure::Io(error)
     }
 }

@@ -6,13 +6,13 @@ use std::time::Duration;
 /// What was measured of a phase.
 #[derive(Clone, Copy)]
 pub struct Figure {
-    /// The name of the phase.
-    pub phase: &'static str,
     pub spent: Duration,
     /// How many rows it was about.
     pub rows: u32,
     /// The most memory that the program ever had by the end of the phase, in units of 1,024 bytes, where the system tells.
-    pub peak: Option<u64>,
+    pub peak: Option<u128>,
+    /// Whether the run had the phase.
+    pub is_told: bool,
 }
 
 impl Figure {

@@ -1,6 +1,7 @@
 ghost use Rattle.std.specs.Prelude.{◌≤◌, ◌<◌};
 
 use crate::column::Column;
+use std::alloc::Global;
 
 /// What is to be measured.
 pub struct Options {
@@ -40,21 +41,28 @@ impl Drop for Options {
 }
 
 impl Options {
+    /// Nothing is chosen yet.
+    pub fn new(alloc: Global) -> Options {
+        Options {
+            rows: 0,
+            columns: Vec::new(alloc),
+            indexes: 0,
+            unique: false,
+            workers: 1,
+            writes: 0,
+            seed: 0,
+            csv: false,
+        }
+    }
+
     /// The bytes of the longest key of an index: each is on one column.
     pub fn key_size(&self) -> usize
         ensures { result ≤ 258 }
     {
-        key_size(self.columns.as_slice())
+        let mut longest = 0;
+        for column in &self.columns {
+            longest = longest.max(column.key_size());
+        }
+        longest
     }
-}
-
-/// The bytes of the longest key on one of these columns.
-pub fn key_size(columns: &[Column]) -> usize
-    ensures { result ≤ 258 }
-{
-    let mut longest = 0;
-    for column in columns {
-        longest = longest.max(column.key_size());
-    }
-    longest
 }

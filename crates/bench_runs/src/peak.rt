@@ -6,17 +6,15 @@ use std::fs;
 const STATUS: &str = "/proc/self/status";
 
 /// The most memory that the program had at any time, in units of 1,024 bytes, where the system tells.
-pub fn read(rt: &HostRuntime) -> Option<u64> {
-    let status = fs::read_to_string(rt, STATUS).ok()?;
-    peak_in(status.as_str())
+pub fn read(rt: &HostRuntime) -> Option<u128> {
+    match fs::read_to_string(rt, STATUS) {
+        Ok(status) => peak_in(status.as_str()),
+        Err(_) => None,
+    }
 }
 
-/// The number behind `VmHWM:`.
-pub fn peak_in(status: &str) -> Option<u64> {
-    for line in status.lines() {
-        if let Some(value) = line.strip_prefix("VmHWM:") {
-            return value.split_whitespace().next()?.parse().ok();
-        }
-    }
-    None
+/// The number behind `VmHWM:`, on a line of its own behind the first.
+pub fn peak_in(status: &str) -> Option<u128> {
+    let (_, behind) = status.split_once("\nVmHWM:")?;
+    behind.split_whitespace().next()?.parse().ok()
 }

@@ -2,53 +2,53 @@
 
 use crate::column::Column;
 use crate::figure::Figure;
-use crate::figures::Figures;
 use crate::options::Options;
+use crate::phase::{NAMES, PHASES};
+use crate::record::Figures;
 use std::alloc::{AllocError, Global};
 use std::fmt;
-use std::io::{self, Write};
+use std::fmt::Write;
 use std::time::Duration;
 
 /// What stands above the figures in the table.
 const TITLES: &str = "phase              seconds   rows a second    peak MiB";
 
 /// The names of the fields of a comma-separated record.
-const FIELDS: &str = "phase,seconds,rows,rows_a_second,peak_kib";
+const FIELDS: &str = "phase,seconds,rows,rows_a_second,peak_kib\n";
+
+/// What stands below the figures in the table.
+const END: &str = "each index has the pairs that the table gives\n";
 
 /// A phase that took fewer milliseconds is told without its rows a second, which would say nothing.
 const LEAST_MILLIS: u64 = 1;
 
-/// Prints the figures, a line a phase.
-pub fn print<W: Write>(
-    alloc: Global,
-    out: &mut W,
-    options: &Options,
-    figures: &Figures,
-) -> io::Result<()> {
+/// The figures as they are printed, a line a phase.
+pub fn printed(alloc: Global, options: &Options, figures: &Figures) -> Result<String, AllocError> {
+    let mut text = String::new(alloc);
+    add_all(&mut text, options, figures)?;
+    Ok(text)
+}
+
+fn add_all(text: &mut String, options: &Options, figures: &Figures) -> Result<(), AllocError> {
     if options.csv {
-        return print_records(out, figures);
+        text.push_str(FIELDS)?;
+    } else {
+        add_asked(text, options)?;
     }
-    print_table(alloc, out, options, figures)
+    for place in 0..PHASES {
+        add_figure(text, options.csv, NAMES[place], &figures.lines[place])?;
+    }
+    if options.csv {
+        return Ok(());
+    }
+    text.push_str(END)
 }
 
-fn print_table<W: Write>(
-    alloc: Global,
-    out: &mut W,
-    options: &Options,
-    figures: &Figures,
-) -> io::Result<()> {
-    print_asked(alloc, out, options)?;
-    writeln!(out, "{TITLES}")?;
-    for figure in figures.lines() {
-        print_line(alloc, out, figure)?;
-    }
-    writeln!(out, "each index has the pairs that the table gives")
-}
-
-/// What was asked for.
-fn print_asked<W: Write>(alloc: Global, out: &mut W, options: &Options) -> io::Result<()> {
-    let rows = grouped(alloc, u128::from(options.rows))?;
-    let columns = Columns(options.columns.as_slice());
+/// What was asked for, and the titles of the table.
+fn add_asked(text: &mut String, options: &Options) -> Result<(), AllocError> {
+    add_number(text, Some(u128::from(options.rows)), 4, 0)?;
+    text.push_str(" rows of ")?;
+    add_columns(text, options.columns.as_slice())?;
     let Options {
         indexes,
         workers,
@@ -57,36 +57,43 @@ fn print_asked<W: Write>(alloc: Global, out: &mut W, options: &Options) -> io::R
         ..
     } = options;
     writeln!(
-        out,
-        "{rows} rows of {columns}, indexes {indexes}, workers {workers}, writes {writes}, seed {seed}"
+        text,
+        ", indexes {indexes}, workers {workers}, writes {writes}, seed {seed}\n{TITLES}"
     )
 }
 
 /// The columns as they are asked for.
-#[derive(Drop)]
-struct Columns<'a>(&'a [Column]);
-
-impl fmt::Display for Columns<'_> {
-    fn fmt<W: fmt::Write>(&self, f: &mut fmt::Formatter<W>) -> fmt::Result {
-        for (place, column) in self.0.iter().enumerate() {
-            let comma = if place == 0 { "" } else { "," };
-            write!(f, "{comma}{column}")?;
-        }
-        Ok(())
+fn add_columns(text: &mut String, columns: &[Column]) -> Result<(), AllocError> {
+    for (place, column) in columns.iter().enumerate() {
+        let comma = if place == 0 { "" } else { "," };
+        let added = match column {
+            Column::Int => write!(text, "{comma}int"),
+            Column::Text(length) => write!(text, "{comma}text:{length}"),
+        };
+        added?;
     }
+    Ok(())
 }
 
-fn print_line<W: Write>(alloc: Global, out: &mut W, figure: &Figure) -> io::Result<()> {
-    write!(out, "{:<16}", figure.phase)?;
-    print_seconds(alloc, out, figure.spent)?;
-    print_number(alloc, out, 16, told_rate(figure))?;
-    print_number(
-        alloc,
-        out,
-        12,
-        figure.peak.map(|peak| u128::from(peak / 1024)),
-    )?;
-    writeln!(out)
+/// A line of the table, or a record; no field of a record has a comma or a quote in it.
+fn add_figure(
+    text: &mut String,
+    is_record: bool,
+    phase: &str,
+    figure: &Figure,
+) -> Result<(), AllocError> {
+    if !figure.is_told {
+        return Ok(());
+    }
+    let (seconds, nanos) = (figure.spent.as_secs(), figure.spent.subsec_nanos());
+    if is_record {
+        let (rows, rate, peak) = (figure.rows, Told(figure.rate()), Told(figure.peak));
+        return writeln!(text, "{phase},{seconds}.{nanos:09},{rows},{rate},{peak}");
+    }
+    write!(text, "{phase:<16}{seconds:>5}.{:04}", nanos / 100_000)?;
+    add_number(text, told_rate(figure), 4, 4)?;
+    add_number(text, told_peak(figure), 3, 4)?;
+    text.push('\n')
 }
 
 /// The rows a second, where they say something.
@@ -97,67 +104,37 @@ fn told_rate(figure: &Figure) -> Option<u128> {
     figure.rate()
 }
 
-/// Seconds with four places behind the point.
-fn print_seconds<W: Write>(alloc: Global, out: &mut W, spent: Duration) -> io::Result<()> {
-    let seconds = format!(in alloc; "{}.{:04}", spent.as_secs(), spent.subsec_micros() / 100)?;
-    write!(out, "{seconds:>10}")
+/// The peak in units of 1,048,576 bytes.
+fn told_peak(figure: &Figure) -> Option<u128> {
+    match figure.peak {
+        Some(peak) => Some(peak / 1_024),
+        None => None,
+    }
 }
 
-/// A number with a comma before each three digits, or nothing, at the right end of a field that wide.
-fn print_number<W: Write>(
-    alloc: Global,
-    out: &mut W,
-    width: usize,
+/// Adds a number with a comma before each three digits, or nothing, at the right end of so many groups of at least that many characters.
+fn add_number(
+    text: &mut String,
     number: Option<u128>,
-) -> io::Result<()> {
-    let text = match number {
-        Some(number) => grouped(alloc, number)?,
-        None => String::new(alloc),
-    };
-    write!(out, "{text:>width$}")
-}
-
-/// A number with a comma before each three digits.
-fn grouped(alloc: Global, number: u128) -> Result<String, AllocError> {
-    let digits = format!(in alloc; "{number}")?;
-    let mut text = String::new(alloc);
-    group(&mut text, digits.as_str())?;
-    Ok(text)
-}
-
-/// Puts digits behind a text, with a comma before each three that follow others.
-fn group(text: &mut String, digits: &str) -> Result<(), AllocError> {
-    let mut left = digits.len();
-    for digit in digits.chars() {
-        if left % 3 == 0 && !text.is_empty() {
-            text.push(',')?;
-        }
-        text.push(digit)?;
-        left = left.saturating_sub(1);
+    groups: usize,
+    width: usize,
+) -> Result<(), AllocError> {
+    let all = number.unwrap_or(0);
+    let parts = [all / 1_000_000_000, all / 1_000_000, all / 1_000, all];
+    let mut is_begun = false;
+    for place in 4usize.saturating_sub(groups)..4 {
+        let part = parts[place];
+        let added = if is_begun {
+            write!(text, ",{:03}", part % 1_000)
+        } else if part > 0 || (place == 3 && number.is_some()) {
+            is_begun = true;
+            write!(text, "{part:>width$}")
+        } else {
+            write!(text, "{:>width$}", "")
+        };
+        added?;
     }
     Ok(())
-}
-
-fn print_records<W: Write>(out: &mut W, figures: &Figures) -> io::Result<()> {
-    writeln!(out, "{FIELDS}")?;
-    for figure in figures.lines() {
-        print_record(out, figure)?;
-    }
-    Ok(())
-}
-
-/// No field of a record has a comma or a quote in it.
-fn print_record<W: Write>(out: &mut W, figure: &Figure) -> io::Result<()> {
-    let Figure {
-        phase,
-        spent,
-        rows,
-        peak,
-    } = figure;
-    let (seconds, nanos) = (spent.as_secs(), spent.subsec_nanos());
-    let rate = Told(figure.rate());
-    let peak = Told(peak.map(u128::from));
-    writeln!(out, "{phase},{seconds}.{nanos:09},{rows},{rate},{peak}")
 }
 
 /// A number, or nothing.

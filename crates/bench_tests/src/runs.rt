@@ -1,32 +1,31 @@
-//! A small run with what it prints, and the words that are refused.
+//! Small runs with what they print, and the words that are refused.
 
-use bench_runs::{Failure, peak_in, print, read, run};
+use bench_runs::{Failure, peak_in, printed, read, run};
 use std::alloc::Global;
-use std::str;
 use std::test::Fail;
 
-/// The phases of a run with updates, in the order in which they are printed.
-const PHASES: &str =
-    "phase;fill;updates alone;start;scan;digest;updates;seal;load;catch-up;switch;build;look-ups;inserts;updates ready;";
+/// The phases of a run with updates, in the order in which they are printed, behind the names of the fields.
+static PHASES: [&str; 15] = [
+    "phase",
+    "fill",
+    "updates alone",
+    "start",
+    "scan",
+    "digest",
+    "updates",
+    "seal",
+    "load",
+    "catch-up",
+    "switch",
+    "build",
+    "look-ups",
+    "inserts",
+    "updates ready",
+];
 
-/// Runs that, and answers the first field of each record that it prints.
-fn phases(rt: &HostRuntime, words: &[&str]) -> Result<String, Fail> {
-    let alloc = rt.alloc();
-    let options = read(alloc, words)?;
-    let figures = run(rt, &options)?;
-    let mut out = Vec::new(alloc);
-    print(alloc, &mut out, &options, &figures)?;
-    let mut phases = String::new(alloc);
-    for line in str::from_utf8(out.as_slice())?.lines() {
-        phases.push_str(line.split(',').next().unwrap_or("?"))?;
-        phases.push(';')?;
-    }
-    Ok(phases)
-}
-
-#[test]
-fn a_small_run(rt: HostRuntime) -> Result<(), Fail> {
-    let words = [
+/// Runs on two columns by two workers, of eight indexes in one scan, and of a unique index on random numbers, which differ.
+static RUNS: [&[&str]; 3] = [
+    &[
         "sfbench",
         "--rows",
         "1000",
@@ -39,41 +38,8 @@ fn a_small_run(rt: HostRuntime) -> Result<(), Fail> {
         "--workers",
         "2",
         "--csv",
-    ];
-    assert_eq!(rt; phases(&rt, words.as_slice())?.as_str(), PHASES);
-    Ok(())
-}
-
-/// Whether the words ask for nothing that can be run.
-fn are_refused(alloc: Global, words: &[&str]) -> bool {
-    match read(alloc, words) {
-        Ok(_) => false,
-        Err(error) => error.use_stderr() && error.exit_code() == 2,
-    }
-}
-
-#[test]
-fn words_that_are_refused(rt: HostRuntime) {
-    let refused: [&[&str]; 9] = [
-        &["sfbench", "fast"],
-        &["sfbench", "--rows", "0"],
-        &["sfbench", "--rows", "100000000"],
-        &["sfbench", "--columns", "real"],
-        &["sfbench", "--columns", "text:0"],
-        &["sfbench", "--columns", "int,text:101"],
-        &["sfbench", "--workers", "17"],
-        &["sfbench", "--indexes", "0"],
-        &["sfbench", "--indexes", "9"],
-    ];
-    for words in refused {
-        assert!(rt; are_refused(rt.alloc(), words), "{words:?}");
-    }
-}
-
-/// Eight indexes are built in one scan, on two columns.
-#[test]
-fn eight_indexes(rt: HostRuntime) -> Result<(), Fail> {
-    let words = [
+    ],
+    &[
         "sfbench",
         "--rows",
         "600",
@@ -84,19 +50,58 @@ fn eight_indexes(rt: HostRuntime) -> Result<(), Fail> {
         "--writes",
         "50",
         "--csv",
-    ];
-    assert_eq!(rt; phases(&rt, words.as_slice())?.as_str(), PHASES);
+    ],
+    &[
+        "sfbench", "--rows", "600", "--unique", "--writes", "50", "--csv",
+    ],
+];
+
+/// Words that ask for nothing that can be run.
+static REFUSED: [&[&str]; 9] = [
+    &["sfbench", "fast"],
+    &["sfbench", "--rows", "0"],
+    &["sfbench", "--rows", "100000000"],
+    &["sfbench", "--columns", "real"],
+    &["sfbench", "--columns", "text:0"],
+    &["sfbench", "--columns", "int,text:101"],
+    &["sfbench", "--workers", "17"],
+    &["sfbench", "--indexes", "0"],
+    &["sfbench", "--indexes", "9"],
+];
+
+/// What a run prints.
+fn told(rt: &HostRuntime, words: &[&str]) -> Result<String, Fail> {
+    let options = read(rt.alloc(), words)?;
+    match run(rt, &options) {
+        Ok(figures) => Ok(printed(rt.alloc(), &options, &figures)?),
+        Err(failure) => Err(Fail::new(failure)),
+    }
+}
+
+/// Whether the first fields of the records are those, in their order.
+fn begin_with(records: &str, fields: &[&str]) -> bool {
+    let mut fields = fields.iter();
+    for record in records.lines() {
+        if record.split(',').next() != fields.next().copied() {
+            return false;
+        }
+    }
+    fields.next().is_none()
+}
+
+#[test]
+fn small_runs(rt: HostRuntime) -> Result<(), Fail> {
+    for words in RUNS {
+        let records = told(&rt, words)?;
+        assert!(rt; begin_with(records.as_str(), &PHASES));
+    }
     Ok(())
 }
 
-/// Random numbers differ, and of 600 texts of one letter some are the same.
+/// Of 600 texts of one letter some are the same.
 #[test]
-fn unique_indexes(rt: HostRuntime) -> Result<(), Fail> {
-    let numbers = [
-        "sfbench", "--rows", "600", "--unique", "--writes", "50", "--csv",
-    ];
-    assert_eq!(rt; phases(&rt, numbers.as_slice())?.as_str(), PHASES);
-    let letters = [
+fn a_shared_key(rt: HostRuntime) -> Result<(), Fail> {
+    let words = [
         "sfbench",
         "--rows",
         "600",
@@ -104,9 +109,36 @@ fn unique_indexes(rt: HostRuntime) -> Result<(), Fail> {
         "text:1",
         "--unique",
     ];
-    let options = read(rt.alloc(), letters.as_slice())?;
+    let options = read(rt.alloc(), words.as_slice())?;
     assert!(rt; matches!(run(&rt, &options), Err(Failure::Shared(0))));
     Ok(())
+}
+
+#[test]
+fn a_table_of_figures(rt: HostRuntime) -> Result<(), Fail> {
+    let words = ["sfbench", "--rows", "1234", "--columns", "int,text:5"];
+    let table = told(&rt, words.as_slice())?;
+    assert_eq!(rt;
+        table.as_str().lines().next(),
+        Some("1,234 rows of int,text:5, indexes 1, workers 1, writes 0, seed 1992")
+    );
+    Ok(())
+}
+
+/// The place of the first words that are not refused, if there are any.
+fn first_read(alloc: Global, refused: &[&[&str]]) -> Option<usize> {
+    for (place, words) in refused.iter().enumerate() {
+        match read(alloc, words) {
+            Err(error) if error.use_stderr() && error.exit_code() == 2 => {}
+            _ => return Some(place),
+        }
+    }
+    None
+}
+
+#[test]
+fn words_that_are_refused(rt: HostRuntime) {
+    assert_eq!(rt; first_read(rt.alloc(), &REFUSED), None);
 }
 
 #[test]

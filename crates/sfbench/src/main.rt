@@ -56,8 +56,11 @@ fn measure(rt: &HostRuntime, options: &Options) -> u8 {
             return FAILED;
         }
     };
-    match bench_runs::print(rt.alloc(), &mut rt.stdout(), options, &figures) {
-        Ok(()) => DONE,
+    match bench_runs::printed(rt.alloc(), options, &figures) {
+        Ok(text) => match print!(rt; "{text}") {
+            Ok(()) => DONE,
+            Err(_) => FAILED,
+        },
         Err(_) => FAILED,
     }
 }
