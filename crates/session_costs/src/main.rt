@@ -19,11 +19,19 @@ use std::time::Instant;
 /// How many rows a transaction inserts.
 const ROWS: u64 = 100;
 
-/// How many transactions there are where the words name no number.
+/// How many transactions there are.
 const TRANSACTIONS: u64 = 2_000;
+
+/// How many of them each of four sessions has.
+const SHARE: u64 = TRANSACTIONS / 4;
 
 /// How often each is measured.
 const RUNS: u64 = 5;
+
+/// What is told where the program is given words.
+const USE: &str = "\
+session_costs inserts 200,000 rows on a table that no thread shares, then by one session, and then by four in threads of
+their own, five times each, and prints what an insert took, in nanoseconds. It takes no words.";
 
 fn number_row(alloc: Global, number: i64) -> Result<Row, Fault> {
     Row::new(vec![in alloc; Cell::Int(number)]?)
@@ -44,8 +52,8 @@ fn shared_parts(alloc: Global) -> Result<TableParts, Fault> {
     }
 }
 
-fn write<T: Table>(alloc: Global, live: &mut Live<T>, transactions: u64) -> Result<(), Fault> {
-    for _ in 0..transactions {
+fn write<T: Table>(alloc: Global, live: &mut Live<T>) -> Result<(), Fault> {
+    for _ in 0..TRANSACTIONS {
         let txn = live.begin()?;
         for number in 0..ROWS {
             live.insert(txn, number_row(alloc, number as i64)?)?;
@@ -55,12 +63,12 @@ fn write<T: Table>(alloc: Global, live: &mut Live<T>, transactions: u64) -> Resu
     Ok(())
 }
 
-fn write_alone<T: Table>(alloc: Global, parts: Parts, transactions: u64) -> Result<(), Fault>
+fn write_alone<T: Table>(alloc: Global, parts: Parts) -> Result<(), Fault>
     requires pages { parts.pages ≡ T.pages }
     requires sides { parts.sides ≡ T.sides }
 {
     let (mut live, _ends) = parts.open::<T>();
-    write(alloc, &mut live, transactions)
+    write(alloc, &mut live)
 }
 
 fn write_by<T: Opened, R: Wait>(
@@ -79,14 +87,13 @@ fn write_by<T: Opened, R: Wait>(
     Ok(())
 }
 
-/// The same of a session that a thread has for itself.
-fn write_in<T: Opened, R: Wait>(
+/// The share of a session that a thread has for itself.
+fn write_share<T: Opened, R: Wait>(
     rt: &R,
     alloc: Global,
     mut session: Session<'_, T>,
-    transactions: u64,
 ) -> Result<(), Fault> {
-    write_by(rt, alloc, &mut session, transactions)
+    write_by(rt, alloc, &mut session, SHARE)
 }
 
 /// Two sessions in two threads.
@@ -95,36 +102,30 @@ fn write_in_two<T: Opened + Send + Sync, R: Threads + Wait + Sync>(
     alloc: Global,
     one: Session<'_, T>,
     two: Session<'_, T>,
-    transactions: u64,
 ) -> Result<(), Fault> {
     let (a, b) = join(
         rt,
-        move || write_in(rt, alloc, one, transactions),
-        move || write_in(rt, alloc, two, transactions),
+        move || write_share(rt, alloc, one),
+        move || write_share(rt, alloc, two),
     );
     a.and(b)
 }
 
-fn write_by_one<T: Opened, R: Wait>(
-    rt: &R,
-    alloc: Global,
-    parts: TableParts,
-    transactions: u64,
-) -> Result<(), Fault>
+fn write_by_one<T: Opened, R: Wait>(rt: &R, alloc: Global, parts: TableParts) -> Result<(), Fault>
     requires word { parts.word ≡ T.table }
     requires pages { parts.parts.pages ≡ T.pages }
     requires sides { parts.parts.sides ≡ T.sides }
     requires opening { parts.parts.heap.log ≡ T.opening }
 {
     let (table, _ends) = parts.open::<T>();
-    write_in(rt, alloc, table.session(rt), transactions)
+    let mut session = table.session(rt);
+    write_by(rt, alloc, &mut session, TRANSACTIONS)
 }
 
 fn write_by_four<T: Opened + Send + Sync, R: Threads + Wait + Sync>(
     rt: &R,
     alloc: Global,
     parts: TableParts,
-    transactions: u64,
 ) -> Result<(), Fault>
     requires word { parts.word ≡ T.table }
     requires pages { parts.parts.pages ≡ T.pages }
@@ -132,50 +133,47 @@ fn write_by_four<T: Opened + Send + Sync, R: Threads + Wait + Sync>(
     requires opening { parts.parts.heap.log ≡ T.opening }
 {
     let (table, _ends) = parts.open::<T>();
-    let (a, b) = (table.session(rt), table.session(rt));
-    let (c, d) = (table.session(rt), table.session(rt));
-    let share = transactions / 4;
+    let one = table.session(rt);
+    let two = table.session(rt);
+    let three = table.session(rt);
+    let four = table.session(rt);
     let (first, second) = join(
         rt,
-        move || write_in_two(rt, alloc, a, b, share),
-        move || write_in_two(rt, alloc, c, d, share),
+        move || write_in_two(rt, alloc, one, two),
+        move || write_in_two(rt, alloc, three, four),
     );
     first.and(second)
 }
 
-/// The number of transactions that the words name.
-fn transactions(rt: &HostRuntime) -> Result<u64> {
+/// Whether the program was given words.
+fn has_words(rt: &HostRuntime) -> Result<bool> {
     let words: Vec<String> = env::args(rt)?.collect(rt.alloc())?;
-    match words.get(1) {
-        Some(word) => Ok(word.as_str().parse::<u64>()?),
-        None => Ok(TRANSACTIONS),
-    }
+    Ok(words.len() > 1)
 }
 
 /// Prints what an insert took, in nanoseconds.
-fn tell(rt: &HostRuntime, what: &str, since: Instant, transactions: u64) -> Result<()> {
-    let inserts = u128::from(transactions.saturating_mul(ROWS).max(1));
-    let spent = since.elapsed(rt)?.as_nanos() / inserts;
+fn tell(rt: &HostRuntime, what: &str, since: Instant) -> Result<()> {
+    let spent = since.elapsed(rt)?.as_nanos() / u128::from(TRANSACTIONS * ROWS);
     println!(rt; "{what},{spent}")?;
     Ok(())
 }
 
 fn main(rt: HostRuntime) -> Result<()> {
-    let (alloc, transactions) = (rt.alloc(), transactions(&rt)?);
-    if transactions == 0 {
-        println!(&rt; "no transaction, so nothing was measured")?;
+    let alloc = rt.alloc();
+    if has_words(&rt)? {
+        println!(&rt; "{USE}")?;
         return Ok(());
     }
     for _ in 0..RUNS {
         let since = Instant::now(&rt)?;
-        write_alone::<Brand>(alloc, parts(alloc)?, transactions)?;
-        tell(&rt, "alone", since, transactions)?;
+        write_alone::<Brand>(alloc, parts(alloc)?)?;
+        tell(&rt, "alone", since)?;
         let since = Instant::now(&rt)?;
-        write_by_one::<Brand, _>(&rt, alloc, shared_parts(alloc)?, transactions)?;
-        tell(&rt, "one session", since, transactions)?;
+        write_by_one::<Brand, _>(&rt, alloc, shared_parts(alloc)?)?;
+        tell(&rt, "one session", since)?;
         let since = Instant::now(&rt)?;
-        write_by_four::<Brand, _>(&rt, alloc, shared_parts(alloc)?, transactions)?;
-        tell(&rt, "four sessions", since, transactions)?;
+        write_by_four::<Brand, _>(&rt, alloc, shared_parts(alloc)?)?;
+        tell(&rt, "four sessions", since)?;
     }
     Ok(())
 }
