@@ -15,3 +15,4 @@ pub mod TreeFacts
 pub mod Weaves
 pub mod Sets
 pub mod Keys
+pub mod Crosses

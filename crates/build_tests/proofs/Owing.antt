@@ -1,6 +1,5 @@
 -- Stakes and the accounts that are handed back for them.
-use Rattle.std.proofs.Common.{◌≡◌, ◌∙◌, ℕ, ◌+◌, ◌≤◌, ◌++◌, ◌∷◌, [], List, All, length, map, refl, ap, sym, subst, arith}
-use Rattle.std.proofs.lemmas.List.{length-map}
+use Rattle.std.proofs.Common.{◌≡◌, ◌∙◌, ℕ, ◌+◌, ◌≤◌, ◌++◌, ◌∷◌, [], List, All, map, refl, ap, sym, subst, arith}
 use Rattle.std.specs.Prelude.{Option, Some}
 use Rattle.std.specs.List.{sum_by}
 use Rattle.std.proofs.lemmas.List.Elements.{All-push, All-cons, All-head, All-tail, All-nil, filter_map-append}
@@ -75,7 +74,3 @@ owed_more pool new quota stakes is owed =
 -- without spools nothing is owed
 pub nothing_owed : (pool : PoolValue) → IsOwed pool []
 nothing_owed pool = record { own = All-nil (λ stake. stake.pool ≡ pool.number); out = omega arith }
-
--- spools with the same stakes are as many
-pub as_many : {X : Type 0} (stake : X → Option Stake) (xs ys : List X) → map stake xs ≡ map stake ys → length xs ≡ length ys
-as_many stake xs ys same = sym (length-map xs stake) ∙ ap length same ∙ length-map ys stake

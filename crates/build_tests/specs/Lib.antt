@@ -1,2 +1,3 @@
 pub mod ListSpools
 pub mod Owing
+pub mod Stands

@@ -1,21 +1,23 @@
 //! What is asked of a table and its index build, and the numbers in the answers.
 
-use crate::stand::Stand;
-use builder_core::{Dealing, Event, Plan, Reply, Table};
+use builder_core::{Dealing, Event, Plan, Reply};
 use keybytes::{Cell, Fault, KeySpec, Kind, Rid, Row, Schema};
-use run_spool::Spool;
 use std::alloc::Global;
 
+/// Where the first row stands.
 pub const FIRST: Rid = Rid { page: 0, slot: 0 };
 
+/// A table's one column, of numbers.
 pub fn schema(alloc: Global) -> Result<Schema, Fault> {
     Schema::new(vec![in alloc; Kind::Int]?)
 }
 
-pub fn spec(alloc: Global) -> Result<KeySpec, Fault> {
-    KeySpec::new(alloc, &schema(alloc)?, vec![in alloc; 0]?, false)
+/// An index on it.
+pub fn spec(alloc: Global, unique: bool) -> Result<KeySpec, Fault> {
+    KeySpec::new(alloc, &schema(alloc)?, vec![in alloc; 0]?, unique)
 }
 
+/// A row of that number.
 pub fn number_row(alloc: Global, number: i64) -> Result<Row, Fault> {
     Row::new(vec![in alloc; Cell::Int(number)]?)
 }
@@ -27,36 +29,24 @@ pub enum Ask {
     Insert(u64, i64),
     /// The row at 0.0 becomes another.
     Update(u64, i64),
-    /// The row at 0.0 goes.
-    Delete(u64),
     /// That row goes.
-    DeleteAt(u64, Rid),
+    Delete(u64, Rid),
     Undo(u64),
     Commit(u64),
-    /// A build of one index starts, over ranges that end there.
+    /// A build of one index by one worker starts, over ranges that end there.
     Start(&'static [u32]),
-    /// Over so many even ranges.
-    StartEven(usize),
-    /// By so many workers, over so many even ranges.
-    StartBy(usize, usize),
-    /// A build of so many indexes on the one column starts, by so many workers, over one range.
-    StartOf(usize, usize),
+    /// A build of so many indexes by so many workers starts, over so many even ranges.
+    StartEven(usize, usize, usize),
     /// A build of indexes on the one column starts, of which these are unique, by one worker over one range.
     StartUnique(&'static [bool]),
-    /// The next page of the first range.
-    Scan,
-    /// The next page of that range.
-    ScanIn(usize),
     /// The next page of that range, for that worker.
-    ScanFor(usize, usize),
+    Scan(usize, usize),
     /// By that worker.
     Digest(usize),
-    Seal,
     /// By that worker.
-    SealBy(usize),
-    Load,
+    Seal(usize),
     /// Of that index.
-    LoadOf(usize),
+    Load(usize),
     /// So many entries of that index at most.
     Feed(usize, usize),
     Apply(usize, usize),
@@ -65,34 +55,36 @@ pub enum Ask {
     Abandon,
 }
 
-/// How many spools a build has that is to start.
-pub fn spools_of(ask: Ask) -> Option<usize> {
+/// The ask of that turn, where rows are inserted in turn: each has the number of its turn.
+pub fn in_turn(ask: Ask, turn: u32) -> Ask {
     match ask {
-        Ask::Start(_) | Ask::StartEven(_) => Some(1),
-        Ask::StartBy(workers, _) => Some(workers),
-        Ask::StartOf(indexes, workers) => Some(workers.saturating_mul(indexes)),
-        Ask::StartUnique(are_unique) => Some(are_unique.len()),
-        _ => None,
+        Ask::Insert(txn, _) => Ask::Insert(txn, i64::from(turn)),
+        other => other,
     }
 }
 
-fn start(alloc: Global, indexes: usize, workers: usize, dealing: Dealing) -> Result<Event, Fault> {
-    let mut specs = Vec::with_capacity(alloc, indexes)?;
-    for _ in 0..indexes {
-        specs.push(spec(alloc)?)?;
+/// So many indexes, of which these are unique.
+fn add_specs(
+    alloc: Global,
+    specs: &mut Vec<KeySpec>,
+    count: usize,
+    unique: &[bool],
+) -> Result<(), Fault> {
+    for number in 0..count {
+        specs.push(spec(alloc, unique.get(number) == Some(&true))?)?;
     }
-    Ok(start_with(specs, workers, dealing))
+    Ok(())
 }
 
-fn start_unique(alloc: Global, are_unique: &[bool]) -> Result<Event, Fault> {
-    let mut specs = Vec::with_capacity(alloc, are_unique.len())?;
-    for unique in are_unique {
-        specs.push(KeySpec::new(alloc, &schema(alloc)?, vec![in alloc; 0]?, *unique)?)?;
-    }
-    Ok(start_with(specs, 1, Dealing::Even(1)))
-}
-
-fn start_with(specs: Vec<KeySpec>, workers: usize, dealing: Dealing) -> Event {
+fn start(
+    alloc: Global,
+    count: usize,
+    unique: &[bool],
+    workers: usize,
+    dealing: Dealing,
+) -> Result<Event, Fault> {
+    let mut specs = Vec::new(alloc);
+    add_specs(alloc, &mut specs, count, unique)?;
     let plan = Plan {
         specs,
         workers,
@@ -100,15 +92,11 @@ fn start_with(specs: Vec<KeySpec>, workers: usize, dealing: Dealing) -> Event {
         tries: 3,
         keep_pairs: false,
     };
-    Event::Start { plan }
+    Ok(Event::Start { plan })
 }
 
-fn scan(range: usize, worker: usize) -> Event {
-    Event::Scan { range, worker }
-}
-
-/// A change of a row.
-fn change(alloc: Global, ask: Ask) -> Result<Event, Fault> {
+/// A change of a row, or the start of a build.
+fn made_event(alloc: Global, ask: Ask) -> Result<Event, Fault> {
     let rid = FIRST;
     match ask {
         Ask::Insert(txn, number) => Ok(Event::Insert {
@@ -120,36 +108,32 @@ fn change(alloc: Global, ask: Ask) -> Result<Event, Fault> {
             rid,
             row: number_row(alloc, number)?,
         }),
-        Ask::Delete(txn) => Ok(Event::Delete { txn, rid }),
-        Ask::DeleteAt(txn, rid) => Ok(Event::Delete { txn, rid }),
+        Ask::Start(ends) => start(alloc, 1, &[], 1, Dealing::Ends(ends.to_vec(alloc)?)),
+        Ask::StartEven(indexes, workers, ranges) => {
+            start(alloc, indexes, &[], workers, Dealing::Even(ranges))
+        }
+        Ask::StartUnique(unique) => start(alloc, unique.len(), unique, 1, Dealing::Even(1)),
         _ => Err(Fault::BadCount),
     }
 }
 
+/// The event of an ask.
 pub fn event(alloc: Global, ask: Ask) -> Result<Event, Fault> {
     match ask {
         Ask::Begin => Ok(Event::Begin),
+        Ask::Delete(txn, rid) => Ok(Event::Delete { txn, rid }),
         Ask::Undo(txn) => Ok(Event::Undo { txn }),
         Ask::Commit(txn) => Ok(Event::Commit { txn }),
-        Ask::Start(ends) => start(alloc, 1, 1, Dealing::Ends(ends.to_vec(alloc)?)),
-        Ask::StartEven(ranges) => start(alloc, 1, 1, Dealing::Even(ranges)),
-        Ask::StartBy(workers, ranges) => start(alloc, 1, workers, Dealing::Even(ranges)),
-        Ask::StartOf(indexes, workers) => start(alloc, indexes, workers, Dealing::Even(1)),
-        Ask::StartUnique(are_unique) => start_unique(alloc, are_unique),
-        Ask::Scan => Ok(scan(0, 0)),
-        Ask::ScanIn(range) => Ok(scan(range, 0)),
-        Ask::ScanFor(range, worker) => Ok(scan(range, worker)),
+        Ask::Scan(range, worker) => Ok(Event::Scan { range, worker }),
         Ask::Digest(worker) => Ok(Event::Digest { worker }),
-        Ask::Seal => Ok(Event::Seal { worker: 0 }),
-        Ask::SealBy(worker) => Ok(Event::Seal { worker }),
-        Ask::Load => Ok(Event::Load { index: 0 }),
-        Ask::LoadOf(index) => Ok(Event::Load { index }),
+        Ask::Seal(worker) => Ok(Event::Seal { worker }),
+        Ask::Load(index) => Ok(Event::Load { index }),
         Ask::Feed(index, most) => Ok(Event::Feed { index, most }),
         Ask::Apply(index, most) => Ok(Event::Apply { index, most }),
         Ask::Fence => Ok(Event::Fence),
         Ask::Switch => Ok(Event::Switch),
         Ask::Abandon => Ok(Event::Abandon),
-        _ => change(alloc, ask),
+        _ => made_event(alloc, ask),
     }
 }
 
@@ -159,22 +143,28 @@ pub fn numbers_in(reply: &Reply) -> Result<(usize, usize), Fault> {
         Reply::Begun { txn } => Ok((*txn as usize, 0)),
         Reply::Written { number, rid } => Ok((*number, rid.page as usize)),
         Reply::Undone { number, left } => Ok((*number, *left)),
-        Reply::Committed { number } => Ok((*number, 0)),
-        Reply::Started { pages } => Ok((*pages as usize, 0)),
-        Reply::Scanned { page } => Ok((*page as usize, 0)),
-        Reply::Digested { images } | Reply::Sealed { images } => Ok((*images, 0)),
-        Reply::Loaded { pairs } => Ok((*pairs, 0)),
-        Reply::Fed { entries } | Reply::Applied { entries } => Ok((*entries, 0)),
-        Reply::Switched { number, .. } => Ok((*number, 0)),
+        Reply::Started { pages: number } | Reply::Scanned { page: number } => {
+            Ok((*number as usize, 0))
+        }
+        Reply::Committed { number }
+        | Reply::Digested { images: number }
+        | Reply::Sealed { images: number }
+        | Reply::Loaded { pairs: number }
+        | Reply::Fed { entries: number }
+        | Reply::Applied { entries: number }
+        | Reply::Switched { number, .. } => Ok((*number, 0)),
         Reply::FenceSet | Reply::Abandoned => Ok((0, 0)),
         Reply::Refused { fault } => Err(*fault),
     }
 }
 
-pub fn answer<S: Spool, T: Table>(
-    stand: &mut Stand<S, T>,
-    alloc: Global,
-    ask: Ask,
-) -> Result<(usize, usize), Fault> {
-    numbers_in(&stand.step(event(alloc, ask)?))
+/// Whether that is the answer. Want of memory is passed on.
+pub fn is_told(
+    told: Result<(usize, usize), Fault>,
+    answer: &Result<(usize, usize), Fault>,
+) -> Result<bool, Fault> {
+    match told {
+        Err(Fault::Memory) => Err(Fault::Memory),
+        told => Ok(told == *answer),
+    }
 }

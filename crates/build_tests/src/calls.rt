@@ -1,142 +1,126 @@
 //! Calls, and whether they are answered as they should be.
-ghost use Rattle.std.specs.Prelude.{◌≡◌, map};
-ghost use Rattle.build_tests.specs.Owing.{IsOwed};
 
-use crate::asks::{Ask, answer, numbers_in, schema, spec, spools_of};
-use crate::entries::{are_entries, has_entries, has_pairs};
-use crate::kept::Kept;
-use crate::kind::Kind;
-use crate::pools::{QUOTA, new_pool};
-use crate::quota::Quota;
+use crate::asks::{Ask, event, in_turn, is_told, numbers_in};
+use crate::entries::{are_entries, has_pairs};
+use crate::made::Made;
+use crate::pools::QUOTA;
 use crate::stand::Stand;
 use crate::verdicts::{Became, are_told};
-use builder_core::{Event, Parts, Reply, Table};
-use heap_table::Heap;
+use builder_core::{Core, Event, Pair, Reply, Table};
 use keybytes::{Cell, Fault, Rid};
-use run_spool::{PlainSpool, Spool};
-use spool_ledger::Pool;
+use run_spool::Spool;
 use std::alloc::Global;
-use std::marker::Brand;
+use std::slice::Iter;
 
 /// A call, and what it answers.
+#[derive(Clone, Copy)]
 pub enum Call {
-    /// A start gets new spools first, where no build runs and the test's kind renews them.
     Event(Ask, Result<(usize, usize), Fault>),
-    /// A start beside the spools that are left.
-    Left(Ask, Result<(usize, usize), Fault>),
-    Begins(usize),
-    /// A transaction inserts so many rows.
-    Rows(i64),
-    /// To that index at most so many entries are applied, and so many are where memory doesn't run out. Where it does, the rest of
-    /// them is when it is asked once more.
-    Applies(usize, usize, usize),
+    /// So many events of one kind over pages of 255 rows, of which the first is answered with that number, and each later one with the next.
+    Counted(u32, Ask, usize),
+    /// So many new spools come in the place of the others.
+    Renew(usize),
+    /// One spool of a page, which has a pair, comes in the place of the others.
+    Uses,
+    /// That applies so many entries where memory doesn't run out. Where it does, it applies the rest of them when it is asked once
+    /// more.
+    Applies(Ask, usize),
     /// The switch is answered with that number, and with these verdicts.
     Switches(usize, &'static [Became]),
-    /// So many pages of the first range are copied, each taken by worker 0 before the next.
-    Pages(usize),
-    Get(Rid, Result<Option<i64>, Fault>),
-    Rest(Result<bool, Fault>),
-    Ready(Result<bool, Fault>),
-    /// So many indexes become ready, one build after another.
-    Indexes(usize),
-    /// So many indexes are ready, and each has the pairs of the table as it is now.
+    Get(Rid, Result<i64, Fault>),
+    /// Whether an index would have the pairs of the three rows now.
+    Rest(bool),
+    /// So many indexes are ready, each on the table's column and with the pairs of the table as it is now.
     Follow(usize),
     Building(bool),
 }
 
-/// An event that is asked for once more where memory ran out.
-fn answer_again<S: Spool, T: Table>(
+/// What is asked, one call after another.
+pub trait Asked {
+    /// Whether it is answered so. Want of memory is passed on.
+    fn is_right(&mut self, alloc: Global, call: &Call) -> Result<bool, Fault>;
+}
+
+/// A list of events that is still to be made.
+impl Asked for Vec<Event> {
+    fn is_right(&mut self, alloc: Global, call: &Call) -> Result<bool, Fault> {
+        match call {
+            Call::Event(ask, _) => {
+                self.push(event(alloc, *ask)?)?;
+                Ok(true)
+            }
+            _ => Ok(false),
+        }
+    }
+}
+
+/// The replies to such a list.
+impl Asked for Iter<'_, Reply> {
+    fn is_right(&mut self, _alloc: Global, call: &Call) -> Result<bool, Fault> {
+        match (self.next(), call) {
+            (Some(reply), Call::Event(_, answer)) => is_told(numbers_in(reply), answer),
+            _ => Ok(false),
+        }
+    }
+}
+
+impl<S: Made, T: Table> Asked for Stand<S, T> {
+    fn is_right(&mut self, alloc: Global, call: &Call) -> Result<bool, Fault> {
+        match call {
+            Call::Event(ask, answer) => answers(self, alloc, *ask, answer),
+            Call::Renew(count) => self.renew(alloc, QUOTA, *count, false),
+            Call::Uses => self.renew(alloc, 1, 1, true),
+            Call::Applies(ask, count) => applies(self, alloc, *ask, *count),
+            Call::Switches(number, became) => switches(self, *number, became),
+            Call::Get(rid, answer) => Ok(number_at(self, *rid) == *answer),
+            Call::Rest(are) => Ok(are_entries(&self.rest(alloc)?) == *are),
+            Call::Follow(count) => follow(self, alloc, *count),
+            Call::Building(answer) => Ok(self.core().is_building() == *answer),
+            Call::Counted(..) => Ok(false),
+        }
+    }
+}
+
+/// The numbers in the reply to an event.
+fn told<S: Made, T: Table>(
     stand: &mut Stand<S, T>,
     alloc: Global,
     ask: Ask,
 ) -> Result<(usize, usize), Fault> {
-    match answer(stand, alloc, ask) {
-        Err(Fault::Memory) => answer(stand, alloc, ask),
-        told => told,
-    }
+    numbers_in(&stand.step(event(alloc, ask)?))
 }
 
-/// Whether the first index is on the table's column, and has the pairs of the three rows.
-fn are_ready<S: Spool, T: Table>(stand: &Stand<S, T>) -> Result<bool, Fault> {
-    let index = stand.core().ready(0)?;
-    Ok(has_entries(index.tree()) && index.spec().columns() == &[0][..])
-}
-
-fn number_at<S: Spool, T: Table>(stand: &mut Stand<S, T>, rid: Rid) -> Result<Option<i64>, Fault> {
-    match stand.get(rid)?.cells() {
-        [Cell::Int(number)] => Ok(Some(*number)),
-        _ => Ok(None),
-    }
-}
-
-fn begins<S: Spool, T: Table>(
+/// An event that is refused for want of memory is asked for once more.
+fn answers<S: Made, T: Table>(
     stand: &mut Stand<S, T>,
     alloc: Global,
+    ask: Ask,
+    answer: &Result<(usize, usize), Fault>,
+) -> Result<bool, Fault> {
+    match told(stand, alloc, ask) {
+        Err(Fault::Memory) => is_told(told(stand, alloc, ask), answer),
+        first => is_told(first, answer),
+    }
+}
+
+fn applies<S: Made, T: Table>(
+    stand: &mut Stand<S, T>,
+    alloc: Global,
+    ask: Ask,
     count: usize,
 ) -> Result<bool, Fault> {
-    for number in 1..=count {
-        if answer(stand, alloc, Ask::Begin)? != (number, 0) {
-            return Ok(false);
-        }
-    }
-    Ok(true)
-}
-
-fn inserts<S: Spool, T: Table>(
-    stand: &mut Stand<S, T>,
-    alloc: Global,
-    count: i64,
-) -> Result<bool, Fault> {
-    let (txn, _) = answer(stand, alloc, Ask::Begin)?;
-    for number in 0..count {
-        answer(stand, alloc, Ask::Insert(txn as u64, number))?;
-    }
-    answer(stand, alloc, Ask::Commit(txn as u64))?;
-    Ok(true)
-}
-
-fn copies<S: Spool, T: Table>(
-    stand: &mut Stand<S, T>,
-    alloc: Global,
-    count: usize,
-) -> Result<bool, Fault> {
-    for page in 0..count {
-        let copied = answer(stand, alloc, Ask::Scan)?;
-        let taken = answer(stand, alloc, Ask::Digest(0))?;
-        if copied != (page, 0) || taken != (1, 0) {
-            return Ok(false);
-        }
-    }
-    Ok(true)
-}
-
-fn applies<S: Spool, T: Table>(
-    stand: &mut Stand<S, T>,
-    alloc: Global,
-    index: usize,
-    most: usize,
-    count: usize,
-) -> Result<bool, Fault> {
-    match answer(stand, alloc, Ask::Apply(index, most)) {
+    match told(stand, alloc, ask) {
         Err(Fault::Memory) => {
-            let (rest, _) = answer(stand, alloc, Ask::Apply(index, most))?;
+            let (rest, _) = told(stand, alloc, ask)?;
             Ok(0 < rest && rest <= count)
         }
-        told => Ok(told == Ok((count, 0))),
+        first => is_told(first, &Ok((count, 0))),
     }
 }
 
-/// A switch that is refused for want of memory is asked for once more.
-fn switches<S: Spool, T: Table>(
-    stand: &mut Stand<S, T>,
-    number: usize,
-    became: &[Became],
-) -> Result<bool, Fault> {
-    let mut reply = stand.step(Event::Switch);
-    if numbers_in(&reply) == Err(Fault::Memory) {
-        reply = stand.step(Event::Switch);
-    }
-    match &reply {
+/// Whether a reply to a switch tells that.
+fn tells_verdicts(reply: &Reply, number: usize, became: &[Became]) -> Result<bool, Fault> {
+    match reply {
         Reply::Switched {
             number: told,
             verdicts,
@@ -148,180 +132,113 @@ fn switches<S: Spool, T: Table>(
     }
 }
 
-/// Whether so many indexes are ready, each with the pairs of the table as it is now.
-fn follow<S: Spool, T: Table>(
+fn switched<S: Made, T: Table>(
+    stand: &mut Stand<S, T>,
+    number: usize,
+    became: &[Became],
+) -> Result<bool, Fault> {
+    tells_verdicts(&stand.step(Event::Switch), number, became)
+}
+
+/// A switch that is refused for want of memory is asked for once more.
+fn switches<S: Made, T: Table>(
+    stand: &mut Stand<S, T>,
+    number: usize,
+    became: &[Became],
+) -> Result<bool, Fault> {
+    match switched(stand, number, became) {
+        Err(_) => switched(stand, number, became),
+        told => told,
+    }
+}
+
+fn number_in(cells: &[Cell]) -> Result<i64, Fault> {
+    match cells {
+        [Cell::Int(number)] => Ok(*number),
+        _ => Err(Fault::RowShape),
+    }
+}
+
+fn number_at<S: Made, T: Table>(stand: &mut Stand<S, T>, rid: Rid) -> Result<i64, Fault> {
+    number_in(stand.get(rid)?.cells())
+}
+
+/// Whether that index is on the table's column, and has these pairs.
+fn has<S: Spool, T: Table>(core: &Core<S, T>, number: usize, pairs: &[Pair]) -> bool {
+    match core.ready(number) {
+        Ok(index) => index.spec().columns() == &[0][..] && has_pairs(index.tree(), pairs),
+        Err(_) => false,
+    }
+}
+
+/// Whether so many indexes are ready, each with these pairs.
+fn have<S: Spool, T: Table>(core: &Core<S, T>, count: usize, pairs: &[Pair]) -> bool {
+    for number in 0..count {
+        if !has(core, number, pairs) {
+            return false;
+        }
+    }
+    core.ready(count).is_err()
+}
+
+fn follow<S: Made, T: Table>(
     stand: &mut Stand<S, T>,
     alloc: Global,
     count: usize,
 ) -> Result<bool, Fault> {
-    let pairs = stand.rest(&spec(alloc)?)?;
-    for number in 0..count {
-        if !has_pairs(stand.core().ready(number)?.tree(), &pairs) {
+    let pairs = stand.rest(alloc)?;
+    Ok(have(stand.core(), count, &pairs))
+}
+
+fn counted<A: Asked>(
+    asked: &mut A,
+    alloc: Global,
+    count: u32,
+    ask: Ask,
+    first: usize,
+) -> Result<bool, Fault> {
+    for turn in 0..count {
+        let number = first.saturating_add(turn as usize);
+        let call = Call::Event(in_turn(ask, turn), Ok((number, turn as usize / 255)));
+        if !asked.is_right(alloc, &call)? {
             return Ok(false);
         }
-    }
-    Ok(stand.core().ready(count).is_err())
-}
-
-/// Whether it is so; want of memory is passed on.
-fn is_unless_wanting<X: PartialEq + Drop>(
-    told: Result<X, Fault>,
-    answer: &Result<X, Fault>,
-) -> Result<bool, Fault> {
-    if let Err(Fault::Memory) = told {
-        return Err(Fault::Memory);
-    }
-    Ok(told == *answer)
-}
-
-/// Puts new spools in the place of the others before a start, unless a build runs.
-fn renew<S: Spool, T: Table, K: Kind<S>>(
-    stand: &mut Stand<S, T>,
-    alloc: Global,
-    kind: &K,
-    ask: Ask,
-) -> Result<(), Fault> {
-    match spools_of(ask) {
-        Some(spools) if !stand.core().is_building() => stand.renew(alloc, kind, spools),
-        _ => Ok(()),
-    }
-}
-
-/// The steps of a build by one worker over two pages.
-const BUILD: [Ask; 6] = [
-    Ask::StartEven(1),
-    Ask::Scan,
-    Ask::Scan,
-    Ask::Seal,
-    Ask::Load,
-    Ask::Switch,
-];
-
-fn indexes<S: Spool, T: Table, K: Kind<S>>(
-    stand: &mut Stand<S, T>,
-    alloc: Global,
-    kind: &K,
-    count: usize,
-) -> Result<bool, Fault> {
-    for number in 0..count {
-        for ask in BUILD {
-            renew(stand, alloc, kind, ask)?;
-            answer(stand, alloc, ask)?;
-        }
-        stand.core().ready(number)?;
     }
     Ok(true)
 }
 
-/// Whether it is answered so. Want of memory is passed on where a second event of the same kind doesn't help.
-fn is_answered<S: Spool, T: Table, K: Kind<S>>(
-    stand: &mut Stand<S, T>,
-    alloc: Global,
-    kind: &K,
-    call: &Call,
-) -> Result<bool, Fault> {
+fn is_done<A: Asked>(asked: &mut A, alloc: Global, call: &Call) -> Result<bool, Fault> {
     match call {
-        Call::Event(ask, answer) => {
-            renew(stand, alloc, kind, *ask)?;
-            is_unless_wanting(answer_again(stand, alloc, *ask), answer)
-        }
-        Call::Left(ask, answer) => is_unless_wanting(answer_again(stand, alloc, *ask), answer),
-        Call::Begins(count) => begins(stand, alloc, *count),
-        Call::Rows(count) => inserts(stand, alloc, *count),
-        Call::Applies(index, most, count) => applies(stand, alloc, *index, *most, *count),
-        Call::Switches(number, became) => switches(stand, *number, became),
-        Call::Pages(count) => copies(stand, alloc, *count),
-        Call::Get(rid, answer) => Ok(number_at(stand, *rid) == *answer),
-        Call::Rest(answer) => {
-            let told = stand.rest(&spec(alloc)?);
-            is_unless_wanting(told.map(|pairs| are_entries(&pairs)), answer)
-        }
-        Call::Ready(answer) => Ok(are_ready(stand) == *answer),
-        Call::Indexes(count) => indexes(stand, alloc, kind, *count),
-        Call::Follow(count) => follow(stand, alloc, *count),
-        Call::Building(answer) => Ok(stand.core().is_building() == *answer),
+        Call::Counted(count, ask, first) => counted(asked, alloc, *count, *ask, *first),
+        other => asked.is_right(alloc, other),
     }
 }
 
 /// The number of the first call that is answered otherwise.
-fn first_other<S: Spool, T: Table, K: Kind<S>>(
-    stand: &mut Stand<S, T>,
+fn first_other<A: Asked>(
+    asked: &mut A,
     alloc: Global,
-    kind: &K,
     calls: &[Call],
 ) -> Result<Option<usize>, Fault> {
-    for (number, call) in calls.iter().enumerate() {
-        if !is_answered(stand, alloc, kind, call)? {
+    for number in 0..calls.len() {
+        if !is_done(asked, alloc, &calls[number])? {
             return Ok(Some(number));
         }
     }
     Ok(None)
 }
 
-/// The first other answer in the first list that has one.
-fn first_other_in<S: Spool, T: Table, K: Kind<S>>(
-    stand: &mut Stand<S, T>,
+/// The number of the first list that has such a call, behind so many others, and that call's.
+pub fn first_other_in<A: Asked>(
+    asked: &mut A,
     alloc: Global,
-    kind: &K,
     lists: &[&[Call]],
-) -> Result<Option<usize>, Fault> {
-    for calls in lists {
-        let other = first_other(stand, alloc, kind, calls)?;
-        if other.is_some() {
-            return Ok(other);
+    before: usize,
+) -> Result<Option<(usize, usize)>, Fault> {
+    for number in 0..lists.len() {
+        if let Some(call) = first_other(asked, alloc, lists[number])? {
+            return Ok(Some((before.saturating_add(number), call)));
         }
     }
     Ok(None)
-}
-
-/// An empty table of one column, of that many slots a page.
-pub fn table(alloc: Global, slots: u8) -> Result<Parts, Fault> {
-    match Parts::new(alloc, Heap::new(alloc, schema(alloc)?, slots, 32)?) {
-        Ok(parts) => Ok(parts),
-        Err((_, fault)) => Err(fault),
-    }
-}
-
-/// The first other answer of a table under its name. The pool has all its pages in the end.
-fn differing_on<S: Spool, T: Table, K: Kind<S>>(
-    alloc: Global,
-    parts: Parts,
-    pool: Pool,
-    spools: Vec<S>,
-    kind: &K,
-    lists: &[&[Call]],
-) -> Result<Option<usize>, Fault>
-    requires pages { parts.pages ≡ T.pages }
-    requires sides { parts.sides ≡ T.sides }
-    requires owed { IsOwed pool (map S.stake spools.items) }
-{
-    let (live, ends) = parts.open::<T>();
-    let mut stand = Stand::new(live, ends, pool, spools);
-    let told = first_other_in(&mut stand, alloc, kind, lists);
-    let ended = stand.end(alloc);
-    let other = told?;
-    ended?;
-    Ok(other)
-}
-
-/// The first other answer where each start gets new spools.
-pub fn differing(alloc: Global, lists: &[&[Call]]) -> Result<Option<usize>, Fault> {
-    let parts = table(alloc, 2)?;
-    let spools: Vec<PlainSpool> = Vec::new(alloc);
-    let pool = new_pool(alloc)?;
-    differing_on::<PlainSpool, Brand, Quota>(alloc, parts, pool, spools, &Quota(QUOTA), lists)
-}
-
-/// The first other answer where no start gets other spools than these.
-pub fn differing_beside<S: Spool>(
-    alloc: Global,
-    slots: u8,
-    pool: Pool,
-    spools: Vec<S>,
-    lists: &[&[Call]],
-) -> Result<Option<usize>, Fault>
-    requires { IsOwed pool (map S.stake spools.items) }
-{
-    let parts = table(alloc, slots)?;
-    differing_on::<S, Brand, Kept>(alloc, parts, pool, spools, &Kept, lists)
 }

@@ -12,7 +12,7 @@ struct Entry {
 }
 
 /// Keys 3 and 5 at page 0, and 5 again at page 1.
-const ENTRIES: &[Entry] = &[
+const ENTRIES: [Entry; 3] = [
     Entry {
         key: b"\x01\x80\0\0\0\0\0\0\x03",
         rid: Rid { page: 0, slot: 1 },
@@ -28,35 +28,22 @@ const ENTRIES: &[Entry] = &[
 ];
 
 fn is_entry(entry: &Entry, pair: &Pair) -> bool {
-    pair.key.bytes() == entry.key && pair.rid == entry.rid
+    pair.rid == entry.rid && pair.key.bytes() == entry.key
 }
 
 /// Whether the pairs are those of the three rows.
 pub fn are_entries(pairs: &[Pair]) -> bool {
-    for (entry, pair) in ENTRIES.iter().zip(pairs) {
-        if !is_entry(entry, pair) {
-            return false;
+    match pairs {
+        [first, second, third] => {
+            is_entry(&ENTRIES[0], first)
+                && is_entry(&ENTRIES[1], second)
+                && is_entry(&ENTRIES[2], third)
         }
+        _ => false,
     }
-    pairs.len() == ENTRIES.len()
-}
-
-/// Whether those of a tree are.
-pub fn has_entries(tree: &Tree) -> bool {
-    for (entry, pair) in ENTRIES.iter().zip(tree.iter()) {
-        if !is_entry(entry, pair) {
-            return false;
-        }
-    }
-    tree.len() == ENTRIES.len()
 }
 
 /// Whether a tree has these pairs, in order.
 pub fn has_pairs(tree: &Tree, pairs: &[Pair]) -> bool {
-    for (pair, other) in tree.iter().zip(pairs) {
-        if pair != other {
-            return false;
-        }
-    }
-    tree.len() == pairs.len()
+    tree.iter().eq(pairs)
 }

@@ -2,21 +2,41 @@
 
 use crate::asks::{Ask, FIRST};
 use crate::builds::ROWS;
-use crate::calls::{Call, differing};
+use crate::calls::Call;
+use crate::stories::{NO_SPOOL, Story};
 use keybytes::{Fault, Rid};
+
+/// Two indexes become ready, one build after another.
+const BUILT: [Call; 16] = [
+    Call::Renew(1),
+    Call::Event(Ask::StartEven(1, 1, 1), Ok((2, 0))),
+    Call::Event(Ask::Scan(0, 0), Ok((0, 0))),
+    Call::Event(Ask::Scan(0, 0), Ok((1, 0))),
+    Call::Event(Ask::Seal(0), Ok((2, 0))),
+    Call::Event(Ask::Load(0), Ok((3, 0))),
+    Call::Event(Ask::Switch, Ok((7, 0))),
+    Call::Follow(1),
+    Call::Renew(1),
+    Call::Event(Ask::StartEven(1, 1, 1), Ok((2, 0))),
+    Call::Event(Ask::Scan(0, 0), Ok((0, 0))),
+    Call::Event(Ask::Scan(0, 0), Ok((1, 0))),
+    Call::Event(Ask::Seal(0), Ok((2, 0))),
+    Call::Event(Ask::Load(0), Ok((3, 0))),
+    Call::Event(Ask::Switch, Ok((8, 0))),
+    Call::Follow(2),
+];
 
 /// Beside two ready indexes an insert, an update to another key and to the same one, and a delete are undone one by one, till the
 /// transaction has ended.
-const ROLLED_BACK: [Call; 18] = [
-    Call::Indexes(2),
+const ROLLED_BACK: [Call; 17] = [
     Call::Event(Ask::Begin, Ok((4, 0))),
     Call::Event(Ask::Insert(4, 3), Ok((9, 1))),
     Call::Event(Ask::Update(4, 1), Ok((10, 0))),
     Call::Event(Ask::Update(4, 1), Ok((11, 0))),
-    Call::Event(Ask::Delete(4), Ok((12, 0))),
+    Call::Event(Ask::Delete(4, FIRST), Ok((12, 0))),
     Call::Follow(2),
     Call::Event(Ask::Undo(4), Ok((13, 3))),
-    Call::Get(FIRST, Ok(Some(1))),
+    Call::Get(FIRST, Ok(1)),
     Call::Follow(2),
     Call::Event(Ask::Undo(4), Ok((14, 2))),
     Call::Follow(2),
@@ -24,23 +44,24 @@ const ROLLED_BACK: [Call; 18] = [
     Call::Follow(2),
     Call::Event(Ask::Undo(4), Ok((16, 0))),
     Call::Get(Rid { page: 1, slot: 1 }, Err(Fault::NoSuchRow)),
-    Call::Ready(Ok(true)),
+    Call::Rest(true),
     Call::Follow(2),
 ];
 
 /// What is refused leaves the indexes as they are, and so does the end of a transaction that wrote nothing.
-const REFUSED: [Call; 11] = [
+const REFUSED: [Call; 12] = [
     Call::Event(Ask::Insert(9, 1), Err(Fault::NoSuchTxn)),
     Call::Event(Ask::Begin, Ok((5, 0))),
     Call::Event(Ask::Begin, Ok((6, 0))),
     Call::Event(Ask::Update(5, 8), Ok((17, 0))),
-    Call::Event(Ask::Delete(6), Err(Fault::RowHeld(5))),
+    Call::Event(Ask::Delete(6, FIRST), Err(Fault::RowHeld(5))),
     Call::Follow(2),
     Call::Event(Ask::Undo(6), Ok((0, 0))),
     Call::Event(Ask::Undo(6), Err(Fault::NoSuchTxn)),
     Call::Follow(2),
     Call::Event(Ask::Undo(5), Ok((18, 0))),
-    Call::Ready(Ok(true)),
+    Call::Rest(true),
+    Call::Follow(2),
 ];
 
 /// A row comes, the one at 0.0 changes its key, keeps it, and goes.
@@ -52,7 +73,7 @@ const WRITTEN: [Call; 12] = [
     Call::Follow(2),
     Call::Event(Ask::Update(7, 8), Ok((21, 0))),
     Call::Follow(2),
-    Call::Event(Ask::Delete(7), Ok((22, 0))),
+    Call::Event(Ask::Delete(7, FIRST), Ok((22, 0))),
     Call::Follow(2),
     Call::Get(FIRST, Err(Fault::NoSuchRow)),
     Call::Event(Ask::Commit(7), Ok((23, 0))),
@@ -60,16 +81,17 @@ const WRITTEN: [Call; 12] = [
 ];
 
 /// A third index is built meanwhile, and hears of what changes behind its scan.
-const BUILT_BESIDE: [Call; 14] = [
+const BUILT_BESIDE: [Call; 15] = [
+    Call::Renew(1),
     Call::Event(Ask::Start(&[2]), Ok((2, 0))),
-    Call::Event(Ask::Scan, Ok((0, 0))),
+    Call::Event(Ask::Scan(0, 0), Ok((0, 0))),
     Call::Event(Ask::Begin, Ok((8, 0))),
     Call::Event(Ask::Insert(8, 4), Ok((24, 0))),
     Call::Event(Ask::Update(8, 8), Ok((25, 0))),
     Call::Follow(2),
-    Call::Event(Ask::Scan, Ok((1, 0))),
-    Call::Event(Ask::Seal, Ok((2, 0))),
-    Call::Event(Ask::Load, Ok((3, 0))),
+    Call::Event(Ask::Scan(0, 0), Ok((1, 0))),
+    Call::Event(Ask::Seal(0), Ok((2, 0))),
+    Call::Event(Ask::Load(0), Ok((3, 0))),
     Call::Event(Ask::Undo(8), Ok((26, 1))),
     Call::Event(Ask::Switch, Ok((27, 0))),
     Call::Follow(3),
@@ -77,21 +99,18 @@ const BUILT_BESIDE: [Call; 14] = [
     Call::Follow(3),
 ];
 
-#[test]
-fn writes_beside_ready_indexes(rt: HostRuntime) {
-    let other = differing(
-        rt.alloc(),
-        &[&ROWS, &ROLLED_BACK, &REFUSED, &WRITTEN, &BUILT_BESIDE],
-    );
-    assert_eq!(rt; other, Ok(None));
-}
-
-/// A write or an undo that was refused for want of memory is asked for once more.
-#[test]
-fn writes_beside_ready_indexes_where_memory_may_run_out(rt: HostRuntime) {
-    let other = differing(
-        rt.alloc(),
-        &[&ROWS, &ROLLED_BACK, &REFUSED, &WRITTEN, &BUILT_BESIDE],
-    );
-    assert!(rt; other == Ok(None) || other == Err(Fault::Memory));
-}
+/// Where memory may run out a write or an undo that was refused for want of it is asked for once more.
+pub static STORIES: [Story; 1] = [Story {
+    name: "writes beside ready indexes",
+    on: NO_SPOOL,
+    listed: &[],
+    steps: &[
+        &ROWS,
+        &BUILT,
+        &ROLLED_BACK,
+        &REFUSED,
+        &WRITTEN,
+        &BUILT_BESIDE,
+    ],
+    is_wanting: true,
+}];

@@ -4,6 +4,10 @@
 #[cfg(test)]
 mod asks;
 #[cfg(test)]
+mod at_rest;
+#[cfg(test)]
+mod boxes;
+#[cfg(test)]
 mod builds;
 #[cfg(test)]
 mod calls;
@@ -14,21 +18,15 @@ mod fed;
 #[cfg(test)]
 mod following;
 #[cfg(test)]
-mod kept;
-#[cfg(test)]
-mod kind;
-#[cfg(test)]
 mod kinds;
 #[cfg(test)]
 mod list_run;
 #[cfg(test)]
 mod list_spool;
 #[cfg(test)]
-mod lists;
+mod made;
 #[cfg(test)]
 mod pools;
-#[cfg(test)]
-mod quota;
 #[cfg(test)]
 mod ranges;
 #[cfg(test)]
@@ -39,6 +37,8 @@ mod several;
 mod spools;
 #[cfg(test)]
 mod stand;
+#[cfg(test)]
+mod stories;
 #[cfg(test)]
 mod uniques;
 #[cfg(test)]

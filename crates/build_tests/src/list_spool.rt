@@ -51,14 +51,6 @@ fn lists(alloc: Global, count: usize, limit: usize) -> Result<Vec<Vec<Pair>>, Fa
     Ok(lists)
 }
 
-/// Drops all that is in a list, which keeps its room.
-fn empty<X: Drop>(list: &mut Vec<X>)
-    ensures items { list.new.items ≡ [] }
-    ensures room { vec_capacity list.new ≡ vec_capacity list.old }
-{
-    while list.pop().is_some() {}
-}
-
 impl ListSpool {
     /// A spool with no run, for so many runs of so many pairs.
     pub fn new(alloc: Global, runs: usize, limit: usize) -> Result<ListSpool, Fault>
@@ -134,8 +126,8 @@ impl Spool for ListSpool {
     }
 
     fn end(&mut self) {
-        empty(&mut self.runs);
-        empty(&mut self.open_run);
+        self.runs.clear();
+        self.open_run.clear();
     }
 
     fn take_account(&mut self) -> Option<Account> {

@@ -1,10 +1,11 @@
 //! Spools over the pages of a pool, and what comes back of them.
-ghost use Rattle.std.specs.Prelude.{◌≡◌, ◌≤◌, ◌∷◌, [], Some, map, IfOk, IfErr, OnOk, vec_len, vec_capacity};
+ghost use Rattle.std.specs.Prelude.{◌≡◌, ◌≤◌, [], Some, map, IfOk, IfErr, OnOk, vec_len, vec_capacity};
 ghost use Rattle.spool_ledger.specs.Accounts.{new_account, stake_of};
 ghost use Rattle.spool_ledger.specs.Pools.{with_out, with_back};
 ghost use Rattle.run_spool.specs.PlainSpools.{new_spool};
 ghost use Rattle.build_tests.specs.Owing.{IsOwed, pages_owed};
 
+use crate::made::Stock;
 use keybytes::{Fault, Key, Pair, Rid};
 use run_spool::{PlainSpool, Spool, give_up_all};
 use spool_ledger::{Account, Pool};
@@ -35,38 +36,34 @@ pub fn plain_spool(alloc: Global, pool: &mut Pool, quota: u32) -> Result<PlainSp
     }
 }
 
-/// As many of them as are asked for.
-pub fn plain_spools(
-    alloc: Global,
-    pool: &mut Pool,
-    quota: u32,
-    count: usize,
-) -> Result<Vec<PlainSpool>, Fault>
-    ensures owed { IfOk result (λ spools. IsOwed pool.new (map (λ spool. Some (stake_of spool.account)) spools.items)) }
+/// The same, with a pair in its open run where that is asked for.
+fn one_spool(alloc: Global, pool: &mut Pool, stock: Stock) -> Result<PlainSpool, Fault>
+    ensures stake { IfOk result (λ spool. stake_of spool.account ≡ record { pool = pool.old.number; quota = stock.quota }) }
+    ensures out { OnOk result (pool.new ≡ with_out pool.old stock.quota) }
 {
-    let mut spools = Vec::with_capacity(alloc, count)?;
-    for _ in 0..count {
-        spools.push_reserved(plain_spool(alloc, pool, quota)?);
+    let mut spool = plain_spool(alloc, pool, stock.quota)?;
+    if !stock.is_used {
+        return Ok(spool);
     }
-    Ok(spools)
-}
-
-/// A spool with a pair in its open run.
-pub fn used_spool(alloc: Global, pool: &mut Pool, quota: u32) -> Result<PlainSpool, Fault>
-    ensures owed { IfOk result (λ spool. IsOwed pool.new (Some (stake_of spool.account) ∷ [])) }
-{
-    let mut spool = plain_spool(alloc, pool, quota)?;
     let pair = Pair {
         key: Key::new(alloc),
         rid: Rid { page: 0, slot: 0 },
     };
-    if !spool.is_empty() {
-        return Err(Fault::SpoolNotEmpty);
-    }
     match Spool::push(&mut spool, pair) {
         Ok(()) => Ok(spool),
         Err((_, fault)) => Err(fault),
     }
+}
+
+/// As many of them as are asked for.
+pub fn plain_spools(alloc: Global, pool: &mut Pool, stock: Stock) -> Result<Vec<PlainSpool>, Fault>
+    ensures owed { IfOk result (λ spools. IsOwed pool.new (map (λ spool. Some (stake_of spool.account)) spools.items)) }
+{
+    let mut spools = Vec::with_capacity(alloc, stock.count)?;
+    for _ in 0..stock.count {
+        spools.push_reserved(one_spool(alloc, pool, stock)?);
+    }
+    Ok(spools)
 }
 
 /// Gives spools up, and hands the accounts that stood behind them back to their pool, each with all its pages. Takes no memory.
@@ -82,13 +79,44 @@ pub fn give_back<S: Spool>(spools: Vec<S>, accounts: Vec<Account>, pool: &mut Po
     prove!(is_whole);
 }
 
-/// The same, with the memory that it takes.
-pub fn reclaim<S: Spool>(alloc: Global, spools: Vec<S>, pool: &mut Pool) -> Result<(), Fault>
-    requires owed { IsOwed pool.old (map S.stake spools.items) }
-    ensures back { OnOk result (pool.new ≡ with_back pool.old (pages_owed (map S.stake spools.items))) }
+/// Room for so many accounts. What is refused for want of memory is tried once more.
+pub fn room(alloc: Global, count: usize) -> Result<Vec<Account>, Fault>
+    ensures none { IfOk result (λ accounts. accounts.items ≡ []) }
+    ensures room { IfOk result (λ accounts. count ≤ vec_capacity accounts) }
     ensures memory { IfErr result (λ fault. fault ≡ Fault.Memory) }
 {
-    let accounts = Vec::with_capacity(alloc, spools.len())?;
-    give_back(spools, accounts, pool);
-    Ok(())
+    match Vec::with_capacity(alloc, count) {
+        Ok(accounts) => Ok(accounts),
+        Err(_) => Ok(Vec::with_capacity(alloc, count)?),
+    }
+}
+
+/// The same, with the memory that it takes.
+pub fn reclaim<S: Spool>(alloc: Global, spools: Vec<S>, pool: Pool) -> Result<Pool, Fault>
+    requires owed { IsOwed pool (map S.stake spools.items) }
+    ensures back { IfOk result (λ whole. whole ≡ with_back pool (pages_owed (map S.stake spools.items))) }
+    ensures memory { IfErr result (λ fault. fault ≡ Fault.Memory) }
+{
+    let accounts = room(alloc, spools.len())?;
+    let mut pool = pool;
+    give_back(spools, accounts, &mut pool);
+    Ok(pool)
+}
+
+/// Splits all its pages off a pool, where it has them.
+fn splits(alloc: Global, pool: &mut Pool) -> Result<bool, Fault> {
+    match pool.split(alloc, &[PAGES]) {
+        Ok(_) => Ok(true),
+        Err(Fault::Memory) => Err(Fault::Memory),
+        Err(_) => Ok(false),
+    }
+}
+
+/// Whether the pool has all its pages. What is refused for want of memory is tried once more.
+pub fn is_whole(alloc: Global, pool: Pool) -> Result<bool, Fault> {
+    let mut pool = pool;
+    match splits(alloc, &mut pool) {
+        Err(_) => splits(alloc, &mut pool),
+        told => told,
+    }
 }

@@ -1,11 +1,12 @@
 //! Unique indexes: what a switch decides of them, whom it waits for, and which writes a ready one refuses.
 
 use crate::asks::{Ask, FIRST};
-use crate::calls::{Call, differing_beside};
-use crate::pools::{QUOTA, new_pool, plain_spools};
+use crate::calls::Call;
+use crate::made::Stock;
+use crate::pools::QUOTA;
+use crate::stories::{Kind, Setting, Story};
 use crate::verdicts::Became;
 use keybytes::{Fault, Rid};
-use std::alloc::Global;
 
 const SECOND: Rid = Rid { page: 0, slot: 1 };
 
@@ -22,11 +23,11 @@ const SEVENS: [Call; 6] = [
 /// The rows share their number when they are scanned, and no more when the switch decides.
 const SHARED_FOR_A_WHILE: [Call; 9] = [
     Call::Event(Ask::StartUnique(&[true]), Ok((1, 0))),
-    Call::Event(Ask::Scan, Ok((0, 0))),
-    Call::Event(Ask::Seal, Ok((1, 0))),
-    Call::Event(Ask::Load, Ok((2, 0))),
+    Call::Event(Ask::Scan(0, 0), Ok((0, 0))),
+    Call::Event(Ask::Seal(0), Ok((1, 0))),
+    Call::Event(Ask::Load(0), Ok((2, 0))),
     Call::Event(Ask::Begin, Ok((3, 0))),
-    Call::Event(Ask::DeleteAt(3, SECOND), Ok((5, 0))),
+    Call::Event(Ask::Delete(3, SECOND), Ok((5, 0))),
     Call::Event(Ask::Commit(3), Ok((6, 0))),
     Call::Switches(7, &[Became::Ready(0)]),
     Call::Follow(1),
@@ -35,7 +36,7 @@ const SHARED_FOR_A_WHILE: [Call; 9] = [
 /// A number that was taken away is nobody's while its transaction is open, and its row's again once that is undone.
 const TAKEN_AND_GIVEN_BACK: [Call; 7] = [
     Call::Event(Ask::Begin, Ok((4, 0))),
-    Call::Event(Ask::Delete(4), Ok((8, 0))),
+    Call::Event(Ask::Delete(4, FIRST), Ok((8, 0))),
     Call::Event(Ask::Begin, Ok((5, 0))),
     Call::Event(Ask::Insert(5, 7), Err(Fault::KeyHeld(0, 4))),
     Call::Event(Ask::Undo(4), Ok((9, 0))),
@@ -62,12 +63,12 @@ const UPDATED: [Call; 12] = [
 /// A transaction may give a row the number that it took from another itself. Once it has committed nobody holds it.
 const ITS_OWN: [Call; 10] = [
     Call::Event(Ask::Begin, Ok((7, 0))),
-    Call::Event(Ask::Delete(7), Ok((16, 0))),
+    Call::Event(Ask::Delete(7, FIRST), Ok((16, 0))),
     Call::Event(Ask::Insert(7, 7), Ok((17, 0))),
     Call::Event(Ask::Undo(7), Ok((18, 1))),
     Call::Event(Ask::Undo(7), Ok((19, 0))),
     Call::Event(Ask::Begin, Ok((8, 0))),
-    Call::Event(Ask::Delete(8), Ok((20, 0))),
+    Call::Event(Ask::Delete(8, FIRST), Ok((20, 0))),
     Call::Event(Ask::Commit(8), Ok((21, 0))),
     Call::Event(Ask::Begin, Ok((9, 0))),
     Call::Event(Ask::Insert(9, 7), Ok((22, 0))),
@@ -95,11 +96,11 @@ const NINES_AND_FOURS: [Call; 15] = [
 /// Of two indexes the unique one is refused for the least number that is shared, and the other one is ready.
 const ONE_REFUSED: [Call; 9] = [
     Call::Event(Ask::StartUnique(&[true, false]), Ok((2, 0))),
-    Call::Event(Ask::Scan, Ok((0, 0))),
-    Call::Event(Ask::Scan, Ok((1, 0))),
-    Call::Event(Ask::Seal, Ok((2, 0))),
-    Call::Event(Ask::LoadOf(0), Ok((5, 0))),
-    Call::Event(Ask::LoadOf(1), Ok((5, 0))),
+    Call::Event(Ask::Scan(0, 0), Ok((0, 0))),
+    Call::Event(Ask::Scan(0, 0), Ok((1, 0))),
+    Call::Event(Ask::Seal(0), Ok((2, 0))),
+    Call::Event(Ask::Load(0), Ok((5, 0))),
+    Call::Event(Ask::Load(1), Ok((5, 0))),
     Call::Switches(
         11,
         &[
@@ -122,9 +123,9 @@ const WAITS: [Call; 18] = [
     Call::Event(Ask::Commit(1), Ok((2, 0))),
     Call::Event(Ask::Fence, Err(Fault::NoBuild)),
     Call::Event(Ask::StartUnique(&[true]), Ok((1, 0))),
-    Call::Event(Ask::Scan, Ok((0, 0))),
-    Call::Event(Ask::Seal, Ok((1, 0))),
-    Call::Event(Ask::Load, Ok((1, 0))),
+    Call::Event(Ask::Scan(0, 0), Ok((0, 0))),
+    Call::Event(Ask::Seal(0), Ok((1, 0))),
+    Call::Event(Ask::Load(0), Ok((1, 0))),
     Call::Event(Ask::Begin, Ok((2, 0))),
     Call::Event(Ask::Insert(2, 8), Ok((3, 0))),
     Call::Event(Ask::Switch, Err(Fault::Busy(1))),
@@ -147,54 +148,62 @@ const GIVEN_UP: [Call; 6] = [
     Call::Event(Ask::Begin, Ok((1, 0))),
 ];
 
-/// The first other answer over a table of four rows a page, with so many spools for its one build.
-fn differing_with(alloc: Global, spools: usize, lists: &[&[Call]]) -> Result<Option<usize>, Fault> {
-    let mut pool = new_pool(alloc)?;
-    let spools = plain_spools(alloc, &mut pool, QUOTA, spools)?;
-    differing_beside(alloc, 4, pool, spools, lists)
-}
+/// One spool beside a table of four rows a page.
+const FOUR_A_PAGE: Setting = Setting {
+    kind: Kind::Plain,
+    slots: 4,
+    stock: Stock {
+        quota: QUOTA,
+        count: 1,
+        is_used: false,
+    },
+};
 
-#[test]
-fn keep_their_keys_apart(rt: HostRuntime) {
-    let other = differing_with(
-        rt.alloc(),
-        1,
-        &[
+/// Two spools beside such a table.
+const TWO_AND_FOUR_A_PAGE: Setting = Setting {
+    kind: Kind::Plain,
+    slots: 4,
+    stock: Stock {
+        quota: QUOTA,
+        count: 2,
+        is_used: false,
+    },
+};
+
+/// Where memory may run out a write that was refused for want of it is asked for once more.
+pub static STORIES: [Story; 4] = [
+    Story {
+        name: "keys apart",
+        on: FOUR_A_PAGE,
+        listed: &[],
+        steps: &[
             &SEVENS,
             &SHARED_FOR_A_WHILE,
             &TAKEN_AND_GIVEN_BACK,
             &UPDATED,
             &ITS_OWN,
         ],
-    );
-    assert_eq!(rt; other, Ok(None));
-}
-
-#[test]
-fn are_refused_where_rows_share_a_key(rt: HostRuntime) {
-    let other = differing_with(rt.alloc(), 2, &[&NINES_AND_FOURS, &ONE_REFUSED]);
-    assert_eq!(rt; other, Ok(None));
-}
-
-#[test]
-fn wait_for_writers(rt: HostRuntime) {
-    assert_eq!(rt; differing_with(rt.alloc(), 1, &[&WAITS]), Ok(None));
-    assert_eq!(rt; differing_with(rt.alloc(), 1, &[&GIVEN_UP]), Ok(None));
-}
-
-/// A write that was refused for want of memory is asked for once more.
-#[test]
-fn where_memory_may_run_out(rt: HostRuntime) {
-    let other = differing_with(
-        rt.alloc(),
-        1,
-        &[
-            &SEVENS,
-            &SHARED_FOR_A_WHILE,
-            &TAKEN_AND_GIVEN_BACK,
-            &UPDATED,
-            &ITS_OWN,
-        ],
-    );
-    assert!(rt; other == Ok(None) || other == Err(Fault::Memory));
-}
+        is_wanting: true,
+    },
+    Story {
+        name: "rows that share a key",
+        on: TWO_AND_FOUR_A_PAGE,
+        listed: &[],
+        steps: &[&NINES_AND_FOURS, &ONE_REFUSED],
+        is_wanting: false,
+    },
+    Story {
+        name: "a switch waits for writers",
+        on: FOUR_A_PAGE,
+        listed: &[],
+        steps: &[&WAITS],
+        is_wanting: false,
+    },
+    Story {
+        name: "a build with a fence is given up",
+        on: FOUR_A_PAGE,
+        listed: &[],
+        steps: &[&GIVEN_UP],
+        is_wanting: false,
+    },
+];

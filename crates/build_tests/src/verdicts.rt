@@ -4,7 +4,6 @@ use heap_log::Outcome;
 use keybytes::Rid;
 
 /// The verdict on an index.
-#[derive(Clone, Copy)]
 pub enum Became {
     /// It is ready, under that number.
     Ready(usize),
@@ -24,10 +23,13 @@ fn is_told(outcome: &Outcome, became: &Became) -> bool {
 
 /// Whether these verdicts were told, in this order.
 pub fn are_told(outcomes: &[Outcome], became: &[Became]) -> bool {
-    for (outcome, one) in outcomes.iter().zip(became) {
-        if !is_told(outcome, one) {
+    if outcomes.len() != became.len() {
+        return false;
+    }
+    for number in 0..became.len() {
+        if !is_told(&outcomes[number], &became[number]) {
             return false;
         }
     }
-    outcomes.len() == became.len()
+    true
 }

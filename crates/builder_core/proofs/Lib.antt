@@ -6,6 +6,7 @@ pub mod CatchingUp
 pub mod Columns
 pub mod Copies
 pub mod CopyPairs
+pub mod Crosses
 pub mod Distinct
 pub mod EachGuarded
 pub mod Emptied

@@ -1,7 +1,7 @@
 ghost use Rattle.std.specs.Prelude.{◌≡◌, ◌<◌, length, [], Some, None, IfOk, IfErr, IfSome, OnOk, OnErr, MatchOption, slice_get};
 ghost use Rattle.builder_core.specs.BuildSteps.{OnBuild};
 ghost use Rattle.keybytes.specs.Faults.{RefusedFor};
-ghost use Rattle.heap_log.specs.Standing.{live_at};
+ghost use Rattle.heap_log.specs.Standing.{live_at, newest_standing};
 ghost use Rattle.heap_table.specs.HeapState.{after_visit, row_missing};
 ghost use Rattle.heap_table.specs.Kept.{RowsFit};
 ghost use Rattle.heap_table.specs.Pages.{pages_written};
@@ -219,6 +219,13 @@ impl<T: Table> Live<T> {
         self.heap.set_fence(false);
         self.build = None;
         reset_all(&mut self.sides);
+    }
+
+    /// The number of the transaction's newest standing write, which the next [`Live::undo`] takes back.
+    pub fn newest(&self, txn: u64) -> Option<usize>
+        ensures { result ≡ newest_standing self.now.state.heap.log txn }
+    {
+        self.heap.newest(txn)
     }
 
     /// The row that stands at a RID now; [`Fault::NoSuchRow`] where none does. Counts as a visit.

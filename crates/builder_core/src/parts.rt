@@ -89,6 +89,13 @@ impl Parts {
         })
     }
 
+    /// The table as it was handed in.
+    pub fn heap(&self) -> &Heap
+        ensures { result.now.state ≡ self.now.heap }
+    {
+        &self.heap
+    }
+
     /// The table under its name, with no index and no build, and the other ends of its rings.
     pub fn open<T: Table>(self) -> (Live<T>, Ends<T>)
         requires pages { self.pages ≡ T.pages }

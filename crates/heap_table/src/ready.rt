@@ -7,7 +7,6 @@ use keybytes::Row;
 ///
 /// It is made by `ready_insert`, `ready_update`, `ready_delete` or `ready_undo` of [`Heap`](crate::Heap), and
 /// [`Heap::perform`](crate::Heap::perform) does it.
-#[derive(Drop)]
 pub struct Ready {
     /// Where it changes the table.
     pub rid: Rid,
@@ -20,6 +19,19 @@ pub struct Ready {
     pub(crate) undone: Option<usize>,
     /// The bytes of the new row.
     pub(crate) bytes: Vec<u8>,
+}
+
+impl Drop for Ready {
+    fn drop(self) {
+        let Ready {
+            rid: _,
+            old: _,
+            new: _,
+            txn: _,
+            undone: _,
+            bytes: _,
+        } = self;
+    }
 }
 
 impl Ready {

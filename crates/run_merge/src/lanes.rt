@@ -54,18 +54,18 @@ impl Lanes {
         ensures stakes { map S.stake spools.new ≡ map S.stake spools.old }
         ensures memory { IfErr result (λ fault. fault ≡ Fault.Memory) }
     {
+        let count = run_count(spools)?;
         let mut runs = Vec::new(alloc);
         let mut places = Vec::new(alloc);
         let mut seconds = Vec::new(alloc);
         let mut heads = Vec::new(alloc);
-        for run in 0..run_count(spools)? {
+        for run in 0..count {
             let place = place(spools, run);
             if let Some(pair) = read(alloc, spools, run, place, 0)? {
-                let second = read(alloc, spools, run, place, 1)?;
+                heads.push(Head::new(Some(pair)))?;
+                seconds.push(read(alloc, spools, run, place, 1)?)?;
                 runs.push(run)?;
                 places.push(place)?;
-                seconds.push(second)?;
-                heads.push(Head::new(Some(pair)))?;
             }
         }
         Ok(Lanes {

@@ -31,36 +31,43 @@ pub enum CommandName {
     Rest,
 }
 
+/// How each is written.
+static NAMES: [(&str, CommandName); 22] = [
+    ("table", CommandName::Table),
+    ("row", CommandName::Row),
+    ("begin", CommandName::Begin),
+    ("insert", CommandName::Insert),
+    ("update", CommandName::Update),
+    ("delete", CommandName::Delete),
+    ("undo", CommandName::Undo),
+    ("commit", CommandName::Commit),
+    ("get", CommandName::Get),
+    ("start", CommandName::Start),
+    ("scan", CommandName::Scan),
+    ("digest", CommandName::Digest),
+    ("seal", CommandName::Seal),
+    ("load", CommandName::Load),
+    ("feed", CommandName::Feed),
+    ("apply", CommandName::Apply),
+    ("fence", CommandName::Fence),
+    ("switch", CommandName::Switch),
+    ("abandon", CommandName::Abandon),
+    ("side", CommandName::Side),
+    ("pairs", CommandName::Pairs),
+    ("rest", CommandName::Rest),
+];
+
 impl CommandName {
     pub fn read(text: &str) -> Option<CommandName>
         ensures known { IfSome result (λ name. text.now ≡ written name) }
         ensures unknown { IfNone result ((name : Name) → text.now ≡ written name → ⊥) }
     {
-        Some(match text {
-            "table" => CommandName::Table,
-            "row" => CommandName::Row,
-            "begin" => CommandName::Begin,
-            "insert" => CommandName::Insert,
-            "update" => CommandName::Update,
-            "delete" => CommandName::Delete,
-            "undo" => CommandName::Undo,
-            "commit" => CommandName::Commit,
-            "get" => CommandName::Get,
-            "start" => CommandName::Start,
-            "scan" => CommandName::Scan,
-            "digest" => CommandName::Digest,
-            "seal" => CommandName::Seal,
-            "load" => CommandName::Load,
-            "feed" => CommandName::Feed,
-            "apply" => CommandName::Apply,
-            "fence" => CommandName::Fence,
-            "switch" => CommandName::Switch,
-            "abandon" => CommandName::Abandon,
-            "side" => CommandName::Side,
-            "pairs" => CommandName::Pairs,
-            "rest" => CommandName::Rest,
-            _ => return None,
-        })
+        for (written, name) in &NAMES {
+            if *written == text {
+                return Some(*name);
+            }
+        }
+        None
     }
 
     /// What the fields behind the name spell, one part each.

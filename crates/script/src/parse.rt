@@ -3,7 +3,7 @@ ghost use Rattle.std.specs.Prelude.{◌≡◌, ℕ, List, [], ◌∷◌, Some, N
 ghost use Rattle.std.specs.List.{AllZip};
 ghost use Rattle.csv.specs.Records.{fields_of};
 ghost use Rattle.script.specs.Fields.{texts, SpellEach, SpellsCell, SpellsNumber, SpellsRid, SpellsSpec};
-ghost use Rattle.script.specs.Lines.{SpellLabelAndCells, SpellLabelAndRid, SpellLabelRidAndCells, SpellLine, SpellStart, SpellTable, SpellsLabel};
+ghost use Rattle.script.specs.Lines.{name_of, SpellLine, SpellParts, SpellStart, SpellTable, SpellsLabel};
 ghost use Rattle.script.specs.Shapes.{Fit, Fits, HasShape, written};
 ghost use Rattle.script.specs.declared.command_name.CommandName.TheVariants as name;
 ghost use Rattle.script.specs.declared.part.Part.{Part as PartValue};
@@ -91,73 +91,57 @@ fn named(alloc: Global, name: CommandName, fields: &[&str]) -> Result<Line, Reco
         CommandName::Row => Command::Row {
             cells: cells(alloc, fields)?,
         },
-        CommandName::Begin => Command::Begin {
-            label: only_label(alloc, fields)?,
-        },
-        CommandName::Insert => {
-            let (label, cells) = label_and_cells(alloc, fields)?;
-            Command::Insert { label, cells }
-        }
-        CommandName::Update => {
-            let (label, rid, cells) = label_rid_and_cells(alloc, fields)?;
-            Command::Update { label, rid, cells }
-        }
-        CommandName::Delete => {
-            let (label, rid) = label_and_rid(alloc, fields)?;
-            Command::Delete { label, rid }
-        }
-        CommandName::Undo => Command::Undo {
-            label: only_label(alloc, fields)?,
-        },
-        CommandName::Commit => Command::Commit {
-            label: only_label(alloc, fields)?,
-        },
+        CommandName::Insert => insert(alloc, fields)?,
+        CommandName::Update => update(alloc, fields)?,
+        CommandName::Delete => delete(alloc, fields)?,
         CommandName::Get => Command::Get {
             rid: only_rid(fields)?,
         },
         CommandName::Start => Command::Start(start(alloc, fields)?),
+        CommandName::Rest => Command::Rest {
+            spec: only_spec(alloc, fields)?,
+        },
+        CommandName::Begin | CommandName::Undo | CommandName::Commit => {
+            let label = only_label(alloc, fields)?;
+            match name {
+                CommandName::Undo => Command::Undo { label },
+                CommandName::Commit => Command::Commit { label },
+                _ => Command::Begin { label },
+            }
+        }
         CommandName::Scan => {
             let (range, worker) = two_counts(fields)?;
             Command::Scan { range, worker }
         }
-        CommandName::Digest => Command::Digest {
-            worker: only_count(fields)?,
-        },
-        CommandName::Seal => Command::Seal {
-            worker: only_count(fields)?,
-        },
-        CommandName::Load => Command::Load {
-            index: only_count(fields)?,
-        },
-        CommandName::Feed => {
+        CommandName::Feed | CommandName::Apply => {
             let (index, most) = two_counts(fields)?;
-            Command::Feed { index, most }
+            match name {
+                CommandName::Feed => Command::Feed { index, most },
+                _ => Command::Apply { index, most },
+            }
         }
-        CommandName::Apply => {
-            let (index, most) = two_counts(fields)?;
-            Command::Apply { index, most }
+        CommandName::Digest
+        | CommandName::Seal
+        | CommandName::Load
+        | CommandName::Side
+        | CommandName::Pairs => {
+            let number = only_count(fields)?;
+            match name {
+                CommandName::Digest => Command::Digest { worker: number },
+                CommandName::Seal => Command::Seal { worker: number },
+                CommandName::Load => Command::Load { index: number },
+                CommandName::Side => Command::Side { index: number },
+                _ => Command::Pairs { number },
+            }
         }
-        CommandName::Fence => {
+        CommandName::Fence | CommandName::Switch | CommandName::Abandon => {
             none(fields)?;
-            Command::Fence
+            match name {
+                CommandName::Fence => Command::Fence,
+                CommandName::Switch => Command::Switch,
+                _ => Command::Abandon,
+            }
         }
-        CommandName::Switch => {
-            none(fields)?;
-            Command::Switch
-        }
-        CommandName::Abandon => {
-            none(fields)?;
-            Command::Abandon
-        }
-        CommandName::Side => Command::Side {
-            index: only_count(fields)?,
-        },
-        CommandName::Pairs => Command::Pairs {
-            number: only_count(fields)?,
-        },
-        CommandName::Rest => Command::Rest {
-            spec: only_spec(alloc, fields)?,
-        },
     }))
 }
 
@@ -178,36 +162,39 @@ fn only_label(alloc: Global, fields: &[&str]) -> Result<Label, RecordError>
     Label::read(alloc, only(fields)?)
 }
 
-fn label_and_cells(alloc: Global, fields: &[&str]) -> Result<(Label, Vec<Cell>), RecordError>
-    ensures ok { IfOk result (λ parts. SpellLabelAndCells (texts fields.now) parts.0 parts.1.items) }
+fn insert(alloc: Global, fields: &[&str]) -> Result<Command, RecordError>
+    ensures ok { IfOk result (λ command. (name_of command ≡ name.Insert) × SpellParts (texts fields.now) command) }
     ensures refused { result ≡ Err RecordError.Misspelled → ¬ (Fits name.Insert (texts fields.now)) }
 {
     let (label, columns) = first(fields)?;
-    Ok((Label::read(alloc, label)?, cells(alloc, columns)?))
+    Ok(Command::Insert {
+        label: Label::read(alloc, label)?,
+        cells: cells(alloc, columns)?,
+    })
 }
 
-fn label_rid_and_cells(
-    alloc: Global,
-    fields: &[&str],
-) -> Result<(Label, Rid, Vec<Cell>), RecordError>
-    ensures ok { IfOk result (λ parts. SpellLabelRidAndCells (texts fields.now) parts.0 parts.1 parts.2.items) }
+fn update(alloc: Global, fields: &[&str]) -> Result<Command, RecordError>
+    ensures ok { IfOk result (λ command. (name_of command ≡ name.Update) × SpellParts (texts fields.now) command) }
     ensures refused { result ≡ Err RecordError.Misspelled → ¬ (Fits name.Update (texts fields.now)) }
 {
     let (label, more) = first(fields)?;
     let (place, columns) = first(more)?;
-    Ok((
-        Label::read(alloc, label)?,
-        rid(place)?,
-        cells(alloc, columns)?,
-    ))
+    Ok(Command::Update {
+        label: Label::read(alloc, label)?,
+        rid: rid(place)?,
+        cells: cells(alloc, columns)?,
+    })
 }
 
-fn label_and_rid(alloc: Global, fields: &[&str]) -> Result<(Label, Rid), RecordError>
-    ensures ok { IfOk result (λ parts. SpellLabelAndRid (texts fields.now) parts.0 parts.1) }
+fn delete(alloc: Global, fields: &[&str]) -> Result<Command, RecordError>
+    ensures ok { IfOk result (λ command. (name_of command ≡ name.Delete) × SpellParts (texts fields.now) command) }
     ensures refused { result ≡ Err RecordError.Misspelled → ¬ (Fits name.Delete (texts fields.now)) }
 {
     let (label, more) = first(fields)?;
-    Ok((Label::read(alloc, label)?, only_rid(more)?))
+    Ok(Command::Delete {
+        label: Label::read(alloc, label)?,
+        rid: only_rid(more)?,
+    })
 }
 
 fn only_rid(fields: &[&str]) -> Result<Rid, RecordError>

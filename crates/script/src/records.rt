@@ -10,9 +10,14 @@ use std::alloc::Global;
 use std::marker::Model;
 
 /// The records of a text, one after the other. Contracts see the fields of those that are still to come.
-#[derive(Drop)]
 pub struct Records<'a> {
     reader: Reader<&'a [u8]>,
+}
+
+impl Drop for Records<'_> {
+    fn drop(self) {
+        let Records { reader: _ } = self;
+    }
 }
 
 impl<'a> Model for Records<'a> {

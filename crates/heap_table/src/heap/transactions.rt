@@ -1,6 +1,7 @@
 //! How transactions begin and end, and who holds a RID meanwhile.
 ghost use Rattle.std.specs.Prelude.{◌≡◌, Some, None, MatchResult};
 ghost use Rattle.keybytes.specs.Answered.{Answered};
+ghost use Rattle.heap_log.specs.Standing.{newest_standing};
 ghost use Rattle.heap_table.specs.Calls.{OnState, Begins, Commits, Notes};
 ghost use Rattle.heap_table.specs.HeapState.{is_open, is_ending, txn_refusal, held_refusal, begin_refusal, after_fence};
 ghost use Rattle.heap_table.specs.Holders.{holder};
@@ -76,6 +77,13 @@ impl Heap {
             verdicts: Verdicts::new(outcomes),
         });
         Ok(self.log.len())
+    }
+
+    /// The number of the transaction's newest standing write, which the next undo step takes back.
+    pub fn newest(&self, txn: u64) -> Option<usize>
+        ensures { result ≡ newest_standing self.now.state.log txn }
+    {
+        self.log.newest(txn)
     }
 
     /// Why a transaction may not write or commit.

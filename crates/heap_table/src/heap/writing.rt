@@ -46,7 +46,7 @@ impl Heap {
     }
 
     /// Performs a write.
-    pub(super) fn write(&mut self, ready: Ready) -> (usize, Rid)
+    pub(super) fn write(&mut self, mut ready: Ready) -> (usize, Rid)
         requires ready { IsReady self.old ready }
         requires write { ready.undone ≡ None }
         ensures written { self.new.state ≡ after_write self.old.state ready.txn ready.rid ready.new }
@@ -59,7 +59,7 @@ impl Heap {
         self.log.add(LogRec::Write {
             txn: ready.txn,
             rid,
-            row: ready.new,
+            row: ready.new.take(),
         });
         (self.log.len(), rid)
     }

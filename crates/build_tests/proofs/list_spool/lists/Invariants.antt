@@ -1,4 +1,4 @@
-use Rattle.std.proofs.Common.{◌≡◌, ◌≤◌, ◌+◌, All, length, vec_len, vec_capacity}
+use Rattle.std.proofs.Common.{◌≡◌, All, length, vec_capacity}
 use Rattle.build_tests.specs.ListSpools.{IsSpare}
 use Rattle.build_tests.proofs.list_spool.lists.Given as goal
 

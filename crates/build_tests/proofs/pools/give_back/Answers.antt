@@ -1,4 +1,4 @@
-use Rattle.std.proofs.Common.{◌≡◌, ◌∙◌, ◌++◌, List, All, map, ap, sym, subst}
+use Rattle.std.proofs.Common.{◌∙◌, ◌++◌, List, All, map, ap, sym, subst}
 use Rattle.std.proofs.lemmas.List.Elements.{All-nil}
 use Rattle.spool_ledger.specs.Accounts.{AccountValue, IsWhole, stake_of}
 use Rattle.run_spool.specs.Spools.{stakes_in}

@@ -10,14 +10,14 @@ pub loop-preserved : goal.loop-preserved
 loop-preserved c =
     let stake : SpoolValue → Option Stake = λ spool. Some (stake_of spool.account) in
     let before : List SpoolValue = c.loop.spools.items in
-    let spool : SpoolValue = c.in_ok-plain_spool.field-0 in
+    let spool : SpoolValue = c.in_ok-one_spool.field-0 in
     let pushed : c.push_reserved.new.self.items ≡ before ++ spool ∷ [] = c.push_reserved.ensures.items in
-    let now : map stake c.push_reserved.new.self.items ≡ map stake before ++ Some (record { pool = c.loop.pool.number; quota = c.args.quota }) ∷ [] =
+    let now : map stake c.push_reserved.new.self.items ≡ map stake before ++ Some (record { pool = c.loop.pool.number; quota = c.args.stock.quota }) ∷ [] =
     ap (map stake) pushed ∙ (map-append stake before (spool ∷ [])
-    ∙ ap (λ (s : SpoolValue). map stake before ++ stake s ∷ []) c.in_ok-plain_spool.ensures.made) in
-    let more = owed_more c.loop.pool c.plain_spool.new.pool c.args.quota (map stake before) c.in_ok-plain_spool.ensures.out c.loop.invariant.owed in
+    ∙ ap (λ (s : Stake). map stake before ++ Some s ∷ []) c.in_ok-one_spool.ensures.stake) in
+    let more = owed_more c.loop.pool c.one_spool.new.pool c.args.stock.quota (map stake before) c.in_ok-one_spool.ensures.out c.loop.invariant.owed in
     record {
-      owed = subst (IsOwed c.plain_spool.new.pool) (sym now) more;
+      owed = subst (IsOwed c.one_spool.new.pool) (sym now) more;
       count = omega (arith, ap (λ (l : List SpoolValue). length l) pushed, length-append before (spool ∷ []), c.loop.invariant.count);
       room = c.push_reserved.ensures.capacity ∙ c.loop.invariant.room;
     }

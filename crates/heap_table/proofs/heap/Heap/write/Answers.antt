@@ -1,8 +1,10 @@
-use Rattle.std.proofs.Common.{◌<◌, refl, subst, arith, None}
+use Rattle.std.proofs.Common.{◌<◌, List, Option, refl, subst, arith, None}
 use Rattle.heap_table.specs.HeapValue.{HeapValue}
 use Rattle.heap_table.specs.Kept.{IsKeptWithRoom}
 use Rattle.heap_table.specs.Pages.{SetsRow}
-use Rattle.heap_log.proofs.Growing.{grows}
+use Rattle.keybytes.specs.declared.cell.Cell.{Cell}
+use Rattle.heap_log.specs.declared.record.LogRec.TheVariants.{Write}
+use Rattle.heap_log.proofs.Growing.{Grows, grows}
 use Rattle.heap_table.proofs.Done.{kept_performed}
 use Rattle.heap_table.proofs.LogRows.{write_sets}
 use Rattle.heap_table.proofs.Performing.{can_write, lawful_as, ready_inside}
@@ -21,7 +23,8 @@ pub invariant_of-self : goal.invariant_of-self
 invariant_of-self c =
     let ready = c.args.ready in
     let is_ready = ready_inside _ _ _ c.self.view_is c.requires.ready in
-    let added = grows _ _ _ c.add.ensures.added in
+    let added = subst (λ (row : Option (List Cell)). Grows c.self.inside.log.records (Write ready.txn ready.rid row) c.add.new.self.records) c.take.ensures.value
+    (grows _ _ _ c.add.ensures.added) in
     record {
       kept = kept_performed _ _ c.self.inside.pages c.write_slot.new.pages ready is_ready c.self.invariant.kept c.requires.write added refl refl refl refl refl
           c.write_slot.ensures.pages c.write_slot.ensures.limit;
@@ -31,6 +34,7 @@ invariant_of-self c =
 pub returns-clause-rows : goal.returns-clause-rows
 returns-clause-rows c =
     let ready = c.args.ready in
-    let added = grows _ _ _ c.add.ensures.added in
+    let added = subst (λ (row : Option (List Cell)). Grows c.self.inside.log.records (Write ready.txn ready.rid row) c.add.new.self.records) c.take.ensures.value
+    (grows _ _ _ c.add.ensures.added) in
     subst (λ (h : HeapValue). SetsRow h.state.log ready.rid ready.new c.add.new.self.records) c.self.view_is
     (write_sets _ _ ready.txn ready.rid ready.new added)

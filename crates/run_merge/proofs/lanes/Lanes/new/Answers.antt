@@ -8,7 +8,7 @@ use Rattle.run_merge.proofs.Numbers.{together}
 use Rattle.run_merge.proofs.Places.{no_places, place_more}
 use Rattle.run_merge.proofs.Steps.{no_seconds, second_more, start_none, start_same, start_more, start_ends, ways_same, ways_more, head_some, head_none}
 use Rattle.run_merge.proofs.lanes.Lanes.new.Goals as goal
-use Rattle.run_merge.proofs.lanes.Lanes.new.Goals.{in-Some+in_ok-second+in_ok-push+in_ok-push-2+in_ok-push-3+in_ok-push-4, in_default}
+use Rattle.run_merge.proofs.lanes.Lanes.new.Goals.{in-Some+in_ok-push+in_ok-read+in_ok-push-2+in_ok-push-3+in_ok-push-4, in_default}
 
 pub place-place-requires : goal.place-place-requires
 place-place-requires g c =
@@ -25,7 +25,7 @@ loop-run-init g c = record {
   runs = refl;
   open_runs = refl;
   stakes = refl;
-  end = c.in_ok-run-end.ensures.count ∙ ap length (sym (together g.S.Spool.runs c.args.spools.now));
+  end = c.in_ok-count.ensures.count ∙ ap length (sym (together g.S.Spool.runs c.args.spools.now));
   seconds = rw (c.new-runs.ensures.items, c.new-seconds.ensures.items) (no_seconds (all_runs (map g.S.Spool.runs c.args.spools.now)));
   places = rw (c.new-runs.ensures.items, c.new-places.ensures.items) (no_places (map g.S.Spool.runs c.args.spools.now));
   start = rw (c.new-runs.ensures.items, c.new-heads.ensures.items) (start_none (all_runs (map g.S.Spool.runs c.args.spools.now)));
@@ -43,15 +43,15 @@ loop-run-preserved g c =
     let here : IsPlace (map g.S.Spool.runs c.args.spools.now) run c.place-place.result =
     subst (λ (rs : List (List (List Pair))). IsPlace rs run c.place-place.result) was.runs c.place-place.ensures in
     elim c.match-branch-3.branch [
-      | in-Some+in_ok-second+in_ok-push+in_ok-push-2+in_ok-push-3+in_ok-push-4 w ↦
+      | in-Some+in_ok-push+in_ok-read+in_ok-push-2+in_ok-push-3+in_ok-push-4 w ↦
           let first : Some w.in-Some.pair ≡ head_of (get_or runs run []) = sym w.in-Some.is ∙ head in
-          let lanes = ap (λ v. v.items) w.runs-is ∙ w.in_ok-push.ensures.items in
-          let places = ap (λ v. v.items) w.places-is ∙ w.in_ok-push-2.ensures.items in
-          let seconds = ap (λ v. v.items) w.seconds-is ∙ w.in_ok-push-3.ensures.items in
+          let lanes = ap (λ v. v.items) w.runs-is ∙ w.in_ok-push-3.ensures.items in
+          let places = ap (λ v. v.items) w.places-is ∙ w.in_ok-push-4.ensures.items in
+          let seconds = ap (λ v. v.items) w.seconds-is ∙ w.in_ok-push-2.ensures.items in
           let kept = w.read-in-Some.ensures.runs ∙ c.read.ensures.runs ∙ was.runs in
-          let second : w.in_ok-second.second ≡ slice_get (get_or runs run []) 1 =
-          w.in_ok-second.ensures.pair ∙ ap (λ (rs : List (List (List Pair))). slice_get (get_or (all_runs rs) run []) 1) (c.read.ensures.runs ∙ was.runs) in
-          let heads = ap (λ v. v.items) w.heads-is ∙ w.in_ok-push-4.ensures.items ∙ ap (λ head. c.loop-run.heads.items ++ head ∷ []) w.new.ensures in
+          let second : w.in_ok-read.field-0 ≡ slice_get (get_or runs run []) 1 =
+          w.in_ok-read.ensures.pair ∙ ap (λ (rs : List (List (List Pair))). slice_get (get_or (all_runs rs) run []) 1) (c.read.ensures.runs ∙ was.runs) in
+          let heads = ap (λ v. v.items) w.heads-is ∙ w.in_ok-push.ensures.items ∙ ap (λ head. c.loop-run.heads.items ++ head ∷ []) w.new.ensures in
           record {
             runs = ap (λ spools. map g.S.Spool.runs spools) w.spools-is ∙ kept;
             open_runs = ap (λ spools. map g.S.Spool.open_run spools) w.spools-is ∙ w.read-in-Some.ensures.open_runs ∙ c.read.ensures.open_runs ∙ was.open_runs;
@@ -59,7 +59,7 @@ loop-run-preserved g c =
             end = was.end;
             places = rw (lanes, places) (place_more (map g.S.Spool.runs c.args.spools.now) c.loop-run.runs.items c.loop-run.places.items run c.place-place.result
                 was.places here);
-            seconds = rw (lanes, seconds) (second_more runs c.loop-run.runs.items c.loop-run.seconds.items run w.in_ok-second.second was.seconds second);
+            seconds = rw (lanes, seconds) (second_more runs c.loop-run.runs.items c.loop-run.seconds.items run w.in_ok-read.field-0 was.seconds second);
             start = rw (lanes, heads) (start_more runs c.loop-run.runs.items c.loop-run.heads.items run w.in-Some.pair was.start (sym first));
             ways = rw lanes
                 (length_push c.loop-run.runs.items run

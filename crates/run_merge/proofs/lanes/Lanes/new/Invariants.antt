@@ -9,7 +9,7 @@ invariant-loop-run g l = record {
   runs : map g.S.Spool.runs l.spools ≡ map g.S.Spool.runs l.initial.spools;
   open_runs : map g.S.Spool.open_run l.spools ≡ map g.S.Spool.open_run l.initial.spools;
   stakes : map g.S.Spool.stake l.spools ≡ map g.S.Spool.stake l.initial.spools;
-  end : l.run-end ≡ length (all_runs (map g.S.Spool.runs l.initial.spools));
+  end : l.count ≡ length (all_runs (map g.S.Spool.runs l.initial.spools));
   start : IsStart (all_runs (map g.S.Spool.runs l.initial.spools)) l.runs.items l.heads.items l.run;
   seconds : AreSeconds (all_runs (map g.S.Spool.runs l.initial.spools)) l.runs.items l.seconds.items;
   places : ArePlaces (map g.S.Spool.runs l.initial.spools) l.runs.items l.places.items;

@@ -1,0 +1,24 @@
+-- Threads may share a table, and a session may go to another thread.
+use denote.RattleType.{RattleType}
+use denote.Ref.{NamedLft}
+use denote.Param.Send.{IsSend, IsSync, sendable}
+use Rattle.std.proofs.Crossing.{crosses}
+use Rattle.known_log.proofs.known.Known.TheSendSync as known
+use Rattle.known_log.proofs.keeper.Keeper.TheSendSync as keeper
+use Rattle.known_log.specs.declared.named.Named as named
+use Rattle.builder_core.specs.declared.table.Table as table
+use Rattle.builder_core.proofs.Crosses.{live_send}
+use Rattle.crew.specs.declared.opened.Opened as opened
+use Rattle.crew.specs.contracts.locked.Locked as Locked
+use Rattle.crew.specs.contracts.table.Table as Table
+use Rattle.crew.specs.contracts.session.Session as Session
+
+module _ (T : RattleType) (o : opened.Ghosts T.Denot) (n : named.Ghosts T.Denot) (t : table.Ghosts T.Denot) where
+  locked_send : IsSend (Locked.the_row T o n t)
+  locked_send = search (live_send, keeper.the_send, sendable) depth 20
+
+  pub table_sync : IsSync (Table.the_row T o n t)
+  table_sync = search (locked_send, sendable, crosses) depth 20
+
+  pub session_send : (κ : NamedLft) → IsSend (Session.the_row κ T o n t)
+  session_send κ = search (table_sync, known.the_send, sendable) depth 20

@@ -1,0 +1,15 @@
+//! Tests of a table that threads share, by its public calls alone.
+#![tactic(auto)]
+
+#[cfg(test)]
+mod calling;
+#[cfg(test)]
+mod contending;
+#[cfg(test)]
+mod one_session;
+#[cfg(test)]
+mod stories;
+#[cfg(test)]
+mod tables;
+#[cfg(test)]
+mod two_sessions;
