@@ -2,7 +2,7 @@
 ghost use Rattle.std.specs.Prelude.{◌≡◌};
 
 use crate::contending::contend;
-use crate::one_session::read_back;
+use crate::one_session;
 use crate::tables::parts;
 use crate::two_sessions::insert_in_two;
 use crew::{Opened, Receipt, Table, TableParts};
@@ -32,7 +32,7 @@ fn tell<T: Opened + Send + Sync, R: Threads + Wait + Sync>(
     receipts: &mut Vec<Receipt<T>>,
 ) -> Result<(), Fault> {
     match story {
-        Story::ReadBack => read_back(rt, alloc, table, receipts),
+        Story::ReadBack => one_session::read_back(rt, alloc, table, receipts),
         Story::TwoSessions => insert_in_two(rt, alloc, table, receipts),
         Story::OneKeptBack => {
             let told = insert_in_two(rt, alloc, table, receipts);
@@ -71,18 +71,21 @@ fn outcome<R: Threads + Wait + Sync>(
     Ok((given, missing))
 }
 
+/// One session inserts a row, reads it, deletes it and finds it no more.
 #[test]
-fn a_session_reads_back_what_it_wrote(rt: HostRuntime) {
+fn read_back(rt: HostRuntime) {
     assert_eq!(rt; outcome(&rt, rt.alloc(), Story::ReadBack), Ok((6, 0)));
 }
 
+/// Two sessions insert a hundred rows each, in threads of their own.
 #[test]
-fn two_sessions_in_threads_of_their_own(rt: HostRuntime) {
+fn sessions_two(rt: HostRuntime) {
     assert_eq!(rt; outcome(&rt, rt.alloc(), Story::TwoSessions), Ok((400, 0)));
 }
 
+/// The same, and one receipt is kept back.
 #[test]
-fn a_receipt_that_is_kept_back(rt: HostRuntime) {
+fn sessions_two_with_one_receipt_kept_back(rt: HostRuntime) {
     assert_eq!(rt; outcome(&rt, rt.alloc(), Story::OneKeptBack), Ok((399, 1)));
 }
 
