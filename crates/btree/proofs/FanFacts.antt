@@ -12,6 +12,7 @@ use Rattle.btree.specs.Marks.{Between, mark_before, items_of}
 use Rattle.btree.specs.Seen.{Seen}
 use Rattle.tree_nodes.specs.Fans.{children_of, separators_of, IsFan}
 use Rattle.btree.specs.Weave.{weave, height_of, AllAt}
+use Rattle.btree.specs.Levels.{levels_over}
 use Rattle.btree.specs.Nodes.{seen_kind, IsKind, IsFanned}
 use Rattle.tree_nodes.proofs.Rising.{in_right, rising_parts}
 use Rattle.btree.proofs.Around.{Around, around}
@@ -66,16 +67,23 @@ height_of-all h (c ∷ cs) a e = a.0
 pub record AtLeaf (seen : Seen) (pairs : List Pair) : Type 0 where
   pub marks : seen.marks ≡ items_of pairs
   pub height : seen.height ≡ 0
+  pub levels : seen.levels ≡ []
   pub rising : IsRising mark_before (items_of pairs)
 
 pub at_leaf : {k : Kind} {seen : Seen} {pairs : List Pair} → seen_kind k ≡ seen → IsKind k → k ≡ kind.Leaf pairs → AtLeaf seen pairs
 at_leaf {k} {seen} {pairs} view_is sound is =
-    let e : seen ≡ record { marks = items_of pairs; height = 0 } = sym view_is ∙ ap seen_kind is in
-    record { marks = ap (λ (s : Seen). s.marks) e; height = ap (λ (s : Seen). s.height) e; rising = subst IsKind is sound }
+    let e : seen ≡ seen_kind (kind.Leaf pairs) = sym view_is ∙ ap seen_kind is in
+    record {
+      marks = ap (λ (s : Seen). s.marks) e;
+      height = ap (λ (s : Seen). s.height) e;
+      levels = ap (λ (s : Seen). s.levels) e;
+      rising = subst IsKind is sound;
+    }
 
 pub record AtFan (seen : Seen) (fan : Fan Seen) : Type 0 where
   pub marks : seen.marks ≡ weave (children_of fan) (separators_of fan)
   pub height : seen.height ≡ suc (height_of (children_of fan))
+  pub levels : seen.levels ≡ levels_over (children_of fan)
   pub sound : IsFan fan
   pub rising : IsRising mark_before (weave (children_of fan) (separators_of fan))
   pub level : AllAt (height_of (children_of fan)) (children_of fan)
@@ -83,12 +91,13 @@ pub record AtFan (seen : Seen) (fan : Fan Seen) : Type 0 where
 
 pub at_fan : {k : Kind} {seen : Seen} {fan : Fan Seen} → seen_kind k ≡ seen → IsKind k → k ≡ kind.Fan fan → AtFan seen fan
 at_fan {k} {seen} {fan} view_is kept is =
-    let e : seen ≡ record { marks = weave (children_of fan) (separators_of fan); height = suc (height_of (children_of fan)) } = sym view_is ∙ ap seen_kind is in
+    let e : seen ≡ seen_kind (kind.Fan fan) = sym view_is ∙ ap seen_kind is in
     let f : IsFanned fan = subst IsKind is kept in
     let b : length (separators_of fan) + 1 ≡ length (children_of fan) = f.sound.between in
     record {
       marks = ap (λ (s : Seen). s.marks) e;
       height = ap (λ (s : Seen). s.height) e;
+      levels = ap (λ (s : Seen). s.levels) e;
       sound = f.sound;
       rising = f.rising;
       level = f.level;

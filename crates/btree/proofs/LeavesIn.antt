@@ -1,12 +1,12 @@
 -- The leaves of a load.
-use Rattle.std.proofs.Common.{◌≡◌, ◌⊎◌, ◌≤◌, List, [], ◌∷◌, ◌++◌, Option, Some, None, length, length-append, refl, sym, ap, ◌∙◌, subst, inl, inr, arith, append_assoc}
+use Rattle.std.proofs.Common.{◌≡◌, ◌⊎◌, ◌≤◌, ℕ, ◌+◌, List, [], ◌∷◌, ◌++◌, Option, Some, None, length, length-append, refl, sym, ap, ◌∙◌, subst, inl, inr, arith, append_assoc}
 use Rattle.std.specs.List.{All}
 use Rattle.std.proofs.lemmas.List.Elements.{All-nil, All-cons, All-append}
 use Rattle.keybytes.specs.declared.pair.Pair.{Pair}
 use Rattle.btree.specs.declared.loader.Full.{Full}
-use Rattle.btree.specs.Loading.{marks_behind, BehindFull}
+use Rattle.btree.specs.Loading.{marks_behind, leaves_behind, BehindFull}
 use Rattle.btree.specs.Marks.{Mark, Item, Between, items_of, in_first, leaves_in}
-use Rattle.btree.specs.TreeValue.{AreFilled}
+use Rattle.btree.specs.TreeValue.{Level, AreFilled, AreFilledAbove}
 
 leaves_items : (ps : List Pair) → leaves_in (items_of ps) ≡ ps ∷ []
 leaves_items [] = refl
@@ -29,11 +29,6 @@ leaves_more : (ms : List Mark) (s : Pair) (ps : List Pair) → leaves_in (ms ++ 
 leaves_more [] s ps = ap (λ (leaves : List (List Pair)). [] ∷ leaves) (leaves_items ps)
 leaves_more (Item p ∷ ms) s ps = ap (in_first p) (leaves_more ms s ps) ∙ first_append p (leaves_in ms) (ps ∷ []) (some_leaf ms)
 leaves_more (Between t ∷ ms) s ps = ap (λ (leaves : List (List Pair)). [] ∷ leaves) (leaves_more ms s ps)
-
--- the leaves in front of the one that is being filled
-abbrev leaves_behind : Option Full → List (List Pair)
-leaves_behind None = []
-leaves_behind (Some full) = leaves_in full.root.marks
 
 behind_is : (full : Option Full) (ps : List Pair) → leaves_in (marks_behind full ++ items_of ps) ≡ leaves_behind full ++ ps ∷ []
 behind_is None ps = leaves_items ps
@@ -73,3 +68,11 @@ filled_after full ps marks leaves h few begun is e = record {
   few = few;
   some = begun_is full ps begun;
 }
+
+-- levels that are filled above one leaf more
+pub above_leaves :
+    (full : Option Full) (ps : List Pair) (marks : List Mark) (levels : List Level) → marks ≡ marks_behind full ++ items_of ps
+    → AreFilledAbove (length (leaves_behind full) + 1) levels → AreFilledAbove (length (leaves_in marks)) levels
+above_leaves full ps marks levels is h =
+    let F : ℕ → Type 0 = λ n. AreFilledAbove n levels in
+    subst F (sym (ap length (ap leaves_in is ∙ behind_is full ps) ∙ length-append (leaves_behind full) (ps ∷ []))) h

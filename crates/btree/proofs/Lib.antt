@@ -7,6 +7,9 @@ pub mod MarksGrown
 pub mod LeafGrown
 pub mod LeavesIn
 pub mod Leaving
+pub mod LevelsAppended
+pub mod LevelsFilled
+pub mod LevelsGrown
 pub mod Loads
 pub mod MarkFacts
 pub mod Middles

@@ -1,7 +1,9 @@
 pub mod Falls
 pub mod From
+pub mod Growing
 pub mod Grown
 pub mod Left
+pub mod Levels
 pub mod Loading
 pub mod Marks
 pub mod Nodes

@@ -3,6 +3,7 @@ ghost use Rattle.std.specs.Prelude.{◌≡◌, ◌<◌, ◌≤◌, ◌+◌, [], 
 ghost use Rattle.tree_nodes.specs.Fans.{children_of, separators_of, IsFan};
 ghost use Rattle.tree_nodes.specs.Lists.{has, IsRising};
 ghost use Rattle.tree_nodes.specs.Order.{is_before, PairsRise};
+ghost use Rattle.btree.specs.Growing.{PutLast};
 ghost use Rattle.btree.specs.Grown.{GrownBy};
 ghost use Rattle.btree.specs.Marks.{Item, mark_before, items_of};
 ghost use Rattle.btree.specs.Splits.{marks_after, marks_with, SplitAt, AllBlank, IsStocked, LeafBlank, IsUsed};
@@ -136,6 +137,7 @@ pub fn insert_into_fan(
     ensures marks { marks_after (weave (children_of fan.new) (separators_of fan.new)) result ≡ marks_with fan.old place split }
     ensures height { height_of (children_of fan.new) ≡ split.node.height }
     ensures beside { SplitAt (suc split.node.height) result }
+    ensures last { place + 1 ≡ length (children_of fan.old) → PutLast (children_of fan.old) split.node (children_of fan.new) result }
     ensures used { IsUsed spare.old spare.new 1 }
 {
     let Split { separator, node } = split;

@@ -1,6 +1,6 @@
 ghost use Rattle.std.specs.Prelude.{◌≡◌, [], ◌∷◌, ◌++◌, length, IfOk, IfErr, OnOk, OnErr};
 ghost use Rattle.keybytes.specs.Pairs.{AreOrdered};
-ghost use Rattle.btree.specs.TreeValue.{AreFilled};
+ghost use Rattle.btree.specs.TreeValue.{AreFilled, AreFilledAbove};
 
 use crate::node::Node;
 use crate::rooting::{Raised, append_under};
@@ -93,6 +93,7 @@ impl Loader {
     pub fn finish(self) -> Result<Tree, Fault>
         ensures pairs { IfOk result (λ tree. tree.pairs ≡ self) }
         ensures filled { IfOk result (λ tree. AreFilled tree.leaves) }
+        ensures levels { IfOk result (λ tree. AreFilledAbove (length tree.leaves) tree.levels) }
         ensures memory { IfErr result (λ fault. fault ≡ Fault.Memory) }
     {
         let Loader {

@@ -1,5 +1,7 @@
-ghost use Rattle.std.specs.Prelude.{◌≡◌, ◌≤◌, ◌∷◌, ◌++◌, suc, not, vec_len};
+ghost use Rattle.std.specs.Prelude.{◌≡◌, ◌≤◌, [], ◌∷◌, ◌++◌, suc, not, vec_len};
 ghost use Rattle.btree.specs.From.{LeafFrom, from, from_next, NextAbove};
+ghost use Rattle.btree.specs.Growing.{LevelsAfter};
+ghost use Rattle.btree.specs.Levels.{levels_over};
 ghost use Rattle.tree_nodes.specs.Fans.{children_of, separators_of};
 ghost use Rattle.tree_nodes.specs.Lists.{has, without, IsRising};
 ghost use Rattle.btree.specs.Marks.{Item, Between, mark_before, items_of, pairs_in};
@@ -14,7 +16,8 @@ use keybytes::{Key, Pair, Rid};
 use std::marker::Model;
 use tree_nodes::{Fan, Leaf};
 
-/// A leaf, or a fan over nodes of one height. Contracts see its pairs in order with the separators among them, and its height.
+/// A leaf, or a fan over nodes of one height. Contracts see its pairs in order with the separators among them, its height, and
+/// how many children each inner node has.
 #[cycle(node)]
 #[derive(Drop)]
 pub struct Node {
@@ -51,6 +54,7 @@ impl Node {
     pub fn leaf(leaf: Leaf) -> Node
         ensures marks { result.marks ≡ items_of leaf }
         ensures height { result.height ≡ 0 }
+        ensures levels { result.levels ≡ [] }
     {
         let _rise = leaf.pairs();
         Node {
@@ -63,6 +67,7 @@ impl Node {
         requires { IsFanned fan }
         ensures marks { result.marks ≡ weave (children_of fan) (separators_of fan) }
         ensures height { result.height ≡ suc (height_of (children_of fan)) }
+        ensures levels { result.levels ≡ levels_over (children_of fan) }
     {
         Node {
             kind: Kind::Fan(fan),
@@ -156,6 +161,7 @@ impl Node {
         requires enough { self.old.height ≤ vec_len spare.old.fans }
         requires leaf { LeafBlank spare.old.leaf }
         ensures appended { Appended (Between separator ∷ items_of leaf) self.old self.new result }
+        ensures levels { LevelsAfter self.old.levels self.new.levels result }
         ensures used { IsUsed spare.old spare.new self.old.height }
     {
         match &mut self.kind {

@@ -1,12 +1,14 @@
 //! Inserts into a whole tree, which may grow at its root.
-ghost use Rattle.std.specs.Prelude.{◌≡◌, ◌≤◌, ◌++◌, suc, not, vec_len};
+ghost use Rattle.std.specs.Prelude.{◌≡◌, ◌≤◌, ◌+◌, ◌++◌, suc, not, length, vec_len};
 ghost use Rattle.tree_nodes.specs.Lists.{has, without, IsRising};
+ghost use Rattle.btree.specs.Growing.{levels_raised};
 ghost use Rattle.btree.specs.Grown.{GrownBy};
-ghost use Rattle.btree.specs.Loading.{marks_behind, height_behind};
+ghost use Rattle.btree.specs.Loading.{marks_behind, height_behind, leaves_behind, LevelsBehind};
 ghost use Rattle.btree.specs.Marks.{Item, mark_before, items_of};
 ghost use Rattle.btree.specs.Raising.{IsRaised};
 ghost use Rattle.btree.specs.Roots.{marks_under, height_under};
 ghost use Rattle.btree.specs.Splits.{marks_after, SplitAt, AllBlank, IsStocked, LeafBlank, IsUsed};
+ghost use Rattle.btree.specs.TreeValue.{AreFilledAbove};
 
 use crate::growing::leaf_of;
 use crate::loader::Full;
@@ -64,6 +66,7 @@ pub fn append_under(full: Option<Full>, leaf: Leaf, spare: &mut Spare) -> Raised
     requires leaf { LeafBlank spare.old.leaf }
     ensures marks { result.root.marks ≡ marks_behind full ++ items_of leaf }
     ensures height { IsRaised (height_behind full) result }
+    ensures levels { LevelsBehind full → AreFilledAbove (length (leaves_behind full) + 1) result.root.levels }
     ensures used { IsUsed spare.old spare.new (suc (height_behind full)) }
 {
     let Some(
@@ -103,6 +106,7 @@ fn raise(root: Node, split: Option<Split>, spare: &mut Spare) -> Raised
     requires leaf { LeafBlank spare.old.leaf }
     ensures marks { result.root.marks ≡ marks_after root.marks split }
     ensures height { IsRaised root.height result }
+    ensures levels { result.root.levels ≡ levels_raised root split }
     ensures used { IsUsed spare.old spare.new 1 }
 {
     let Some(Split { separator, node }) = split else {

@@ -21,7 +21,7 @@ use std::cmp::Ordering;
 use std::marker::Model;
 
 /// Pairs of a key and a RID in order, none twice. Contracts see the list of the pairs, whether there is room for one more,
-/// and which pairs each leaf has.
+/// which pairs each leaf has, and how many children each inner node has, level by level.
 pub struct Tree {
     alloc: Global,
     root: Option<Node>,
@@ -79,6 +79,7 @@ impl Tree {
         requires tidy { IsTidy spare }
         ensures pairs { result.pairs ≡ pairs_in root.marks }
         ensures leaves { result.leaves ≡ leaves_in root.marks }
+        ensures levels { result.levels ≡ root.levels }
     {
         Tree {
             alloc,

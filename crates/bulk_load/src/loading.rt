@@ -1,5 +1,5 @@
-ghost use Rattle.std.specs.Prelude.{◌≡◌, IfOk, IfErr};
-ghost use Rattle.btree.specs.TreeValue.{AreFilled};
+ghost use Rattle.std.specs.Prelude.{◌≡◌, length, IfOk, IfErr};
+ghost use Rattle.btree.specs.TreeValue.{AreFilled, AreFilledAbove};
 ghost use Rattle.keybytes.specs.Pairs.{AreOrdered};
 
 use crate::Source;
@@ -7,12 +7,13 @@ use btree::{Loader, Tree};
 use keybytes::Fault;
 use std::alloc::Global;
 
-/// The tree of pairs that come in order, none twice, with its leaves filled from left to right. After an `Err` the pairs that
-/// were taken are lost.
+/// The tree of pairs that come in order, none twice, with its leaves and the levels above them filled from left to right. After
+/// an `Err` the pairs that were taken are lost.
 pub fn load<S: Source>(alloc: Global, source: &mut S) -> Result<Tree, Fault>
     requires { AreOrdered (S.left source.old) }
     ensures pairs { IfOk result (λ tree. tree.pairs ≡ S.left source.old) }
     ensures filled { IfOk result (λ tree. AreFilled tree.leaves) }
+    ensures levels { IfOk result (λ tree. AreFilledAbove (length tree.leaves) tree.levels) }
     ensures kept { S.kept source.new ≡ S.kept source.old }
     ensures memory { IfErr result (λ fault. fault ≡ Fault.Memory) }
 {

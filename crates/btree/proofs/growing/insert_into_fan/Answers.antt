@@ -1,11 +1,13 @@
 use Rattle.tree_nodes.specs.Fans.{children_of, separators_of}
-use Rattle.std.proofs.Common.{◌∷◌, ◌++◌, ◌≡◌, ◌+◌, ◌-◌, List, length, ap, ◌∙◌, arith, suc, refl}
+use Rattle.std.proofs.Common.{◌∷◌, ◌++◌, ◌≡◌, ℕ, ◌+◌, ◌-◌, List, length, ap, ◌∙◌, arith, suc, refl}
 use Rattle.std.specs.List.{insert}
+use Rattle.std.proofs.lemmas.List.Edits.{insert_end}
 use Rattle.keybytes.specs.declared.pair.Pair.{Pair}
 use Rattle.tree_nodes.specs.declared.fan.Fan.{Fan}
 use Rattle.btree.specs.Marks.{Mark, Between}
 use Rattle.btree.specs.Seen.{Seen}
 use Rattle.btree.specs.Weave.{weave}
+use Rattle.btree.specs.Levels.{levels_over}
 use Rattle.btree.proofs.FanFacts.{AllAt-insert}
 use Rattle.btree.proofs.FanGrown.{made, Halves, halves_lower, halves_upper, halves_end, blank_last}
 use Rattle.btree.proofs.growing.insert_into_fan.Goals as goal
@@ -114,3 +116,17 @@ returns-clause-used c = record {
   used = omega
       (arith, c.in-Some.ensures.len);
 }
+
+pub returns-then-len-lt-FAN_MAX-clause-last : goal.returns-then-len-lt-FAN_MAX-clause-last
+returns-then-len-lt-FAN_MAX-clause-last c = λ last. (
+  omega arith,
+  c.insert.ensures.children
+      ∙ ap (λ (k : ℕ). insert (children_of c.args.fan.now) k c.args.split.node) last
+      ∙ insert_end (children_of c.args.fan.now) c.args.split.node,
+)
+
+pub returns-then-place-clause-last : goal.returns-then-place-clause-last
+returns-then-place-clause-last c = λ last. (omega arith, refl, c.fan.ensures.levels ∙ ap levels_over c.start.ensures.children)
+
+pub returns-clause-last : goal.returns-clause-last
+returns-clause-last c = λ last. absurd (omega arith)

@@ -5,9 +5,10 @@ use Rattle.tree_nodes.specs.Lists.{IsRising}
 use Rattle.tree_nodes.specs.Order.{is_before}
 use Rattle.tree_nodes.proofs.Strict.{pair_same}
 use Rattle.btree.specs.declared.loader.Full.{Full}
-use Rattle.btree.specs.Loading.{marks_behind, height_behind}
+use Rattle.btree.specs.Loading.{marks_behind, height_behind, leaves_behind, LevelsBehind}
 use Rattle.btree.specs.Marks.{mark_before, items_of, pairs_in}
-use Rattle.btree.proofs.LeavesIn.{full_after}
+use Rattle.btree.specs.TreeValue.{Level, AreFilledAbove}
+use Rattle.btree.proofs.LeavesIn.{full_after, above_leaves}
 use Rattle.btree.proofs.Loads.{pushed, started}
 use Rattle.btree.proofs.Sets.{rises_of}
 use Rattle.btree.proofs.TreeFacts.{deeper_height}
@@ -16,6 +17,14 @@ use Rattle.btree.proofs.loader.Loader.push.Goals as goal
 -- the pairs so far and the next one rise
 order : (was now : List Pair) (p : Pair) → was ≡ now → AreOrdered (now ++ p ∷ []) → IsRising is_before (was ++ p ∷ [])
 order was now p is o = subst (λ ps. IsRising is_before (ps ++ p ∷ [])) (sym is) (rises_of (now ++ p ∷ []) o)
+
+-- what was taken is what stood there
+above :
+    (was now : Option Full) (levels : List Level) → now ≡ was → LevelsBehind was
+    → (LevelsBehind now → AreFilledAbove (length (leaves_behind now) + 1) levels) → AreFilledAbove (length (leaves_behind was) + 1) levels
+above was now levels is h by =
+    let B : Option Full → Type 0 = λ f. LevelsBehind f → AreFilledAbove (length (leaves_behind f) + 1) levels in
+    subst B is by h
 
 pub push-requires-clause-rise : goal.push-requires-clause-rise
 push-requires-clause-rise c =
@@ -37,6 +46,7 @@ invariant_of-self c =
       rising = subst R (sym is) b.rising;
       begun = inr (omega (arith, ap length is, len));
       full = c.self.invariant.full;
+      levels = c.self.invariant.levels;
       height_is = c.self.invariant.height_is;
       count_is = omega (arith, all, c.self.invariant.count_is, c.in-Some.ensures);
       tidy = c.self.invariant.tidy;
@@ -61,6 +71,7 @@ invariant_of-self-2 c =
       rising = b.rising;
       begun = inr (omega (arith, b.one));
       full = full_after c.self.inside.full ps _ c.self.invariant.full (omega (arith, c.if-pairs-lt-LEAF_MAX.false, c.pairs.ensures.few, ap length c.pairs.ensures.pairs)) is;
+      levels = above_leaves c.self.inside.full ps _ _ is (above _ _ _ c.take.ensures.value c.self.invariant.levels under.levels);
       height_is =
           ap (λ n. n + c.one_if.result) (c.self.invariant.height_is ∙ ap height_behind (sym c.take.ensures.value))
           ∙ deeper_height _ _ _ _ under.height.is c.one_if.ensures;

@@ -1,6 +1,9 @@
-use Rattle.std.proofs.Common.{arith}
+use Rattle.std.proofs.Common.{◌≡◌, ◌+◌, ◌-◌, length, arith, ap, ◌∙◌}
+use Rattle.tree_nodes.specs.Fans.{children_of}
 use Rattle.btree.proofs.Appending.{at_end, child_rises, child_height, last_at, ends, takes_last, ends_split, leaf_ends}
 use Rattle.btree.proofs.FanFacts.{at_fan, at_leaf}
+use Rattle.btree.proofs.LevelsAppended.{at_last, levels_end_with, levels_end_split}
+use Rattle.btree.specs.Seen.{Seen}
 use Rattle.btree.proofs.node.Node.+append.Goals as goal
 use Rattle.btree.proofs.node.Node.+append.Goals.{in-Leaf, in-Fan+in-None, in-Fan+in-Some}
 
@@ -49,4 +52,19 @@ returns-clause-appended t c = elim c.match-self.branch [
       let e = at_end f c.requires.rising (omega (arith, w.len-last.ensures, f.sound.some)) in
       rw (w.self-inside-is, w.result-is) (ends_split (last_at e w.child_mut.ensures.child w.append.ensures.appended w.in-Some.is)
       w.insert_into_fan.new.fan _ w.insert_into_fan.ensures.marks w.insert_into_fan.ensures.height w.insert_into_fan.ensures.beside)
+]
+
+pub returns-clause-levels : goal.returns-clause-levels
+returns-clause-levels t c = elim c.match-self.branch [
+  | in-Leaf w ↦
+      let f = at_leaf c.self.view_is c.self.invariant w.in-Leaf.is in
+      rw (w.self-inside-is, w.result-is, f.levels) (tt, ap (λ (s : Seen). s.levels) c.self.view_is ∙ f.levels, w.leaf.ensures.levels)
+  | in-Fan+in-None w ↦
+      let f = at_fan c.self.view_is c.self.invariant w.in-Fan.is in
+      let e : w.len-last.result - 1 + 1 ≡ length (children_of w.in-Fan.fan) = omega (arith, w.len-last.ensures, f.sound.some) in
+      rw (w.self-inside-is, w.result-is) (levels_end_with f (at_last e w.child_mut.ensures.child) w.append.ensures.levels w.in-None.is)
+  | in-Fan+in-Some w ↦
+      let f = at_fan c.self.view_is c.self.invariant w.in-Fan.is in
+      let e : w.len-last.result - 1 + 1 ≡ length (children_of w.in-Fan.fan) = omega (arith, w.len-last.ensures, f.sound.some) in
+      rw (w.self-inside-is, w.result-is) (levels_end_split f (at_last e w.child_mut.ensures.child) w.append.ensures.levels w.in-Some.is w.insert_into_fan.new.fan _ w.insert_into_fan.ensures.last)
 ]
