@@ -1,5 +1,5 @@
 -- What a leaf that is put behind all others makes of levels.
-use Rattle.std.specs.Prelude.{◌≡◌, ◌⊎◌, ℕ, ◌+◌, ◌<◌, List, [], ◌∷◌, ◌++◌, Option, None, Some, length}
+use Rattle.std.specs.Prelude.{◌≡◌, ◌⊎◌, ◌+◌, ◌<◌, List, [], ◌∷◌, ◌++◌, Option, None, Some, length}
 use Rattle.btree.specs.declared.split.Split.{Split}
 use Rattle.btree.specs.Seen.{Seen}
 use Rattle.btree.specs.TreeValue.{Level}

@@ -12,7 +12,7 @@ alone children = record { before = []; last = children }
 abbrev pub joined : Level → Level → Level
 joined left right = record { before = left.before ++ left.last ∷ right.before; last = right.last }
 
--- level by level, what two nodes of one height have
+-- level by level, what two nodes of one height have: neither has more levels
 abbrev pub beside : List Level → List Level → List Level
 beside [] right = right
 beside (l ∷ left) [] = []
