@@ -1,7 +1,7 @@
 -- The lanes of a merge: how they start, what the first head says of all pairs, and what one step leaves.
 use Rattle.std.proofs.Common.{◌≡◌, ◌≢◌, ℕ, zero, suc, ◌+◌, ◌<◌, ◌==◌, ◌||◌, Bool, true, false, List, [], ◌∷◌}
 use Rattle.std.proofs.Common.{◌++◌, All, length, get_or, set, drop, take, refl, sym, ap, ◌∙◌, subst, arith, inl, inr}
-use Rattle.std.specs.Prelude.{Option, Some, None, slice_get, count_by}
+use Rattle.std.specs.Prelude.{Option, Some, None, IsSome, slice_get, count_by}
 use Rattle.std.specs.List.{list_any}
 use Rattle.std.specs.List.Sorted.{IsSorted, IsPermutation}
 use Rattle.std.proofs.lemmas.Bool.{cases_eq, cases_lt, lt-ltb, le-ltb, eqb-true, false≢true, false_from_ne_true}
@@ -15,7 +15,7 @@ use Rattle.std.proofs.lemmas.List.Sorted.{IsPermutation-trans, IsPermutation-mid
 use Rattle.std.proofs.lemmas.List.Sums.{count_by_more_no, count_by_more_yes}
 use Rattle.std.proofs.lemmas.Option.{slice_get-get_or, slice_get_past}
 use Rattle.keybytes.specs.Pairs.{pair_cmp}
-use Rattle.run_merge.specs.Leading.{is_before, is_ahead, MayLead, HeadsValue, AllDone, IsFirst}
+use Rattle.run_merge.specs.Leading.{is_before, is_ahead, MayLead, HeadsValue, AllDone, NoneDone, IsFirst}
 use Rattle.run_spool.specs.Spools.{AreSorted, all_pairs}
 use Rattle.run_merge.specs.Merging.{has_pair, IsLeast, Gives, head_of, IsMerge, IsStart, AreSeconds}
 use Rattle.keybytes.specs.declared.pair.Pair.{Pair}
@@ -134,6 +134,20 @@ head_some (first ∷ run) pair is = omega arith
 pub head_none : (run : List Pair) → None ≡ head_of run → length run ≡ 0
 head_none [] is = refl
 head_none (first ∷ run) is = absurd (cc (is))
+
+-- as long as there is no head, none is missing
+pub none_done : NoneDone []
+none_done = λ k lt. absurd (omega (arith, lt))
+
+-- nor where a pair is added
+pub none_done_more : (heads : List (Option Pair)) (pair : Pair) → NoneDone heads → NoneDone (heads ++ Some pair ∷ [])
+none_done_more heads pair all = λ k lt.
+    elim (cases_eq k (length heads)) [
+      | inl e ↦ subst (λ (o : Option Pair). IsSome o) (sym (get_or_push heads (Some pair) None k (sym e))) refl
+      | inr ne ↦
+          let below : k < length heads = omega (arith, lt, ne, length_push heads (Some pair)) in
+          subst (λ (o : Option Pair). IsSome o) (sym (get_or_append_left heads (Some pair ∷ []) None k below)) (all k below)
+    ]
 
 -- how many lanes there are
 pub ways_same : (runs : List (List Pair)) (i : ℕ) → i < length runs → length (get_or runs i []) ≡ 0

@@ -31,7 +31,7 @@ impl Model for Heads {
 }
 
 impl Heads {
-    /// Takes the heads, with at most one comparison fewer than there are heads.
+    /// Takes the heads, with one comparison fewer than there are heads where each is a pair, and with no more where some are none.
     pub(crate) fn new(alloc: Global, heads: Vec<Head>) -> Result<Heads, Fault>
         ensures heads { IfOk result (λ new. new.heads ≡ heads.items) }
         ensures compares { IfOk result (λ new. new.compares ≤ length heads.items - 1) }

@@ -41,14 +41,15 @@ impl Model for Lanes {
 }
 
 impl Lanes {
-    /// Reads the head of each run that has one, and the pair behind it.
+    /// Reads the head of each run that has one, and the pair behind it. The games between the heads take one comparison fewer than
+    /// there are heads.
     pub(crate) fn new<S: Spool>(alloc: Global, spools: &mut [S]) -> Result<Lanes, Fault>
         requires { AreSorted (all_runs (map S.runs spools.old)) }
         ensures merge { IfOk result (λ lanes. IsMerge (all_runs (map S.runs spools.old)) lanes.runs lanes.heads) }
         ensures seconds { IfOk result (λ lanes. AreSeconds (all_runs (map S.runs spools.old)) lanes.runs lanes.seconds) }
         ensures places { IfOk result (λ lanes. ArePlaces (map S.runs spools.old) lanes.runs lanes.places) }
         ensures ways { IfOk result (λ lanes. length lanes.runs ≡ count_by has_pair (all_runs (map S.runs spools.old))) }
-        ensures compares { IfOk result (λ lanes. lanes.compares ≤ length lanes.runs - 1) }
+        ensures compares { IfOk result (λ lanes. lanes.compares ≡ length lanes.runs - 1) }
         ensures runs { map S.runs spools.new ≡ map S.runs spools.old }
         ensures open_runs { map S.open_run spools.new ≡ map S.open_run spools.old }
         ensures stakes { map S.stake spools.new ≡ map S.stake spools.old }

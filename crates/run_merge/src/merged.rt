@@ -40,14 +40,15 @@ impl<S: Spool> Model for Merged<S> {
         × ArePlaces (map S.runs merged.spools.items) merged.lanes.runs merged.lanes.places };
 }
 
-/// Merges the closed runs of spools. An `Err` gives the spools back.
+/// Merges the closed runs of spools. To begin takes one comparison fewer than there are runs that have a pair. An `Err` gives the
+/// spools back.
 pub fn merge<S: Spool>(alloc: Global, mut spools: Vec<S>) -> Result<Merged<S>, (Vec<S>, Fault)>
     requires { AreSorted (all_runs (map S.runs spools.items)) }
     ensures runs { IfOk result (λ merged. merged.runs ≡ map S.runs spools.items) }
     ensures open_runs { IfOk result (λ merged. merged.open_runs ≡ map S.open_run spools.items) }
     ensures stakes { IfOk result (λ merged. merged.stakes ≡ map S.stake spools.items) }
     ensures ways { IfOk result (λ merged. merged.ways ≡ count_by has_pair (all_runs (map S.runs spools.items))) }
-    ensures compares { IfOk result (λ merged. merged.compares ≤ merged.ways - 1) }
+    ensures compares { IfOk result (λ merged. merged.compares ≡ merged.ways - 1) }
     ensures same_runs { IfErr result (λ back. map S.runs back.0.items ≡ map S.runs spools.items) }
     ensures same_open_runs { IfErr result (λ back. map S.open_run back.0.items ≡ map S.open_run spools.items) }
     ensures same_stakes { IfErr result (λ back. map S.stake back.0.items ≡ map S.stake spools.items) }

@@ -7,6 +7,7 @@ use Rattle.run_merge.specs.Places.{IsPlace}
 use Rattle.run_merge.proofs.Numbers.{together}
 use Rattle.run_merge.proofs.Places.{no_places, place_more}
 use Rattle.run_merge.proofs.Steps.{no_seconds, second_more, start_none, start_same, start_more, start_ends, ways_same, ways_more, head_some, head_none}
+use Rattle.run_merge.proofs.Steps.{none_done, none_done_more}
 use Rattle.run_merge.proofs.lanes.Lanes.new.Goals as goal
 use Rattle.run_merge.proofs.lanes.Lanes.new.Goals.{in-Some+in_ok-push+in_ok-read+in_ok-push-2+in_ok-push-3+in_ok-push-4, in_default}
 
@@ -30,6 +31,7 @@ loop-run-init g c = record {
   places = rw (c.new-runs.ensures.items, c.new-places.ensures.items) (no_places (map g.S.Spool.runs c.args.spools.now));
   start = rw (c.new-runs.ensures.items, c.new-heads.ensures.items) (start_none (all_runs (map g.S.Spool.runs c.args.spools.now)));
   ways = ap length c.new-runs.ensures.items;
+  pairs = rw c.new-heads.ensures.items none_done;
 }
 
 pub loop-run-preserved : goal.loop-run-preserved
@@ -64,6 +66,7 @@ loop-run-preserved g c =
             ways = rw lanes
                 (length_push c.loop-run.runs.items run
                 ∙ (ap (λ n. n + 1) was.ways ∙ sym (ways_more runs run inside (head_some (get_or runs run []) w.in-Some.pair first))));
+            pairs = rw heads (none_done_more c.loop-run.heads.items w.in-Some.pair was.pairs);
           }
       | in_default w ↦
           let none = head_none (get_or runs run []) (sym w.in_default.is ∙ head) in
@@ -76,6 +79,7 @@ loop-run-preserved g c =
             seconds = rw (w.runs-is, w.seconds-is) was.seconds;
             start = rw (w.runs-is, w.heads-is) (start_same runs c.loop-run.runs.items c.loop-run.heads.items run was.start none);
             ways = rw w.runs-is (was.ways ∙ sym (ways_same runs run inside none));
+            pairs = rw w.heads-is was.pairs;
           }
     ]
 
@@ -85,3 +89,8 @@ returns-clause-merge g c =
     let was = c.loop-run.invariant in
     let all : c.loop-run.run ≡ length runs = omega (arith, c.loop-run-test.false, was.end, c.loop-run.auto.run-end) in
     rw c.in_ok-new.ensures.heads (start_ends runs c.loop-run.runs.items c.loop-run.heads.items c.loop-run.run c.requires all was.start)
+
+pub returns-clause-compares : goal.returns-clause-compares
+returns-clause-compares g c =
+    let was = c.loop-run.invariant in
+    omega (arith, c.in_ok-new.ensures.counted was.pairs, was.start.long)

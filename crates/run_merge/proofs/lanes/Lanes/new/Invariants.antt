@@ -1,5 +1,6 @@
 use Rattle.std.proofs.Common.{◌≡◌, take, length, map}
 use Rattle.std.specs.Prelude.{count_by}
+use Rattle.run_merge.specs.Leading.{NoneDone}
 use Rattle.run_merge.specs.Merging.{all_runs, has_pair, IsStart, AreSeconds}
 use Rattle.run_merge.specs.Places.{ArePlaces}
 use Rattle.run_merge.proofs.lanes.Lanes.new.Given as goal
@@ -14,4 +15,5 @@ invariant-loop-run g l = record {
   seconds : AreSeconds (all_runs (map g.S.Spool.runs l.initial.spools)) l.runs.items l.seconds.items;
   places : ArePlaces (map g.S.Spool.runs l.initial.spools) l.runs.items l.places.items;
   ways : length l.runs.items ≡ count_by has_pair (take l.run (all_runs (map g.S.Spool.runs l.initial.spools)));
+  pairs : NoneDone l.heads.items;
 }
