@@ -13,6 +13,7 @@ pub mod LevelsGrown
 pub mod Loads
 pub mod MarkFacts
 pub mod Middles
+pub mod OneKey
 pub mod Removed
 pub mod TreeFacts
 pub mod Weaves

@@ -3,6 +3,7 @@ use Rattle.std.proofs.Common.{◌≡◌, ℕ, ◌<◌, ◌≤◌, Bool, true, fa
 use Rattle.std.specs.Prelude.{is_some, not, nat_le, IfSome}
 use Rattle.std.proofs.Math.Nat.{min-le_right}
 use Rattle.std.proofs.lemmas.Bool.{false_from_ne_true, leb-true}
+use Rattle.keybytes.proofs.FirstCause.{both_none}
 use Rattle.keybytes.specs.Faults.{first_cause}
 use Rattle.keybytes.specs.Keys.{KeySpecValue}
 use Rattle.keybytes.specs.declared.fault.Fault.{Fault}
@@ -27,10 +28,6 @@ use Rattle.builder_core.proofs.Feeding.{works_side_looked, state_side_looked}
 use Rattle.builder_core.proofs.IndexApplied.{AppliesNext, ring_is, can_apply, works_applied, state_applied}
 use Rattle.builder_core.proofs.Refusals.{running, state_is}
 
-pub first_none : (c d : Option Fault) → first_cause c d ≡ None → (c ≡ None) × (d ≡ None)
-first_none None d free = (refl, free)
-first_none (Some fault) d free = absurd (cc)
-
 -- an index that isn't refused is one of the build
 pub index_below : (b : BuildState) (index : ℕ) → index_refusal b index ≡ None → index < length b.specs
 index_below b index free = by_test (nat_le (length b.specs) index) refl free where
@@ -46,13 +43,13 @@ fine_by b w workers index it at None free =
     let seen : index_at (map index_state w.indexes) index ≡ index_state it =
     get_or_from_slice_get (map index_state w.indexes) index (index_state it) _ (map_at index_state w.indexes index it at) in
     let rest : cause_if (not (index_at (map index_state w.indexes) index).loaded) (NotLoaded index) ≡ None =
-    (first_none (index_refusal b index) (cause_if (not (index_at (map index_state w.indexes) index).loaded) (NotLoaded index)) free).1 in
+    (both_none (index_refusal b index) (cause_if (not (index_at (map index_state w.indexes) index).loaded) (NotLoaded index)) free).1 in
     (refl, loaded_by (is_some it.built) (ap (λ (i : IndexState). cause_if (not i.loaded) (NotLoaded index)) (sym seen) ∙ rest)) where
       loaded_by : (l : Bool) → cause_if (not l) (NotLoaded index) ≡ None → l ≡ true
       loaded_by true none = refl
       loaded_by false none = absurd (cc)
 fine_by b w workers index it at (Some fault) free =
-    let bad : Some fault ≡ None = (first_none (index_refusal b index) (Some fault) free).1 in
+    let bad : Some fault ≡ None = (both_none (index_refusal b index) (Some fault) free).1 in
     absurd (cc)
 
 pub may_apply :
@@ -73,7 +70,7 @@ may_apply index live building most follows works free = by_build live.state.buil
       let free_now : apply_refusal b (state_unless w.spoiled building.workers w) index ≡ None =
       ap (λ (x : Option WorkValue). apply_refusal b (work_of x) index) (sym held)
       ∙ ap (λ (p : Option BuildState). build_cause p (λ a. apply_refusal a (work_of building.work) index)) (sym is) ∙ free in
-      let below_specs = index_below b index (first_none (index_refusal b index) _ free_now).0 in
+      let below_specs = index_below b index (both_none (index_refusal b index) _ free_now).0 in
       let many = run.on.many in
       let it = there_is w.indexes index (omega (arith, below_specs, many)) in
       let known = fine_by b w building.workers index it.0 it.1 w.spoiled free_now in

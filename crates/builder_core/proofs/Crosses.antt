@@ -2,19 +2,13 @@
 use denote.RattleType.{RattleType}
 use denote.Param.Send.{IsSend, sendable}
 use Rattle.std.proofs.Crossing.{crosses}
-use Rattle.keybytes.proofs.key_spec.KeySpec.TheSendSync as spec
-use Rattle.btree.proofs.Crosses.{tree_send}
+use Rattle.ready_indexes.proofs.Crosses.{ready_send}
 use Rattle.side_file.proofs.side_file.SideFile.TheSendSync as side
 use Rattle.building.proofs.page_putter.PagePutter.TheSendSync as putter
 use Rattle.heap_table.proofs.heap.Heap.TheSendSync as heap
-use Rattle.key_guards.proofs.guards.Guards.TheSendSync as guards
 use Rattle.builder_core.proofs.table_scan.TableScan.TheSendSync as scan
 use Rattle.builder_core.specs.declared.table.Table.{Ghosts}
 use Rattle.builder_core.specs.contracts.live.Live as Live
-use Rattle.builder_core.specs.contracts.ready_index.ReadyIndex as ReadyIndex
-
-index_send : IsSend ReadyIndex.the_row
-index_send = search (spec.the_send, tree_send, sendable) depth 20
 
 pub live_send : (T : RattleType) (g : Ghosts T.Denot) → IsSend (Live.the_row T g)
-live_send T g = search (heap.the_send, index_send, guards.the_send, scan.the_send, putter.the_send, side.the_send, sendable, crosses) depth 20
+live_send T g = search (heap.the_send, ready_send, scan.the_send, putter.the_send, side.the_send, sendable, crosses) depth 20

@@ -1,52 +1,21 @@
--- The ready indexes and the build after a call of the table.
-use Rattle.std.proofs.Common.{◌≡◌, ◌⊎◌, inl, inr, ℕ, List, ◌++◌, map, Option, Result, Ok, Err, sym, ap, ◌∙◌, subst}
-use Rattle.std.specs.List.{All}
-use Rattle.std.proofs.lemmas.List.Elements.{All-weaker, All-append}
-use Rattle.keybytes.specs.Answered.{Answered}
-use Rattle.keybytes.specs.Keys.{KeySpecValue}
+-- The build after a call of the table.
+use Rattle.std.proofs.Common.{◌≡◌, ◌⊎◌, inl, inr, ℕ, List, Option, Result, Ok, Err, sym, ap, subst}
+use Rattle.keybytes.specs.Answered.{Answered, Refused}
 use Rattle.keybytes.specs.declared.fault.Fault.{Fault}
-use Rattle.keybytes.specs.declared.kind.Kind.{Kind}
-use Rattle.heap_log.specs.declared.record.LogRec.{LogRec}
 use Rattle.heap_table.specs.Calls.{OnState, Commits}
 use Rattle.heap_table.specs.HeapState.{HeapState, txn_refusal, after_commit}
 use Rattle.heap_table.specs.HeapValue.{HeapValue}
-use Rattle.heap_table.specs.Pages.{KeepsRows}
-use Rattle.heap_table.specs.TablePairs.{pairs_at_rest}
-use Rattle.heap_table.proofs.TablePairs.{pairs_kept}
 use Rattle.building.specs.declared.copied.Copied.{Copied}
 use Rattle.builder_core.specs.Builds.{WorkValue, BuildFollows, IsWorkOf}
 use Rattle.builder_core.specs.Rings.{PagesFollow}
-use Rattle.builder_core.specs.CoreState.{BuildState, ReadyValue, AreIndexesOf, FollowTable}
+use Rattle.builder_core.specs.CoreState.{BuildState}
 use Rattle.heap_log.specs.declared.record.LogRec.TheVariants.{Commit}
 use Rattle.side_file.specs.SideFileValue.{SideFileValue}
 use Rattle.builder_core.specs.SideFiles.{SidesFollow}
-use Rattle.builder_core.specs.BuildSteps.{index_now}
 use Rattle.builder_core.proofs.EntrySteps.{commit_entries}
 use Rattle.builder_core.proofs.SideKept.{sides_plain}
-use Rattle.builder_core.proofs.Places.{mapped_all, mapped_of}
 use Rattle.builder_core.proofs.Puts.{pages_kept}
 use Rattle.builder_core.proofs.TableBuilds.{build_kept, work_kept}
-
--- a change that keeps the rows keeps the ready indexes
-follow_kept : (old new : List LogRec) (ready : List ReadyValue) → KeepsRows old new → FollowTable old ready → FollowTable new ready
-follow_kept old new ready keeps is =
-    All-weaker (λ index. index.pairs ≡ pairs_at_rest index.spec old) (λ index. index.pairs ≡ pairs_at_rest index.spec new)
-    (λ index e. e ∙ sym (pairs_kept index.spec old new keeps.live)) ready is
-
--- the indexes of a build are ready too, with the pairs of the rows that stand
-pub indexes_more :
-    (kinds new_kinds : List Kind) (old new : List LogRec) (ready : List ReadyValue) (specs : List KeySpecValue) → new_kinds ≡ kinds → KeepsRows old new
-    → AreIndexesOf kinds old ready → All (λ spec. spec.kinds ≡ kinds) specs → AreIndexesOf new_kinds new (ready ++ map (index_now old) specs)
-indexes_more kinds new_kinds old new ready specs same keeps are columns =
-    let more : List ReadyValue = map (index_now old) specs in
-    record {
-      columns = subst (λ (ks : List Kind). All (λ x. x.spec.kinds ≡ ks) (ready ++ more)) (sym same)
-          (All-append (λ index. index.spec.kinds ≡ kinds) ready more are.columns
-          (mapped_all (λ (index : ReadyValue). index.spec.kinds ≡ kinds) (index_now old) specs columns));
-      follow = All-append (λ index. index.pairs ≡ pairs_at_rest index.spec new) ready more (follow_kept old new ready keeps are.follow)
-          (mapped_of (λ (index : ReadyValue). index.pairs ≡ pairs_at_rest index.spec new) (index_now old) specs
-          (λ k spec at. sym (pairs_kept spec old new keeps.live)));
-    }
 
 -- what a commit leaves of the table: it is done, or nothing changed
 pub committed :
@@ -56,14 +25,10 @@ committed old new txn (Ok number) (free, done) = inl done.1
 committed old new txn (Err fault) (inl caused) = inr (ap (λ (h : HeapValue). h.state) caused.1)
 committed old new txn (Err fault) (inr wants) = inr (ap (λ (h : HeapValue). h.state) wants.2)
 
--- either way the ready indexes are the table's
-pub commit_indexes :
-    (old new : HeapState) (txn : ℕ) (ready : List ReadyValue) → (new ≡ after_commit old txn) ⊎ (new ≡ old) → KeepsRows old.log new.log
-    → AreIndexesOf old.schema old.log ready → AreIndexesOf new.schema new.log ready
-commit_indexes old new txn ready done keeps are = record { columns = columns done; follow = follow_kept old.log new.log ready keeps are.follow } where
-  columns : (new ≡ after_commit old txn) ⊎ (new ≡ old) → All (λ index. index.spec.kinds ≡ new.schema) ready
-  columns (inl is) = subst (λ (h : HeapState). All (λ index. index.spec.kinds ≡ h.schema) ready) (sym is) are.columns
-  columns (inr is) = subst (λ (h : HeapState). All (λ index. index.spec.kinds ≡ h.schema) ready) (sym is) are.columns
+-- a call that is refused leaves the table as it was
+pub refused_same : {S : Type 0} (cause : Option Fault) (old new : S) (fault : Fault) → Refused cause (λ before after. after ≡ before) old fault new → new ≡ old
+refused_same cause old new fault (inl caused) = caused.1
+refused_same cause old new fault (inr wants) = wants.2
 
 -- the build is one of the table
 pub commit_follows :

@@ -36,7 +36,7 @@ use Rattle.builder_core.specs.Workers.{fed_to, in_ring, index_at}
 use Rattle.builder_core.specs.Working.{IsTakingEntries, CanApply, HasApplied}
 use Rattle.builder_core.proofs.Feeding.{waiting_in_ring}
 use Rattle.builder_core.proofs.Refusals.{state_of, state_is, works_with}
-use Rattle.builder_core.proofs.TableBuilds.{set_of-keys}
+use Rattle.keybytes.proofs.PairSets.{set_of-keys}
 
 -- a set in order is ordered
 pub set_ordered : (s : FinSet pair_cmp) (pairs : List Pair) → pairs ≡ keys s → AreOrdered pairs

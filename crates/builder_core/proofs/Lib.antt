@@ -1,4 +1,3 @@
-pub mod AllFollow
 pub mod ApplyCauses
 pub mod Applying
 pub mod AtWork
@@ -8,7 +7,6 @@ pub mod Copies
 pub mod CopyPairs
 pub mod Crosses
 pub mod Distinct
-pub mod EachGuarded
 pub mod Emptied
 pub mod EntrySteps
 pub mod Examples
@@ -18,8 +16,6 @@ pub mod Following
 pub mod FullSpools
 pub mod IndexApplied
 pub mod IndexFurther
-pub mod KeysAsked
-pub mod KeysTaken
 pub mod Kits
 pub mod LeftBeside
 pub mod LeftOver
@@ -35,7 +31,6 @@ pub mod Noting
 pub mod OneKit
 pub mod OneRing
 pub mod OneWorker
-pub mod OwnGuards
 pub mod OwnSpools
 pub mod PageCauses
 pub mod Partition

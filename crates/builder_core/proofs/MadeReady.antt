@@ -11,8 +11,8 @@ use Rattle.keybytes.specs.declared.pair.Pair.{Pair}
 use Rattle.keybytes.proofs.PairSets.{is_in, tied_pairs}
 use Rattle.heap_log.specs.declared.record.LogRec.{LogRec}
 use Rattle.heap_table.specs.HeapState.{HeapState, busy_txns}
+use Rattle.heap_table.specs.Sound.{HoldsFollowLog}
 use Rattle.heap_table.specs.TablePairs.{index_pairs, pairs_at_rest}
-use Rattle.key_guards.specs.Guarded.{GuardsValue}
 use Rattle.key_guards.specs.UniqueKeys.{HaveOwnKeys}
 use Rattle.tree_nodes.specs.Lists.{In}
 use Rattle.unique_verdict.specs.Shared.{shared_pairs}
@@ -21,10 +21,11 @@ use Rattle.unique_verdict.specs.declared.verdict.Verdict.{Verdict}
 use Rattle.unique_verdict.specs.declared.verdict.Verdict.TheVariants.{Unique, Shared}
 use Rattle.unique_verdict.proofs.VerdictFacts.{verdict_right}
 use Rattle.builder_core.specs.Builds.{IndexValue}
-use Rattle.builder_core.specs.CatchingUp.{MayBeGuarded, built_pairs, its_verdict, ready_of}
-use Rattle.builder_core.specs.CoreState.{BuildState, ReadyValue}
-use Rattle.builder_core.specs.KeyCauses.{AreGuarded, HasGuards}
-use Rattle.builder_core.specs.BuildSteps.{busy_refusal, cause_if, index_now}
+use Rattle.builder_core.specs.CatchingUp.{built_pairs, its_verdict, ready_of}
+use Rattle.ready_indexes.specs.Following.{MayFollow}
+use Rattle.builder_core.specs.CoreState.{BuildState}
+use Rattle.ready_indexes.specs.Indexes.{ReadyValue, index_now}
+use Rattle.builder_core.specs.BuildSteps.{busy_refusal, cause_if}
 use Rattle.builder_core.specs.Verdicts.{accepted, verdict_on}
 use Rattle.builder_core.proofs.IndexApplied.{set_ordered}
 
@@ -49,15 +50,6 @@ accepted_more log spec specs takes = cond-true (accepts (verdict_on log spec)) (
 pub accepted_same : (log : List LogRec) (spec : KeySpecValue) (specs : List KeySpecValue) → accepts (verdict_on log spec) ≡ false → accepted log (spec ∷ specs) ≡ accepted log specs
 accepted_same log spec specs drops = cond-false (accepts (verdict_on log spec)) (spec ∷ accepted log specs) (accepted log specs) drops
 
--- one more index with its guards
-pub guarded_push :
-    (log : List LogRec) (ready : List ReadyValue) (guards : List GuardsValue) (index : ReadyValue) (g : GuardsValue) → AreGuarded log ready guards
-    → HasGuards log index.spec g → AreGuarded log (ready ++ index ∷ []) (guards ++ g ∷ [])
-guarded_push log [] [] index g are has = (has, tt)
-guarded_push log [] (x ∷ guards) index g are has = absurd are
-guarded_push log (x ∷ ready) [] index g are has = absurd are
-guarded_push log (x ∷ ready) (y ∷ guards) index g are has = (are.0, guarded_push log ready guards index g are.1 has)
-
 -- pairs of which no two have one key, as guards ask for them
 in_of : (p : Pair) (ps : List Pair) → is_in p ps ≡ true → In p ps
 in_of p [] e = absurd (cc)
@@ -80,25 +72,32 @@ verdict_is_right log spec unique =
     let ordered : AreOrdered pairs = set_ordered (index_pairs spec log) pairs refl in
     subst (IsVerdict pairs) (sym (cond-true spec.unique (first_shared (shared_pairs pairs)) Unique unique)) (verdict_right pairs ordered)
 
--- where no writer is open beside a unique index, guards may be begun for the accepted ones
-pub may_guard :
-    (heap : HeapState) (specs : List KeySpecValue)
+-- where no writer is open beside a unique index, the accepted ones may follow the table
+pub may_follow :
+    (heap : HeapState) (specs : List KeySpecValue) → HoldsFollowLog heap
+    → ((k : ℕ) (spec : KeySpecValue) → slice_get specs k ≡ Some spec → spec.kinds ≡ heap.schema)
     → ((k : ℕ) (spec : KeySpecValue) → slice_get specs k ≡ Some spec → spec.unique ≡ true → busy_txns heap ≡ [])
-    → All (λ (index : ReadyValue). MayBeGuarded heap index.spec) (map (index_now heap.log) (accepted heap.log specs))
-may_guard heap [] free = All-nil _
-may_guard heap (spec ∷ specs) free =
-    by_verdict (accepts (verdict_on heap.log spec)) refl (may_guard heap specs (λ k s at. free (suc k) s at)) where
+    → All (λ (it : ReadyValue). MayFollow heap it.spec it.pairs) (map (index_now heap.log) (accepted heap.log specs))
+may_follow heap [] holds columns free = All-nil _
+may_follow heap (spec ∷ specs) holds columns free =
+    by_verdict (accepts (verdict_on heap.log spec)) refl
+    (may_follow heap specs holds (λ k s at. columns (suc k) s at) (λ k s at. free (suc k) s at)) where
       May : List ReadyValue → Type 0
-      May ready = All (λ (index : ReadyValue). MayBeGuarded heap index.spec) ready
+      May ready = All (λ (it : ReadyValue). MayFollow heap it.spec it.pairs) ready
 
       made : List KeySpecValue → List ReadyValue
       made = map (index_now heap.log)
 
       by_verdict : (b : Bool) → accepts (verdict_on heap.log spec) ≡ b → May (made (accepted heap.log specs)) → May (made (accepted heap.log (spec ∷ specs)))
       by_verdict true takes rest =
-          let first : MayBeGuarded heap spec = λ unique. (free 0 spec refl unique, own_keys _ (unique_of _ _ (verdict_is_right heap.log spec unique) takes)) in
+          let first : MayFollow heap spec (pairs_at_rest spec heap.log) = record {
+            columns = columns 0 spec refl;
+            pairs_are = refl;
+            holds = holds;
+            guarded = λ unique. (free 0 spec refl unique, own_keys _ (unique_of _ _ (verdict_is_right heap.log spec unique) takes));
+          } in
           subst (λ (ss : List KeySpecValue). May (made ss)) (sym (accepted_more heap.log spec specs takes))
-          (All-cons (λ (index : ReadyValue). MayBeGuarded heap index.spec) (index_now heap.log spec) (made (accepted heap.log specs)) first rest)
+          (All-cons (λ (it : ReadyValue). MayFollow heap it.spec it.pairs) (index_now heap.log spec) (made (accepted heap.log specs)) first rest)
       by_verdict false drops rest = subst (λ (ss : List KeySpecValue). May (made ss)) (sym (accepted_same heap.log spec specs drops)) rest
 
 any_unique :

@@ -33,7 +33,7 @@ use Rattle.run_merge.specs.Merging.{Gives, IsLeast, MergedValue}
 use Rattle.std.specs.Prelude.{Result, Ok, Err, IfOk, OnErr}
 use Rattle.keybytes.specs.declared.fault.Fault.{Fault}
 use Rattle.builder_core.proofs.Places.{mapped}
-use Rattle.builder_core.proofs.TableBuilds.{set_of-keys}
+use Rattle.keybytes.proofs.PairSets.{set_of-keys}
 
 -- where the runs of each spool are in order, those of all are
 pub all_sorted : (spools : List (List (List Pair))) → All AreSorted spools → AreSorted (all_runs spools)

@@ -6,18 +6,17 @@ use Rattle.spool_ledger.specs.Accounts.{Stake}
 use Rattle.keybytes.specs.Faults.{first_cause}
 use Rattle.keybytes.specs.declared.cell.Cell.{Cell}
 use Rattle.keybytes.specs.declared.fault.Fault.{Fault}
-use Rattle.keybytes.specs.declared.fault.Fault.TheVariants.{BuildRunning, NoBuild, BadCount, BadColumn, BadRanges, RangeDone, RingFull, NotScanned, NotSealed}
-use Rattle.keybytes.specs.declared.fault.Fault.TheVariants.{NotLoaded, Behind, Busy, SpoolNotEmpty, NoPage, Memory, Fenced, TooManyTxns, TxnEnding, NoSuchTxn}
-use Rattle.keybytes.specs.declared.fault.Fault.TheVariants.{RowShape, TableFull, NoSuchRow, RowHeld, PageFull, Duplicate, KeyHeld}
+use Rattle.keybytes.specs.declared.fault.Fault.TheVariants.{BuildRunning, NoBuild, BadCount, BadColumn, BadRanges, RangeDone, RingFull, NotScanned, NotSealed, NotLoaded, Behind, Busy, SpoolNotEmpty, NoPage, Memory, Fenced, TooManyTxns, TxnEnding, NoSuchTxn, RowShape, TableFull, NoSuchRow, RowHeld, PageFull, Duplicate, KeyHeld}
 use Rattle.keybytes.specs.declared.pair.Pair.{Pair}
 use Rattle.keybytes.specs.declared.rid.Rid.{Rid}
 use Rattle.keybytes.specs.Keys.{KeySpecValue}
 use Rattle.heap_log.specs.declared.record.LogRec.{LogRec}
 use Rattle.heap_table.specs.HeapState.{HeapState, txn_refusal, new_row_refusal, insert_refusal, update_refusal, place_refusal, held_refusal, row_missing}
 use Rattle.key_guards.specs.KeyRefusals.{key_refusal, duplicate_refusal, guarded_refusal}
-use Rattle.builder_core.specs.CoreState.{CoreState, BuildState, ReadyValue}
+use Rattle.builder_core.specs.CoreState.{CoreState, BuildState}
+use Rattle.ready_indexes.specs.Indexes.{ReadyValue}
 use Rattle.builder_core.specs.FullSpools.{IfSpooling, NoPageOnlyIfFull, WantedPage}
-use Rattle.builder_core.specs.KeyCauses.{keys_refusal}
+use Rattle.ready_indexes.specs.KeyCauses.{keys_refusal}
 use Rattle.builder_core.specs.Ranges.{dealing_refusal}
 use Rattle.builder_core.specs.BuildSteps.{cause_if, build_cause}
 use Rattle.builder_core.specs.Steps.{Answers, Does, IsRefused, refusal}

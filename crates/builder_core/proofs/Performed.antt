@@ -30,7 +30,9 @@ use Rattle.builder_core.specs.CoreState.{BuildState, scanning_of}
 use Rattle.builder_core.specs.Scanning.{Scanning, is_visible}
 use Rattle.builder_core.specs.SideEntries.{entries_of, side_entries}
 use Rattle.builder_core.specs.SideFiles.{noted, HasEntries, SidesFollow}
-use Rattle.builder_core.specs.Changing.{IsLonger, HaveNoted, FitsBuild, FitsColumns}
+use Rattle.builder_core.specs.Changing.{IsLonger, HaveNoted, FitsBuild}
+use Rattle.ready_indexes.proofs.Follow.{schema_stays}
+use Rattle.ready_indexes.specs.Following.{AllFollow, FitsColumns, Follows, GuardedIndex}
 use Rattle.builder_core.proofs.Places.{below, there_is}
 use Rattle.side_file.specs.declared.entry.Entry.{Entry}
 use Rattle.keybytes.specs.Cells.{fits}
@@ -53,10 +55,6 @@ rec_ready ready = rec_of ready.txn ready.rid ready.undone ready.new
 log_grows : (s : HeapState) (txn : ℕ) (rid : Rid) (undone : Option ℕ) (new : Option (List Cell)) → (after_change s txn rid undone new).log ≡ s.log ++ rec_of txn rid undone new ∷ []
 log_grows s txn rid None new = refl
 log_grows s txn rid (Some n) new = refl
-
-pub schema_stays : (s : HeapState) (txn : ℕ) (rid : Rid) (undone : Option ℕ) (new : Option (List Cell)) → (after_change s txn rid undone new).schema ≡ s.schema
-schema_stays s txn rid None new = refl
-schema_stays s txn rid (Some n) new = refl
 
 rid_there : (rec : Option LogRec) → IsSome (place_of rec) → place_of rec ≡ Some (rid_of rec)
 rid_there None h = absurd (false≢true h)
@@ -170,6 +168,15 @@ fits_build h ready change (Some b) is_of = All-weaker (λ (spec : KeySpecValue).
   old = fits_of spec.kinds ready.old (subst (λ k. IfSome ready.old (IsTableRow k)) (sym columns) change.old_fits);
   new = fits_of spec.kinds ready.new (subst (λ k. IfSome ready.new (IsTableRow k)) (sym columns) change.new_fits);
 }) b.specs is_of.columns
+
+-- and those of each ready index
+pub fits_each :
+    (h : HeapState) (ready : Ready) → IsLawfulChange h ready → (indexes : List GuardedIndex) → AllFollow h.schema h.log indexes
+    → All (λ it. FitsColumns ready it.index.spec) indexes
+fits_each h ready change indexes follow = All-weaker (Follows h.schema h.log) (λ it. FitsColumns ready it.index.spec) (λ it follows. record {
+  old = fits_of it.index.spec.kinds ready.old (subst (λ k. IfSome ready.old (IsTableRow k)) (sym follows.columns) change.old_fits);
+  new = fits_of it.index.spec.kinds ready.new (subst (λ k. IfSome ready.new (IsTableRow k)) (sym follows.columns) change.new_fits);
+}) indexes follow
 
 -- a build has no more indexes than there are side-files
 pub few_specs :

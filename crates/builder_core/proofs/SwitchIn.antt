@@ -6,29 +6,32 @@ use Rattle.keybytes.specs.declared.pair.Pair.{Pair}
 use Rattle.heap_log.specs.declared.outcome.Outcome.{Outcome}
 use Rattle.heap_table.specs.HeapState.{HeapState, after_switch, after_fence, busy_txns}
 use Rattle.heap_table.proofs.KeysAtRest.{keys_at_rest}
+use Rattle.heap_table.specs.Sound.{HoldsFollowLog}
 use Rattle.heap_table.specs.Kept.{RowsFit}
 use Rattle.heap_table.specs.TablePairs.{index_pairs, pairs_at_rest}
 use Rattle.keybytes.proofs.ColumnOrder.{column_order}
 use Rattle.keybytes.specs.Pairs.{HaveKeysOf, AreInColumnOrder}
 use Rattle.catch_up.specs.Built.{BuiltValue}
 use Rattle.builder_core.specs.Builds.{LiveValue, BuildingValue, WorkValue, IndexValue, IsRunning, state_unless, work_state, core_state, index_state}
-use Rattle.builder_core.specs.CatchingUp.{IsDoneIndex, MayBeGuarded, MayCatchUp, built_pairs, built_verdict, its_verdict, ready_of}
+use Rattle.builder_core.specs.CatchingUp.{IsDoneIndex, MayCatchUp, built_pairs, built_verdict, its_verdict, ready_of}
+use Rattle.ready_indexes.specs.Following.{MayFollow}
 use Rattle.heap_log.specs.declared.record.LogRec.{LogRec}
 use Rattle.std.specs.List.{All, AllZip, slice_get}
 use Rattle.std.proofs.lemmas.Option.{same_Some}
 use Rattle.builder_core.proofs.ApplyCauses.{fine_by}
 use Rattle.builder_core.proofs.Applying.{stays_built}
 use Rattle.builder_core.proofs.Places.{below, map_at}
-use Rattle.builder_core.specs.CoreState.{BuildState, IndexState, LiveState, ReadyValue, CoreState, SpoolsState, idle}
+use Rattle.builder_core.specs.CoreState.{BuildState, IndexState, LiveState, CoreState, SpoolsState, idle}
+use Rattle.ready_indexes.specs.Indexes.{ReadyValue, index_now}
 use Rattle.builder_core.specs.Holding.{spools_state}
-use Rattle.builder_core.specs.BuildSteps.{OnBuild, Switches, CatchesUp, AreFurther, apply_refusal, busy_refusal, index_now, after_switch_in, verdicts_on}
+use Rattle.builder_core.specs.BuildSteps.{OnBuild, Switches, CatchesUp, AreFurther, apply_refusal, busy_refusal, after_switch_in, verdicts_on}
 use Rattle.builder_core.specs.Verdicts.{accepted, outcomes, verdict_on}
 use Rattle.builder_core.specs.Workers.{all_unapplied, unapplied}
 use Rattle.unique_verdict.specs.Shared.{shared_pairs}
 use Rattle.unique_verdict.specs.Verdicts.{accepts, first_shared}
 use Rattle.unique_verdict.specs.declared.verdict.Verdict.{Verdict}
 use Rattle.unique_verdict.specs.declared.verdict.Verdict.TheVariants.{Unique}
-use Rattle.builder_core.proofs.MadeReady.{accepted_more, accepted_same, may_guard, no_writers, ready_more, ready_same}
+use Rattle.builder_core.proofs.MadeReady.{accepted_more, accepted_same, may_follow, no_writers, ready_more, ready_same}
 use Rattle.builder_core.proofs.FedBeside.{indexes_seen}
 use Rattle.builder_core.proofs.TableBuilds.{columns_at, switched_pairs}
 
@@ -146,14 +149,15 @@ module _
   pub all_verdicts : outcomes (length live.state.ready) (map its_verdict w.indexes) ≡ verdicts_on live.state b
   all_verdicts = ap (outcomes (length live.state.ready)) (verdicts_are live.state.heap.log b.specs w.indexes run.on.many index_done)
 
-  -- and guards may be begun for them, where the switch waited for no writer
+  -- and they may follow the table, where the switch waited for no writer
   pub all_may :
-      OnBuild live.state.build (λ b. busy_refusal b (length (busy_txns live.state.heap)) ≡ None)
-      → All (λ (index : ReadyValue). MayBeGuarded live.state.heap index.spec) (ready_of b.specs w.indexes)
-  all_may free =
+      HoldsFollowLog live.state.heap → OnBuild live.state.build (λ b. busy_refusal b (length (busy_txns live.state.heap)) ≡ None)
+      → All (λ (it : ReadyValue). MayFollow live.state.heap it.spec it.pairs) (ready_of b.specs w.indexes)
+  all_may holds free =
       let none = subst (λ (o : Option BuildState). OnBuild o (λ x. busy_refusal x (length (busy_txns live.state.heap)) ≡ None)) run.build_is free in
-      subst (λ (ready : List ReadyValue). All (λ (index : ReadyValue). MayBeGuarded live.state.heap index.spec) ready) (sym all_ready)
-      (may_guard live.state.heap b.specs (λ k spec at unique. no_writers b (busy_txns live.state.heap) k spec none at unique))
+      subst (λ (ready : List ReadyValue). All (λ (it : ReadyValue). MayFollow live.state.heap it.spec it.pairs) ready) (sym all_ready)
+      (may_follow live.state.heap b.specs holds (λ k spec at. columns_at live.state.heap.schema live.state.heap.log b k spec run.follows at)
+      (λ k spec at unique. no_writers b (busy_txns live.state.heap) k spec none at unique))
 
   -- and each can be ready
   done_each :

@@ -1,6 +1,5 @@
 -- Each switch of a run decides on its indexes by the rows then live, and makes the accepted ready with the pairs at rest of these.
-use Rattle.std.proofs.Common.{◌≡◌, ℕ, zero, suc, zero-add, Bool, true, false, ◌+◌, ◌<◌, arith, List, [], ◌∷◌, ◌++◌, length, take, append_assoc, append-nil, length-append}
-use Rattle.std.proofs.Common.{Option, Some, None, refl, sym, ap, ◌∙◌, subst, inl, inr}
+use Rattle.std.proofs.Common.{◌≡◌, ℕ, zero, suc, zero-add, Bool, true, false, ◌+◌, ◌<◌, arith, List, [], ◌∷◌, ◌++◌, length, take, append_assoc, append-nil, length-append, Option, Some, None, refl, sym, ap, ◌∙◌, subst, inl, inr}
 use Rattle.std.specs.Prelude.{map}
 use Rattle.std.specs.List.{slice_get}
 use Rattle.std.proofs.Math.Seq.{take-append_seam}
@@ -28,11 +27,12 @@ use Rattle.builder_core.specs.declared.event.Event.{Event}
 use Rattle.builder_core.specs.declared.event.Event.TheVariants.{Begin, Insert, Update, Delete, Undo, Commit, Start, Scan, Digest, Seal, Load, Feed, Apply, Fence, Switch, Abandon}
 use Rattle.builder_core.specs.declared.reply.Reply.{Reply}
 use Rattle.builder_core.specs.declared.reply.Reply.TheVariants.{Switched, Refused}
-use Rattle.builder_core.specs.CoreState.{CoreState, LiveState, BuildState, ReadyValue, SpoolsState}
+use Rattle.builder_core.specs.CoreState.{CoreState, LiveState, BuildState, SpoolsState}
+use Rattle.ready_indexes.specs.Indexes.{ReadyValue, index_now}
 use Rattle.builder_core.specs.Headline.{HasPairsAtRest, IsDecided, EachSwitchIsAtRest}
 use Rattle.keybytes.specs.declared.fault.Fault.{Fault}
 use Rattle.spool_ledger.specs.Accounts.{Stake}
-use Rattle.builder_core.specs.BuildSteps.{OnBuild, index_now, after_switch_in, verdicts_on}
+use Rattle.builder_core.specs.BuildSteps.{OnBuild, after_switch_in, verdicts_on}
 use Rattle.builder_core.specs.Steps.{Step, Run, Does, AfterWant}
 use Rattle.builder_core.specs.Verdicts.{accepted, next_number, outcome, outcomes, verdict_on}
 use Rattle.builder_core.proofs.MadeReady.{accepted_more, accepted_same, verdict_is_right}

@@ -130,10 +130,6 @@ pub columns_at :
     → spec.kinds ≡ kinds
 columns_at kinds log b index spec is at = all_at (λ (s : KeySpecValue). s.kinds ≡ kinds) b.specs index spec is.columns at
 
--- a set has the members of its list
-pub set_of-keys : (s : FinSet pair_cmp) → set_of (keys s) ≡ s
-set_of-keys s = same_members (set_of (keys s)) s (λ q. contains-set_of (keys s) q ∙ sym (contains_key-keys s q))
-
 -- once the side-file is applied to the scanned pairs, they are the pairs at rest
 pub switched_pairs :
     (kinds : List Kind) (log : List LogRec) (b : BuildState) (spec : KeySpecValue) (index : IndexValue) (built : BuiltValue) → IsBuildOf kinds log b

@@ -18,7 +18,8 @@ use Rattle.builder_core.specs.BuildSteps.{OnBuild, CatchesUp, AreFurther, build_
 use Rattle.builder_core.specs.Steps.{refusal}
 use Rattle.builder_core.specs.Workers.{all_unapplied, index_at, unloaded_index}
 use Rattle.std.proofs.lemmas.Option.{get_or_from_slice_get}
-use Rattle.builder_core.proofs.ApplyCauses.{first_none, inside_of}
+use Rattle.builder_core.proofs.ApplyCauses.{inside_of}
+use Rattle.keybytes.proofs.FirstCause.{both_none}
 use Rattle.builder_core.proofs.LeftOver.{indexes_many}
 use Rattle.builder_core.proofs.Refusals.{state_of, state_is}
 use Rattle.builder_core.proofs.Places.{below, there_is}
@@ -150,9 +151,9 @@ module _ (live : LiveValue) (building : BuildingValue) where
         let many = indexes_many live building b runs works in
         let causes : switch_refusal b live.state.heap now ≡ None =
         ap (λ (o : Option BuildState). build_cause o (λ x. switch_refusal x live.state.heap now)) (sym runs) ∙ free in
-        let fine = first_none now.spoiled _ causes in
-        let scanned = first_none (option_map NotScanned (open_range b)) _ fine.1 in
-        let loaded = first_none (option_map NotLoaded (unloaded_index now)) _ scanned.1 in
+        let fine = both_none now.spoiled _ causes in
+        let scanned = both_none (option_map NotScanned (open_range b)) _ fine.1 in
+        let loaded = both_none (option_map NotLoaded (unloaded_index now)) _ scanned.1 in
         let none = no_fault (unloaded_index now) loaded.0 in
         subst (λ (o : Option BuildState). OnBuild o (λ x. (index : ℕ) → index < length x.specs → apply_refusal x now index ≡ None)) (sym runs)
         (λ index less.
@@ -192,8 +193,8 @@ no_busy_cause s new free caught = by_build s.live.build refl caught where
   by_build (Some b) is it =
       let causes : switch_refusal b s.live.heap s.work ≡ None =
       ap (λ (o : Option BuildState). build_cause o (λ x. switch_refusal x s.live.heap s.work)) (sym is) ∙ free in
-      let fine = first_none s.work.spoiled _ causes in
-      let scanned = first_none (option_map NotScanned (open_range b)) _ fine.1 in
-      let loaded = first_none (option_map NotLoaded (unloaded_index s.work)) _ scanned.1 in
-      let near = first_none (behind_refusal (all_unapplied b s.live.heap.log b.specs s.work.indexes)) _ loaded.1 in
+      let fine = both_none s.work.spoiled _ causes in
+      let scanned = both_none (option_map NotScanned (open_range b)) _ fine.1 in
+      let loaded = both_none (option_map NotLoaded (unloaded_index s.work)) _ scanned.1 in
+      let near = both_none (behind_refusal (all_unapplied b s.live.heap.log b.specs s.work.indexes)) _ loaded.1 in
       subst (λ (t : CoreState). OnBuild t.live.build (λ b. busy_refusal b (length (busy_txns t.live.heap)) ≡ None)) (sym it.3) near.1

@@ -1,6 +1,5 @@
 -- What the events of a build do, and why they are refused.
-use Rattle.std.specs.Prelude.{◌≡◌, ℕ, ◌+◌, ◌-◌, ◌<◌, ◌≤◌, Bool, true, false, ◌&&◌, ◌||◌, not, ◌==◌, nat_lt, nat_le, min, if◌then◌else◌, is_some, is_none, List, []}
-use Rattle.std.specs.Prelude.{◌∷◌, ◌++◌, ◌*◌, length, map, replicate, get_or, set, Option, Some, None}
+use Rattle.std.specs.Prelude.{◌≡◌, ℕ, ◌+◌, ◌-◌, ◌<◌, ◌≤◌, Bool, true, false, ◌&&◌, ◌||◌, not, ◌==◌, nat_lt, nat_le, min, if◌then◌else◌, is_some, is_none, List, [], ◌∷◌, ◌++◌, ◌*◌, length, map, replicate, get_or, set, Option, Some, None}
 use Rattle.std.specs.List.{list_any, list_all, slice_get}
 use Rattle.std.specs.Option.{option_map}
 use Rattle.keybytes.specs.Faults.{first_cause}
@@ -8,17 +7,14 @@ use Rattle.keybytes.specs.Keys.{KeySpecValue}
 use Rattle.keybytes.specs.declared.kind.Kind.{Kind}
 use Rattle.keybytes.specs.declared.kind.Kind.TheVariants.{Int, Text, Flag}
 use Rattle.keybytes.specs.declared.fault.Fault.{Fault}
-use Rattle.keybytes.specs.declared.fault.Fault.TheVariants.{BuildRunning, NoBuild, BadCount, BadColumn, RangeDone, RingFull, NotScanned, NotSealed}
-use Rattle.keybytes.specs.declared.fault.Fault.TheVariants.{NotLoaded, Behind, Busy, SpoolNotEmpty}
+use Rattle.keybytes.specs.declared.fault.Fault.TheVariants.{BuildRunning, NoBuild, BadCount, BadColumn, RangeDone, RingFull, NotScanned, NotSealed, NotLoaded, Behind, Busy, SpoolNotEmpty}
 use Rattle.heap_log.specs.declared.outcome.Outcome.{Outcome}
 use Rattle.heap_log.specs.declared.record.LogRec.{LogRec}
-use Rattle.heap_table.specs.HeapState.{HeapState, after_switch}
-use Rattle.heap_table.specs.HeapState.{after_visit, after_fence, busy_txns}
+use Rattle.heap_table.specs.HeapState.{HeapState, after_switch, after_visit, after_fence, busy_txns}
 use Rattle.heap_table.specs.Pages.{pages_written}
-use Rattle.heap_table.specs.TablePairs.{pairs_at_rest}
 use Rattle.builder_core.specs.declared.plan.Plan.{Plan}
-use Rattle.builder_core.specs.CoreState.{ReadyValue, BuildState, LiveState, IndexState, WorkState, SpoolsState, CoreState, scanning_of, live_with_heap, with_live}
-use Rattle.builder_core.specs.CoreState.{opening, idle, all_given}
+use Rattle.builder_core.specs.CoreState.{BuildState, LiveState, IndexState, WorkState, SpoolsState, CoreState, scanning_of, live_with_heap, with_live, opening, idle, all_given}
+use Rattle.ready_indexes.specs.Indexes.{index_now}
 use Rattle.builder_core.specs.Verdicts.{accepted, outcomes, verdict_on}
 use Rattle.builder_core.specs.Ranges.{dealt_ends, dealing_refusal, next_page, open_range}
 use Rattle.builder_core.specs.Scanning.{scanned_pairs}
@@ -27,14 +23,6 @@ use Rattle.builder_core.specs.Workers.{put_to, worker_at, waiting, loud_worker, 
 -- the cause where the test holds
 abbrev pub cause_if : Bool → Fault → Option Fault
 cause_if test fault = if test then Some fault else None
-
--- an index with the pairs of the rows that stand
-abbrev pub index_now : List LogRec → KeySpecValue → ReadyValue
-index_now log spec = record { spec = spec; pairs = pairs_at_rest spec log }
-
--- the ready indexes, each with the pairs of the rows that stand
-abbrev pub ready_now : List LogRec → List ReadyValue → List ReadyValue
-ready_now log ready = map (λ index. index_now log index.spec) ready
 
 -- Start.
 

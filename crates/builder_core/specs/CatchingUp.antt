@@ -3,15 +3,13 @@ use Rattle.std.specs.Prelude.{◌≡◌, ℕ, ◌<◌, if◌then◌else◌, List
 use Rattle.std.specs.List.{slice_get}
 use Rattle.keybytes.specs.Keys.{KeySpecValue, are_key_columns}
 use Rattle.keybytes.specs.declared.pair.Pair.{Pair}
-use Rattle.heap_table.specs.HeapState.{HeapState, busy_txns}
-use Rattle.heap_table.specs.TablePairs.{pairs_at_rest}
 use Rattle.unique_verdict.specs.Verdicts.{accepts}
 use Rattle.unique_verdict.specs.declared.verdict.Verdict.{Verdict}
 use Rattle.unique_verdict.specs.declared.verdict.Verdict.TheVariants.{Unique}
-use Rattle.key_guards.specs.UniqueKeys.{HaveOwnKeys}
 use Rattle.catch_up.specs.Built.{BuiltValue, verdict_of}
 use Rattle.builder_core.specs.Builds.{IndexValue}
-use Rattle.builder_core.specs.CoreState.{BuildState, IndexState, CoreState, ReadyValue, IsIndex}
+use Rattle.builder_core.specs.CoreState.{BuildState, IndexState, CoreState}
+use Rattle.ready_indexes.specs.Indexes.{ReadyValue, IsIndex}
 use Rattle.builder_core.specs.BuildSteps.{OnBuild, IsFurther, apply_refusal}
 use Rattle.builder_core.specs.Workers.{all_entries, unapplied, fed_to, index_at}
 
@@ -78,7 +76,3 @@ ready_of [] indexes = []
 ready_of (spec ∷ specs) [] = []
 ready_of (spec ∷ specs) (index ∷ indexes) =
     if accepts (its_verdict index) then record { spec = spec; pairs = built_pairs index.built } ∷ ready_of specs indexes else ready_of specs indexes
-
--- guards may be begun for an index of that specification: if it is unique, no open transaction has a write that stands, and no two pairs have one key
-abbrev pub MayBeGuarded : HeapState → KeySpecValue → Type 0
-MayBeGuarded heap spec = spec.unique ≡ true → (busy_txns heap ≡ []) × HaveOwnKeys (pairs_at_rest spec heap.log)

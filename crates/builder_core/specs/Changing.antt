@@ -1,12 +1,10 @@
 -- What a change of a row, made ready, appends to the side-files of a build, and what goes on beside it.
-use Rattle.std.specs.Prelude.{◌≡◌, ℕ, true, List, [], ◌++◌, length, map, Option, Some, None, IfSome}
+use Rattle.std.specs.Prelude.{◌≡◌, ℕ, List, [], ◌++◌, length, map, Option, Some, None, IfSome}
 use Rattle.std.specs.List.{All, slice_get}
-use Rattle.keybytes.specs.Cells.{fits}
 use Rattle.keybytes.specs.Keys.{KeySpecValue}
 use Rattle.keybytes.specs.declared.rid.Rid.{Rid}
 use Rattle.heap_table.specs.HeapState.{HeapState}
 use Rattle.heap_table.specs.declared.ready.Ready.{Ready}
-use Rattle.key_guards.specs.Guarded.{GuardsValue}
 use Rattle.building.specs.declared.copied.Copied.{Copied}
 use Rattle.side_file.specs.Entries.{entry_of}
 use Rattle.side_file.specs.SideFileValue.{SideFileValue}
@@ -14,17 +12,12 @@ use Rattle.side_file.specs.declared.entry.Entry.{Entry}
 use Rattle.visibility.specs.SideEntries.{entries_of_change}
 use Rattle.visibility.specs.declared.change.Change.{Change}
 use Rattle.builder_core.specs.Builds.{WorkValue, BuildFollows, IsWorkOf}
-use Rattle.builder_core.specs.CoreState.{BuildState, ReadyValue, AreIndexesOf}
-use Rattle.builder_core.specs.KeyCauses.{AreGuarded}
+use Rattle.builder_core.specs.CoreState.{BuildState}
+use Rattle.ready_indexes.specs.Following.{FitsColumns}
 use Rattle.builder_core.specs.Rings.{PagesFollow}
 use Rattle.builder_core.specs.SideFiles.{SidesFollow, noted, put_ends}
 
--- the rows that stand before and after the change have the columns of that specification
-pub record FitsColumns (ready : Ready) (spec : KeySpecValue) : Type 0 where
-  pub old : IfSome ready.old (λ cells. fits spec.kinds cells ≡ true)
-  pub new : IfSome ready.new (λ cells. fits spec.kinds cells ≡ true)
-
--- they have those of each index of the build
+-- the rows that stand before and after the change have the columns of each index of the build
 abbrev pub FitsBuild : Ready → BuildState → Type 0
 FitsBuild ready b = All (FitsColumns ready) b.specs
 
@@ -76,8 +69,3 @@ pub record HasHeard (build : Option BuildState) (old : HeapState) (olds : List S
   pub ends : put_ends news ≡ put_ends olds
   pub put : (builds : ℕ) (all : List (List Copied)) → PagesFollow old.schema old.log builds build all → PagesFollow new.schema new.log builds build all
   pub works : (work : Option WorkValue) → IsWorkOf old.schema old.log build work → IsWorkOf new.schema new.log build work
-
--- the ready indexes follow the table, and the guards beside them
-pub record IndexesFollow (heap : HeapState) (ready : List ReadyValue) (guards : List GuardsValue) : Type 0 where
-  pub indexes : AreIndexesOf heap.schema heap.log ready
-  pub guarded : AreGuarded heap.log ready guards

@@ -2,27 +2,12 @@
 -- the build do and the spools that they have.
 use Rattle.std.specs.Prelude.{◌≡◌, ℕ, zero, suc, Bool, false, List, [], Option, None, Some}
 use Rattle.spool_ledger.specs.Accounts.{Stake}
-use Rattle.std.specs.List.{All}
 use Rattle.keybytes.specs.Keys.{KeySpecValue}
-use Rattle.keybytes.specs.Pairs.{HaveKeysOf, AreInColumnOrder}
 use Rattle.keybytes.specs.declared.fault.Fault.{Fault}
-use Rattle.keybytes.specs.declared.kind.Kind.{Kind}
-use Rattle.keybytes.specs.declared.pair.Pair.{Pair}
-use Rattle.heap_log.specs.declared.record.LogRec.{LogRec}
 use Rattle.heap_table.specs.HeapState.{HeapState, after_visit, after_fence}
-use Rattle.heap_table.specs.TablePairs.{pairs_at_rest}
+use Rattle.ready_indexes.specs.Indexes.{ReadyValue, FollowTable}
 use Rattle.builder_core.specs.Scanning.{Scanning}
 use Rattle.builder_core.specs.declared.scan.Scan.{Scan}
-
--- an index that is ready: what makes its keys, and its pairs in order
-pub record ReadyValue : Type 0 where
-  pub spec : KeySpecValue
-  pub pairs : List Pair
-
--- each pair has the key of a row, and they stand in the order of the key's columns, then of their RIDs
-pub record IsIndex (spec : KeySpecValue) (pairs : List Pair) : Type 0 where
-  pub keys : HaveKeysOf spec pairs
-  pub order : AreInColumnOrder spec pairs
 
 -- a running build as the table knows it
 pub record BuildState : Type 0 where
@@ -117,15 +102,6 @@ opening live spools = record { live = abandoned live; work = idle; spools = spoo
 abbrev pub after_visits : HeapState → ℕ → HeapState
 after_visits heap zero = heap
 after_visits heap (suc n) = after_visit (after_visits heap n)
-
--- each ready index has the pairs of the rows that stand
-abbrev pub FollowTable : List LogRec → List ReadyValue → Type 0
-FollowTable log ready = All (λ index. index.pairs ≡ pairs_at_rest index.spec log) ready
-
--- so it has, and it is of a table with these columns
-pub record AreIndexesOf (kinds : List Kind) (log : List LogRec) (ready : List ReadyValue) : Type 0 where
-  pub columns : All (λ index. index.spec.kinds ≡ kinds) ready
-  pub follow : FollowTable log ready
 
 -- the ready indexes follow the table
 abbrev pub ReadyFollowTable : LiveState → Type 0

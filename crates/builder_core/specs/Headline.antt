@@ -11,7 +11,8 @@ use Rattle.unique_verdict.specs.Verdicts.{IsUnique, IsLeast}
 use Rattle.builder_core.specs.declared.event.Event.{Event}
 use Rattle.builder_core.specs.declared.reply.Reply.{Reply}
 use Rattle.builder_core.specs.declared.reply.Reply.TheVariants.{Switched}
-use Rattle.builder_core.specs.CoreState.{CoreState, LiveState, BuildState, ReadyValue, SpoolsState, opening, abandoned}
+use Rattle.builder_core.specs.CoreState.{CoreState, LiveState, BuildState, SpoolsState, opening, abandoned}
+use Rattle.ready_indexes.specs.Indexes.{ReadyValue}
 use Rattle.builder_core.specs.Steps.{Step, Run}
 use Rattle.builder_core.specs.declared.event.Event.TheVariants.{Switch}
 

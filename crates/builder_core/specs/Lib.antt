@@ -8,7 +8,6 @@ pub mod FullSpools
 pub mod Headline
 pub mod Holding
 pub mod Invariant
-pub mod KeyCauses
 pub mod Ranges
 pub mod Rings
 pub mod Scanning

@@ -1,22 +1,33 @@
 -- What each event does and why it is refused; one step, and a run of events.
-use Rattle.std.specs.Prelude.{◌≡◌, false, List, []}
-use Rattle.std.specs.Prelude.{◌∷◌, ◌⊎◌, Option, Some, None, Result, Ok, Err}
+use Rattle.std.specs.Prelude.{◌≡◌, ℕ, false, List, [], ◌∷◌, ◌⊎◌, Option, Some, None, Result, Ok, Err}
+use Rattle.keybytes.specs.Faults.{first_cause}
+use Rattle.keybytes.specs.declared.cell.Cell.{Cell}
 use Rattle.keybytes.specs.declared.fault.Fault.{Fault}
 use Rattle.keybytes.specs.declared.fault.Fault.TheVariants.{NoPage, Memory}
+use Rattle.keybytes.specs.declared.rid.Rid.{Rid}
+use Rattle.heap_log.specs.Standing.{live_at}
 use Rattle.heap_table.specs.Calls.{Begins, Inserts, Updates, Deletes, Undoes, Commits}
-use Rattle.heap_table.specs.HeapState.{HeapState, begin_refusal, txn_refusal, delete_refusal, undo_refusal}
+use Rattle.heap_table.specs.HeapState.{HeapState, begin_refusal, insert_refusal, update_refusal, txn_refusal, delete_refusal, undo_refusal}
 use Rattle.builder_core.specs.declared.event.Event.{Event}
 use Rattle.builder_core.specs.declared.event.Event.TheVariants.{Begin, Insert, Update, Delete, Undo, Commit, Start, Scan, Digest, Seal, Load, Feed, Apply, Fence, Switch, Abandon}
 use Rattle.builder_core.specs.declared.reply.Reply.{Reply}
-use Rattle.builder_core.specs.declared.reply.Reply.TheVariants.{Begun, Written, Undone, Committed, Started, Scanned, Digested, Sealed, Loaded, Fed, Applied, Switched}
-use Rattle.builder_core.specs.declared.reply.Reply.TheVariants.{FenceSet, Abandoned, Refused}
-use Rattle.builder_core.specs.CoreState.{LiveState, CoreState, live_with_heap, with_live}
-use Rattle.builder_core.specs.CoreState.{spoiled_work}
-use Rattle.builder_core.specs.KeyCauses.{row_refusal, change_refusal}
+use Rattle.builder_core.specs.declared.reply.Reply.TheVariants.{Begun, Written, Undone, Committed, Started, Scanned, Digested, Sealed, Loaded, Fed, Applied, Switched, FenceSet, Abandoned, Refused}
+use Rattle.builder_core.specs.CoreState.{LiveState, CoreState, live_with_heap, with_live, spoiled_work}
 use Rattle.builder_core.specs.Workers.{index_at}
-use Rattle.builder_core.specs.BuildSteps.{Abandons, Applies, AppliesSome, CatchesUp, Digests, Feeds, Loads, Scans, Seals, Starts, Switches, Waits, apply_refusal, build_cause, fenced, index_refusal, load_refusal, ready_now, scan_refusal, start_refusal, switch_refusal, worker_refusal}
+use Rattle.ready_indexes.specs.KeyCauses.{keys_refusal}
+use Rattle.builder_core.specs.BuildSteps.{Abandons, Applies, AppliesSome, CatchesUp, Digests, Feeds, Loads, Scans, Seals, Starts, Switches, Waits, apply_refusal, build_cause, fenced, index_refusal, load_refusal, scan_refusal, start_refusal, switch_refusal, worker_refusal}
+use Rattle.ready_indexes.specs.Indexes.{ready_now}
 
 -- Writes, undos and commits.
+
+-- why a table with its indexes refuses to insert a row
+abbrev pub row_refusal : LiveState → ℕ → List Cell → Option Fault
+row_refusal live txn cells = first_cause (insert_refusal live.heap txn cells) (keys_refusal 0 live.ready live.heap.log txn None (Some cells))
+
+-- why it refuses to give a RID another row
+abbrev pub change_refusal : LiveState → ℕ → Rid → List Cell → Option Fault
+change_refusal live txn rid cells =
+    first_cause (update_refusal live.heap txn rid cells) (keys_refusal 0 live.ready live.heap.log txn (live_at live.heap.log rid) (Some cells))
 
 -- a call of the heap that leaves the rows as they are, as a step of the table with its indexes
 abbrev pub OnHeap : {R : Type 0} → (HeapState → R → HeapState → Type 0) → LiveState → R → LiveState → Type 0

@@ -1,26 +1,20 @@
 //! A change of a row, done together with what it means for the indexes of the running build and for those that are ready.
-ghost use Rattle.std.specs.Prelude.{◌≡◌, ◌+◌, ◌++◌, ◌∷◌, ◌<◌, ◌≤◌, List, [], length, map, slice_get, Some, None, ℕ, true, IsSome, IfSome, IfOk, IfErr, OnOk, OnErr, Option};
-ghost use Rattle.keybytes.specs.Cells.{fits};
-ghost use Rattle.keybytes.specs.Keys.{KeySpecValue};
+ghost use Rattle.std.specs.Prelude.{◌≡◌, ◌++◌, ◌<◌, ◌≤◌, length, map, slice_get, Some, None, ℕ, IsSome, IfSome, IfOk, IfErr, OnOk, OnErr};
 ghost use Rattle.heap_log.specs.Standing.{standing_count};
 ghost use Rattle.heap_table.specs.HeapState.{after_write, after_undo};
-ghost use Rattle.heap_table.specs.Pages.{SetsRow};
 ghost use Rattle.heap_table.specs.Ready.{IsReady, after_ready, answer_of};
 ghost use Rattle.visibility.specs.SideEntries.{entries_of_change};
 ghost use Rattle.side_file.specs.Entries.{entry_of};
 ghost use Rattle.side_file.specs.SideFileValue.{SideFileValue};
-ghost use Rattle.builder_core.specs.Changing.{FitsBuild, IsChangeOf, AreChangesOf, HaveAppended, HaveNoted, BuildHears, HasHeard, IndexesFollow, without_room};
-ghost use Rattle.builder_core.specs.KeyCauses.{AreGuarded, AreLetIn};
+ghost use Rattle.builder_core.specs.Changing.{FitsBuild, IsChangeOf, AreChangesOf, HaveAppended, HaveNoted, BuildHears, HasHeard, without_room};
+ghost use Rattle.ready_indexes.specs.Following.{AllFollow, AreLetIn, indexes_of};
 ghost use Rattle.builder_core.specs.SideFiles.{put_ends};
-ghost use Rattle.builder_core.specs.BuildSteps.{ready_now};
+ghost use Rattle.ready_indexes.specs.Indexes.{ready_now};
 
-use crate::ReadyIndex;
-use crate::guarding::{make_guard_room, tell};
-use crate::ready_changes::{change_tree, key_of, ready_change};
 use crate::table_scan::TableScan;
 use heap_table::{Heap, Performed, Ready, Undone};
-use key_guards::Guards;
-use keybytes::{Fault, Rid, Row};
+use keybytes::{Fault, Rid};
+use ready_indexes::{ReadyIndexes, key_of};
 use side_file::{Entry, Op, SideFile};
 use std::alloc::Global;
 use visibility::{Change, entries};
@@ -131,8 +125,10 @@ fn note(
     Ok(())
 }
 
-/// Does a change that was made ready, its entries with it; for want of memory nothing changes.
+/// Makes a change that was made ready: takes all memory first, then changes the table and its ready indexes, and appends the entries; out of
+/// memory, nothing changes.
 fn perform(
+    indexes: &mut ReadyIndexes,
     heap: &mut Heap,
     alloc: Global,
     sides: &mut Vec<SideFile>,
@@ -140,68 +136,27 @@ fn perform(
     ready: Ready,
 ) -> Result<Performed, Fault>
     requires ready { IsReady heap.old ready }
+    requires keys { ready.undone ≡ None → AreLetIn heap.old.state.log (indexes_of indexes.old.indexes) ready }
+    requires indexes { AllFollow heap.old.state.schema heap.old.state.log indexes.old.indexes }
     requires build { BuildHears heap.old.state build.now sides.old.items }
     ensures performed { OnOk result (heap.new.state ≡ after_ready heap.old.state ready) }
-    ensures rows { OnOk result (SetsRow heap.old.state.log ready.rid ready.new heap.new.state.log) }
     ensures answer { IfOk result (λ done. done ≡ answer_of heap.new.state ready.txn ready.rid ready.undone) }
+    ensures ready { OnOk result (indexes_of indexes.new.indexes ≡ ready_now heap.new.state.log (indexes_of indexes.old.indexes)) }
+    ensures kept { OnErr result (indexes_of indexes.new.indexes ≡ indexes_of indexes.old.indexes) }
+    ensures indexes { AllFollow heap.new.state.schema heap.new.state.log indexes.new.indexes }
     ensures heard { HasHeard build.now heap.old.state sides.old.items heap.new.state sides.new.items }
     ensures unchanged { OnErr result (heap.new ≡ heap.old) }
     ensures memory { IfErr result (λ fault. fault ≡ Fault.Memory) }
 {
     heap.laws();
+    indexes.prepare(&ready)?;
     note(alloc, sides, build, &ready)?;
-    Ok(heap.perform(ready))
-}
-
-/// Does a change that was made ready, in each ready index too. The memory for an index is taken before the table is changed, and the
-/// index is changed after it, when nothing more is wanted; for want of memory nothing changes.
-fn perform_with(
-    indexes: &mut [ReadyIndex],
-    guards: &mut [Guards],
-    heap: &mut Heap,
-    alloc: Global,
-    sides: &mut Vec<SideFile>,
-    build: &Option<TableScan>,
-    ready: Ready,
-) -> Result<Performed, Fault>
-    requires ready { IsReady heap.old ready }
-    requires indexes { IndexesFollow heap.old.state indexes.old guards.old }
-    requires keys { ready.undone ≡ None → AreLetIn heap.old.state.log indexes.old ready }
-    requires build { BuildHears heap.old.state build.now sides.old.items }
-    ensures performed { OnOk result (heap.new.state ≡ after_ready heap.old.state ready) }
-    ensures rows { OnOk result (SetsRow heap.old.state.log ready.rid ready.new heap.new.state.log) }
-    ensures answer { IfOk result (λ done. done ≡ answer_of heap.new.state ready.txn ready.rid ready.undone) }
-    ensures ready { OnOk result (indexes.new ≡ ready_now heap.new.state.log indexes.old) }
-    ensures guarded { OnOk result (AreGuarded heap.new.state.log indexes.old guards.new) }
-    ensures kept { OnErr result (indexes.new ≡ indexes.old) }
-    ensures still { OnErr result (AreGuarded heap.old.state.log indexes.old guards.new) }
-    ensures heard { HasHeard build.now heap.old.state sides.old.items heap.new.state sides.new.items }
-    ensures unchanged { OnErr result (heap.new ≡ heap.old) }
-    ensures memory { IfErr result (λ fault. fault ≡ Fault.Memory) }
-{
-    let Some((index, rest)) = indexes.split_first_mut() else {
-        return perform(heap, alloc, sides, build, ready);
-    };
-    let Some((own, others)) = guards.split_first_mut() else {
-        unreachable!()
-    };
-    heap.laws();
-    let (rid, txn, undone) = (ready.rid, ready.txn(), ready.undone());
-    let change = ready_change(&index.spec, &mut index.tree, &ready)?;
-    make_guard_room(own, &index.spec, txn, &change)?;
-    let done = perform_with(rest, others, heap, alloc, sides, build, ready)?;
-    let taken = change_tree(&mut index.tree, rid, change);
-    tell(own, &index.spec, txn, undone, heap.records(), taken);
-    // The rows that stand fit the columns of the index, which make a key.
-    heap.laws();
-    let _columns = index.spec.columns();
-    Ok(done)
+    Ok(indexes.perform(heap, ready))
 }
 
 /// Does a write that was made ready; answered with its record's number and the RID.
 pub fn write(
-    indexes: &mut Vec<ReadyIndex>,
-    guards: &mut Vec<Guards>,
+    indexes: &mut ReadyIndexes,
     heap: &mut Heap,
     alloc: Global,
     sides: &mut Vec<SideFile>,
@@ -210,22 +165,20 @@ pub fn write(
 ) -> Result<(usize, Rid), Fault>
     requires ready { IsReady heap.old ready }
     requires write { ready.undone ≡ None }
-    requires keys { AreLetIn heap.old.state.log indexes.old.items ready }
-    requires indexes { IndexesFollow heap.old.state indexes.old.items guards.old.items }
+    requires keys { AreLetIn heap.old.state.log (indexes_of indexes.old.indexes) ready }
+    requires indexes { AllFollow heap.old.state.schema heap.old.state.log indexes.old.indexes }
     requires build { BuildHears heap.old.state build.now sides.old.items }
     ensures written { OnOk result (heap.new.state ≡ after_write heap.old.state ready.txn ready.rid ready.new) }
     ensures number { IfOk result (λ written. written.0 ≡ length heap.new.state.log) }
     ensures rid { IfOk result (λ written. written.1 ≡ ready.rid) }
-    ensures ready { OnOk result (indexes.new.items ≡ ready_now heap.new.state.log indexes.old.items) }
-    ensures kept { OnErr result (indexes.new.items ≡ indexes.old.items) }
-    ensures indexes { IndexesFollow heap.new.state indexes.new.items guards.new.items }
+    ensures ready { OnOk result (indexes_of indexes.new.indexes ≡ ready_now heap.new.state.log (indexes_of indexes.old.indexes)) }
+    ensures kept { OnErr result (indexes_of indexes.new.indexes ≡ indexes_of indexes.old.indexes) }
+    ensures indexes { AllFollow heap.new.state.schema heap.new.state.log indexes.new.indexes }
     ensures heard { HasHeard build.now heap.old.state sides.old.items heap.new.state sides.new.items }
     ensures unchanged { OnErr result (heap.new ≡ heap.old) }
     ensures memory { IfErr result (λ fault. fault ≡ Fault.Memory) }
 {
-    let Performed::Written { number, rid } = perform_with(
-        indexes, guards, heap, alloc, sides, build, ready,
-    )?
+    let Performed::Written { number, rid } = perform(indexes, heap, alloc, sides, build, ready)?
     else {
         unreachable!()
     };
@@ -234,8 +187,7 @@ pub fn write(
 
 /// Does an undo that was made ready.
 pub fn undo(
-    indexes: &mut Vec<ReadyIndex>,
-    guards: &mut Vec<Guards>,
+    indexes: &mut ReadyIndexes,
     heap: &mut Heap,
     alloc: Global,
     sides: &mut Vec<SideFile>,
@@ -244,20 +196,19 @@ pub fn undo(
 ) -> Result<Undone, Fault>
     requires ready { IsReady heap.old ready }
     requires undo { IsSome ready.undone }
-    requires indexes { IndexesFollow heap.old.state indexes.old.items guards.old.items }
+    requires indexes { AllFollow heap.old.state.schema heap.old.state.log indexes.old.indexes }
     requires build { BuildHears heap.old.state build.now sides.old.items }
     ensures undone { OnOk result ((n : ℕ) → ready.undone ≡ Some n → heap.new.state ≡ after_undo heap.old.state ready.txn n) }
     ensures number { IfOk result (λ undone. undone.number ≡ length heap.new.state.log) }
     ensures left { IfOk result (λ undone. undone.left ≡ standing_count heap.new.state.log ready.txn) }
-    ensures ready { OnOk result (indexes.new.items ≡ ready_now heap.new.state.log indexes.old.items) }
-    ensures kept { OnErr result (indexes.new.items ≡ indexes.old.items) }
-    ensures indexes { IndexesFollow heap.new.state indexes.new.items guards.new.items }
+    ensures ready { OnOk result (indexes_of indexes.new.indexes ≡ ready_now heap.new.state.log (indexes_of indexes.old.indexes)) }
+    ensures kept { OnErr result (indexes_of indexes.new.indexes ≡ indexes_of indexes.old.indexes) }
+    ensures indexes { AllFollow heap.new.state.schema heap.new.state.log indexes.new.indexes }
     ensures heard { HasHeard build.now heap.old.state sides.old.items heap.new.state sides.new.items }
     ensures unchanged { OnErr result (heap.new ≡ heap.old) }
     ensures memory { IfErr result (λ fault. fault ≡ Fault.Memory) }
 {
-    let Performed::Undone(undone) = perform_with(indexes, guards, heap, alloc, sides, build, ready)?
-    else {
+    let Performed::Undone(undone) = perform(indexes, heap, alloc, sides, build, ready)? else {
         unreachable!()
     };
     Ok(undone)

@@ -109,10 +109,10 @@ impl<S: Spool, T: Table> Core<S, T> {
     /// The ready index of that number, from 0; [`Fault::BadCount`] where there is none.
     pub fn ready(&self, number: usize) -> Result<&ReadyIndex, Fault>
         ensures index { MatchResult result
-            (λ index. slice_get self.now.live.ready number ≡ Some index.now)
+            (λ it. slice_get self.now.live.ready number ≡ Some it.now.index)
             (λ fault. slice_get self.now.live.ready number ≡ None) }
-        ensures keys { IfOk result (λ index. HaveKeysOf index.now.spec index.now.pairs) }
-        ensures order { IfOk result (λ index. AreInColumnOrder index.now.spec index.now.pairs) }
+        ensures keys { IfOk result (λ index. HaveKeysOf index.now.index.spec index.now.index.pairs) }
+        ensures order { IfOk result (λ index. AreInColumnOrder index.now.index.spec index.now.index.pairs) }
         ensures refused { IfErr result (λ fault. fault ≡ Fault.BadCount) }
         ensures follow { ReadyFollowTable self.now.live }
     {

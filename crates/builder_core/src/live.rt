@@ -14,17 +14,17 @@ ghost use Rattle.builder_core.specs.Invariant.{BuildIsSound, EachPageOnce};
 ghost use Rattle.std.specs.VecDeque.Iter.{deque_iter_rest};
 ghost use Rattle.builder_core.specs.SideFiles.{AreEntriesLeft, HaveEntryKeys, NoneAhead, side_refusal, put_ends};
 ghost use Rattle.builder_core.specs.CoreState.{abandoned, after_visits, ReadyFollowTable};
-ghost use Rattle.builder_core.specs.KeyCauses.{KeysAreGuarded};
+ghost use Rattle.ready_indexes.specs.Following.{indexes_of};
+ghost use Rattle.ready_indexes.specs.KeyCauses.{KeysAreGuarded};
 
-use crate::guarding::guards_laws;
 use crate::live_sides::reset_all;
 use crate::rest::at_rest;
 use crate::table_scan::TableScan;
-use crate::{Pair, ReadyIndex, Table};
+use crate::{Pair, Table};
 use building::PagePutter;
 use heap_table::Heap;
-use key_guards::Guards;
 use keybytes::{Fault, KeySpec, Rid, Row};
+use ready_indexes::ReadyIndexes;
 use side_file::{Entry, SideFile};
 use std::alloc::Global;
 use std::collections::vec_deque::Iter;
@@ -36,9 +36,7 @@ use std::marker::{Model, PhantomData};
 pub struct Live<T: Table> {
     pub(crate) alloc: Global,
     pub(crate) heap: Heap,
-    pub(crate) ready: Vec<ReadyIndex>,
-    /// Beside each ready index the keys that open transactions may give back.
-    pub(crate) guards: Vec<Guards>,
+    pub(crate) ready: ReadyIndexes,
     pub(crate) builds: u64,
     pub(crate) build: Option<TableScan>,
     pub(crate) pages: Vec<PagePutter>,
@@ -52,7 +50,6 @@ impl<T: Table> Drop for Live<T> {
             alloc: _,
             heap: _,
             ready: _,
-            guards: _,
             builds: _,
             build: _,
             pages: _,
@@ -63,8 +60,7 @@ impl<T: Table> Drop for Live<T> {
 }
 
 impl<T: Table> Model for Live<T> {
-    ghost use Rattle.builder_core.specs.CoreState.{AreIndexesOf};
-    ghost use Rattle.builder_core.specs.KeyCauses.{AreGuarded};
+    ghost use Rattle.ready_indexes.specs.Following.{AllFollow, indexes_of};
     ghost use Rattle.builder_core.specs.Builds.{LiveValue, BuildFollows};
     ghost use Rattle.builder_core.specs.Rings.{all_sent, ArePutEnds, AreOfBuilds, PagesFollow};
     ghost use Rattle.builder_core.specs.SideFiles.{SidesFollow, put_ends};
@@ -72,17 +68,16 @@ impl<T: Table> Model for Live<T> {
     ghost Value = { LiveValue };
 
     ghost view = { λ live. record {
-      state = record { heap = live.heap.state; ready = live.ready.items; builds = live.builds; build = live.build };
+      state = record { heap = live.heap.state; ready = indexes_of live.ready.indexes; builds = live.builds; build = live.build };
       pages = live.pages.items;
       sides = put_ends live.sides.items;
     } };
 
-    ghost invariant = { λ live. AreIndexesOf live.heap.state.schema live.heap.state.log live.ready.items
+    ghost invariant = { λ live. AllFollow live.heap.state.schema live.heap.state.log live.ready.indexes
         × BuildFollows live.heap.state.schema live.heap.state.log live.build
         × SidesFollow live.heap.state.log live.build live.sides.items
         × PagesFollow live.heap.state.schema live.heap.state.log live.builds live.build (all_sent live.pages.items)
-        × AreOfBuilds live.builds (all_sent live.pages.items) × ArePutEnds T.pages T.sides live.pages.items (put_ends live.sides.items)
-        × AreGuarded live.heap.state.log live.ready.items live.guards.items };
+        × AreOfBuilds live.builds (all_sent live.pages.items) × ArePutEnds T.pages T.sides live.pages.items (put_ends live.sides.items) };
 }
 
 impl<T: Table> Live<T> {
@@ -104,8 +99,7 @@ impl<T: Table> Live<T> {
         Live {
             alloc,
             heap,
-            ready: Vec::new(alloc),
-            guards: Vec::new(alloc),
+            ready: ReadyIndexes::new(alloc),
             builds: 0,
             build: None,
             pages,
@@ -115,11 +109,11 @@ impl<T: Table> Live<T> {
     }
 
     /// The indexes that are ready, in their order.
-    pub fn ready(&self) -> &[ReadyIndex]
-        ensures ready { result.now ≡ self.now.state.ready }
+    pub fn ready(&self) -> &ReadyIndexes
+        ensures ready { indexes_of result.now.indexes ≡ self.now.state.ready }
         ensures follow { ReadyFollowTable self.now.state }
     {
-        self.ready.as_slice()
+        &self.ready
     }
 
     /// Does nothing: its clauses tell what holds of every table between two steps.
@@ -131,7 +125,7 @@ impl<T: Table> Live<T> {
         ensures build { IfSome self.now.state.build (λ b. BuildIsSound b self.now.state.heap.log) }
     {
         self.heap.laws();
-        guards_laws(self.guards.as_slice());
+        self.ready.laws();
         let _build = &self.build;
     }
 

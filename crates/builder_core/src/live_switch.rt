@@ -1,28 +1,25 @@
 //! The switch of a build: the entries that are left are applied to its indexes, of which the accepted are then ready.
-ghost use Rattle.std.specs.Prelude.{◌≡◌, ◌+◌, ◌++◌, ◌^◌, ◌<◌, ◌≤◌, length, None, Some, IsSome, IfSome, IfOk, IfErr, OnOk, OnErr, MatchResult, vec_len, vec_capacity};
-ghost use Rattle.std.specs.Prelude.{All, map};
+ghost use Rattle.std.specs.Prelude.{◌≡◌, ◌+◌, ◌++◌, ◌^◌, ◌<◌, ◌≤◌, length, None, Some, IsSome, IfSome, IfOk, IfErr, OnOk, OnErr, MatchResult, vec_len, vec_capacity, All, map};
 ghost use Rattle.std.specs.List.{AllZip};
 ghost use Rattle.heap_table.specs.HeapState.{HeapState, after_switch, busy_txns};
-ghost use Rattle.heap_table.specs.Sound.{HoldsFollowLog};
 ghost use Rattle.heap_table.specs.Pages.{KeepsRows};
 ghost use Rattle.builder_core.specs.Builds.{core_state, cause_of, WorksOn};
-ghost use Rattle.builder_core.specs.CatchingUp.{MayCatchUp, IndexIsFurther, IsDoneIndex, left_at, its_verdict, ready_of, MayBeGuarded};
+ghost use Rattle.builder_core.specs.CatchingUp.{MayCatchUp, IndexIsFurther, IsDoneIndex, left_at, its_verdict, ready_of};
+ghost use Rattle.ready_indexes.specs.Following.{AllFollow, MayFollow, indexes_of};
 ghost use Rattle.builder_core.specs.BuildSteps.{Switches, OnBuild, CatchesUp, busy_refusal};
 ghost use Rattle.builder_core.specs.Steps.{IsRefused};
-ghost use Rattle.builder_core.specs.KeyCauses.{AreGuarded};
 ghost use Rattle.builder_core.specs.Verdicts.{outcome, outcomes};
 ghost use Rattle.builder_core.specs.Workers.{all_unapplied};
 ghost use Rattle.builder_core.specs.declared.event.Event.{Event};
 
 use crate::ending::end_spools;
-use crate::guarding::guards_laws;
 use crate::index_work::IndexWork;
 use crate::table_scan::TableScan;
-use crate::{Building, Live, ReadyIndex, Table};
+use crate::{Building, Live, Table};
 use heap_log::{Outcome, Verdicts};
 use heap_table::Heap;
-use key_guards::Guards;
 use keybytes::{Fault, KeySpec};
+use ready_indexes::ReadyIndexes;
 use run_spool::Spool;
 use side_file::RING_ENTRIES;
 use std::alloc::Global;
@@ -172,46 +169,27 @@ impl<T: Table> Live<T> {
         let Some(work) = building.work() else {
             unreachable!()
         };
-        let noted = note_ready(
-            self.alloc,
-            &mut self.heap,
-            &mut self.ready,
-            &mut self.guards,
-            work.indexes(),
-        )?;
+        let noted = note_ready(self.alloc, &mut self.heap, &mut self.ready, work.indexes())?;
         self.heap.set_fence(false);
         let (Some(build), Some(work)) = (self.build.take(), building.work.take()) else {
             unreachable!()
         };
         let (specs, indexes) = (build.into_specs(), work.into_indexes());
-        make_ready(
-            self.alloc,
-            &mut self.ready,
-            &mut self.guards,
-            specs,
-            indexes,
-        );
-        guards_laws(&self.guards);
+        make_ready(self.alloc, &mut self.ready, specs, indexes);
+        self.ready.laws();
         end_spools(&mut building.spools);
         Ok(noted)
     }
 }
 
-/// The accepted indexes of a build are ready, behind those that were so before, and each has guards beside it; the refused are dropped.
-fn make_ready(
-    alloc: Global,
-    ready: &mut Vec<ReadyIndex>,
-    guards: &mut Vec<Guards>,
-    specs: Vec<KeySpec>,
-    indexes: Vec<IndexWork>,
-)
+/// The accepted indexes of a build are ready, behind those that were so before; the refused are dropped.
+fn make_ready(alloc: Global, ready: &mut ReadyIndexes, specs: Vec<KeySpec>, indexes: Vec<IndexWork>)
     requires many { length indexes.items ≡ length specs.items }
-    requires room { vec_len ready.old + length specs.items ≤ vec_capacity ready.old }
-    requires guard_room { vec_len guards.old + length specs.items ≤ vec_capacity guards.old }
+    requires room { length specs.items ≤ ready.old.room }
     requires indexes { AllZip IsDoneIndex specs.items indexes.items }
-    ensures ready { ready.new.items ≡ ready.old.items ++ ready_of specs.items indexes.items }
-    ensures guards { (heap : HeapState) → HoldsFollowLog heap → All (λ index. MayBeGuarded heap index.spec) (ready_of specs.items indexes.items)
-        → AreGuarded heap.log ready.old.items guards.old.items → AreGuarded heap.log ready.new.items guards.new.items }
+    ensures ready { indexes_of ready.new.indexes ≡ indexes_of ready.old.indexes ++ ready_of specs.items indexes.items }
+    ensures follow { (heap : HeapState) → All (λ it. MayFollow heap it.spec it.pairs) (ready_of specs.items indexes.items)
+        → AllFollow heap.schema heap.log ready.old.indexes → AllFollow heap.schema heap.log ready.new.indexes }
 {
     let mut indexes = indexes.into_iter();
     for spec in specs {
@@ -221,35 +199,31 @@ fn make_ready(
         if index.is_accepted() {
             // It tells that its columns make a key, whose bytes are then in the columns' order.
             let _columns = spec.columns();
-            ready.push_reserved(ReadyIndex::new(spec, index.into_tree()));
-            guards.push_reserved(Guards::new(alloc));
+            ready.push(alloc, spec, index.into_tree());
         }
     }
 }
 
-/// Notes in the log what becomes of the indexes, and makes room for them and their guards.
+/// Notes in the log what becomes of the indexes, and makes room for them.
 fn note_ready(
     alloc: Global,
     heap: &mut Heap,
-    ready: &mut Vec<ReadyIndex>,
-    guards: &mut Vec<Guards>,
+    ready: &mut ReadyIndexes,
     indexes: &[IndexWork],
 ) -> Result<(usize, Verdicts), Fault>
     requires { length indexes.now ≤ 8 }
     ensures number { IfOk result (λ done. done.0 ≡ length heap.old.state.log + 1) }
-    ensures verdicts { IfOk result (λ done. done.1 ≡ outcomes (length ready.old.items) (map its_verdict indexes.now)) }
-    ensures noted { OnOk result (heap.new.state ≡ after_switch heap.old.state (outcomes (length ready.old.items) (map its_verdict indexes.now))) }
+    ensures verdicts { IfOk result (λ done. done.1 ≡ outcomes (length (indexes_of ready.old.indexes)) (map its_verdict indexes.now)) }
+    ensures noted { OnOk result (heap.new.state
+        ≡ after_switch heap.old.state (outcomes (length (indexes_of ready.old.indexes)) (map its_verdict indexes.now))) }
     ensures rows { KeepsRows heap.old.state.log heap.new.state.log }
-    ensures room { OnOk result (vec_len ready.new + length indexes.now ≤ vec_capacity ready.new) }
-    ensures guard_room { OnOk result (vec_len guards.new + length indexes.now ≤ vec_capacity guards.new) }
-    ensures ready { ready.new.items ≡ ready.old.items }
-    ensures guards { guards.new.items ≡ guards.old.items }
+    ensures room { OnOk result (length indexes.now ≤ ready.new.room) }
+    ensures ready { ready.new.indexes ≡ ready.old.indexes }
     ensures unchanged { OnErr result (heap.new ≡ heap.old) }
     ensures memory { IfErr result (λ fault. fault ≡ Fault.Memory) }
 {
     let first = ready.len();
-    ready.reserve(indexes.len())?;
-    guards.reserve(indexes.len())?;
+    ready.make_room(indexes.len())?;
     let noted = verdicts_from(alloc, first, indexes)?;
     let told = verdicts_from(alloc, first, indexes)?;
     let number = heap.note(noted)?;

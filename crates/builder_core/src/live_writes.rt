@@ -4,11 +4,8 @@ ghost use Rattle.keybytes.specs.Answered.{Answered};
 ghost use Rattle.heap_table.specs.Calls.{Begins, Inserts, Updates, Deletes, Undoes, Commits};
 ghost use Rattle.heap_table.specs.HeapState.{begin_refusal, txn_refusal, delete_refusal, undo_refusal};
 ghost use Rattle.builder_core.specs.Builds.{BuildingValue, WorksOn};
-ghost use Rattle.builder_core.specs.KeyCauses.{row_refusal, change_refusal};
-ghost use Rattle.builder_core.specs.Steps.{OnHeap, OnRows};
+ghost use Rattle.builder_core.specs.Steps.{row_refusal, change_refusal, OnHeap, OnRows};
 
-use crate::guarding::tell_commit;
-use crate::key_checks::check_keys;
 use crate::{Live, Table, changes};
 use heap_table::Undone;
 use keybytes::{Fault, Rid, Row};
@@ -28,7 +25,7 @@ impl<T: Table> Live<T> {
         ensures refused { IfErr result (λ fault. row_refusal self.now.state txn row.now ≡ Some fault) }
     {
         let rid = self.heap.check_insert(txn, row)?;
-        check_keys(&self.ready, &self.guards, &self.heap, txn, rid, row)
+        self.ready.check(&self.heap, txn, rid, row)
     }
 
     /// Why [`Live::update`] would be refused, likewise.
@@ -37,7 +34,7 @@ impl<T: Table> Live<T> {
         ensures refused { IfErr result (λ fault. change_refusal self.now.state txn rid row.now ≡ Some fault) }
     {
         self.heap.check_update(txn, rid, row)?;
-        check_keys(&self.ready, &self.guards, &self.heap, txn, rid, row)
+        self.ready.check(&self.heap, txn, rid, row)
     }
 
     /// The transaction inserts a row; answered with the record's number and the RID. Each ready index has its pair from then on, and
@@ -60,7 +57,6 @@ impl<T: Table> Live<T> {
         let ready = self.heap.ready_insert(txn, row)?;
         changes::write(
             &mut self.ready,
-            &mut self.guards,
             &mut self.heap,
             self.alloc,
             &mut self.sides,
@@ -92,7 +88,6 @@ impl<T: Table> Live<T> {
         let ready = self.heap.ready_update(txn, rid, row)?;
         changes::write(
             &mut self.ready,
-            &mut self.guards,
             &mut self.heap,
             self.alloc,
             &mut self.sides,
@@ -109,7 +104,6 @@ impl<T: Table> Live<T> {
         let ready = self.heap.ready_delete(txn, rid)?;
         changes::write(
             &mut self.ready,
-            &mut self.guards,
             &mut self.heap,
             self.alloc,
             &mut self.sides,
@@ -127,7 +121,6 @@ impl<T: Table> Live<T> {
         match self.heap.ready_undo(txn)? {
             Some(ready) => changes::undo(
                 &mut self.ready,
-                &mut self.guards,
                 &mut self.heap,
                 self.alloc,
                 &mut self.sides,
@@ -146,7 +139,7 @@ impl<T: Table> Live<T> {
     {
         self.heap.laws();
         let number = self.heap.commit(txn)?;
-        tell_commit(&mut self.guards, txn);
+        self.ready.commit(txn);
         Ok(number)
     }
 }

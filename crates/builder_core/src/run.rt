@@ -32,6 +32,7 @@ pub fn run_events<S: Spool, T: Table>(
         Err(_) => {
             let mut spools = spools;
             end_spools(&mut spools);
+            let _follow = live.ready();
             return (live, ends, spools, Err(Fault::Memory));
         }
     };

@@ -97,6 +97,14 @@ impl Log {
         self.records.len()
     }
 
+    /// The number that the next record will have.
+    pub fn next_number(&self) -> usize
+        ensures { result ≡ length self.now.records + 1 }
+    {
+        let records = &self.records;
+        records.len() + 1
+    }
+
     /// The record of that number, from 1.
     pub fn rec(&self, number: usize) -> &LogRec
         requires low { 1 ≤ number }

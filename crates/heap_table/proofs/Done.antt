@@ -1,9 +1,10 @@
 -- What a table keeps once a ready change is done.
-use Rattle.std.proofs.Common.{◌≡◌, ℕ, List, Some, None, refl, subst}
+use Rattle.std.proofs.Common.{◌≡◌, ◌++◌, ◌∷◌, [], ℕ, List, Option, Some, None, refl, sym, ap, subst}
 use Rattle.std.specs.Prelude.{◌&&◌, ◌==◌}
 use Rattle.std.specs.Option.{option_map}
 use Rattle.keybytes.specs.Rows.{row_bytes}
 use Rattle.keybytes.specs.declared.rid.Rid.{Rid}
+use Rattle.heap_log.specs.Growing.{UndoesNameEarlier}
 use Rattle.heap_log.specs.declared.record.LogRec.{LogRec}
 use Rattle.heap_log.specs.declared.record.LogRec.TheVariants.{Write, Undo}
 use Rattle.heap_log.specs.Standing.{record_at, rid_of, row_at, standing_before, standing_count}
@@ -16,8 +17,10 @@ use Rattle.heap_table.specs.Holders.{wrote, holder}
 use Rattle.heap_table.specs.Kept.{IsKept}
 use Rattle.heap_table.specs.PageLists.{PagesValue, slot_in, with_slot_in, pages_by, changed, settled_if}
 use Rattle.heap_table.specs.Pages.{SetsRow, slot_under, slots_written, pages_written}
-use Rattle.heap_table.specs.Ready.{IsReady, HaveWritten}
-use Rattle.heap_log.proofs.Growing.{Grows}
+use Rattle.heap_table.specs.Ready.{IsReady, HaveWritten, after_change, after_ready}
+use Rattle.heap_log.proofs.Growing.{Grows, grows, names_more}
+use Rattle.heap_log.proofs.Numbers.{newest_standing-write}
+use Rattle.heap_table.proofs.LogRows.{write_sets}
 use Rattle.heap_table.proofs.KeptChanges.{kept_write, kept_undo, undo_sets, undo_inside}
 use Rattle.heap_table.proofs.Performing.{can_change, lawful_as, undid_from, undone_row}
 use Rattle.heap_table.proofs.Sounds.{sound_write}
@@ -87,3 +90,29 @@ pub undone_sets :
 undone_sets h p ready n new is_ready kept undone added =
     subst (λ (r : Rid). SetsRow h.state.log r (row_at h.state.log (standing_before h.state.log n)) new) (lawful_as h ready (Some n) is_ready undone).2
     (undo_sets h.state (logged_undo h.state ready new) ready.txn n ready.rid (logged_undid h p ready n new is_ready kept undone added))
+
+-- a ready change puts its row at its RID, and nothing else changes
+pub change_sets :
+    (h : HeapValue) (p : PagesValue) (ready : Ready) → IsReady h ready → IsKept h.state p → UndoesNameEarlier h.state.log
+    → SetsRow h.state.log ready.rid ready.new (after_ready h.state ready).log
+change_sets h p ready is kept names = by_undone ready.undone refl where
+  log : List LogRec
+  log = h.state.log
+
+  leaves : (o : Option ℕ) → ready.undone ≡ o → (after_ready h.state ready).log ≡ (after_change h.state ready.txn ready.rid o ready.new).log
+  leaves o same = ap (λ u. (after_change h.state ready.txn ready.rid u ready.new).log) same
+
+  by_undone : (o : Option ℕ) → ready.undone ≡ o → SetsRow log ready.rid ready.new (after_ready h.state ready).log
+  by_undone None none =
+      let rec : LogRec = Write ready.txn ready.rid ready.new in
+      subst (SetsRow log ready.rid ready.new) (sym (leaves None none))
+      (write_sets log (log ++ rec ∷ []) ready.txn ready.rid ready.new (grows _ _ _ (record { records = refl; earlier = names_more log rec names tt })))
+  by_undone (Some n) some =
+      let lawful = lawful_as h ready (Some n) is some in
+      let write = newest_standing-write log ready.txn n lawful.1 in
+      let rec : LogRec = Undo ready.txn n in
+      let added : Grows log rec (log ++ rec ∷ []) = grows _ _ _ (record { records = refl; earlier = names_more log rec names (write.low, write.high) }) in
+      subst (SetsRow log ready.rid ready.new) (sym (leaves (Some n) some))
+      (subst (λ row. SetsRow log ready.rid row (log ++ rec ∷ [])) (sym lawful.3)
+      (subst (λ rid. SetsRow log rid (row_at log (standing_before log n)) (log ++ rec ∷ [])) (sym lawful.2)
+      (undone_sets h p ready n (log ++ rec ∷ []) is kept some added)))

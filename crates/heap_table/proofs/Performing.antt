@@ -4,6 +4,7 @@ use Rattle.std.specs.Prelude.{IsSome, if◌then◌else◌}
 use Rattle.std.specs.Option.{option_map}
 use Rattle.std.proofs.lemmas.Bool.{cases_Bool}
 use Rattle.std.proofs.lemmas.Option.{same_Some}
+use Rattle.keybytes.proofs.FirstCause.{both_none}
 use Rattle.keybytes.specs.Cells.{fits}
 use Rattle.keybytes.specs.Faults.{first_cause}
 use Rattle.keybytes.specs.Rows.{IsRow, row_bytes, shape_refusal}
@@ -37,11 +38,6 @@ use Rattle.heap_table.proofs.Slots.{at_its_rid, reserve_slot}
 use Rattle.heap_table.proofs.Sounds.{sound_undo}
 use Rattle.heap_table.proofs.Undoing.{Undid}
 use Rattle.heap_table.proofs.Writers.{wrote_from}
-
--- what no cause refuses
-both_none : (a b : Option Fault) → first_cause a b ≡ None → (a ≡ None) × (b ≡ None)
-both_none None b e = (refl, e)
-both_none (Some fault) b e = absurd (cc)
 
 -- a row that stands is in its slot
 pub row_there : (log : List LogRec) (rid : Rid) (cells : List Cell) → live_at log rid ≡ Some cells → HasRow (slot_of log rid)

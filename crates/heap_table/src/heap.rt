@@ -1,12 +1,12 @@
 //! The table: what it is made of, and what tells of it. Its other calls stand in the modules below it, by subject.
-ghost use Rattle.std.specs.Prelude.{◌≡◌, ◌≤◌, length, Some, None, IfOk, IfErr, OnOk};
+ghost use Rattle.std.specs.Prelude.{◌≡◌, ◌≤◌, ◌+◌, length, Some, None, IfOk, IfErr, OnOk};
 ghost use Rattle.heap_log.specs.Growing.{UndoesNameEarlier};
 ghost use Rattle.heap_table.specs.HeapState.{limits_refusal, empty_heap, busy_txns};
 ghost use Rattle.heap_table.specs.Limits.{pages_most};
-ghost use Rattle.heap_table.specs.Pages.{pages_written};
+ghost use Rattle.heap_table.specs.Pages.{SetsRow, pages_written};
 ghost use Rattle.heap_table.specs.Kept.{RowsFit};
 ghost use Rattle.heap_table.specs.declared.ready.Ready.{Ready};
-ghost use Rattle.heap_table.specs.Ready.{IsReady, IsLawfulChange};
+ghost use Rattle.heap_table.specs.Ready.{IsReady, IsLawfulChange, after_ready};
 ghost use Rattle.heap_table.specs.Sound.{HoldsFollowLog, UndoFits};
 
 mod places;
@@ -102,6 +102,8 @@ impl Heap {
         ensures fits { UndoFits self.now.state.log }
         ensures undos { UndoesNameEarlier self.now.state.log }
         ensures ready { (ready : Ready) → IsReady self.now ready → IsLawfulChange self.now.state ready }
+        ensures sets { (ready : Ready) → IsReady self.now ready
+            → SetsRow self.now.state.log ready.rid ready.new (after_ready self.now.state ready).log }
     {
         self.log.laws();
     }
@@ -131,6 +133,13 @@ impl Heap {
         ensures { result ≡ length self.now.state.log }
     {
         self.log.len()
+    }
+
+    /// The number that the next record of the log will have.
+    pub fn next_number(&self) -> usize
+        ensures { result ≡ length self.now.state.log + 1 }
+    {
+        self.log.next_number()
     }
 
     /// How many open transactions have a write that stands.

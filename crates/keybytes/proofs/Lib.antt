@@ -1,4 +1,5 @@
 pub mod ColumnOrder
+pub mod FirstCause
 pub mod Heads
 pub mod KeyExamples
 pub mod KeyLaws

@@ -95,6 +95,10 @@ contains-set_of ps q = ap is_some (get-from_entries pairs_total (marked ps) q) �
 pub in_set : (q : Pair) (ps : List Pair) → is_in q (keys (set_of ps)) ≡ is_in q ps
 in_set q ps = sym (contains_key-keys (set_of ps) q) ∙ contains-set_of ps q
 
+-- a set has the members of its list
+pub set_of-keys : (s : FinSet pair_cmp) → set_of (keys s) ≡ s
+set_of-keys s = same_members (set_of (keys s)) s (λ q. contains-set_of (keys s) q ∙ sym (contains_key-keys s q))
+
 -- two lists with the same members make the same set
 pub same_sets : (ps qs : List Pair) → ((q : Pair) → is_in q ps ≡ is_in q qs) → set_of ps ≡ set_of qs
 same_sets ps qs same = same_members (set_of ps) (set_of qs) (λ q. contains-set_of ps q ∙ same q ∙ sym (contains-set_of qs q))

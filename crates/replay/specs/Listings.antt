@@ -11,7 +11,8 @@ use Rattle.keybytes.specs.declared.rid.Rid.{Rid}
 use Rattle.heap_log.specs.declared.outcome.Outcome.{Outcome}
 use Rattle.heap_log.specs.declared.outcome.Outcome.TheVariants.{Ready, Shared}
 use Rattle.replay.specs.declared.shared_line.SharedLine.{SharedLine}
-use Rattle.builder_core.specs.CoreState.{CoreState, ReadyValue, with_heap}
+use Rattle.builder_core.specs.CoreState.{CoreState, with_heap}
+use Rattle.ready_indexes.specs.Indexes.{ReadyValue}
 use Rattle.heap_table.specs.TablePairs.{pairs_at_rest}
 use Rattle.keybytes.specs.declared.pair.Pair.{Pair}
 use Rattle.replay.specs.declared.answer.Answer.{Answer}

@@ -12,7 +12,7 @@ use Rattle.tree_nodes.proofs.Places.{one_way}
 use Rattle.tree_nodes.proofs.Rising.{in_right, in_either, rising_parts}
 use Rattle.unique_verdict.specs.Shared.{shared_pairs}
 use Rattle.unique_verdict.specs.Counting.{counted}
-use Rattle.unique_verdict.proofs.OneKey.{key_same, has_same, between_key}
+use Rattle.btree.proofs.OneKey.{key_same, has_same, between_key}
 use Rattle.unique_verdict.proofs.Members.{lt_not_one}
 use Rattle.unique_verdict.proofs.SharedChanges.{put_alone, put_shared}
 

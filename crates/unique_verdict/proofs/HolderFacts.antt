@@ -14,7 +14,7 @@ use Rattle.unique_verdict.specs.declared.key_holders.KeyHolders.{KeyHolders}
 use Rattle.unique_verdict.specs.declared.key_holders.KeyHolders.TheVariants.{None, One, Two, More}
 use Rattle.unique_verdict.specs.Shared.{shared_pairs}
 use Rattle.unique_verdict.proofs.Members.{one_or_two, not_one, lt_not_one, without_keeps}
-use Rattle.unique_verdict.proofs.OneKey.{key_same, has_same}
+use Rattle.btree.proofs.OneKey.{key_same, has_same}
 use Rattle.unique_verdict.proofs.Others.{Other, NoOnly}
 use Rattle.unique_verdict.proofs.SharedFacts.{in_filter, filter_in, rising_filter, shared_rises, shared_there, shared_other, in_shared}
 

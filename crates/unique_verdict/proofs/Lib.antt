@@ -1,7 +1,6 @@
 pub mod CountingFacts
 pub mod HolderFacts
 pub mod Members
-pub mod OneKey
 pub mod Others
 pub mod Ranges
 pub mod SharedChanges

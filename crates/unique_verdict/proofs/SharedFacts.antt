@@ -8,7 +8,7 @@ use Rattle.tree_nodes.specs.Order.{is_before}
 use Rattle.tree_nodes.proofs.Strict.{before-strict}
 use Rattle.unique_verdict.proofs.Others.{Other}
 use Rattle.unique_verdict.specs.Shared.{clash, is_shared, shared_pairs}
-use Rattle.unique_verdict.proofs.OneKey.{key_same, has_same}
+use Rattle.btree.proofs.OneKey.{key_same, has_same}
 use Rattle.unique_verdict.proofs.Members.{one_or_two, not_one}
 
 and_left : (a b : Bool) → (a && b) ≡ true → a ≡ true

@@ -12,7 +12,7 @@ use Rattle.unique_verdict.specs.Shared.{shared_pairs}
 use Rattle.unique_verdict.specs.Verdicts.{IsUnique, IsLeast, IsVerdict, first_shared}
 use Rattle.unique_verdict.proofs.Members.{one_or_two, not_one, lt_not_one}
 use Rattle.unique_verdict.proofs.SharedFacts.{shared_rises, shared_there, shared_other, in_shared}
-use Rattle.unique_verdict.proofs.OneKey.{between_key}
+use Rattle.btree.proofs.OneKey.{between_key}
 
 pub unique_none : (ps now : List Pair) → now ≡ [] → now ≡ shared_pairs ps → IsUnique ps
 unique_none ps now e f = record {

@@ -1,7 +1,7 @@
 use Rattle.std.proofs.Common.{◌≡◌, rules, ◌∙◌, sym, subst}
 use Rattle.std.proofs.lemmas.Option.{same_Some}
 use Rattle.visibility.specs.SideEntries.{entries_of_change}
-use Rattle.builder_core.specs.Changing.{FitsColumns}
+use Rattle.ready_indexes.specs.Following.{FitsColumns}
 use Rattle.builder_core.specs.SideFiles.{noted}
 use Rattle.builder_core.proofs.Places.{all_at}
 use Rattle.builder_core.proofs.changes.change_of.Goals as goal

@@ -6,9 +6,22 @@ use Rattle.builder_core.specs.Builds.{BuildFollows, IsWorkOf}
 use Rattle.builder_core.specs.Rings.{PagesFollow}
 use Rattle.builder_core.specs.SideFiles.{SidesFollow}
 use Rattle.builder_core.proofs.Places.{as_long}
-use Rattle.builder_core.proofs.Performed.{follows_on, sides_follow_on, fits_build, few_specs, pages_on, works_on}
+use Rattle.builder_core.proofs.Performed.{follows_on, sides_follow_on, fits_build, fits_each, few_specs, pages_on, works_on}
 use Rattle.builder_core.proofs.SideKept.{sides_stay}
 use Rattle.builder_core.proofs.changes.perform.Goals as goal
+
+pub prepare-requires : goal.prepare-requires
+prepare-requires c =
+    record { fits = fits_each c.args.heap.now.state c.args.ready (c.laws.ensures.ready c.args.ready c.requires.ready) c.args.indexes.now.indexes c.requires.indexes }
+
+pub returns-in_err-prepare-clause-indexes : goal.returns-in_err-prepare-clause-indexes
+returns-in_err-prepare-clause-indexes c = c.prepare.ensures.follow _ _ c.requires.indexes
+
+pub returns-in_err-note-clause-indexes : goal.returns-in_err-note-clause-indexes
+returns-in_err-note-clause-indexes c = c.prepare.ensures.follow _ _ c.requires.indexes
+
+pub perform-requires-clause-follow : goal.perform-requires-clause-follow
+perform-requires-clause-follow c = c.prepare.ensures.follow _ _ c.requires.indexes
 
 pub note-requires-clause-fits : goal.note-requires-clause-fits
 note-requires-clause-fits c =

@@ -2,9 +2,8 @@ use Rattle.std.proofs.Common.{◌≡◌, ℕ, None, List, sym, subst}
 use Rattle.keybytes.specs.declared.cell.Cell.{Cell}
 use Rattle.keybytes.specs.declared.rid.Rid.{Rid}
 use Rattle.heap_table.specs.Calls.{Inserts}
-use Rattle.builder_core.specs.KeyCauses.{row_refusal}
 use Rattle.builder_core.specs.CoreState.{CoreState}
-use Rattle.builder_core.specs.Steps.{OnRows}
+use Rattle.builder_core.specs.Steps.{row_refusal, OnRows}
 use Rattle.builder_core.specs.declared.reply.Reply.TheVariants.{Written}
 use Rattle.builder_core.proofs.Told.{tells_on_live}
 use Rattle.builder_core.proofs.core_steps.Core.insert_lent.Goals as goal

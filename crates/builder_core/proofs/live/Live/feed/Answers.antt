@@ -16,6 +16,7 @@ use Rattle.builder_core.specs.Workers.{unfed}
 use Rattle.builder_core.proofs.Feeding.{left_unfed, fed_countable, follow_fed, build_fed, work_fed, sides_fed}
 use Rattle.builder_core.proofs.Places.{at_index, map_at, there_is}
 use Rattle.builder_core.proofs.SideEnds.{put_ends_stay, eight_sides}
+use Rattle.ready_indexes.specs.Following.{indexes_of}
 use Rattle.builder_core.proofs.live.Live.feed.Goals as goal
 
 pub note_fed-requires-clause-countable : goal.note_fed-requires-clause-countable
@@ -76,7 +77,6 @@ invariant_of-self g c =
           (record { number = put.number; put = put.put }),
       c.self.invariant.4,
       put_ends_stay _ _ _ sides c.args.index old new c.self.invariant.5 c.index_mut-side.ensures.value fed.fed.ring,
-      c.self.invariant.6,
     )
 
 pub returns-clause-fed : goal.returns-clause-fed
@@ -110,7 +110,7 @@ returns-clause-fed g c =
     let all : Fed (min c.args.most (min 256 (unfed b heap.log c.args.index (slice_get b.specs c.args.index)))) =
     subst Fed (sym most_is) (fed.most, fed.exact, λ small. fed.first (omega (arith, small, c.laws.ensures.capacity, fed.fed.capacity)), fed.stops) in
     let after : LiveValue = record {
-      state = record { heap = heap; ready = inside.ready.items; builds = inside.builds; build = Some c.note_fed.new.self };
+      state = record { heap = heap; ready = indexes_of inside.ready.indexes; builds = inside.builds; build = Some c.note_fed.new.self };
       pages = inside.pages.items;
       sides = put_ends (set sides c.args.index new);
     } in
@@ -125,7 +125,7 @@ returns-clause-fed g c =
       after = new.end;
       stops = all.3;
       others = map-set (λ (s : SideFileValue). s.end) sides c.args.index new;
-      left = ap (λ (x : BuildState). record { heap = heap; ready = inside.ready.items; builds = inside.builds; build = Some x }) c.note_fed.ensures;
+      left = ap (λ (x : BuildState). record { heap = heap; ready = indexes_of inside.ready.indexes; builds = inside.builds; build = Some x }) c.note_fed.ensures;
       pages = refl;
     })
 

@@ -2,17 +2,18 @@ use Rattle.std.proofs.Common.{◌≡◌, ◌∙◌, ℕ, List, None, Some, ap, s
 use Rattle.keybytes.specs.Faults.{RefusedFor}
 use Rattle.heap_table.specs.HeapState.{HeapState, insert_refusal}
 use Rattle.builder_core.specs.Builds.{LiveValue}
-use Rattle.builder_core.specs.KeyCauses.{keys_refusal}
-use Rattle.builder_core.proofs.ApplyCauses.{first_none}
-use Rattle.builder_core.proofs.EachGuarded.{let_in_by}
+use Rattle.ready_indexes.specs.KeyCauses.{keys_refusal}
+use Rattle.keybytes.proofs.FirstCause.{both_none}
+use Rattle.ready_indexes.proofs.Each.{let_in_by}
+use Rattle.ready_indexes.specs.Following.{indexes_of}
 use Rattle.builder_core.proofs.live.Live.insert_free.Goals as goal
 
 pub write-requires-clause-keys : goal.write-requires-clause-keys
 write-requires-clause-keys g c =
     let ready = c.in_ok-ready.ready in
     let log = c.ready_insert.new.self.state.log in
-    let items = c.self.inside.ready.items in
-    let free = (first_none (insert_refusal c.args.self.now.state.heap c.args.txn c.args.row) _ c.requires).1 in
+    let items = indexes_of c.self.inside.ready.indexes in
+    let free = (both_none (insert_refusal c.args.self.now.state.heap c.args.txn c.args.row) _ c.requires).1 in
     let inside = subst (λ (l : LiveValue). keys_refusal 0 l.state.ready l.state.heap.log c.args.txn None (Some c.args.row) ≡ None) (sym c.self.view_is) free in
     let here = subst (λ (h : HeapState). keys_refusal 0 items h.log c.args.txn None (Some c.args.row) ≡ None) (sym c.in_ok-ready.ensures.same) inside in
     let_in_by log items ready c.args.txn None (Some c.args.row) c.in_ok-ready.ensures.writes.by c.in_ok-ready.ensures.empty c.in_ok-ready.ensures.writes.new here

@@ -7,8 +7,10 @@ use Rattle.builder_core.specs.Builds.{LiveValue}
 use Rattle.builder_core.specs.Invariant.{BuildIsSound, EachPageOnce}
 use Rattle.builder_core.specs.Rings.{all_sent}
 use Rattle.builder_core.proofs.Sound.{runs_sound, runs_once}
-use Rattle.builder_core.specs.KeyCauses.{KeysAreGuarded, AreGuarded}
+use Rattle.ready_indexes.specs.KeyCauses.{KeysAreGuarded}
 use Rattle.heap_table.specs.Sound.{HoldsFollowLog}
+use Rattle.ready_indexes.proofs.Each.{table_follows}
+use Rattle.builder_core.specs.CoreState.{ReadyFollowTable}
 use Rattle.builder_core.proofs.live.Live.laws.Goals as goal
 
 pub returns-clause-build : goal.returns-clause-build
@@ -28,8 +30,13 @@ returns-clause-pages g c =
 pub returns-clause-keys : goal.returns-clause-keys
 returns-clause-keys g c =
     subst (λ (l : LiveValue). KeysAreGuarded l.state.heap.log l.state.ready) c.self.view_is
-    (c.guards_laws.ensures.keys c.self.inside.heap.state c.self.inside.ready.items c.laws.ensures.holds
-    (subst (λ gs. AreGuarded c.self.inside.heap.state.log c.self.inside.ready.items gs) (sym c.as_slice.ensures.value) c.self.invariant.6))
+    (c.laws-2.ensures.keys c.self.inside.heap.state c.laws.ensures.holds c.self.invariant.0)
 
 pub returns-clause-holds : goal.returns-clause-holds
 returns-clause-holds g c = subst (λ (l : LiveValue). HoldsFollowLog l.state.heap) c.self.view_is c.laws.ensures.holds
+
+pub returns-clause-ready : goal.returns-clause-ready
+returns-clause-ready g c =
+    let inside = c.self.inside in
+    subst (λ (l : LiveValue). ReadyFollowTable l.state) c.self.view_is
+    (table_follows inside.heap.state.schema inside.heap.state.log inside.ready.indexes c.self.invariant.0)

@@ -11,6 +11,7 @@ use Rattle.builder_core.specs.SideFiles.{AreFedEntries, HasLookedAtSide, SeesSid
 use Rattle.builder_core.proofs.Feeding.{fed_if_running}
 use Rattle.builder_core.proofs.Places.{at_index, here_set, map_at}
 use Rattle.builder_core.proofs.SideEnds.{sides_looked, put_ends_stay, take_ends_stay, eight_sides, eight_ends, paired, side_is_looked, sees_side}
+use Rattle.ready_indexes.specs.Following.{indexes_of}
 use Rattle.builder_core.proofs.live.Live.look_at_side.Goals as goal
 
 pub beside-waiting-requires : goal.beside-waiting-requires
@@ -35,7 +36,6 @@ invariant_of-self g c =
       c.self.invariant.3,
       c.self.invariant.4,
       put_ends_stay _ _ _ sides c.args.index c.index_mut-side.result.now c.beside-waiting.new.self c.self.invariant.5 c.index_mut-side.ensures.value looks.ring,
-      c.self.invariant.6,
     )
 
 pub invariant_of-building : goal.invariant_of-building
@@ -61,7 +61,7 @@ returns-clause-looked g c =
     let live : LiveValue = record {
       state = record {
         heap = c.self.inside.heap.state;
-        ready = c.self.inside.ready.items;
+        ready = indexes_of c.self.inside.ready.indexes;
         builds = c.self.inside.builds;
         build = c.self.inside.build;
       };

@@ -8,17 +8,17 @@ use Rattle.heap_table.specs.Pages.{pages_written}
 use Rattle.side_file.specs.Ends.{PutEnd}
 use Rattle.building.specs.declared.copied.Copied.{Copied}
 use Rattle.builder_core.specs.Builds.{LiveValue, BuildFollows, IsBuildOf, IsWorkOf, WorkersFollow, WorksOn, full_refusal, put_refusal}
-use Rattle.builder_core.specs.CoreState.{AreIndexesOf, BuildState, LiveState}
+use Rattle.builder_core.specs.CoreState.{BuildState, LiveState}
 use Rattle.builder_core.specs.Rings.{all_sent, AreOfBuilds, HasPut, PagesFollow}
 use Rattle.builder_core.specs.Ranges.{next_page}
 use Rattle.builder_core.specs.SideFiles.{HaveEntries, SidesFollow, put_ends}
-use Rattle.builder_core.specs.KeyCauses.{AreGuarded}
 use Rattle.builder_core.specs.BuildSteps.{OnBuild}
 use Rattle.builder_core.proofs.Places.{here_set, map_at}
 use Rattle.builder_core.proofs.SideKept.{sides_next}
 use Rattle.builder_core.proofs.TableBuilds.{scanned_next, work_of_next}
 use Rattle.builder_core.proofs.OneRing.{put_ends_set, sent_looked, sent_put, workers_looked, workers_put, builds_put, put_next, written_twice, full_at}
 use Rattle.builder_core.proofs.OneRing.{put_full, next_below, worker_below}
+use Rattle.ready_indexes.specs.Following.{AllFollow}
 use Rattle.builder_core.proofs.live.Live.scan_step.Goals as goal
 
 pub invariant_of-self : goal.invariant_of-self
@@ -35,7 +35,6 @@ invariant_of-self g c =
       subst (AreOfBuilds inside.builds) (sym same) c.self.invariant.4,
       put_ends_set g.T.Table.pages g.T.Table.sides inside.pages.items (put_ends inside.sides.items) c.args.worker new old c.self.invariant.5 c.index_mut.ensures.value
           c.has_room.ensures.looked.ring,
-      c.self.invariant.6,
     )
 
 pub returns-then-not-has_room-clause-works : goal.returns-then-not-has_room-clause-works
@@ -129,7 +128,7 @@ invariant_of-self-2 g c =
     let ring : new.ring ≡ at.ring = c.put.ensures.ring in
     let copied_build : BuildState =
     record b { scans = b.scans ++ record { worker = c.args.worker; page = c.in-Ok.page; records = c.records-records.result } ∷ [] } in (
-      subst (λ (h : HeapState). AreIndexesOf h.schema h.log inside.ready.items) (sym c.copy_page.ensures.visited) c.self.invariant.0,
+      subst (λ (h : HeapState). AllFollow h.schema h.log inside.ready.indexes) (sym c.copy_page.ensures.visited) c.self.invariant.0,
       subst (λ (h : HeapState). IsBuildOf h.schema h.log c.note.new.self) (sym c.copy_page.ensures.visited) (subst (IsBuildOf heap.schema heap.log) (sym c.note.ensures.noted) more),
       subst (λ (h : HeapState). HaveEntries h.log c.note.new.self inside.sides.items) (sym c.copy_page.ensures.visited)
           (subst (λ x. HaveEntries heap.log x inside.sides.items) (sym c.note.ensures.noted)
@@ -144,7 +143,6 @@ invariant_of-self-2 g c =
       put_ends_set g.T.Table.pages g.T.Table.sides (set pages c.args.worker looked) (put_ends inside.sides.items) c.args.worker new at
           (put_ends_set g.T.Table.pages g.T.Table.sides pages (put_ends inside.sides.items) c.args.worker looked old c.self.invariant.5 c.index_mut.ensures.value c.has_room.ensures.looked.ring)
           c.index_mut-2.ensures.value ring,
-      subst (λ (h : HeapState). AreGuarded h.log inside.ready.items inside.guards.items) (sym c.copy_page.ensures.visited) c.self.invariant.6,
     )
 
 pub returns-clause-works : goal.returns-clause-works

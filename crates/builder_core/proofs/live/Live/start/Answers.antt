@@ -68,7 +68,6 @@ invariant_of-self g c =
       builds_more inside.builds (all_sent c.restart_all.new.pages.items) before,
       put_ends_started g.T.Table.pages g.T.Table.sides inside.pages.items c.restart_all.new.pages.items (put_ends inside.sides.items)
           (put_ends c.empty_all.new.sides.items) c.self.invariant.5 c.restart_all.ensures.rings c.empty_all.ensures.rings,
-      c.self.invariant.6,
     )
 
 pub invariant_of-building : goal.invariant_of-building

@@ -5,21 +5,21 @@ use Rattle.std.proofs.lemmas.List.Elements.{All-filter}
 use Rattle.std.proofs.lemmas.Option.{same_Some}
 use Rattle.keybytes.specs.Keys.{KeySpecValue}
 use Rattle.heap_log.specs.declared.outcome.Outcome.{Outcome}
-use Rattle.heap_log.specs.declared.record.LogRec.{LogRec}
+use Rattle.heap_log.specs.declared.record.LogRec.TheVariants.{Switch}
 use Rattle.heap_table.specs.HeapState.{HeapState, after_switch, after_fence}
 use Rattle.heap_table.specs.Pages.{KeepsRows}
-use Rattle.key_guards.specs.Guarded.{GuardsValue}
 use Rattle.unique_verdict.specs.Verdicts.{accepts}
 use Rattle.heap_table.specs.Kept.{RowsFit}
+use Rattle.heap_table.specs.Sound.{HoldsFollowLog}
 use Rattle.building.specs.TakeEnd.{take_end}
 use Rattle.builder_core.specs.Builds.{LiveValue, BuildingValue, WorkValue, IndexValue, IsRunning, core_state, work_state}
-use Rattle.builder_core.specs.CatchingUp.{IsDoneIndex, MayBeGuarded, its_verdict, ready_of}
-use Rattle.builder_core.specs.CoreState.{AreIndexesOf, BuildState, ReadyValue, CoreState}
+use Rattle.builder_core.specs.CatchingUp.{IsDoneIndex, its_verdict, ready_of}
+use Rattle.ready_indexes.specs.Following.{AllFollow, GoesOn, MayFollow, indexes_of}
+use Rattle.builder_core.specs.CoreState.{BuildState, CoreState}
+use Rattle.ready_indexes.specs.Indexes.{ReadyValue, index_now}
 use Rattle.builder_core.specs.Holding.{spool_value, spools_state}
-use Rattle.builder_core.specs.BuildSteps.{Switches, index_now, verdicts_on}
-use Rattle.builder_core.specs.KeyCauses.{AreGuarded}
+use Rattle.builder_core.specs.BuildSteps.{Switches, verdicts_on}
 use Rattle.builder_core.specs.Verdicts.{accepted, outcomes, verdict_on}
-use Rattle.builder_core.proofs.Following.{indexes_more}
 use Rattle.builder_core.proofs.OneWorker.{ended_stakes}
 use Rattle.builder_core.proofs.Refusals.{running_inside}
 use Rattle.builder_core.proofs.SwitchIn.{all_done, all_may, all_ready, all_verdicts, switches, switched_from}
@@ -60,39 +60,24 @@ invariant_of-self-2 g c =
     (may_catch_up c.args.self.now c.args.building.now c.requires c.in_ok-check_switch.ensures) in
     let free = no_busy_cause (core_state c.args.self.now c.args.building.now) (core_state live building) c.in_ok-check_switch.ensures c.catch_up.ensures.further in
     let log = heap.log in
-    let is : ready_of c.into_specs-specs.result.items c.into_indexes-indexes.result.items ≡ map (index_now log) (accepted log b.specs) =
-    sym (ap₂ ready_of c.into_specs-specs.ensures c.into_indexes-indexes.ensures)
-    ∙ all_ready live building b w run may c.in_ok-catch_up.ensures.all
-    ∙ ap (λ (l : LiveValue). map (index_now l.state.heap.log) (accepted l.state.heap.log b.specs)) (sym c.self.view_is) in
-    let items = c.make_ready.ensures.ready ∙ ap₂ (λ (xs ys : List ReadyValue). xs ++ ys) c.in_ok-noted.ensures.ready is in
     let left : HeapState = c.set_fence.new.self.state in
     let left_is = c.set_fence.ensures.state ∙ ap (after_fence false) c.in_ok-noted.ensures.noted in
-    let same = ap (λ (h : HeapState). h.schema) left_is in
     let rows : KeepsRows log left.log = subst (λ (h : HeapState). KeepsRows log h.log) (sym c.set_fence.ensures.state) c.in_ok-noted.ensures.rows in
-    let columns : All (λ spec. spec.kinds ≡ heap.schema) b.specs =
-    subst (λ (l : LiveValue). All (λ spec. spec.kinds ≡ l.state.heap.schema) b.specs) (sym c.self.view_is) run.follows.columns in
-    let kinds = All-filter (λ spec. accepts (verdict_on log spec)) (λ spec. spec.kinds ≡ heap.schema) b.specs columns in
-    let free_for : All (λ index. MayBeGuarded heap index.spec) (ready_of c.into_specs-specs.result.items c.into_indexes-indexes.result.items) =
-    subst (λ (ready : List ReadyValue). All (λ index. MayBeGuarded heap index.spec) ready) (ap₂ ready_of c.into_specs-specs.ensures c.into_indexes-indexes.ensures)
-    (subst (λ (l : LiveValue). All (λ index. MayBeGuarded l.state.heap index.spec) (ready_of b.specs w.indexes)) (sym c.self.view_is)
-    (all_may live building b w run may c.in_ok-catch_up.ensures.all free)) in
-    let before = subst (λ (ready : List ReadyValue). AreGuarded log ready c.note_ready.new.guards.items) (sym c.in_ok-noted.ensures.ready)
-    (subst (λ (guards : List GuardsValue). AreGuarded log c.self.inside.ready.items guards) (sym c.in_ok-noted.ensures.guards) c.self.invariant.6) in
-    let guarded : AreGuarded log c.make_ready.new.ready.items c.make_ready.new.guards.items =
-    c.make_ready.ensures.guards heap c.laws.ensures.holds free_for before in
-    let ready : List ReadyValue = c.make_ready.new.ready.items in
-    let verdicts : List Outcome = outcomes (length c.self.inside.ready.items) (map its_verdict c.indexes.result.now) in
-    let noted = c.guards_laws.ensures.switched log ready verdicts c.laws.ensures.undos
-    (subst (λ (guards : List GuardsValue). AreGuarded log ready guards) (sym c.deref.ensures.value) guarded) in (
-      subst (AreIndexesOf left.schema left.log) (sym items)
-          (indexes_more heap.schema left.schema log left.log c.self.inside.ready.items (accepted log b.specs) same rows c.self.invariant.0 kinds),
+    let may_follow : All (λ it. MayFollow heap it.spec it.pairs) (ready_of c.into_specs-specs.result.items c.into_indexes-indexes.result.items) =
+    subst (λ (ready : List ReadyValue). All (λ it. MayFollow heap it.spec it.pairs) ready) (ap₂ ready_of c.into_specs-specs.ensures c.into_indexes-indexes.ensures)
+    (subst (λ (l : LiveValue). All (λ it. MayFollow l.state.heap it.spec it.pairs) (ready_of b.specs w.indexes)) (sym c.self.view_is)
+    (all_may live building b w run may c.in_ok-catch_up.ensures.all (subst (λ (l : LiveValue). HoldsFollowLog l.state.heap) c.self.view_is c.laws.ensures.holds) free)) in
+    let before = subst (λ indexes. AllFollow heap.schema log indexes) (sym c.in_ok-noted.ensures.ready) c.self.invariant.0 in
+    let after = c.make_ready.ensures.follow heap may_follow before in
+    let verdicts : List Outcome = outcomes (length (indexes_of c.self.inside.ready.indexes)) (map its_verdict c.indexes.result.now) in
+    let goes : GoesOn log (Switch verdicts) left.log = record { log = ap (λ (h : HeapState). h.log) left_is; rows = rows; undos = c.laws.ensures.undos } in (
+      subst (λ kinds. AllFollow kinds left.log c.make_ready.new.ready.indexes) (sym (ap (λ (h : HeapState). h.schema) left_is))
+          (c.laws-2.ensures.switched heap.schema log left.log verdicts goes after),
       rw c.take.ensures.after tt,
       rw c.take.ensures.after tt,
       rw c.take.ensures.after tt,
       c.self.invariant.4,
       c.self.invariant.5,
-      subst (λ (guards : List GuardsValue). AreGuarded left.log ready guards) c.deref.ensures.value
-          (subst (λ (l : List LogRec). AreGuarded l ready c.deref.result.now) (sym (ap (λ (h : HeapState). h.log) left_is)) noted),
     )
 
 pub returns-clause-switched : goal.returns-clause-switched
@@ -110,7 +95,7 @@ returns-clause-switched g c =
     let worked : c.in-Some.work.now ≡ w =
     same_Some c.in-Some.work.now w (sym c.in-Some.ensures ∙ run.work_is) in
     let indexes : c.indexes.result.now ≡ w.indexes = c.indexes.ensures ∙ ap (λ (x : WorkValue). x.indexes) worked in
-    let verdicts_are : outcomes (length c.self.inside.ready.items) (map its_verdict c.indexes.result.now) ≡ verdicts_on live.state b =
+    let verdicts_are : outcomes (length (indexes_of c.self.inside.ready.indexes)) (map its_verdict c.indexes.result.now) ≡ verdicts_on live.state b =
     ap₂ (λ (n : ℕ) (is : List IndexValue). outcomes n (map its_verdict is)) (ap (λ (l : LiveValue). length l.state.ready) c.self.view_is) indexes
     ∙ all_verdicts live building b w run may c.in_ok-catch_up.ensures.all in
     let number = c.in_ok-noted.ensures.number ∙ ap (λ (l : LiveValue). length l.state.heap.log + 1) c.self.view_is in
@@ -119,7 +104,7 @@ returns-clause-switched g c =
     ∙ ap (after_fence false) (c.in_ok-noted.ensures.noted ∙ ap (λ (os : List Outcome). after_switch c.self.inside.heap.state os) verdicts_are
     ∙ ap (λ (l : LiveValue). after_switch l.state.heap (verdicts_on live.state b)) c.self.view_is) in
     let grown = c.make_ready.ensures.ready
-    ∙ ap₂ (λ (xs ys : List ReadyValue). xs ++ ys) (c.in_ok-noted.ensures.ready ∙ ap (λ (l : LiveValue). l.state.ready) c.self.view_is)
+    ∙ ap₂ (λ (xs ys : List ReadyValue). xs ++ ys) (ap indexes_of c.in_ok-noted.ensures.ready ∙ ap (λ (l : LiveValue). l.state.ready) c.self.view_is)
     (sym (ap₂ ready_of c.into_specs-specs.ensures c.into_indexes-indexes.ensures)) in
     let seen : BuildingValue = record {
       workers = beside.workers.items;
@@ -139,9 +124,9 @@ returns-clause-switched g c =
     subst (λ (x : BuildingValue). spools_state left.given left.spools ≡ spools_state x.given x.spools) c.building.view_is
     (ended_stakes seen left.spools (ap (λ (x : BuildingValue). x.given) c.building.view_is ∙ run.at_work.given) c.end_spools.ensures.left) in
     let done = switches live building b w run may c.in_ok-catch_up.ensures.all c.in_ok-noted.noted
-    c.set_fence.new.self.state c.make_ready.new.ready.items c.take.new.self left number verdicts noted grown c.take.ensures.after c.take-2.ensures.after stakes in
+    c.set_fence.new.self.state (indexes_of c.make_ready.new.ready.indexes) c.take.new.self left number verdicts noted grown c.take.ensures.after c.take-2.ensures.after stakes in
     let Left : ℕ → CoreState = λ n. record {
-      live = record { heap = c.set_fence.new.self.state; ready = c.make_ready.new.ready.items; builds = n; build = c.take.new.self };
+      live = record { heap = c.set_fence.new.self.state; ready = indexes_of c.make_ready.new.ready.indexes; builds = n; build = c.take.new.self };
       work = work_state left.workers left.work;
       spools = spools_state left.given left.spools;
     } in

@@ -2,9 +2,11 @@ use Rattle.std.proofs.Common.{subst}
 use Rattle.heap_log.specs.Growing.{UndoesNameEarlier}
 use Rattle.heap_table.specs.HeapValue.{HeapValue}
 use Rattle.heap_table.specs.Kept.{RowsFit}
-use Rattle.heap_table.specs.Ready.{IsReady, IsLawfulChange}
+use Rattle.heap_table.specs.Pages.{SetsRow}
+use Rattle.heap_table.specs.Ready.{IsReady, IsLawfulChange, after_ready}
 use Rattle.heap_table.specs.Sound.{HoldsFollowLog}
 use Rattle.heap_table.specs.declared.ready.Ready.{Ready}
+use Rattle.heap_table.proofs.Done.{change_sets}
 use Rattle.heap_table.proofs.Holding.{holds_follow}
 use Rattle.heap_table.proofs.KeptFacts.{rows_fit}
 use Rattle.heap_table.proofs.Performing.{lawful_change}
@@ -22,3 +24,7 @@ returns-clause-undos c = subst (λ (h : HeapValue). UndoesNameEarlier h.state.lo
 pub returns-clause-ready : goal.returns-clause-ready
 returns-clause-ready c = subst (λ (h : HeapValue). (ready : Ready) → IsReady h ready → IsLawfulChange h.state ready) c.self.view_is
     (λ ready is. lawful_change _ _ ready is c.self.invariant.kept)
+
+pub returns-clause-sets : goal.returns-clause-sets
+returns-clause-sets c = subst (λ (h : HeapValue). (ready : Ready) → IsReady h ready → SetsRow h.state.log ready.rid ready.new (after_ready h.state ready).log) c.self.view_is
+    (λ ready is. change_sets _ _ ready is c.self.invariant.kept c.laws.ensures)
