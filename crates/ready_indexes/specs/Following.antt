@@ -65,12 +65,12 @@ abbrev pub AreLetIn : List LogRec → List ReadyValue → Ready → Type 0
 AreLetIn log indexes ready = All (λ index. LetsIn log ready index.spec) indexes
 
 -- it is known which pairs the change takes from an index and brings to it, and there is memory for the pair that comes, and to guard the key that
--- leaves
+-- a write takes away
 pub record IsPrepared (ready : Ready) (it : GuardedIndex) : Type 0 where
   pub entries : entries_of_change ready.rid it.change
       ≡ changes (pair_with it.index.spec ready.rid ready.old) (pair_with it.index.spec ready.rid ready.new)
   pub room : IsSome it.change.insert → it.room ≡ true
-  pub guard_room : it.index.spec.unique ≡ true → IfSome it.change.delete (HasRoomFor it.guards ready.txn)
+  pub guard_room : ready.undone ≡ None → it.index.spec.unique ≡ true → IfSome it.change.delete (HasRoomFor it.guards ready.txn)
 
 -- the log went on by a record that changes no row
 pub record GoesOn (old : List LogRec) (added : LogRec) (new : List LogRec) : Type 0 where

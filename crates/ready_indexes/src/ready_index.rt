@@ -97,13 +97,14 @@ impl ReadyIndex {
         ensures prepared { OnOk result (IsPrepared ready.now self.new) }
         ensures index { self.new.index ≡ self.old.index }
         ensures kept { (log : List LogRec) → HasGuards log self.old.index.spec self.old.guards → HasGuards log self.new.index.spec self.new.guards }
+        ensures unguarded { IsSome ready.now.undone → self.new.guards ≡ self.old.guards }
         ensures memory { IfErr result (λ fault. fault ≡ Fault.Memory) }
     {
         self.change = change_of(&self.spec, ready)?;
         if let Some(key) = &self.change.insert {
             self.tree.make_room(key)?;
         }
-        make_guard_room(&mut self.guards, &self.spec, ready.txn(), &self.change)
+        make_guard_room(&mut self.guards, &self.spec, ready, &self.change)
     }
 
     /// Follows the change that it was prepared for, which the table is about to make.
@@ -169,22 +170,23 @@ fn change_tree(tree: &mut Tree, rid: Rid, change: Change) -> Option<Key>
     delete
 }
 
-/// Room to guard the key that a change takes from its row, if it takes one from a unique index.
+/// Room to guard the key that a write takes from its row, if it takes one from a unique index; an undo takes none.
 fn make_guard_room(
     guards: &mut Guards,
     spec: &KeySpec,
-    txn: u64,
+    ready: &Ready,
     change: &Change,
 ) -> Result<(), Fault>
-    ensures room { OnOk result (spec.now.unique ≡ true → IfSome change.now.delete (HasRoomFor guards.new txn)) }
+    ensures room { OnOk result (ready.now.undone ≡ None → spec.now.unique ≡ true → IfSome change.now.delete (HasRoomFor guards.new ready.now.txn)) }
+    ensures unguarded { IsSome ready.now.undone → guards.new ≡ guards.old }
     ensures kept { (log : List LogRec) → HasGuards log spec.now guards.old → HasGuards log spec.now guards.new }
     ensures memory { IfErr result (λ fault. fault ≡ Fault.Memory) }
 {
-    if !spec.unique() {
+    if !spec.unique() || ready.undone().is_some() {
         return Ok(());
     }
     match &change.delete {
-        Some(key) => guards.make_room(txn, key),
+        Some(key) => guards.make_room(ready.txn(), key),
         None => Ok(()),
     }
 }
@@ -194,7 +196,7 @@ fn tell(guards: &mut Guards, spec: &KeySpec, heap: &Heap, ready: &Ready, taken: 
     requires ready { IsReady heap.now ready.now }
     requires let_in { ready.now.undone ≡ None → LetsIn heap.now.state.log ready.now spec.now }
     requires taken { taken ≡ key_taken spec.now ready.now.old ready.now.new }
-    requires room { spec.now.unique ≡ true → IfSome taken (HasRoomFor guards.old ready.now.txn) }
+    requires room { ready.now.undone ≡ None → spec.now.unique ≡ true → IfSome taken (HasRoomFor guards.old ready.now.txn) }
     requires guarded { HasGuards heap.now.state.log spec.now guards.old }
     ensures { HasGuards (after_ready heap.now.state ready.now).log spec.now guards.new }
 {
