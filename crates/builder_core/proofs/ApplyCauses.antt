@@ -4,7 +4,6 @@ use Rattle.std.specs.Prelude.{is_some, not, nat_le, IfSome}
 use Rattle.std.proofs.Math.Nat.{min-le_right}
 use Rattle.std.proofs.lemmas.Bool.{false_from_ne_true, leb-true}
 use Rattle.keybytes.proofs.FirstCause.{both_none}
-use Rattle.keybytes.specs.Faults.{first_cause}
 use Rattle.keybytes.specs.Keys.{KeySpecValue}
 use Rattle.keybytes.specs.declared.fault.Fault.{Fault}
 use Rattle.keybytes.specs.declared.fault.Fault.TheVariants.{NoBuild, BadCount, NotLoaded}

@@ -6,7 +6,7 @@ use Rattle.spool_ledger.specs.Accounts.{Stake}
 use Rattle.keybytes.specs.Keys.{KeySpecValue}
 use Rattle.keybytes.specs.declared.pair.Pair.{Pair}
 use Rattle.run_spool.specs.Spools.{HasFull}
-use Rattle.builder_core.specs.Builds.{LiveValue, BuildingValue, WorkValue, HasLooked, MayWork, core_state}
+use Rattle.builder_core.specs.Builds.{LiveValue, BuildingValue, WorkValue, MayWork, core_state}
 use Rattle.builder_core.specs.Columns.{own_spools}
 use Rattle.builder_core.specs.CoreState.{BuildState}
 use Rattle.builder_core.specs.FullSpools.{WasFull, WorkerWasFull}

@@ -1,12 +1,12 @@
 -- No event has want of a page for a cause, unless the build was spoiled for it: it is answered where a spool is full.
-use Rattle.std.proofs.Common.{◌≡◌, ℕ, ◌+◌, Bool, true, false, List, [], ◌∷◌, Option, Some, None, Result, Ok, Err, refl, sym, ap, ◌∙◌, subst, inl, inr}
+use Rattle.std.proofs.Common.{◌≡◌, ℕ, ◌+◌, Bool, true, false, List, [], ◌∷◌, Option, Some, None, Result, Ok, Err, refl, sym, ◌∙◌, subst, inl, inr}
 use Rattle.std.specs.Prelude.{if◌then◌else◌, MatchResult, IfErr}
 use Rattle.std.specs.Option.{option_map}
 use Rattle.spool_ledger.specs.Accounts.{Stake}
 use Rattle.keybytes.specs.Faults.{first_cause}
 use Rattle.keybytes.specs.declared.cell.Cell.{Cell}
 use Rattle.keybytes.specs.declared.fault.Fault.{Fault}
-use Rattle.keybytes.specs.declared.fault.Fault.TheVariants.{BuildRunning, NoBuild, BadCount, BadColumn, BadRanges, RangeDone, RingFull, NotScanned, NotSealed, NotLoaded, Behind, Busy, SpoolNotEmpty, NoPage, Memory, Fenced, TooManyTxns, TxnEnding, NoSuchTxn, RowShape, TableFull, NoSuchRow, RowHeld, PageFull, Duplicate, KeyHeld}
+use Rattle.keybytes.specs.declared.fault.Fault.TheVariants.{BuildRunning, BadCount, BadColumn, BadRanges, RangeDone, RingFull, NotScanned, NotSealed, NotLoaded, Behind, Busy, SpoolNotEmpty, NoPage, Fenced, TooManyTxns, TxnEnding, NoSuchTxn, RowShape, RowHeld, PageFull}
 use Rattle.keybytes.specs.declared.pair.Pair.{Pair}
 use Rattle.keybytes.specs.declared.rid.Rid.{Rid}
 use Rattle.keybytes.specs.Keys.{KeySpecValue}

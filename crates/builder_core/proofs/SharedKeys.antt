@@ -1,12 +1,11 @@
 -- The keys that refused indexes are told to share.
-use Rattle.std.proofs.Common.{◌≡◌, ℕ, suc, Bool, true, false, if◌then◌else◌, List, [], ◌∷◌, map, Option, Some, refl, sym, ap, ◌∙◌, subst, inl, inr}
-use Rattle.std.specs.List.{All, AllZip, slice_get}
+use Rattle.std.proofs.Common.{◌≡◌, ℕ, Bool, true, false, if◌then◌else◌, List, [], ◌∷◌, map, refl, sym, subst, inl, inr}
+use Rattle.std.specs.List.{All}
 use Rattle.std.proofs.lemmas.List.Elements.{All-head, All-tail}
 use Rattle.keybytes.specs.Keys.{KeySpecValue, IsKeyOf}
 use Rattle.keybytes.specs.Pairs.{HaveKeysOf}
 use Rattle.keybytes.specs.declared.kind.Kind.{Kind}
 use Rattle.keybytes.specs.declared.pair.Pair.{Pair}
-use Rattle.heap_log.specs.declared.outcome.Outcome.{Outcome}
 use Rattle.heap_log.specs.declared.record.LogRec.{LogRec}
 use Rattle.heap_table.proofs.KeysAtRest.{keys_at_rest}
 use Rattle.heap_table.specs.Kept.{RowsFit}
@@ -15,8 +14,7 @@ use Rattle.tree_nodes.specs.Lists.{In}
 use Rattle.unique_verdict.proofs.SharedFacts.{shared_there}
 use Rattle.unique_verdict.specs.Shared.{shared_pairs}
 use Rattle.unique_verdict.specs.Verdicts.{first_shared}
-use Rattle.unique_verdict.specs.declared.verdict.Verdict.{Verdict}
-use Rattle.unique_verdict.specs.declared.verdict.Verdict.TheVariants.{Unique, Shared}
+use Rattle.unique_verdict.specs.declared.verdict.Verdict.TheVariants.{Unique}
 use Rattle.builder_core.specs.Verdicts.{HasKeyOf, HaveSharedKeys, verdict_on, outcome, outcomes, next_number}
 
 has_key_in : (spec : KeySpecValue) (p : Pair) (pairs : List Pair) → In p pairs → HaveKeysOf spec pairs → IsKeyOf spec p.key

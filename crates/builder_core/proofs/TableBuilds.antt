@@ -1,13 +1,11 @@
 -- What each event leaves of the build that a table knows, and what its switch makes ready.
 use Rattle.std.proofs.Common.{◌≡◌, ℕ, ◌<◌, ◌≤◌, true, List, [], ◌∷◌, ◌++◌, length, map, length-append, take, take_all, Option, Some, None, sym, ap, ◌∙◌, arith, subst}
 use Rattle.std.specs.Prelude.{is_some}
-use Rattle.std.specs.FinMap.{keys, contains_key-keys}
-use Rattle.std.specs.FinSet.{FinSet}
+use Rattle.std.specs.FinMap.{keys}
 use Rattle.std.specs.List.{All}
 use Rattle.std.proofs.lemmas.List.Elements.{All-nil, All-push}
 use Rattle.keybytes.specs.Keys.{KeySpecValue}
-use Rattle.keybytes.specs.Pairs.{pair_cmp, set_of}
-use Rattle.keybytes.proofs.PairSets.{contains-set_of, same_members}
+use Rattle.keybytes.specs.Pairs.{set_of}
 use Rattle.keybytes.specs.declared.kind.Kind.{Kind}
 use Rattle.heap_log.specs.declared.record.LogRec.{LogRec}
 use Rattle.heap_table.specs.Pages.{pages_written}

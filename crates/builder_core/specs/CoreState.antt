@@ -1,6 +1,6 @@
 -- A table, its ready indexes and the build that runs, as callers see them: what a lock has to keep, and beside it what the workers of
 -- the build do and the spools that they have.
-use Rattle.std.specs.Prelude.{◌≡◌, ℕ, zero, suc, Bool, false, List, [], Option, None, Some}
+use Rattle.std.specs.Prelude.{ℕ, zero, suc, Bool, false, List, [], Option, None, Some}
 use Rattle.spool_ledger.specs.Accounts.{Stake}
 use Rattle.keybytes.specs.Keys.{KeySpecValue}
 use Rattle.keybytes.specs.declared.fault.Fault.{Fault}

@@ -1,5 +1,5 @@
 -- What holds of the first index and of the others holds of all of them.
-use Rattle.std.proofs.Common.{◌≡◌, ◌+◌, ◌∷◌, ℕ, true, false, List, [], ◌++◌, length, map, take, drop, Option, None, Some, refl, sym, ap, ◌∙◌, subst, Bool, if◌then◌else◌}
+use Rattle.std.proofs.Common.{◌≡◌, ◌+◌, ◌∷◌, ℕ, true, false, List, [], ◌++◌, length, take, drop, Option, None, refl, sym, ap, ◌∙◌, subst, Bool, if◌then◌else◌}
 use Rattle.std.specs.List.{All}
 use Rattle.std.proofs.Math.Seq.{take-append_seam}
 use Rattle.std.proofs.lemmas.Bool.{cond-true}
@@ -17,10 +17,9 @@ use Rattle.heap_table.specs.HeapState.{HeapState}
 use Rattle.heap_table.specs.TablePairs.{pairs_at_rest}
 use Rattle.heap_table.specs.declared.ready.Ready.{Ready}
 use Rattle.key_guards.specs.KeyRefusals.{key_refusal}
-use Rattle.key_guards.specs.UniqueKeys.{UniqueKeysAreGuarded}
 use Rattle.ready_indexes.specs.Following.{GuardedIndex, AllFollow, Follows, GoesOn, HasGuards, LetsIn, AreLetIn, MayFollow, indexes_of}
 use Rattle.ready_indexes.specs.Indexes.{ReadyValue, FollowTable, index_now, ready_now}
-use Rattle.ready_indexes.specs.KeyCauses.{KeysAreGuarded, keys_refusal}
+use Rattle.ready_indexes.specs.KeyCauses.{keys_refusal}
 
 module _ {X : Type 0} (P : X → Type 0) (x : X) (xs all : List X) (is : all ≡ x ∷ xs) where
   pub first_of : All P all → P x

@@ -18,7 +18,7 @@ use Rattle.heap_log.specs.Standing.{live_at}
 use Rattle.heap_log.specs.declared.record.LogRec.{LogRec}
 use Rattle.heap_log.specs.declared.record.LogRec.TheVariants.{Write, Undo}
 use Rattle.heap_table.proofs.KeysAtRest.{keys_at_rest}
-use Rattle.heap_table.proofs.TablePairs.{own_pair, contains-index_pairs, pairs_kept}
+use Rattle.heap_table.proofs.TablePairs.{own_pair, contains-index_pairs}
 use Rattle.heap_table.specs.HeapState.{HeapState}
 use Rattle.heap_table.specs.Kept.{RowsFit, IsTableRow}
 use Rattle.heap_table.specs.Pages.{SetsRow}

@@ -1,6 +1,5 @@
 -- An index that was prepared for a change, and the change made.
-use Rattle.std.proofs.Common.{◌≡◌, true, List, Option, None, sym, ap, ◌∙◌, subst}
-use Rattle.std.specs.Prelude.{IfSome}
+use Rattle.std.proofs.Common.{◌≡◌, true, List}
 use Rattle.keybytes.specs.Keys.{are_key_columns}
 use Rattle.keybytes.specs.Pairs.{AreOrdered, set_of}
 use Rattle.keybytes.specs.declared.pair.Pair.{Pair}
@@ -13,7 +12,7 @@ use Rattle.heap_table.specs.declared.ready.Ready.{Ready}
 use Rattle.key_guards.specs.GuardLists.{key_taken}
 use Rattle.visibility.specs.Applied.{apply_entries}
 use Rattle.visibility.specs.SideEntries.{entries_of_change}
-use Rattle.ready_indexes.specs.Following.{GuardedIndex, Follows, HasGuards, IsPrepared}
+use Rattle.ready_indexes.specs.Following.{GuardedIndex, Follows, IsPrepared}
 use Rattle.ready_indexes.specs.Indexes.{IsIndex}
 use Rattle.ready_indexes.proofs.Follow.{row_follows, rest_is_index, rows_fit_after}
 use Rattle.ready_indexes.proofs.KeysTaken.{taken_is}

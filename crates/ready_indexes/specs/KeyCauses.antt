@@ -1,6 +1,6 @@
 -- Why a transaction may not write a row, for the sake of the ready indexes that are unique.
 use Rattle.std.specs.List.{All}
-use Rattle.std.specs.Prelude.{◌≡◌, ℕ, ◌+◌, true, if◌then◌else◌, List, [], ◌∷◌, Option, None, Some}
+use Rattle.std.specs.Prelude.{◌≡◌, ℕ, ◌+◌, true, if◌then◌else◌, List, [], ◌∷◌, Option, None}
 use Rattle.keybytes.specs.Faults.{first_cause}
 use Rattle.keybytes.specs.Cells.{fits}
 use Rattle.keybytes.specs.Keys.{KeySpecValue, key_of}

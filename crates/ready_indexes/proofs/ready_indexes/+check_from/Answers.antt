@@ -1,4 +1,4 @@
-use Rattle.std.proofs.Common.{◌+◌, ◌<◌, length, ap, arith}
+use Rattle.std.proofs.Common.{length, ap, arith}
 use Rattle.ready_indexes.specs.Following.{Follows}
 use Rattle.ready_indexes.proofs.Each.{first_of, rest_of}
 use Rattle.ready_indexes.proofs.ready_indexes.+check_from.Goals as goal

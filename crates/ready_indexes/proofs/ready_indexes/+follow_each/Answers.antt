@@ -1,4 +1,4 @@
-use Rattle.std.proofs.Common.{◌<◌, length, ap, arith}
+use Rattle.std.proofs.Common.{length, ap, arith}
 use Rattle.ready_indexes.specs.Following.{Follows, IsPrepared}
 use Rattle.ready_indexes.proofs.Each.{first_of, rest_of, first_lets_in, rest_lets_in}
 use Rattle.ready_indexes.proofs.ready_indexes.+follow_each.Goals as goal

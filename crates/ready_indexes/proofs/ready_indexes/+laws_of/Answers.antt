@@ -1,4 +1,4 @@
-use Rattle.std.proofs.Common.{◌≡◌, ◌++◌, ◌∷◌, [], true, refl, ap, sym, subst}
+use Rattle.std.proofs.Common.{◌≡◌, true, refl, ap, sym, subst}
 use Rattle.std.proofs.lemmas.List.Elements.{All-cons}
 use Rattle.heap_log.specs.declared.record.LogRec.TheVariants.{Switch}
 use Rattle.key_guards.specs.UniqueKeys.{UniqueKeysAreGuarded}

@@ -1,4 +1,4 @@
-use Rattle.std.proofs.Common.{◌<◌, length, ap, arith}
+use Rattle.std.proofs.Common.{length, ap, arith}
 use Rattle.std.proofs.lemmas.List.Elements.{All-cons}
 use Rattle.ready_indexes.specs.Following.{FitsColumns, Follows}
 use Rattle.ready_indexes.proofs.Each.{first_of, rest_of, still_follows}

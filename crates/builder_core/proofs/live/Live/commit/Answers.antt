@@ -1,4 +1,4 @@
-use Rattle.std.proofs.Common.{◌≡◌, ap, sym, subst}
+use Rattle.std.proofs.Common.{ap, sym, subst}
 use Rattle.heap_table.specs.HeapState.{HeapState}
 use Rattle.heap_table.specs.HeapValue.{HeapValue}
 use Rattle.heap_log.specs.declared.record.LogRec.TheVariants.{Commit}

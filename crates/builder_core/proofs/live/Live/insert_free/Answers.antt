@@ -1,5 +1,4 @@
-use Rattle.std.proofs.Common.{◌≡◌, ◌∙◌, ℕ, List, None, Some, ap, subst, sym, inl, inr}
-use Rattle.keybytes.specs.Faults.{RefusedFor}
+use Rattle.std.proofs.Common.{◌≡◌, None, Some, subst, sym}
 use Rattle.heap_table.specs.HeapState.{HeapState, insert_refusal}
 use Rattle.builder_core.specs.Builds.{LiveValue}
 use Rattle.ready_indexes.specs.KeyCauses.{keys_refusal}

@@ -1,14 +1,12 @@
 use Rattle.std.proofs.Common.{◌≡◌, ◌∙◌, ◌+◌, ◌++◌, ℕ, List, length, map, ap, ap₂, sym, subst}
 use Rattle.std.specs.Prelude.{false}
 use Rattle.std.specs.List.{All, AllZip}
-use Rattle.std.proofs.lemmas.List.Elements.{All-filter}
 use Rattle.std.proofs.lemmas.Option.{same_Some}
 use Rattle.keybytes.specs.Keys.{KeySpecValue}
 use Rattle.heap_log.specs.declared.outcome.Outcome.{Outcome}
 use Rattle.heap_log.specs.declared.record.LogRec.TheVariants.{Switch}
 use Rattle.heap_table.specs.HeapState.{HeapState, after_switch, after_fence}
 use Rattle.heap_table.specs.Pages.{KeepsRows}
-use Rattle.unique_verdict.specs.Verdicts.{accepts}
 use Rattle.heap_table.specs.Kept.{RowsFit}
 use Rattle.heap_table.specs.Sound.{HoldsFollowLog}
 use Rattle.building.specs.TakeEnd.{take_end}
@@ -16,13 +14,13 @@ use Rattle.builder_core.specs.Builds.{LiveValue, BuildingValue, WorkValue, Index
 use Rattle.builder_core.specs.CatchingUp.{IsDoneIndex, its_verdict, ready_of}
 use Rattle.ready_indexes.specs.Following.{AllFollow, GoesOn, MayFollow, indexes_of}
 use Rattle.builder_core.specs.CoreState.{BuildState, CoreState}
-use Rattle.ready_indexes.specs.Indexes.{ReadyValue, index_now}
+use Rattle.ready_indexes.specs.Indexes.{ReadyValue}
 use Rattle.builder_core.specs.Holding.{spool_value, spools_state}
 use Rattle.builder_core.specs.BuildSteps.{Switches, verdicts_on}
-use Rattle.builder_core.specs.Verdicts.{accepted, outcomes, verdict_on}
+use Rattle.builder_core.specs.Verdicts.{outcomes}
 use Rattle.builder_core.proofs.OneWorker.{ended_stakes}
 use Rattle.builder_core.proofs.Refusals.{running_inside}
-use Rattle.builder_core.proofs.SwitchIn.{all_done, all_may, all_ready, all_verdicts, switches, switched_from}
+use Rattle.builder_core.proofs.SwitchIn.{all_done, all_may, all_verdicts, switches, switched_from}
 use Rattle.builder_core.proofs.Unloaded.{may_catch_up, may_after, no_busy_cause}
 use Rattle.builder_core.proofs.live.Live.switch_in.Goals as goal
 

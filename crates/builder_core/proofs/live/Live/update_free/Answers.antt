@@ -1,5 +1,4 @@
-use Rattle.std.proofs.Common.{◌≡◌, ◌∙◌, ℕ, List, None, Some, ap, subst, sym, inl, inr}
-use Rattle.keybytes.specs.Faults.{RefusedFor}
+use Rattle.std.proofs.Common.{◌≡◌, ◌∙◌, None, Some, ap, subst, sym}
 use Rattle.heap_log.specs.Standing.{live_at}
 use Rattle.heap_table.specs.HeapState.{HeapState, update_refusal}
 use Rattle.builder_core.specs.Builds.{LiveValue}

@@ -1,4 +1,4 @@
-use Rattle.std.proofs.Common.{◌≡◌, length, ◌∙◌, ap, sym, subst, arith}
+use Rattle.std.proofs.Common.{◌∙◌, ap, sym, subst, arith}
 use Rattle.ready_indexes.specs.Following.{AllFollow, IndexesValue}
 use Rattle.ready_indexes.proofs.Each.{whole_holds}
 use Rattle.ready_indexes.proofs.ready_indexes.ReadyIndexes.prepare.Goals as goal

@@ -1,7 +1,6 @@
-use Rattle.std.proofs.Common.{◌≡◌, ◌∙◌, [], ◌∷◌, ap, sym, subst}
+use Rattle.std.proofs.Common.{sym, subst}
 use Rattle.std.proofs.lemmas.List.Elements.{All-push}
-use Rattle.ready_indexes.specs.Following.{AllFollow, Follows, HasGuards, IndexesValue}
-use Rattle.ready_indexes.specs.Indexes.{ReadyValue}
+use Rattle.ready_indexes.specs.Following.{AllFollow, Follows, IndexesValue}
 use Rattle.ready_indexes.proofs.Each.{follows_new}
 use Rattle.ready_indexes.proofs.ready_indexes.ReadyIndexes.push.Goals as goal
 
