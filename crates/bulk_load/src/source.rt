@@ -33,7 +33,8 @@ impl Source for IntoIter<Pair> {
 
     /// Takes no memory.
     fn next(&mut self) -> Result<Option<Pair>, Fault>
-        ensures first { IfOk result (λ next. MatchOption next (into_iter_items self.old ≡ []) (λ pair. into_iter_items self.old ≡ pair ∷ into_iter_items self.new)) }
+        ensures first { IfOk result (λ next.
+            MatchOption next (into_iter_items self.old ≡ []) (λ pair. into_iter_items self.old ≡ pair ∷ into_iter_items self.new)) }
         ensures memory { IfErr result (λ fault. fault ≡ Fault.Memory) }
         ensures sure { IsOk result }
     {

@@ -82,8 +82,8 @@ impl Built {
         }
     }
 
-    /// Whether its keys are unique, and which is shared if they aren't; one that keeps no tally may share them. No walk over the pairs, and no memory but for the
-    /// copy of a long key that is shared.
+    /// Whether its keys are unique, and which is shared if they aren't; one that keeps no tally may share them. No walk over the pairs,
+    /// and no memory but for the copy of a long key that is shared.
     pub fn verdict(&self) -> Result<Verdict, Fault>
         ensures told { IfOk result (λ verdict. verdict ≡ verdict_of self.now) }
         ensures sure { IsShort (verdict_of self.now) → IsOk result }

@@ -5,7 +5,7 @@ ghost use Rattle.keybytes.specs.Keys.{key_of};
 
 use keybytes::{Fault, Key, KeySpec, Row};
 
-/// The key of a row, if there is one. Refused only for want of memory, of which a key of at most 24 bytes takes none.
+/// The key of a row, if there is one. Refused only for want of memory; a key of at most 24 bytes takes none.
 pub fn key_of(spec: &KeySpec, row: &Option<Row>) -> Result<Option<Key>, Fault>
     requires { IfSome row.now (λ cells. fits spec.now.kinds cells ≡ true) }
     ensures ok { IfOk result (λ key. key ≡ option_map (key_of spec.now) row.now) }

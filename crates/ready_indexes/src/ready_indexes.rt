@@ -102,9 +102,9 @@ impl ReadyIndexes {
         laws_of(self.indexes.as_slice());
     }
 
-    /// Why the transaction may not put that row at the RID: the first unique index tells where another row has its key
-    /// ([`Fault::Duplicate`]), or which transaction may give the key back ([`Fault::KeyHeld`]). Never fails for lack of memory, and costs a way
-    /// down the tree of each unique index.
+    /// Why the transaction may not put that row at the RID: the first unique index that refuses tells where another row has its key
+    /// ([`Fault::Duplicate`]), or which transaction may give the key back ([`Fault::KeyHeld`]). Never fails for lack of memory. Looks into the
+    /// tree of each unique index, and into the keys that each transaction guards there.
     pub fn check(&self, heap: &Heap, txn: u64, rid: Rid, row: &Row) -> Result<(), Fault>
         requires follow { AllFollow heap.now.state.schema heap.now.state.log self.now.indexes }
         requires fits { fits heap.now.state.schema row.now ≡ true }
@@ -116,7 +116,7 @@ impl ReadyIndexes {
         check_from(0, self.indexes.as_slice(), heap, txn, rid, row)
     }
 
-    /// Takes the memory that a change wants of the indexes, so that [`ReadyIndexes::perform`] wants none. They stay as they are.
+    /// Takes the memory that a change wants of the indexes, so that [`ReadyIndexes::perform`] wants none. Their pairs stay as they are.
     pub fn prepare(&mut self, ready: &Ready) -> Result<(), Fault>
         requires fits { All (λ it. FitsColumns ready.now it.index.spec) self.old.indexes }
         ensures prepared { OnOk result (All (IsPrepared ready.now) self.new.indexes) }
@@ -143,10 +143,11 @@ impl ReadyIndexes {
         heap.perform(ready)
     }
 
-    /// The transaction committed: nobody can be given back its keys any more.
+    /// The transaction committed: no rollback can bring its keys back any more.
     pub fn commit(&mut self, txn: u64)
         ensures same { indexes_of self.new.indexes ≡ indexes_of self.old.indexes }
-        ensures follow { (kinds : List Kind) (old new : List LogRec) → GoesOn old (Commit txn) new → AllFollow kinds old self.old.indexes → AllFollow kinds new self.new.indexes }
+        ensures follow { (kinds : List Kind) (old new : List LogRec) → GoesOn old (Commit txn) new
+            → AllFollow kinds old self.old.indexes → AllFollow kinds new self.new.indexes }
     {
         commit_each(self.indexes.as_mut_slice(), txn);
     }
@@ -210,7 +211,8 @@ fn follow_each(indexes: &mut [ReadyIndex], heap: &Heap, ready: &Ready)
 /// Tells each of the indexes that the transaction committed.
 fn commit_each(indexes: &mut [ReadyIndex], txn: u64)
     ensures same { indexes_of indexes.new ≡ indexes_of indexes.old }
-    ensures follow { (kinds : List Kind) (old new : List LogRec) → GoesOn old (Commit txn) new → AllFollow kinds old indexes.old → AllFollow kinds new indexes.new }
+    ensures follow { (kinds : List Kind) (old new : List LogRec) → GoesOn old (Commit txn) new
+        → AllFollow kinds old indexes.old → AllFollow kinds new indexes.new }
 {
     let Some((index, rest)) = indexes.split_first_mut() else {
         return;

@@ -135,12 +135,12 @@ delete,A,0.1
 commit,A
 switch
 pairs,0
-begin,T1
-delete,T1,0.0
-begin,T2
-insert,T2,7
-undo,T1
-insert,T2,7
+begin,P
+delete,P,0.0
+begin,Q
+insert,Q,7
+undo,P
+insert,Q,7
 ",
         out: "1,ok
 2,ok,0.0
@@ -224,12 +224,12 @@ fence
 begin,B
 commit,A
 switch
-begin,T1
-delete,T1,0.0
-begin,T2
-insert,T2,7
-undo,T1
-insert,T2,7
+begin,P
+delete,P,0.0
+begin,Q
+insert,Q,7
+undo,P
+insert,Q,7
 pairs,0
 ",
         out: "2,ok
