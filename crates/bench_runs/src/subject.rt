@@ -46,7 +46,7 @@ impl<T: Table> Subject for Core<PlainSpool, T> {
             }
             Err(fault) => record.fail(Failure::Refused("the spools of a build", fault)),
         }
-        match plan(rt.alloc(), self.schema(), options) {
+        match plan(rt.alloc(), self.live().heap().schema(), options) {
             Ok(plan) => {
                 self.ask(record, "the start of the build", Event::Start { plan });
             }
@@ -65,7 +65,7 @@ impl<T: Table> Subject for Core<PlainSpool, T> {
 
     fn compare(&mut self, alloc: Global, index: usize) -> Result<Option<usize>, Fault> {
         // Its pairs are the same whether it is unique or not.
-        let spec = spec(alloc, self.schema(), index, false)?;
+        let spec = spec(alloc, self.live().heap().schema(), index, false)?;
         let rest = self.rest(&spec)?;
         match self.ready(index) {
             Ok(index) => Ok(first_difference(index.tree(), rest.as_slice())),

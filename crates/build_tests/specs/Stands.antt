@@ -1,5 +1,5 @@
 -- A table with its core, and the pool behind its spools.
-use Rattle.builder_core.specs.CoreState.{CoreState}
+use Rattle.build_events.specs.CoreState.{CoreState}
 use Rattle.spool_ledger.specs.Pools.{PoolValue}
 
 pub record StandValue : Type 0 where

@@ -72,7 +72,7 @@ impl<S: Made, T: Table> Stand<S, T> {
     /// The pairs that an index would have now.
     pub fn rest(&mut self, alloc: Global) -> Result<Vec<Pair>, Fault> {
         let spec = spec(alloc, false)?;
-        if !spec.is_of(self.core.schema()) {
+        if !spec.is_of(self.core.live().heap().schema()) {
             return Err(Fault::BadColumn);
         }
         self.core.rest(&spec)

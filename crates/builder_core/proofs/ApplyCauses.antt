@@ -10,19 +10,19 @@ use Rattle.keybytes.specs.declared.fault.Fault.TheVariants.{NoBuild, BadCount, N
 use Rattle.building.specs.WorkerValue.{WorkerValue}
 use Rattle.builder_core.specs.Builds.{LiveValue, BuildingValue, WorkValue, IndexValue, IsRunning, WorksOn, MayApply, SideIsLooked, SeesSideAt, BuildFollows, IsWorkOf}
 use Rattle.builder_core.specs.Builds.{state_unless, work_state, core_state, cause_of, index_state}
-use Rattle.builder_core.specs.CoreState.{BuildState, IndexState, WorkState, CoreState}
+use Rattle.build_events.specs.CoreState.{BuildState, IndexState, WorkState, CoreState}
 use Rattle.builder_core.specs.SideFiles.{AreFedEntries}
-use Rattle.builder_core.specs.Workers.{index_at}
+use Rattle.build_events.specs.Workers.{index_at}
 use Rattle.side_file.specs.Ends.{PutEnd}
 use Rattle.side_file.specs.declared.entry.Entry.{Entry}
 use Rattle.std.specs.List.{slice_get}
 use Rattle.std.proofs.lemmas.Option.{get_or_from_slice_get}
 use Rattle.builder_core.proofs.Places.{below, there_is, map_at}
 use Rattle.builder_core.proofs.Applying.{stays_built}
-use Rattle.builder_core.specs.BuildSteps.{OnBuild, Applies, AppliesSome, build_cause, cause_if, apply_refusal, index_refusal, next_applied, after_apply}
-use Rattle.builder_core.specs.Steps.{refusal}
+use Rattle.build_events.specs.BuildSteps.{OnBuild, Applies, AppliesSome, build_cause, cause_if, apply_refusal, index_refusal, next_applied, after_apply}
+use Rattle.build_events.specs.Steps.{refusal}
 use Rattle.builder_core.specs.Working.{CanApply, HasApplied}
-use Rattle.builder_core.specs.declared.event.Event.TheVariants.{Apply}
+use Rattle.build_events.specs.declared.event.Event.TheVariants.{Apply}
 use Rattle.builder_core.proofs.Feeding.{works_side_looked, state_side_looked}
 use Rattle.builder_core.proofs.IndexApplied.{AppliesNext, ring_is, can_apply, works_applied, state_applied}
 use Rattle.builder_core.proofs.Refusals.{running, state_is}

@@ -12,13 +12,13 @@ use Rattle.keybytes.specs.declared.fault.Fault.TheVariants.{NotLoaded}
 use Rattle.heap_log.specs.declared.record.LogRec.{LogRec}
 use Rattle.builder_core.specs.Builds.{LiveValue, BuildingValue, WorkValue, BuildFollows, IsRunning, IsWorkOf, WorksOn, work_state, core_state, index_state}
 use Rattle.builder_core.specs.CatchingUp.{MayCatchUp, IndexIsFurther, left_at, left_of, unapplied_at, further_by}
-use Rattle.builder_core.specs.CoreState.{BuildState, IndexState, CoreState}
+use Rattle.build_events.specs.CoreState.{BuildState, IndexState, CoreState}
 use Rattle.builder_core.specs.SideFiles.{NoneAhead}
 use Rattle.builder_core.proofs.Refusals.{running}
-use Rattle.builder_core.specs.BuildSteps.{OnBuild, CatchesUp, AreFurther, IsFurther, build_cause, cause_if, apply_refusal, index_refusal}
-use Rattle.builder_core.specs.Steps.{refusal}
-use Rattle.builder_core.specs.Workers.{all_entries, all_unapplied, fed_to, index_at, unapplied}
-use Rattle.builder_core.specs.declared.event.Event.TheVariants.{Apply}
+use Rattle.build_events.specs.BuildSteps.{OnBuild, CatchesUp, AreFurther, IsFurther, build_cause, cause_if, apply_refusal, index_refusal}
+use Rattle.build_events.specs.Steps.{refusal}
+use Rattle.build_events.specs.Workers.{all_entries, all_unapplied, fed_to, index_at, unapplied}
+use Rattle.build_events.specs.declared.event.Event.TheVariants.{Apply}
 use Rattle.builder_core.proofs.FedBeside.{indexes_seen}
 use Rattle.builder_core.proofs.Places.{below, here_set, map_at, there_is}
 use Rattle.builder_core.proofs.IndexFurther.{at_is}

@@ -7,8 +7,8 @@ use Rattle.heap_log.specs.declared.record.LogRec.{LogRec}
 use Rattle.heap_table.specs.Images.{ImageValue}
 use Rattle.building.specs.ImagePairs.{HavePairs}
 use Rattle.building.proofs.PageCopies.{copy_pairs}
-use Rattle.builder_core.specs.Scanning.{Scanning, AreCopies, pairs_at_scan}
-use Rattle.builder_core.specs.declared.scan.Scan.{Scan}
+use Rattle.build_events.specs.Scanning.{Scanning, AreCopies, pairs_at_scan}
+use Rattle.build_events.specs.declared.scan.Scan.{Scan}
 
 -- copies for scans have the pairs of their pages as they were then
 pub copies_pairs :

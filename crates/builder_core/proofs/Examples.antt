@@ -13,21 +13,22 @@ use Rattle.heap_log.specs.declared.record.LogRec.{LogRec}
 use Rattle.heap_log.specs.declared.record.LogRec.TheVariants as logged
 use Rattle.heap_table.specs.Pages.{rid_at}
 use Rattle.keybytes.specs.declared.pair.Pair.{Pair}
-use Rattle.builder_core.specs.declared.dealing.Dealing.TheVariants.{Even}
-use Rattle.builder_core.specs.declared.event.Event.TheVariants.{Scan, Digest, Seal, Load, Switch}
-use Rattle.builder_core.specs.declared.reply.Reply.{Reply}
-use Rattle.builder_core.specs.declared.reply.Reply.TheVariants.{Scanned, Digested, Sealed, Loaded, Switched}
+use Rattle.scan_range.specs.declared.dealing.Dealing.TheVariants.{Even}
+use Rattle.build_events.specs.declared.event.Event.TheVariants.{Scan, Digest, Seal, Load, Switch}
+use Rattle.build_events.specs.declared.reply.Reply.{Reply}
+use Rattle.build_events.specs.declared.reply.Reply.TheVariants.{Scanned, Digested, Sealed, Loaded, Switched}
 use Rattle.keybytes.specs.Pairs.{pair_cmp}
 use Rattle.heap_table.specs.TablePairs.{pairs_at_rest}
-use Rattle.builder_core.specs.CoreState.{BuildState, WorkerState, WorkState, CoreState, scanning_of, spoiled_work}
-use Rattle.builder_core.specs.Scanning.{scanned_pairs}
+use Rattle.build_events.specs.CoreState.{BuildState, WorkerState, WorkState, CoreState, scanning_of, spoiled_work}
+use Rattle.build_events.specs.Scanning.{scanned_pairs}
 use Rattle.scan_range.specs.Cuts.{range_pages, cuts_refusal}
-use Rattle.builder_core.specs.Ranges.{dealt_ends, dealing_refusal, next_page, open_range}
-use Rattle.builder_core.specs.BuildSteps.{spools_refusal}
-use Rattle.builder_core.specs.Steps.{refusal, Does, AfterWant, IsRefused}
+use Rattle.build_events.specs.Ranges.{next_page, open_range}
+use Rattle.scan_range.specs.Dealings.{dealt_ends, dealing_refusal}
+use Rattle.build_events.specs.BuildSteps.{spools_refusal}
+use Rattle.build_events.specs.Steps.{refusal, Does, AfterWant, IsRefused}
 use Rattle.builder_core.specs.Holding.{spools_state}
-use Rattle.builder_core.specs.Workers.{waiting, fill_runs, loud_worker}
-use Rattle.builder_core.specs.declared.scan.Scan.{Scan as Copied}
+use Rattle.build_events.specs.Workers.{waiting, fill_runs, loud_worker}
+use Rattle.build_events.specs.declared.scan.Scan.{Scan as Copied}
 use Rattle.keybytes.proofs.PairSets.{is_in, items_are}
 
 -- an index on a column of numbers

@@ -1,5 +1,5 @@
 -- The side-file's ring of a build: it is looked at, entries go into it, and from it to the index.
-use Rattle.std.proofs.Common.{◌≡◌, ℕ, ◌+◌, ◌-◌, ◌<◌, ◌≤◌, ◌^◌, List, ◌++◌, length, map, set, take, drop, Option, Some, None, refl, inl, inr}
+use Rattle.std.proofs.Common.{◌≡◌, ℕ, ◌+◌, ◌-◌, ◌<◌, ◌≤◌, ◌^◌, List, ◌++◌, length, map, set, take, drop, Option, Some, None, refl, inl, inr, ap₂}
 use Rattle.std.proofs.Common.{sym, ap, ◌∙◌, subst, arith, length-append, length-drop, length-take, append_assoc}
 use Rattle.std.specs.List.{All, slice_get}
 use Rattle.keybytes.specs.Keys.{KeySpecValue}
@@ -9,7 +9,7 @@ use Rattle.std.proofs.lemmas.List.{drop-append-le, length-map, length-set, take-
 use Rattle.std.proofs.Math.Seq.{drop-append_seam, take-append_seam}
 use Rattle.side_file.specs.Entries.{entry_of}
 use Rattle.visibility.specs.SideEntries.{SideEntry}
-use Rattle.builder_core.specs.SideEntries.{side_entries}
+use Rattle.build_events.specs.SideEntries.{side_entries}
 use Rattle.keybytes.specs.declared.kind.Kind.{Kind}
 use Rattle.heap_log.specs.declared.record.LogRec.{LogRec}
 use Rattle.side_file.specs.Changes.{all_appended, Feeds, IsSideFile, feed_most}
@@ -20,11 +20,11 @@ use Rattle.side_file.specs.declared.entry.Entry.{Entry}
 use Rattle.building.specs.TakeEnd.{TakeEnd}
 use Rattle.building.specs.declared.copied.Copied.{Copied}
 use Rattle.builder_core.specs.Builds.{LiveValue, BuildingValue, WorkValue, IndexValue, IsBuildOf, IsWorkOf, AreFed, WorkersFollow, WorksOn, SideIsLooked, core_state}
-use Rattle.builder_core.specs.CoreState.{BuildState, scanning_of}
-use Rattle.builder_core.specs.SideFiles.{IsFed, HasEntries, HaveEntries, SidesFollow, AreFedEntries, HasLookedAtSide, SeesSide}
-use Rattle.builder_core.proofs.Places.{at_set, set_there, set_elsewhere}
-use Rattle.builder_core.specs.BuildSteps.{after_feed}
-use Rattle.builder_core.specs.Workers.{fed_to, unfed}
+use Rattle.build_events.specs.CoreState.{BuildState, scanning_of}
+use Rattle.builder_core.specs.SideFiles.{IsFed, EachEntryOnce, HasEntries, HaveEntries, SidesFollow, AreFedEntries, HasLookedAtSide, SeesSide, put_ends}
+use Rattle.builder_core.proofs.Places.{at_set, set_there, set_elsewhere, at_map}
+use Rattle.build_events.specs.BuildSteps.{after_feed}
+use Rattle.build_events.specs.Workers.{fed_to, unfed}
 
 -- looking at the ring
 
@@ -54,13 +54,13 @@ all_fed_looked b indexes puts ends index old_put put old_end end put_there end_t
     ]
 
 follow_looked :
-    (pages : List (PutEnd Copied)) (puts : List (PutEnd Entry)) (building : BuildingValue) (index : ℕ) (old_put put : PutEnd Entry) (old_end end : TakeEnd Entry)
+    (kinds : List Kind) (pages : List (PutEnd Copied)) (puts : List (PutEnd Entry)) (building : BuildingValue) (index : ℕ) (old_put put : PutEnd Entry) (old_end end : TakeEnd Entry)
     (build : Option BuildState) (work : Option WorkValue) → slice_get puts index ≡ Some old_put → slice_get building.sides index ≡ Some old_end
-    → HasLookedAtSide old_put old_end put end → WorkersFollow pages puts building build work
-    → WorkersFollow pages (set puts index put) (record building { sides = set building.sides index end }) build work
-follow_looked pages puts building index old_put put old_end end None work put_there end_there looked follow = tt
-follow_looked pages puts building index old_put put old_end end (Some b) None put_there end_there looked follow = tt
-follow_looked pages puts building index old_put put old_end end (Some b) (Some w) put_there end_there looked follow = record {
+    → HasLookedAtSide old_put old_end put end → WorkersFollow kinds pages puts building build work
+    → WorkersFollow kinds pages (set puts index put) (record building { sides = set building.sides index end }) build work
+follow_looked kinds pages puts building index old_put put old_end end None work put_there end_there looked follow = tt
+follow_looked kinds pages puts building index old_put put old_end end (Some b) None put_there end_there looked follow = tt
+follow_looked kinds pages puts building index old_put put old_end end (Some b) (Some w) put_there end_there looked follow = record {
   fed = all_fed_looked b w.indexes puts building.sides index old_put put old_end end put_there end_there looked follow.fed;
   given = follow.given;
   taking = follow.taking;
@@ -74,7 +74,7 @@ works_side_looked index live new_live building new looked works =
     subst (λ (l : LiveValue). WorksOn l new) (sym looked.puts)
     (subst (WorksOn (record live { sides = set live.sides index looked.put })) (sym looked.ends) (record {
       work = works.work;
-      workers = follow_looked live.pages live.sides building index looked.old_put looked.put looked.old_end looked.end live.state.build building.work
+      workers = follow_looked live.state.heap.schema live.pages live.sides building index looked.old_put looked.put looked.old_end looked.end live.state.build building.work
           looked.put_there looked.end_there looked.looked works.workers;
     }))
 
@@ -126,8 +126,14 @@ module _
     keys = subst (All (λ entry. IsKeyOf spec entry.key)) (sym all) has.keys;
     count =
         fed_after b index count less ∙ ap (λ n. n + count) has.count
-        ∙ sym (ap length feeds.fed ∙ length-append old.fed (take count old.left) ∙ ap (λ n. length old.fed + n) (fed_count old count most few));
-  }
+        ∙ sym many;
+    sent =
+        ap₂ (λ (n : ℕ) (xs : List Entry). last_ones n xs) many feeds.sent
+        ∙ last_more (length old.fed) count old.end.sent (take count old.left) (fed_count old count most few)
+        ∙ ap (λ xs. xs ++ take count old.left) has.sent ∙ sym feeds.fed;
+  } where
+    many : length new.fed ≡ length old.fed + count
+    many = ap length feeds.fed ∙ length-append old.fed (take count old.left) ∙ ap (λ n. length old.fed + n) (fed_count old count most few)
 
   -- all can be counted
   pub fed_countable : IsSideFile new → fed_to b index + count < 2 ^ 64
@@ -159,11 +165,11 @@ module _
 
   -- and so do the workers
   pub follow_fed :
-      (pages : List (PutEnd Copied)) (puts : List (PutEnd Entry)) (building : BuildingValue) (work : Option WorkValue) → slice_get puts index ≡ Some old.end
-      → fed_to b index + count < 2 ^ 64 → WorkersFollow pages puts building (Some b) work
-      → WorkersFollow pages (set puts index new.end) building (Some (after_feed b index count)) work
-  follow_fed pages puts building None there countable follow = tt
-  follow_fed pages puts building (Some w) there countable follow = record {
+      (kinds : List Kind) (pages : List (PutEnd Copied)) (puts : List (PutEnd Entry)) (building : BuildingValue) (work : Option WorkValue) → slice_get puts index ≡ Some old.end
+      → fed_to b index + count < 2 ^ 64 → WorkersFollow kinds pages puts building (Some b) work
+      → WorkersFollow kinds pages (set puts index new.end) building (Some (after_feed b index count)) work
+  follow_fed kinds pages puts building None there countable follow = tt
+  follow_fed kinds pages puts building (Some w) there countable follow = record {
     fed = λ k it p e at put taken. elim (at_set puts index new.end k p put) [
       | inl here ↦
           let was = follow.fed k it old.end e at (ap (slice_get puts) here.0 ∙ there) taken in
@@ -183,6 +189,7 @@ other_fed log b index count k spec side other has = record {
   entries = has.entries;
   keys = has.keys;
   count = fed_other b index count k other ∙ has.count;
+  sent = has.sent;
 }
 
 pub sides_fed :
@@ -240,13 +247,13 @@ fed_entries_there log b index spec side has =
 
 -- the fed entries are the first ones of the side-file, and the last that the ring was sent
 pub fed_entries :
-    (log : List LogRec) (b : BuildState) (index : ℕ) (spec : KeySpecValue) (side : SideFileValue) → HasEntries log b index spec side → IsSideFile side
+    (log : List LogRec) (b : BuildState) (index : ℕ) (spec : KeySpecValue) (side : SideFileValue) → HasEntries log b index spec side
     → AreFedEntries log b index spec side.end
-fed_entries log b index spec side has kept = record {
+fed_entries log b index spec side has = record {
   entries =
       let put : SideEntry → Entry = entry_of b.number in
       let es : List SideEntry = side_entries (scanning_of b spec) log in
-      ap (λ n. last_ones n side.end.sent) has.count ∙ kept.fed_last
+      ap (λ n. last_ones n side.end.sent) has.count ∙ has.sent
       ∙ sym (take-append_seam side.fed side.left)
       ∙ ap (take (length side.fed)) has.entries
       ∙ take-map put (length side.fed) es
@@ -257,13 +264,22 @@ fed_entries log b index spec side has kept = record {
 -- of the build that runs, if one does
 pub fed_if_running :
     (log : List LogRec) (build : Option BuildState) (index : ℕ) (sides : List SideFileValue) (side : SideFileValue) → SidesFollow log build sides
-    → slice_get sides index ≡ Some side → IsSideFile side
+    → slice_get sides index ≡ Some side
     → IfSome build (λ b. IfSome (slice_get b.specs index) (λ spec. AreFedEntries log b index spec side.end))
-fed_if_running log None index sides side has there kept = tt
-fed_if_running log (Some b) index sides side has there kept = by_spec (slice_get b.specs index) refl where
+fed_if_running log None index sides side has there = tt
+fed_if_running log (Some b) index sides side has there = by_spec (slice_get b.specs index) refl where
   by_spec : (o : Option KeySpecValue) → slice_get b.specs index ≡ o → IfSome o (λ spec. AreFedEntries log b index spec side.end)
   by_spec None is = tt
-  by_spec (Some spec) is = fed_entries log b index spec side (has index spec side is there) kept
+  by_spec (Some spec) is = fed_entries log b index spec side (has index spec side is there)
+
+-- so it is of each index, by the ends of the rings alone
+pub each_entry_once :
+    (log : List LogRec) (build : Option BuildState) (sides : List SideFileValue) → SidesFollow log build sides
+    → IfSome build (λ b. EachEntryOnce log b (put_ends sides))
+each_entry_once log None sides has = tt
+each_entry_once log (Some b) sides has = λ index spec put at there.
+    let side = at_map (λ (s : SideFileValue). s.end) sides index put there in
+    subst (AreFedEntries log b index spec) side.2 (fed_entries log b index spec side.0 (has index spec side.0 at side.1))
 
 -- what isn't fed is left
 pub left_unfed :

@@ -6,13 +6,15 @@ use Rattle.heap_table.specs.Calls.{OnState, Commits}
 use Rattle.heap_table.specs.HeapState.{HeapState, txn_refusal, after_commit}
 use Rattle.heap_table.specs.HeapValue.{HeapValue}
 use Rattle.building.specs.declared.copied.Copied.{Copied}
-use Rattle.builder_core.specs.Builds.{WorkValue, BuildFollows, IsWorkOf}
+use Rattle.builder_core.specs.Builds.{WorkValue, BuildFollows, IsWorkOf, BuildingValue, WorkersFollow}
 use Rattle.builder_core.specs.Rings.{PagesFollow}
-use Rattle.builder_core.specs.CoreState.{BuildState}
+use Rattle.build_events.specs.CoreState.{BuildState}
 use Rattle.heap_log.specs.declared.record.LogRec.TheVariants.{Commit}
 use Rattle.side_file.specs.SideFileValue.{SideFileValue}
+use Rattle.side_file.specs.Ends.{PutEnd}
+use Rattle.side_file.specs.declared.entry.Entry.{Entry}
 use Rattle.builder_core.specs.SideFiles.{SidesFollow}
-use Rattle.builder_core.proofs.EntrySteps.{commit_entries}
+use Rattle.build_events.proofs.EntrySteps.{commit_entries}
 use Rattle.builder_core.proofs.SideKept.{sides_plain}
 use Rattle.builder_core.proofs.Puts.{pages_kept}
 use Rattle.builder_core.proofs.TableBuilds.{build_kept, work_kept}
@@ -45,6 +47,16 @@ pub commit_works :
 commit_works old new txn build work (inl done) is works =
     subst (λ (h : HeapState). IsWorkOf h.schema h.log build work) (sym done) (work_kept old.schema old.log (Commit txn) build work is works)
 commit_works old new txn build work (inr refused) is works = subst (λ (h : HeapState). IsWorkOf h.schema h.log build work) (sym refused) works
+
+-- and its workers are
+pub commit_workers :
+    (old new : HeapState) (txn : ℕ) (pages : List (PutEnd Copied)) (puts : List (PutEnd Entry)) (building : BuildingValue) (build : Option BuildState)
+    (work : Option WorkValue) → (new ≡ after_commit old txn) ⊎ (new ≡ old) → WorkersFollow old.schema pages puts building build work
+    → WorkersFollow new.schema pages puts building build work
+commit_workers old new txn pages puts building build work (inl done) follow =
+    subst (λ (h : HeapState). WorkersFollow h.schema pages puts building build work) (sym done) follow
+commit_workers old new txn pages puts building build work (inr refused) follow =
+    subst (λ (h : HeapState). WorkersFollow h.schema pages puts building build work) (sym refused) follow
 
 -- the rings were sent its pages
 pub commit_pages :

@@ -8,10 +8,10 @@ use Rattle.keybytes.specs.declared.pair.Pair.{Pair}
 use Rattle.run_spool.specs.Spools.{HasFull}
 use Rattle.builder_core.specs.Builds.{LiveValue, BuildingValue, WorkValue, MayWork, core_state}
 use Rattle.builder_core.specs.Columns.{own_spools}
-use Rattle.builder_core.specs.CoreState.{BuildState}
+use Rattle.build_events.specs.CoreState.{BuildState}
 use Rattle.builder_core.specs.FullSpools.{WasFull, WorkerWasFull}
 use Rattle.builder_core.specs.Holding.{SpoolValue, stakes_of}
-use Rattle.builder_core.specs.BuildSteps.{OnBuild}
+use Rattle.build_events.specs.BuildSteps.{OnBuild}
 use Rattle.builder_core.proofs.OwnSpools.{map_own, own_there}
 use Rattle.builder_core.proofs.Places.{map_at}
 

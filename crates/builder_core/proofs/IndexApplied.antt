@@ -6,7 +6,7 @@ use Rattle.std.specs.FinMap.{keys}
 use Rattle.std.specs.FinSet.{FinSet}
 use Rattle.std.proofs.lemmas.List.{take-map, drop-map, map-set}
 use Rattle.std.proofs.lemmas.Option.{same_Some, get_or_from_slice_get}
-use Rattle.keybytes.specs.Pairs.{AreOrdered, pair_cmp, set_of}
+use Rattle.keybytes.specs.Pairs.{pair_cmp, set_of}
 use Rattle.keybytes.specs.declared.pair.Pair.{Pair}
 use Rattle.side_file.specs.Entries.{entry_of}
 use Rattle.side_file.specs.Kept.{last_ones}
@@ -27,20 +27,17 @@ use Rattle.std.specs.Prelude.{◌==◌}
 use Rattle.std.proofs.lemmas.Bool.{cases_Bool, eqb-true, eqb-false}
 use Rattle.builder_core.proofs.Places.{at_set, set_there, set_elsewhere, here_set, stays_there, below, map_at}
 use Rattle.builder_core.proofs.Works.{set_work_on}
-use Rattle.builder_core.specs.CoreState.{BuildState, IndexState, WorkState, scanning_of}
-use Rattle.builder_core.specs.Scanning.{Scanning, scanned_pairs}
-use Rattle.builder_core.specs.SideEntries.{side_entries}
+use Rattle.build_events.specs.CoreState.{BuildState, IndexState, WorkState, scanning_of}
+use Rattle.build_events.specs.Scanning.{Scanning, scanned_pairs}
+use Rattle.build_events.specs.SideEntries.{side_entries}
 use Rattle.builder_core.specs.SideFiles.{IsFed, AreFedEntries, SeesSide}
-use Rattle.builder_core.specs.BuildSteps.{after_apply}
-use Rattle.builder_core.specs.Workers.{fed_to, in_ring, index_at}
+use Rattle.build_events.specs.BuildSteps.{after_apply}
+use Rattle.build_events.specs.Workers.{fed_to, in_ring, index_at}
+use Rattle.build_events.proofs.Verdicts.{set_ordered}
 use Rattle.builder_core.specs.Working.{IsTakingEntries, CanApply, HasApplied}
 use Rattle.builder_core.proofs.Feeding.{waiting_in_ring}
 use Rattle.builder_core.proofs.Refusals.{state_of, state_is, works_with}
 use Rattle.keybytes.proofs.PairSets.{set_of-keys}
-
--- a set in order is ordered
-pub set_ordered : (s : FinSet pair_cmp) (pairs : List Pair) → pairs ≡ keys s → AreOrdered pairs
-set_ordered s pairs is = is ∙ ap keys (sym (set_of-keys s)) ∙ ap (λ ps. keys (set_of ps)) (sym is)
 
 -- the next of the first n
 next_of_first :

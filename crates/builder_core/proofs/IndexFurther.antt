@@ -10,11 +10,11 @@ use Rattle.keybytes.specs.Keys.{KeySpecValue}
 use Rattle.keybytes.specs.declared.fault.Fault.TheVariants.{NotLoaded}
 use Rattle.builder_core.specs.Builds.{LiveValue, BuildingValue, WorkValue, work_state, core_state, index_state}
 use Rattle.builder_core.specs.CatchingUp.{IndexIsFurther, left_at, unapplied_at, further_by}
-use Rattle.builder_core.specs.CoreState.{BuildState, IndexState, CoreState}
-use Rattle.builder_core.specs.BuildSteps.{OnBuild, Feeds, Applies, AppliesSome, build_cause, cause_if, apply_refusal, index_refusal}
-use Rattle.builder_core.specs.Steps.{refusal}
-use Rattle.builder_core.specs.Workers.{all_entries, fed_to, in_ring, index_at, unfed}
-use Rattle.builder_core.specs.declared.event.Event.TheVariants.{Apply}
+use Rattle.build_events.specs.CoreState.{BuildState, IndexState, CoreState}
+use Rattle.build_events.specs.BuildSteps.{OnBuild, Feeds, Applies, AppliesSome, build_cause, cause_if, apply_refusal, index_refusal}
+use Rattle.build_events.specs.Steps.{refusal}
+use Rattle.build_events.specs.Workers.{all_entries, fed_to, in_ring, index_at, unfed}
+use Rattle.build_events.specs.declared.event.Event.TheVariants.{Apply}
 use Rattle.builder_core.proofs.FedBeside.{indexes_seen}
 use Rattle.builder_core.proofs.IndexApplied.{AppliesNext}
 use Rattle.builder_core.proofs.Places.{below, here_set, map_at, set_same}

@@ -37,14 +37,14 @@ module _ (index : ℕ) (spec : KeySpecValue) (count : ℕ) where
       → AreHolding index spec indexes count old makers spools → AreHolding index spec indexes count new makers spools
   holding_looked indexes old new makers spools same holding k worker maker less at made =
       let it = same_at (knowing []) old new k worker (sym same) at in
-      subst (λ (v : WorkerValue). HoldsAt index spec (received_images v) (holdings (kit_of indexes k maker spools))) it.2 (holding k it.0 maker less it.1 made)
+      subst (λ (v : WorkerValue). HoldsAt index spec (received_images spec.kinds v) (holdings (kit_of indexes k maker spools))) it.2 (holding k it.0 maker less it.1 made)
 
   open_looked :
       (old new : List WorkerValue) (makers : List MakerValue) → map (knowing []) new ≡ map (knowing []) old → AreOpen index spec count old makers
       → AreOpen index spec count new makers
   open_looked old new makers same opened k worker maker less at made =
       let it = same_at (knowing []) old new k worker (sym same) at in
-      subst (λ (v : WorkerValue). HoldsOpen spec (unsealed_images v) (get_or maker.begun index [])) it.2 (opened k it.0 maker less it.1 made)
+      subst (λ (v : WorkerValue). HoldsOpen spec (unsealed_images spec.kinds v) (get_or maker.begun index [])) it.2 (opened k it.0 maker less it.1 made)
 
 -- rings that were looked at leave the kits
 pub kits_looked :
@@ -75,19 +75,19 @@ module _
 
   holding_set :
       (index : ℕ) (spec : KeySpecValue) → AreHolding index spec (length specs) count workers makers spools
-      → HoldsAt index spec (received_images new) (holdings after)
+      → HoldsAt index spec (received_images spec.kinds new) (holdings after)
       → AreHolding index spec (length specs) count (set workers i new) (set makers i after.maker) given_back
   holding_set index spec holding own k worker maker less at made = elim (at_set workers i new k worker at) [
     | inl it ↦
-        subst (λ (kit : Kit). HoldsAt index spec (received_images worker) (holdings kit)) (sym (kit_there k maker made it.0))
-        (subst (λ (v : WorkerValue). HoldsAt index spec (received_images v) (holdings after)) (sym it.1) own)
+        subst (λ (kit : Kit). HoldsAt index spec (received_images spec.kinds worker) (holdings kit)) (sym (kit_there k maker made it.0))
+        (subst (λ (v : WorkerValue). HoldsAt index spec (received_images spec.kinds v) (holdings after)) (sym it.1) own)
     | inr it ↦
-        subst (λ (kit : Kit). HoldsAt index spec (received_images worker) (holdings kit)) (sym (kit_elsewhere k maker it.0))
+        subst (λ (kit : Kit). HoldsAt index spec (received_images spec.kinds worker) (holdings kit)) (sym (kit_elsewhere k maker it.0))
         (holding k worker maker less it.1 (set_elsewhere makers i after.maker k maker made it.0))
   ]
 
   open_set :
-      (index : ℕ) (spec : KeySpecValue) → AreOpen index spec count workers makers → HoldsOpen spec (unsealed_images new) (get_or after.maker.begun index [])
+      (index : ℕ) (spec : KeySpecValue) → AreOpen index spec count workers makers → HoldsOpen spec (unsealed_images spec.kinds new) (get_or after.maker.begun index [])
       → AreOpen index spec count (set workers i new) (set makers i after.maker)
   open_set index spec opened own k worker maker less at made = elim (at_set workers i new k worker at) [
     | inl it ↦
@@ -115,8 +115,8 @@ lent_to specs count k makers spools equipped less = let enough = enough_for (len
 pub kits_set :
     (count : ℕ) (workers : List WorkerValue) (spools : List SpoolValue) (w : WorkValue) (i : ℕ) (new : WorkerValue) (after : Kit) → i < count
     → HaveKits count workers spools w → IsFit w.specs after
-    → ((index : ℕ) (spec : KeySpecValue) → slice_get w.specs index ≡ Some spec → HoldsOpen spec (unsealed_images new) (get_or after.maker.begun index []))
-    → ((index : ℕ) (spec : KeySpecValue) → slice_get w.specs index ≡ Some spec → IsUnloaded index w → HoldsAt index spec (received_images new) (holdings after))
+    → ((index : ℕ) (spec : KeySpecValue) → slice_get w.specs index ≡ Some spec → HoldsOpen spec (unsealed_images spec.kinds new) (get_or after.maker.begun index []))
+    → ((index : ℕ) (spec : KeySpecValue) → slice_get w.specs index ≡ Some spec → IsUnloaded index w → HoldsAt index spec (received_images spec.kinds new) (holdings after))
     → HaveKits count (set workers i new) (with_own (length w.specs) i after.spools spools) (record w { makers = set w.makers i after.maker })
 kits_set count workers spools w i new after less kits fit opened held =
     let enough = lent_to w.specs count i w.makers spools kits.equipped less in
@@ -200,8 +200,8 @@ started_kits builds pages before kinds specs count number spools columns many em
       let it = at_map (begun_on (builds + 1)) pages k worker at in
       let fresh_one : maker ≡ fresh_maker kinds specs = replicate_at count (fresh_maker kinds specs) k maker made in
       let none : get_or maker.begun index [] ≡ [] = ap (λ (m : MakerValue). get_or m.begun index []) fresh_one ∙ nothing_begun specs index in
-      rw none (subst (λ (v : WorkerValue). HoldsOpen spec (unsealed_images v) []) it.2
-      (start_open (builds + 1) spec (record { ring = it.0.ring; received = it.0.sent; known = [] }) (of_earlier builds pages before k it.0 it.1)));
+      rw none (subst (λ (v : WorkerValue). HoldsOpen spec (unsealed_images spec.kinds v) []) it.2
+      (start_open (builds + 1) spec.kinds spec (record { ring = it.0.ring; received = it.0.sent; known = [] }) (of_earlier builds pages before k it.0 it.1)));
   holding = λ index spec is none k worker maker less at made.
       let it = at_map (begun_on (builds + 1)) pages k worker at in
       let fresh_one : maker ≡ fresh_maker kinds specs = replicate_at count (fresh_maker kinds specs) k maker made in
@@ -210,8 +210,8 @@ started_kits builds pages before kinds specs count number spools columns many em
       let runs : get_or (runs_of own) index [] ≡ [] =
       no_pair (runs_of own) index (mapped_of (λ (rs : List (List Pair)). rs ≡ []) (λ (s : SpoolValue). s.runs) own
       (λ j s there. (own_empty (length specs) k spools empty j s there).0)) in
-      rw (begun, runs) (subst (λ (v : WorkerValue). HoldsPairs spec (received_images v) [] []) it.2
-      (start_holds (builds + 1) spec (record { ring = it.0.ring; received = it.0.sent; known = [] }) (of_earlier builds pages before k it.0 it.1)));
+      rw (begun, runs) (subst (λ (v : WorkerValue). HoldsPairs spec (received_images spec.kinds v) [] []) it.2
+      (start_holds (builds + 1) spec.kinds spec (record { ring = it.0.ring; received = it.0.sent; known = [] }) (of_earlier builds pages before k it.0 it.1)));
 }
 
 -- what holds of what a worker's spools have, and of none, holds of it where the spools of an index are ended
@@ -234,7 +234,7 @@ holding_elsewhere n i j spec count workers makers spools there here other holdin
     own_at n k (ended_column i n spools) j here
     ∙ ap (λ (l : List SpoolValue). slice_get l k) (every_elsewhere ended_spool (n - 1) j i spools (omega (arith, here)) (omega (arith, there)) other)
     ∙ sym (own_at n k spools j here) in
-    subst (λ (rs : List (List Pair)). HoldsPairs spec (received_images worker) rs (get_or maker.begun j [])) (sym (read_same runs new old j same))
+    subst (λ (rs : List (List Pair)). HoldsPairs spec (received_images spec.kinds worker) rs (get_or maker.begun j [])) (sym (read_same runs new old j same))
     (holding k worker maker less at made)
 
 -- once the pairs of an index are in order, and its spools ended, the kits are as fit

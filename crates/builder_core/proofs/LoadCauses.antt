@@ -14,12 +14,12 @@ use Rattle.side_file.specs.Ends.{PutEnd}
 use Rattle.building.specs.WorkerValue.{WorkerValue}
 use Rattle.building.specs.declared.copied.Copied.{Copied}
 use Rattle.builder_core.specs.Builds.{LiveValue, BuildingValue, WorkValue, work_state, core_state, worker_state, IsRunning}
-use Rattle.builder_core.specs.CoreState.{BuildState, WorkState}
-use Rattle.builder_core.specs.Ranges.{first_that, open_range}
+use Rattle.build_events.specs.CoreState.{BuildState, WorkState}
+use Rattle.build_events.specs.Ranges.{first_that, open_range}
 use Rattle.builder_core.specs.Rings.{all_sent, ArePut, AreDone, IsUnfinished, IsDone}
-use Rattle.builder_core.specs.BuildSteps.{cause_if, build_cause, load_refusal}
-use Rattle.builder_core.specs.Workers.{is_quiet, worker_at, loud_worker}
-use Rattle.builder_core.proofs.NextPages.{first_left, none_left}
+use Rattle.build_events.specs.BuildSteps.{cause_if, build_cause, load_refusal}
+use Rattle.build_events.specs.Workers.{is_quiet, worker_at, loud_worker}
+use Rattle.build_events.proofs.NextPages.{first_left, none_left}
 use Rattle.builder_core.proofs.Places.{there_is, map_at}
 use Rattle.builder_core.proofs.Refusals.{state_is, worker_there}
 use Rattle.builder_core.proofs.Waits.{quiet_is, is_quiet-quiet}

@@ -13,22 +13,22 @@ use Rattle.side_file.specs.Ends.{PutEnd}
 use Rattle.building.specs.declared.copied.Copied.{Copied}
 use Rattle.builder_core.specs.Builds.{LiveValue, BuildingValue, WorkValue, IndexValue, IsRunning, IsIndexOn, IsUnloaded, AreFed, WorksOn, with_index, with_pairs}
 use Rattle.builder_core.specs.Builds.{work_state, core_state, index_state}
-use Rattle.builder_core.specs.CoreState.{BuildState, IndexState, WorkState, SpoolsState, scanning_of}
+use Rattle.build_events.specs.CoreState.{BuildState, IndexState, WorkState, SpoolsState, scanning_of}
 use Rattle.builder_core.specs.Columns.{own_spools, column}
 use Rattle.builder_core.specs.Holding.{SpoolValue, runs_of, pairs_in, ended_spool, ended_column, spools_state}
 use Rattle.run_spool.specs.Spools.{AreSorted, all_pairs}
 use Rattle.run_merge.specs.Merging.{all_runs}
 use Rattle.std.specs.Prelude.{All, map}
 use Rattle.std.proofs.lemmas.List.Concat.{flat_map-append}
-use Rattle.builder_core.specs.Ranges.{open_range}
+use Rattle.build_events.specs.Ranges.{open_range}
 use Rattle.builder_core.specs.Rings.{all_sent, ArePut, AreDone, PagesFollow}
-use Rattle.builder_core.specs.Scanning.{pairs_at_scan, scanned_pairs}
-use Rattle.builder_core.specs.BuildSteps.{OnBuild, Loads, pairs_copied, after_load}
+use Rattle.build_events.specs.Scanning.{pairs_at_scan, scanned_pairs}
+use Rattle.build_events.specs.BuildSteps.{OnBuild, Loads, pairs_copied, after_load}
 use Rattle.builder_core.specs.SideFiles.{IsFed}
-use Rattle.builder_core.specs.Workers.{put_to, fed_to, index_at}
+use Rattle.build_events.specs.Workers.{put_to, fed_to, index_at}
 use Rattle.catch_up.specs.Built.{BuiltValue}
 use Rattle.builder_core.specs.Working.{AreEachOnce, CanLoad, HasLoaded, HasSorted, IsSpoiled}
-use Rattle.builder_core.specs.declared.scan.Scan.{Scan}
+use Rattle.build_events.specs.declared.scan.Scan.{Scan}
 use Rattle.builder_core.proofs.Columns.{kept_changed}
 use Rattle.builder_core.proofs.Kits.{kits_sorted}
 use Rattle.builder_core.proofs.OwnSpools.{column_there, column_many}
@@ -43,7 +43,7 @@ use Rattle.std.proofs.lemmas.Cmp.{eq_by_cmp_equiv}
 use Rattle.std.specs.Ordering.{eq_by_cmp}
 use Rattle.keybytes.specs.Pairs.{pair_cmp}
 use Rattle.keybytes.proofs.PairSets.{pairs_total}
-use Rattle.builder_core.proofs.Distinct.{scanned_distinct}
+use Rattle.build_events.proofs.Distinct.{scanned_distinct}
 use Rattle.builder_core.proofs.Works.{sorted_work_on}
 
 -- the runs of each spool of an index are in order

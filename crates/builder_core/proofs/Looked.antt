@@ -2,12 +2,13 @@
 use Rattle.std.proofs.Common.{◌≡◌, List, [], map, Option, Some, None, refl, sym, ap, ◌∙◌, subst}
 use Rattle.building.specs.WorkerValue.{WorkerValue}
 use Rattle.building.specs.Work.{knowing}
-use Rattle.builder_core.specs.Builds.{LiveValue, BuildingValue, WorkValue, HasLooked, IsRunning, WorkersFollow, WorksOn, HaveKits, work_state, core_state}
+use Rattle.builder_core.specs.Builds.{LiveValue, BuildingValue, WorkValue, HasLooked, IsRunning, WorkersFollow, WorksOn, HaveKits, work_state, core_state, AreAtWork}
 use Rattle.builder_core.specs.Builds.{state_unless, index_state}
-use Rattle.builder_core.specs.CoreState.{BuildState, LiveState, WorkState, SpoolsState}
+use Rattle.build_events.specs.CoreState.{BuildState, LiveState, WorkState, SpoolsState}
 use Rattle.builder_core.specs.Holding.{SpoolValue, spools_state}
 use Rattle.builder_core.proofs.AtWork.{states_same, taking_same}
 use Rattle.builder_core.proofs.Kits.{kits_looked}
+use Rattle.keybytes.specs.declared.kind.Kind.{Kind}
 
 -- callers see no difference
 states_looked : (old new : List WorkerValue) (work : Option WorkValue) → map (knowing []) new ≡ map (knowing []) old → work_state new work ≡ work_state old work
@@ -29,14 +30,15 @@ state_looked live new_live building new looked =
 
 -- and all goes on
 workers_after :
-    (live new_live : LiveValue) (building new : BuildingValue) (build : Option BuildState) (work : Option WorkValue) → HasLooked live building new_live new
-    → WorkersFollow live.pages live.sides building build work → WorkersFollow new_live.pages new_live.sides new build work
-workers_after live new_live building new None work looked follow = tt
-workers_after live new_live building new (Some b) None looked follow = tt
-workers_after live new_live building new (Some b) (Some w) looked follow = record {
+    (kinds : List Kind) (live new_live : LiveValue) (building new : BuildingValue) (build : Option BuildState) (work : Option WorkValue)
+    → HasLooked live building new_live new
+    → WorkersFollow kinds live.pages live.sides building build work → WorkersFollow kinds new_live.pages new_live.sides new build work
+workers_after kinds live new_live building new None work looked follow = tt
+workers_after kinds live new_live building new (Some b) None looked follow = tt
+workers_after kinds live new_live building new (Some b) (Some w) looked follow = record {
   fed = rw (looked.sides, looked.other_sides) follow.fed;
   given = looked.given ∙ follow.given;
-  taking = λ fine. rw looked.rings.sent (taking_same b.number b.workers _ building.workers new.workers looked.rings.same (follow.taking fine));
+  taking = λ fine. rw looked.rings.sent (taking_same b.number kinds b.workers _ building.workers new.workers looked.rings.same (follow.taking fine));
   kits = λ fine.
       subst (λ (spools : List SpoolValue). HaveKits b.workers new.workers spools w) (sym looked.spools)
       (kits_looked b.workers building.workers new.workers building.spools w looked.rings.same (follow.kits fine));
@@ -46,9 +48,9 @@ pub works_looked : (live new_live : LiveValue) (building new : BuildingValue) �
 works_looked live new_live building new looked works = record {
   work = rw (looked.state, looked.work) works.work;
   workers =
-      subst (WorkersFollow new_live.pages new_live.sides new new_live.state.build) (sym looked.work)
-      (subst (λ (s : LiveState). WorkersFollow new_live.pages new_live.sides new s.build building.work) (sym looked.state)
-      (workers_after live new_live building new live.state.build building.work looked works.workers));
+      subst (WorkersFollow new_live.state.heap.schema new_live.pages new_live.sides new new_live.state.build) (sym looked.work)
+      (subst (λ (s : LiveState). WorkersFollow s.heap.schema new_live.pages new_live.sides new s.build building.work) (sym looked.state)
+      (workers_after live.state.heap.schema live new_live building new live.state.build building.work looked works.workers));
 }
 
 pub runs_looked :
@@ -59,5 +61,6 @@ runs_looked live new_live building new b w looked run = record {
   work_is = looked.work ∙ run.work_is;
   follows = rw looked.state run.follows;
   on = rw looked.state run.on;
-  at_work = workers_after live new_live building new (Some b) (Some w) looked run.at_work;
+  at_work = subst (λ (s : LiveState). AreAtWork s.heap.schema b new_live.pages new_live.sides new w) (sym looked.state)
+      (workers_after live.state.heap.schema live new_live building new (Some b) (Some w) looked run.at_work);
 }

@@ -5,29 +5,25 @@ use Rattle.std.proofs.lemmas.Bool.{cond-true, cond-false, or_cases, or_left, or_
 use Rattle.std.proofs.lemmas.List.Elements.{All-cons, All-nil}
 use Rattle.std.proofs.lemmas.Option.{same_Some}
 use Rattle.keybytes.specs.Keys.{KeySpecValue}
-use Rattle.keybytes.specs.Pairs.{AreOrdered}
 use Rattle.keybytes.specs.declared.fault.Fault.TheVariants.{Busy}
 use Rattle.keybytes.specs.declared.pair.Pair.{Pair}
 use Rattle.keybytes.proofs.PairSets.{is_in, tied_pairs}
-use Rattle.heap_log.specs.declared.record.LogRec.{LogRec}
 use Rattle.heap_table.specs.HeapState.{HeapState, busy_txns}
 use Rattle.heap_table.specs.Sound.{HoldsFollowLog}
-use Rattle.heap_table.specs.TablePairs.{index_pairs, pairs_at_rest}
+use Rattle.heap_table.specs.TablePairs.{pairs_at_rest}
 use Rattle.key_guards.specs.UniqueKeys.{HaveOwnKeys}
 use Rattle.tree_nodes.specs.Lists.{In}
-use Rattle.unique_verdict.specs.Shared.{shared_pairs}
-use Rattle.unique_verdict.specs.Verdicts.{IsUnique, IsVerdict, accepts, first_shared}
+use Rattle.unique_verdict.specs.Verdicts.{IsUnique, IsVerdict, accepts}
 use Rattle.unique_verdict.specs.declared.verdict.Verdict.{Verdict}
 use Rattle.unique_verdict.specs.declared.verdict.Verdict.TheVariants.{Unique, Shared}
-use Rattle.unique_verdict.proofs.VerdictFacts.{verdict_right}
 use Rattle.builder_core.specs.Builds.{IndexValue}
 use Rattle.builder_core.specs.CatchingUp.{built_pairs, its_verdict, ready_of}
 use Rattle.ready_indexes.specs.Following.{MayFollow}
-use Rattle.builder_core.specs.CoreState.{BuildState}
+use Rattle.build_events.specs.CoreState.{BuildState}
 use Rattle.ready_indexes.specs.Indexes.{ReadyValue, index_now}
-use Rattle.builder_core.specs.BuildSteps.{busy_refusal, cause_if}
-use Rattle.builder_core.specs.Verdicts.{accepted, verdict_on}
-use Rattle.builder_core.proofs.IndexApplied.{set_ordered}
+use Rattle.build_events.specs.BuildSteps.{busy_refusal, cause_if}
+use Rattle.build_events.specs.Verdicts.{accepted, verdict_on}
+use Rattle.build_events.proofs.Verdicts.{verdict_is_right, accepted_more, accepted_same}
 
 -- an accepted index comes before those that the others make ready
 module _
@@ -43,13 +39,6 @@ module _
   pub ready_same : accepts (its_verdict index) ≡ false → ready_of specs indexes ≡ ready_of rest others
   ready_same drops = ap₂ ready_of is are ∙ cond-false (accepts (its_verdict index)) (it ∷ ready_of rest others) (ready_of rest others) drops
 
--- the same of the specifications
-pub accepted_more : (log : List LogRec) (spec : KeySpecValue) (specs : List KeySpecValue) → accepts (verdict_on log spec) ≡ true → accepted log (spec ∷ specs) ≡ spec ∷ accepted log specs
-accepted_more log spec specs takes = cond-true (accepts (verdict_on log spec)) (spec ∷ accepted log specs) (accepted log specs) takes
-
-pub accepted_same : (log : List LogRec) (spec : KeySpecValue) (specs : List KeySpecValue) → accepts (verdict_on log spec) ≡ false → accepted log (spec ∷ specs) ≡ accepted log specs
-accepted_same log spec specs drops = cond-false (accepts (verdict_on log spec)) (spec ∷ accepted log specs) (accepted log specs) drops
-
 -- pairs of which no two have one key, as guards ask for them
 in_of : (p : Pair) (ps : List Pair) → is_in p ps ≡ true → In p ps
 in_of p [] e = absurd (cc)
@@ -64,13 +53,6 @@ own_keys ps unique = record { one = λ p q i j same. unique.alone p q (in_of p p
 unique_of : (ps : List Pair) (verdict : Verdict) → IsVerdict ps verdict → accepts verdict ≡ true → IsUnique ps
 unique_of ps Unique is takes = is
 unique_of ps (Shared key first second) is takes = absurd (cc)
-
--- the verdict on a unique index is right for the pairs at rest
-pub verdict_is_right : (log : List LogRec) (spec : KeySpecValue) → spec.unique ≡ true → IsVerdict (pairs_at_rest spec log) (verdict_on log spec)
-verdict_is_right log spec unique =
-    let pairs : List Pair = pairs_at_rest spec log in
-    let ordered : AreOrdered pairs = set_ordered (index_pairs spec log) pairs refl in
-    subst (IsVerdict pairs) (sym (cond-true spec.unique (first_shared (shared_pairs pairs)) Unique unique)) (verdict_right pairs ordered)
 
 -- where no writer is open beside a unique index, the accepted ones may follow the table
 pub may_follow :

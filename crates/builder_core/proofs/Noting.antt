@@ -10,7 +10,7 @@ use Rattle.visibility.specs.SideEntries.{entries_of_change}
 use Rattle.visibility.specs.declared.change.Change.{Change}
 use Rattle.builder_core.specs.SideFiles.{noted}
 use Rattle.builder_core.specs.Changing.{without_room, IsChangeOf, AreChangesOf, IsLonger, HaveAppended, HaveNoted, change_entries}
-use Rattle.builder_core.specs.CoreState.{BuildState}
+use Rattle.build_events.specs.CoreState.{BuildState}
 use Rattle.builder_core.proofs.Places.{at_set, below, same_at, there_is}
 
 -- the place behind a list, and those of the list
@@ -33,7 +33,7 @@ nothing_at (x ∷ xs) (suc i) behind = nothing_at xs i (omega (arith, behind))
 
 -- a side-file to which nothing was appended
 not_longer : (side : SideFileValue) → IsLonger [] side side
-not_longer side = record { fed = refl; left = sym (append-nil side.left) }
+not_longer side = record { fed = refl; left = sym (append-nil side.left); end = refl }
 
 pub none_appended : (number : ℕ) (rid : Rid) (sides : List SideFileValue) → HaveAppended number rid [] sides sides
 none_appended number rid sides = λ k old new at there.
@@ -43,14 +43,18 @@ none_appended number rid sides = λ k old new at there.
 pub more_appended :
     (number : ℕ) (rid : Rid) (changes : List Change) (change : Change) (olds mids : List SideFileValue) (k : ℕ) (mid new : SideFileValue) → k ≡ length changes
     → HaveAppended number rid changes olds mids → slice_get mids k ≡ Some mid → new.fed ≡ mid.fed → new.left ≡ mid.left ++ map (entry_of number) (entries_of_change rid change)
-    → HaveAppended number rid (changes ++ change ∷ []) olds (set mids k new)
-more_appended number rid changes change olds mids k mid new counted done there fed left = λ i old side at now. elim (at_set mids k new i side now) [
+    → new.end ≡ mid.end → HaveAppended number rid (changes ++ change ∷ []) olds (set mids k new)
+more_appended number rid changes change olds mids k mid new counted done there fed left ends = λ i old side at now. elim (at_set mids k new i side now) [
   | inl here ↦
       let place : i ≡ length changes = here.0 ∙ counted in
       let was = done i old mid at (ap (slice_get mids) here.0 ∙ there) in
       let none : change_entries number rid (slice_get changes i) ≡ [] = ap (change_entries number rid) (nothing_at changes i (omega (arith, place))) in
       let old_left : mid.left ≡ old.left = was.left ∙ ap (λ es. old.left ++ es) none ∙ append-nil old.left in
-      rw (here.1, last_at changes change i place) (record { fed = fed ∙ was.fed; left = left ∙ ap (λ es. es ++ map (entry_of number) (entries_of_change rid change)) old_left })
+      rw (here.1, last_at changes change i place) (record {
+        fed = fed ∙ was.fed;
+        left = left ∙ ap (λ es. es ++ map (entry_of number) (entries_of_change rid change)) old_left;
+        end = ends ∙ was.end;
+      })
   | inr other ↦
       rw (others_at changes change i (λ same. other.0 (same ∙ sym counted))) (done i old side at other.1)
 ]
@@ -100,4 +104,5 @@ noted_over b ready olds mids news same have = λ k spec old new at was now.
     record {
       fed = longer.fed ∙ ap (λ (s : SideFileValue). s.fed) mid.2;
       left = longer.left ∙ ap (λ (s : SideFileValue). s.left ++ map (entry_of b.number) (noted b spec ready.rid ready.old ready.new)) mid.2;
+      end = longer.end ∙ ap (λ (s : SideFileValue). s.end) mid.2;
     }

@@ -6,11 +6,11 @@ use Rattle.std.proofs.lemmas.List.{take_at, length-map}
 use Rattle.std.proofs.lemmas.Option.{get_or_from_slice_get}
 use Rattle.spool_ledger.specs.Accounts.{Stake}
 use Rattle.keybytes.specs.Keys.{KeySpecValue}
+use Rattle.keybytes.specs.declared.kind.Kind.{Kind}
 use Rattle.keybytes.specs.declared.pair.Pair.{Pair}
 use Rattle.heap_table.specs.Images.{ImageValue}
 use Rattle.run_spool.specs.Spools.{AreSorted}
 use Rattle.run_maker.specs.Making.{MakerValue, AreReady, Holdings}
-use Rattle.building.specs.ImagePairs.{HaveRows}
 use Rattle.building.specs.Work.{next_images, after_digest}
 use Rattle.building.specs.WorkerValue.{WorkerValue}
 use Rattle.builder_core.specs.Columns.{with_own}
@@ -85,6 +85,9 @@ module _
     its_maker : maker ≡ can.maker
     its_maker = read_at makers i can.maker maker can.made made
 
+    its_schema : maker.schema ≡ can.maker.schema
+    its_schema = ap (λ (m : MakerValue). m.schema) its_maker
+
     -- there is a spool for each index
     pub lent_many : length own ≡ length maker.specs
     lent_many = own_many ∙ ap length (sym (ap (λ (m : MakerValue). m.specs) its_maker ∙ can.fit.indexes))
@@ -92,10 +95,6 @@ module _
     module _ (worker : WorkerValue) (works : worker ≡ get_or workers i worker) where
       its_worker : worker ≡ can.it
       its_worker = read_at workers i can.it worker can.there works
-
-      -- the rows of what it takes can be read
-      pub its_rows : HaveRows maker.schema (next_images (count worker) worker)
-      its_rows = rw (its_maker, its_worker) can.rows
 
       -- what the call left in the maker's place and in the spools'
       module _
@@ -131,15 +130,16 @@ module _
         -- what is said of all that is held is said of the kit
         held_after :
             (R : List KeySpecValue → List ImageValue → Holdings → Holdings → Type 0)
-            → R maker.specs (next_images (count worker) worker) (held maker own) (held new left)
-            → R specs (next_images (count can.it) can.it) (holdings kit) (holdings kit_after)
+            → R maker.specs (next_images (count worker) maker.schema worker) (held maker own) (held new left)
+            → R specs (next_images (count can.it) can.maker.schema can.it) (holdings kit) (holdings kit_after)
         held_after R all =
-            let its : List ImageValue = next_images (count can.it) can.it in
+            let its : List ImageValue = next_images (count can.it) can.maker.schema can.it in
             let before : held maker own ≡ holdings kit =
             ap₂ (λ (rs : List (List (List Pair))) (m : MakerValue). record { runs = rs; begun = m.begun }) lent_runs its_maker in
             let behind : held new left ≡ holdings kit_after = ap (λ (rs : List (List (List Pair))). record { runs = rs; begun = new.begun }) runs_after in
             let indexes : maker.specs ≡ specs = ap (λ (m : MakerValue). m.specs) its_maker ∙ can.fit.indexes in
-            let of_it = subst (λ (w : WorkerValue). R maker.specs (next_images (count w) w) (held maker own) (held new left)) its_worker all in
+            let of_columns = subst (λ (ks : List Kind). R maker.specs (next_images (count worker) ks worker) (held maker own) (held new left)) its_schema all in
+            let of_it = subst (λ (w : WorkerValue). R maker.specs (next_images (count w) can.maker.schema w) (held maker own) (held new left)) its_worker of_columns in
             let of_specs = subst (λ (ss : List KeySpecValue). R ss its (held maker own) (held new left)) indexes of_it in
             let of_kit = subst (λ (h : Holdings). R specs its h (held new left)) before of_specs in
             subst (λ (h : Holdings). R specs its (holdings kit) h) behind of_kit
@@ -149,9 +149,9 @@ module _
             (closing : WorkerValue → WorkerValue) (R : List KeySpecValue → List ImageValue → Holdings → Holdings → Type 0)
             (Spools : List KeySpecValue → List ImageValue → Kit → Kit → Type 0)
             → ((images : List ImageValue) → R specs images (holdings kit) (holdings kit_after) → Spools specs images kit kit_after)
-            → R maker.specs (next_images (count worker) worker) (held maker own) (held new left)
-            → (images : ℕ) → images ≡ length (next_images (count worker) worker)
-            → (new_worker : WorkerValue) → new_worker ≡ closing (after_digest (count worker) worker)
+            → R maker.specs (next_images (count worker) maker.schema worker) (held maker own) (held new left)
+            → (images : ℕ) → images ≡ length (next_images (count worker) maker.schema worker)
+            → (new_worker : WorkerValue) → new_worker ≡ closing (after_digest (count worker) maker.schema worker)
             → (n : ℕ) (front back rest : List S) → n ≡ length spools → front ≡ take (i * length specs) spools
             → back ≡ drop (length specs) (drop (i * length specs) spools)
             → HasTakenAt specs i count closing Spools workers makers (map value spools) images (set workers i new_worker) (set makers i new)
@@ -161,12 +161,12 @@ module _
           there = can.there;
           maker = can.maker;
           made = can.made;
-          counted = counted ∙ ap (λ (w : WorkerValue). length (next_images (count w) w)) its_worker;
+          counted = counted ∙ ap (λ (ks : List Kind). length (next_images (count worker) ks worker)) its_schema ∙ ap (λ (w : WorkerValue). length (next_images (count w) can.maker.schema w)) its_worker;
           after = kit_after;
           fit = fit_after;
           stakes = mapped value (λ (v : SpoolValue). v.stake) left ∙ stakes ∙ sym (ap stakes_of lent_are ∙ mapped value (λ (v : SpoolValue). v.stake) own);
-          spools_more = told (next_images (count can.it) can.it) (held_after R all);
-          workers_are = ap (set workers i) (took ∙ ap (λ (w : WorkerValue). closing (after_digest (count w) w)) its_worker);
+          spools_more = told (next_images (count can.it) can.maker.schema can.it) (held_after R all);
+          workers_are = ap (set workers i) (took ∙ ap (λ (ks : List Kind). closing (after_digest (count worker) ks worker)) its_schema ∙ ap (λ (w : WorkerValue). closing (after_digest (count w) can.maker.schema w)) its_worker);
           makers_are = refl;
           spools_are =
               ap (map value) (given_back spools front left back rest (length specs) i n before behind left_many lent_there long)

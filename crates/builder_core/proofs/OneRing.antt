@@ -12,17 +12,18 @@ use Rattle.heap_table.specs.Images.{ImageValue, IsImage}
 use Rattle.heap_table.specs.Pages.{pages_written}
 use Rattle.side_file.specs.Ends.{PutEnd, RingId}
 use Rattle.side_file.specs.declared.entry.Entry.{Entry}
+use Rattle.building.specs.Copies.{IsFor}
 use Rattle.building.specs.declared.copied.Copied.{Copied}
 use Rattle.builder_core.specs.Builds.{LiveValue, BuildingValue, WorkValue, BuildFollows, WorkersFollow, page_refusal, full_refusal, put_refusal, free_places}
-use Rattle.builder_core.specs.CoreState.{BuildState, LiveState}
-use Rattle.builder_core.specs.Ranges.{next_page}
+use Rattle.build_events.specs.CoreState.{BuildState, LiveState}
+use Rattle.build_events.specs.Ranges.{next_page}
 use Rattle.builder_core.specs.Rings.{all_sent, AreOfBuilds, ArePut, ArePutEnds, AreTaking, HasPut}
-use Rattle.builder_core.specs.BuildSteps.{OnBuild}
+use Rattle.build_events.specs.BuildSteps.{OnBuild}
 use Rattle.builder_core.proofs.Places.{kept, all_at}
 use Rattle.building.proofs.Taking.{put_taking}
 use Rattle.builder_core.proofs.AtWork.{taking_put}
 use Rattle.builder_core.proofs.Puts.{put_scanned}
-use Rattle.builder_core.proofs.ScanSteps.{scan_now}
+use Rattle.build_events.proofs.ScanSteps.{scan_now}
 use Rattle.builder_core.proofs.TableBuilds.{next_written}
 
 -- the ends are of the same rings
@@ -47,14 +48,14 @@ sent_put pages i new = map-set (λ (end : PutEnd Copied). end.sent) pages i new
 
 -- the workers go on as before
 pub workers_looked :
-    (old new : List (PutEnd Copied)) (sides : List (PutEnd Entry)) (building : BuildingValue) (build : Option BuildState) (work : Option WorkValue)
-    → all_sent new ≡ all_sent old → WorkersFollow old sides building build work → WorkersFollow new sides building build work
-workers_looked old new sides building None work same follow = tt
-workers_looked old new sides building (Some b) None same follow = tt
-workers_looked old new sides building (Some b) (Some w) same follow = record {
+    (kinds : List Kind) (old new : List (PutEnd Copied)) (sides : List (PutEnd Entry)) (building : BuildingValue) (build : Option BuildState) (work : Option WorkValue)
+    → all_sent new ≡ all_sent old → WorkersFollow kinds old sides building build work → WorkersFollow kinds new sides building build work
+workers_looked kinds old new sides building None work same follow = tt
+workers_looked kinds old new sides building (Some b) None same follow = tt
+workers_looked kinds old new sides building (Some b) (Some w) same follow = record {
   fed = follow.fed;
   given = follow.given;
-  taking = λ fine. subst (λ (all : List (List Copied)). AreTaking b.number b.workers all building.workers) (sym same) (follow.taking fine);
+  taking = λ fine. subst (λ (all : List (List Copied)). AreTaking b.number kinds b.workers all building.workers) (sym same) (follow.taking fine);
   kits = follow.kits;
 }
 
@@ -113,16 +114,16 @@ put_next kinds log builds b all worker page records number sent image is there n
 
 -- a worker goes on taking what its ring is sent
 pub workers_put :
-    (pages : List (PutEnd Copied)) (sides : List (PutEnd Entry)) (building : BuildingValue) (b new : BuildState) (work : Option WorkValue)
-    (i : ℕ) (sent : List Copied) (copied : Copied) (put : List (PutEnd Copied)) → WorkersFollow pages sides building (Some b) work
-    → slice_get (all_sent pages) i ≡ Some sent → all_sent put ≡ set (all_sent pages) i (sent ++ copied ∷ []) → copied.build ≡ b.number
-    → new.number ≡ b.number → new.workers ≡ b.workers → new.fed ≡ b.fed → WorkersFollow put sides building (Some new) work
-workers_put pages sides building b new None i sent copied put follow there is own number workers fed = tt
-workers_put pages sides building b new (Some w) i sent copied put follow there is own number workers fed = record {
+    (kinds : List Kind) (pages : List (PutEnd Copied)) (sides : List (PutEnd Entry)) (building : BuildingValue) (b new : BuildState) (work : Option WorkValue)
+    (i : ℕ) (sent : List Copied) (copied : Copied) (put : List (PutEnd Copied)) → WorkersFollow kinds pages sides building (Some b) work
+    → slice_get (all_sent pages) i ≡ Some sent → all_sent put ≡ set (all_sent pages) i (sent ++ copied ∷ []) → IsFor b.number kinds copied
+    → new.number ≡ b.number → new.workers ≡ b.workers → new.fed ≡ b.fed → WorkersFollow kinds put sides building (Some new) work
+workers_put kinds pages sides building b new None i sent copied put follow there is own number workers fed = tt
+workers_put kinds pages sides building b new (Some w) i sent copied put follow there is own number workers fed = record {
   fed = rw fed follow.fed;
   taking = λ fine.
-      rw (is, number, workers) (taking_put b.number b.workers (all_sent pages) building.workers i (sent ++ copied ∷ []) (follow.taking fine)
-      (λ worker less at. put_taking b.number sent worker (follow.taking fine i sent worker less there at) copied own));
+      rw (is, number, workers) (taking_put b.number kinds b.workers (all_sent pages) building.workers i (sent ++ copied ∷ []) (follow.taking fine)
+      (λ worker less at. put_taking b.number kinds sent worker (follow.taking fine i sent worker less there at) copied own));
   given = follow.given;
   kits = λ fine. rw workers (follow.kits fine);
 }

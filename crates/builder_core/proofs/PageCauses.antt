@@ -13,19 +13,19 @@ use Rattle.keybytes.specs.Keys.{KeySpecValue}
 use Rattle.heap_log.specs.declared.record.LogRec.{LogRec}
 use Rattle.heap_table.specs.HeapState.{HeapState, txn_refusal, new_row_refusal, insert_refusal, update_refusal, place_refusal, held_refusal, row_missing}
 use Rattle.key_guards.specs.KeyRefusals.{key_refusal, duplicate_refusal, guarded_refusal}
-use Rattle.builder_core.specs.CoreState.{CoreState, BuildState}
+use Rattle.build_events.specs.CoreState.{CoreState, BuildState}
 use Rattle.ready_indexes.specs.Indexes.{ReadyValue}
 use Rattle.builder_core.specs.FullSpools.{IfSpooling, NoPageOnlyIfFull, WantedPage}
 use Rattle.ready_indexes.specs.KeyCauses.{keys_refusal}
-use Rattle.builder_core.specs.Ranges.{dealing_refusal}
-use Rattle.builder_core.specs.BuildSteps.{cause_if, build_cause}
-use Rattle.builder_core.specs.Steps.{Answers, Does, IsRefused, refusal}
-use Rattle.builder_core.specs.declared.dealing.Dealing.{Dealing}
-use Rattle.builder_core.specs.declared.dealing.Dealing.TheVariants.{Ends, Even}
-use Rattle.builder_core.specs.declared.event.Event.{Event}
-use Rattle.builder_core.specs.declared.event.Event.TheVariants.{Begin, Insert, Update, Delete, Undo, Commit, Start, Scan, Digest, Seal, Load, Feed, Apply, Fence, Switch, Abandon}
-use Rattle.builder_core.specs.declared.reply.Reply.{Reply}
-use Rattle.builder_core.specs.declared.reply.Reply.TheVariants.{Refused}
+use Rattle.scan_range.specs.Dealings.{dealing_refusal}
+use Rattle.build_events.specs.BuildSteps.{cause_if, build_cause}
+use Rattle.build_events.specs.Steps.{Answers, Does, IsRefused, refusal}
+use Rattle.scan_range.specs.declared.dealing.Dealing.{Dealing}
+use Rattle.scan_range.specs.declared.dealing.Dealing.TheVariants.{Ends, Even}
+use Rattle.build_events.specs.declared.event.Event.{Event}
+use Rattle.build_events.specs.declared.event.Event.TheVariants.{Begin, Insert, Update, Delete, Undo, Commit, Start, Scan, Digest, Seal, Load, Feed, Apply, Fence, Switch, Abandon}
+use Rattle.build_events.specs.declared.reply.Reply.{Reply}
+use Rattle.build_events.specs.declared.reply.Reply.TheVariants.{Refused}
 
 -- a cause, if there is one, that isn't want of a page
 abbrev IsOther : Option Fault → Type 0

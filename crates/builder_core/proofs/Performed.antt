@@ -1,5 +1,5 @@
 -- A change that was made ready and is performed adds its entries.
-use Rattle.std.proofs.Common.{◌≡◌, ◌≤◌, ℕ, cond, true, List, [], ◌∷◌, ◌++◌, length, map, Option, Some, None, refl, sym, ap, ◌∙◌, subst, append_assoc, arith}
+use Rattle.std.proofs.Common.{◌≡◌, ◌≤◌, ℕ, cond, true, List, [], ◌∷◌, ◌++◌, length, map, Option, Some, None, refl, sym, ap, ◌∙◌, subst, append_assoc, arith, ap₂}
 use Rattle.std.specs.Prelude.{IsSome, IfSome}
 use Rattle.std.specs.List.{All, slice_get}
 use Rattle.std.proofs.lemmas.Bool.{false≢true}
@@ -26,19 +26,21 @@ use Rattle.side_file.specs.SideFileValue.{SideFileValue}
 use Rattle.visibility.specs.SideEntries.{SideEntry, changes}
 use Rattle.building.specs.declared.copied.Copied.{Copied}
 use Rattle.builder_core.specs.Builds.{WorkValue, IsBuildOf, IsWorkOf, BuildFollows}
-use Rattle.builder_core.specs.CoreState.{BuildState, scanning_of}
-use Rattle.builder_core.specs.Scanning.{Scanning, is_visible}
-use Rattle.builder_core.specs.SideEntries.{entries_of, side_entries}
+use Rattle.build_events.specs.CoreState.{BuildState, scanning_of}
+use Rattle.build_events.specs.Scanning.{Scanning, is_visible}
+use Rattle.build_events.specs.SideEntries.{entries_of, side_entries}
 use Rattle.builder_core.specs.SideFiles.{noted, HasEntries, SidesFollow}
 use Rattle.builder_core.specs.Changing.{IsLonger, HaveNoted, FitsBuild}
 use Rattle.ready_indexes.proofs.Follow.{schema_stays}
 use Rattle.ready_indexes.specs.Following.{AllFollow, FitsColumns, Follows, GuardedIndex}
 use Rattle.builder_core.proofs.Places.{below, there_is}
 use Rattle.side_file.specs.declared.entry.Entry.{Entry}
+use Rattle.side_file.specs.Ends.{PutEnd}
+use Rattle.side_file.specs.Kept.{last_ones}
 use Rattle.keybytes.specs.Cells.{fits}
 use Rattle.keybytes.specs.declared.kind.Kind.{Kind}
-use Rattle.builder_core.proofs.EntrySteps.{entries_where, more_entries}
-use Rattle.builder_core.proofs.ScanSteps.{visible_now}
+use Rattle.build_events.proofs.EntrySteps.{entries_where, more_entries}
+use Rattle.build_events.proofs.ScanSteps.{visible_now}
 use Rattle.builder_core.specs.Rings.{PagesFollow}
 use Rattle.builder_core.proofs.Puts.{pages_kept}
 use Rattle.builder_core.proofs.TableBuilds.{build_kept, work_kept, columns_at}
@@ -79,7 +81,7 @@ module _ (h : HeapValue) (ready : Ready) (is : IsReady h ready) (change : IsLawf
   grows : (after_ready h.state ready).log ≡ log ++ rec_ready ready ∷ []
   grows = log_grows h.state ready.txn ready.rid ready.undone ready.new
 
-  schema_is : (after_ready h.state ready).schema ≡ h.state.schema
+  pub schema_is : (after_ready h.state ready).schema ≡ h.state.schema
   schema_is = schema_stays h.state ready.txn ready.rid ready.undone ready.new
 
   -- what it appends, by the state of the scan at that moment
@@ -134,6 +136,7 @@ module _ (h : HeapValue) (ready : Ready) (is : IsReady h ready) (change : IsLawf
         (All-append (λ entry. IsKeyOf spec entry.key) (all_appended old) _ has.keys
         (All-from_recursion (λ entry. IsKeyOf spec entry.key) _ (noted_keys b spec ready.rid ready.old ready.new old_row new_row)));
     count = has.count ∙ ap length (sym longer.fed);
+    sent = ap₂ (λ (es : List Entry) (end : PutEnd Entry). last_ones (length es) end.sent) longer.fed longer.end ∙ has.sent ∙ sym longer.fed;
   } where
     here : Scanning
     here = scanning_of b spec

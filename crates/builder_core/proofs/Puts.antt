@@ -8,19 +8,17 @@ use Rattle.std.proofs.lemmas.List.Elements.{All-filter, All-weaker, filter-appen
 use Rattle.keybytes.specs.declared.kind.Kind.{Kind}
 use Rattle.heap_log.specs.declared.record.LogRec.{LogRec}
 use Rattle.heap_table.specs.Images.{ImageValue, IsImage}
-use Rattle.building.specs.Copies.{images_of}
 use Rattle.building.specs.declared.copied.Copied.{Copied}
-use Rattle.building.proofs.ManyPairs.{images-append, images_none}
-use Rattle.building.proofs.Taking.{own_image_of}
 use Rattle.builder_core.specs.Builds.{BuildFollows}
-use Rattle.builder_core.specs.CoreState.{BuildState, scanning_of}
-use Rattle.builder_core.specs.Rings.{AreOfBuilds, ArePut, HasPut, PagesFollow}
-use Rattle.builder_core.specs.Scanning.{IsScanOf, AreCopies}
-use Rattle.builder_core.specs.Workers.{put_to}
-use Rattle.builder_core.specs.declared.scan.Scan.{Scan}
-use Rattle.builder_core.proofs.Copies.{copies_kept, copies_scan}
+use Rattle.build_events.specs.CoreState.{BuildState, scanning_of}
+use Rattle.builder_core.specs.Rings.{all_images, AreOfBuilds, ArePut, HasPut, PagesFollow}
+use Rattle.build_events.specs.Scanning.{IsScanOf, AreCopies}
+use Rattle.build_events.specs.Workers.{put_to}
+use Rattle.build_events.specs.declared.scan.Scan.{Scan}
+use Rattle.builder_core.proofs.AllImages.{all-append, all_none, all_one}
+use Rattle.build_events.proofs.Copies.{copies_kept, copies_scan}
 use Rattle.builder_core.proofs.Places.{at_set, all_at}
-use Rattle.builder_core.proofs.ScanSteps.{no_spec, scan_now}
+use Rattle.build_events.proofs.ScanSteps.{no_spec, scan_now}
 
 -- the log grows
 pub pages_kept :
@@ -30,7 +28,7 @@ pages_kept kinds log rec builds None all build is = tt
 pages_kept kinds log rec builds (Some b) all build is = record {
   number = is.number;
   put = λ k sent at.
-      copies_kept kinds (scanning_of b no_spec) log rec (put_to b k) (images_of b.number sent)
+      copies_kept kinds (scanning_of b no_spec) log rec (put_to b k) (all_images b.number sent)
       (All-filter (λ scan. scan.worker == k) (IsScanOf (scanning_of b no_spec) log) b.scans (build.scanned no_spec).scans) (is.put k sent at);
 }
 
@@ -44,7 +42,7 @@ pages_started kinds log builds b all number none before = record {
       let old : All (λ copied. copied.build ≤ builds) sent = all_at (λ xs. All (λ copied. copied.build ≤ builds) xs) all k sent before at in
       let earlier : All (λ copied. copied.build < b.number) sent =
       All-weaker (λ copied. copied.build ≤ builds) (λ copied. copied.build < b.number) (λ copied le. omega (arith, le, number)) sent old in
-      subst (λ (images : List ImageValue). AreCopies kinds log (put_to b k) images) (sym (images_none b.number sent earlier))
+      subst (λ (images : List ImageValue). AreCopies kinds log (put_to b k) images) (sym (all_none b.number sent earlier))
       (subst (λ (scans : List Scan). AreCopies kinds log (filter (λ scan. scan.worker == k) scans) []) (sym none) tt);
 }
 
@@ -79,13 +77,13 @@ put_scanned kinds log b all worker page sent image at put copy k new here =
     let copied : Copied = record { build = b.number; image = image } in
     elim (at_set all worker (sent ++ copied ∷ []) k new here) [
       | inl it ↦
-          let images : images_of b.number new ≡ images_of b.number sent ++ image ∷ [] =
-          ap (images_of b.number) it.1 ∙ images-append b.number sent (copied ∷ []) ∙ ap (λ (is : List ImageValue). images_of b.number sent ++ is) (own_image_of b.number copied refl) in
+          let images : all_images b.number new ≡ all_images b.number sent ++ image ∷ [] =
+          ap (all_images b.number) it.1 ∙ all-append b.number sent (copied ∷ []) ∙ ap (λ (is : List ImageValue). all_images b.number sent ++ is) (all_one b.number copied refl) in
           let scans : put_to (record b { scans = b.scans ++ scan_now worker page log ∷ [] }) k ≡ put_to b worker ++ scan_now worker page log ∷ [] =
           ap (put_to (record b { scans = b.scans ++ scan_now worker page log ∷ [] })) it.0 ∙ put_here b worker page log in
           subst (λ (is : List ImageValue). AreCopies kinds log (put_to (record b { scans = b.scans ++ scan_now worker page log ∷ [] }) k) is) (sym images)
-          (subst (λ (ss : List Scan). AreCopies kinds log ss (images_of b.number sent ++ image ∷ [])) (sym scans)
-          (copies_scan kinds log (put_to b worker) (images_of b.number sent) worker page image (put worker sent at) copy))
+          (subst (λ (ss : List Scan). AreCopies kinds log ss (all_images b.number sent ++ image ∷ [])) (sym scans)
+          (copies_scan kinds log (put_to b worker) (all_images b.number sent) worker page image (put worker sent at) copy))
       | inr it ↦
-          subst (λ (ss : List Scan). AreCopies kinds log ss (images_of b.number new)) (sym (put_there b worker page k log it.0)) (put k new it.1)
+          subst (λ (ss : List Scan). AreCopies kinds log ss (all_images b.number new)) (sym (put_there b worker page k log it.0)) (put k new it.1)
     ]

@@ -9,10 +9,10 @@ use Rattle.scan_range.specs.Cuts.{CutsValue}
 use Rattle.scan_range.specs.Ranges.{RangesValue, AreRanges, at_start, after_advance, next_of, is_done, is_passed}
 use Rattle.scan_range.proofs.Passed.{none_passed-at_start, passed-after_advance, passed-below, next-below, next-not_passed}
 use Rattle.builder_core.specs.Builds.{AreScansOf}
-use Rattle.builder_core.specs.Scanning.{ReadOnce, scanned_at}
-use Rattle.builder_core.specs.declared.scan.Scan.{Scan}
-use Rattle.builder_core.proofs.NextPages.{not_some}
-use Rattle.builder_core.proofs.ScanSteps.{scanned_last, scanned_new, once_last}
+use Rattle.build_events.specs.Scanning.{ReadOnce, scanned_at}
+use Rattle.build_events.specs.declared.scan.Scan.{Scan}
+use Rattle.build_events.proofs.NextPages.{not_some}
+use Rattle.build_events.proofs.ScanSteps.{scanned_last, scanned_new, once_last}
 
 -- the pages that were copied
 abbrev pages_of : List Scan → List ℕ

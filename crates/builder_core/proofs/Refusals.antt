@@ -8,14 +8,14 @@ use Rattle.keybytes.specs.declared.kind.Kind.{Kind}
 use Rattle.heap_log.specs.declared.record.LogRec.{LogRec}
 use Rattle.side_file.specs.Ends.{PutEnd}
 use Rattle.side_file.specs.declared.entry.Entry.{Entry}
-use Rattle.builder_core.specs.BuildSteps.{build_cause}
+use Rattle.build_events.specs.BuildSteps.{build_cause}
 use Rattle.building.specs.WorkerValue.{WorkerValue}
 use Rattle.building.specs.declared.copied.Copied.{Copied}
 use Rattle.builder_core.specs.Builds.{LiveValue, BuildingValue, WorkValue, work_state, worker_state, index_state, IsWorkOf}
 use Rattle.builder_core.specs.Builds.{BuildFollows, WorkersFollow, WorksOn, IsRunning}
-use Rattle.builder_core.specs.CoreState.{BuildState, WorkState}
+use Rattle.build_events.specs.CoreState.{BuildState, WorkState}
 use Rattle.builder_core.specs.Rings.{all_sent, ArePut}
-use Rattle.builder_core.specs.Workers.{put_to, waiting, worker_at}
+use Rattle.build_events.specs.Workers.{put_to, waiting, worker_at}
 use Rattle.builder_core.proofs.Waits.{state_at, waits}
 
 pub running :
@@ -27,8 +27,8 @@ running live building b w build_is work_is follows works = record {
   follows = subst (BuildFollows live.state.heap.schema live.state.heap.log) build_is follows;
   on = subst (λ (o : Option BuildState). IsWorkOf live.state.heap.schema live.state.heap.log o (Some w)) build_is
       (subst (IsWorkOf live.state.heap.schema live.state.heap.log live.state.build) work_is works.work);
-  at_work = subst (λ (o : Option BuildState). WorkersFollow live.pages live.sides building o (Some w)) build_is
-      (subst (WorkersFollow live.pages live.sides building live.state.build) work_is works.workers);
+  at_work = subst (λ (o : Option BuildState). WorkersFollow live.state.heap.schema live.pages live.sides building o (Some w)) build_is
+      (subst (WorkersFollow live.state.heap.schema live.pages live.sides building live.state.build) work_is works.workers);
 }
 
 -- the same, told of a table from within
@@ -45,8 +45,8 @@ pub works_with :
 works_with live building b w run = record {
   work = subst (λ (o : Option BuildState). IsWorkOf live.state.heap.schema live.state.heap.log o building.work) (sym run.build_is)
       (subst (IsWorkOf live.state.heap.schema live.state.heap.log (Some b)) (sym run.work_is) run.on);
-  workers = subst (λ (o : Option BuildState). WorkersFollow live.pages live.sides building o building.work) (sym run.build_is)
-      (subst (WorkersFollow live.pages live.sides building (Some b)) (sym run.work_is) run.at_work);
+  workers = subst (λ (o : Option BuildState). WorkersFollow live.state.heap.schema live.pages live.sides building o building.work) (sym run.build_is)
+      (subst (WorkersFollow live.state.heap.schema live.pages live.sides building (Some b)) (sym run.work_is) run.at_work);
 }
 
 -- what callers see of work that goes on
@@ -84,7 +84,7 @@ builds_on (Some b) some = refl
 -- a build that runs was given the spools
 pub given_to :
     (kinds : List Kind) (log : List LogRec) (pages : List (PutEnd Copied)) (sides : List (PutEnd Entry)) (building : BuildingValue) (o : Option BuildState)
-    (work : Option WorkValue) → IsWorkOf kinds log o work → WorkersFollow pages sides building o work → IsSome o → building.given ≡ true
+    (work : Option WorkValue) → IsWorkOf kinds log o work → WorkersFollow kinds pages sides building o work → IsSome o → building.given ≡ true
 given_to kinds log pages sides building None w is follow some = absurd (false≢true some)
 given_to kinds log pages sides building (Some b) None is follow some = absurd is
 given_to kinds log pages sides building (Some b) (Some w) is follow some = follow.given

@@ -6,13 +6,13 @@ use Rattle.keybytes.specs.declared.fault.Fault.TheVariants.{RingFull}
 use Rattle.side_file.specs.Ends.{PutEnd}
 use Rattle.building.specs.declared.copied.Copied.{Copied}
 use Rattle.builder_core.specs.Builds.{LiveValue, BuildingValue, WorkValue, IsRunning, SeesRing, HasLooked, core_state, cause_of}
-use Rattle.builder_core.specs.CoreState.{BuildState, CoreState, WorkState}
-use Rattle.builder_core.specs.Ranges.{next_page}
+use Rattle.build_events.specs.CoreState.{BuildState, CoreState, WorkState}
+use Rattle.build_events.specs.Ranges.{next_page}
 use Rattle.builder_core.specs.Rings.{all_sent, PagesFollow}
-use Rattle.builder_core.specs.BuildSteps.{cause_if, range_refusal}
-use Rattle.builder_core.specs.Steps.{refusal}
-use Rattle.builder_core.specs.Workers.{waiting}
-use Rattle.builder_core.specs.declared.event.Event.TheVariants.{Scan}
+use Rattle.build_events.specs.BuildSteps.{cause_if, range_refusal}
+use Rattle.build_events.specs.Steps.{refusal}
+use Rattle.build_events.specs.Workers.{waiting}
+use Rattle.build_events.specs.declared.event.Event.TheVariants.{Scan}
 use Rattle.builder_core.proofs.Looked.{runs_looked, state_looked}
 use Rattle.builder_core.proofs.Places.{map_at}
 use Rattle.builder_core.proofs.Refusals.{state_is, waiting_is}

@@ -4,9 +4,9 @@ use Rattle.keybytes.specs.declared.cell.Cell.TheVariants.{Int as Number}
 use Rattle.heap_log.specs.declared.record.LogRec.{LogRec}
 use Rattle.heap_log.specs.declared.record.LogRec.TheVariants.{Write, Undo, Commit}
 use Rattle.heap_table.specs.Pages.{rid_at}
-use Rattle.builder_core.specs.Scanning.{Scanning, scanned_pairs}
+use Rattle.build_events.specs.Scanning.{Scanning, scanned_pairs}
 use Rattle.visibility.specs.SideEntries.{delete, insert}
-use Rattle.builder_core.specs.SideEntries.{side_entries}
+use Rattle.build_events.specs.SideEntries.{side_entries}
 use Rattle.builder_core.proofs.Examples.{on_number, three, five, pair}
 
 abbrev put : ℕ → ℕ → ℕ → ℕ → LogRec

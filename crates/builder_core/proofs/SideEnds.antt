@@ -12,7 +12,7 @@ use Rattle.building.specs.WorkerValue.{WorkerValue}
 use Rattle.building.specs.declared.copied.Copied.{Copied}
 use Rattle.heap_log.specs.declared.record.LogRec.{LogRec}
 use Rattle.builder_core.specs.Builds.{LiveValue, BuildingValue, SideIsLooked, SeesSideAt}
-use Rattle.builder_core.specs.CoreState.{BuildState}
+use Rattle.build_events.specs.CoreState.{BuildState}
 use Rattle.builder_core.specs.Rings.{side_rings, taken_rings, ArePutEnds, AreTakeEnds}
 use Rattle.std.specs.Prelude.{IfSome}
 use Rattle.builder_core.proofs.ApplyCauses.{index_below}
@@ -23,10 +23,10 @@ use Rattle.builder_core.proofs.SideKept.{stays_one}
 -- a side-file that was looked at has what it had
 pub sides_looked :
     (log : List LogRec) (build : Option BuildState) (sides : List SideFileValue) (index : ℕ) (old new : SideFileValue) → slice_get sides index ≡ Some old
-    → new.fed ≡ old.fed → new.left ≡ old.left → SidesFollow log build sides → SidesFollow log build (set sides index new)
-sides_looked log None sides index old new there fed left has = tt
-sides_looked log (Some b) sides index old new there fed left has = λ k spec side at put. elim (at_set sides index new k side put) [
-  | inl here ↦ rw here.1 (stays_one log b k spec old new fed left (has k spec old at (ap (slice_get sides) here.0 ∙ there)))
+    → new.fed ≡ old.fed → new.left ≡ old.left → new.end.sent ≡ old.end.sent → SidesFollow log build sides → SidesFollow log build (set sides index new)
+sides_looked log None sides index old new there fed left sent has = tt
+sides_looked log (Some b) sides index old new there fed left sent has = λ k spec side at put. elim (at_set sides index new k side put) [
+  | inl here ↦ rw here.1 (stays_one log b k spec old new fed left sent (has k spec old at (ap (slice_get sides) here.0 ∙ there)))
   | inr other ↦ has k spec side at other.1
 ]
 

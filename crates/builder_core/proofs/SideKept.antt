@@ -1,5 +1,5 @@
 -- The side-file of a build as it starts, as it copies a page more, and as the log grows by a record that changes no row.
-use Rattle.std.proofs.Common.{◌≡◌, ℕ, zero, suc, List, [], ◌∷◌, ◌++◌, length, map, drop, Option, Some, None, refl, sym, ap, ◌∙◌, subst, arith, ◌≤◌, length-append}
+use Rattle.std.proofs.Common.{◌≡◌, ℕ, zero, suc, List, [], ◌∷◌, ◌++◌, length, map, drop, Option, Some, None, refl, sym, ap, ◌∙◌, subst, arith, ◌≤◌, length-append, ap₂}
 use Rattle.std.proofs.lemmas.List.{append-nil, drop-map, length-map}
 use Rattle.std.proofs.Math.Seq.{drop-append_seam}
 use Rattle.std.specs.List.{All}
@@ -12,20 +12,22 @@ use Rattle.side_file.specs.Entries.{entry_of}
 use Rattle.side_file.specs.Changes.{all_appended}
 use Rattle.side_file.specs.SideFileValue.{SideFileValue}
 use Rattle.side_file.specs.declared.entry.Entry.{Entry}
+use Rattle.side_file.specs.Kept.{last_ones}
 use Rattle.visibility.specs.SideEntries.{SideEntry}
 use Rattle.builder_core.specs.Builds.{IsBuildOf, BuildFollows}
-use Rattle.builder_core.specs.CoreState.{BuildState, scanning_of}
-use Rattle.builder_core.specs.Scanning.{Scanning, opened_scanning, scanned_at}
-use Rattle.builder_core.specs.SideEntries.{entries_of, side_entries}
+use Rattle.build_events.specs.CoreState.{BuildState, scanning_of}
+use Rattle.build_events.specs.Scanning.{Scanning, opened_scanning, scanned_at}
+use Rattle.build_events.specs.SideEntries.{entries_of, side_entries}
 use Rattle.builder_core.specs.Changing.{without_room}
 use Rattle.builder_core.specs.SideFiles.{HasEntries, HaveEntries, SidesFollow, AreEntriesLeft, HaveEntryKeys, NoneAhead, side_refusal}
-use Rattle.builder_core.specs.Workers.{fed_to}
+use Rattle.build_events.specs.Workers.{fed_to}
 use Rattle.builder_core.proofs.Places.{all_at, same_at, below, there_is}
 use Rattle.std.specs.Prelude.{get_or, IfSome}
 use Rattle.std.specs.List.{slice_get}
-use Rattle.builder_core.proofs.EntrySteps.{opened_entries, more_entries, same_entries}
-use Rattle.builder_core.proofs.NextPages.{next_unscanned}
-use Rattle.builder_core.specs.Ranges.{next_page}
+use Rattle.std.proofs.Math.ListN.{drop_of_length-le}
+use Rattle.build_events.proofs.EntrySteps.{opened_entries, more_entries, same_entries}
+use Rattle.build_events.proofs.NextPages.{next_unscanned}
+use Rattle.build_events.specs.Ranges.{next_page}
 
 -- the side-file of one of its indexes, as it starts
 opened_one :
@@ -37,6 +39,7 @@ opened_one log b index spec side opened pages scans none left fed = record {
       ∙ sym (ap (map (entry_of b.number)) (ap (λ s. side_entries s log) same ∙ opened_entries spec log));
   keys = subst (All (λ entry. IsKeyOf spec entry.key)) (sym nothing) (All-nil (λ entry. IsKeyOf spec entry.key));
   count = none ∙ sym (ap length fed);
+  sent = ap (λ (es : List Entry). last_ones (length es) side.end.sent) fed ∙ drop_of_length-le side.end.sent (omega arith) ∙ sym fed;
 } where
   nothing : all_appended side ≡ []
   nothing = rw (fed, left) refl
@@ -68,6 +71,7 @@ scanned_one log b index spec side worker page none has = record {
   entries = has.entries ∙ ap (map (entry_of b.number)) (sym (same_entries (scanning_of b spec) worker page log none));
   keys = has.keys;
   count = has.count;
+  sent = has.sent;
 }
 
 same_one :
@@ -81,16 +85,18 @@ same_one kinds log rec b index spec side nothing build has = record {
       ∙ ap (map (entry_of b.number)) (sym (more_entries here log rec (build.scanned spec).opened ∙ ap (λ fs. es ++ fs) (nothing here) ∙ append-nil es));
   keys = has.keys;
   count = has.count;
+  sent = has.sent;
 }
 
 -- a side-file with the same entries
 pub stays_one :
     (log : List LogRec) (b : BuildState) (index : ℕ) (spec : KeySpecValue) (old new : SideFileValue) → new.fed ≡ old.fed → new.left ≡ old.left
-    → HasEntries log b index spec old → HasEntries log b index spec new
-stays_one log b index spec old new fed left has = record {
+    → new.end.sent ≡ old.end.sent → HasEntries log b index spec old → HasEntries log b index spec new
+stays_one log b index spec old new fed left sent has = record {
   entries = same ∙ has.entries;
   keys = subst (All (λ entry. IsKeyOf spec entry.key)) (sym same) has.keys;
   count = has.count ∙ ap length (sym fed);
+  sent = ap₂ (λ (es xs : List Entry). last_ones (length es) xs) fed sent ∙ has.sent ∙ sym fed;
 } where
   same : all_appended new ≡ all_appended old
   same = rw (fed, left) refl
@@ -102,7 +108,8 @@ pub sides_stay :
 sides_stay log None olds news has same = tt
 sides_stay log (Some b) olds news has same = λ index spec side at there.
     let old = same_at without_room olds news index side (sym same) there in
-    stays_one log b index spec old.0 side (ap (λ (s : SideFileValue). s.fed) (sym old.2)) (ap (λ (s : SideFileValue). s.left) (sym old.2)) (has index spec old.0 at old.1)
+    stays_one log b index spec old.0 side (ap (λ (s : SideFileValue). s.fed) (sym old.2)) (ap (λ (s : SideFileValue). s.left) (sym old.2))
+    (ap (λ (s : SideFileValue). s.end.sent) (sym old.2)) (has index spec old.0 at old.1)
 
 -- a record that changes no row appends nothing
 pub sides_plain :
@@ -121,7 +128,8 @@ sides_next log b sides range worker page records next now has = λ index spec si
     subst (λ r. HasEntries log (record b { scans = b.scans ++ record { worker = worker; page = page; records = r } ∷ [] }) index spec side) (sym now)
     (scanned_one log b index spec side worker page (next_unscanned b range page next) (has index spec side at there))
 
-left_of :
+-- what is left in the side-file are the entries that were not fed
+pub left_of :
     (log : List LogRec) (b : BuildState) (index : ℕ) (spec : KeySpecValue) (side : SideFileValue) → HasEntries log b index spec side
     → side.left ≡ map (entry_of b.number) (drop (get_or b.fed index 0) (side_entries (scanning_of b spec) log))
 left_of log b index spec side has =

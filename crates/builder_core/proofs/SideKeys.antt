@@ -12,7 +12,7 @@ use Rattle.heap_table.specs.Kept.{IsTableRow}
 use Rattle.side_file.specs.Entries.{entry_of}
 use Rattle.side_file.specs.declared.entry.Entry.{Entry}
 use Rattle.visibility.specs.SideEntries.{SideEntry, delete, insert, changes}
-use Rattle.builder_core.specs.CoreState.{BuildState}
+use Rattle.build_events.specs.CoreState.{BuildState}
 use Rattle.builder_core.specs.SideFiles.{sees, noted}
 
 abbrev Keyed : KeySpecValue → List Entry → Type 0

@@ -1,6 +1,5 @@
 -- A build is sound, for each of its indexes.
-use Rattle.std.proofs.Common.{◌≡◌, ℕ, ◌+◌, ◌<◌, ◌≤◌, true, List, [], ◌∷◌, ◌++◌, length, length-append, drop, take-append-drop, Option, Some, None, refl}
-use Rattle.std.proofs.Common.{sym, ap, subst, inl, inr, arith}
+use Rattle.std.proofs.Common.{◌≡◌, ℕ, ◌+◌, ◌<◌, ◌≤◌, true, List, [], ◌∷◌, ◌++◌, length, length-append, drop, take-append-drop, Option, Some, None, refl, sym, ap, subst, inl, inr, arith}
 use Rattle.std.specs.Prelude.{nat_le, nat_eq, IfSome}
 use Rattle.std.specs.Cmp.Lexicographic.{pointwise}
 use Rattle.std.specs.List.{All, AllByRecursion}
@@ -18,16 +17,17 @@ use Rattle.heap_table.proofs.PairsAtRest.{all_append}
 use Rattle.heap_table.proofs.TablePairs.{own_pair}
 use Rattle.building.specs.declared.copied.Copied.{Copied}
 use Rattle.builder_core.specs.Builds.{IsBuildOf, BuildFollows}
-use Rattle.builder_core.specs.CoreState.{BuildState, scanning_of}
-use Rattle.builder_core.specs.Invariant.{BuildIsSound, EachPageOnce, EntriesHaveEffect, VisiblePairsAreCaughtUp}
+use Rattle.build_events.specs.CoreState.{BuildState, scanning_of}
+use Rattle.builder_core.specs.Invariant.{EachPageOnce}
+use Rattle.build_events.specs.Soundness.{BuildIsSound, EntriesHaveEffect, VisiblePairsAreCaughtUp}
 use Rattle.builder_core.specs.Rings.{PagesFollow}
 use Rattle.visibility.specs.Applied.{entry_rid}
-use Rattle.builder_core.specs.Scanning.{Scanning, is_by, is_visible, scanned_at}
+use Rattle.build_events.specs.Scanning.{Scanning, is_by, is_visible, scanned_at}
 use Rattle.visibility.specs.SideEntries.{SideEntry, delete, insert, changes}
-use Rattle.builder_core.specs.SideEntries.{entries_for, entries_of, entries_from, side_entries}
-use Rattle.builder_core.proofs.SideFollows.{leaves_visible, entries_have_effect}
+use Rattle.build_events.specs.SideEntries.{entries_for, entries_of, entries_from, side_entries}
+use Rattle.build_events.proofs.SideFollows.{leaves_visible, entries_have_effect}
 use Rattle.builder_core.proofs.Places.{all_from}
-use Rattle.builder_core.proofs.ScanSteps.{no_spec}
+use Rattle.build_events.proofs.ScanSteps.{no_spec}
 
 by_later : (count n : ℕ) (o : Option ℕ) → count ≤ n → is_by count o ≡ true → is_by n o ≡ true
 by_later count n None more e = absurd (false≢true e)

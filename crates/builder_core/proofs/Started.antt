@@ -1,6 +1,6 @@
 -- What the start of a build leaves.
 use Rattle.std.proofs.Common.{◌≡◌, ℕ, ◌+◌, ◌*◌, ◌≤◌, List, [], length, map, replicate, true, Some, None, refl, sym, ap, ◌∙◌, subst, ◌++◌, arith, ◌-◌}
-use Rattle.std.proofs.lemmas.List.{length-map}
+use Rattle.std.proofs.lemmas.List.{length-map, append-nil, drop_all}
 use Rattle.keybytes.specs.Keys.{KeySpecValue}
 use Rattle.keybytes.specs.declared.kind.Kind.{Kind}
 use Rattle.heap_log.specs.declared.record.LogRec.{LogRec}
@@ -12,17 +12,15 @@ use Rattle.building.specs.TakeEnd.{TakeEnd}
 use Rattle.building.specs.WorkerValue.{WorkerValue}
 use Rattle.building.specs.declared.copied.Copied.{Copied}
 use Rattle.builder_core.specs.Builds.{LiveValue, BuildingValue, WorkValue, IndexValue, AreFed, IsBuildOf, WorksOn, build_over, fresh, fresh_index}
-use Rattle.std.specs.List.{All}
+use Rattle.std.specs.List.{All, slice_get}
 use Rattle.std.proofs.lemmas.Option.{same_Some}
-use Rattle.builder_core.specs.Workers.{fed_to}
+use Rattle.build_events.specs.Workers.{fed_to}
 use Rattle.builder_core.proofs.SideKept.{none_at}
 use Rattle.builder_core.specs.Holding.{SpoolValue}
-use Rattle.std.specs.List.{slice_get}
-use Rattle.builder_core.specs.CoreState.{BuildState}
-use Rattle.builder_core.specs.Ranges.{dealing_refusal, dealt_ends}
+use Rattle.build_events.specs.CoreState.{BuildState}
+use Rattle.scan_range.specs.Dealings.{dealing_refusal, dealt_ends}
 use Rattle.builder_core.specs.Rings.{all_sent, put_rings, take_rings, side_rings, taken_rings, begun_on, drained_end, AreOfBuilds, ArePutEnds, AreTakeEnds}
-use Rattle.std.proofs.lemmas.List.{append-nil, drop_all}
-use Rattle.builder_core.specs.declared.dealing.Dealing.{Dealing}
+use Rattle.scan_range.specs.declared.dealing.Dealing.{Dealing}
 use Rattle.builder_core.proofs.AtWork.{started_taking}
 use Rattle.builder_core.proofs.Kits.{started_kits}
 use Rattle.builder_core.proofs.Places.{as_long, at_map, mapped, replicate_at}
@@ -112,7 +110,7 @@ started_works live building b w builds specs workers opened cuts build_is work_i
       at_work = record {
         fed = rw (b_is, w_is) (started_fed new (replicate (length specs) fresh_index) live.sides building.sides drained (λ k. none_at specs k) (only_fresh (length specs)));
         given = given;
-        taking = λ fine. rw (b_is, workers_is) (started_taking builds live.pages before workers);
+        taking = λ fine. rw (b_is, workers_is) (started_taking builds live.pages before live.state.heap.schema workers);
         kits = λ fine. rw (b_is, w_is, workers_is) (started_kits builds live.pages before live.state.heap.schema specs workers (builds + 1) building.spools columns many empty);
       };
     })

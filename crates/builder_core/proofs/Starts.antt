@@ -1,64 +1,37 @@
 -- When a build starts.
-use Rattle.std.proofs.Common.{◌≡◌, ℕ, zero, suc, ◌≤◌, Bool, true, false, List, [], ◌∷◌, Some, None, refl, sym, ap, ap₂, ◌∙◌, arith}
+use Rattle.std.proofs.Common.{◌≡◌, ℕ, zero, suc, ◌≤◌, Bool, true, false, List, [], ◌∷◌, Some, None, refl, ap, ap₂, ◌∙◌, arith}
 use Rattle.std.specs.Prelude.{◌&&◌, ◌==◌, ◌+◌, ◌*◌, not, nat_lt, nat_le, length, map, take, replicate, is_some, if◌then◌else◌}
 use Rattle.std.specs.List.{All, list_all}
 use Rattle.std.proofs.lemmas.List.{length-map}
 use Rattle.std.proofs.lemmas.List.Elements.{All-head, All-tail, All-nil, All-cons}
-use Rattle.std.proofs.lemmas.Bool.{and_parts, and_from, leb-true, eqb-true, false≢true, false_from_ne_true}
+use Rattle.std.proofs.lemmas.Bool.{and_parts, leb-true, eqb-true, false_from_ne_true}
 use Rattle.keybytes.specs.Keys.{KeySpecValue}
+use Rattle.keybytes.specs.Schemas.{same_kinds}
+use Rattle.keybytes.proofs.SameKinds.{same_kinds_decides}
 use Rattle.keybytes.specs.declared.kind.Kind.{Kind}
-use Rattle.keybytes.specs.declared.kind.Kind.TheVariants.{Int, Text, Flag}
 use Rattle.keybytes.specs.declared.fault.Fault.{Fault}
 use Rattle.keybytes.specs.declared.fault.Fault.TheVariants.{BadColumn, BadRanges, SpoolNotEmpty}
 use Rattle.heap_table.specs.Pages.{pages_written}
-use Rattle.builder_core.specs.declared.dealing.Dealing.{Dealing}
-use Rattle.builder_core.specs.declared.dealing.Dealing.TheVariants.{Ends, Even}
-use Rattle.builder_core.specs.declared.plan.Plan.{Plan}
+use Rattle.scan_range.specs.declared.dealing.Dealing.{Dealing}
+use Rattle.scan_range.specs.declared.dealing.Dealing.TheVariants.{Ends, Even}
+use Rattle.build_events.specs.declared.plan.Plan.{Plan}
 use Rattle.side_file.specs.Ends.{PutEnd}
 use Rattle.building.specs.WorkerValue.{WorkerValue}
 use Rattle.building.specs.declared.copied.Copied.{Copied}
 use Rattle.builder_core.specs.Builds.{fresh, fresh_index, index_state, work_state, worker_state}
 use Rattle.builder_core.specs.Rings.{begun_on}
-use Rattle.builder_core.specs.CoreState.{LiveState, SpoolsState}
+use Rattle.build_events.specs.CoreState.{LiveState, SpoolsState}
 use Rattle.scan_range.specs.Cuts.{are_cuts}
 use Rattle.scan_range.proofs.EvenEnds.{even_are_cuts, even_fit}
-use Rattle.builder_core.specs.Ranges.{dealt_ends, dealing_refusal}
-use Rattle.builder_core.specs.BuildSteps.{same_kind, same_kinds, counts_fit, cause_if, spools_refusal, start_refusal, fresh_work}
+use Rattle.scan_range.specs.Dealings.{dealt_ends, dealing_refusal}
+use Rattle.build_events.specs.BuildSteps.{counts_fit, cause_if, spools_refusal, start_refusal, fresh_work}
 use Rattle.keybytes.specs.Faults.{first_cause}
 
-same_kind-true : (a b : Kind) → same_kind a b ≡ true → a ≡ b
-same_kind-true Int Int e = refl
-same_kind-true Int Text e = absurd (false≢true e)
-same_kind-true Int Flag e = absurd (false≢true e)
-same_kind-true Text Int e = absurd (false≢true e)
-same_kind-true Text Text e = refl
-same_kind-true Text Flag e = absurd (false≢true e)
-same_kind-true Flag Int e = absurd (false≢true e)
-same_kind-true Flag Text e = absurd (false≢true e)
-same_kind-true Flag Flag e = refl
-
-same_kind-itself : (a : Kind) → same_kind a a ≡ true
-same_kind-itself Int = refl
-same_kind-itself Text = refl
-same_kind-itself Flag = refl
-
-same_kinds-true : (xs ys : List Kind) → same_kinds xs ys ≡ true → xs ≡ ys
-same_kinds-true [] [] e = refl
-same_kinds-true [] (b ∷ bs) e = absurd (false≢true e)
-same_kinds-true (a ∷ rest) [] e = absurd (false≢true e)
-same_kinds-true (a ∷ rest) (b ∷ bs) e =
-    let parts = and_parts (same_kind a b) (same_kinds rest bs) e in
-    ap (λ x. x ∷ rest) (same_kind-true a b parts.0) ∙ ap (λ xs. b ∷ xs) (same_kinds-true rest bs parts.1)
-
-same_kinds-itself : (kinds : List Kind) → same_kinds kinds kinds ≡ true
-same_kinds-itself [] = refl
-same_kinds-itself (a ∷ rest) = and_from (same_kind a a) (same_kinds rest rest) (same_kind-itself a) (same_kinds-itself rest)
-
 pub kinds_differ : (xs ys : List Kind) → (xs ≡ ys → ⊥) → same_kinds xs ys ≡ false
-kinds_differ xs ys f = false_from_ne_true (same_kinds xs ys) (λ e. f (same_kinds-true xs ys e))
+kinds_differ xs ys f = false_from_ne_true (same_kinds xs ys) (λ e. f ((same_kinds_decides xs ys).0 e))
 
 pub kinds_agree : (xs ys : List Kind) → xs ≡ ys → same_kinds xs ys ≡ true
-kinds_agree xs ys e = ap (same_kinds xs) (sym e) ∙ same_kinds-itself xs
+kinds_agree xs ys e = (same_kinds_decides xs ys).1 e
 
 -- specifications of the same columns
 pub each_agrees :
@@ -66,7 +39,7 @@ pub each_agrees :
 each_agrees [] kinds all = All-nil (λ (spec : KeySpecValue). spec.kinds ≡ kinds)
 each_agrees (spec ∷ specs) kinds all =
     let parts = and_parts (same_kinds spec.kinds kinds) (list_all (λ (spec : KeySpecValue). same_kinds spec.kinds kinds) specs) all in
-    All-cons (λ (spec : KeySpecValue). spec.kinds ≡ kinds) spec specs (same_kinds-true spec.kinds kinds parts.0) (each_agrees specs kinds parts.1)
+    All-cons (λ (spec : KeySpecValue). spec.kinds ≡ kinds) spec specs ((same_kinds_decides spec.kinds kinds).0 parts.0) (each_agrees specs kinds parts.1)
 
 module _
     (live : LiveState) (spools : SpoolsState) (plan : Plan) (still : is_some live.build ≡ false)

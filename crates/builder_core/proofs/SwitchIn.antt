@@ -1,7 +1,8 @@
 -- What a switch makes ready.
 use Rattle.std.proofs.Common.{◌≡◌, ℕ, zero, suc, ◌+◌, ◌<◌, Bool, true, false, List, [], ◌∷◌, ◌++◌, length, Option, Some, None, refl, sym, ap, ap₂, ◌∙◌, subst, arith}
 use Rattle.std.specs.Prelude.{map, if◌then◌else◌}
-use Rattle.keybytes.specs.Keys.{KeySpecValue}
+use Rattle.keybytes.specs.Keys.{KeySpecValue, are_key_columns}
+use Rattle.keybytes.specs.declared.kind.Kind.{Kind}
 use Rattle.keybytes.specs.declared.pair.Pair.{Pair}
 use Rattle.heap_log.specs.declared.outcome.Outcome.{Outcome}
 use Rattle.heap_table.specs.HeapState.{HeapState, after_switch, after_fence, busy_txns}
@@ -17,21 +18,23 @@ use Rattle.builder_core.specs.CatchingUp.{IsDoneIndex, MayCatchUp, built_pairs, 
 use Rattle.ready_indexes.specs.Following.{MayFollow}
 use Rattle.heap_log.specs.declared.record.LogRec.{LogRec}
 use Rattle.std.specs.List.{All, AllZip, slice_get}
+use Rattle.std.proofs.lemmas.List.Elements.{All-cons, All-head, All-nil, All-tail}
 use Rattle.std.proofs.lemmas.Option.{same_Some}
 use Rattle.builder_core.proofs.ApplyCauses.{fine_by}
 use Rattle.builder_core.proofs.Applying.{stays_built}
 use Rattle.builder_core.proofs.Places.{below, map_at}
-use Rattle.builder_core.specs.CoreState.{BuildState, IndexState, LiveState, CoreState, SpoolsState, idle}
-use Rattle.ready_indexes.specs.Indexes.{ReadyValue, index_now}
+use Rattle.build_events.specs.CoreState.{BuildState, IndexState, LiveState, CoreState, SpoolsState, idle}
+use Rattle.ready_indexes.specs.Indexes.{IsIndex, ReadyValue, index_now}
 use Rattle.builder_core.specs.Holding.{spools_state}
-use Rattle.builder_core.specs.BuildSteps.{OnBuild, Switches, CatchesUp, AreFurther, apply_refusal, busy_refusal, after_switch_in, verdicts_on}
-use Rattle.builder_core.specs.Verdicts.{accepted, outcomes, verdict_on}
-use Rattle.builder_core.specs.Workers.{all_unapplied, unapplied}
+use Rattle.build_events.specs.BuildSteps.{AreKeyed, OnBuild, Switches, CatchesUp, AreFurther, apply_refusal, busy_refusal, after_switch_in, verdicts_on}
+use Rattle.build_events.specs.Verdicts.{accepted, outcomes, verdict_on}
+use Rattle.build_events.specs.Workers.{all_unapplied, unapplied}
 use Rattle.unique_verdict.specs.Shared.{shared_pairs}
 use Rattle.unique_verdict.specs.Verdicts.{accepts, first_shared}
 use Rattle.unique_verdict.specs.declared.verdict.Verdict.{Verdict}
 use Rattle.unique_verdict.specs.declared.verdict.Verdict.TheVariants.{Unique}
-use Rattle.builder_core.proofs.MadeReady.{accepted_more, accepted_same, may_follow, no_writers, ready_more, ready_same}
+use Rattle.builder_core.proofs.MadeReady.{may_follow, no_writers, ready_more, ready_same}
+use Rattle.build_events.proofs.Verdicts.{accepted_more, accepted_same}
 use Rattle.builder_core.proofs.FedBeside.{indexes_seen}
 use Rattle.builder_core.proofs.TableBuilds.{columns_at, switched_pairs}
 
@@ -45,6 +48,21 @@ module _
   pub none_done : indexes ≡ [] → ⊥
   none_done gone =
       subst (λ (is : List IndexValue). AllZip IsDoneIndex (spec ∷ rest) is) gone (subst (λ (ss : List KeySpecValue). AllZip IsDoneIndex ss indexes) is all)
+
+-- the pairs at rest of indexes whose columns make a key
+keyed_each :
+    (kinds : List Kind) (log : List LogRec) → RowsFit kinds log → (specs : List KeySpecValue) → All (λ spec. spec.kinds ≡ kinds) specs
+    → All (λ spec. are_key_columns spec.kinds spec.columns ≡ true) specs → AreKeyed log specs
+keyed_each kinds log rows [] columns keys = All-nil (λ spec. IsIndex spec (pairs_at_rest spec log))
+keyed_each kinds log rows (spec ∷ specs) columns keys =
+    let HasColumns : KeySpecValue → Type 0 = λ s. s.kinds ≡ kinds in
+    let HasKey : KeySpecValue → Type 0 = λ s. are_key_columns s.kinds s.columns ≡ true in
+    All-cons (λ spec. IsIndex spec (pairs_at_rest spec log)) spec specs
+    (record {
+      keys = keys_at_rest spec kinds log (All-head HasColumns spec specs columns) rows;
+      order = column_order spec (index_pairs spec log) (All-head HasKey spec specs keys);
+    })
+    (keyed_each kinds log rows specs (All-tail HasColumns spec specs columns) (All-tail HasKey spec specs keys))
 
 -- none of an index is left where none is of all
 none_of_each :
@@ -188,18 +206,23 @@ module _
       done_each rows b.specs w.indexes run.on.many
       (λ k spec at. columns_at live.state.heap.schema live.state.heap.log b k spec run.follows at) index_done
 
+  -- and all of the build are, whether accepted or not
+  pub all_keyed :
+      RowsFit live.state.heap.schema live.state.heap.log → All (λ spec. are_key_columns spec.kinds spec.columns ≡ true) b.specs → AreKeyed live.state.heap.log b.specs
+  all_keyed rows keys = keyed_each live.state.heap.schema live.state.heap.log rows b.specs run.follows.columns keys
+
   -- what the switch leaves
   pub switches :
       (told : ℕ × List Outcome) (heap : HeapState) (ready : List ReadyValue) (build : Option BuildState) (new : BuildingValue)
       → told.0 ≡ length live.state.heap.log + 1 → told.1 ≡ verdicts_on live.state b → heap ≡ after_fence false (after_switch live.state.heap (verdicts_on live.state b))
       → ready ≡ live.state.ready ++ ready_of b.specs w.indexes → build ≡ None → new.work ≡ None
-      → spools_state new.given new.spools ≡ spools_state building.given building.spools
+      → spools_state new.given new.spools ≡ spools_state building.given building.spools → AreKeyed live.state.heap.log b.specs
       → Switches (core_state live building) told (record {
         live = record { heap = heap; ready = ready; builds = live.state.builds; build = build };
         work = work_state new.workers new.work;
         spools = spools_state new.given new.spools;
       })
-  switches told heap ready build new number verdicts noted grown none gone ended =
+  switches told heap ready build new number verdicts noted grown none gone ended keyed =
       let spools : SpoolsState = spools_state building.given building.spools in
       let Whole : HeapState → List ReadyValue → CoreState =
       λ h r. record { live = record { heap = h; ready = r; builds = live.state.builds; build = None }; work = idle; spools = spools } in
@@ -209,8 +232,8 @@ module _
       rw (none, gone, ended) (ap (λ h. Whole h ready) noted
       ∙ ap (Whole (after_fence false (after_switch live.state.heap (verdicts_on live.state b)))) (grown ∙ ap (λ is. live.state.ready ++ is) all_ready)) in
       subst (λ (o : Option BuildState). OnBuild o (λ b. (told.0 ≡ length live.state.heap.log + 1) × (told.1 ≡ verdicts_on live.state b)
-      × (left ≡ record { live = after_switch_in live.state b; work = idle; spools = spools })))
-      (sym run.build_is) (number, verdicts, state)
+      × (left ≡ record { live = after_switch_in live.state b; work = idle; spools = spools }) × AreKeyed live.state.heap.log b.specs))
+      (sym run.build_is) (number, verdicts, state, keyed)
 
 -- what it leaves of a build that caught up first is what it leaves of that build
 pub switched_from : (s mid new : CoreState) (told : ℕ × List Outcome) → CatchesUp s mid → Switches mid told new → Switches s told new
@@ -225,4 +248,4 @@ switched_from s mid new told caught switched = by_build s.live.build refl caught
       let from : CoreState = record s { live = record s.live { build = Some (record b { fed = it.0 }) }; work = record s.work { indexes = it.1 } } in
       let done = subst (λ (m : CoreState). Switches m told new) it.3 switched in
       subst (λ (o : Option BuildState). OnBuild o (λ b. (told.0 ≡ length s.live.heap.log + 1) × (told.1 ≡ verdicts_on s.live b)
-      × (new ≡ record s { live = after_switch_in s.live b; work = idle }))) (sym is) (done.0, done.1, done.2)
+      × (new ≡ record s { live = after_switch_in s.live b; work = idle }) × AreKeyed s.live.heap.log b.specs)) (sym is) (done.0, done.1, done.2, done.3)

@@ -11,20 +11,20 @@ use Rattle.heap_log.specs.declared.record.LogRec.{LogRec}
 use Rattle.heap_table.specs.Pages.{pages_written}
 use Rattle.heap_table.specs.TablePairs.{pairs_at_rest}
 use Rattle.builder_core.specs.Builds.{WorkValue, IndexValue, IsBuildOf, IsIndexOn, IsWorkOn, IsWorkOf, BuildFollows, build_over}
-use Rattle.builder_core.specs.CoreState.{BuildState, scanning_of}
+use Rattle.build_events.specs.CoreState.{BuildState, scanning_of}
 use Rattle.scan_range.specs.Cuts.{are_cuts}
-use Rattle.builder_core.specs.Ranges.{next_page}
-use Rattle.builder_core.specs.Scanning.{Scanning, IsScanOf, AllScanned, scanned_pairs}
+use Rattle.build_events.specs.Ranges.{next_page}
+use Rattle.build_events.specs.Scanning.{Scanning, IsScanOf, AllScanned, scanned_pairs}
 use Rattle.visibility.specs.Applied.{apply_entries}
-use Rattle.builder_core.specs.SideEntries.{entries_of, side_entries}
+use Rattle.build_events.specs.SideEntries.{entries_of, side_entries}
 use Rattle.std.specs.List.{slice_get}
 use Rattle.std.proofs.lemmas.List.{take-append-le, length-map}
 use Rattle.catch_up.specs.Built.{BuiltValue}
-use Rattle.builder_core.proofs.EntrySteps.{more_entries}
-use Rattle.builder_core.proofs.ScanSteps.{no_spec, opened_scanned, more_scanned, pairs_kept, scan_now, scan_scanned, pages_grow}
+use Rattle.build_events.proofs.EntrySteps.{more_entries}
+use Rattle.build_events.proofs.ScanSteps.{no_spec, opened_scanned, more_scanned, pairs_kept, scan_now, scan_scanned, pages_grow}
 use Rattle.builder_core.proofs.Places.{all_at}
-use Rattle.builder_core.proofs.NextPages.{next_below, next_unscanned, no_page, all_copied}
-use Rattle.builder_core.proofs.SideFollows.{leaves_index}
+use Rattle.build_events.proofs.NextPages.{next_below, next_unscanned, no_page, all_copied}
+use Rattle.build_events.proofs.SideFollows.{leaves_index}
 use Rattle.builder_core.proofs.Works.{scanned_work_on}
 
 -- a build of those indexes starts over those ranges

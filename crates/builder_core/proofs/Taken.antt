@@ -5,6 +5,7 @@ use Rattle.std.specs.List.{slice_get}
 use Rattle.std.proofs.lemmas.List.{set-get_or}
 use Rattle.std.proofs.lemmas.Option.{same_Some}
 use Rattle.keybytes.specs.declared.fault.Fault.{Fault}
+use Rattle.keybytes.specs.declared.kind.Kind.{Kind}
 use Rattle.side_file.specs.Ends.{PutEnd}
 use Rattle.run_maker.specs.Making.{MakerValue}
 use Rattle.building.specs.Work.{next_images, after_digest}
@@ -12,15 +13,15 @@ use Rattle.building.specs.WorkerValue.{WorkerValue}
 use Rattle.building.specs.declared.copied.Copied.{Copied}
 use Rattle.building.proofs.Taking.{next_count}
 use Rattle.builder_core.specs.Builds.{LiveValue, BuildingValue, WorkValue, IsRunning, SeesRing, WorksOn, worker_state, work_state, core_state, index_state}
-use Rattle.builder_core.specs.CoreState.{BuildState, WorkerState, WorkState, SpoolsState}
+use Rattle.build_events.specs.CoreState.{BuildState, WorkerState, WorkState, SpoolsState}
 use Rattle.builder_core.specs.Holding.{SpoolValue, Digested, kit_of, spools_state}
 use Rattle.builder_core.specs.Rings.{all_sent, ArePut}
-use Rattle.builder_core.specs.BuildSteps.{OnBuild, Waits, Digests, next_copies}
-use Rattle.builder_core.specs.BuildSteps.{after_digest as digested}
-use Rattle.builder_core.specs.Workers.{waiting, worker_at}
+use Rattle.build_events.specs.BuildSteps.{OnBuild, Waits, Digests, next_copies}
+use Rattle.build_events.specs.BuildSteps.{after_digest as digested}
+use Rattle.build_events.specs.Workers.{waiting, worker_at}
 use Rattle.builder_core.specs.Working.{HasTaken, HasTakenAt, IsSpoiled, one_copy}
 use Rattle.builder_core.proofs.Refusals.{state_is, waiting_is, worker_there}
-use Rattle.builder_core.proofs.Takes.{digested_works, going_on, spoiled_works, states_set}
+use Rattle.builder_core.proofs.Takes.{digested_works, going_on, its_columns, spoiled_works, states_set}
 use Rattle.builder_core.proofs.OneWorker.{same_stakes}
 use Rattle.builder_core.proofs.Places.{map_at}
 
@@ -37,18 +38,26 @@ module _
   at_it = subst (λ (v : WorkValue). HasTakenAt v.specs k one_copy (λ x. x) Digested building.workers v.makers building.spools images taken.workers taken.makers taken.spools)
       same_work taken.taken
 
+  -- of the table's columns
+  abbrev kinds : List Kind
+  kinds = live.state.heap.schema
+
+  same_kinds : at_it.maker.schema ≡ kinds
+  same_kinds = its_columns live building b w run fine put k sent it less there at in_order at_it.maker at_it.made
+
   same_it : at_it.it ≡ it
   same_it = same_Some at_it.it it (sym at_it.there ∙ at)
 
-  left : new ≡ going_on live building b w run fine put k sent it less there at in_order at_it.maker at_it.after at_it.made at_it.fit 1 (after_digest 1 it)
+  left : new ≡ going_on live building b w run fine put k sent it less there at in_order at_it.maker at_it.after at_it.made at_it.fit 1 (after_digest 1 kinds it)
   left =
       taken.left ∙ ap (λ (v : WorkValue). record building { workers = taken.workers; spools = taken.spools; work = Some (record v { makers = taken.makers }) }) same_work
       ∙ ap (λ (ws : List WorkerValue). record building { workers = ws; spools = taken.spools; work = Some (record w { makers = taken.makers }) })
-      (at_it.workers_are ∙ ap (λ (v : WorkerValue). set building.workers k (after_digest 1 v)) same_it)
-      ∙ ap (λ (ms : List MakerValue). record building { workers = set building.workers k (after_digest 1 it); spools = taken.spools; work = Some (record w { makers = ms }) })
+      (at_it.workers_are ∙ ap (λ (ks : List Kind). set building.workers k (after_digest 1 ks at_it.it)) same_kinds
+      ∙ ap (λ (v : WorkerValue). set building.workers k (after_digest 1 kinds v)) same_it)
+      ∙ ap (λ (ms : List MakerValue). record building { workers = set building.workers k (after_digest 1 kinds it); spools = taken.spools; work = Some (record w { makers = ms }) })
       at_it.makers_are
       ∙ ap (λ (ss : List SpoolValue). record building {
-        workers = set building.workers k (after_digest 1 it);
+        workers = set building.workers k (after_digest 1 kinds it);
         spools = ss;
         work = Some (record w { makers = set w.makers k at_it.after.maker });
       }) at_it.spools_are
@@ -57,10 +66,12 @@ module _
   taken_works =
       subst (WorksOn live) (sym left)
       (digested_works live building b w run fine put k sent it less there at in_order at_it.maker at_it.after at_it.made at_it.fit 1
-      (subst (λ (v : WorkerValue). Digested w.specs (next_images 1 v) (kit_of (length w.specs) k at_it.maker building.spools) at_it.after) same_it at_it.spools_more))
+      (subst (λ (v : WorkerValue). Digested w.specs (next_images 1 kinds v) (kit_of (length w.specs) k at_it.maker building.spools) at_it.after) same_it
+      (subst (λ (ks : List Kind). Digested w.specs (next_images 1 ks at_it.it) (kit_of (length w.specs) k at_it.maker building.spools) at_it.after) same_kinds
+      at_it.spools_more)))
 
-  one : length (next_images 1 it) ≡ 1
-  one = next_count b.number sent it (run.at_work.taking fine k sent it less there at) 1 in_order some
+  one : length (next_images 1 kinds it) ≡ 1
+  one = next_count b.number kinds sent it (run.at_work.taking fine k sent it less there at) 1 in_order some
 
   abbrev before : WorkState
   before = work_state building.workers building.work
@@ -74,7 +85,7 @@ module _
   abbrev next_state : WorkerState
   next_state = record (worker_at before k) { taken = (worker_at before k).taken + next_copies b before k }
 
-  worker_is : worker_state (after_digest 1 it) ≡ next_state
+  worker_is : worker_state (after_digest 1 kinds it) ≡ next_state
   worker_is =
       ap (λ (n : ℕ). counted n) (one ∙ sym waits_one)
       ∙ sym (ap (λ (s : WorkerState). record s { taken = s.taken + next_copies b before k })
@@ -83,7 +94,7 @@ module _
         counted n = record { taken = it.taken + n; sealed = it.sealed }
 
   abbrev changed : BuildingValue
-  changed = going_on live building b w run fine put k sent it less there at in_order at_it.maker at_it.after at_it.made at_it.fit 1 (after_digest 1 it)
+  changed = going_on live building b w run fine put k sent it less there at in_order at_it.maker at_it.after at_it.made at_it.fit 1 (after_digest 1 kinds it)
 
   abbrev with_states : List WorkerState → WorkState
   with_states states = record { workers = states; indexes = map index_state w.indexes; spoiled = None }
@@ -91,7 +102,7 @@ module _
   work_is : work_state changed.workers changed.work ≡ digested b before k
   work_is =
       state_is changed (record w { makers = set w.makers k at_it.after.maker }) refl fine
-      ∙ ap with_states (states_set w.workers k building.workers (after_digest 1 it) (omega (arith, less, run.on.workers)))
+      ∙ ap with_states (states_set w.workers k building.workers (after_digest 1 kinds it) (omega (arith, less, run.on.workers)))
       ∙ ap (λ (s : WorkerState). with_states (set (map worker_state (take w.workers building.workers)) k s)) worker_is
       ∙ sym (ap (λ (s : WorkState). record s { workers = set s.workers k next_state }) (state_is building w run.work_is fine))
 
@@ -104,7 +115,7 @@ module _
       subst (λ (o : Option BuildState). OnBuild o (λ x. (images ≡ next_copies x before k)
       × (core_state live new ≡ record (core_state live building) { work = digested x before k })))
       (sym run.build_is) (
-        at_it.counted ∙ ap (λ (v : WorkerValue). length (next_images 1 v)) same_it ∙ one ∙ sym waits_one,
+        at_it.counted ∙ ap (λ (ks : List Kind). length (next_images 1 ks at_it.it)) same_kinds ∙ ap (λ (v : WorkerValue). length (next_images 1 kinds v)) same_it ∙ one ∙ sym waits_one,
         ap (core_state live) left ∙ ap (λ (s : WorkState). record { live = live.state; work = s; spools = spools_state changed.given changed.spools }) work_is
             ∙ ap (λ (s : SpoolsState). record { live = live.state; work = digested b before k; spools = s }) spools_are,
       )

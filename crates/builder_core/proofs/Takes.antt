@@ -1,5 +1,5 @@
 -- A worker of a running build takes copies.
-use Rattle.std.proofs.Common.{◌≡◌, ℕ, ◌+◌, ◌*◌, ◌<◌, ◌≤◌, List, [], ◌∷◌, ◌++◌, length, map, take, set, get_or, Option, Some, None, refl, sym, ap, ◌∙◌}
+use Rattle.std.proofs.Common.{◌≡◌, ℕ, ◌+◌, ◌*◌, ◌<◌, ◌≤◌, List, [], ◌++◌, length, map, take, set, get_or, Option, Some, None, refl, sym, ap, ◌∙◌}
 use Rattle.std.proofs.Common.{false, subst, arith}
 use Rattle.std.specs.Prelude.{flat_map, IsPermutation, Result, Ok, Err, IfErr}
 use Rattle.std.specs.List.{slice_get}
@@ -14,24 +14,24 @@ use Rattle.run_maker.specs.Making.{MakerValue, spec_at}
 use Rattle.run_maker.specs.Spooling.{Adds}
 use Rattle.building.specs.Copies.{images_of}
 use Rattle.building.specs.Holding.{HoldsPairs, HoldsOpen}
-use Rattle.building.specs.ImagePairs.{HavePairs, HaveRows}
+use Rattle.building.specs.ImagePairs.{HavePairs}
 use Rattle.building.specs.Taking.{IsTaking, received_images, unsealed_images}
 use Rattle.building.specs.Work.{next_images, after_digest, after_seal}
 use Rattle.building.specs.WorkerValue.{WorkerValue}
 use Rattle.building.specs.declared.copied.Copied.{Copied}
 use Rattle.building.proofs.ManyPairs.{images-append, have_split}
 use Rattle.building.proofs.Taking.{digested_taking, sealed_taking, digested_holds, sealed_holds, digested_open, sealed_open}
-use Rattle.run_maker.specs.ImagePairs.{HasRows}
 use Rattle.builder_core.specs.Builds.{LiveValue, BuildingValue, WorkValue, IsRunning, IsWorkOn, IsUnloaded, AreFed, WorksOn, worker_state, index_state, state_unless, work_state}
 use Rattle.builder_core.specs.Builds.{core_state}
-use Rattle.builder_core.specs.CoreState.{BuildState, WorkState, SpoolsState, scanning_of, spoiled_work}
+use Rattle.build_events.specs.CoreState.{BuildState, WorkState, SpoolsState, scanning_of, spoiled_work}
 use Rattle.builder_core.specs.Columns.{with_own}
 use Rattle.builder_core.specs.Holding.{Kit, IsFit, HoldsAt, Digested, Sealed, holdings, kit_of, runs_of, spools_state}
-use Rattle.builder_core.specs.Rings.{all_sent, ArePut, HasPut, PagesFollow}
-use Rattle.builder_core.specs.Scanning.{pairs_at_scan}
-use Rattle.builder_core.specs.Steps.{spoiled_by}
-use Rattle.builder_core.specs.Workers.{put_to}
+use Rattle.builder_core.specs.Rings.{all_images, all_sent, ArePut, HasPut, PagesFollow}
+use Rattle.build_events.specs.Scanning.{pairs_at_scan}
+use Rattle.build_events.specs.Steps.{spoiled_by}
+use Rattle.build_events.specs.Workers.{put_to}
 use Rattle.builder_core.specs.Working.{IsSpoiled}
+use Rattle.builder_core.proofs.AllImages.{all_own}
 use Rattle.builder_core.proofs.AtWork.{taking_set}
 use Rattle.builder_core.proofs.CopyPairs.{copies_pairs}
 use Rattle.builder_core.proofs.Kits.{kits_set, lent_to}
@@ -42,29 +42,21 @@ use Rattle.heap_table.specs.Images.{ImageValue}
 use Rattle.keybytes.specs.Keys.{KeySpecValue}
 use Rattle.std.proofs.lemmas.List.{take-append-drop}
 use Rattle.std.specs.Prelude.{drop}
-use Rattle.std.proofs.lemmas.List.Elements.{All-nil, All-cons}
-use Rattle.keybytes.specs.declared.cell.Cell.{Cell}
-
--- where images have pairs they have rows
-have_rows : (spec : KeySpecValue) (images : List ImageValue) (made : List Pair) → HavePairs spec images made → HaveRows spec.kinds images
-have_rows spec [] made have = All-nil (λ image. (rows : ℕ → Option (List Cell)) × HasRows spec.kinds image rows)
-have_rows spec (image ∷ images) made have =
-    All-cons (λ image. (rows : ℕ → Option (List Cell)) × HasRows spec.kinds image rows) image images (have.2.rows, have.2.shows)
-    (have_rows spec images have.1 have.3)
 
 -- where the images of all copies of a ring have pairs, so have those that a worker sees
 have_seen :
-    (spec : KeySpecValue) (n : ℕ) (worker : WorkerValue) (sent : List Copied) (made : List Pair) → worker.end.received ++ worker.end.known ≡ sent
-    → HavePairs spec (images_of worker.build sent) made → (seen : List Pair) × HavePairs spec (next_images n worker) seen
-have_seen spec n worker sent made in_order have =
+    (spec : KeySpecValue) (n : ℕ) (kinds : List Kind) (worker : WorkerValue) (sent : List Copied) (made : List Pair)
+    → worker.end.received ++ worker.end.known ≡ sent → HavePairs spec (images_of worker.build kinds sent) made
+    → (seen : List Pair) × HavePairs spec (next_images n kinds worker) seen
+have_seen spec n kinds worker sent made in_order have =
     let build : ℕ = worker.build in
-    let parts : images_of build sent ≡ received_images worker ++ (next_images n worker ++ images_of build (drop n worker.end.known)) =
-    ap (images_of build) (sym in_order) ∙ images-append build worker.end.received worker.end.known
-    ∙ ap (λ xs. received_images worker ++ xs)
-    (ap (images_of build) (sym (take-append-drop n worker.end.known)) ∙ images-append build (take n worker.end.known) (drop n worker.end.known)) in
-    let first = have_split spec (received_images worker) (next_images n worker ++ images_of build (drop n worker.end.known)) made
+    let parts : images_of build kinds sent ≡ received_images kinds worker ++ (next_images n kinds worker ++ images_of build kinds (drop n worker.end.known)) =
+    ap (images_of build kinds) (sym in_order) ∙ images-append build kinds worker.end.received worker.end.known
+    ∙ ap (λ xs. received_images kinds worker ++ xs)
+    (ap (images_of build kinds) (sym (take-append-drop n worker.end.known)) ∙ images-append build kinds (take n worker.end.known) (drop n worker.end.known)) in
+    let first = have_split spec (received_images kinds worker) (next_images n kinds worker ++ images_of build kinds (drop n worker.end.known)) made
     (subst (λ (xs : List ImageValue). HavePairs spec xs made) parts have) in
-    let second = have_split spec (next_images n worker) (images_of build (drop n worker.end.known)) first.1 first.3 in
+    let second = have_split spec (next_images n kinds worker) (images_of build kinds (drop n worker.end.known)) first.1 first.3 in
     (second.0, second.2)
 
 -- one worker's state among those of all
@@ -78,16 +70,21 @@ module _
     (put : ArePut live.state.heap.schema live.state.heap.log b (all_sent live.pages)) (k : ℕ) (sent : List Copied) (it : WorkerValue) (less : k < b.workers)
     (there : slice_get (all_sent live.pages) k ≡ Some sent) (at : slice_get building.workers k ≡ Some it)
     (in_order : it.end.received ++ it.end.known ≡ sent) where
-  taking : IsTaking b.number sent it
+  abbrev kinds : List Kind
+  kinds = live.state.heap.schema
+
+  taking : IsTaking b.number kinds sent it
   taking = run.at_work.taking fine k sent it less there at
 
   -- the pairs of the copies that it sees, for each index
-  have_next : (n index : ℕ) (spec : KeySpecValue) → slice_get w.specs index ≡ Some spec → (made : List Pair) × HavePairs spec (next_images n it) made
+  have_next : (n index : ℕ) (spec : KeySpecValue) → slice_get w.specs index ≡ Some spec → (made : List Pair) × HavePairs spec (next_images n kinds it) made
   have_next n index spec is =
       let made : List Pair = flat_map (pairs_at_scan (scanning_of b spec) live.state.heap.log) (put_to b k) in
       let columns = all_at (λ (s : KeySpecValue). s.kinds ≡ live.state.heap.schema) w.specs index spec run.on.columns is in
-      let have = copies_pairs (scanning_of b spec) live.state.heap.schema live.state.heap.log (put_to b k) (images_of b.number sent) columns (put k sent there) in
-      have_seen spec n it sent made in_order (subst (λ (build : ℕ). HavePairs spec (images_of build sent) made) (sym taking.of_build) have)
+      let of_all = copies_pairs (scanning_of b spec) kinds live.state.heap.log (put_to b k) (all_images b.number sent) columns (put k sent there) in
+      let have : HavePairs spec (images_of b.number kinds sent) made =
+      subst (λ (images : List ImageValue). HavePairs spec images made) (sym (all_own kinds live.state.heap.log b.number (put_to b k) sent (put k sent there))) of_all in
+      have_seen spec n kinds it sent made in_order (subst (λ (build : ℕ). HavePairs spec (images_of build kinds sent) made) (sym taking.of_build) have)
 
   -- its maker is there, and with its spools a fit kit
   pub its_kit : (maker : MakerValue) × (slice_get w.makers k ≡ Some maker) × IsFit w.specs (kit_of (length w.specs) k maker building.spools)
@@ -100,15 +97,17 @@ module _
   pub its_spools : k * length w.specs + length w.specs ≤ length building.spools
   its_spools = lent_to w.specs b.workers k w.makers building.spools (run.at_work.kits fine).equipped less
 
-  -- it can read the rows of the copies that it sees
-  pub can_read : (n : ℕ) → HaveRows its_kit.0.schema (next_images n it)
-  can_read n =
+  -- an index's key is of the table's columns
+  columns_of : (index : ℕ) (spec : KeySpecValue) → slice_get w.specs index ≡ Some spec → spec.kinds ≡ kinds
+  columns_of index spec is = all_at (λ (s : KeySpecValue). s.kinds ≡ kinds) w.specs index spec run.on.columns is
+
+  -- and so are the rows that its maker takes
+  pub its_columns : (maker : MakerValue) → slice_get w.makers k ≡ Some maker → maker.schema ≡ kinds
+  its_columns maker made =
       let some : 0 < length w.specs = let same = ap length run.on.specs in omega (arith, same, run.follows.some_index) in
       let first = there_is w.specs 0 some in
-      let next = have_next n 0 first.0 first.1 in
-      subst (λ (kinds : List Kind). HaveRows kinds (next_images n it))
-      (all_at (λ (s : KeySpecValue). s.kinds ≡ its_kit.0.schema) w.specs 0 first.0 its_kit.2.columns first.1)
-      (have_rows first.0 (next_images n it) next.0 next.1)
+      let fit = (run.at_work.kits fine).equipped.fit k maker made in
+      sym (all_at (λ (s : KeySpecValue). s.kinds ≡ maker.schema) w.specs 0 first.0 fit.columns first.1) ∙ columns_of 0 first.0 first.1
 
   module _ (maker : MakerValue) (after : Kit) (made_by : slice_get w.makers k ≡ Some maker) (fit : IsFit w.specs after) (n : ℕ) where
     abbrev kit : Kit
@@ -123,9 +122,9 @@ module _
     }
 
     goes_on :
-        (new : WorkerValue) → IsTaking b.number sent new
-        → ((index : ℕ) (spec : KeySpecValue) → slice_get w.specs index ≡ Some spec → HoldsOpen spec (unsealed_images new) (get_or after.maker.begun index []))
-        → ((index : ℕ) (spec : KeySpecValue) → slice_get w.specs index ≡ Some spec → IsUnloaded index w → HoldsAt index spec (received_images new) (holdings after))
+        (new : WorkerValue) → IsTaking b.number kinds sent new
+        → ((index : ℕ) (spec : KeySpecValue) → slice_get w.specs index ≡ Some spec → HoldsOpen spec (unsealed_images spec.kinds new) (get_or after.maker.begun index []))
+        → ((index : ℕ) (spec : KeySpecValue) → slice_get w.specs index ≡ Some spec → IsUnloaded index w → HoldsAt index spec (received_images spec.kinds new) (holdings after))
         → WorksOn live (going_on new)
     goes_on new own opened held =
         works_with live (going_on new) b (record w { makers = set w.makers k after.maker })
@@ -137,8 +136,8 @@ module _
           at_work = record {
             fed = run.at_work.fed;
             given = run.at_work.given;
-            taking = λ f. taking_set b.number b.workers (all_sent live.pages) building.workers k new (run.at_work.taking fine)
-                (λ s is. subst (λ (x : List Copied). IsTaking b.number x new) (same_Some sent s (sym there ∙ is)) own);
+            taking = λ f. taking_set b.number kinds b.workers (all_sent live.pages) building.workers k new (run.at_work.taking fine)
+                (λ s is. subst (λ (x : List Copied). IsTaking b.number kinds x new) (same_Some sent s (sym there ∙ is)) own);
             kits = λ f. kits_set b.workers building.workers building.spools w k new after less (run.at_work.kits fine) fit opened held;
           };
         })
@@ -160,61 +159,71 @@ module _
       index_there : index < length w.specs
       index_there = below w.specs index spec is
 
-      opened_before : HoldsOpen spec (unsealed_images it) old_begun
-      opened_before = (run.at_work.kits fine).opened index spec is k it maker less at made_by
+      columns : spec.kinds ≡ kinds
+      columns = columns_of index spec is
 
-      held_before : IsUnloaded index w → HoldsPairs spec (received_images it) old_runs old_begun
-      held_before none = (run.at_work.kits fine).holding index spec is none k it maker less at made_by
+      opened_before : HoldsOpen spec (unsealed_images kinds it) old_begun
+      opened_before =
+          subst (λ (ks : List Kind). HoldsOpen spec (unsealed_images ks it) old_begun) columns ((run.at_work.kits fine).opened index spec is k it maker less at made_by)
+
+      held_before : IsUnloaded index w → HoldsPairs spec (received_images kinds it) old_runs old_begun
+      held_before none =
+          subst (λ (ks : List Kind). HoldsPairs spec (received_images ks it) old_runs old_begun) columns
+          ((run.at_work.kits fine).holding index spec is none k it maker less at made_by)
 
       -- the pairs that it makes of the copies
       abbrev made : List Pair
       made = (have_next n index spec is).0
 
-      of_index : HavePairs (spec_at w.specs index) (next_images n it) made
+      of_index : HavePairs (spec_at w.specs index) (next_images n kinds it) made
       of_index =
-          subst (λ (s : KeySpecValue). HavePairs s (next_images n it) made)
+          subst (λ (s : KeySpecValue). HavePairs s (next_images n kinds it) made)
           (sym (get_or_from_slice_get w.specs index spec (record { kinds = []; columns = []; unique = false }) is)) (have_next n index spec is).1
 
-      adds : Digested w.specs (next_images n it) kit after → Adds made old_runs old_begun new_runs new_begun
+      adds : Digested w.specs (next_images n kinds it) kit after → Adds made old_runs old_begun new_runs new_begun
       adds digested = digested index index_there made of_index
 
-      digested_opened : Digested w.specs (next_images n it) kit after → HoldsOpen spec (unsealed_images (after_digest n it)) new_begun
+      digested_opened : Digested w.specs (next_images n kinds it) kit after → HoldsOpen spec (unsealed_images spec.kinds (after_digest n kinds it)) new_begun
       digested_opened digested =
-          digested_open spec n it old_runs old_begun new_runs new_begun made taking.taken taking.sealed_was_taken opened_before (have_next n index spec is).1
-          (adds digested) (fit.short index [] (omega (arith, index_there, fit.begun_many)))
+          subst (λ (ks : List Kind). HoldsOpen spec (unsealed_images ks (after_digest n kinds it)) new_begun) (sym columns)
+          (digested_open spec n kinds it old_runs old_begun new_runs new_begun made taking.taken taking.sealed_was_taken opened_before (have_next n index spec is).1
+          (adds digested) (fit.short index [] (omega (arith, index_there, fit.begun_many))))
 
-      digested_held : Digested w.specs (next_images n it) kit after → IsUnloaded index w → HoldsPairs spec (received_images (after_digest n it)) new_runs new_begun
+      digested_held : Digested w.specs (next_images n kinds it) kit after → IsUnloaded index w → HoldsPairs spec (received_images spec.kinds (after_digest n kinds it)) new_runs new_begun
       digested_held digested none =
-          digested_holds spec n it old_runs old_begun new_runs new_begun made (held_before none) (have_next n index spec is).1 (adds digested)
+          subst (λ (ks : List Kind). HoldsPairs spec (received_images ks (after_digest n kinds it)) new_runs new_begun) (sym columns)
+          (digested_holds spec n kinds it old_runs old_begun new_runs new_begun made (held_before none) (have_next n index spec is).1 (adds digested))
 
       -- once it sealed none is in no run
-      closed : Sealed w.specs (next_images n it) kit after → new_begun ≡ []
+      closed : Sealed w.specs (next_images n kinds it) kit after → new_begun ≡ []
       closed sealed = no_pair after.maker.begun index sealed.1
 
-      sealed_all : Sealed w.specs (next_images n it) kit after → IsPermutation ((all_pairs old_runs ++ old_begun) ++ made) (all_pairs new_runs ++ [])
+      sealed_all : Sealed w.specs (next_images n kinds it) kit after → IsPermutation ((all_pairs old_runs ++ old_begun) ++ made) (all_pairs new_runs ++ [])
       sealed_all sealed =
           subst (λ (ps : List Pair). IsPermutation ((all_pairs old_runs ++ old_begun) ++ made) (all_pairs new_runs ++ ps)) (closed sealed)
           (sealed.0 index index_there made of_index)
 
       sealed_held :
-          Sealed w.specs (next_images n it) kit after → IsUnloaded index w
-          → HoldsPairs spec (received_images (after_seal (after_digest n it))) new_runs new_begun
+          Sealed w.specs (next_images n kinds it) kit after → IsUnloaded index w
+          → HoldsPairs spec (received_images spec.kinds (after_seal (after_digest n kinds it))) new_runs new_begun
       sealed_held sealed none =
-          subst (HoldsPairs spec (received_images (after_seal (after_digest n it))) new_runs) (sym (closed sealed))
-          (sealed_holds spec n it old_runs old_begun new_runs made (held_before none) (have_next n index spec is).1 (sealed_all sealed))
+          subst (λ (ks : List Kind). HoldsPairs spec (received_images ks (after_seal (after_digest n kinds it))) new_runs new_begun) (sym columns)
+          (subst (HoldsPairs spec (received_images kinds (after_seal (after_digest n kinds it))) new_runs) (sym (closed sealed))
+          (sealed_holds spec n kinds it old_runs old_begun new_runs made (held_before none) (have_next n index spec is).1 (sealed_all sealed)))
 
-      sealed_opened : Sealed w.specs (next_images n it) kit after → HoldsOpen spec (unsealed_images (after_seal (after_digest n it))) new_begun
+      sealed_opened : Sealed w.specs (next_images n kinds it) kit after → HoldsOpen spec (unsealed_images spec.kinds (after_seal (after_digest n kinds it))) new_begun
       sealed_opened sealed =
-          subst (HoldsOpen spec (unsealed_images (after_seal (after_digest n it)))) (sym (closed sealed)) (sealed_open spec n it taking.taken)
+          subst (λ (ks : List Kind). HoldsOpen spec (unsealed_images ks (after_seal (after_digest n kinds it))) new_begun) (sym columns)
+          (subst (HoldsOpen spec (unsealed_images kinds (after_seal (after_digest n kinds it)))) (sym (closed sealed)) (sealed_open spec n kinds it taking.taken))
 
-    pub digested_works : Digested w.specs (next_images n it) kit after → WorksOn live (going_on (after_digest n it))
+    pub digested_works : Digested w.specs (next_images n kinds it) kit after → WorksOn live (going_on (after_digest n kinds it))
     digested_works digested =
-        goes_on (after_digest n it) (digested_taking b.number sent it taking n in_order) (λ index spec is. digested_opened index spec is digested)
+        goes_on (after_digest n kinds it) (digested_taking b.number kinds sent it taking n in_order) (λ index spec is. digested_opened index spec is digested)
         (λ index spec is none. digested_held index spec is digested none)
 
-    pub sealed_works : Sealed w.specs (next_images n it) kit after → WorksOn live (going_on (after_seal (after_digest n it)))
+    pub sealed_works : Sealed w.specs (next_images n kinds it) kit after → WorksOn live (going_on (after_seal (after_digest n kinds it)))
     sealed_works sealed =
-        goes_on (after_seal (after_digest n it)) (sealed_taking b.number sent (after_digest n it) (digested_taking b.number sent it taking n in_order))
+        goes_on (after_seal (after_digest n kinds it)) (sealed_taking b.number kinds sent (after_digest n kinds it) (digested_taking b.number kinds sent it taking n in_order))
         (λ index spec is. sealed_opened index spec is sealed) (λ index spec is none. sealed_held index spec is sealed none)
 
 -- what was put for the running build

@@ -4,11 +4,11 @@ use Rattle.std.specs.Prelude.{MatchResult}
 use Rattle.keybytes.specs.declared.fault.Fault.{Fault}
 use Rattle.heap_table.specs.HeapState.{HeapState}
 use Rattle.builder_core.specs.Builds.{LiveValue, BuildingValue, core_state}
-use Rattle.builder_core.specs.CoreState.{CoreState}
-use Rattle.builder_core.specs.Steps.{OnRows, OnLive, Tells, Answers, Does, Step, refusal}
-use Rattle.builder_core.specs.declared.event.Event.{Event}
-use Rattle.builder_core.specs.declared.reply.Reply.{Reply}
-use Rattle.builder_core.specs.declared.reply.Reply.TheVariants.{Refused}
+use Rattle.build_events.specs.CoreState.{CoreState}
+use Rattle.build_events.specs.Steps.{OnRows, OnLive, Tells, Answers, Does, Step, refusal}
+use Rattle.build_events.specs.declared.event.Event.{Event}
+use Rattle.build_events.specs.declared.reply.Reply.{Reply}
+use Rattle.build_events.specs.declared.reply.Reply.TheVariants.{Refused}
 
 pub tells_on_live :
     {R : Type 0} (tell : R → Reply) (Does : HeapState → R → HeapState → Type 0) (s : CoreState) (live new : LiveValue) (building : BuildingValue) (answer : R)

@@ -11,12 +11,12 @@ use Rattle.keybytes.specs.Faults.{first_cause}
 use Rattle.heap_table.specs.HeapState.{busy_txns}
 use Rattle.builder_core.specs.Builds.{LiveValue, BuildingValue, WorkValue, IndexValue, IsRunning, WorksOn, index_state, work_state, core_state, cause_of}
 use Rattle.builder_core.specs.CatchingUp.{MayCatchUp}
-use Rattle.builder_core.specs.declared.event.Event.TheVariants.{Switch}
-use Rattle.builder_core.specs.CoreState.{BuildState, IndexState, WorkState, CoreState}
-use Rattle.builder_core.specs.Ranges.{open_range}
-use Rattle.builder_core.specs.BuildSteps.{OnBuild, CatchesUp, AreFurther, build_cause, cause_if, index_refusal, apply_refusal, behind_refusal, busy_refusal, switch_refusal}
-use Rattle.builder_core.specs.Steps.{refusal}
-use Rattle.builder_core.specs.Workers.{all_unapplied, index_at, unloaded_index}
+use Rattle.build_events.specs.declared.event.Event.TheVariants.{Switch}
+use Rattle.build_events.specs.CoreState.{BuildState, IndexState, WorkState, CoreState}
+use Rattle.build_events.specs.Ranges.{open_range}
+use Rattle.build_events.specs.BuildSteps.{OnBuild, CatchesUp, AreFurther, build_cause, cause_if, index_refusal, apply_refusal, behind_refusal, busy_refusal, switch_refusal}
+use Rattle.build_events.specs.Steps.{refusal}
+use Rattle.build_events.specs.Workers.{all_unapplied, index_at, unloaded_index}
 use Rattle.std.proofs.lemmas.Option.{get_or_from_slice_get}
 use Rattle.builder_core.proofs.ApplyCauses.{inside_of}
 use Rattle.keybytes.proofs.FirstCause.{both_none}

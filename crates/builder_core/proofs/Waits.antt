@@ -23,12 +23,13 @@ use Rattle.building.proofs.ManyPairs.{images-append}
 use Rattle.building.proofs.SamePairs.{have_same}
 use Rattle.building.proofs.Taking.{own_images, sent_count}
 use Rattle.builder_core.specs.Builds.{worker_state}
-use Rattle.builder_core.specs.CoreState.{BuildState, WorkerState, scanning_of}
-use Rattle.builder_core.specs.Rings.{IsDone}
-use Rattle.builder_core.specs.Scanning.{AreCopies, pairs_at_scan}
-use Rattle.builder_core.specs.Workers.{put_to, unsealed_pairs, fill_runs, is_quiet}
-use Rattle.builder_core.specs.declared.scan.Scan.{Scan}
-use Rattle.builder_core.proofs.Copies.{copies_count}
+use Rattle.build_events.specs.CoreState.{BuildState, WorkerState, scanning_of}
+use Rattle.builder_core.specs.Rings.{all_images, IsDone}
+use Rattle.build_events.specs.Scanning.{AreCopies, pairs_at_scan}
+use Rattle.build_events.specs.Workers.{put_to, unsealed_pairs, fill_runs, is_quiet}
+use Rattle.build_events.specs.declared.scan.Scan.{Scan}
+use Rattle.builder_core.proofs.AllImages.{all_own}
+use Rattle.build_events.proofs.Copies.{copies_count}
 use Rattle.builder_core.proofs.CopyPairs.{copies_pairs}
 use Rattle.builder_core.proofs.Places.{all_at, there_is, no_pair, no_pairs}
 
@@ -67,62 +68,69 @@ state_at (suc count) zero (w ∷ ws) worker other less at = ap worker_state (sam
 state_at (suc count) (suc k) (w ∷ ws) worker other less at = state_at count k ws worker other (omega (arith, less)) at
 
 module _
-    (kinds : List Kind) (log : List LogRec) (b : BuildState) (k : ℕ) (sent : List Copied) (worker : WorkerValue) (copies : AreCopies kinds log (put_to b k) (images_of b.number sent)) (taking : IsTaking b.number sent worker) where
+    (kinds : List Kind) (log : List LogRec) (b : BuildState) (k : ℕ) (sent : List Copied) (worker : WorkerValue) (put : AreCopies kinds log (put_to b k) (all_images b.number sent))
+    (taking : IsTaking b.number kinds sent worker) where
+  -- all of them are of the table's columns
+  copies : AreCopies kinds log (put_to b k) (images_of b.number kinds sent)
+  copies = subst (AreCopies kinds log (put_to b k)) (sym (all_own kinds log b.number (put_to b k) sent put)) put
+
   -- the images that it received, and the others
-  parts : images_of b.number sent ≡ received_images worker ++ images_of b.number taking.rest
+  parts : images_of b.number kinds sent ≡ received_images kinds worker ++ images_of b.number kinds taking.rest
   parts =
-      ap (images_of b.number) (sym taking.in_order) ∙ images-append b.number worker.end.received taking.rest
-      ∙ ap (λ n. images_of n worker.end.received ++ images_of b.number taking.rest) (sym taking.of_build)
+      ap (images_of b.number kinds) (sym taking.in_order) ∙ images-append b.number kinds worker.end.received taking.rest
+      ∙ ap (λ n. images_of n kinds worker.end.received ++ images_of b.number kinds taking.rest) (sym taking.of_build)
 
-  counted : length (put_to b k) ≡ worker.taken + length (images_of b.number taking.rest)
+  counted : length (put_to b k) ≡ worker.taken + length (images_of b.number kinds taking.rest)
   counted =
-      let count = copies_count kinds log (put_to b k) (images_of b.number sent) copies in
-      omega (arith, count, ap length parts, length-append (received_images worker) (images_of b.number taking.rest), taking.taken)
+      let count = copies_count kinds log (put_to b k) (images_of b.number kinds sent) copies in
+      omega (arith, count, ap length parts, length-append (received_images kinds worker) (images_of b.number kinds taking.rest), taking.taken)
 
-  first_images : take worker.taken (images_of b.number sent) ≡ received_images worker
+  first_images : take worker.taken (images_of b.number kinds sent) ≡ received_images kinds worker
   first_images =
       ap (take worker.taken) parts
-      ∙ ap (λ n. take n (received_images worker ++ images_of b.number taking.rest)) taking.taken
-      ∙ take-append-le (length (received_images worker)) (received_images worker) (images_of b.number taking.rest) (omega arith)
-      ∙ take_all (length (received_images worker)) (received_images worker) (omega arith)
+      ∙ ap (λ n. take n (received_images kinds worker ++ images_of b.number kinds taking.rest)) taking.taken
+      ∙ take-append-le (length (received_images kinds worker)) (received_images kinds worker) (images_of b.number kinds taking.rest) (omega arith)
+      ∙ take_all (length (received_images kinds worker)) (received_images kinds worker) (omega arith)
 
   -- copies of the first scans for it
-  pub received_copies : AreCopies kinds log (take worker.taken (put_to b k)) (received_images worker)
+  pub received_copies : AreCopies kinds log (take worker.taken (put_to b k)) (received_images kinds worker)
   received_copies =
       subst (AreCopies kinds log (take worker.taken (put_to b k))) first_images
-      (copies_take kinds log worker.taken (put_to b k) (images_of b.number sent) copies)
+      (copies_take kinds log worker.taken (put_to b k) (images_of b.number kinds sent) copies)
 
   -- what waits is what it sees in its ring
   pub waits : (known : List Copied) → worker.end.received ++ known ≡ sent → length (put_to b k) - worker.taken ≡ length known
   waits known in_order =
-      let count = copies_count kinds log (put_to b k) (images_of b.number sent) copies in
-      let all = sent_count b.number sent worker taking known in_order in
+      let count = copies_count kinds log (put_to b k) (images_of b.number kinds sent) copies in
+      let all = sent_count b.number kinds sent worker taking known in_order in
       omega (arith, count, all)
 
   module _ (spec : KeySpecValue) (columns : spec.kinds ≡ kinds) where
     -- the pairs that its kit holds
     pub held_pairs :
-        (runs : List (List Pair)) (begun : List Pair) → HoldsPairs spec (received_images worker) runs begun
+        (runs : List (List Pair)) (begun : List Pair) → HoldsPairs spec (received_images spec.kinds worker) runs begun
         → IsPermutation (all_pairs runs ++ begun) (flat_map (pairs_at_scan (scanning_of b spec) log) (take worker.taken (put_to b k)))
-    held_pairs runs begun held =
-        let same = have_same spec (received_images worker) held.made _ held.have
-        (copies_pairs (scanning_of b spec) kinds log (take worker.taken (put_to b k)) (received_images worker) columns received_copies) in
+    held_pairs runs begun its =
+        let held = subst (λ (ks : List Kind). HoldsPairs spec (received_images ks worker) runs begun) columns its in
+        let same = have_same spec (received_images kinds worker) held.made _ held.have
+        (copies_pairs (scanning_of b spec) kinds log (take worker.taken (put_to b k)) (received_images kinds worker) columns received_copies) in
         IsPermutation-sym _ (all_pairs runs ++ begun) (subst (λ (ps : List Pair). IsPermutation ps (all_pairs runs ++ begun)) same held.all)
 
     -- how many of them are in no run yet
     begun_is :
-        (begun : List Pair) → HoldsOpen spec (unsealed_images worker) begun
+        (begun : List Pair) → HoldsOpen spec (unsealed_images spec.kinds worker) begun
         → length begun ≡ length (unsealed_pairs b log k (worker_state worker) spec) % 4096
-    begun_is begun opened =
+    begun_is begun its =
+        let opened = subst (λ (ks : List Kind). HoldsOpen spec (unsealed_images ks worker) begun) columns its in
         let unsealed : opened.last ≡ unsealed_pairs b log k (worker_state worker) spec =
-        have_same spec (unsealed_images worker) opened.last _ opened.since_seal
-        (copies_pairs (scanning_of b spec) kinds log (drop worker.sealed (take worker.taken (put_to b k))) (unsealed_images worker) columns
-        (copies_drop kinds log worker.sealed (take worker.taken (put_to b k)) (received_images worker) received_copies)) in
+        have_same spec (unsealed_images kinds worker) opened.last _ opened.since_seal
+        (copies_pairs (scanning_of b spec) kinds log (drop worker.sealed (take worker.taken (put_to b k))) (unsealed_images kinds worker) columns
+        (copies_drop kinds log worker.sealed (take worker.taken (put_to b k)) (received_images kinds worker) received_copies)) in
         opened.open_run ∙ ap (λ (ps : List Pair). length ps % 4096) unsealed
 
   module _
       (specs : List KeySpecValue) (columns : All (λ spec. spec.kinds ≡ kinds) specs) (maker : MakerValue) (many : length maker.begun ≡ length specs)
-      (opened : (index : ℕ) (spec : KeySpecValue) → slice_get specs index ≡ Some spec → HoldsOpen spec (unsealed_images worker) (get_or maker.begun index []))
+      (opened : (index : ℕ) (spec : KeySpecValue) → slice_get specs index ≡ Some spec → HoldsOpen spec (unsealed_images spec.kinds worker) (get_or maker.begun index []))
       (are : b.specs ≡ specs) where
     abbrev fills : KeySpecValue → Bool
     fills spec = fill_runs (unsealed_pairs b log k (worker_state worker) spec)
@@ -136,7 +144,7 @@ module _
     pub quiet_is : IsDone sent worker maker → is_quiet b log k (worker_state worker) ≡ true
     quiet_is quiet =
         let none : taking.rest ≡ [] = append_cancel_left worker.end.received taking.rest [] (taking.in_order ∙ sym quiet.taken ∙ sym (append-nil worker.end.received)) in
-        let all : worker.taken ≡ length (put_to b k) = let rest = ap (λ (cs : List Copied). length (images_of b.number cs)) none in omega (arith, counted, rest) in
+        let all : worker.taken ≡ length (put_to b k) = let rest = ap (λ (cs : List Copied). length (images_of b.number kinds cs)) none in omega (arith, counted, rest) in
         let closed : list_all fills specs ≡ true =
         all_pass fills specs (λ index spec at.
         eq-eqb (length (unsealed_pairs b log k (worker_state worker) spec) % 4096) 0
@@ -148,7 +156,7 @@ module _
     is_quiet-quiet is =
         let both = and_parts (worker.taken == length (put_to b k)) (list_all fills b.specs) is in
         let all : worker.taken ≡ length (put_to b k) = eqb-true worker.taken (length (put_to b k)) both.0 in
-        let own = own_images b.number taking.rest taking.own in
+        let own = own_images b.number kinds taking.rest taking.own in
         let none : taking.rest ≡ [] = nil_from_length taking.rest (omega (arith, all, counted, own)) in
         record {
           taken = sym (append-nil worker.end.received) ∙ ap (λ cs. worker.end.received ++ cs) (sym none) ∙ taking.in_order;

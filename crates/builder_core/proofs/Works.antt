@@ -18,10 +18,10 @@ use Rattle.keybytes.proofs.PairSets.{contains-set_of, same_members}
 use Rattle.run_maker.specs.Making.{MakerValue}
 use Rattle.builder_core.specs.Builds.{WorkValue, IndexValue, IsIndexOn, IsWorkOn, IsCaughtUpTo, with_index, fresh, fresh_index, with_pairs, is_unique}
 use Rattle.builder_core.proofs.Places.{at_set, replicate_at}
-use Rattle.builder_core.specs.CoreState.{BuildState, scanning_of}
-use Rattle.builder_core.specs.Ranges.{open_range}
-use Rattle.builder_core.specs.Scanning.{Scanning, scanned_pairs}
-use Rattle.builder_core.proofs.ScanSteps.{scan_now}
+use Rattle.build_events.specs.CoreState.{BuildState, scanning_of}
+use Rattle.build_events.specs.Ranges.{open_range}
+use Rattle.build_events.specs.Scanning.{Scanning, scanned_pairs}
+use Rattle.build_events.proofs.ScanSteps.{scan_now}
 
 -- nothing was done on an index
 fresh_on : (log : List LogRec) (b : BuildState) (s : KeySpecValue) → IsIndexOn log b s fresh_index

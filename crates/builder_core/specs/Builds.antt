@@ -1,5 +1,5 @@
 -- What a table and the workers of its build keep between events, and how the two go together.
-use Rattle.std.specs.Prelude.{◌≡◌, ℕ, ◌+◌, ◌==◌, ◌<◌, ◌≤◌, Bool, List, [], ◌++◌, length, map, min, take, set, replicate, is_some, true, false, Option}
+use Rattle.std.specs.Prelude.{◌≡◌, ℕ, ◌+◌, ◌==◌, ◌<◌, ◌≤◌, Bool, List, [], ◌++◌, length, map, min, take, set, replicate, is_some, true, false, Option, drop}
 use Rattle.std.specs.Prelude.{Some, None}
 use Rattle.std.specs.FinMap.{keys}
 use Rattle.std.specs.List.{All, slice_get}
@@ -17,23 +17,24 @@ use Rattle.scan_range.specs.Cuts.{CutsValue, are_cuts}
 use Rattle.scan_range.specs.Ranges.{RangesValue, is_passed}
 use Rattle.side_file.specs.Ends.{PutEnd, RingId}
 use Rattle.side_file.specs.declared.entry.Entry.{Entry}
+use Rattle.side_file.specs.Entries.{entry_of}
 use Rattle.building.specs.TakeEnd.{TakeEnd}
 use Rattle.building.specs.WorkerValue.{WorkerValue}
 use Rattle.building.specs.declared.copied.Copied.{Copied}
-use Rattle.builder_core.specs.CoreState.{BuildState, LiveState, WorkerState, IndexState, WorkState, CoreState, scanning_of, live_with_heap, idle}
-use Rattle.builder_core.specs.Ranges.{next_page, open_range}
+use Rattle.build_events.specs.CoreState.{BuildState, LiveState, WorkerState, IndexState, WorkState, CoreState, scanning_of, live_with_heap, idle}
+use Rattle.build_events.specs.Ranges.{next_page, open_range}
 use Rattle.builder_core.specs.Holding.{SpoolValue, spools_state, ended_spool, fresh_maker, AreEquipped, AreHolding, AreOpen}
 use Rattle.builder_core.specs.Rings.{all_sent, AreForWorkers, AreLooked, AreTaking, AreDone}
-use Rattle.builder_core.specs.Scanning.{Scanning, IsScanned, ReadOnce, scanned_at, scanned_pairs}
+use Rattle.build_events.specs.Scanning.{Scanning, IsScanned, ReadOnce, scanned_at, scanned_pairs}
 use Rattle.builder_core.specs.SideFiles.{IsFed, HasLookedAtSide, SeesSide}
-use Rattle.builder_core.specs.BuildSteps.{cause_if, build_cause, counts_refusal, range_refusal, ring_most, after_feed}
-use Rattle.builder_core.specs.Steps.{refusal}
-use Rattle.builder_core.specs.declared.event.Event.{Event}
-use Rattle.builder_core.specs.Workers.{fed_to, unfed}
-use Rattle.builder_core.specs.SideEntries.{side_entries}
+use Rattle.build_events.specs.BuildSteps.{cause_if, build_cause, counts_refusal, range_refusal, ring_most, after_feed}
+use Rattle.build_events.specs.Steps.{refusal}
+use Rattle.build_events.specs.declared.event.Event.{Event}
+use Rattle.build_events.specs.Workers.{fed_to, unfed}
+use Rattle.build_events.specs.SideEntries.{side_entries}
 use Rattle.visibility.specs.Applied.{apply_entries}
 use Rattle.catch_up.specs.Built.{BuiltValue}
-use Rattle.builder_core.specs.declared.scan.Scan.{Scan}
+use Rattle.build_events.specs.declared.scan.Scan.{Scan}
 
 -- a table with the ends of its rings that put
 pub record LiveValue : Type 0 where
@@ -247,23 +248,23 @@ AreFed b indexes puts ends =
 
 -- the entries that were fed and not applied wait in the side-files' rings, the build has the spools, and its workers are at work on what
 -- their rings were sent; of a spoiled build only the first two are known
-pub record AreAtWork (b : BuildState) (pages : List (PutEnd Copied)) (sides : List (PutEnd Entry)) (building : BuildingValue) (work : WorkValue) : Type 0 where
+pub record AreAtWork (kinds : List Kind) (b : BuildState) (pages : List (PutEnd Copied)) (sides : List (PutEnd Entry)) (building : BuildingValue) (work : WorkValue) : Type 0 where
   pub fed : AreFed b work.indexes sides building.sides
   pub given : building.given ≡ true
-  pub taking : work.spoiled ≡ None → AreTaking b.number b.workers (all_sent pages) building.workers
+  pub taking : work.spoiled ≡ None → AreTaking b.number kinds b.workers (all_sent pages) building.workers
   pub kits : work.spoiled ≡ None → HaveKits b.workers building.workers building.spools work
 
 -- the same for the build that runs, if one does
-abbrev pub WorkersFollow : List (PutEnd Copied) → List (PutEnd Entry) → BuildingValue → Option BuildState → Option WorkValue → Type 0
-WorkersFollow pages sides building None work = Unit {0}
-WorkersFollow pages sides building (Some b) None = Unit {0}
-WorkersFollow pages sides building (Some b) (Some work) = AreAtWork b pages sides building work
+abbrev pub WorkersFollow : List Kind → List (PutEnd Copied) → List (PutEnd Entry) → BuildingValue → Option BuildState → Option WorkValue → Type 0
+WorkersFollow kinds pages sides building None work = Unit {0}
+WorkersFollow kinds pages sides building (Some b) None = Unit {0}
+WorkersFollow kinds pages sides building (Some b) (Some work) = AreAtWork kinds b pages sides building work
 
 -- work stands beside a table exactly where a build runs on it, and is that build's; its workers follow their rings, and their makers and
 -- spools hold what they took
 pub record WorksOn (live : LiveValue) (building : BuildingValue) : Type 0 where
   pub work : IsWorkOf live.state.heap.schema live.state.heap.log live.state.build building.work
-  pub workers : WorkersFollow live.pages live.sides building live.state.build building.work
+  pub workers : WorkersFollow live.state.heap.schema live.pages live.sides building live.state.build building.work
 
 -- both ends of the rings were looked at, and nothing else changed
 pub record HasLooked (live : LiveValue) (building : BuildingValue) (new_live : LiveValue) (new_building : BuildingValue) : Type 0 where
@@ -291,7 +292,7 @@ pub record IsRunning (live : LiveValue) (building : BuildingValue) (b : BuildSta
   pub work_is : building.work ≡ Some work
   pub follows : IsBuildOf live.state.heap.schema live.state.heap.log b
   pub on : IsWorkOn live.state.heap.schema live.state.heap.log b work
-  pub at_work : AreAtWork b live.pages live.sides building work
+  pub at_work : AreAtWork live.state.heap.schema b live.pages live.sides building work
 
 -- how many places of a ring are known to be free
 abbrev pub free_places : Option (PutEnd Copied) → ℕ
@@ -362,6 +363,10 @@ pub record SeesSideAt (index waiting : ℕ) (live : LiveValue) (building : Build
 abbrev pub least_fed : BuildState → List LogRec → ℕ → ℕ → ℕ
 least_fed b log index most = min most (min ring_most (unfed b log index (slice_get b.specs index)))
 
+-- the next so many entries of the index that were not fed yet, under the build's number
+abbrev pub next_entries : BuildState → List LogRec → ℕ → KeySpecValue → ℕ → List Entry
+next_entries b log index spec count = map (entry_of b.number) (take count (drop (fed_to b index) (side_entries (scanning_of b spec) log)))
+
 -- the next entries of the index's side-file went into its ring, as many as this end knew places for
 pub record HasFed (index most : ℕ) (live : LiveValue) (count : ℕ) (new : LiveValue) : Type 0 where
   pub build : BuildState
@@ -375,6 +380,9 @@ pub record HasFed (index most : ℕ) (live : LiveValue) (count : ℕ) (new : Liv
   -- fewer are moved only where no place is known to be free any more
   pub after : PutEnd Entry
   pub stops : count < least_fed build live.state.heap.log index most → after.free ≡ 0
+  -- they are the next of its entries, put behind all that the ring was sent
+  pub ring : after.ring ≡ put.ring
+  pub sent : (spec : KeySpecValue) → slice_get build.specs index ≡ Some spec → after.sent ≡ put.sent ++ next_entries build live.state.heap.log index spec count
   pub others : new.sides ≡ set live.sides index after
   pub left : new.state ≡ record live.state { build = Some (after_feed build index count) }
   pub pages : new.pages ≡ live.pages

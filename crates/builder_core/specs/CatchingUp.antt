@@ -8,10 +8,10 @@ use Rattle.unique_verdict.specs.declared.verdict.Verdict.{Verdict}
 use Rattle.unique_verdict.specs.declared.verdict.Verdict.TheVariants.{Unique}
 use Rattle.catch_up.specs.Built.{BuiltValue, verdict_of}
 use Rattle.builder_core.specs.Builds.{IndexValue}
-use Rattle.builder_core.specs.CoreState.{BuildState, IndexState, CoreState}
+use Rattle.build_events.specs.CoreState.{BuildState, IndexState, CoreState}
 use Rattle.ready_indexes.specs.Indexes.{ReadyValue, IsIndex}
-use Rattle.builder_core.specs.BuildSteps.{OnBuild, IsFurther, apply_refusal}
-use Rattle.builder_core.specs.Workers.{all_entries, unapplied, fed_to, index_at}
+use Rattle.build_events.specs.BuildSteps.{OnBuild, IsFurther, apply_refusal}
+use Rattle.build_events.specs.Workers.{all_entries, unapplied, fed_to, index_at}
 
 -- how many entries of an index were not applied yet
 abbrev pub unapplied_at : BuildState → CoreState → ℕ → Option KeySpecValue → ℕ

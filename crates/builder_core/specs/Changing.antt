@@ -12,7 +12,7 @@ use Rattle.side_file.specs.declared.entry.Entry.{Entry}
 use Rattle.visibility.specs.SideEntries.{entries_of_change}
 use Rattle.visibility.specs.declared.change.Change.{Change}
 use Rattle.builder_core.specs.Builds.{WorkValue, BuildFollows, IsWorkOf}
-use Rattle.builder_core.specs.CoreState.{BuildState}
+use Rattle.build_events.specs.CoreState.{BuildState}
 use Rattle.ready_indexes.specs.Following.{FitsColumns}
 use Rattle.builder_core.specs.Rings.{PagesFollow}
 use Rattle.builder_core.specs.SideFiles.{SidesFollow, noted, put_ends}
@@ -38,6 +38,7 @@ without_room side = record side { room = 0 }
 pub record IsLonger (entries : List Entry) (old new : SideFileValue) : Type 0 where
   pub fed : new.fed ≡ old.fed
   pub left : new.left ≡ old.left ++ entries
+  pub end : new.end ≡ old.end
 
 -- the entries of that change, if there is one
 abbrev pub change_entries : ℕ → Rid → Option Change → List Entry
@@ -69,3 +70,4 @@ pub record HasHeard (build : Option BuildState) (old : HeapState) (olds : List S
   pub ends : put_ends news ≡ put_ends olds
   pub put : (builds : ℕ) (all : List (List Copied)) → PagesFollow old.schema old.log builds build all → PagesFollow new.schema new.log builds build all
   pub works : (work : Option WorkValue) → IsWorkOf old.schema old.log build work → IsWorkOf new.schema new.log build work
+  pub columns : new.schema ≡ old.schema

@@ -6,10 +6,10 @@ use Rattle.keybytes.specs.declared.fault.Fault.TheVariants.{NoPage}
 use Rattle.keybytes.specs.declared.pair.Pair.{Pair}
 use Rattle.spool_ledger.specs.Accounts.{Stake}
 use Rattle.run_spool.specs.Spools.{IsFullForOne}
-use Rattle.builder_core.specs.CoreState.{CoreState}
-use Rattle.builder_core.specs.BuildSteps.{OnBuild}
-use Rattle.builder_core.specs.declared.event.Event.{Event}
-use Rattle.builder_core.specs.declared.event.Event.TheVariants.{Begin, Insert, Update, Delete, Undo, Commit, Start, Scan, Digest, Seal, Load, Feed, Apply, Fence, Switch, Abandon}
+use Rattle.build_events.specs.CoreState.{CoreState}
+use Rattle.build_events.specs.BuildSteps.{OnBuild}
+use Rattle.build_events.specs.declared.event.Event.{Event}
+use Rattle.build_events.specs.declared.event.Event.TheVariants.{Begin, Insert, Update, Delete, Undo, Commit, Start, Scan, Digest, Seal, Load, Feed, Apply, Fence, Switch, Abandon}
 
 -- what holds of the worker whose pairs an event spools; only a digest and a seal spool pairs
 abbrev pub IfSpooling : Event → (ℕ → Type 0) → Type 0

@@ -13,7 +13,7 @@ use Rattle.building.specs.Holding.{TakesAll, HoldsMore, HoldsPairs, HoldsOpen}
 use Rattle.building.specs.Taking.{received_images, unsealed_images}
 use Rattle.building.specs.WorkerValue.{WorkerValue}
 use Rattle.builder_core.specs.Columns.{own_spools, with_every}
-use Rattle.builder_core.specs.CoreState.{SpoolsState}
+use Rattle.build_events.specs.CoreState.{SpoolsState}
 
 -- what callers see of a spool: its closed runs, its open run, and pool and quota of the account behind it, if there is one
 pub record SpoolValue : Type 0 where
@@ -108,10 +108,10 @@ HoldsAt i spec images holdings = HoldsPairs spec images (get_or holdings.runs i 
 abbrev pub AreHolding : ℕ → KeySpecValue → ℕ → ℕ → List WorkerValue → List MakerValue → List SpoolValue → Type 0
 AreHolding index spec indexes count workers makers spools =
     (k : ℕ) (worker : WorkerValue) (maker : MakerValue) → k < count → slice_get workers k ≡ Some worker → slice_get makers k ≡ Some maker
-    → HoldsAt index spec (received_images worker) (holdings (kit_of indexes k maker spools))
+    → HoldsAt index spec (received_images spec.kinds worker) (holdings (kit_of indexes k maker spools))
 
 -- and have in no run yet what they took since they last sealed, whole runs aside
 abbrev pub AreOpen : ℕ → KeySpecValue → ℕ → List WorkerValue → List MakerValue → Type 0
 AreOpen index spec count workers makers =
     (k : ℕ) (worker : WorkerValue) (maker : MakerValue) → k < count → slice_get workers k ≡ Some worker → slice_get makers k ≡ Some maker
-    → HoldsOpen spec (unsealed_images worker) (get_or maker.begun index [])
+    → HoldsOpen spec (unsealed_images spec.kinds worker) (get_or maker.begun index [])

@@ -1,21 +1,21 @@
 -- The rings between a table and the workers of its build: what was put for whom, and what each worker has of it.
-use Rattle.std.specs.Prelude.{◌≡◌, ℕ, ◌<◌, ◌≤◌, List, [], length, map, Option, Some, None}
+use Rattle.std.specs.Prelude.{◌≡◌, ℕ, ◌==◌, ◌<◌, ◌≤◌, List, [], length, map, filter, Option, Some, None}
 use Rattle.std.specs.List.{All, slice_get}
 use Rattle.keybytes.specs.declared.kind.Kind.{Kind}
 use Rattle.heap_log.specs.declared.record.LogRec.{LogRec}
+use Rattle.heap_table.specs.Images.{ImageValue}
 use Rattle.run_maker.specs.Making.{MakerValue}
 use Rattle.side_file.specs.Ends.{PutEnd, RingId}
 use Rattle.side_file.specs.declared.entry.Entry.{Entry}
-use Rattle.building.specs.Copies.{images_of}
 use Rattle.building.specs.TakeEnd.{TakeEnd}
 use Rattle.building.specs.Taking.{IsTaking}
 use Rattle.building.specs.Work.{knowing, at_start}
 use Rattle.building.specs.WorkerValue.{WorkerValue}
 use Rattle.building.specs.declared.copied.Copied.{Copied}
-use Rattle.builder_core.specs.CoreState.{BuildState}
-use Rattle.builder_core.specs.Scanning.{AreCopies}
-use Rattle.builder_core.specs.Workers.{put_to}
-use Rattle.builder_core.specs.declared.scan.Scan.{Scan}
+use Rattle.build_events.specs.CoreState.{BuildState}
+use Rattle.build_events.specs.Scanning.{AreCopies}
+use Rattle.build_events.specs.Workers.{put_to}
+use Rattle.build_events.specs.declared.scan.Scan.{Scan}
 
 -- which rings these ends put into
 abbrev pub put_rings : List (PutEnd Copied) → List RingId
@@ -55,10 +55,14 @@ pub record AreTakeEnds (page_rings entry_rings : List RingId) (workers : List Wo
 abbrev pub AreForWorkers : ℕ → List Scan → Type 0
 AreForWorkers workers scans = All (λ scan. scan.worker < workers) scans
 
+-- the pages copied for that build, in order, of whatever columns
+abbrev pub all_images : ℕ → List Copied → List ImageValue
+all_images build copies = map (λ copied. copied.image) (filter (λ copied. copied.build == build) copies)
+
 -- each ring was sent one copy for each scan for its worker, in order, and no other copy of that build
 abbrev pub ArePut : List Kind → List LogRec → BuildState → List (List Copied) → Type 0
 ArePut kinds log b all =
-    (k : ℕ) (sent : List Copied) → slice_get all k ≡ Some sent → AreCopies kinds log (put_to b k) (images_of b.number sent)
+    (k : ℕ) (sent : List Copied) → slice_get all k ≡ Some sent → AreCopies kinds log (put_to b k) (all_images b.number sent)
 
 -- no copy is of a build with a greater number
 abbrev pub AreOfBuilds : ℕ → List (List Copied) → Type 0
@@ -74,11 +78,11 @@ abbrev pub PagesFollow : List Kind → List LogRec → ℕ → Option BuildState
 PagesFollow kinds log builds None all = Unit {0}
 PagesFollow kinds log builds (Some b) all = HasPut kinds log builds b all
 
--- so many of the workers take what their rings were sent for that build
-abbrev pub AreTaking : ℕ → ℕ → List (List Copied) → List WorkerValue → Type 0
-AreTaking build count all workers =
+-- so many of the workers take what their rings were sent for that build of a table of these columns
+abbrev pub AreTaking : ℕ → List Kind → ℕ → List (List Copied) → List WorkerValue → Type 0
+AreTaking build kinds count all workers =
     (k : ℕ) (sent : List Copied) (worker : WorkerValue) → k < count → slice_get all k ≡ Some sent → slice_get workers k ≡ Some worker
-    → IsTaking build sent worker
+    → IsTaking build kinds sent worker
 
 -- both ends of the rings were looked at, and nothing was put or taken
 pub record AreLooked

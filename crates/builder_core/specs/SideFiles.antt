@@ -16,10 +16,10 @@ use Rattle.side_file.specs.SideFileValue.{SideFileValue}
 use Rattle.side_file.specs.declared.entry.Entry.{Entry}
 use Rattle.visibility.specs.SideEntries.{SideEntry, changes}
 use Rattle.building.specs.TakeEnd.{TakeEnd, PutEndLooked}
-use Rattle.builder_core.specs.CoreState.{BuildState, scanning_of}
-use Rattle.builder_core.specs.Scanning.{scanned_at}
-use Rattle.builder_core.specs.SideEntries.{side_entries}
-use Rattle.builder_core.specs.Workers.{fed_to}
+use Rattle.build_events.specs.CoreState.{BuildState, scanning_of}
+use Rattle.build_events.specs.Scanning.{scanned_at}
+use Rattle.build_events.specs.SideEntries.{side_entries}
+use Rattle.build_events.specs.Workers.{fed_to}
 
 -- whether the build has to hear of a change at the RID by now: its page is newer than the build, or was copied. It is `is_visible`,
 -- with the log as it is now
@@ -36,6 +36,8 @@ pub record HasEntries (log : List LogRec) (b : BuildState) (index : ℕ) (spec :
   -- each has the key of a row
   pub keys : All (λ entry. IsKeyOf spec entry.key) (all_appended side)
   pub count : fed_to b index ≡ length side.fed
+  -- those fed are the last that its ring was sent
+  pub sent : last_ones (length side.fed) side.end.sent ≡ side.fed
 
 -- the first of these side-files have the entries of that build, one for each of its indexes
 abbrev pub HaveEntries : List LogRec → BuildState → List SideFileValue → Type 0
@@ -68,6 +70,12 @@ NoneAhead log b = (index : ℕ) (spec : KeySpecValue) → slice_get b.specs inde
 pub record AreFedEntries (log : List LogRec) (b : BuildState) (index : ℕ) (spec : KeySpecValue) (put : PutEnd Entry) : Type 0 where
   pub entries : last_ones (fed_to b index) put.sent ≡ map (entry_of b.number) (take (fed_to b index) (side_entries (scanning_of b spec) log))
   pub there : fed_to b index ≤ length (side_entries (scanning_of b spec) log)
+
+-- so it is of each index of the build
+abbrev pub EachEntryOnce : List LogRec → BuildState → List (PutEnd Entry) → Type 0
+EachEntryOnce log b puts =
+    (index : ℕ) (spec : KeySpecValue) (put : PutEnd Entry) → slice_get b.specs index ≡ Some spec → slice_get puts index ≡ Some put
+    → AreFedEntries log b index spec put
 
 -- both ends of the side-file's ring were looked at, and nothing was put or taken
 pub record HasLookedAtSide (put : PutEnd Entry) (end : TakeEnd Entry) (new_put : PutEnd Entry) (new_end : TakeEnd Entry) : Type 0 where

@@ -13,7 +13,6 @@ use Rattle.building.specs.TakeEnd.{TakeEnd}
 use Rattle.heap_table.specs.Images.{ImageValue}
 use Rattle.run_spool.specs.Spools.{AreSorted}
 use Rattle.run_maker.specs.Making.{MakerValue}
-use Rattle.building.specs.ImagePairs.{HaveRows}
 use Rattle.building.specs.Work.{next_images, after_digest}
 use Rattle.building.specs.WorkerValue.{WorkerValue}
 use Rattle.builder_core.specs.Builds.{BuildingValue, WorkValue, IndexValue, IsUnloaded, is_unique, with_index}
@@ -31,7 +30,6 @@ pub record CanTakeAt
   pub lent : worker * length specs + length specs ≤ length spools
   pub fit : IsFit specs (kit_of (length specs) worker maker spools)
   pub seen : count it ≤ length it.end.known
-  pub rows : HaveRows maker.schema (next_images (count it) it)
 
 -- the worker took these copies, with that effect on its kit; at a seal it then closed its runs. Answered with how many were of its build
 pub record HasTakenAt
@@ -43,12 +41,12 @@ pub record HasTakenAt
   pub there : slice_get workers worker ≡ Some it
   pub maker : MakerValue
   pub made : slice_get makers worker ≡ Some maker
-  pub counted : images ≡ length (next_images (count it) it)
+  pub counted : images ≡ length (next_images (count it) maker.schema it)
   pub after : Kit
   pub fit : IsFit specs after
   pub stakes : stakes_of after.spools ≡ stakes_of (own_spools (length specs) worker spools)
-  pub spools_more : Spools specs (next_images (count it) it) (kit_of (length specs) worker maker spools) after
-  pub workers_are : new_workers ≡ set workers worker (closing (after_digest (count it) it))
+  pub spools_more : Spools specs (next_images (count it) maker.schema it) (kit_of (length specs) worker maker spools) after
+  pub workers_are : new_workers ≡ set workers worker (closing (after_digest (count it) maker.schema it))
   pub makers_are : new_makers ≡ set makers worker after.maker
   pub spools_are : new_spools ≡ with_own (length specs) worker after.spools spools
 

@@ -1,25 +1,24 @@
-ghost use Rattle.std.specs.Prelude.{◌≡◌, ℕ, List, [], All, map, Some, None, is_some, IfOk, IfErr, OnOk, OnErr, MatchResult, MatchOption, slice_get};
+ghost use Rattle.std.specs.Prelude.{◌≡◌, ℕ, List, [], All, map, Some, None, is_some, IfOk, IfErr, OnOk, OnErr, MatchResult, MatchOption, slice_get, IfSome};
 ghost use Rattle.keybytes.specs.Faults.{RefusedFor};
 ghost use Rattle.heap_log.specs.Standing.{live_at};
 ghost use Rattle.heap_table.specs.HeapState.{row_missing, after_visit};
 ghost use Rattle.heap_table.specs.Pages.{pages_written};
 ghost use Rattle.keybytes.specs.Pairs.{HaveKeysOf, AreInColumnOrder};
 ghost use Rattle.heap_table.specs.TablePairs.{pairs_at_rest};
-ghost use Rattle.builder_core.specs.CoreState.{opening, abandoned, after_visits, with_heap, ReadyFollowTable};
+ghost use Rattle.build_events.specs.CoreState.{opening, abandoned, after_visits, with_heap, ReadyFollowTable};
 ghost use Rattle.std.specs.VecDeque.Iter.{deque_iter_rest};
 ghost use Rattle.builder_core.specs.SideFiles.{AreEntriesLeft, HaveEntryKeys, side_refusal};
 ghost use Rattle.heap_log.specs.declared.outcome.Outcome.{Outcome};
-ghost use Rattle.builder_core.specs.BuildSteps.{OnBuild};
-ghost use Rattle.builder_core.specs.Steps.{Step, Answers};
-ghost use Rattle.builder_core.specs.Verdicts.{HaveSharedKeys};
+ghost use Rattle.build_events.specs.BuildSteps.{OnBuild};
+ghost use Rattle.build_events.specs.Steps.{Step, Answers};
+ghost use Rattle.build_events.specs.Verdicts.{HaveSharedKeys};
 ghost use Rattle.builder_core.specs.FullSpools.{IfSpooling, NoPageOnlyIfFull, WantedPage};
-ghost use Rattle.std.specs.Prelude.{IfSome};
 ghost use Rattle.builder_core.specs.Holding.{spools_in};
-ghost use Rattle.builder_core.specs.Invariant.{BuildIsSound};
+ghost use Rattle.build_events.specs.Soundness.{BuildIsSound};
 
 use crate::{Building, Ends, Event, Live, Pair, Plan, ReadyIndex, Reply, Table};
 use heap_table::{PageImage, Undone};
-use keybytes::{Fault, KeySpec, Rid, Row, Schema};
+use keybytes::{Fault, KeySpec, Rid, Row};
 use run_spool::Spool;
 use side_file::Entry;
 use std::collections::vec_deque::Iter;
@@ -30,12 +29,12 @@ use std::marker::Model;
 ///
 /// It is no `Drop`: whoever has it takes table and spools out again by [`Core::into_live`].
 pub struct Core<S: Spool, T: Table> {
-    live: Live<T>,
-    building: Building<S, T>,
+    pub(crate) live: Live<T>,
+    pub(crate) building: Building<S, T>,
 }
 
 impl<S: Spool, T: Table> Model for Core<S, T> {
-    ghost use Rattle.builder_core.specs.CoreState.{CoreState};
+    ghost use Rattle.build_events.specs.CoreState.{CoreState};
     ghost use Rattle.builder_core.specs.Builds.{core_state, WorksOn};
 
     ghost Value = { CoreState };
@@ -92,11 +91,11 @@ impl<S: Spool, T: Table> Core<S, T> {
         self.building.spools()
     }
 
-    /// The columns of the table.
-    pub fn schema(&self) -> &Schema
-        ensures { result.now ≡ self.now.live.heap.schema }
+    /// The table with its ready indexes and what it knows of the build that runs, to be read.
+    pub fn live(&self) -> &Live<T>
+        ensures { result.now.state ≡ self.now.live }
     {
-        self.live.heap().schema()
+        &self.live
     }
 
     /// Whether a build runs, a spoiled one too.
@@ -145,21 +144,6 @@ impl<S: Spool, T: Table> Core<S, T> {
         self.live.get(rid)
     }
 
-    /// What makes the keys of each index that is being built; none where no build runs.
-    pub fn specs(&self) -> Option<&[KeySpec]>
-        ensures { MatchOption result (self.now.live.build ≡ None) (λ specs. OnBuild self.now.live.build (λ b. specs.now ≡ b.specs)) }
-    {
-        self.live.specs()
-    }
-
-    /// What makes the keys of an index that is being built. [`Fault::NoBuild`], [`Fault::BadCount`].
-    pub fn spec(&self, index: usize) -> Result<&KeySpec, Fault>
-        ensures spec { IfOk result (λ spec. OnBuild self.now.live.build (λ b. slice_get b.specs index ≡ Some spec.now)) }
-        ensures refused { IfErr result (λ fault. side_refusal self.now.live.build index ≡ Some fault) }
-    {
-        self.live.spec(index)
-    }
-
     /// The entries of an index's side-file that were not fed yet, in order. [`Fault::NoBuild`] where no build runs,
     /// [`Fault::BadCount`] where the build has no such index.
     pub fn side(&self, index: usize) -> Result<Iter<'_, Entry>, Fault>
@@ -182,7 +166,6 @@ impl<S: Spool, T: Table> Core<S, T> {
         ensures ready { ReadyFollowTable self.new.live }
         ensures sound { IfSome self.new.live.build (λ b. BuildIsSound b self.new.live.heap.log) }
     {
-        self.live.rows();
         let answer = self.attempt_own(event);
         self.reply(answer)
     }
@@ -217,8 +200,8 @@ impl<S: Spool, T: Table> Core<S, T> {
         ensures full { IfSpooling event (λ worker. IfErr result (NoPageOnlyIfFull S.is_full S.stake self.old worker)) }
     {
         match event {
-            Event::Insert { txn, row } => self.insert(txn, row),
-            Event::Update { txn, rid, row } => self.update(txn, rid, row),
+            Event::Insert { txn, row } => self.insert_reply(txn, row),
+            Event::Update { txn, rid, row } => self.update_reply(txn, rid, row),
             other => self.attempt(&other),
         }
     }
@@ -229,162 +212,22 @@ impl<S: Spool, T: Table> Core<S, T> {
         ensures full { IfSpooling event.now (λ worker. IfErr result (NoPageOnlyIfFull S.is_full S.stake self.old worker)) }
     {
         match event {
-            Event::Begin => self.begin(),
-            Event::Insert { txn, row } => self.insert_lent(*txn, row),
-            Event::Update { txn, rid, row } => self.update_lent(*txn, *rid, row),
-            Event::Delete { txn, rid } => self.delete(*txn, *rid),
-            Event::Undo { txn } => self.undo(*txn),
-            Event::Commit { txn } => self.commit(*txn),
-            Event::Start { plan } => self.start(plan),
-            Event::Scan { range, worker } => self.scan(*range, *worker),
-            Event::Digest { worker } => self.digest(*worker),
-            Event::Seal { worker } => self.seal(*worker),
-            Event::Load { index } => self.load(*index),
-            Event::Feed { index, most } => self.feed(*index, *most),
-            Event::Apply { index, most } => self.apply(*index, *most),
-            Event::Fence => self.fence(),
-            Event::Switch => self.switch(),
-            Event::Abandon => self.abandon(),
+            Event::Begin => self.begin_reply(),
+            Event::Insert { txn, row } => self.insert_lent_reply(*txn, row),
+            Event::Update { txn, rid, row } => self.update_lent_reply(*txn, *rid, row),
+            Event::Delete { txn, rid } => self.delete_reply(*txn, *rid),
+            Event::Undo { txn } => self.undo_reply(*txn),
+            Event::Commit { txn } => self.commit_reply(*txn),
+            Event::Start { plan } => self.start_reply(plan),
+            Event::Scan { range, worker } => self.scan_reply(*range, *worker),
+            Event::Digest { worker } => self.digest_reply(*worker),
+            Event::Seal { worker } => self.seal_reply(*worker),
+            Event::Load { index } => self.load_reply(*index),
+            Event::Feed { index, most } => self.feed_reply(*index, *most),
+            Event::Apply { index, most } => self.apply_reply(*index, *most),
+            Event::Fence => self.fence_reply(),
+            Event::Switch => self.switch_in_reply(),
+            Event::Abandon => self.abandon_reply(),
         }
-    }
-
-    fn begin(&mut self) -> Result<Reply, Fault>
-        ensures { Answers self.old Event.Begin result self.new }
-    {
-        let txn = self.live.begin()?;
-        Ok(Reply::Begun { txn })
-    }
-
-    fn insert(&mut self, txn: u64, row: Row) -> Result<Reply, Fault>
-        ensures { Answers self.old (Event.Insert txn row) result self.new }
-    {
-        let (number, rid) = self.live.insert(txn, row)?;
-        Ok(Reply::Written { number, rid })
-    }
-
-    fn insert_lent(&mut self, txn: u64, row: &Row) -> Result<Reply, Fault>
-        ensures { Answers self.old (Event.Insert txn row.now) result self.new }
-    {
-        self.live.check_insert(txn, row)?;
-        let (number, rid) = self.live.insert_free(txn, row.clone()?)?;
-        Ok(Reply::Written { number, rid })
-    }
-
-    fn update(&mut self, txn: u64, rid: Rid, row: Row) -> Result<Reply, Fault>
-        ensures { Answers self.old (Event.Update txn rid row) result self.new }
-    {
-        let (number, rid) = self.live.update(txn, rid, row)?;
-        Ok(Reply::Written { number, rid })
-    }
-
-    fn update_lent(&mut self, txn: u64, rid: Rid, row: &Row) -> Result<Reply, Fault>
-        ensures { Answers self.old (Event.Update txn rid row.now) result self.new }
-    {
-        self.live.check_update(txn, rid, row)?;
-        let (number, rid) = self.live.update_free(txn, rid, row.clone()?)?;
-        Ok(Reply::Written { number, rid })
-    }
-
-    fn delete(&mut self, txn: u64, rid: Rid) -> Result<Reply, Fault>
-        ensures { Answers self.old (Event.Delete txn rid) result self.new }
-    {
-        let (number, rid) = self.live.delete(txn, rid)?;
-        Ok(Reply::Written { number, rid })
-    }
-
-    fn undo(&mut self, txn: u64) -> Result<Reply, Fault>
-        ensures { Answers self.old (Event.Undo txn) result self.new }
-    {
-        let Undone { number, left } = self.live.undo(txn)?;
-        Ok(Reply::Undone { number, left })
-    }
-
-    fn commit(&mut self, txn: u64) -> Result<Reply, Fault>
-        ensures { Answers self.old (Event.Commit txn) result self.new }
-    {
-        let number = self.live.commit(txn)?;
-        Ok(Reply::Committed { number })
-    }
-
-    fn start(&mut self, plan: &Plan) -> Result<Reply, Fault>
-        ensures { Answers self.old (Event.Start plan.now) result self.new }
-    {
-        let pages = self.live.start(plan, &mut self.building)?;
-        Ok(Reply::Started { pages })
-    }
-
-    /// The buffer is made only once nothing refuses the scan.
-    fn scan(&mut self, range: usize, worker: usize) -> Result<Reply, Fault>
-        ensures { Answers self.old (Event.Scan range worker) result self.new }
-    {
-        self.live.check_scan(range, worker, &mut self.building)?;
-        let image = PageImage::new(self.live.allocator())?;
-        match self.live.scan_step(range, worker, image) {
-            Ok(page) => Ok(Reply::Scanned { page }),
-            Err(_) => unreachable!(),
-        }
-    }
-
-    fn digest(&mut self, worker: usize) -> Result<Reply, Fault>
-        ensures answers { Answers self.old (Event.Digest worker) result self.new }
-        ensures full { IfErr result (NoPageOnlyIfFull S.is_full S.stake self.old worker) }
-    {
-        self.live.check_worker(worker, &self.building)?;
-        let images = self.live.digest(worker, &mut self.building)?;
-        Ok(Reply::Digested { images })
-    }
-
-    fn seal(&mut self, worker: usize) -> Result<Reply, Fault>
-        ensures answers { Answers self.old (Event.Seal worker) result self.new }
-        ensures full { IfErr result (NoPageOnlyIfFull S.is_full S.stake self.old worker) }
-    {
-        self.live.check_worker(worker, &self.building)?;
-        let images = self.live.seal(worker, &mut self.building)?;
-        Ok(Reply::Sealed { images })
-    }
-
-    fn load(&mut self, index: usize) -> Result<Reply, Fault>
-        ensures { Answers self.old (Event.Load index) result self.new }
-    {
-        self.live.check_load(index, &mut self.building)?;
-        let pairs = self.live.load(index, &mut self.building)?;
-        Ok(Reply::Loaded { pairs })
-    }
-
-    fn feed(&mut self, index: usize, most: usize) -> Result<Reply, Fault>
-        ensures { Answers self.old (Event.Feed index most) result self.new }
-    {
-        let entries = self.live.feed_beside(index, most, &mut self.building)?;
-        Ok(Reply::Fed { entries })
-    }
-
-    fn apply(&mut self, index: usize, most: usize) -> Result<Reply, Fault>
-        ensures { Answers self.old (Event.Apply index most) result self.new }
-    {
-        self.live.check_apply(index, &self.building)?;
-        let entries = self.live.apply(index, most, &mut self.building)?;
-        Ok(Reply::Applied { entries })
-    }
-
-    fn fence(&mut self) -> Result<Reply, Fault>
-        ensures { Answers self.old Event.Fence result self.new }
-    {
-        self.live.fence()?;
-        Ok(Reply::FenceSet)
-    }
-
-    fn switch(&mut self) -> Result<Reply, Fault>
-        ensures { Answers self.old Event.Switch result self.new }
-    {
-        let (number, verdicts) = self.live.switch_in(&mut self.building)?;
-        Ok(Reply::Switched { number, verdicts })
-    }
-
-    fn abandon(&mut self) -> Result<Reply, Fault>
-        ensures { Answers self.old Event.Abandon result self.new }
-    {
-        self.live.abandon()?;
-        self.building.give_up();
-        Ok(Reply::Abandoned)
     }
 }

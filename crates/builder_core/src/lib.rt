@@ -3,7 +3,7 @@
 //! An event is a write, an undo, a commit or one step of a build, and is answered before the next is looked at. A build copies
 //! the table's pages, makes the pairs of key and RID of their rows for 1 to 8 indexes, puts the pairs of each in order, and is then
 //! switched in: from there on all of them are ready. Why an event is refused and what it does otherwise is said once, by `refusal` and `Does`
-//! of `specs/Steps.antt`; a refused event changes nothing, unless memory or pages ran out in the midst of a build's work, which
+//! of build_events' `specs/Steps.antt`; a refused event changes nothing, unless memory or pages ran out in the midst of a build's work, which
 //! spoils that build, or memory while entries were applied to an index: those before then stay applied.
 //!
 //! [`Parts`] are a heap with the rings for all its builds, and [`Parts::open`] gives them the name of a [`Table`]: [`Live`] is then
@@ -14,11 +14,11 @@
 
 mod beside;
 mod changes;
+mod core_calls;
+mod core_replies;
 mod core_steps;
-mod dealing;
 mod ending;
 mod ends;
-mod event;
 mod index_work;
 mod live;
 mod live_builds;
@@ -28,12 +28,9 @@ mod live_workers;
 mod live_writes;
 mod merging;
 mod parts;
-mod plan;
-mod reply;
 mod rest;
 mod rings;
 mod run;
-mod scan;
 mod sorted;
 mod table;
 mod table_scan;
@@ -41,18 +38,15 @@ mod taking;
 mod work;
 
 pub use beside::Building;
+pub use build_events::{Event, Plan, Reply, Scan};
 pub use core_steps::Core;
-pub use dealing::Dealing;
 pub use ends::Ends;
-pub use event::Event;
 pub use keybytes::Pair;
 pub use live::Live;
 pub use parts::{INDEXES_MAX, Parts, WORKERS_MAX};
-pub use plan::Plan;
 pub use ready_indexes::{ReadyIndex, ReadyIndexes};
-pub use reply::Reply;
 pub use rest::at_rest;
 pub use run::run_events;
-pub use scan::Scan;
+pub use scan_range::Dealing;
 pub use side_file::{Entry, Op};
 pub use table::Table;

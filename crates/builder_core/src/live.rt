@@ -1,19 +1,19 @@
 ghost use Rattle.std.specs.Prelude.{◌≡◌, ◌<◌, length, [], Some, None, IfOk, IfErr, IfSome, OnOk, OnErr, MatchOption, slice_get};
-ghost use Rattle.builder_core.specs.BuildSteps.{OnBuild};
+ghost use Rattle.build_events.specs.BuildSteps.{OnBuild};
 ghost use Rattle.keybytes.specs.Faults.{RefusedFor};
 ghost use Rattle.heap_log.specs.Standing.{live_at, newest_standing};
 ghost use Rattle.heap_table.specs.HeapState.{after_visit, row_missing};
-ghost use Rattle.heap_table.specs.Kept.{RowsFit};
 ghost use Rattle.heap_table.specs.Pages.{pages_written};
 ghost use Rattle.heap_table.specs.Sound.{HoldsFollowLog};
 ghost use Rattle.heap_table.specs.TablePairs.{pairs_at_rest};
 ghost use Rattle.keybytes.specs.Pairs.{HaveKeysOf, AreInColumnOrder};
 ghost use Rattle.builder_core.specs.Builds.{BuildFollows, value_with_heap};
 ghost use Rattle.builder_core.specs.Rings.{all_sent, ArePutEnds, AreOfBuilds};
-ghost use Rattle.builder_core.specs.Invariant.{BuildIsSound, EachPageOnce};
+ghost use Rattle.builder_core.specs.Invariant.{EachPageOnce};
+ghost use Rattle.build_events.specs.Soundness.{BuildIsSound};
 ghost use Rattle.std.specs.VecDeque.Iter.{deque_iter_rest};
-ghost use Rattle.builder_core.specs.SideFiles.{AreEntriesLeft, HaveEntryKeys, NoneAhead, side_refusal, put_ends};
-ghost use Rattle.builder_core.specs.CoreState.{abandoned, after_visits, ReadyFollowTable};
+ghost use Rattle.builder_core.specs.SideFiles.{AreEntriesLeft, EachEntryOnce, HaveEntryKeys, NoneAhead, side_refusal, put_ends};
+ghost use Rattle.build_events.specs.CoreState.{abandoned, after_visits, ReadyFollowTable};
 ghost use Rattle.ready_indexes.specs.Following.{indexes_of};
 ghost use Rattle.ready_indexes.specs.KeyCauses.{KeysAreGuarded};
 
@@ -122,6 +122,7 @@ impl<T: Table> Live<T> {
         ensures ready { ReadyFollowTable self.now.state }
         ensures keys { KeysAreGuarded self.now.state.heap.log self.now.state.ready }
         ensures pages { IfSome self.now.state.build (λ b. EachPageOnce self.now.state.heap.schema self.now.state.heap.log b (all_sent self.now.pages)) }
+        ensures entries { IfSome self.now.state.build (λ b. EachEntryOnce self.now.state.heap.log b self.now.sides) }
         ensures build { IfSome self.now.state.build (λ b. BuildIsSound b self.now.state.heap.log) }
     {
         self.heap.laws();
@@ -129,20 +130,12 @@ impl<T: Table> Live<T> {
         let _build = &self.build;
     }
 
-    /// Does nothing: its clauses tell what holds of the rows and of the build that runs.
-    pub(crate) fn rows(&self)
-        ensures rows { RowsFit self.now.state.heap.schema self.now.state.heap.log }
-        ensures follows { BuildFollows self.now.state.heap.schema self.now.state.heap.log self.now.state.build }
-    {
-        self.heap.laws();
-        let _build = &self.build;
-    }
-
     pub(crate) fn allocator(&self) -> Global {
         self.alloc
     }
 
-    pub(crate) fn heap(&self) -> &Heap
+    /// The rows, in pages, and their log.
+    pub fn heap(&self) -> &Heap
         ensures { result.now.state ≡ self.now.state.heap }
     {
         &self.heap
@@ -206,10 +199,14 @@ impl<T: Table> Live<T> {
         Ok(build)
     }
 
-    /// Gives a running build up; transactions may begin again.
+    /// Gives the build up, if one runs; transactions may begin again then.
     pub(crate) fn give_up(&mut self)
-        ensures { self.new ≡ record self.old { state = abandoned self.old.state } }
+        ensures state { self.new ≡ record self.old { state = abandoned self.old.state } }
+        ensures none { self.new.state.build ≡ None }
     {
+        if self.build.is_none() {
+            return;
+        }
         self.heap.set_fence(false);
         self.build = None;
         reset_all(&mut self.sides);

@@ -1,29 +1,28 @@
 //! The steps of a build that touch the table.
-ghost use Rattle.std.specs.Prelude.{◌≡◌, ◌<◌, length, All, Some, None, IfOk, IfErr, OnOk, OnErr, IsOk, IsSome, MatchOption, MatchResult};
-ghost use Rattle.std.specs.Prelude.{true, slice_get, map};
+ghost use Rattle.std.specs.Prelude.{◌≡◌, ◌<◌, length, All, Some, None, IfOk, IfErr, OnOk, OnErr, IsOk, IsSome, MatchOption, MatchResult, true, slice_get, map};
 ghost use Rattle.std.specs.List.{list_all, list_any};
 ghost use Rattle.keybytes.specs.Answered.{Answered};
 ghost use Rattle.side_file.specs.Ends.{PutEnd};
 ghost use Rattle.heap_table.specs.Pages.{pages_written};
 ghost use Rattle.building.specs.declared.copied.Copied.{Copied};
 ghost use Rattle.builder_core.specs.Builds.{BuildingValue, given_up, core_state, put_refusal, page_refusal, WorksOn};
-ghost use Rattle.builder_core.specs.CoreState.{abandoned};
-ghost use Rattle.builder_core.specs.Ranges.{dealing_refusal, dealt_ends, next_page};
+ghost use Rattle.build_events.specs.CoreState.{abandoned};
+ghost use Rattle.build_events.specs.Ranges.{next_page};
+ghost use Rattle.scan_range.specs.Dealings.{dealing_refusal, dealt_ends};
 ghost use Rattle.builder_core.specs.Rings.{begun_on};
-ghost use Rattle.builder_core.specs.BuildSteps.{Starts, Scans, OnBuild, start_refusal, counts_fit, same_kinds, fenced};
+ghost use Rattle.build_events.specs.BuildSteps.{Starts, Scans, OnBuild, start_refusal, counts_fit, fenced};
+ghost use Rattle.keybytes.specs.Schemas.{same_kinds};
 
 use crate::live_sides::empty_all;
 use crate::parts::{INDEXES_MAX, WORKERS_MAX};
 use crate::rings::restart_all;
 use crate::table_scan::TableScan;
-use crate::work::{Work, copied_specs};
-use crate::{Building, Dealing, Live, Plan, Table};
+use crate::work::Work;
+use crate::{Building, Live, Plan, Table};
 use building::Copied;
 use heap_table::PageImage;
-use keybytes::{Fault, KeySpec, Schema};
+use keybytes::{Fault, KeySpec, Schema, copied_specs};
 use run_spool::Spool;
-use scan_range::Cuts;
-use std::alloc::Global;
 
 /// The most indexes that a table may have.
 const READY_MAX: usize = 32;
@@ -39,30 +38,6 @@ fn are_of(specs: &[KeySpec], schema: &Schema) -> bool
         }
     }
     true
-}
-
-/// Why so many pages aren't dealt so. Takes no memory.
-fn check_dealing(dealing: &Dealing, pages: u32) -> Result<(), Fault>
-    ensures { MatchResult result
-        (λ _. dealing_refusal pages dealing.now ≡ None)
-        (λ fault. dealing_refusal pages dealing.now ≡ Some fault) }
-{
-    match dealing {
-        Dealing::Ends(ends) => Cuts::check(pages, ends),
-        Dealing::Even(ranges) => Cuts::check_even(*ranges),
-    }
-}
-
-/// So many pages, dealt into ranges.
-fn dealt_cuts(alloc: Global, dealing: &Dealing, pages: u32) -> Result<Cuts, Fault>
-    requires { dealing_refusal pages dealing.now ≡ None }
-    ensures ok { IfOk result (λ cuts. cuts ≡ record { pages = pages; ends = dealt_ends pages dealing.now }) }
-    ensures memory { IfErr result (λ fault. fault ≡ Fault.Memory) }
-{
-    match dealing {
-        Dealing::Ends(ends) => Cuts::new(pages, ends.iter().copied().collect(alloc)?),
-        Dealing::Even(ranges) => Cuts::even(alloc, pages, *ranges),
-    }
 }
 
 impl<T: Table> Live<T> {
@@ -82,7 +57,7 @@ impl<T: Table> Live<T> {
     {
         self.check_plan(plan, building)?;
         let pages = self.heap.pages();
-        let cuts = dealt_cuts(self.alloc, &plan.dealing, pages)?;
+        let cuts = plan.dealing.cuts(self.alloc, pages)?;
         let schema = self.heap.schema();
         let number = self.builds + 1;
         let specs = copied_specs(self.alloc, &plan.specs)?;
@@ -119,7 +94,7 @@ impl<T: Table> Live<T> {
         if !are_of(&plan.specs, self.heap.schema()) {
             return Err(Fault::BadColumn);
         }
-        check_dealing(&plan.dealing, self.heap.pages())?;
+        plan.dealing.check(self.heap.pages())?;
         if !building.are_left_empty() {
             return Err(Fault::SpoolNotEmpty);
         }

@@ -5,8 +5,8 @@ ghost use Rattle.building.specs.TakeEnd.{take_end};
 ghost use Rattle.builder_core.specs.Builds.{BuildingValue, BuildFollows, core_state, cause_of, WorksOn, SideIsLooked, SeesSideAt, HasFed};
 ghost use Rattle.builder_core.specs.Rings.{side_rings, taken_rings, drained_end};
 ghost use Rattle.builder_core.specs.SideFiles.{AreFedEntries, side_refusal, put_ends};
-ghost use Rattle.builder_core.specs.BuildSteps.{Feeds, Applies, AppliesSome};
-ghost use Rattle.builder_core.specs.declared.event.Event.{Event};
+ghost use Rattle.build_events.specs.BuildSteps.{Feeds, Applies, AppliesSome};
+ghost use Rattle.build_events.specs.declared.event.Event.{Event};
 
 use crate::{Building, Live, Table};
 use keybytes::Fault;

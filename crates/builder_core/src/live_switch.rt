@@ -1,16 +1,17 @@
 //! The switch of a build: the entries that are left are applied to its indexes, of which the accepted are then ready.
-ghost use Rattle.std.specs.Prelude.{◌≡◌, ◌+◌, ◌++◌, ◌^◌, ◌<◌, ◌≤◌, length, None, Some, IsSome, IfSome, IfOk, IfErr, OnOk, OnErr, MatchResult, vec_len, vec_capacity, All, map};
+ghost use Rattle.std.specs.Prelude.{◌≡◌, ◌+◌, ◌++◌, ◌^◌, ◌<◌, ◌≤◌, length, None, Some, IsSome, IfSome, IfOk, IfErr, OnOk, OnErr, MatchResult, vec_len, vec_capacity, All, map, true};
 ghost use Rattle.std.specs.List.{AllZip};
 ghost use Rattle.heap_table.specs.HeapState.{HeapState, after_switch, busy_txns};
+ghost use Rattle.keybytes.specs.Keys.{are_key_columns};
 ghost use Rattle.heap_table.specs.Pages.{KeepsRows};
 ghost use Rattle.builder_core.specs.Builds.{core_state, cause_of, WorksOn};
 ghost use Rattle.builder_core.specs.CatchingUp.{MayCatchUp, IndexIsFurther, IsDoneIndex, left_at, its_verdict, ready_of};
 ghost use Rattle.ready_indexes.specs.Following.{AllFollow, MayFollow, indexes_of};
-ghost use Rattle.builder_core.specs.BuildSteps.{Switches, OnBuild, CatchesUp, busy_refusal};
-ghost use Rattle.builder_core.specs.Steps.{IsRefused};
-ghost use Rattle.builder_core.specs.Verdicts.{outcome, outcomes};
-ghost use Rattle.builder_core.specs.Workers.{all_unapplied};
-ghost use Rattle.builder_core.specs.declared.event.Event.{Event};
+ghost use Rattle.build_events.specs.BuildSteps.{Switches, OnBuild, CatchesUp, busy_refusal};
+ghost use Rattle.build_events.specs.Steps.{IsRefused};
+ghost use Rattle.build_events.specs.Verdicts.{outcome, outcomes};
+ghost use Rattle.build_events.specs.Workers.{all_unapplied};
+ghost use Rattle.build_events.specs.declared.event.Event.{Event};
 
 use crate::ending::end_spools;
 use crate::index_work::IndexWork;
@@ -190,15 +191,16 @@ fn make_ready(alloc: Global, ready: &mut ReadyIndexes, specs: Vec<KeySpec>, inde
     ensures ready { indexes_of ready.new.indexes ≡ indexes_of ready.old.indexes ++ ready_of specs.items indexes.items }
     ensures follow { (heap : HeapState) → All (λ it. MayFollow heap it.spec it.pairs) (ready_of specs.items indexes.items)
         → AllFollow heap.schema heap.log ready.old.indexes → AllFollow heap.schema heap.log ready.new.indexes }
+    ensures keys { All (λ spec. are_key_columns spec.kinds spec.columns ≡ true) specs.items }
 {
     let mut indexes = indexes.into_iter();
     for spec in specs {
+        // It tells that its columns make a key, whose bytes are then in the columns' order.
+        let _columns = spec.columns();
         let Some(index) = indexes.next() else {
             unreachable!()
         };
         if index.is_accepted() {
-            // It tells that its columns make a key, whose bytes are then in the columns' order.
-            let _columns = spec.columns();
             ready.push(alloc, spec, index.into_tree());
         }
     }

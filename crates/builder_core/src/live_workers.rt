@@ -7,10 +7,10 @@ ghost use Rattle.building.specs.declared.copied.Copied.{Copied};
 ghost use Rattle.builder_core.specs.Builds.{core_state, cause_of, put_refusal, HasLooked, SeesRing, MayWork, MayLoad, WorksOn};
 ghost use Rattle.builder_core.specs.FullSpools.{WorkerWasFull};
 ghost use Rattle.builder_core.specs.Rings.{all_sent, AreDone, IsUnfinished, PagesFollow};
-ghost use Rattle.builder_core.specs.BuildSteps.{Waits, Digests, Seals, Loads};
-ghost use Rattle.builder_core.specs.Steps.{spoiled_by, IsWorkWant};
-ghost use Rattle.builder_core.specs.Workers.{index_at};
-ghost use Rattle.builder_core.specs.declared.event.Event.{Event};
+ghost use Rattle.build_events.specs.BuildSteps.{Waits, Digests, Seals, Loads};
+ghost use Rattle.build_events.specs.Steps.{spoiled_by, IsWorkWant};
+ghost use Rattle.build_events.specs.Workers.{index_at};
+ghost use Rattle.build_events.specs.declared.event.Event.{Event};
 
 use crate::rings::{first_loud, waiting};
 use crate::{Building, Live, Table};

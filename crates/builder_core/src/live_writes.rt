@@ -1,10 +1,11 @@
 //! What transactions do to a table and its indexes.
-ghost use Rattle.std.specs.Prelude.{◌≡◌, Some, None, OnOk, IfErr};
+ghost use Rattle.std.specs.Prelude.{◌≡◌, length, Some, None, OnOk, IfOk, IfErr};
 ghost use Rattle.keybytes.specs.Answered.{Answered};
+ghost use Rattle.keybytes.specs.Rows.{row_bytes};
 ghost use Rattle.heap_table.specs.Calls.{Begins, Inserts, Updates, Deletes, Undoes, Commits};
-ghost use Rattle.heap_table.specs.HeapState.{begin_refusal, txn_refusal, delete_refusal, undo_refusal};
+ghost use Rattle.heap_table.specs.HeapState.{begin_refusal, insert_place, txn_refusal, delete_refusal, undo_refusal};
 ghost use Rattle.builder_core.specs.Builds.{BuildingValue, WorksOn};
-ghost use Rattle.builder_core.specs.Steps.{row_refusal, change_refusal, OnHeap, OnRows};
+ghost use Rattle.build_events.specs.Steps.{row_refusal, change_refusal, OnHeap, OnRows};
 
 use crate::{Live, Table, changes};
 use heap_table::Undone;
@@ -24,8 +25,19 @@ impl<T: Table> Live<T> {
         ensures accepted { OnOk result (row_refusal self.now.state txn row.now ≡ None) }
         ensures refused { IfErr result (λ fault. row_refusal self.now.state txn row.now ≡ Some fault) }
     {
+        let _place = self.check_place(txn, row)?;
+        Ok(())
+    }
+
+    /// The same, answered with the RID that the row would get.
+    pub(crate) fn check_place(&self, txn: u64, row: &Row) -> Result<Rid, Fault>
+        ensures place { IfOk result (λ rid. insert_place self.now.state.heap (length (row_bytes row.now)) ≡ Some rid) }
+        ensures accepted { OnOk result (row_refusal self.now.state txn row.now ≡ None) }
+        ensures refused { IfErr result (λ fault. row_refusal self.now.state txn row.now ≡ Some fault) }
+    {
         let rid = self.heap.check_insert(txn, row)?;
-        self.ready.check(&self.heap, txn, rid, row)
+        self.ready.check(&self.heap, txn, rid, row)?;
+        Ok(rid)
     }
 
     /// Why [`Live::update`] would be refused, likewise.
@@ -44,17 +56,23 @@ impl<T: Table> Live<T> {
         ensures inserted { Answered (row_refusal self.old.state txn row) (OnRows (Inserts txn row)) self.old.state result self.new.state }
         ensures works { (building : BuildingValue) → WorksOn self.old building → WorksOn self.new building }
     {
-        self.check_insert(txn, &row)?;
-        self.insert_free(txn, row)
+        let rid = self.check_place(txn, &row)?;
+        self.insert_free(txn, rid, row)
     }
 
-    /// The same of a row that nothing refuses.
-    pub(crate) fn insert_free(&mut self, txn: u64, row: Row) -> Result<(usize, Rid), Fault>
-        requires { row_refusal self.old.state txn row ≡ None }
+    /// The same of a row that nothing refuses, at the RID that it gets.
+    pub(crate) fn insert_free(
+        &mut self,
+        txn: u64,
+        rid: Rid,
+        row: Row,
+    ) -> Result<(usize, Rid), Fault>
+        requires free { row_refusal self.old.state txn row ≡ None }
+        requires place { insert_place self.old.state.heap (length (row_bytes row)) ≡ Some rid }
         ensures inserted { Answered (row_refusal self.old.state txn row) (OnRows (Inserts txn row)) self.old.state result self.new.state }
         ensures works { (building : BuildingValue) → WorksOn self.old building → WorksOn self.new building }
     {
-        let ready = self.heap.ready_insert(txn, row)?;
+        let ready = self.heap.ready_insert_at(txn, rid, row)?;
         changes::write(
             &mut self.ready,
             &mut self.heap,
@@ -85,7 +103,7 @@ impl<T: Table> Live<T> {
         ensures updated { Answered (change_refusal self.old.state txn rid row) (OnRows (Updates txn rid row)) self.old.state result self.new.state }
         ensures works { (building : BuildingValue) → WorksOn self.old building → WorksOn self.new building }
     {
-        let ready = self.heap.ready_update(txn, rid, row)?;
+        let ready = self.heap.ready_update_at(txn, rid, row)?;
         changes::write(
             &mut self.ready,
             &mut self.heap,

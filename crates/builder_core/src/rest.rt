@@ -3,7 +3,7 @@ ghost use Rattle.keybytes.specs.Cells.{fits};
 ghost use Rattle.heap_table.specs.Pages.{pages_written};
 ghost use Rattle.keybytes.specs.Pairs.{HaveKeysOf, AreInColumnOrder};
 ghost use Rattle.heap_table.specs.TablePairs.{pair_of, pairs_at_rest};
-ghost use Rattle.builder_core.specs.CoreState.{after_visits};
+ghost use Rattle.build_events.specs.CoreState.{after_visits};
 
 use crate::Pair;
 use heap_table::Heap;

@@ -1,6 +1,6 @@
 ghost use Rattle.std.specs.Prelude.{◌≡◌, All, map, IfOk, IfErr, OnErr};
-ghost use Rattle.builder_core.specs.CoreState.{ReadyFollowTable};
-ghost use Rattle.builder_core.specs.Headline.{RunsAsAtRest};
+ghost use Rattle.build_events.specs.CoreState.{ReadyFollowTable};
+ghost use Rattle.build_events.specs.Headline.{RunsAsAtRest};
 ghost use Rattle.builder_core.specs.Holding.{spools_in};
 
 use crate::ending::end_spools;

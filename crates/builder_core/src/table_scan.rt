@@ -3,12 +3,12 @@ ghost use Rattle.std.specs.Prelude.{◌≡◌, ◌≢◌, ℕ, ◌+◌, ◌^◌,
 ghost use Rattle.std.specs.List.{list_any};
 ghost use Rattle.scan_range.specs.Ranges.{at_start};
 ghost use Rattle.builder_core.specs.SideFiles.{sees};
-ghost use Rattle.builder_core.specs.CoreState.{BuildState};
+ghost use Rattle.build_events.specs.CoreState.{BuildState};
 ghost use Rattle.builder_core.specs.Builds.{AreScansOf, build_over};
-ghost use Rattle.builder_core.specs.Ranges.{next_page, open_range};
-ghost use Rattle.builder_core.specs.Scanning.{scanned_at};
-ghost use Rattle.builder_core.specs.BuildSteps.{after_feed};
-ghost use Rattle.builder_core.specs.Workers.{fed_to};
+ghost use Rattle.build_events.specs.Ranges.{next_page, open_range};
+ghost use Rattle.build_events.specs.Scanning.{scanned_at};
+ghost use Rattle.build_events.specs.BuildSteps.{after_feed};
+ghost use Rattle.build_events.specs.Workers.{fed_to};
 
 use crate::Scan;
 use keybytes::{Fault, KeySpec, Rid};
@@ -46,7 +46,7 @@ impl Drop for TableScan {
 impl Model for TableScan {
     ghost use Rattle.std.specs.Prelude.{◌≡◌, ◌≤◌, length};
     ghost use Rattle.std.specs.Vec.{vec_capacity};
-    ghost use Rattle.builder_core.specs.CoreState.{BuildState};
+    ghost use Rattle.build_events.specs.CoreState.{BuildState};
     ghost use Rattle.builder_core.specs.Builds.{AreScansOf};
 
     ghost Value = { BuildState };

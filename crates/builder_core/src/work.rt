@@ -5,7 +5,7 @@ ghost use Rattle.builder_core.specs.Holding.{fresh_maker};
 ghost use Rattle.std.specs.Prelude.{◌≡◌, ◌<◌, All, replicate, is_some, not, length, slice_get, None, Some, IfOk, IfErr, MatchResult};
 
 use crate::index_work::IndexWork;
-use keybytes::{Fault, KeySpec, Schema};
+use keybytes::{Fault, KeySpec, Schema, copied_specs};
 use run_maker::Maker;
 use std::alloc::Global;
 use std::marker::Model;
@@ -164,16 +164,4 @@ fn new_makers(
         makers.push_reserved(Maker::new(alloc, schema.clone()?, own)?);
     }
     Ok(makers)
-}
-
-/// Copies of these specifications.
-pub fn copied_specs(alloc: Global, specs: &[KeySpec]) -> Result<Vec<KeySpec>, Fault>
-    ensures same { IfOk result (λ copies. copies.items ≡ specs.now) }
-    ensures memory { IfErr result (λ fault. fault ≡ Fault.Memory) }
-{
-    let mut copies = Vec::with_capacity(alloc, specs.len())?;
-    for spec in specs {
-        copies.push_reserved(spec.clone()?);
-    }
-    Ok(copies)
 }

@@ -1,21 +1,21 @@
--- The pairs and the rows of several copies, and the images of a build among several copies.
-use Rattle.std.proofs.Common.{◌≡◌, ℕ, ◌==◌, ◌<◌, ◌≤◌, Bool, true, false, if◌then◌else◌, List, [], ◌∷◌, ◌++◌, length, map, append_assoc}
+-- The pairs of several copies, and the images of a build among several copies.
+use Rattle.std.proofs.Common.{◌≡◌, ℕ, ◌==◌, ◌<◌, ◌≤◌, Bool, false, Decides, List, [], ◌∷◌, ◌++◌, length, map, append_assoc}
 use Rattle.std.proofs.Common.{refl, sym, ap, ◌∙◌, subst, arith}
-use Rattle.std.specs.Prelude.{Option, filter}
+use Rattle.std.specs.Prelude.{filter}
 use Rattle.std.proofs.lemmas.List.{map-append, length-map}
 use Rattle.std.specs.List.{All}
-use Rattle.std.proofs.lemmas.Bool.Decides.{nat_tests}
-use Rattle.std.proofs.lemmas.List.Elements.{filter-append, All-cons, All-head, All-nil, All-tail}
+use Rattle.std.proofs.lemmas.Bool.Decides.{nat_tests, Decides-and, Decides-eqb, Decides-like}
+use Rattle.std.proofs.lemmas.List.Elements.{filter-append, All-head, All-tail}
 use Rattle.std.proofs.lemmas.List.Sums.{length-filter, count_by-le-length}
 use Rattle.keybytes.specs.Keys.{KeySpecValue}
-use Rattle.keybytes.specs.declared.cell.Cell.{Cell}
+use Rattle.keybytes.specs.Schemas.{same_kinds}
 use Rattle.keybytes.specs.declared.kind.Kind.{Kind}
 use Rattle.keybytes.specs.declared.pair.Pair.{Pair}
+use Rattle.keybytes.proofs.SameKinds.{same_kinds_decides}
 use Rattle.heap_table.specs.Images.{ImageValue}
 use Rattle.building.specs.declared.copied.Copied.{Copied}
-use Rattle.building.specs.Copies.{images_of}
-use Rattle.run_maker.specs.ImagePairs.{HasRows}
-use Rattle.building.specs.ImagePairs.{HavePairs, HaveRows, EachHasRows}
+use Rattle.building.specs.Copies.{IsFor, is_for, images_of}
+use Rattle.building.specs.ImagePairs.{HavePairs}
 
 -- the pairs of copies and of more copies
 pub have_append :
@@ -43,53 +43,30 @@ have_split spec (x ∷ xs) ys made have =
       have.4 ∙ (ap (λ ps. have.0 ++ ps) inner.4 ∙ sym (append_assoc have.0 inner.0 inner.1)),
     )
 
+-- the test of a copy tells for which build and which columns it was made
+pub for_decides : (build : ℕ) (kinds : List Kind) (copied : Copied) → Decides (is_for build kinds copied) (IsFor build kinds copied)
+for_decides build kinds copied =
+    Decides-like (is_for build kinds copied) (λ both. record { number = both.0; columns = both.1 }) (λ is. (is.number, is.columns))
+    (Decides-and (copied.build == build) (same_kinds copied.image.schema kinds) (Decides-eqb copied.build build)
+    (same_kinds_decides copied.image.schema kinds))
+
 -- the images of a build among more copies
-pub images-append : (build : ℕ) (xs ys : List Copied) → images_of build (xs ++ ys) ≡ images_of build xs ++ images_of build ys
-images-append build xs ys =
-    let is : Copied → Bool = λ copied. copied.build == build in
+pub images-append : (build : ℕ) (kinds : List Kind) (xs ys : List Copied) → images_of build kinds (xs ++ ys) ≡ images_of build kinds xs ++ images_of build kinds ys
+images-append build kinds xs ys =
+    let is : Copied → Bool = λ copied. is_for build kinds copied in
     ap (map (λ (copied : Copied). copied.image)) (filter-append is xs ys)
     ∙ map-append (λ (copied : Copied). copied.image) (filter is xs) (filter is ys)
 
 -- no build has more images than there are copies
-pub images_few : (build : ℕ) (xs : List Copied) → length (images_of build xs) ≤ length xs
-images_few build xs =
-    let is : Copied → Bool = λ copied. copied.build == build in
+pub images_few : (build : ℕ) (kinds : List Kind) (xs : List Copied) → length (images_of build kinds xs) ≤ length xs
+images_few build kinds xs =
+    let is : Copied → Bool = λ copied. is_for build kinds copied in
     omega (arith, length-map (filter is xs) (λ (copied : Copied). copied.image), length-filter is xs, count_by-le-length is xs)
 
 -- of a later build there is none
-pub images_none : (build : ℕ) (xs : List Copied) → All (λ copied. copied.build < build) xs → images_of build xs ≡ []
-images_none build [] all = refl
-images_none build (x ∷ xs) all =
+pub images_none : (build : ℕ) (kinds : List Kind) (xs : List Copied) → All (λ copied. copied.build < build) xs → images_of build kinds xs ≡ []
+images_none build kinds [] all = refl
+images_none build kinds (x ∷ xs) all =
     let before : x.build < build = All-head (λ (copied : Copied). copied.build < build) x xs all in
     let other : (x.build == build) ≡ false = grind (arith, nat_tests) in
-    rw other (images_none build xs (All-tail (λ (copied : Copied). copied.build < build) x xs all))
-
--- the rows on a copy of a page can be read
-abbrev IsReadable : List Kind → ImageValue → Type 0
-IsReadable kinds image = (rows : ℕ → Option (List Cell)) × HasRows kinds image rows
-
--- where the rows on all copies can be read, those on the first ones can
-pub rows_first : (kinds : List Kind) (xs ys : List ImageValue) → HaveRows kinds (xs ++ ys) → HaveRows kinds xs
-rows_first kinds [] ys all = All-nil (IsReadable kinds)
-rows_first kinds (x ∷ xs) ys all =
-    All-cons (IsReadable kinds) x xs (All-head (IsReadable kinds) x (xs ++ ys) all) (rows_first kinds xs ys (All-tail (IsReadable kinds) x (xs ++ ys) all))
-
--- and so can those on the others
-pub rows_others : (kinds : List Kind) (xs ys : List ImageValue) → HaveRows kinds (xs ++ ys) → HaveRows kinds ys
-rows_others kinds [] ys all = all
-rows_others kinds (x ∷ xs) ys all = rows_others kinds xs ys (All-tail (IsReadable kinds) x (xs ++ ys) all)
-
--- where the rows on each copy can be read, those on a build's can
-pub each_rows : (kinds : List Kind) (build : ℕ) (xs : List Copied) → EachHasRows kinds xs → HaveRows kinds (images_of build xs)
-each_rows kinds build [] each = All-nil (IsReadable kinds)
-each_rows kinds build (x ∷ xs) each =
-    let P : Copied → Type 0 = λ copied. IsReadable kinds copied.image in
-    let one : P x = All-head P x xs each in
-    let others = each_rows kinds build xs (All-tail P x xs each) in
-    let own : Copied → Bool = λ copied. copied.build == build in
-    let images : List Copied → List ImageValue = λ copies. map (λ copied. copied.image) copies in
-    let Have : Bool → Type 0 = λ b. HaveRows kinds (images (if b then x ∷ filter own xs else filter own xs)) in
-    elim (x.build == build) as Have [
-      | true ↦ All-cons (IsReadable kinds) x.image (images (filter own xs)) one others
-      | false ↦ others
-    ]
+    rw other (images_none build kinds xs (All-tail (λ (copied : Copied). copied.build < build) x xs all))

@@ -4,7 +4,6 @@ use Rattle.std.specs.Prelude.{filter_map, map}
 use Rattle.std.specs.List.{range_with_len, cons_option}
 use Rattle.keybytes.specs.Keys.{KeySpecValue}
 use Rattle.keybytes.specs.Pairs.{pair_with}
-use Rattle.keybytes.specs.declared.cell.Cell.{Cell}
 use Rattle.keybytes.specs.declared.kind.Kind.{Kind}
 use Rattle.heap_log.specs.Standing.{live_at}
 use Rattle.heap_log.specs.declared.record.LogRec.{LogRec}
@@ -12,7 +11,7 @@ use Rattle.heap_table.specs.Images.{ImageValue, IsImage, Shows, image_slot}
 use Rattle.heap_table.specs.Pages.{rid_at, slots_written}
 use Rattle.heap_table.specs.TablePairs.{pair_at, pairs_on}
 use Rattle.slotted_page.specs.Slot.{Slot}
-use Rattle.run_maker.specs.ImagePairs.{HasPairs, HasRows}
+use Rattle.run_maker.specs.ImagePairs.{HasPairs}
 
 -- what is taken of the elements that f makes
 mapped : {X Y Z : Type 0} (f : X → Y) (g : Y → Option Z) (xs : List X) → filter_map g (map f xs) ≡ filter_map (λ x. g (f x)) xs
@@ -36,9 +35,3 @@ copy_pairs spec kinds log page image columns is =
           ∙ ap (λ n. filter_map (λ slot. pair_with spec (rid_at image.page slot) (live_at log (rid_at image.page slot))) (range_with_len 0 n))
           (ap (slots_written log) is.number ∙ sym is.count);
     })
-
--- the rows on a copy of a page can be read
-pub copy_rows :
-    (kinds : List Kind) (log : List LogRec) (page : ℕ) (image : ImageValue) → IsImage kinds log page image
-    → (rows : ℕ → Option (List Cell)) × HasRows kinds image rows
-copy_rows kinds log page image is = (λ slot. live_at log (rid_at page slot), is.rows)

@@ -1,5 +1,6 @@
 -- What the calls of a worker leave.
 use Rattle.std.specs.Prelude.{◌≡◌, ℕ, ◌+◌, ◌≤◌, List, length, take}
+use Rattle.keybytes.specs.declared.kind.Kind.{Kind}
 use Rattle.heap_table.specs.Images.{ImageValue}
 use Rattle.building.specs.declared.copied.Copied.{Copied}
 use Rattle.building.specs.Copies.{images_of}
@@ -18,18 +19,18 @@ pub record IsWorker (worker : WorkerValue) : Type 0 where
 abbrev pub knowing : List Copied → WorkerValue → WorkerValue
 knowing copies worker = record worker { end = record worker.end { known = copies } }
 
--- the images of its build among the first n copies that it has seen
-abbrev pub next_images : ℕ → WorkerValue → List ImageValue
-next_images n worker = images_of worker.build (take n worker.end.known)
+-- the images of its build, of a table of these columns, among the first n copies that it has seen
+abbrev pub next_images : ℕ → List Kind → WorkerValue → List ImageValue
+next_images n kinds worker = images_of worker.build kinds (take n worker.end.known)
 
 -- the first n copies that it has seen are taken
-abbrev pub after_digest : ℕ → WorkerValue → WorkerValue
-after_digest n worker = record worker { end = after_taking n worker.end; taken = worker.taken + length (next_images n worker) }
+abbrev pub after_digest : ℕ → List Kind → WorkerValue → WorkerValue
+after_digest n kinds worker = record worker { end = after_taking n worker.end; taken = worker.taken + length (next_images n kinds worker) }
 
 -- it stopped: the first n copies that it has seen are taken, and all of them counted but perhaps the last
-abbrev pub StopsAfter : ℕ → WorkerValue → WorkerValue → Type 0
-StopsAfter n old new =
-    (counted : ℕ) × (counted ≤ n) × (n ≤ counted + 1) × (new ≡ record (after_digest counted old) { end = after_taking n old.end })
+abbrev pub StopsAfter : ℕ → List Kind → WorkerValue → WorkerValue → Type 0
+StopsAfter n kinds old new =
+    (counted : ℕ) × (counted ≤ n) × (n ≤ counted + 1) × (new ≡ record (after_digest counted kinds old) { end = after_taking n old.end })
 
 -- all that is taken is sealed
 abbrev pub after_seal : WorkerValue → WorkerValue

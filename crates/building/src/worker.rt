@@ -1,11 +1,10 @@
-ghost use Rattle.std.specs.Prelude.{◌≡◌, ◌≤◌, ◌<◌, ◌⊎◌, ◌+◌, ◌++◌, [], ℕ, All, length, map};
+ghost use Rattle.std.specs.Prelude.{◌≡◌, ◌≤◌, ◌⊎◌, ◌+◌, ◌++◌, [], ℕ, All, length, map};
 ghost use Rattle.std.specs.Prelude.{IfErr, IfOk, OnOk, OnErr};
 ghost use Rattle.side_file.specs.Ends.{ring_take};
 ghost use Rattle.run_spool.specs.Spools.{AreSorted, HasFull, NoPageOnlyIf};
 ghost use Rattle.run_maker.specs.Making.{AreReady};
 ghost use Rattle.run_maker.specs.Spooling.{MemoryOnlyIf};
 ghost use Rattle.building.specs.Holding.{TakesAll, HoldsMore};
-ghost use Rattle.building.specs.ImagePairs.{HaveRows};
 ghost use Rattle.building.specs.TakeEnd.{take_end, after_taking, PutEndLooked};
 ghost use Rattle.building.specs.Work.{at_start, IsWorker, StopsAfter, knowing, next_images, after_digest, after_seal};
 
@@ -119,17 +118,16 @@ impl Worker {
         putter.beside(&mut self.ring)
     }
 
-    /// Takes the next copy that it has seen, spools its pairs and answers 1; a copy of another build is dropped, and the answer
-    /// is 0. It is lent the spool of each index. Want of memory or of a page spoils the build: the copy is gone, and a part of its
-    /// pairs may be spooled. [`Fault::Memory`] is also the answer where its copies would be more than `usize` counts.
+    /// Takes the next copy that it has seen, spools its pairs and answers 1. The answer is 0 where it has seen none, and where the
+    /// copy is of another build or of other columns than its maker's, and so is dropped. It is lent the spool of each index. Want
+    /// of memory or of a page spoils the build: the copy is gone, and a part of its pairs may be spooled. [`Fault::Memory`] is also
+    /// the answer where its copies would be more than `usize` counts.
     pub fn digest<S: Spool>(&mut self, maker: &mut Maker, spools: &mut [S]) -> Result<usize, Fault>
-        requires seen { 0 < length self.old.end.known }
-        requires rows { HaveRows maker.old.schema (next_images 1 self.old) }
         requires spools { length spools.old ≡ length maker.old.specs }
         requires ready { AreReady (map S.runs spools.old) (map S.open_run spools.old) }
-        ensures count { IfOk result (λ images. images ≡ length (next_images 1 self.old)) }
-        ensures taken { OnOk result (self.new ≡ after_digest 1 self.old) }
-        ensures holds { OnOk result (TakesAll maker.old.specs (next_images 1 self.old)
+        ensures count { IfOk result (λ images. images ≡ length (next_images 1 maker.old.schema self.old)) }
+        ensures taken { OnOk result (self.new ≡ after_digest 1 maker.old.schema self.old) }
+        ensures holds { OnOk result (TakesAll maker.old.specs (next_images 1 maker.old.schema self.old)
             (record { runs = map S.runs spools.old; begun = maker.old.begun }) (record { runs = map S.runs spools.new; begun = maker.new.begun })) }
         ensures ready { OnOk result (AreReady (map S.runs spools.new) (map S.open_run spools.new)) }
         ensures sorted { All AreSorted (map S.runs spools.old) → All AreSorted (map S.runs spools.new) }
@@ -144,8 +142,11 @@ impl Worker {
         ensures full { IfErr result (NoPageOnlyIf (HasFull S.is_full spools.new)) }
         ensures want { IfErr result (MemoryOnlyIf (AreReady (map S.runs spools.new) (map S.open_run spools.new))) }
     {
+        if self.seen() == 0 {
+            return Ok(0);
+        }
         let copied = self.ring.pop_known();
-        if copied.build != self.build {
+        if !copied.is_for(self.build, maker.schema()) {
             return Ok(0);
         }
         if self.taken == usize::MAX {
@@ -157,14 +158,14 @@ impl Worker {
     }
 
     /// Takes all copies that it has seen, spools their pairs, closes the run of each index, and answers how many copies of its
-    /// build there were. What it has taken is then sealed. Want of memory or of a page spoils the build: some of the copies are gone.
+    /// build and of its maker's columns there were. What it has taken is then sealed. Want of memory or of a page spoils the
+    /// build: some of the copies are gone.
     pub fn seal<S: Spool>(&mut self, maker: &mut Maker, spools: &mut [S]) -> Result<usize, Fault>
-        requires rows { HaveRows maker.old.schema (next_images (length self.old.end.known) self.old) }
         requires spools { length spools.old ≡ length maker.old.specs }
         requires ready { AreReady (map S.runs spools.old) (map S.open_run spools.old) }
-        ensures count { IfOk result (λ images. images ≡ length (next_images (length self.old.end.known) self.old)) }
-        ensures taken { OnOk result (self.new ≡ after_seal (after_digest (length self.old.end.known) self.old)) }
-        ensures holds { OnOk result (HoldsMore maker.old.specs (next_images (length self.old.end.known) self.old)
+        ensures count { IfOk result (λ images. images ≡ length (next_images (length self.old.end.known) maker.old.schema self.old)) }
+        ensures taken { OnOk result (self.new ≡ after_seal (after_digest (length self.old.end.known) maker.old.schema self.old)) }
+        ensures holds { OnOk result (HoldsMore maker.old.specs (next_images (length self.old.end.known) maker.old.schema self.old)
             (record { runs = map S.runs spools.old; begun = maker.old.begun }) (record { runs = map S.runs spools.new; begun = maker.new.begun })) }
         ensures closed { OnOk result (All (λ begun. begun ≡ []) maker.new.begun) }
         ensures ready { OnOk result (AreReady (map S.runs spools.new) (map S.open_run spools.new)) }
@@ -174,7 +175,7 @@ impl Worker {
         ensures specs { maker.new.specs ≡ maker.old.specs }
         ensures build { self.new.build ≡ self.old.build }
         ensures ring { self.new.end.ring ≡ self.old.end.ring }
-        ensures failed { OnErr result ((n : ℕ) × (n ≤ length self.old.end.known) × StopsAfter n self.old self.new) }
+        ensures failed { OnErr result ((n : ℕ) × (n ≤ length self.old.end.known) × StopsAfter n maker.old.schema self.old self.new) }
         ensures fault { IfErr result (λ fault. (fault ≡ Fault.NoPage) ⊎ (fault ≡ Fault.Memory)) }
         ensures full { IfErr result (NoPageOnlyIf (HasFull S.is_full spools.new)) }
         ensures want { IfErr result (MemoryOnlyIf (AreReady (map S.runs spools.new) (map S.open_run spools.new))) }

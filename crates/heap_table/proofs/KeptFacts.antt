@@ -210,13 +210,15 @@ place_found s p size page slot limit kept found room =
 -- a copy of a page
 pub kept_image :
     (s : HeapState) (p : PagesValue) (page : ℕ) (value : PageValue) (image : ImageValue) → IsKept s p → page < pages_written s.log
-    → value ≡ get_or p.pages page value → image.page ≡ page → image.slots ≡ value.slots → IsImage s.schema s.log page image
-kept_image s p page value image kept below is number slots =
+    → value ≡ get_or p.pages page value → image.page ≡ page → image.slots ≡ value.slots → image.schema ≡ s.schema
+    → IsImage s.schema s.log page image
+kept_image s p page value image kept below is number slots columns =
     let count = kept_count s p kept in
     let same : value ≡ page_of s page = is ∙ kept_page s p page value kept (omega (arith, below, count)) in
     let shown : image.slots ≡ page_slots s.log page = slots ∙ ap (λ (q : PageValue). q.slots) same in
     record {
       number = number;
+      schema = columns;
       count = ap length shown ∙ length_page_by (slot_of s.log) (slots_written s.log) s.slot_limit page;
       rows = λ slot.
           subst (λ (xs : List Slot). Shows s.schema (get_or xs slot free) (live_at s.log (rid_at page slot))) (sym shown) (page_slot_shows slot);

@@ -1,6 +1,9 @@
--- What callers see of a table's fields.
+-- What callers see of the fields of a table and of a copy.
+use Rattle.slotted_page.specs.Image.{slots_in}
 use Rattle.heap_table.specs.HeapValue.{HeapValue}
+use Rattle.heap_table.specs.Images.{ImageValue}
 use Rattle.heap_table.specs.declared.heap.Heap.TheInside.{Inside}
+use Rattle.heap_table.specs.declared.page_image.PageImage.TheInside.{Inside as ImageInside}
 
 -- all but the pages, which the log tells
 abbrev pub heap_value : Inside → HeapValue
@@ -17,3 +20,7 @@ heap_value h = record {
   };
   room = h.log.room;
 }
+
+-- the slots that the bytes tell
+abbrev pub image_value : ImageInside → ImageValue
+image_value image = record { page = image.page; slots = slots_in image.bytes.value; schema = image.schema }

@@ -1,16 +1,19 @@
-ghost use Rattle.std.specs.Prelude.{◌≡◌, [], length, List, Option, IfOk, IfErr};
+ghost use Rattle.std.specs.Prelude.{◌≡◌, ℕ, [], length, List, Option, IfOk, IfErr};
 ghost use Rattle.keybytes.specs.declared.cell.Cell.{Cell};
-ghost use Rattle.heap_table.specs.Images.{image_slot, Shows};
+ghost use Rattle.slotted_page.specs.Page.{slot_at};
+ghost use Rattle.heap_table.specs.Images.{image_slot, IsReadable, Shows};
 
-use keybytes::{Fault, Row, Schema};
+use keybytes::{Fault, Kind, Row, Schema};
 use slotted_page::{PAGE_SIZE, Page, image_row, image_slots};
 use std::alloc::Global;
 use std::marker::Model;
 
-/// A copy of a page. Contracts see the page's number and its slots.
+/// A copy of a page, with the columns of its table. Contracts see the page's number, its slots and the columns, by which the rows
+/// on every copy can be read.
 #[derive(Drop)]
 pub struct PageImage {
     page: u32,
+    schema: Schema,
     bytes: Box<[u8; PAGE_SIZE]>,
 }
 
@@ -19,15 +22,17 @@ impl Model for PageImage {
 
     ghost Value = { ImageValue };
 
-    ghost use Rattle.slotted_page.specs.Image.{slots_in, KeepsFormat};
+    ghost use Rattle.slotted_page.specs.Image.{KeepsFormat};
+    ghost use Rattle.heap_table.specs.Images.{IsReadable};
+    ghost use Rattle.heap_table.specs.Inside.{image_value};
 
-    ghost view = { λ image. record { page = image.page; slots = slots_in image.bytes.value } };
+    ghost view = { image_value };
 
-    ghost invariant = { λ image. KeepsFormat image.bytes.value };
+    ghost invariant = { λ image. KeepsFormat image.bytes.value × IsReadable (image_value image) };
 }
 
 impl PageImage {
-    /// A copy of an empty page 0.
+    /// A copy of an empty page 0, of any one column.
     pub fn new(alloc: Global) -> Result<PageImage, Fault>
         ensures number { IfOk result (λ image. image.page ≡ 0) }
         ensures empty { IfOk result (λ image. image.slots ≡ []) }
@@ -38,8 +43,23 @@ impl PageImage {
         page.copy_to(&mut bytes);
         Ok(PageImage {
             page: 0,
+            schema: Schema::of_one(Kind::Int),
             bytes: Box::new(alloc, bytes)?,
         })
+    }
+
+    /// Does nothing: its clause tells that the rows on every copy can be read by its columns.
+    pub fn laws(&self)
+        ensures { IsReadable self.now }
+    {
+        let _kept = &self.page;
+    }
+
+    /// The columns of its table.
+    pub fn schema(&self) -> &Schema
+        ensures { result.now ≡ self.now.schema }
+    {
+        &self.schema
     }
 
     /// The number of the page.
@@ -69,12 +89,15 @@ impl PageImage {
         Ok(Some(row))
     }
 
-    /// Makes this the copy of a page.
-    pub(crate) fn take_copy(&mut self, number: u32, page: &Page)
+    /// Makes this the copy of a page, of a table of these columns.
+    pub(crate) fn take_copy(&mut self, number: u32, page: &Page, schema: &Schema)
+        requires { (rows : ℕ → Option (List Cell)) × ((slot : ℕ) → Shows schema.now (slot_at page.now slot) (rows slot)) }
         ensures page { self.new.page ≡ number }
         ensures slots { self.new.slots ≡ page.now.slots }
+        ensures schema { self.new.schema ≡ schema.now }
     {
         page.copy_to(&mut self.bytes);
         self.page = number;
+        self.schema = schema.copy();
     }
 }

@@ -10,6 +10,7 @@ pub mod PairSets
 pub mod Reading
 pub mod RowExamples
 pub mod RowFacts
+pub mod SameKinds
 pub mod SameRids
 pub mod Spelling
 pub mod Writes

@@ -1,6 +1,7 @@
 /// What a column's cells are, Null aside: every column takes Null.
-#[derive(Clone, Copy, PartialEq, Eq)]
+#[derive(Clone, Copy, Default, PartialEq, Eq)]
 pub enum Kind {
+    #[default]
     Int,
     Text,
     Flag,

@@ -1,15 +1,16 @@
-ghost use Rattle.std.specs.Prelude.{◌≡◌, ◌≢◌, IfOk, IfErr, OnOk, Some, None, true};
-ghost use Rattle.keybytes.specs.Schemas.{are_columns, columns_refusal};
+ghost use Rattle.std.specs.Prelude.{◌≡◌, [], ◌∷◌, IfOk, IfErr, OnOk, Some, None, true};
+ghost use Rattle.keybytes.specs.Schemas.{are_columns, columns_refusal, same_kinds};
 
 use crate::{Fault, Kind};
+use arrayvec::ArrayVec;
 use std::marker::Model;
 
 /// The greatest number of columns of a table.
 pub const COLUMNS_MAX: usize = 12;
 
-/// The kinds of a table's columns, 1 to 12 of them.
+/// The kinds of a table's columns, 1 to 12 of them. They are kept in place, so a copy takes no memory.
 pub struct Schema {
-    kinds: Vec<Kind>,
+    kinds: ArrayVec<Kind, COLUMNS_MAX>,
 }
 
 impl Drop for Schema {
@@ -41,7 +42,14 @@ impl Schema {
         if kinds.is_empty() || kinds.len() > COLUMNS_MAX {
             return Err(Fault::BadColumn);
         }
-        Ok(Schema { kinds })
+        Ok(Schema::of(kinds.as_slice()))
+    }
+
+    /// The columns of a table that has one.
+    pub fn of_one(kind: Kind) -> Schema
+        ensures { result ≡ kind ∷ [] }
+    {
+        Schema::of(&[kind])
     }
 
     pub fn kinds(&self) -> &[Kind]
@@ -51,12 +59,37 @@ impl Schema {
         self.kinds.as_slice()
     }
 
+    /// A copy. Takes no memory.
+    pub fn copy(&self) -> Schema
+        ensures { result ≡ self.now }
+    {
+        Schema::of(self.kinds())
+    }
+
     /// A copy, or [`Fault::Memory`].
     pub fn clone(&self) -> Result<Schema, Fault>
         ensures same { IfOk result (λ schema. schema ≡ self.now) }
         ensures memory { IfErr result (λ fault. fault ≡ Fault.Memory) }
     {
-        let kinds = self.kinds.clone()?;
-        Ok(Schema { kinds })
+        Ok(self.copy())
+    }
+
+    /// Whether the other table has the same columns, in the same order.
+    pub fn is_same(&self, other: &Schema) -> bool
+        ensures { result ≡ same_kinds self.now other.now }
+    {
+        self.kinds() == other.kinds()
+    }
+
+    // The columns of these kinds, put in place.
+    fn of(kinds: &[Kind]) -> Schema
+        requires { are_columns kinds.now ≡ true }
+        ensures { result ≡ kinds.now }
+    {
+        let mut in_place = ArrayVec::new();
+        for kind in kinds {
+            in_place.push(*kind);
+        }
+        Schema { kinds: in_place }
     }
 }

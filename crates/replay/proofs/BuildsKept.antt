@@ -1,43 +1,40 @@
 -- What an event leaves of the build that runs and of the pages that are leased for it.
-use Rattle.std.proofs.Common.{◌≡◌, ◌<◌, ℕ, ◌+◌, true, false, Bool, List, length, Option, Some, None, inl, inr, refl, sym, ap, subst, ◌∙◌}
+use Rattle.std.proofs.Common.{◌≡◌, ◌<◌, ℕ, ◌+◌, true, false, Bool, List, length, Option, Some, None, inl, inr, refl, sym, ap, subst, ◌∙◌, Result, Ok, Err}
 use Rattle.std.specs.Prelude.{is_some}
 use Rattle.keybytes.specs.declared.fault.Fault.{Fault}
 use Rattle.keybytes.specs.declared.fault.Fault.TheVariants.{NoBuild}
 use Rattle.heap_log.specs.declared.outcome.Outcome.{Outcome}
-use Rattle.heap_log.specs.Standing.{newest_standing}
-use Rattle.heap_table.specs.HeapState.{HeapState, after_step, after_fence}
-use Rattle.builder_core.specs.CoreState.{CoreState, LiveState, BuildState, IndexState, WorkState, SpoolsState, idle, opening, with_heap, with_live}
-use Rattle.builder_core.specs.BuildSteps.{AreFurther, CatchesUp, OnBuild, after_apply, after_digest, after_feed, after_load, after_scan, after_seal, after_switch_in}
-use Rattle.builder_core.specs.Steps.{AfterWant, Does, Step}
-use Rattle.builder_core.specs.BuildSteps.{build_cause, fenced, load_refusal, next_applied, next_copies, next_fed, pairs_copied, verdicts_on, worker_refusal}
-use Rattle.builder_core.specs.Steps.{refusal, spoiled_by}
-use Rattle.builder_core.specs.Ranges.{next_page}
-use Rattle.builder_core.specs.Workers.{index_at, waiting}
+use Rattle.build_events.specs.CoreState.{CoreState, LiveState, BuildState, IndexState, WorkState, SpoolsState, idle, opening, with_live, without}
+use Rattle.build_events.proofs.Abandoned.{abandoned_none}
+use Rattle.build_events.specs.BuildSteps.{AreFurther, AreKeyed, CatchesUp, OnBuild, after_apply, after_digest, after_feed, after_load, after_scan, after_seal, after_switch_in}
+use Rattle.build_events.specs.Steps.{AfterWant, Does, Step, AnswersBy}
+use Rattle.build_events.specs.BuildSteps.{build_cause, fenced, load_refusal, next_applied, next_copies, next_fed, pairs_copied, verdicts_on, worker_refusal}
+use Rattle.build_events.specs.Steps.{refusal, spoiled_by}
+use Rattle.build_events.specs.Ranges.{next_page}
+use Rattle.build_events.specs.Workers.{index_at, waiting}
 use Rattle.std.specs.List.{slice_get}
 use Rattle.std.specs.Prelude.{if◌then◌else◌}
-use Rattle.builder_core.specs.declared.event.Event.{Event}
-use Rattle.builder_core.specs.declared.event.Event.TheVariants.{Begin, Insert, Update, Delete, Undo, Commit, Start, Scan, Digest, Seal, Load, Feed, Apply, Fence, Switch, Abandon}
-use Rattle.builder_core.specs.declared.plan.Plan.{Plan}
-use Rattle.builder_core.specs.declared.reply.Reply.{Reply}
-use Rattle.builder_core.specs.declared.reply.Reply.TheVariants.{Abandoned, Refused, Started, Switched}
+use Rattle.build_events.specs.declared.event.Event.{Event}
+use Rattle.build_events.specs.declared.event.Event.TheVariants.{Begin, Insert, Update, Delete, Undo, Commit, Start, Scan, Digest, Seal, Load, Feed, Apply, Fence, Switch, Abandon}
+use Rattle.build_events.specs.declared.plan.Plan.{Plan}
+use Rattle.build_events.specs.declared.reply.Reply.{Reply}
+use Rattle.build_events.specs.declared.reply.Reply.TheVariants.{Abandoned, Refused, Started, Switched}
 use Rattle.replay.specs.Leasing.{AreLeased, AreOf, IsAtRest, IsLeasing, KeepsBuild, LeasesFollow, LeasesValue, no_spools}
 
--- whether a build runs is as it was; the fence and the work are, where none does; and so are the spools
+-- whether a build runs is as it was; so is the work, where none does, and so are the spools
 record IsKept (old new : CoreState) : Type 0 where
   build : is_some new.live.build ≡ is_some old.live.build
-  fence : old.live.build ≡ None → new.live.heap.fenced ≡ old.live.heap.fenced
   work : old.live.build ≡ None → new.work ≡ old.work
   spools : new.spools ≡ old.spools
 
 unchanged : (old new : CoreState) → new ≡ old → IsKept old new
-unchanged old new same = subst (IsKept old) (sym same) (record { build = refl; fence = λ _. refl; work = λ _. refl; spools = refl })
+unchanged old new same = subst (IsKept old) (sym same) (record { build = refl; work = λ _. refl; spools = refl })
 
 -- the rows have changed, and the ready indexes, or the heap alone
 on_table :
-    (old new : CoreState) → new.live.build ≡ old.live.build → new.live.heap.fenced ≡ old.live.heap.fenced → new ≡ with_live old new.live → IsKept old new
-on_table old new build fence same = record {
+    (old new : CoreState) → new.live.build ≡ old.live.build → new ≡ with_live old new.live → IsKept old new
+on_table old new build same = record {
   build = ap is_some build;
-  fence = λ _. fence;
   work = λ _. ap (λ (s : CoreState). s.work) same;
   spools = ap (λ (s : CoreState). s.spools) same;
 }
@@ -51,7 +48,6 @@ on_scan : (old new : CoreState) (build : Option BuildState) (range worker page :
 on_scan old new None range worker page is on same = absurd on
 on_scan old new (Some b) range worker page is on same = record {
   build = ap (λ (live : LiveState). is_some live.build) on.1 ∙ sym (ap is_some is);
-  fence = λ none. absurd (none_runs b old.live.build is none);
   work = λ none. absurd (none_runs b old.live.build is none);
   spools = ap (λ (s : CoreState). s.spools) same;
 }
@@ -60,7 +56,6 @@ on_scan old new (Some b) range worker page is on same = record {
 at_work : (old new : CoreState) (b : BuildState) (work : WorkState) → old.live.build ≡ Some b → new ≡ record old { work = work } → IsKept old new
 at_work old new b work is same = record {
   build = ap (λ (s : CoreState). is_some s.live.build) same;
-  fence = λ none. absurd (none_runs b old.live.build is none);
   work = λ none. absurd (none_runs b old.live.build is none);
   spools = ap (λ (s : CoreState). s.spools) same;
 }
@@ -83,7 +78,6 @@ on_feed : (old new : CoreState) (build : Option BuildState) (Told : BuildState �
 on_feed old new None Told fed is on = absurd on
 on_feed old new (Some b) Told fed is on = record {
   build = ap (λ (s : CoreState). is_some s.live.build) on.1 ∙ sym (ap is_some is);
-  fence = λ none. absurd (none_runs b old.live.build is none);
   work = λ none. absurd (none_runs b old.live.build is none);
   spools = ap (λ (s : CoreState). s.spools) on.1;
 }
@@ -98,7 +92,6 @@ on_catch_up old new on = caught old.live.build refl on where
   caught None is on = absurd on
   caught (Some b) is (fed, indexes, further, same) = record {
     build = ap (λ (s : CoreState). is_some s.live.build) same ∙ sym (ap is_some is);
-    fence = λ none. absurd (none_runs b old.live.build is none);
     work = λ none. absurd (none_runs b old.live.build is none);
     spools = ap (λ (s : CoreState). s.spools) same;
   }
@@ -109,34 +102,27 @@ on_want : (old new : CoreState) (build : Option BuildState) (cause : BuildState 
 on_want old new None cause fault is none same = absurd (let both : Some NoBuild ≡ None = none in cc)
 on_want old new (Some b) cause fault is none same = at_work old new b (spoiled_by fault old).work is same
 
--- an undo leaves the fence
-undo_fence : (s : HeapState) (txn : ℕ) (o : Option ℕ) → (after_step s txn o).fenced ≡ s.fenced
-undo_fence s txn None = refl
-undo_fence s txn (Some n) = refl
-
--- the fence is set while a build runs
-on_fence : (old new : CoreState) → build_cause old.live.build (λ b. None) ≡ None → new ≡ with_live old (fenced old.live) → IsKept old new
-on_fence old new none same = record {
+-- the fence is set
+on_fence : (old new : CoreState) → new ≡ with_live old (fenced old.live) → IsKept old new
+on_fence old new same = record {
   build = ap (λ (s : CoreState). is_some s.live.build) same;
-  fence = λ gone. absurd (let both : Some NoBuild ≡ None = ap (λ (o : Option BuildState). build_cause o (λ b. None)) (sym gone) ∙ none in cc);
   work = λ _. ap (λ (s : CoreState). s.work) same;
   spools = ap (λ (s : CoreState). s.spools) same;
 }
 
 done_keeps : (event : Event) (old new : CoreState) (told : Reply) → KeepsBuild event → refusal old event ≡ None → Does old event told new → IsKept old new
 done_keeps Begin old new told keeps none (answer, is, does) =
-    on_table old new (ap (λ (live : LiveState). live.build) does.0.1) (ap (λ (h : HeapState). h.fenced) does.0.0.1) does.1
+    on_table old new (ap (λ (live : LiveState). live.build) does.0.1) does.1
 done_keeps (Insert txn row) old new told keeps none (answer, is, does) =
-    on_table old new (ap (λ (live : LiveState). live.build) does.0.1) (ap (λ (h : HeapState). h.fenced) does.0.0.2) does.1
+    on_table old new (ap (λ (live : LiveState). live.build) does.0.1) does.1
 done_keeps (Update txn rid row) old new told keeps none (answer, is, does) =
-    on_table old new (ap (λ (live : LiveState). live.build) does.0.1) (ap (λ (h : HeapState). h.fenced) does.0.0.2) does.1
+    on_table old new (ap (λ (live : LiveState). live.build) does.0.1) does.1
 done_keeps (Delete txn rid) old new told keeps none (answer, is, does) =
-    on_table old new (ap (λ (live : LiveState). live.build) does.0.1) (ap (λ (h : HeapState). h.fenced) does.0.0.2) does.1
+    on_table old new (ap (λ (live : LiveState). live.build) does.0.1) does.1
 done_keeps (Undo txn) old new told keeps none (answer, is, does) =
-    on_table old new (ap (λ (live : LiveState). live.build) does.0.1)
-    (ap (λ (h : HeapState). h.fenced) does.0.0.2 ∙ undo_fence old.live.heap txn (newest_standing old.live.heap.log txn)) does.1
+    on_table old new (ap (λ (live : LiveState). live.build) does.0.1) does.1
 done_keeps (Commit txn) old new told keeps none (answer, is, does) =
-    on_table old new (ap (λ (live : LiveState). live.build) does.0.1) (ap (λ (h : HeapState). h.fenced) does.0.0.1) does.1
+    on_table old new (ap (λ (live : LiveState). live.build) does.0.1) does.1
 done_keeps (Start plan) old new told keeps none done = absurd keeps
 done_keeps (Scan range worker) old new told keeps none (page, is, does) = on_scan old new old.live.build range worker page refl does.0 does.1
 done_keeps (Digest worker) old new told keeps none (images, is, does) =
@@ -151,7 +137,7 @@ done_keeps (Feed index most) old new told keeps none (count, is, does) =
     on_feed old new old.live.build (λ b. count ≡ next_fed b old.live.heap.log old.work index most) (λ b. after_feed b index count) refl does
 done_keeps (Apply index most) old new told keeps none (count, is, does) =
     on_work old new old.live.build (λ b. count ≡ next_applied b old.work index most) (λ b. after_apply old.work index count) refl does
-done_keeps Fence old new told keeps none done = on_fence old new none done.1
+done_keeps Fence old new told keeps none done = on_fence old new done.1
 done_keeps Switch old new told keeps none done = absurd keeps
 done_keeps Abandon old new told keeps none done = absurd keeps
 
@@ -190,7 +176,6 @@ none_of (Some b) off = cc
 follows : (leases : Option LeasesValue) (old new : CoreState) → IsKept old new → LeasesFollow leases old → LeasesFollow leases new
 follows None old new kept rest = record {
   build = none_of new.live.build (kept.build ∙ ap is_some rest.build);
-  fence = kept.fence rest.build ∙ rest.fence;
   work = kept.work rest.build ∙ rest.work;
   spools = kept.spools ∙ rest.spools;
 }
@@ -204,12 +189,12 @@ pub follow_step : (leases : Option LeasesValue) (event : Event) (old new : CoreS
     → LeasesFollow leases old → LeasesFollow leases new
 follow_step leases event old new told keeps step before = follows leases old new (step_keeps event old new told keeps step) before
 
--- so they are where only the heap has changed
-pub follow_heap :
-    (leases : Option LeasesValue) (old new : CoreState) (heap : HeapState) → new ≡ with_heap old heap → heap.fenced ≡ old.live.heap.fenced
-    → LeasesFollow leases old → LeasesFollow leases new
-follow_heap leases old new heap same fence before =
-    follows leases old new (subst (IsKept old) (sym same) (record { build = refl; fence = λ _. fence; work = λ _. refl; spools = refl })) before
+-- so they are behind a call for such an event
+pub follow_answer :
+    {R : Type 0} (told : R → Reply) (leases : Option LeasesValue) (event : Event) (old new : CoreState) (result : Result R Fault) → KeepsBuild event
+    → AnswersBy told old event result new → LeasesFollow leases old → LeasesFollow leases new
+follow_answer told leases event old new (Ok answer) keeps done before = follow_step leases event old new (told answer) keeps (inr done) before
+follow_answer told leases event old new (Err fault) keeps refused before = follow_step leases event old new (Refused fault) keeps (inl (fault, refl, refused)) before
 
 pub follow_same : (leases : Option LeasesValue) (old new : CoreState) → new ≡ old → LeasesFollow leases old → LeasesFollow leases new
 follow_same leases old new same before = follows leases old new (unchanged old new same) before
@@ -217,14 +202,13 @@ follow_same leases old new same before = follows leases old new (unchanged old n
 -- a table at rest is as it would be opened
 pub at_rest : (s : CoreState) → IsAtRest s → opening s.live no_spools ≡ s
 at_rest s rest =
-    ap (λ (build : Option BuildState). record { live = record s.live { heap = after_fence false s.live.heap; build = build }; work = idle; spools = no_spools }) (sym rest.build)
-    ∙ ap (λ (fence : Bool). record { live = record s.live { heap = after_fence fence s.live.heap }; work = idle; spools = no_spools }) (sym rest.fence)
+    ap (λ (build : Option BuildState). record { live = without build s.live; work = idle; spools = no_spools }) rest.build
     ∙ ap (λ (work : WorkState). record { live = s.live; work = work; spools = no_spools }) (sym rest.work)
     ∙ ap (λ (spools : SpoolsState). record { live = s.live; work = s.work; spools = spools }) (sym rest.spools)
 
 -- what was opened rests
 pub opened : (live : LiveState) → LeasesFollow None (opening live no_spools)
-opened live = record { build = refl; fence = refl; work = refl; spools = refl }
+opened live = record { build = abandoned_none live; work = refl; spools = refl }
 
 -- with no build the table rests
 pub resting : (leases : Option LeasesValue) (s : CoreState) → s.live.build ≡ None → LeasesFollow leases s → IsAtRest s
@@ -265,7 +249,7 @@ leased (Some leases) s spools same leasing = subst (λ (spools : SpoolsState). A
 
 switched_spools : (old new : CoreState) (number : ℕ) (verdicts : List Outcome) (build : Option BuildState)
     → OnBuild build (λ b. (number ≡ length old.live.heap.log + 1) × (verdicts ≡ verdicts_on old.live b)
-    × (new ≡ record old { live = after_switch_in old.live b; work = idle })) → new.spools ≡ old.spools
+    × (new ≡ record old { live = after_switch_in old.live b; work = idle }) × AreKeyed old.live.heap.log b.specs) → new.spools ≡ old.spools
 switched_spools old new number verdicts None on = absurd on
 switched_spools old new number verdicts (Some b) on = ap (λ (s : CoreState). s.spools) on.2
 

@@ -3,9 +3,9 @@ use Rattle.std.proofs.Common.{◌≡◌, ℕ, List, Option, Some, None}
 use Rattle.std.specs.List.{All, slice_get}
 use Rattle.std.specs.List.{AllZip}
 use Rattle.keybytes.specs.Keys.{KeySpecValue, IsKeyOf}
-use Rattle.builder_core.specs.CoreState.{BuildState}
+use Rattle.build_events.specs.CoreState.{BuildState}
 use Rattle.builder_core.specs.SideFiles.{HaveEntryKeys}
-use Rattle.builder_core.specs.BuildSteps.{OnBuild}
+use Rattle.build_events.specs.BuildSteps.{OnBuild}
 use Rattle.side_file.specs.declared.entry.Entry.{Entry}
 use Rattle.keybytes.specs.declared.pair.Pair.{Pair}
 use Rattle.keybytes.specs.Pairs.{HaveKeysOf}

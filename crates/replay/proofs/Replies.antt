@@ -3,58 +3,16 @@ use Rattle.std.proofs.Common.{◌≡◌, ℕ, inl, inr, List}
 use Rattle.keybytes.specs.declared.cell.Cell.{Cell}
 use Rattle.keybytes.specs.declared.fault.Fault.{Fault}
 use Rattle.keybytes.specs.declared.rid.Rid.{Rid}
-use Rattle.builder_core.specs.CoreState.{CoreState}
-use Rattle.builder_core.specs.Steps.{Does, Step}
+use Rattle.build_events.specs.CoreState.{CoreState}
+use Rattle.build_events.specs.Steps.{Does, Step}
 use Rattle.heap_log.specs.declared.outcome.Outcome.{Outcome}
-use Rattle.builder_core.specs.declared.event.Event.{Event}
-use Rattle.builder_core.specs.declared.event.Event.TheVariants.{Begin, Insert, Update, Delete, Undo, Commit, Start, Scan, Digest, Seal, Load, Feed, Apply, Fence, Switch, Abandon}
-use Rattle.builder_core.specs.declared.plan.Plan.{Plan}
-use Rattle.builder_core.specs.declared.reply.Reply.{Reply}
-use Rattle.builder_core.specs.declared.reply.Reply.TheVariants.{FenceSet, Begun, Written, Undone, Committed, Started, Scanned, Digested, Sealed, Loaded, Fed, Applied, Switched}
-use Rattle.builder_core.specs.declared.reply.Reply.TheVariants.{Abandoned, Refused}
+use Rattle.build_events.specs.declared.event.Event.{Event}
+use Rattle.build_events.specs.declared.event.Event.TheVariants.{Begin, Insert, Update, Delete, Undo, Commit, Start, Scan, Digest, Seal, Load, Feed, Apply, Fence, Switch, Abandon}
+use Rattle.build_events.specs.declared.plan.Plan.{Plan}
+use Rattle.build_events.specs.declared.reply.Reply.{Reply}
+use Rattle.build_events.specs.declared.reply.Reply.TheVariants.{FenceSet, Begun, Written, Undone, Committed, Started, Scanned, Digested, Sealed, Loaded, Fed, Applied, Switched}
+use Rattle.build_events.specs.declared.reply.Reply.TheVariants.{Abandoned, Refused}
 use Rattle.replay.specs.Leasing.{KeepsBuild}
-
--- a transaction begins, or that is refused
-pub begun : (old new : CoreState) (other : Reply) → Step old Begin other new
-    → ((txn : ℕ) → other ≡ Begun txn → ⊥) → ((fault : Fault) → other ≡ Refused fault → ⊥) → ⊥
-begun old new other (inl refused) not_begun not_refused = not_refused refused.0 refused.1
-begun old new other (inr done) not_begun not_refused = not_begun _ done.1.1
-
--- a row is written, or that is refused
-pub written : (old new : CoreState) (txn : ℕ) (row : List Cell) (other : Reply) → Step old (Insert txn row) other new
-    → ((number : ℕ) (rid : Rid) → other ≡ Written number rid → ⊥) → ((fault : Fault) → other ≡ Refused fault → ⊥) → ⊥
-written old new txn row other (inl refused) not_written not_refused = not_refused refused.0 refused.1
-written old new txn row other (inr done) not_written not_refused = not_written _ _ done.1.1
-
--- a write is undone, or that is refused
-pub undone : (old new : CoreState) (txn : ℕ) (other : Reply) → Step old (Undo txn) other new
-    → ((number left : ℕ) → other ≡ Undone number left → ⊥) → ((fault : Fault) → other ≡ Refused fault → ⊥) → ⊥
-undone old new txn other (inl refused) not_undone not_refused = not_refused refused.0 refused.1
-undone old new txn other (inr done) not_undone not_refused = not_undone _ _ done.1.1
-
--- a transaction is committed, or that is refused
-pub committed : (old new : CoreState) (txn : ℕ) (other : Reply) → Step old (Commit txn) other new
-    → ((number : ℕ) → other ≡ Committed number → ⊥) → ((fault : Fault) → other ≡ Refused fault → ⊥) → ⊥
-committed old new txn other (inl refused) not_committed not_refused = not_refused refused.0 refused.1
-committed old new txn other (inr done) not_committed not_refused = not_committed _ done.1.1
-
--- a build starts, or that is refused
-pub started : (old new : CoreState) (plan : Plan) (other : Reply) → Step old (Start plan) other new
-    → ((pages : ℕ) → other ≡ Started pages → ⊥) → ((fault : Fault) → other ≡ Refused fault → ⊥) → ⊥
-started old new plan other (inl refused) not_started not_refused = not_refused refused.0 refused.1
-started old new plan other (inr done) not_started not_refused = not_started _ done.1.1
-
--- a switch decides, or is refused
-pub switched : (old new : CoreState) (other : Reply) → Step old Switch other new
-    → ((number : ℕ) (verdicts : List Outcome) → other ≡ Switched number verdicts → ⊥) → ((fault : Fault) → other ≡ Refused fault → ⊥) → ⊥
-switched old new other (inl refused) not_switched not_refused = not_refused refused.0 refused.1
-switched old new other (inr done) not_switched not_refused = not_switched _ _ done.1.1
-
--- a build is given up, or that is refused
-pub abandoned : (old new : CoreState) (other : Reply) → Step old Abandon other new
-    → (other ≡ Abandoned → ⊥) → ((fault : Fault) → other ≡ Refused fault → ⊥) → ⊥
-abandoned old new other (inl refused) not_abandoned not_refused = not_refused refused.0 refused.1
-abandoned old new other (inr done) not_abandoned not_refused = not_abandoned done.1.0
 
 -- what an event may be replied that neither starts a build nor ends one
 record IsNone (other : Reply) : Type 0 where

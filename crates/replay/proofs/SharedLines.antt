@@ -3,8 +3,8 @@ use Rattle.std.proofs.Common.{◌≡◌, ◌⊎◌, List, [], Option, Some, None
 use Rattle.std.specs.Prelude.{IfSome}
 use Rattle.keybytes.specs.Keys.{KeySpecValue}
 use Rattle.heap_log.specs.declared.outcome.Outcome.{Outcome}
-use Rattle.builder_core.specs.CoreState.{BuildState}
-use Rattle.builder_core.specs.BuildSteps.{OnBuild}
+use Rattle.build_events.specs.CoreState.{BuildState}
+use Rattle.build_events.specs.BuildSteps.{OnBuild}
 use Rattle.replay.specs.Listings.{ListsShared}
 use Rattle.replay.specs.declared.shared_line.SharedLine.{SharedLine}
 

@@ -11,10 +11,10 @@ use Rattle.heap_log.proofs.Last.{IsLast, last_below_some, count_below-more, coun
 use Rattle.heap_log.proofs.Records.{record_at-kept, record_at-added, length-added, undone-added, or_no}
 use Rattle.heap_table.specs.HeapState.{HeapState, is_open, still_open, after_step}
 use Rattle.heap_table.proofs.OpenOnes.{open_without_self}
-use Rattle.builder_core.specs.CoreState.{CoreState}
-use Rattle.builder_core.specs.Steps.{Step}
-use Rattle.builder_core.specs.declared.event.Event.TheVariants.{Undo}
-use Rattle.builder_core.specs.declared.reply.Reply.TheVariants.{Undone, Refused}
+use Rattle.build_events.specs.CoreState.{CoreState}
+use Rattle.build_events.specs.Steps.{Step}
+use Rattle.build_events.specs.declared.event.Event.TheVariants.{Undo}
+use Rattle.build_events.specs.declared.reply.Reply.TheVariants.{Undone, Refused}
 
 no_refusal : (number left : ℕ) (fault : Fault) → Undone number left ≡ Refused fault → ⊥
 no_refusal number left fault e = cc

@@ -8,14 +8,14 @@ use Rattle.run_spool.specs.Runs.{pairs_of}
 use Rattle.run_spool.specs.Spools.{stakes_in}
 use Rattle.keybytes.specs.declared.fault.Fault.{Fault}
 use Rattle.keybytes.specs.declared.fault.Fault.TheVariants.{Memory}
-use Rattle.builder_core.specs.CoreState.{CoreState, SpoolsState, idle, opening}
+use Rattle.build_events.specs.CoreState.{CoreState, SpoolsState, idle, opening}
 use Rattle.builder_core.specs.Holding.{spools_in}
-use Rattle.builder_core.specs.Steps.{Step}
-use Rattle.builder_core.specs.declared.event.Event.{Event}
-use Rattle.builder_core.specs.declared.event.Event.TheVariants.{Begin, Insert, Update, Delete, Undo, Commit, Start, Scan, Digest, Seal, Load, Feed, Apply, Fence, Switch, Abandon}
-use Rattle.builder_core.specs.declared.plan.Plan.{Plan}
-use Rattle.builder_core.specs.declared.reply.Reply.{Reply}
-use Rattle.builder_core.specs.declared.reply.Reply.TheVariants.{Refused}
+use Rattle.build_events.specs.Steps.{Step}
+use Rattle.build_events.specs.declared.event.Event.{Event}
+use Rattle.build_events.specs.declared.event.Event.TheVariants.{Begin, Insert, Update, Delete, Undo, Commit, Start, Scan, Digest, Seal, Load, Feed, Apply, Fence, Switch, Abandon}
+use Rattle.build_events.specs.declared.plan.Plan.{Plan}
+use Rattle.build_events.specs.declared.reply.Reply.{Reply}
+use Rattle.build_events.specs.declared.reply.Reply.TheVariants.{Refused}
 
 -- the pool of a build's pages, and for how many of its accounts there is room
 pub record LeasesValue : Type 0 where
@@ -48,10 +48,9 @@ pub record AreOf (leases : LeasesValue) (stakes : List (Option Stake)) : Type 0 
   pub out : sum_by pages_of (stakes_in stakes) ≡ leases.pool.out
   pub room : length stakes ≤ leases.room
 
--- no build runs beside the table, transactions may begin, and there are no spools
+-- no build runs beside the table, and there are no spools
 pub record IsAtRest (s : CoreState) : Type 0 where
   pub build : s.live.build ≡ None
-  pub fence : s.live.heap.fenced ≡ false
   pub work : s.work ≡ idle
   pub spools : s.spools ≡ no_spools
 

@@ -6,12 +6,13 @@ use Rattle.keybytes.specs.declared.fault.Fault.TheVariants.{BadCount}
 use Rattle.heap_log.specs.declared.outcome.Outcome.{Outcome}
 use Rattle.heap_log.specs.declared.outcome.Outcome.TheVariants.{Ready, Shared}
 use Rattle.heap_table.specs.Limits.{slots_most}
+use Rattle.build_events.specs.BuildSteps.{indexes_most, workers_most}
 use Rattle.script.specs.declared.table.Table.{Table}
 
 -- 1 to 16 workers, 1 to 8 indexes, and a quota of at most 1,024 pages
 abbrev pub is_in_limits : ℕ → ℕ → ℕ → Bool
 is_in_limits workers indexes quota =
-    (nat_le 1 workers && nat_le workers 16) && (nat_le 1 indexes && nat_le indexes 8) && nat_le quota 1024
+    (nat_le 1 workers && nat_le workers workers_most) && (nat_le 1 indexes && nat_le indexes indexes_most) && nat_le quota 1024
 
 -- the verdict refuses its index
 abbrev pub is_refusal : Outcome → Bool

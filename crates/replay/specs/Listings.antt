@@ -11,7 +11,7 @@ use Rattle.keybytes.specs.declared.rid.Rid.{Rid}
 use Rattle.heap_log.specs.declared.outcome.Outcome.{Outcome}
 use Rattle.heap_log.specs.declared.outcome.Outcome.TheVariants.{Ready, Shared}
 use Rattle.replay.specs.declared.shared_line.SharedLine.{SharedLine}
-use Rattle.builder_core.specs.CoreState.{CoreState, with_heap}
+use Rattle.build_events.specs.CoreState.{CoreState, with_heap}
 use Rattle.ready_indexes.specs.Indexes.{ReadyValue}
 use Rattle.heap_table.specs.TablePairs.{pairs_at_rest}
 use Rattle.keybytes.specs.declared.pair.Pair.{Pair}
@@ -20,7 +20,7 @@ use Rattle.replay.specs.declared.answer.Answer.TheVariants as answer
 use Rattle.replay.specs.declared.pair_line.PairLine.{PairLine}
 use Rattle.replay.specs.declared.entry_line.EntryLine.{EntryLine}
 use Rattle.builder_core.specs.SideFiles.{AreEntriesLeft, side_refusal}
-use Rattle.builder_core.specs.BuildSteps.{OnBuild}
+use Rattle.build_events.specs.BuildSteps.{OnBuild}
 use Rattle.side_file.specs.declared.entry.Entry.{Entry}
 use Rattle.script.specs.declared.spec.Spec.{Spec}
 

@@ -5,13 +5,9 @@ use Rattle.keybytes.specs.Keys.{key_columns_refusal}
 use Rattle.keybytes.specs.declared.fault.Fault.{Fault}
 use Rattle.keybytes.specs.declared.fault.Fault.TheVariants.{BadCount, BuildRunning}
 use Rattle.keybytes.specs.declared.kind.Kind.{Kind}
-use Rattle.builder_core.specs.CoreState.{CoreState}
-use Rattle.builder_core.specs.BuildSteps.{cause_if}
-use Rattle.builder_core.specs.declared.dealing.Dealing.{Dealing}
-use Rattle.builder_core.specs.declared.dealing.Dealing.TheVariants.{Ends, Even}
-use Rattle.builder_core.specs.declared.plan.Plan.{Plan}
-use Rattle.script.specs.declared.dealing.Dealing.{Dealing as AskedDealing}
-use Rattle.script.specs.declared.dealing.Dealing.TheVariants as asked
+use Rattle.build_events.specs.CoreState.{CoreState}
+use Rattle.build_events.specs.BuildSteps.{cause_if}
+use Rattle.build_events.specs.declared.plan.Plan.{Plan}
 use Rattle.script.specs.declared.spec.Spec.{Spec}
 use Rattle.script.specs.declared.start.Start.{Start}
 use Rattle.replay.specs.Limits.{is_in_limits}
@@ -28,13 +24,8 @@ abbrev pub specs_refusal : List Kind → List Spec → Option Fault
 specs_refusal schema [] = None
 specs_refusal schema (spec ∷ specs) = first_cause (key_columns_refusal schema spec.columns.items) (specs_refusal schema specs)
 
--- how a build deals the pages that a script deals so
-abbrev pub dealing_of : AskedDealing → Dealing
-dealing_of (asked.Ends ends) = Ends ends
-dealing_of (asked.Even ranges) = Even ranges
-
 -- the plan is the one asked for, of a table with these columns
 pub record IsPlanOf (schema : List Kind) (start : Start) (plan : Plan) : Type 0 where
   pub specs : plan.specs.items ≡ map (key_spec_of schema) start.specs.items
   pub workers : plan.workers ≡ start.workers
-  pub dealing : plan.dealing ≡ dealing_of start.dealing
+  pub dealing : plan.dealing ≡ start.dealing

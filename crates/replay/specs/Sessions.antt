@@ -5,7 +5,7 @@ use Rattle.keybytes.specs.Faults.{RefusedFor}
 use Rattle.keybytes.specs.declared.fault.Fault.{Fault}
 use Rattle.heap_table.specs.HeapState.{HeapState, empty_heap}
 use Rattle.heap_table.specs.Limits.{pages_most}
-use Rattle.builder_core.specs.CoreState.{CoreState, LiveState, opening}
+use Rattle.build_events.specs.CoreState.{CoreState, LiveState, opening}
 use Rattle.script.specs.declared.command.Command.{Command}
 use Rattle.script.specs.declared.command.Command.TheVariants.{Row, Begin, Insert, Update, Delete, Undo, Commit, Get, Start as StartCommand, Scan, Digest}
 use Rattle.script.specs.declared.command.Command.TheVariants.{Seal, Load, Feed, Apply, Fence, Switch, Abandon, Side, Pairs, Rest}

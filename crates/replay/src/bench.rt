@@ -4,16 +4,17 @@ ghost use Rattle.keybytes.specs.Pairs.{HaveKeysOf};
 ghost use Rattle.heap_log.specs.Standing.{live_at};
 ghost use Rattle.heap_table.specs.HeapState.{after_visit, row_missing};
 ghost use Rattle.heap_table.specs.TablePairs.{pairs_at_rest};
-ghost use Rattle.builder_core.specs.CoreState.{opening, with_heap};
-ghost use Rattle.builder_core.specs.BuildSteps.{OnBuild};
-ghost use Rattle.builder_core.specs.Steps.{Step};
-ghost use Rattle.builder_core.specs.Verdicts.{HaveSharedKeys};
+ghost use Rattle.build_events.specs.CoreState.{opening, with_heap};
+ghost use Rattle.build_events.specs.BuildSteps.{OnBuild};
+ghost use Rattle.build_events.specs.Steps.{AnswersBy, Step};
+ghost use Rattle.build_events.specs.Verdicts.{HaveSharedKeys};
 ghost use Rattle.replay.specs.Leasing.{AreLeased, EndsBuild, FailsToStart, KeepsBuild, StartsOver, no_spools, plain_stake};
 ghost use Rattle.replay.specs.Listings.{OnlyVisits};
 
 use crate::leases::Leases;
 use builder_core::{Core, Ends, Event, Live, Plan, Reply, Table};
 use heap_log::Verdicts;
+use heap_table::Undone;
 use keybytes::{Fault, KeySpec, Pair, Rid, Row};
 use run_spool::PlainSpool;
 use std::alloc::Global;
@@ -30,7 +31,7 @@ pub struct Bench<T: Table> {
 }
 
 impl<T: Table> Model for Bench<T> {
-    ghost use Rattle.builder_core.specs.CoreState.{CoreState};
+    ghost use Rattle.build_events.specs.CoreState.{CoreState};
     ghost use Rattle.replay.specs.Leasing.{LeasesFollow};
 
     ghost Value = { CoreState };
@@ -72,6 +73,34 @@ impl<T: Table> Bench<T> {
         &self.core
     }
 
+    /// The next transaction begins; answered with its number.
+    pub fn begin(&mut self) -> Result<u64, Fault>
+        ensures { AnswersBy Reply.Begun self.old Event.Begin result self.new }
+    {
+        self.core.begin()
+    }
+
+    /// The transaction inserts a row; answered with the record's number and the RID.
+    pub fn insert(&mut self, txn: u64, row: Row) -> Result<(usize, Rid), Fault>
+        ensures { AnswersBy (λ w. Reply.Written w.0 w.1) self.old (Event.Insert txn row) result self.new }
+    {
+        self.core.insert(txn, row)
+    }
+
+    /// The transaction's newest standing write is undone.
+    pub fn undo(&mut self, txn: u64) -> Result<Undone, Fault>
+        ensures { AnswersBy (λ undone. Reply.Undone undone.number undone.left) self.old (Event.Undo txn) result self.new }
+    {
+        self.core.undo(txn)
+    }
+
+    /// The transaction ends, and keeps its writes; answered with the record's number.
+    pub fn commit(&mut self, txn: u64) -> Result<usize, Fault>
+        ensures { AnswersBy Reply.Committed self.old (Event.Commit txn) result self.new }
+    {
+        self.core.commit(txn)
+    }
+
     /// Does one event that neither starts a build nor ends one.
     pub fn step(&mut self, event: Event) -> Reply
         requires { KeepsBuild event }
@@ -94,17 +123,16 @@ impl<T: Table> Bench<T> {
         let spools = plan.workers * plan.specs.len();
         let (leases, spools) = Leases::new(self.alloc, spools, quota)?;
         let _none = self.core.exchange_spools(spools);
-        match self.core.step(Event::Start { plan }) {
-            Reply::Started { pages } => {
+        match self.core.start(&plan) {
+            Ok(pages) => {
                 self.leases = Some(leases);
                 Ok(pages)
             }
-            Reply::Refused { fault } => {
+            Err(fault) => {
                 let spools = self.core.exchange_spools(Vec::new(self.alloc));
                 let _whole = leases.reclaim(spools);
                 Err(fault)
             }
-            _ => unreachable!(),
         }
     }
 
@@ -116,14 +144,9 @@ impl<T: Table> Bench<T> {
         ensures back { IfOk result (λ told. told.2 ≡ 0) }
         ensures refused { IfErr result (λ fault. Step self.old Event.Switch (Reply.Refused fault) self.new) }
     {
-        match self.core.step(Event::Switch) {
-            Reply::Switched { number, verdicts } => {
-                let missing = end_build(self.alloc, &mut self.core, self.leases.take());
-                Ok((number, verdicts, missing))
-            }
-            Reply::Refused { fault } => Err(fault),
-            _ => unreachable!(),
-        }
+        let (number, verdicts) = self.core.switch_in()?;
+        let missing = end_build(self.alloc, &mut self.core, self.leases.take());
+        Ok((number, verdicts, missing))
     }
 
     /// Gives the build up, with its spools, and answers how many of their pages are missing.
@@ -132,11 +155,8 @@ impl<T: Table> Bench<T> {
         ensures back { IfOk result (λ missing. missing ≡ 0) }
         ensures refused { IfErr result (λ fault. Step self.old Event.Abandon (Reply.Refused fault) self.new) }
     {
-        match self.core.step(Event::Abandon) {
-            Reply::Abandoned => Ok(end_build(self.alloc, &mut self.core, self.leases.take())),
-            Reply::Refused { fault } => Err(fault),
-            _ => unreachable!(),
-        }
+        self.core.abandon()?;
+        Ok(end_build(self.alloc, &mut self.core, self.leases.take()))
     }
 
     /// The row that stands at a RID now; [`Fault::NoSuchRow`] where none does. Counts as a visit.

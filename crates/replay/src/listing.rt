@@ -1,5 +1,5 @@
 ghost use Rattle.std.specs.Prelude.{◌≡◌, ◌+◌, ◌^◌, ◌<◌, ◌⊎◌, ◌++◌, [], List, length, IfOk, IfErr, IfSome, OnOk};
-ghost use Rattle.builder_core.specs.Verdicts.{HaveSharedKeys};
+ghost use Rattle.build_events.specs.Verdicts.{HaveSharedKeys};
 ghost use Rattle.replay.specs.declared.shared_line.SharedLine.{SharedLine};
 ghost use Rattle.std.specs.List.{AllZip};
 ghost use Rattle.keybytes.specs.Pairs.{HaveKeysOf};
@@ -14,7 +14,7 @@ use crate::shared_line::SharedLine;
 use btree::Tree;
 use builder_core::{Core, Entry, Pair, Table};
 use heap_log::Outcome;
-use keybytes::{Fault, KeySpec};
+use keybytes::{Fault, KeySpec, copied_specs};
 use run_spool::PlainSpool;
 use std::alloc::Global;
 use std::collections::vec_deque::Iter;
@@ -128,19 +128,8 @@ pub fn build_specs<T: Table>(
     ensures ok { IfOk result (λ specs. IfSome core.now.live.build (λ b. specs.items ≡ b.specs)) }
     ensures memory { IfErr result (λ fault. fault ≡ Fault.Memory) }
 {
-    match core.specs() {
+    match core.live().specs() {
         Some(specs) => copied_specs(alloc, specs),
         None => Ok(Vec::new(alloc)),
     }
-}
-
-fn copied_specs(alloc: Global, specs: &[KeySpec]) -> Result<Vec<KeySpec>, Fault>
-    ensures same { IfOk result (λ copies. copies.items ≡ specs.now) }
-    ensures memory { IfErr result (λ fault. fault ≡ Fault.Memory) }
-{
-    let mut copies = Vec::with_capacity(alloc, specs.len())?;
-    for spec in specs {
-        copies.push_reserved(spec.clone()?);
-    }
-    Ok(copies)
 }

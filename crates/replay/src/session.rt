@@ -17,7 +17,7 @@ use crate::bench::Bench;
 use crate::entry_line::EntryLine;
 use crate::labels::Labels;
 use crate::listing::{build_specs, entry_lines, pair_lines, shared_lines, tree_lines};
-use crate::plan::{dealing_of, is_in_limits};
+use crate::plan::is_in_limits;
 use crate::status::Status;
 use crate::txn::{begin, put, take_back};
 use builder_core::{Core, Event, Plan, Reply, Table};
@@ -199,7 +199,7 @@ impl Session {
         let plan = Plan {
             specs: self.key_specs(bench.core(), start.specs)?,
             workers: start.workers,
-            dealing: dealing_of(start.dealing),
+            dealing: start.dealing,
             tries: 1,
             keep_pairs: false,
         };
@@ -270,8 +270,9 @@ impl Session {
         ensures lists { IfOk result (λ lines. ListsLeft core.now index (Answer.Entries lines)) }
         ensures refused { IfErr result (RefusedFor (side_refusal core.now.live.build index)) }
     {
-        let spec = core.spec(index)?;
-        let entries = core.side(index)?;
+        let live = core.live();
+        let spec = live.spec(index)?;
+        let entries = live.side(index)?;
         let lines = entry_lines(self.alloc, spec, entries)?;
         Ok(lines)
     }
@@ -301,7 +302,8 @@ impl Session {
         ensures accepted { OnOk result (key_columns_refusal core.now.live.heap.schema spec.columns.items ≡ None) }
         ensures refused { IfErr result (RefusedFor (key_columns_refusal core.now.live.heap.schema spec.columns.items)) }
     {
-        KeySpec::new(self.alloc, core.schema(), spec.columns, spec.unique)
+        let schema = core.live().heap().schema();
+        KeySpec::new(self.alloc, schema, spec.columns, spec.unique)
     }
 }
 

@@ -1,10 +1,13 @@
 //! Transactions on a table, event by event.
 ghost use Rattle.std.specs.Prelude.{ℕ, OnOk, IfOk, IfErr};
-ghost use Rattle.builder_core.specs.Steps.{Step};
+ghost use Rattle.build_events.specs.Steps.{Step};
+ghost use Rattle.build_events.specs.declared.event.Event.{Event};
+ghost use Rattle.build_events.specs.declared.reply.Reply.{Reply};
 ghost use Rattle.replay.specs.Answers.{FailsToPut, PutsRow, TakesBack};
 
 use crate::bench::Bench;
-use builder_core::{Event, Reply, Table};
+use builder_core::Table;
+use heap_table::Undone;
 use keybytes::{Fault, Rid, Row};
 
 /// Begins a transaction, and answers its number.
@@ -12,11 +15,7 @@ pub fn begin<T: Table>(bench: &mut Bench<T>) -> Result<u64, Fault>
     ensures ok { IfOk result (λ txn. Step bench.old Event.Begin (Reply.Begun txn) bench.new) }
     ensures refused { IfErr result (λ fault. Step bench.old Event.Begin (Reply.Refused fault) bench.new) }
 {
-    match bench.step(Event::Begin) {
-        Reply::Begun { txn } => Ok(txn),
-        Reply::Refused { fault } => Err(fault),
-        _ => unreachable!(),
-    }
+    bench.begin()
 }
 
 /// Inserts a row, and answers where it stands.
@@ -24,11 +23,8 @@ pub fn insert<T: Table>(bench: &mut Bench<T>, txn: u64, row: Row) -> Result<Rid,
     ensures ok { IfOk result (λ rid. (number : ℕ) × Step bench.old (Event.Insert txn row) (Reply.Written number rid) bench.new) }
     ensures refused { IfErr result (λ fault. Step bench.old (Event.Insert txn row) (Reply.Refused fault) bench.new) }
 {
-    match bench.step(Event::Insert { txn, row }) {
-        Reply::Written { rid, .. } => Ok(rid),
-        Reply::Refused { fault } => Err(fault),
-        _ => unreachable!(),
-    }
+    let (_number, rid) = bench.insert(txn, row)?;
+    Ok(rid)
 }
 
 /// Commits a transaction.
@@ -36,11 +32,8 @@ pub fn commit<T: Table>(bench: &mut Bench<T>, txn: u64) -> Result<(), Fault>
     ensures ok { OnOk result ((number : ℕ) × Step bench.old (Event.Commit txn) (Reply.Committed number) bench.new) }
     ensures refused { IfErr result (λ fault. Step bench.old (Event.Commit txn) (Reply.Refused fault) bench.new) }
 {
-    match bench.step(Event::Commit { txn }) {
-        Reply::Committed { .. } => Ok(()),
-        Reply::Refused { fault } => Err(fault),
-        _ => unreachable!(),
-    }
+    let _number = bench.commit(txn)?;
+    Ok(())
 }
 
 /// Inserts a row and commits, and answers where the row stands.
@@ -58,13 +51,10 @@ pub fn put<T: Table>(bench: &mut Bench<T>, txn: u64, row: Row) -> Result<Rid, Fa
 pub fn take_back<T: Table>(bench: &mut Bench<T>, txn: u64)
     ensures { (more : ℕ) × TakesBack more bench.old txn bench.new }
 {
-    match bench.step(Event::Undo { txn }) {
-        Reply::Undone { left, .. } => {
-            if left > 0 {
-                take_back(bench, txn);
-            }
-        }
-        Reply::Refused { .. } => {}
-        _ => unreachable!(),
+    let Ok(Undone { left, .. }) = bench.undo(txn) else {
+        return;
+    };
+    if left > 0 {
+        take_back(bench, txn);
     }
 }

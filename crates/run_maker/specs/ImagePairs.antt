@@ -4,14 +4,9 @@ use Rattle.std.specs.List.{range_with_len}
 use Rattle.keybytes.specs.Keys.{KeySpecValue}
 use Rattle.keybytes.specs.Pairs.{pair_with}
 use Rattle.keybytes.specs.declared.cell.Cell.{Cell}
-use Rattle.keybytes.specs.declared.kind.Kind.{Kind}
 use Rattle.keybytes.specs.declared.pair.Pair.{Pair}
 use Rattle.heap_table.specs.Images.{ImageValue, Shows, image_slot}
 use Rattle.heap_table.specs.Pages.{rid_at}
-
--- these are the rows of a copy: in each slot one, or none
-abbrev pub HasRows : List Kind → ImageValue → (ℕ → Option (List Cell)) → Type 0
-HasRows kinds image rows = (slot : ℕ) → Shows kinds (image_slot image slot) (rows slot)
 
 -- these are the pairs of the rows on a copy, by slot
 pub record HasPairs (spec : KeySpecValue) (image : ImageValue) (pairs : List Pair) : Type 0 where

@@ -1,10 +1,9 @@
 //! The pairs of the rows on a copy of a page.
 ghost use Rattle.std.specs.Prelude.{◌≡◌, ◌⊎◌, ℕ, All, Option, List, IfErr, OnOk, map, length};
 ghost use Rattle.keybytes.specs.declared.cell.Cell.{Cell};
-ghost use Rattle.heap_table.specs.Images.{image_slot, Shows};
+ghost use Rattle.heap_table.specs.Images.{image_slot, HasRows, Shows};
 ghost use Rattle.heap_table.specs.Pages.{rid_at};
 ghost use Rattle.run_spool.specs.Spools.{AreSorted, HasFull, NoPageOnlyIf};
-ghost use Rattle.run_maker.specs.ImagePairs.{HasRows};
 ghost use Rattle.run_maker.specs.Making.{AreReady, TakesRow, Takes};
 ghost use Rattle.run_maker.specs.Spooling.{MemoryOnlyIf};
 

@@ -1,7 +1,5 @@
-ghost use Rattle.std.specs.Prelude.{◌≡◌, ◌<◌, ◌⊎◌, [], ℕ, All, Option, List, IfOk, IfErr, OnOk, OnErr, map, length, true, false};
-ghost use Rattle.keybytes.specs.declared.cell.Cell.{Cell};
+ghost use Rattle.std.specs.Prelude.{◌≡◌, ◌<◌, ◌⊎◌, [], All, IfOk, IfErr, OnOk, OnErr, map, length, true, false};
 ghost use Rattle.run_spool.specs.Spools.{AreSorted, HasFull, NoPageOnlyIf};
-ghost use Rattle.run_maker.specs.ImagePairs.{HasRows};
 ghost use Rattle.run_maker.specs.Making.{AreReady, Takes, Seals};
 ghost use Rattle.run_maker.specs.Spooling.{MemoryOnlyIf};
 
@@ -65,6 +63,13 @@ impl Maker {
         })
     }
 
+    /// The columns of the rows that it takes.
+    pub fn schema(&self) -> &Schema
+        ensures { result.now ≡ self.now.schema }
+    {
+        &self.schema
+    }
+
     /// Changes nothing: its clauses tell what every maker keeps.
     pub fn laws(&self)
         ensures specs { All (λ spec. spec.kinds ≡ self.now.schema) self.now.specs }
@@ -78,7 +83,7 @@ impl Maker {
 
     /// Takes a copy of a page: makes one pair of each row and index, and spools those that make a run.
     pub fn take<S: Spool>(&mut self, image: PageImage, spools: &mut [S]) -> Result<(), Fault>
-        requires rows { (rows : ℕ → Option (List Cell)) × HasRows self.old.schema image rows }
+        requires schema { image.schema ≡ self.old.schema }
         requires spools { length spools.old ≡ length self.old.specs }
         requires ready { AreReady (map S.runs spools.old) (map S.open_run spools.old) }
         ensures taken { OnOk result (Takes self.old.specs image
@@ -92,6 +97,7 @@ impl Maker {
         ensures full { IfErr result (NoPageOnlyIf (HasFull S.is_full spools.new)) }
         ensures want { IfErr result (MemoryOnlyIf (AreReady (map S.runs spools.new) (map S.open_run spools.new))) }
     {
+        image.laws();
         add_image(&image, &self.schema, &self.specs, &mut self.begun, spools)
     }
 

@@ -3,7 +3,6 @@ ghost use Rattle.std.specs.Prelude.{◌≡◌, [], IfOk, OnOk, length, map};
 ghost use Rattle.spool_ledger.specs.Accounts.{new_account};
 ghost use Rattle.run_spool.specs.PlainSpools.{new_spool};
 ghost use Rattle.run_maker.specs.Making.{AreReady};
-ghost use Rattle.building.specs.ImagePairs.{EachHasRows};
 
 use building::{Copied, PagePutter, Worker, page_ring};
 use heap_table::{Heap, PageImage};
@@ -36,9 +35,7 @@ impl Bench {
 
     /// Puts a copy of a page as it is now.
     fn put(&mut self, heap: &mut Heap, build: u64, page: u32) -> Result<(), Fault>
-        requires { EachHasRows heap.old.state.schema self.old.putter.sent }
-        ensures schema { heap.new.state.schema ≡ heap.old.state.schema }
-        ensures each { EachHasRows heap.new.state.schema self.new.putter.sent }
+        ensures { heap.new.state.schema ≡ heap.old.state.schema }
     {
         let mut image = PageImage::new(heap.allocator())?;
         if page >= heap.pages() {
@@ -54,7 +51,6 @@ impl Bench {
 
     /// Takes the next copy, if one waits.
     fn digest<S: Spool>(&mut self, maker: &mut Maker, spools: &mut [S]) -> Result<usize, Fault>
-        requires each { EachHasRows maker.old.schema self.old.putter.sent }
         requires spools { length spools.old ≡ length maker.old.specs }
         requires ready { AreReady (map S.runs spools.old) (map S.open_run spools.old) }
         ensures ready { OnOk result (AreReady (map S.runs spools.new) (map S.open_run spools.new)) }
@@ -69,7 +65,6 @@ impl Bench {
     }
 
     fn seal<S: Spool>(&mut self, maker: &mut Maker, spools: &mut [S]) -> Result<usize, Fault>
-        requires each { EachHasRows maker.old.schema self.old.putter.sent }
         requires spools { length spools.old ≡ length maker.old.specs }
         requires ready { AreReady (map S.runs spools.old) (map S.open_run spools.old) }
     {
@@ -132,9 +127,7 @@ fn are_spooled<S: Spool>(alloc: Global, spool: &mut S) -> Result<bool, Fault> {
 
 /// Puts copies of both pages, and between them one for another build.
 fn put_pages(bench: &mut Bench, heap: &mut Heap) -> Result<(), Fault>
-    requires { bench.old.putter.sent ≡ [] }
-    ensures schema { heap.new.state.schema ≡ heap.old.state.schema }
-    ensures each { EachHasRows heap.new.state.schema bench.new.putter.sent }
+    ensures { heap.new.state.schema ≡ heap.old.state.schema }
 {
     bench.put(heap, 7, 0)?;
     bench.put(heap, 6, 0)?;
@@ -147,7 +140,6 @@ fn takes_all<S: Spool>(
     maker: &mut Maker,
     spools: &mut [S],
 ) -> Result<bool, Fault>
-    requires each { EachHasRows maker.old.schema bench.old.putter.sent }
     requires spools { length spools.old ≡ length maker.old.specs }
     requires ready { AreReady (map S.runs spools.old) (map S.open_run spools.old) }
 {

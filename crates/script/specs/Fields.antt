@@ -10,8 +10,8 @@ use Rattle.keybytes.specs.declared.cell.Cell.TheVariants.{Null, Int, Text, Flag}
 use Rattle.keybytes.specs.declared.kind.Kind.{Kind}
 use Rattle.keybytes.specs.declared.kind.Kind.TheVariants.{Int as IntKind, Text as TextKind, Flag as FlagKind}
 use Rattle.keybytes.specs.declared.rid.Rid.{Rid}
-use Rattle.script.specs.declared.dealing.Dealing.{Dealing}
-use Rattle.script.specs.declared.dealing.Dealing.TheVariants.{Ends, Even}
+use Rattle.scan_range.specs.declared.dealing.Dealing.{Dealing}
+use Rattle.scan_range.specs.declared.dealing.Dealing.TheVariants.{Ends, Even}
 use Rattle.script.specs.declared.spec.Spec.{Spec}
 
 -- one or more characters, all of them decimal digits

@@ -8,7 +8,7 @@ use Rattle.script.specs.Fields.{is_label, SpellsCell, SpellsDealing, SpellsKind,
 use Rattle.script.specs.declared.command_name.CommandName.{CommandName}
 use Rattle.script.specs.declared.command_name.CommandName.TheVariants.{Table, Row, Begin, Insert, Update, Delete, Undo, Commit, Get, Start, Scan, Digest, Seal}
 use Rattle.script.specs.declared.command_name.CommandName.TheVariants.{Load, Feed, Apply, Fence, Switch, Abandon, Side, Pairs, Rest}
-use Rattle.script.specs.declared.dealing.Dealing.{Dealing}
+use Rattle.scan_range.specs.declared.dealing.Dealing.{Dealing}
 use Rattle.script.specs.declared.part.Part.{Part}
 use Rattle.script.specs.declared.part.Part.TheVariants as part
 use Rattle.script.specs.declared.spec.Spec.{Spec}

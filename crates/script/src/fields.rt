@@ -3,16 +3,17 @@ ghost use Rattle.std.specs.Prelude.{◌≡◌, ℕ, List, [], ◌∷◌, IfOk, I
 ghost use Rattle.keybytes.specs.declared.cell.Cell.{Cell as CellValue};
 ghost use Rattle.keybytes.specs.declared.kind.Kind.{Kind as KindValue};
 ghost use Rattle.keybytes.specs.declared.rid.Rid.{Rid as RidValue};
-ghost use Rattle.script.specs.declared.dealing.Dealing.{Dealing as DealingValue};
+ghost use Rattle.scan_range.specs.declared.dealing.Dealing.{Dealing as DealingValue};
 ghost use Rattle.script.specs.declared.spec.Spec.{Spec as SpecValue};
 ghost use Rattle.script.specs.declared.part.Part.TheVariants as part;
 ghost use Rattle.script.specs.Shapes.{Fit};
 ghost use Rattle.script.specs.Fields.{number_of, int_of, slot_of, texts, SpellEach, SpellsCell, SpellsDealing, SpellsKind, SpellsNumbers, SpellsRid};
 ghost use Rattle.script.specs.Fields.{SpellsSpec};
 
+use crate::Spec;
 use crate::record_error::RecordError;
-use crate::{Dealing, Spec};
 use keybytes::{Cell, Kind, Rid, Text};
+use scan_range::Dealing;
 use std::alloc::Global;
 
 /// A number: decimal digits, at most 4,294,967,295.

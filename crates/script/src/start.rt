@@ -1,4 +1,5 @@
-use crate::{Dealing, Spec};
+use crate::Spec;
+use scan_range::Dealing;
 
 /// The record `start`: a build.
 #[derive(Drop)]

@@ -49,7 +49,7 @@ impl Heap {
         ensures copy { IsImage self.old.state.schema self.old.state.log page image.new }
         ensures visited { self.new.state ≡ after_visit self.old.state }
     {
-        image.take_copy(page, self.pages.page(page as usize));
+        image.take_copy(page, self.pages.page(page as usize), &self.schema);
         self.visits = self.visits.saturating_add(1);
     }
 

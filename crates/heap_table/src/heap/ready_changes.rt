@@ -74,6 +74,21 @@ impl Heap {
         ensures refused { IfErr result (RefusedFor (insert_refusal self.old.state txn row)) }
     {
         let rid = self.check_insert(txn, &row)?;
+        self.ready_insert_at(txn, rid, row)
+    }
+
+    /// The same of a row that nothing refuses, at the RID that [`Heap::check_insert`] answered.
+    pub fn ready_insert_at(&mut self, txn: u64, rid: Rid, row: Row) -> Result<Ready, Fault>
+        requires free { insert_refusal self.old.state txn row ≡ None }
+        requires place { insert_place self.old.state (length (row_bytes row)) ≡ Some rid }
+        ensures ready { IfOk result (λ ready. IsReady self.new ready) }
+        ensures writes { IfOk result (λ ready. Writes ready txn (Some row)) }
+        ensures empty { IfOk result (λ ready. ready.old ≡ None) }
+        ensures place { IfOk result (λ ready. ready.rid ≡ rid) }
+        ensures same { OnOk result (self.new.state ≡ self.old.state) }
+        ensures unchanged { OnErr result (self.new ≡ self.old) }
+        ensures memory { IfErr result (λ fault. fault ≡ Fault.Memory) }
+    {
         let bytes = row.to_bytes(&self.schema)?;
         self.reserve()?;
         Ok(Ready {
@@ -97,6 +112,19 @@ impl Heap {
         ensures refused { IfErr result (RefusedFor (update_refusal self.old.state txn rid row)) }
     {
         self.check_update(txn, rid, &row)?;
+        self.ready_update_at(txn, rid, row)
+    }
+
+    /// The same of a row that nothing refuses.
+    pub fn ready_update_at(&mut self, txn: u64, rid: Rid, row: Row) -> Result<Ready, Fault>
+        requires { update_refusal self.old.state txn rid row ≡ None }
+        ensures ready { IfOk result (λ ready. IsReady self.new ready) }
+        ensures writes { IfOk result (λ ready. Writes ready txn (Some row)) }
+        ensures place { IfOk result (λ ready. ready.rid ≡ rid) }
+        ensures same { OnOk result (self.new.state ≡ self.old.state) }
+        ensures unchanged { OnErr result (self.new ≡ self.old) }
+        ensures memory { IfErr result (λ fault. fault ≡ Fault.Memory) }
+    {
         let bytes = row.to_bytes(&self.schema)?;
         let old = self.read(rid)?;
         self.reserve()?;

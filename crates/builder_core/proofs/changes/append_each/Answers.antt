@@ -41,7 +41,7 @@ loop-change-preserved c =
       all = append_assoc c.loop-change.yielded (c.in-Some.change ∷ []) _ ∙ ap (λ es. c.loop-change.yielded ++ es) (sym rest) ∙ inv.all;
       counted = omega (arith, inv.counted, length-append c.loop-change.yielded (c.in-Some.change ∷ []));
       done = more_appended c.args.build c.args.rid c.loop-change.yielded c.in-Some.change c.args.sides.now.items c.loop-change.sides.items c.loop-change.k old new inv.counted
-          inv.done there c.append.ensures.fed c.append.ensures.left;
+          inv.done there c.append.ensures.fed c.append.ensures.left c.append.ensures.end;
       ends = kept (λ (s : SideFileValue). s.end) c.loop-change.sides.items _ c.loop-change.k new old inv.ends
           (c.append.ensures.end ∙ ap (λ (s : SideFileValue). s.end) c.index_mut.ensures.value);
       room = λ k side more below at. elim (at_set c.loop-change.sides.items c.loop-change.k new k side at) [

@@ -4,7 +4,7 @@ use Rattle.side_file.specs.SideFileValue.{SideFileValue}
 use Rattle.builder_core.specs.Changing.{HaveAppended, HaveNoted, without_room}
 use Rattle.builder_core.specs.SideFiles.{put_ends}
 use Rattle.builder_core.proofs.Places.{mapped}
-use Rattle.builder_core.specs.CoreState.{BuildState}
+use Rattle.build_events.specs.CoreState.{BuildState}
 use Rattle.builder_core.proofs.Noting.{all_noted, noted_over}
 use Rattle.builder_core.proofs.changes.note.Goals as goal
 

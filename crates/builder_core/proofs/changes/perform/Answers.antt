@@ -1,4 +1,4 @@
-use Rattle.std.proofs.Common.{◌≡◌, length, sym, subst}
+use Rattle.std.proofs.Common.{◌≡◌, length, sym, subst, ap, ◌∙◌, refl}
 use Rattle.heap_table.specs.HeapState.{HeapState}
 use Rattle.heap_table.specs.Pages.{SetsRow}
 use Rattle.side_file.specs.SideFileValue.{SideFileValue}
@@ -6,7 +6,7 @@ use Rattle.builder_core.specs.Builds.{BuildFollows, IsWorkOf}
 use Rattle.builder_core.specs.Rings.{PagesFollow}
 use Rattle.builder_core.specs.SideFiles.{SidesFollow}
 use Rattle.builder_core.proofs.Places.{as_long}
-use Rattle.builder_core.proofs.Performed.{follows_on, sides_follow_on, fits_build, fits_each, few_specs, pages_on, works_on}
+use Rattle.builder_core.proofs.Performed.{schema_is, follows_on, sides_follow_on, fits_build, fits_each, few_specs, pages_on, works_on}
 use Rattle.builder_core.proofs.SideKept.{sides_stay}
 use Rattle.builder_core.proofs.changes.perform.Goals as goal
 
@@ -53,6 +53,7 @@ returns-clause-heard c =
           (pages_on heap ready c.requires.ready lawful rows builds build all was.follows put);
       works = λ work works. subst (λ (h : HeapState). IsWorkOf h.schema h.log build work) (sym done)
           (works_on heap ready c.requires.ready lawful rows build work was.follows works);
+      columns = ap (λ (h : HeapState). h.schema) done ∙ schema_is heap ready c.requires.ready lawful rows;
     }
 
 pub returns-in_err-note-clause-heard : goal.returns-in_err-note-clause-heard
@@ -63,4 +64,5 @@ returns-in_err-note-clause-heard c = record {
   ends = c.note.ensures.ends;
   put = λ builds all put. put;
   works = λ work works. works;
+  columns = refl;
 }

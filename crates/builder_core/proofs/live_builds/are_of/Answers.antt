@@ -5,7 +5,7 @@ use Rattle.std.proofs.lemmas.List.{take_all}
 use Rattle.std.proofs.lemmas.List.Folds.{list_all_at, list_all_more}
 use Rattle.keybytes.specs.Keys.{KeySpecValue}
 use Rattle.keybytes.specs.declared.kind.Kind.{Kind}
-use Rattle.builder_core.specs.BuildSteps.{same_kinds}
+use Rattle.keybytes.specs.Schemas.{same_kinds}
 use Rattle.builder_core.proofs.Starts.{kinds_differ, kinds_agree, each_agrees}
 use Rattle.builder_core.proofs.live_builds.are_of.Goals as goal
 

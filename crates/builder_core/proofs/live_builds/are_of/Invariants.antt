@@ -1,6 +1,6 @@
 use Rattle.std.proofs.Common.{◌≡◌, true, take}
 use Rattle.std.specs.List.{list_all}
-use Rattle.builder_core.specs.BuildSteps.{same_kinds}
+use Rattle.keybytes.specs.Schemas.{same_kinds}
 use Rattle.builder_core.proofs.live_builds.are_of.Given as goal
 
 abbrev pub invariant-loop-spec : goal.invariant-loop-spec

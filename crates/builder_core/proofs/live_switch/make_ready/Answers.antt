@@ -1,10 +1,10 @@
-use Rattle.std.proofs.Common.{rules, ◌≡◌, ◌∙◌, ◌++◌, ◌∷◌, [], List, Option, length, append_assoc, refl, sym, ap, subst, arith}
+use Rattle.std.proofs.Common.{rules, true, ◌≡◌, ◌∙◌, ◌++◌, ◌∷◌, [], List, Option, length, append_assoc, refl, sym, ap, subst, arith}
 use Rattle.std.specs.Prelude.{IfSome, IsSome}
 use Rattle.std.specs.List.{All}
 use Rattle.std.proofs.lemmas.List.{append-nil, nil_from_length}
-use Rattle.std.proofs.lemmas.List.Elements.{All-head, All-tail}
+use Rattle.std.proofs.lemmas.List.Elements.{All-cons, All-head, All-nil, All-tail}
 use Rattle.catch_up.specs.Built.{BuiltValue}
-use Rattle.keybytes.specs.Keys.{KeySpecValue}
+use Rattle.keybytes.specs.Keys.{KeySpecValue, are_key_columns}
 use Rattle.keybytes.specs.declared.pair.Pair.{Pair}
 use Rattle.ready_indexes.specs.Following.{MayFollow, indexes_of}
 use Rattle.ready_indexes.specs.Indexes.{IsIndex, ReadyValue}
@@ -13,6 +13,10 @@ use Rattle.builder_core.specs.CatchingUp.{ready_of, built_pairs}
 use Rattle.builder_core.proofs.MadeReady.{ready_more, ready_same}
 use Rattle.builder_core.proofs.SwitchIn.{first_done, none_done}
 use Rattle.builder_core.proofs.live_switch.make_ready.Goals as goal
+
+-- its columns make a key
+abbrev HasKey : KeySpecValue → Type 0
+HasKey spec = are_key_columns spec.kinds spec.columns ≡ true
 
 pub loop-spec-init : goal.loop-spec-init
 loop-spec-init c = search rules
@@ -70,6 +74,7 @@ loop-spec-preserved-then-is_accepted c =
             c.push.ensures.follow heap first old.0,
             All-tail May it (ready_of specs indexes) all,
           );
+      keys = λ rest. c.loop-spec.invariant.keys (subst (All HasKey) (sym c.in-Some.ensures.steps.0) (All-cons HasKey c.in-Some.spec specs c.columns-columns.ensures.key rest));
     }
 
 pub loop-spec-preserved : goal.loop-spec-preserved
@@ -88,6 +93,7 @@ loop-spec-preserved c =
       follow = λ heap may were.
           let old = c.loop-spec.invariant.follow heap may were in
           (old.0, subst (λ (xs : List ReadyValue). All (λ (it : ReadyValue). MayFollow heap it.spec it.pairs) xs) same old.1);
+      keys = λ rest. c.loop-spec.invariant.keys (subst (All HasKey) (sym c.in-Some.ensures.steps.0) (All-cons HasKey c.in-Some.spec specs c.columns-columns.ensures.key rest));
     }
 
 pub returns-clause-ready : goal.returns-clause-ready
@@ -98,3 +104,8 @@ returns-clause-ready c =
 
 pub returns-clause-follow : goal.returns-clause-follow
 returns-clause-follow c heap may were = (c.loop-spec.invariant.follow heap may were).0
+
+pub returns-clause-keys : goal.returns-clause-keys
+returns-clause-keys c =
+    let none : c.loop-spec.spec-iterator.rest.items ≡ [] = nil_from_length c.loop-spec.spec-iterator.rest.items (search rules) in
+    c.loop-spec.invariant.keys (subst (All HasKey) (sym none) (All-nil HasKey))

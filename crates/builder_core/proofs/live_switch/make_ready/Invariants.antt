@@ -1,5 +1,6 @@
-use Rattle.std.proofs.Common.{◌≡◌, ◌++◌, ◌≤◌, length}
+use Rattle.std.proofs.Common.{◌≡◌, ◌++◌, ◌≤◌, length, true}
 use Rattle.std.specs.List.{All, AllZip}
+use Rattle.keybytes.specs.Keys.{are_key_columns}
 use Rattle.heap_table.specs.HeapState.{HeapState}
 use Rattle.ready_indexes.specs.Following.{AllFollow, MayFollow, indexes_of}
 use Rattle.builder_core.specs.CatchingUp.{IsDoneIndex, ready_of}
@@ -15,4 +16,7 @@ invariant-loop-spec l = record {
       → AllFollow heap.schema heap.log l.initial.ready.indexes
       → AllFollow heap.schema heap.log l.ready.indexes
       × All (λ it. MayFollow heap it.spec it.pairs) (ready_of l.spec-iterator.rest.items l.indexes.rest.items);
+  -- where the columns of those that are left make keys, those of all do
+  keys : All (λ spec. are_key_columns spec.kinds spec.columns ≡ true) l.spec-iterator.rest.items
+      → All (λ spec. are_key_columns spec.kinds spec.columns ≡ true) l.fn.specs.items;
 }

@@ -1,7 +1,7 @@
 use Rattle.std.proofs.Common.{◌≡◌, ◌+◌, ◌++◌, ◌≤◌, drop, length, vec_capacity}
 use Rattle.std.specs.Prelude.{map}
 use Rattle.builder_core.specs.CatchingUp.{its_verdict}
-use Rattle.builder_core.specs.Verdicts.{outcomes}
+use Rattle.build_events.specs.Verdicts.{outcomes}
 use Rattle.builder_core.proofs.live_switch.verdicts_from.Given as goal
 
 abbrev pub invariant-loop-index : goal.invariant-loop-index

@@ -11,7 +11,7 @@ use Rattle.heap_table.specs.TablePairs.{pair_of, pairs_on, pairs_from, index_pai
 use Rattle.keybytes.specs.Pairs.{HaveKeysOf, AreInColumnOrder}
 use Rattle.heap_table.proofs.KeysAtRest.{keys_at_rest}
 use Rattle.keybytes.proofs.ColumnOrder.{column_order}
-use Rattle.builder_core.proofs.Making.{rows_pairs, rows_fit_page, page_more, visits_only, visit_more, visits_changed}
+use Rattle.build_events.proofs.Making.{rows_pairs, rows_fit_page, page_more, visits_only, visit_more, visits_changed}
 use Rattle.heap_table.proofs.PairsAtRest.{in_order}
 use Rattle.builder_core.proofs.rest.at_rest.Goals as goal
 

@@ -1,6 +1,6 @@
 use Rattle.std.proofs.Common.{◌≡◌}
 use Rattle.heap_table.specs.TablePairs.{pairs_from}
-use Rattle.builder_core.specs.CoreState.{after_visits}
+use Rattle.build_events.specs.CoreState.{after_visits}
 use Rattle.builder_core.proofs.rest.at_rest.Given as goal
 
 abbrev pub invariant-loop-page : goal.invariant-loop-page

@@ -1,11 +1,11 @@
 use Rattle.std.proofs.Common.{◌≡◌, ◌+◌, ◌++◌, ◌∷◌, [], List, take, ap, sym, subst, ◌∙◌, arith}
 use Rattle.std.proofs.lemmas.List.{take_all, take_more}
-use Rattle.builder_core.specs.declared.event.Event.{Event}
-use Rattle.builder_core.specs.CoreState.{opening}
+use Rattle.build_events.specs.declared.event.Event.{Event}
+use Rattle.build_events.specs.CoreState.{opening}
 use Rattle.builder_core.specs.Holding.{spools_in}
-use Rattle.builder_core.specs.Steps.{Run}
-use Rattle.builder_core.proofs.Runs.{run_more}
-use Rattle.builder_core.proofs.Switching.{each_switch, run_stakes}
+use Rattle.build_events.specs.Steps.{Run}
+use Rattle.build_events.proofs.Runs.{run_more}
+use Rattle.build_events.proofs.Switching.{each_switch, run_stakes}
 use Rattle.builder_core.proofs.run.run_events.Goals as goal
 
 pub loop-event-preserved : goal.loop-event-preserved

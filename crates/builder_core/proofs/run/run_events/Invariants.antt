@@ -1,8 +1,8 @@
 use Rattle.std.proofs.Common.{◌≡◌, ◌≤◌, length, take}
 use Rattle.std.specs.Vec.{vec_capacity}
-use Rattle.builder_core.specs.CoreState.{opening}
+use Rattle.build_events.specs.CoreState.{opening}
 use Rattle.builder_core.specs.Holding.{spools_in}
-use Rattle.builder_core.specs.Steps.{Run}
+use Rattle.build_events.specs.Steps.{Run}
 use Rattle.builder_core.proofs.run.run_events.Given as goal
 
 abbrev pub invariant-loop-event : goal.invariant-loop-event

@@ -12,17 +12,9 @@ use Rattle.builder_core.specs.Holding.{Digested}
 use Rattle.builder_core.specs.Rings.{take_rings}
 use Rattle.builder_core.specs.Working.{one_copy}
 use Rattle.builder_core.proofs.FullSpools.{lent_full}
-use Rattle.builder_core.proofs.OneKit.{if_ok, lent_ready, lent_many, its_rows, has_taken, stakes_back}
+use Rattle.builder_core.proofs.OneKit.{if_ok, lent_ready, lent_many, has_taken, stakes_back}
 use Rattle.builder_core.proofs.Places.{kept}
 use Rattle.builder_core.proofs.taking.digest_at.Goals as goal
-
-pub digest-taken-requires-clause-rows : goal.digest-taken-requires-clause-rows
-digest-taken-requires-clause-rows g c =
-    its_rows g.S.Spool.runs g.S.Spool.open_run g.S.Spool.stake c.args.specs.now c.args.worker one_copy c.args.workers.now.items c.args.makers.now.items
-    c.args.spools.now.items c.requires c.split_at_mut-own.result.0.now
-    (c.split_at_mut-own.ensures.front ∙ ap (take (length c.args.specs.now))
-    (c.split_at_mut-rest.ensures.back ∙ ap (drop (c.args.worker * length c.args.specs.now)) c.as_mut_slice.ensures.value))
-    c.index_mut-maker.result.now c.index_mut-maker.ensures.value c.index_mut.result.now c.index_mut.ensures.value
 
 pub digest-taken-requires-clause-spools : goal.digest-taken-requires-clause-spools
 digest-taken-requires-clause-spools g c =
@@ -88,9 +80,9 @@ returns-clause-taken g c =
     c.index_mut.ensures.value new left taken.schema taken.specs c.laws.ensures.begun c.laws.ensures.short
     (IfOk-at_ok (λ _. AreReady (map runs left) (map g.S.Spool.open_run left)) ok taken.ready) taken.sorted taken.stakes
     (λ (w : WorkerValue). w) TakesAll Digested (λ images all. all)
-    (IfOk-at_ok (λ _. TakesAll maker.specs (next_images (one_copy it) it) before behind) ok taken.holds)
-    images (IfOk-at_ok (λ n. n ≡ length (next_images (one_copy it) it)) ok taken.count)
-    c.digest-taken.new.self (IfOk-at_ok (λ _. c.digest-taken.new.self ≡ after_digest (one_copy it) it) ok taken.taken)
+    (IfOk-at_ok (λ _. TakesAll maker.specs (next_images (one_copy it) maker.schema it) before behind) ok taken.holds)
+    images (IfOk-at_ok (λ n. n ≡ length (next_images (one_copy it) maker.schema it)) ok taken.count)
+    c.digest-taken.new.self (IfOk-at_ok (λ _. c.digest-taken.new.self ≡ after_digest (one_copy it) maker.schema it) ok taken.taken)
     c.args.spools.now.len c.split_at_mut-rest.result.0.now c.split_at_mut-own.result.1.now _ (omega (arith, c.args.spools.now.ok))
     (c.split_at_mut-rest.ensures.front ∙ ap (take (c.args.worker * n)) c.as_mut_slice.ensures.value)
     (c.split_at_mut-own.ensures.back ∙ ap (drop n) rest))

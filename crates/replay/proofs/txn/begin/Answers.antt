@@ -1,6 +1,10 @@
-use Rattle.replay.proofs.Replies.{begun}
+use Rattle.build_events.proofs.Answered.{answered_done, answered_refused}
+use Rattle.build_events.specs.declared.event.Event.TheVariants.{Begin}
+use Rattle.build_events.specs.declared.reply.Reply.TheVariants.{Begun}
 use Rattle.replay.proofs.txn.begin.Goals as goal
 
-pub unreachable-requires : goal.unreachable-requires
-unreachable-requires g c =
-    begun c.args.bench.now c.step.new.self c.step.result c.step.ensures.step c.in_default.not-Begun c.in_default.not-Refused
+pub returns-clause-ok : goal.returns-clause-ok
+returns-clause-ok g c = answered_done Begun c.args.bench.now Begin c.begin.result c.begin.new.self c.begin.ensures
+
+pub returns-clause-refused : goal.returns-clause-refused
+returns-clause-refused g c = answered_refused Begun c.args.bench.now Begin c.begin.result c.begin.new.self c.begin.ensures

@@ -1,6 +1,6 @@
 use Rattle.std.proofs.Common.{◌≡◌, ◌∙◌, IsSome, true, refl, ap, map, subst}
 use Rattle.builder_core.specs.Builds.{LiveValue, BuildingValue, core_state}
-use Rattle.builder_core.specs.CoreState.{CoreState, SpoolsState, abandoned, idle, opening}
+use Rattle.build_events.specs.CoreState.{CoreState, SpoolsState, abandoned, idle, opening}
 use Rattle.builder_core.specs.Holding.{ended_spool}
 use Rattle.builder_core.proofs.OneWorker.{ended_stakes}
 use Rattle.builder_core.proofs.Refusals.{builds_on, given_to}

@@ -1,8 +1,8 @@
 use Rattle.std.proofs.Common.{◌≡◌, None, subst}
 use Rattle.heap_table.specs.Calls.{Inserts}
-use Rattle.builder_core.specs.CoreState.{CoreState}
-use Rattle.builder_core.specs.Steps.{row_refusal}
-use Rattle.builder_core.specs.declared.reply.Reply.TheVariants.{Written}
+use Rattle.build_events.specs.CoreState.{CoreState}
+use Rattle.build_events.specs.Steps.{row_refusal}
+use Rattle.build_events.specs.declared.reply.Reply.TheVariants.{Written}
 use Rattle.builder_core.proofs.Told.{tells_on_live}
 use Rattle.builder_core.proofs.core_steps.Core.insert.Goals as goal
 

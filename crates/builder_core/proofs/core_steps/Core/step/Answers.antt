@@ -1,14 +1,12 @@
 use Rattle.std.proofs.Common.{Option, length, sym, subst}
-use Rattle.heap_table.specs.Kept.{RowsFit}
-use Rattle.builder_core.specs.Builds.{BuildFollows}
-use Rattle.builder_core.specs.CoreState.{CoreState, BuildState}
-use Rattle.builder_core.specs.BuildSteps.{OnBuild}
-use Rattle.builder_core.specs.Steps.{Step}
-use Rattle.builder_core.specs.Verdicts.{HaveSharedKeys}
-use Rattle.builder_core.specs.declared.reply.Reply.{Reply}
+use Rattle.build_events.specs.CoreState.{CoreState, BuildState}
+use Rattle.build_events.specs.BuildSteps.{OnBuild}
+use Rattle.build_events.specs.Steps.{Step}
+use Rattle.build_events.specs.Verdicts.{HaveSharedKeys}
+use Rattle.build_events.specs.declared.reply.Reply.{Reply}
 use Rattle.builder_core.proofs.PageCauses.{wanted_page}
-use Rattle.builder_core.proofs.SharedKeys.{shared_keys}
-use Rattle.builder_core.proofs.Switching.{step_stakes, switches}
+use Rattle.build_events.proofs.SharedKeys.{shared_keys}
+use Rattle.build_events.proofs.Switching.{step_stakes, switches}
 use Rattle.builder_core.proofs.Told.{stepped}
 use Rattle.builder_core.proofs.core_steps.Core.step.Goals as goal
 
@@ -24,12 +22,8 @@ returns-clause-keys g c = λ number verdicts is.
     let s : CoreState = c.args.self.now in
     let step = subst (λ (r : Reply). Step s c.args.event r c.attempt_own-answer.new.self) is (returns-clause-step g c) in
     let switch = switches s c.args.event number verdicts c.attempt_own-answer.new.self step in
-    let rows : RowsFit s.live.heap.schema s.live.heap.log = subst (λ (t : CoreState). RowsFit t.live.heap.schema t.live.heap.log) c.self.view_is c.rows.ensures.rows in
-    let follows : BuildFollows s.live.heap.schema s.live.heap.log s.live.build =
-    subst (λ (t : CoreState). BuildFollows t.live.heap.schema t.live.heap.log t.live.build) c.self.view_is c.rows.ensures.follows in
-    let its = subst (BuildFollows s.live.heap.schema s.live.heap.log) switch.running follows in
     subst (λ (o : Option BuildState). OnBuild o (λ b. HaveSharedKeys b.specs verdicts)) (sym switch.running)
-    (subst (HaveSharedKeys switch.build.specs) (sym switch.verdicts_are) (shared_keys s.live.heap.schema s.live.heap.log (length s.live.ready) switch.build.specs rows its.columns))
+    (subst (HaveSharedKeys switch.build.specs) (sym switch.verdicts_are) (shared_keys s.live.heap.log (length s.live.ready) switch.build.specs switch.keyed))
 
 pub returns-clause-full : goal.returns-clause-full
 returns-clause-full g c =

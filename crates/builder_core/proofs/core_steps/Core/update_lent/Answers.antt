@@ -2,9 +2,9 @@ use Rattle.std.proofs.Common.{◌≡◌, ℕ, None, List, sym, subst}
 use Rattle.keybytes.specs.declared.cell.Cell.{Cell}
 use Rattle.keybytes.specs.declared.rid.Rid.{Rid}
 use Rattle.heap_table.specs.Calls.{Updates}
-use Rattle.builder_core.specs.CoreState.{CoreState}
-use Rattle.builder_core.specs.Steps.{change_refusal, OnRows}
-use Rattle.builder_core.specs.declared.reply.Reply.TheVariants.{Written}
+use Rattle.build_events.specs.CoreState.{CoreState}
+use Rattle.build_events.specs.Steps.{change_refusal, OnRows}
+use Rattle.build_events.specs.declared.reply.Reply.TheVariants.{Written}
 use Rattle.builder_core.proofs.Told.{tells_on_live}
 use Rattle.builder_core.proofs.core_steps.Core.update_lent.Goals as goal
 

@@ -3,7 +3,7 @@ use Rattle.std.proofs.lemmas.Bool.{cases_lt}
 use Rattle.std.proofs.lemmas.Option.{same_Some}
 use Rattle.builder_core.specs.Builds.{BuildingValue, BuildFollows, core_state}
 use Rattle.builder_core.specs.CatchingUp.{left_at}
-use Rattle.builder_core.specs.CoreState.{BuildState}
+use Rattle.build_events.specs.CoreState.{BuildState}
 use Rattle.builder_core.proofs.CatchingUp.{begins, catches_up, all_further, others_left, may_apply_at, none_left}
 use Rattle.builder_core.proofs.live.Live.catch_up.Goals as goal
 

@@ -1,7 +1,7 @@
 use Rattle.std.proofs.Common.{◌<◌, ◌∙◌, subst}
 use Rattle.builder_core.specs.Builds.{LiveValue, BuildingValue, core_state}
 use Rattle.builder_core.specs.CatchingUp.{IndexIsFurther, left_at}
-use Rattle.builder_core.specs.CoreState.{CoreState}
+use Rattle.build_events.specs.CoreState.{CoreState}
 use Rattle.builder_core.proofs.ApplyCauses.{applies_next}
 use Rattle.builder_core.proofs.IndexFurther.{further_from, applies_on, fed_further, applied_further, some_further, fewer_left, runs_on, index_on}
 use Rattle.builder_core.proofs.Feeding.{state_side_looked, works_side_looked}

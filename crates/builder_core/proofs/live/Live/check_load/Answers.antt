@@ -1,10 +1,10 @@
 use Rattle.std.proofs.Common.{rules, ◌≡◌, ◌<◌, None, Some, Option, IfSome, ℕ, length, ap, subst, arith}
 use Rattle.keybytes.specs.declared.fault.Fault.TheVariants.{NotSealed}
 use Rattle.builder_core.specs.Builds.{LiveValue, BuildingValue, WorkValue}
-use Rattle.builder_core.specs.CoreState.{BuildState, CoreState}
-use Rattle.builder_core.specs.Ranges.{open_range}
+use Rattle.build_events.specs.CoreState.{BuildState, CoreState}
+use Rattle.build_events.specs.Ranges.{open_range}
 use Rattle.builder_core.specs.Rings.{all_sent, AreDone, IsUnfinished}
-use Rattle.builder_core.specs.BuildSteps.{build_cause, load_refusal}
+use Rattle.build_events.specs.BuildSteps.{build_cause, load_refusal}
 use Rattle.builder_core.proofs.LoadCauses.{load_free, load_loud}
 use Rattle.builder_core.proofs.Looked.{works_looked, state_looked, runs_looked}
 use Rattle.builder_core.proofs.Refusals.{running}

@@ -6,10 +6,11 @@ use Rattle.keybytes.specs.Keys.{KeySpecValue}
 use Rattle.keybytes.specs.declared.kind.Kind.{Kind}
 use Rattle.heap_table.specs.Pages.{pages_written}
 use Rattle.builder_core.specs.Builds.{LiveValue, core_state}
-use Rattle.builder_core.specs.CoreState.{LiveState, SpoolsState}
-use Rattle.builder_core.specs.Ranges.{dealing_refusal}
-use Rattle.builder_core.specs.BuildSteps.{counts_fit, same_kinds}
-use Rattle.builder_core.specs.declared.plan.Plan.{Plan}
+use Rattle.build_events.specs.CoreState.{LiveState, SpoolsState}
+use Rattle.scan_range.specs.Dealings.{dealing_refusal}
+use Rattle.build_events.specs.BuildSteps.{counts_fit}
+use Rattle.keybytes.specs.Schemas.{same_kinds}
+use Rattle.build_events.specs.declared.plan.Plan.{Plan}
 use Rattle.builder_core.proofs.Starts.{bad_column, bad_ranges, bad_spools, nothing_bad}
 use Rattle.builder_core.proofs.live.Live.check_plan.Goals as goal
 
@@ -30,8 +31,8 @@ returns-then-not-are_of-clause-refused g c =
     let columns = same_columns c.deref.result.now plan.specs.items c.schema.result.now live.heap.schema false c.deref.ensures.value schema c.if-not-are_of.ensures.same in
     bad_column live spools plan still counts columns
 
-pub returns-in_err-check_dealing-clause-refused : goal.returns-in_err-check_dealing-clause-refused
-returns-in_err-check_dealing-clause-refused g c =
+pub returns-in_err-check-clause-refused : goal.returns-in_err-check-clause-refused
+returns-in_err-check-clause-refused g c =
     let live : LiveState = c.args.self.now.state in
     let spools : SpoolsState = (core_state c.args.self.now c.args.building.now).spools in
     let plan : Plan = c.args.plan.now in
@@ -40,7 +41,7 @@ returns-in_err-check_dealing-clause-refused g c =
     let schema : c.schema.result.now ≡ live.heap.schema = c.schema.ensures ∙ ap (λ (l : LiveValue). l.state.heap.schema) c.self.view_is in
     let columns = same_columns c.deref.result.now plan.specs.items c.schema.result.now live.heap.schema true c.deref.ensures.value schema c.if-not-are_of.ensures.same in
     let pages : c.pages.result ≡ pages_written live.heap.log = c.pages.ensures.pages ∙ ap (λ (l : LiveValue). pages_written l.state.heap.log) c.self.view_is in
-    let cause = sym (ap (λ n. dealing_refusal n plan.dealing) pages) ∙ c.in_err-check_dealing.ensures in
+    let cause = sym (ap (λ n. dealing_refusal n plan.dealing) pages) ∙ c.in_err-check.ensures in
     let told = err_from_is_err_and c.from_residual.result c.from_residual.ensures.1 in
     rw (told.1, told.2) (bad_ranges live spools plan still counts columns _ cause)
 
@@ -54,7 +55,7 @@ returns-clause-accepted g c =
     let schema : c.schema.result.now ≡ live.heap.schema = c.schema.ensures ∙ ap (λ (l : LiveValue). l.state.heap.schema) c.self.view_is in
     let columns = same_columns c.deref.result.now plan.specs.items c.schema.result.now live.heap.schema true c.deref.ensures.value schema c.if-not-are_of.ensures.same in
     let pages : c.pages.result ≡ pages_written live.heap.log = c.pages.ensures.pages ∙ ap (λ (l : LiveValue). pages_written l.state.heap.log) c.self.view_is in
-    let ranges = sym (ap (λ n. dealing_refusal n plan.dealing) pages) ∙ c.in_ok-check_dealing.ensures in
+    let ranges = sym (ap (λ n. dealing_refusal n plan.dealing) pages) ∙ c.in_ok-check.ensures in
     nothing_bad live spools plan still counts columns ranges (sym {b = list_all (λ (is_empty : Bool). is_empty) spools.left} c.if-not-are_left_empty.ensures)
 
 pub returns-then-not-are_left_empty-clause-refused : goal.returns-then-not-are_left_empty-clause-refused
@@ -67,5 +68,5 @@ returns-then-not-are_left_empty-clause-refused g c =
     let schema : c.schema.result.now ≡ live.heap.schema = c.schema.ensures ∙ ap (λ (l : LiveValue). l.state.heap.schema) c.self.view_is in
     let columns = same_columns c.deref.result.now plan.specs.items c.schema.result.now live.heap.schema true c.deref.ensures.value schema c.if-not-are_of.ensures.same in
     let pages : c.pages.result ≡ pages_written live.heap.log = c.pages.ensures.pages ∙ ap (λ (l : LiveValue). pages_written l.state.heap.log) c.self.view_is in
-    let ranges = sym (ap (λ n. dealing_refusal n plan.dealing) pages) ∙ c.in_ok-check_dealing.ensures in
+    let ranges = sym (ap (λ n. dealing_refusal n plan.dealing) pages) ∙ c.in_ok-check.ensures in
     bad_spools live spools plan still counts columns ranges (sym {b = list_all (λ (is_empty : Bool). is_empty) spools.left} c.if-not-are_left_empty.ensures)

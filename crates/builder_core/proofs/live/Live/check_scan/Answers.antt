@@ -1,8 +1,8 @@
 use Rattle.std.proofs.Common.{◌≡◌, ◌∙◌, true, ap, sym, arith}
 use Rattle.std.specs.Prelude.{is_some}
 use Rattle.builder_core.specs.Builds.{LiveValue, WorkValue, IsRunning}
-use Rattle.builder_core.specs.CoreState.{BuildState}
-use Rattle.builder_core.specs.Ranges.{next_page}
+use Rattle.build_events.specs.CoreState.{BuildState}
+use Rattle.build_events.specs.Ranges.{next_page}
 use Rattle.builder_core.proofs.Refusals.{running}
 use Rattle.builder_core.proofs.ScanCauses.{ring_full, has_place}
 use Rattle.builder_core.proofs.Looked.{works_looked, state_looked}

@@ -1,8 +1,8 @@
 use Rattle.std.proofs.Common.{rules, ◌≡◌, Option, None, Some, sym, subst, arith}
 use Rattle.std.specs.Prelude.{MatchResult}
 use Rattle.keybytes.specs.declared.fault.Fault.{Fault}
-use Rattle.builder_core.specs.CoreState.{BuildState}
-use Rattle.builder_core.specs.Ranges.{open_range}
+use Rattle.build_events.specs.CoreState.{BuildState}
+use Rattle.build_events.specs.Ranges.{open_range}
 use Rattle.builder_core.proofs.Refusals.{running}
 use Rattle.builder_core.proofs.Unloaded.{one_unloaded, too_far_behind, waits_for_writers}
 use Rattle.builder_core.proofs.live.Live.check_switch.Goals as goal

@@ -5,8 +5,9 @@ use Rattle.heap_log.specs.declared.record.LogRec.TheVariants.{Commit}
 use Rattle.ready_indexes.specs.Following.{AllFollow, GoesOn}
 use Rattle.builder_core.specs.Builds.{LiveValue, WorksOn}
 use Rattle.builder_core.specs.Rings.{all_sent}
-use Rattle.builder_core.proofs.Following.{committed, commit_follows, commit_pages, commit_sides, commit_works, refused_same}
+use Rattle.builder_core.proofs.Following.{committed, commit_follows, commit_pages, commit_sides, commit_workers, commit_works, refused_same}
 use Rattle.builder_core.proofs.live.Live.commit.Goals as goal
+use Rattle.builder_core.specs.SideFiles.{put_ends}
 
 pub invariant_of-self : goal.invariant_of-self
 invariant_of-self g c =
@@ -29,7 +30,7 @@ returns-clause-works g c = λ building works.
     let before = subst (λ (l : LiveValue). WorksOn l building) (sym c.self.view_is) works in
     record {
       work = commit_works old.heap.state c.commit.new.self.state c.args.txn old.build building.work done c.self.invariant.1 before.work;
-      workers = before.workers;
+      workers = commit_workers old.heap.state c.commit.new.self.state c.args.txn old.pages.items (put_ends old.sides.items) building old.build building.work done before.workers;
     }
 
 pub invariant_of-self-2 : goal.invariant_of-self-2

@@ -5,15 +5,15 @@ use Rattle.side_file.specs.Ends.{PutEnd}
 use Rattle.run_spool.specs.Spools.{NoPageOnlyIf}
 use Rattle.building.specs.declared.copied.Copied.{Copied}
 use Rattle.builder_core.specs.Builds.{LiveValue, BuildingValue, core_state}
-use Rattle.builder_core.specs.CoreState.{CoreState}
+use Rattle.build_events.specs.CoreState.{CoreState}
 use Rattle.builder_core.specs.FullSpools.{WasFull, WorkerWasFull}
 use Rattle.builder_core.specs.Holding.{stakes_of}
-use Rattle.builder_core.specs.BuildSteps.{Waits, Digests}
-use Rattle.builder_core.specs.Steps.{spoiled_by}
+use Rattle.build_events.specs.BuildSteps.{Waits, Digests}
+use Rattle.build_events.specs.Steps.{spoiled_by}
 use Rattle.builder_core.proofs.FullSpools.{full_in_build}
 use Rattle.builder_core.proofs.Looked.{works_looked, state_looked, runs_looked}
 use Rattle.builder_core.proofs.Places.{map_at}
-use Rattle.builder_core.proofs.Takes.{can_read, its_kit, its_spools, put_of, spoiled_after}
+use Rattle.builder_core.proofs.Takes.{its_kit, its_spools, put_of, spoiled_after}
 use Rattle.builder_core.proofs.Taken.{works_after, digests_after, digests_none, waits_some, on_err}
 use Rattle.builder_core.proofs.live.Live.digest.Goals as goal
 
@@ -41,7 +41,6 @@ digest-requires g c =
         lent = its_spools live building may.build may.work run may.fine put c.args.worker sees.end.sent sees.it may.there there sees.there sees.in_order;
         fit = kit.2;
         seen = omega (arith, sees.seen, c.if-look-eq0.false);
-        rows = can_read live building may.build may.work run may.fine put c.args.worker sees.end.sent sees.it may.there there sees.there sees.in_order 1;
       };
     }
 

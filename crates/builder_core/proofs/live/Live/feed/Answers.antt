@@ -1,23 +1,28 @@
-use Rattle.std.proofs.Common.{ℕ, ◌+◌, ◌<◌, ◌≤◌, List, length, set, min, Option, Some, ◌≡◌, refl, sym, ap, ◌∙◌, subst, arith}
-use Rattle.std.proofs.lemmas.List.{map-set}
+use Rattle.std.proofs.Common.{ℕ, ◌+◌, ◌<◌, ◌≤◌, List, length, set, min, Option, Some, ◌≡◌, refl, sym, ap, ◌∙◌, subst, arith, ◌++◌, take, drop}
+use Rattle.std.proofs.lemmas.List.{map-set, take-map}
 use Rattle.std.proofs.lemmas.Option.{same_Some}
 use Rattle.std.specs.List.{slice_get}
 use Rattle.heap_table.specs.HeapState.{HeapState}
 use Rattle.side_file.specs.Ends.{PutEnd}
 use Rattle.side_file.specs.SideFileValue.{SideFileValue}
 use Rattle.side_file.specs.declared.entry.Entry.{Entry}
-use Rattle.builder_core.specs.Builds.{LiveValue, IsBuildOf, IsWorkOf, BuildFollows, WorkersFollow, WorksOn, HasFed}
-use Rattle.builder_core.specs.CoreState.{BuildState}
+use Rattle.builder_core.specs.Builds.{LiveValue, IsBuildOf, IsWorkOf, BuildFollows, WorkersFollow, WorksOn, HasFed, next_entries}
+use Rattle.build_events.specs.CoreState.{BuildState, scanning_of}
 use Rattle.builder_core.specs.Rings.{all_sent, HasPut, PagesFollow}
 use Rattle.builder_core.specs.SideFiles.{HasEntries, HaveEntries, SidesFollow, put_ends}
 use Rattle.side_file.specs.Changes.{feed_most}
-use Rattle.builder_core.specs.BuildSteps.{after_feed}
-use Rattle.builder_core.specs.Workers.{unfed}
+use Rattle.side_file.specs.Entries.{entry_of}
+use Rattle.build_events.specs.BuildSteps.{after_feed}
+use Rattle.build_events.specs.Workers.{unfed, fed_to}
 use Rattle.builder_core.proofs.Feeding.{left_unfed, fed_countable, follow_fed, build_fed, work_fed, sides_fed}
 use Rattle.builder_core.proofs.Places.{at_index, map_at, there_is}
 use Rattle.builder_core.proofs.SideEnds.{put_ends_stay, eight_sides}
 use Rattle.ready_indexes.specs.Following.{indexes_of}
 use Rattle.builder_core.proofs.live.Live.feed.Goals as goal
+use Rattle.build_events.specs.SideEntries.{side_entries}
+use Rattle.builder_core.proofs.SideKept.{left_of}
+use Rattle.keybytes.specs.Keys.{KeySpecValue}
+use Rattle.visibility.specs.SideEntries.{SideEntry}
 
 pub note_fed-requires-clause-countable : goal.note_fed-requires-clause-countable
 note_fed-requires-clause-countable g c =
@@ -124,6 +129,14 @@ returns-clause-fed g c =
       first = all.2;
       after = new.end;
       stops = all.3;
+      ring = fed.fed.ring;
+      sent = λ s at.
+          let own : spec.0 ≡ s = same_Some spec.0 s (sym spec.1 ∙ at) in
+          let put : SideEntry → Entry = entry_of b.number in
+          let es : List SideEntry = side_entries (scanning_of b spec.0) heap.log in
+          fed.fed.sent ∙ ap (λ (l : List Entry). old.end.sent ++ take count l) (left_of heap.log b c.args.index spec.0 old its)
+          ∙ ap (λ (l : List Entry). old.end.sent ++ l) (take-map put count (drop (fed_to b c.args.index) es))
+          ∙ ap (λ (x : KeySpecValue). old.end.sent ++ next_entries b heap.log c.args.index x count) own;
       others = map-set (λ (s : SideFileValue). s.end) sides c.args.index new;
       left = ap (λ (x : BuildState). record { heap = heap; ready = indexes_of inside.ready.indexes; builds = inside.builds; build = Some x }) c.note_fed.ensures;
       pages = refl;
@@ -160,10 +173,10 @@ returns-clause-works g c = λ building works.
           (work_fed heap.schema heap.log b c.args.index count building.work
           (subst (λ (o : Option BuildState). IsWorkOf heap.schema heap.log o building.work) c.in-Some.is before.work));
       workers =
-          subst (λ (x : BuildState). WorkersFollow inside.pages.items (put_ends (set sides c.args.index new)) building (Some x) building.work) (sym c.note_fed.ensures)
-          (subst (λ (ps : List (PutEnd Entry)). WorkersFollow inside.pages.items ps building (Some (after_feed b c.args.index count)) building.work)
+          subst (λ (x : BuildState). WorkersFollow heap.schema inside.pages.items (put_ends (set sides c.args.index new)) building (Some x) building.work) (sym c.note_fed.ensures)
+          (subst (λ (ps : List (PutEnd Entry)). WorkersFollow heap.schema inside.pages.items ps building (Some (after_feed b c.args.index count)) building.work)
           (sym (map-set (λ (s : SideFileValue). s.end) sides c.args.index new))
-          (follow_fed heap.log b c.args.index spec.0 counted old new count c.args.most its fed.fed fed.most fed.all inside.pages.items puts building building.work
+          (follow_fed heap.log b c.args.index spec.0 counted old new count c.args.most its fed.fed fed.most fed.all heap.schema inside.pages.items puts building building.work
           (map_at (λ (s : SideFileValue). s.end) sides c.args.index old there) countable
-          (subst (λ (o : Option BuildState). WorkersFollow inside.pages.items puts building o building.work) c.in-Some.is before.workers)));
+          (subst (λ (o : Option BuildState). WorkersFollow heap.schema inside.pages.items puts building o building.work) c.in-Some.is before.workers)));
     }

@@ -4,13 +4,16 @@ use Rattle.side_file.specs.Ends.{PutEnd}
 use Rattle.building.specs.declared.copied.Copied.{Copied}
 use Rattle.std.specs.Prelude.{IfSome}
 use Rattle.builder_core.specs.Builds.{LiveValue}
-use Rattle.builder_core.specs.Invariant.{BuildIsSound, EachPageOnce}
+use Rattle.builder_core.specs.Invariant.{EachPageOnce}
+use Rattle.build_events.specs.Soundness.{BuildIsSound}
 use Rattle.builder_core.specs.Rings.{all_sent}
+use Rattle.builder_core.specs.SideFiles.{EachEntryOnce}
+use Rattle.builder_core.proofs.Feeding.{each_entry_once}
 use Rattle.builder_core.proofs.Sound.{runs_sound, runs_once}
 use Rattle.ready_indexes.specs.KeyCauses.{KeysAreGuarded}
 use Rattle.heap_table.specs.Sound.{HoldsFollowLog}
 use Rattle.ready_indexes.proofs.Each.{table_follows}
-use Rattle.builder_core.specs.CoreState.{ReadyFollowTable}
+use Rattle.build_events.specs.CoreState.{ReadyFollowTable}
 use Rattle.builder_core.proofs.live.Live.laws.Goals as goal
 
 pub returns-clause-build : goal.returns-clause-build
@@ -26,6 +29,12 @@ returns-clause-pages g c =
     let sixteen : length all ≡ 16 = length-map inside.pages.items (λ (end : PutEnd Copied). end.sent) ∙ c.self.invariant.5.sixteen in
     subst (λ (l : LiveValue). IfSome l.state.build (λ b. EachPageOnce l.state.heap.schema l.state.heap.log b (all_sent l.pages))) c.self.view_is
     (runs_once inside.heap.state.schema inside.heap.state.log inside.builds inside.build all c.self.invariant.1 c.self.invariant.3 sixteen)
+
+pub returns-clause-entries : goal.returns-clause-entries
+returns-clause-entries g c =
+    let inside = c.self.inside in
+    subst (λ (l : LiveValue). IfSome l.state.build (λ b. EachEntryOnce l.state.heap.log b l.sides)) c.self.view_is
+    (each_entry_once inside.heap.state.log inside.build inside.sides.items c.self.invariant.2)
 
 pub returns-clause-keys : goal.returns-clause-keys
 returns-clause-keys g c =

@@ -31,7 +31,7 @@ invariant_of-self g c =
     let there = at_index sides c.args.index c.index_mut-side.result.now c.index_mut-side.ensures.value (omega (arith, many, c.requires)) in (
       c.self.invariant.0,
       c.self.invariant.1,
-      sides_looked c.self.inside.heap.state.log c.self.inside.build sides c.args.index c.index_mut-side.result.now c.beside-waiting.new.self there looks.fed looks.left
+      sides_looked c.self.inside.heap.state.log c.self.inside.build sides c.args.index c.index_mut-side.result.now c.beside-waiting.new.self there looks.fed looks.left looks.sent
           c.self.invariant.2,
       c.self.invariant.3,
       c.self.invariant.4,
@@ -107,7 +107,7 @@ returns-clause-fed g c =
     let many = eight_sides _ _ _ sides c.self.invariant.5 in
     let less : c.args.index < length sides = omega (arith, many, c.requires) in
     let there = at_index sides c.args.index c.index_mut-side.result.now c.index_mut-side.ensures.value less in
-    let now = sides_looked log build sides c.args.index c.index_mut-side.result.now new there looks.fed looks.left c.self.invariant.2 in
+    let now = sides_looked log build sides c.args.index c.index_mut-side.result.now new there looks.fed looks.left looks.sent c.self.invariant.2 in
     let put = map_at (λ (s : SideFileValue). s.end) (set sides c.args.index new) c.args.index new (here_set sides c.args.index new less) in
     subst (λ (o : Option (PutEnd Entry)). IfSome build (λ b. IfSome (slice_get b.specs c.args.index) (λ spec. IfSome o (AreFedEntries log b c.args.index spec)))) (sym put)
-    (fed_if_running log build c.args.index (set sides c.args.index new) new now (here_set sides c.args.index new less) c.laws.ensures)
+    (fed_if_running log build c.args.index (set sides c.args.index new) new now (here_set sides c.args.index new less))

@@ -1,7 +1,7 @@
 use Rattle.std.proofs.Common.{subst}
 use Rattle.ready_indexes.proofs.Each.{table_follows}
 use Rattle.builder_core.specs.Builds.{LiveValue}
-use Rattle.builder_core.specs.CoreState.{ReadyFollowTable}
+use Rattle.build_events.specs.CoreState.{ReadyFollowTable}
 use Rattle.builder_core.proofs.live.Live.ready.Goals as goal
 
 pub returns-clause-follow : goal.returns-clause-follow

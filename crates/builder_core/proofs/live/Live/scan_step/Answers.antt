@@ -8,11 +8,11 @@ use Rattle.heap_table.specs.Pages.{pages_written}
 use Rattle.side_file.specs.Ends.{PutEnd}
 use Rattle.building.specs.declared.copied.Copied.{Copied}
 use Rattle.builder_core.specs.Builds.{LiveValue, BuildFollows, IsBuildOf, IsWorkOf, WorkersFollow, WorksOn, full_refusal, put_refusal}
-use Rattle.builder_core.specs.CoreState.{BuildState, LiveState}
+use Rattle.build_events.specs.CoreState.{BuildState, LiveState}
 use Rattle.builder_core.specs.Rings.{all_sent, AreOfBuilds, HasPut, PagesFollow}
-use Rattle.builder_core.specs.Ranges.{next_page}
+use Rattle.build_events.specs.Ranges.{next_page}
 use Rattle.builder_core.specs.SideFiles.{HaveEntries, SidesFollow, put_ends}
-use Rattle.builder_core.specs.BuildSteps.{OnBuild}
+use Rattle.build_events.specs.BuildSteps.{OnBuild}
 use Rattle.builder_core.proofs.Places.{here_set, map_at}
 use Rattle.builder_core.proofs.SideKept.{sides_next}
 use Rattle.builder_core.proofs.TableBuilds.{scanned_next, work_of_next}
@@ -44,7 +44,7 @@ returns-then-not-has_room-clause-works g c = λ building works.
     let same = sent_looked inside.pages.items c.args.worker c.has_room.new.self c.index_mut.result.now c.index_mut.ensures.value c.has_room.ensures.looked.sent in
     record {
       work = before.work;
-      workers = workers_looked inside.pages.items (set inside.pages.items c.args.worker c.has_room.new.self) (put_ends inside.sides.items) building inside.build building.work same
+      workers = workers_looked inside.heap.state.schema inside.pages.items (set inside.pages.items c.args.worker c.has_room.new.self) (put_ends inside.sides.items) building inside.build building.work same
           before.workers;
     }
 
@@ -170,6 +170,7 @@ returns-clause-works g c = λ building works.
     let same : at ≡ looked = written_twice pages c.args.worker looked at less c.index_mut-2.ensures.value in
     let sent : new.sent ≡ old.sent ++ copied ∷ [] =
     c.put.ensures.sent ∙ ap (λ (end : PutEnd Copied). end.sent ++ copied ∷ []) same ∙ ap (λ (s : List Copied). s ++ copied ∷ []) c.has_room.ensures.looked.sent in
+    let new_pages : List (PutEnd Copied) = set (set pages c.args.worker looked) c.args.worker new in
     let all : all_sent (set (set pages c.args.worker looked) c.args.worker new) ≡ set (all_sent pages) c.args.worker (old.sent ++ copied ∷ []) =
     sent_put (set pages c.args.worker looked) c.args.worker new ∙ ap (λ (ss : List (List Copied)). set ss c.args.worker new.sent) first
     ∙ ap (set (all_sent pages) c.args.worker) sent in
@@ -179,9 +180,10 @@ returns-clause-works g c = λ building works.
           (subst (λ (x : BuildState). IsWorkOf heap.schema heap.log (Some x) building.work) (sym c.note.ensures.noted)
           (work_of_next heap.schema heap.log b building.work c.args.range c.args.worker c.in-Ok.page c.records-records.result
           (subst (λ (o : Option BuildState). IsWorkOf heap.schema heap.log o building.work) c.in-Some.is before.work) next.0 now));
-      workers = workers_put pages (put_ends inside.sides.items) building b c.note.new.self building.work c.args.worker old.sent copied
-          (set (set pages c.args.worker looked) c.args.worker new)
-          (subst (λ (o : Option BuildState). WorkersFollow pages (put_ends inside.sides.items) building o building.work) c.in-Some.is before.workers) sent_there all number
+      workers = subst (λ (h : HeapState). WorkersFollow h.schema new_pages (put_ends inside.sides.items) building (Some c.note.new.self) building.work) (sym c.copy_page.ensures.visited)
+          (workers_put heap.schema pages (put_ends inside.sides.items) building b c.note.new.self building.work c.args.worker old.sent copied
+          new_pages
+          (subst (λ (o : Option BuildState). WorkersFollow heap.schema pages (put_ends inside.sides.items) building o building.work) c.in-Some.is before.workers) sent_there all (record { number = number; columns = c.copy_page.ensures.copy.schema })
           (ap (λ (x : BuildState). x.number) c.note.ensures.noted) (ap (λ (x : BuildState). x.workers) c.note.ensures.noted)
-          (ap (λ (x : BuildState). x.fed) c.note.ensures.noted);
+          (ap (λ (x : BuildState). x.fed) c.note.ensures.noted));
     }

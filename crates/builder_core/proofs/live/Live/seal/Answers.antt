@@ -5,17 +5,16 @@ use Rattle.side_file.specs.Ends.{PutEnd}
 use Rattle.run_spool.specs.Spools.{NoPageOnlyIf}
 use Rattle.building.specs.declared.copied.Copied.{Copied}
 use Rattle.builder_core.specs.Builds.{LiveValue, BuildingValue, core_state}
-use Rattle.builder_core.specs.CoreState.{CoreState}
+use Rattle.build_events.specs.CoreState.{CoreState}
 use Rattle.builder_core.specs.FullSpools.{WasFull, WorkerWasFull}
 use Rattle.builder_core.specs.Holding.{stakes_of}
-use Rattle.builder_core.specs.BuildSteps.{Seals}
-use Rattle.builder_core.specs.Steps.{spoiled_by}
-use Rattle.builder_core.specs.Working.{all_copies}
+use Rattle.build_events.specs.BuildSteps.{Seals}
+use Rattle.build_events.specs.Steps.{spoiled_by}
 use Rattle.builder_core.proofs.FullSpools.{full_in_build}
 use Rattle.builder_core.proofs.Looked.{state_looked, runs_looked}
 use Rattle.builder_core.proofs.Places.{map_at}
 use Rattle.builder_core.proofs.Sealed.{works_after_seal, seals_after}
-use Rattle.builder_core.proofs.Takes.{can_read, its_kit, its_spools, put_of, spoiled_after}
+use Rattle.builder_core.proofs.Takes.{its_kit, its_spools, put_of, spoiled_after}
 use Rattle.builder_core.proofs.live.Live.seal.Goals as goal
 
 pub seal-requires : goal.seal-requires
@@ -39,7 +38,6 @@ seal-requires g c =
         lent = its_spools live building may.build may.work run may.fine put c.args.worker sees.end.sent sees.it may.there there sees.there sees.in_order;
         fit = kit.2;
         seen = omega arith;
-        rows = can_read live building may.build may.work run may.fine put c.args.worker sees.end.sent sees.it may.there there sees.there sees.in_order (all_copies sees.it);
       };
     }
 

@@ -12,15 +12,15 @@ use Rattle.building.specs.TakeEnd.{take_end}
 use Rattle.building.specs.WorkerValue.{WorkerValue}
 use Rattle.building.specs.declared.copied.Copied.{Copied}
 use Rattle.builder_core.specs.Builds.{LiveValue, BuildingValue, WorkValue, work_state, build_over, fresh}
-use Rattle.builder_core.specs.Ranges.{dealing_refusal, dealt_ends}
-use Rattle.builder_core.specs.CoreState.{BuildState, LiveState, WorkState, SpoolsState, CoreState, all_given}
+use Rattle.scan_range.specs.Dealings.{dealing_refusal, dealt_ends}
+use Rattle.build_events.specs.CoreState.{BuildState, LiveState, WorkState, SpoolsState, CoreState, all_given}
 use Rattle.builder_core.specs.Holding.{SpoolValue, spool_value, spools_state}
 use Rattle.builder_core.specs.SideFiles.{put_ends}
-use Rattle.builder_core.specs.declared.plan.Plan.{Plan}
+use Rattle.build_events.specs.declared.plan.Plan.{Plan}
 use Rattle.builder_core.proofs.Kits.{each_empty}
 use Rattle.run_spool.specs.Spools.{holds_nothing}
 use Rattle.builder_core.specs.Rings.{all_sent, AreOfBuilds, ArePutEnds, begun_on}
-use Rattle.builder_core.specs.BuildSteps.{started, fresh_work}
+use Rattle.build_events.specs.BuildSteps.{started, fresh_work}
 use Rattle.builder_core.proofs.Puts.{pages_started, builds_more}
 use Rattle.builder_core.proofs.SideKept.{sides_opened}
 use Rattle.builder_core.proofs.Started.{build_on, build_is_on, started_follows, put_ends_started, take_ends_started, started_works}

@@ -1,8 +1,8 @@
 use Rattle.std.proofs.Common.{◌≡◌, ◌∙◌, ◌+◌, ◌++◌, ℕ, List, length, map, ap, ap₂, sym, subst}
-use Rattle.std.specs.Prelude.{false}
+use Rattle.std.specs.Prelude.{false, true}
 use Rattle.std.specs.List.{All, AllZip}
 use Rattle.std.proofs.lemmas.Option.{same_Some}
-use Rattle.keybytes.specs.Keys.{KeySpecValue}
+use Rattle.keybytes.specs.Keys.{KeySpecValue, are_key_columns}
 use Rattle.heap_log.specs.declared.outcome.Outcome.{Outcome}
 use Rattle.heap_log.specs.declared.record.LogRec.TheVariants.{Switch}
 use Rattle.heap_table.specs.HeapState.{HeapState, after_switch, after_fence}
@@ -13,14 +13,14 @@ use Rattle.building.specs.TakeEnd.{take_end}
 use Rattle.builder_core.specs.Builds.{LiveValue, BuildingValue, WorkValue, IndexValue, IsRunning, core_state, work_state}
 use Rattle.builder_core.specs.CatchingUp.{IsDoneIndex, its_verdict, ready_of}
 use Rattle.ready_indexes.specs.Following.{AllFollow, GoesOn, MayFollow, indexes_of}
-use Rattle.builder_core.specs.CoreState.{BuildState, CoreState}
+use Rattle.build_events.specs.CoreState.{BuildState, CoreState}
 use Rattle.ready_indexes.specs.Indexes.{ReadyValue}
 use Rattle.builder_core.specs.Holding.{spool_value, spools_state}
-use Rattle.builder_core.specs.BuildSteps.{Switches, verdicts_on}
-use Rattle.builder_core.specs.Verdicts.{outcomes}
+use Rattle.build_events.specs.BuildSteps.{Switches, verdicts_on}
+use Rattle.build_events.specs.Verdicts.{outcomes}
 use Rattle.builder_core.proofs.OneWorker.{ended_stakes}
 use Rattle.builder_core.proofs.Refusals.{running_inside}
-use Rattle.builder_core.proofs.SwitchIn.{all_done, all_may, all_verdicts, switches, switched_from}
+use Rattle.builder_core.proofs.SwitchIn.{all_done, all_keyed, all_may, all_verdicts, switches, switched_from}
 use Rattle.builder_core.proofs.Unloaded.{may_catch_up, may_after, no_busy_cause}
 use Rattle.builder_core.proofs.live.Live.switch_in.Goals as goal
 
@@ -121,8 +121,12 @@ returns-clause-switched g c =
     let stakes : spools_state left.given left.spools ≡ spools_state building.given building.spools =
     subst (λ (x : BuildingValue). spools_state left.given left.spools ≡ spools_state x.given x.spools) c.building.view_is
     (ended_stakes seen left.spools (ap (λ (x : BuildingValue). x.given) c.building.view_is ∙ run.at_work.given) c.end_spools.ensures.left) in
+    let rows : RowsFit live.state.heap.schema live.state.heap.log =
+    subst (λ (l : LiveValue). RowsFit l.state.heap.schema l.state.heap.log) c.self.view_is c.laws.ensures.rows in
+    let keyed = all_keyed live building b w run may c.in_ok-catch_up.ensures.all rows
+    (subst (λ (specs : List KeySpecValue). All (λ spec. are_key_columns spec.kinds spec.columns ≡ true) specs) (sym c.into_specs-specs.ensures) c.make_ready.ensures.keys) in
     let done = switches live building b w run may c.in_ok-catch_up.ensures.all c.in_ok-noted.noted
-    c.set_fence.new.self.state (indexes_of c.make_ready.new.ready.indexes) c.take.new.self left number verdicts noted grown c.take.ensures.after c.take-2.ensures.after stakes in
+    c.set_fence.new.self.state (indexes_of c.make_ready.new.ready.indexes) c.take.new.self left number verdicts noted grown c.take.ensures.after c.take-2.ensures.after stakes keyed in
     let Left : ℕ → CoreState = λ n. record {
       live = record { heap = c.set_fence.new.self.state; ready = indexes_of c.make_ready.new.ready.indexes; builds = n; build = c.take.new.self };
       work = work_state left.workers left.work;

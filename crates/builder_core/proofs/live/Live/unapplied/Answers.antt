@@ -1,8 +1,8 @@
 use Rattle.std.proofs.Common.{◌≡◌, ℕ, Option, length, ap, ◌∙◌, sym, subst, arith}
 use Rattle.builder_core.specs.Builds.{core_state}
-use Rattle.builder_core.specs.CoreState.{BuildState, CoreState}
-use Rattle.builder_core.specs.BuildSteps.{OnBuild}
-use Rattle.builder_core.specs.Workers.{all_unapplied}
+use Rattle.build_events.specs.CoreState.{BuildState, CoreState}
+use Rattle.build_events.specs.BuildSteps.{OnBuild}
+use Rattle.build_events.specs.Workers.{all_unapplied}
 use Rattle.builder_core.proofs.LeftOver.{all_left, indexes_many, left_before}
 use Rattle.builder_core.proofs.live.Live.unapplied.Goals as goal
 

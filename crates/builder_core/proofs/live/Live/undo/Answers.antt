@@ -3,9 +3,9 @@ use Rattle.keybytes.specs.Answered.{Answered}
 use Rattle.heap_table.specs.Calls.{Undoes}
 use Rattle.heap_table.specs.HeapState.{HeapState, undo_refusal}
 use Rattle.builder_core.specs.Builds.{LiveValue}
-use Rattle.builder_core.specs.CoreState.{LiveState, live_with_heap}
-use Rattle.builder_core.specs.Steps.{OnRows}
-use Rattle.builder_core.proofs.ReadyFollow.{by_state, ends_without}
+use Rattle.build_events.specs.CoreState.{LiveState, live_with_heap}
+use Rattle.build_events.specs.Steps.{OnRows}
+use Rattle.build_events.proofs.ReadyFollow.{by_state, ends_without}
 use Rattle.ready_indexes.proofs.Each.{table_follows}
 use Rattle.ready_indexes.specs.Following.{indexes_of}
 use Rattle.builder_core.proofs.live.Live.undo.Goals as goal

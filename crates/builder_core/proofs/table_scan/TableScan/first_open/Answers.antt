@@ -1,7 +1,7 @@
 use Rattle.std.proofs.Common.{◌≡◌, true, false, sym, rules, arith, below_more}
 use Rattle.std.specs.Prelude.{is_some}
-use Rattle.builder_core.specs.Ranges.{next_page}
-use Rattle.builder_core.proofs.NextPages.{not_some, open_at, none_open}
+use Rattle.build_events.specs.Ranges.{next_page}
+use Rattle.build_events.proofs.NextPages.{not_some, open_at, none_open}
 use Rattle.builder_core.proofs.table_scan.TableScan.first_open.Goals as goal
 
 pub returns-then-is_some : goal.returns-then-is_some

@@ -1,5 +1,5 @@
 use Rattle.std.proofs.Common.{◌≡◌, ℕ, ◌<◌, None}
-use Rattle.builder_core.specs.Ranges.{next_page}
+use Rattle.build_events.specs.Ranges.{next_page}
 use Rattle.builder_core.proofs.table_scan.TableScan.first_open.Given as goal
 
 abbrev pub invariant-loop-range : goal.invariant-loop-range

@@ -3,7 +3,7 @@ use Rattle.std.proofs.lemmas.List.{length-map}
 use Rattle.keybytes.specs.Keys.{KeySpecValue}
 use Rattle.scan_range.specs.Ranges.{RangesValue, at_start}
 use Rattle.builder_core.specs.Builds.{AreScansOf}
-use Rattle.builder_core.specs.declared.scan.Scan.{Scan}
+use Rattle.build_events.specs.declared.scan.Scan.{Scan}
 use Rattle.builder_core.proofs.RangeScans.{none_copied}
 use Rattle.builder_core.proofs.table_scan.TableScan.new.Goals as goal
 

@@ -1,8 +1,8 @@
 use Rattle.std.proofs.Common.{◌∙◌, ◌<◌, length, Some, refl, ap, sym, subst}
-use Rattle.builder_core.specs.CoreState.{BuildState}
-use Rattle.builder_core.specs.Ranges.{next_page}
+use Rattle.build_events.specs.CoreState.{BuildState}
+use Rattle.build_events.specs.Ranges.{next_page}
 use Rattle.builder_core.specs.contracts.table_scan.TableScan.{the_view}
-use Rattle.builder_core.proofs.NextPages.{next_is, next_none}
+use Rattle.build_events.proofs.NextPages.{next_is, next_none}
 use Rattle.builder_core.proofs.table_scan.TableScan.next_page.Goals as goal
 
 pub returns-then-done : goal.returns-then-done

@@ -3,12 +3,12 @@ use Rattle.std.specs.Prelude.{if◌then◌else◌}
 use Rattle.keybytes.specs.declared.fault.Fault.TheVariants.{RangeDone}
 use Rattle.scan_range.specs.Ranges.{RangesValue, AreRanges, next_of, is_done, after_advance, advance_refusal}
 use Rattle.builder_core.specs.Builds.{AreScansOf}
-use Rattle.builder_core.specs.CoreState.{BuildState}
-use Rattle.builder_core.specs.Ranges.{next_page}
+use Rattle.build_events.specs.CoreState.{BuildState}
+use Rattle.build_events.specs.Ranges.{next_page}
 use Rattle.builder_core.specs.contracts.table_scan.TableScan.{the_view}
-use Rattle.builder_core.specs.declared.scan.Scan.{Scan}
+use Rattle.build_events.specs.declared.scan.Scan.{Scan}
 use Rattle.builder_core.specs.declared.table_scan.TableScan.TheInside.{Inside}
-use Rattle.builder_core.proofs.NextPages.{next_lies, next_page_is, others_stay}
+use Rattle.build_events.proofs.NextPages.{next_lies, next_page_is, others_stay}
 use Rattle.builder_core.proofs.RangeScans.{one_copied}
 use Rattle.builder_core.proofs.table_scan.TableScan.note.Goals as goal
 

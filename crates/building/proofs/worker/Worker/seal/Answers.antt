@@ -1,31 +1,22 @@
-use Rattle.std.proofs.Common.{◌≡◌, ◌+◌, ◌-◌, ◌∙◌, ℕ, List, length, length-append, map, ap, sym, subst, arith}
+use Rattle.std.proofs.Common.{◌≡◌, ◌+◌, ◌∙◌, ℕ, List, length, length-append, map, ap, sym, subst, arith}
 use Rattle.std.proofs.lemmas.Result.{err_from_is_err_and}
 use Rattle.keybytes.specs.Keys.{KeySpecValue}
 use Rattle.keybytes.specs.declared.kind.Kind.{Kind}
 use Rattle.heap_table.specs.Images.{ImageValue}
 use Rattle.run_maker.specs.Making.{Holdings}
 use Rattle.building.specs.Holding.{TakesAll}
-use Rattle.building.specs.ImagePairs.{HaveRows}
 use Rattle.building.specs.TakeEnd.{after_taking}
 use Rattle.building.specs.Work.{next_images, after_digest}
 use Rattle.building.specs.WorkerValue.{WorkerValue}
-use Rattle.building.proofs.Digests.{can_next, digest_more, images_more, taking_more, next_few, same_worker}
+use Rattle.building.proofs.Digests.{digest_more, images_more, taking_more, next_few, same_worker}
 use Rattle.building.proofs.Holding.{takes_more, takes_sealed}
 use Rattle.building.proofs.worker.Worker.seal.Goals as goal
-
-pub digest-requires-clause-rows : goal.digest-requires-clause-rows
-digest-requires-clause-rows g c =
-    let worker = c.args.self.now in
-    let rest = length worker.end.known - (c.loop.counter + 1) in
-    let build = ap (λ (w : WorkerValue). w.build) c.loop.invariant.taken in
-    let end = ap (λ (w : WorkerValue). w.end) c.loop.invariant.taken in
-    subst (λ (kinds : List Kind). HaveRows kinds (next_images 1 c.loop.self)) (sym c.loop.invariant.schema)
-    (can_next c.args.maker.now.schema c.loop.counter 1 rest worker c.loop.self (omega arith) build end c.requires.rows)
 
 pub returns-in_err-images-clause-failed : goal.returns-in_err-images-clause-failed
 returns-in_err-images-clause-failed g c =
     let worker = c.args.self.now in
     let p = err_from_is_err_and c.from_residual.result c.from_residual.ensures.1 in
+    let kinds = c.args.maker.now.schema in
     let counted = c.loop.counter in
     let build = ap (λ (w : WorkerValue). w.build) c.loop.invariant.taken in
     let end = ap (λ (w : WorkerValue). w.end) c.loop.invariant.taken in
@@ -38,7 +29,7 @@ returns-in_err-images-clause-failed g c =
         counted,
         omega arith,
         omega arith,
-        same_worker c.digest.new.self (record (after_digest counted worker) { end = after_taking (counted + 1) worker.end })
+        same_worker c.digest.new.self (record (after_digest counted kinds worker) { end = after_taking (counted + 1) worker.end })
             (c.digest.ensures.build ∙ build)
             (c.digest.ensures.end ∙ (ap (λ end. after_taking 1 end) end ∙ taking_more counted 1 worker.end))
             (c.in_err-images.ensures.uncounted ∙ taken)
@@ -48,44 +39,50 @@ returns-in_err-images-clause-failed g c =
 
 pub overflow_add-images : goal.overflow_add-images
 overflow_add-images g c =
-    omega (arith, next_few c.loop.counter c.args.self.now, next_few 1 c.loop.self, c.in_ok-images.ensures.count)
+    omega (arith, next_few c.loop.counter c.args.maker.now.schema c.args.self.now, next_few 1 c.loop.maker.schema c.loop.self, c.in_ok-images.ensures.count)
 
 pub loop-preserved : goal.loop-preserved
 loop-preserved g c =
     let worker = c.args.self.now in
     let n = c.loop.counter in
     let was = c.loop.invariant in
+    let kinds = c.args.maker.now.schema in
     let specs = c.args.maker.now.specs in
     let start : Holdings = record { runs = map g.S.Spool.runs c.args.spools.now; begun = c.args.maker.now.begun } in
     let middle : Holdings = record { runs = map g.S.Spool.runs c.loop.spools; begun = c.loop.maker.begun } in
     let after : Holdings = record { runs = map g.S.Spool.runs c.digest.new.spools; begun = c.digest.new.maker.begun } in
     let build = ap (λ (w : WorkerValue). w.build) was.taken in
     let end = ap (λ (w : WorkerValue). w.end) was.taken in
-    let images = images_more n 1 worker c.loop.self build end in
-    let then : TakesAll specs (next_images 1 c.loop.self) middle after =
-    subst (λ (ss : List KeySpecValue). TakesAll ss (next_images 1 c.loop.self) middle after) was.specs c.in_ok-images.ensures.holds in
+    let images = images_more n 1 kinds worker c.loop.self build end in
+    let one : TakesAll c.loop.maker.specs (next_images 1 kinds c.loop.self) middle after =
+    subst (λ (ks : List Kind). TakesAll c.loop.maker.specs (next_images 1 ks c.loop.self) middle after) was.schema c.in_ok-images.ensures.holds in
+    let then : TakesAll specs (next_images 1 kinds c.loop.self) middle after =
+    subst (λ (ss : List KeySpecValue). TakesAll ss (next_images 1 kinds c.loop.self) middle after) was.specs one in
     record {
-      taken = c.in_ok-images.ensures.taken ∙ (ap (after_digest 1) was.taken ∙ digest_more n 1 worker);
+      taken = c.in_ok-images.ensures.taken
+          ∙ (ap (λ (ks : List Kind). after_digest 1 ks c.loop.self) was.schema ∙ (ap (after_digest 1 kinds) was.taken ∙ digest_more n 1 kinds worker));
       holds = subst (λ (xs : List ImageValue). TakesAll specs xs start after) (sym images)
-          (takes_more specs (next_images n worker) (next_images 1 c.loop.self) start middle after was.holds then);
+          (takes_more specs (next_images n kinds worker) (next_images 1 kinds c.loop.self) start middle after was.holds then);
       ready = c.in_ok-images.ensures.ready;
       sorted = λ all. c.digest.ensures.sorted (was.sorted all);
       stakes = c.digest.ensures.stakes ∙ was.stakes;
       schema = c.digest.ensures.schema ∙ was.schema;
       specs = c.digest.ensures.specs ∙ was.specs;
       images =
-          let both = length-append (next_images n worker) (next_images 1 c.loop.self) in
-          omega (arith, was.images, c.in_ok-images.ensures.count, ap length images, both);
+          let count = c.in_ok-images.ensures.count ∙ ap (λ (ks : List Kind). length (next_images 1 ks c.loop.self)) was.schema in
+          let both = length-append (next_images n kinds worker) (next_images 1 kinds c.loop.self) in
+          omega (arith, was.images, count, ap length images, both);
     }
 
 pub returns-clause-holds : goal.returns-clause-holds
 returns-clause-holds g c =
     let worker = c.args.self.now in
     let was = c.loop.invariant in
+    let kinds = c.args.maker.now.schema in
     let specs = c.args.maker.now.specs in
     let start : Holdings = record { runs = map g.S.Spool.runs c.args.spools.now; begun = c.args.maker.now.begun } in
     let middle : Holdings = record { runs = map g.S.Spool.runs c.loop.spools; begun = c.loop.maker.begun } in
     let all : c.loop.counter ≡ length worker.end.known = omega (arith, c.loop-test.false, c.loop.auto.counter-end, c.seen-end.ensures) in
-    let takes = subst (λ (n : ℕ). TakesAll specs (next_images n worker) start middle) all was.holds in
-    takes_sealed specs (next_images (length worker.end.known) worker) start middle (map g.S.Spool.runs c.seal.new.spools) c.seal.new.self.begun takes
+    let takes = subst (λ (n : ℕ). TakesAll specs (next_images n kinds worker) start middle) all was.holds in
+    takes_sealed specs (next_images (length worker.end.known) kinds worker) start middle (map g.S.Spool.runs c.seal.new.spools) c.seal.new.self.begun takes
     (c.laws.ensures.begun ∙ ap length was.specs) c.in_ok-seal.ensures.sealed c.in_ok-seal.ensures.none_open

@@ -7,8 +7,8 @@ use Rattle.building.proofs.worker.Worker.seal.Given as goal
 
 abbrev pub invariant-loop : goal.invariant-loop
 invariant-loop g l = record {
-  taken : l.self ≡ after_digest l.counter l.initial.self;
-  holds : TakesAll l.initial.maker.specs (next_images l.counter l.initial.self)
+  taken : l.self ≡ after_digest l.counter l.initial.maker.schema l.initial.self;
+  holds : TakesAll l.initial.maker.specs (next_images l.counter l.initial.maker.schema l.initial.self)
       (record { runs = map g.S.Spool.runs l.initial.spools; begun = l.initial.maker.begun })
       (record { runs = map g.S.Spool.runs l.spools; begun = l.maker.begun });
   ready : AreReady (map g.S.Spool.runs l.spools) (map g.S.Spool.open_run l.spools);
@@ -16,5 +16,5 @@ invariant-loop g l = record {
   stakes : map g.S.Spool.stake l.spools ≡ map g.S.Spool.stake l.initial.spools;
   schema : l.maker.schema ≡ l.initial.maker.schema;
   specs : l.maker.specs ≡ l.initial.maker.specs;
-  images : l.images ≡ length (next_images l.counter l.initial.self);
+  images : l.images ≡ length (next_images l.counter l.initial.maker.schema l.initial.self);
 }

@@ -1,5 +1,5 @@
-use Rattle.std.proofs.Common.{rules, inr}
+use Rattle.std.proofs.Common.{rules, inl, inr, refl}
 use Rattle.replay.proofs.bench.Bench.start.Goals as goal
 
-pub returns-in-Refused-clause-refused : goal.returns-in-Refused-clause-refused
-returns-in-Refused-clause-refused g c = inr (c.step.new.self, search rules)
+pub returns-clause-refused : goal.returns-clause-refused
+returns-clause-refused g c = inr (c.start.new.self, search rules)

@@ -1,7 +1,7 @@
 use Rattle.std.proofs.Common.{◌≡◌, ◌∙◌, ◌*◌, map, replicate, ap, vec_capacity}
 use Rattle.spool_ledger.specs.Accounts.{new_account}
 use Rattle.spool_ledger.specs.Pools.{PoolValue}
-use Rattle.builder_core.specs.CoreState.{SpoolsState}
+use Rattle.build_events.specs.CoreState.{SpoolsState}
 use Rattle.replay.proofs.Leased.{are_whole, new_are_new, split_are_of}
 use Rattle.replay.proofs.leases.Leases.new.Goals as goal
 

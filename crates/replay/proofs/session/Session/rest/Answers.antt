@@ -2,7 +2,7 @@ use Rattle.std.proofs.Common.{ap, inl, inr, refl, sym, ◌∙◌}
 use Rattle.std.proofs.lemmas.Result.{err_from_is_err_and}
 use Rattle.keybytes.specs.Keys.{KeySpecValue, key_columns_refusal}
 use Rattle.heap_table.specs.TablePairs.{pairs_at_rest}
-use Rattle.builder_core.specs.CoreState.{CoreState}
+use Rattle.build_events.specs.CoreState.{CoreState}
 use Rattle.replay.specs.Listings.{key_spec_of}
 use Rattle.replay.proofs.KeyedPairs.{listed_by}
 use Rattle.replay.proofs.SpecLists.{is_named}

@@ -2,8 +2,8 @@ use Rattle.std.proofs.Common.{◌≡◌, Bool, true, false, not, is_some, Option
 use Rattle.keybytes.specs.Faults.{first_cause}
 use Rattle.keybytes.specs.declared.fault.Fault.{Fault}
 use Rattle.keybytes.specs.declared.fault.Fault.TheVariants.{BadCount, BuildRunning}
-use Rattle.builder_core.specs.CoreState.{CoreState}
-use Rattle.builder_core.specs.BuildSteps.{cause_if}
+use Rattle.build_events.specs.CoreState.{CoreState}
+use Rattle.build_events.specs.BuildSteps.{cause_if}
 use Rattle.replay.specs.Answers.{StartsBuild, Unless, answer_of}
 use Rattle.replay.specs.declared.answer.Answer.TheVariants.{Number}
 use Rattle.replay.specs.Limits.{is_in_limits}
@@ -26,11 +26,11 @@ returns g c =
     let in_limits : is_in_limits start.workers (vec_len start.specs) start.quota ≡ true = sym c.is_in_limits.ensures ∙ c.if-not-is_in_limits.false in
     record {
       core = subst (λ (cause : Option Fault). Unless cause (StartsBuild start) core given c.start.new.self) (sym (no_refusal _ _ no_build in_limits)) (inl (
-        record { specs = c.in_ok-key_specs.field-0; workers = start.workers; dealing = c.dealing_of.result; tries = 1; keep_pairs = false },
+        record { specs = c.in_ok-key_specs.field-0; workers = start.workers; dealing = start.dealing; tries = 1; keep_pairs = false },
         record {
           specs = c.in_ok-key_specs.ensures.ok ∙ ap (λ (s : CoreState). map (key_spec_of s.live.heap.schema) start.specs.items) c.core-2.ensures;
           workers = refl;
-          dealing = c.dealing_of.ensures;
+          dealing = refl;
         },
         inl (c.in_ok-pages.pages, ap Number c.from.ensures, c.in_ok-pages.ensures.started),
       ));
@@ -48,11 +48,11 @@ returns-in_err-pages g c =
     let in_limits : is_in_limits start.workers (vec_len start.specs) start.quota ≡ true = sym c.is_in_limits.ensures ∙ c.if-not-is_in_limits.false in
     record {
       core = subst (λ (cause : Option Fault). Unless cause (StartsBuild start) core given c.start.new.self) (sym (no_refusal _ _ no_build in_limits)) (inl (
-        record { specs = c.in_ok-key_specs.field-0; workers = start.workers; dealing = c.dealing_of.result; tries = 1; keep_pairs = false },
+        record { specs = c.in_ok-key_specs.field-0; workers = start.workers; dealing = start.dealing; tries = 1; keep_pairs = false },
         record {
           specs = c.in_ok-key_specs.ensures.ok ∙ ap (λ (s : CoreState). map (key_spec_of s.live.heap.schema) start.specs.items) c.core-2.ensures;
           workers = refl;
-          dealing = c.dealing_of.ensures;
+          dealing = refl;
         },
         inr (c.in_err-pages.field-0.0, c.in_err-pages.ensures.refused, (search rules, search rules)),
       ));

@@ -1,8 +1,8 @@
 use Rattle.std.proofs.Common.{◌≡◌, ◌⊎◌, ℕ, [], ap, refl, subst, inl, inr}
 use Rattle.std.specs.Prelude.{IfSome}
-use Rattle.builder_core.specs.CoreState.{CoreState}
-use Rattle.builder_core.specs.BuildSteps.{OnBuild}
-use Rattle.builder_core.specs.Verdicts.{HaveSharedKeys}
+use Rattle.build_events.specs.CoreState.{CoreState}
+use Rattle.build_events.specs.BuildSteps.{OnBuild}
+use Rattle.build_events.specs.Verdicts.{HaveSharedKeys}
 use Rattle.replay.proofs.SharedLines.{lists_or_none}
 use Rattle.replay.specs.Listings.{ListsShared}
 use Rattle.replay.specs.declared.answer.Answer.TheVariants as answer

@@ -1,7 +1,15 @@
-use Rattle.std.proofs.Common.{◌≡◌, ◌++◌, ◌∙◌, length, ap, take, drop}
+use Rattle.std.proofs.Common.{◌≡◌, ◌++◌, ◌∙◌, ℕ, List, Option, length, ap, sym, subst, take, drop}
 use Rattle.std.proofs.Math.Seq.{take-append_seam}
+use Rattle.keybytes.specs.declared.cell.Cell.{Cell}
+use Rattle.keybytes.specs.declared.kind.Kind.{Kind}
+use Rattle.heap_table.specs.Images.{HasRows}
 use Rattle.run_maker.specs.Making.{MakerValue}
 use Rattle.run_maker.proofs.maker.Maker.take.Goals as goal
+
+pub add_image-requires-clause-rows : goal.add_image-requires-clause-rows
+add_image-requires-clause-rows g c =
+    let columns = c.requires.schema ∙ sym (ap (λ (value : MakerValue). value.schema) c.self.view_is) in
+    subst (λ (kinds : List Kind). (rows : ℕ → Option (List Cell)) × HasRows kinds c.args.image rows) columns c.laws.ensures
 
 pub returns-clause-taken : goal.returns-clause-taken
 returns-clause-taken g c =

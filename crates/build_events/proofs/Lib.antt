@@ -1,0 +1,15 @@
+pub mod Abandoned
+pub mod Answered
+pub mod Copies
+pub mod Distinct
+pub mod EntrySteps
+pub mod Making
+pub mod NextPages
+pub mod ReadyFollow
+pub mod Runs
+pub mod ScanSteps
+pub mod Seen
+pub mod SharedKeys
+pub mod SideFollows
+pub mod Switching
+pub mod Verdicts

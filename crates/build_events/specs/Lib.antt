@@ -1,0 +1,10 @@
+pub mod BuildSteps
+pub mod CoreState
+pub mod Headline
+pub mod Ranges
+pub mod Scanning
+pub mod SideEntries
+pub mod Soundness
+pub mod Steps
+pub mod Verdicts
+pub mod Workers
