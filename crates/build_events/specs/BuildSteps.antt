@@ -19,7 +19,7 @@ use Rattle.build_events.specs.Verdicts.{accepted, outcomes, verdict_on}
 use Rattle.build_events.specs.Ranges.{next_page, open_range}
 use Rattle.scan_range.specs.Dealings.{dealt_ends, dealing_refusal}
 use Rattle.build_events.specs.Scanning.{scanned_pairs}
-use Rattle.build_events.specs.Workers.{put_to, worker_at, waiting, loud_worker, index_at, unloaded_index, all_entries, all_unapplied, fed_to, unfed, in_ring}
+use Rattle.build_events.specs.Workers.{put_to, worker_at, waiting, unsealed_worker, index_at, unloaded_index, all_entries, all_unapplied, fed_to, unfed, in_ring}
 
 -- the cause where the test holds
 abbrev pub cause_if : Bool → Fault → Option Fault
@@ -169,7 +169,7 @@ abbrev pub load_refusal : BuildState → CoreState → ℕ → Option Fault
 load_refusal b s index =
     first_cause (index_refusal b index)
     (first_cause s.work.spoiled
-    (first_cause (option_map NotScanned (open_range b)) (option_map NotSealed (loud_worker b s.live.heap.log s.work))))
+    (first_cause (option_map NotScanned (open_range b)) (option_map NotSealed (unsealed_worker b s.live.heap.log s.work))))
 
 -- how many pairs of that specification the copied pages had
 abbrev pub pairs_copied : BuildState → List LogRec → Option KeySpecValue → ℕ

@@ -33,13 +33,13 @@ abbrev pub fill_runs : List Pair → Bool
 fill_runs pairs = length pairs % 4096 == 0
 
 -- whether a worker took all that was put to it, and has no run open
-abbrev pub is_quiet : BuildState → List LogRec → ℕ → WorkerState → Bool
-is_quiet b log worker state =
+abbrev pub is_sealed : BuildState → List LogRec → ℕ → WorkerState → Bool
+is_sealed b log worker state =
     (state.taken == length (put_to b worker)) && list_all (λ spec. fill_runs (unsealed_pairs b log worker state spec)) b.specs
 
--- the lowest worker that isn't quiet
-abbrev pub loud_worker : BuildState → List LogRec → WorkState → Option ℕ
-loud_worker b log work = first_that (λ worker. not (is_quiet b log worker (worker_at work worker))) (range_with_len 0 (length work.workers))
+-- the lowest worker that isn't sealed
+abbrev pub unsealed_worker : BuildState → List LogRec → WorkState → Option ℕ
+unsealed_worker b log work = first_that (λ worker. not (is_sealed b log worker (worker_at work worker))) (range_with_len 0 (length work.workers))
 
 -- an index of the build
 abbrev pub index_at : List IndexState → ℕ → IndexState

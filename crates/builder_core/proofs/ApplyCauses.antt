@@ -1,38 +1,36 @@
 -- Why no entries are applied to an index of a build, and what is known where nothing is in the way.
-use Rattle.std.proofs.Common.{◌≡◌, ℕ, ◌<◌, ◌≤◌, Bool, true, false, List, length, map, min, Option, Some, None, Result, Ok, Err, IfOk, OnErr, refl, sym, ap, ◌∙◌, subst, arith}
+use Rattle.std.proofs.Common.{◌≡◌, ℕ, ◌<◌, ◌≤◌, Bool, true, false, List, length, map, min, Option, Some, None, Result, Ok, Err, IfOk, OnErr, refl, sym, ap}
+use Rattle.std.proofs.Common.{◌∙◌, subst, arith}
 use Rattle.std.specs.Prelude.{is_some, not, nat_le, IfSome}
 use Rattle.std.proofs.Math.Nat.{min-le_right}
 use Rattle.std.proofs.lemmas.Bool.{false_from_ne_true, leb-true}
 use Rattle.keybytes.proofs.FirstCause.{both_none}
 use Rattle.keybytes.specs.Keys.{KeySpecValue}
 use Rattle.keybytes.specs.declared.fault.Fault.{Fault}
-use Rattle.keybytes.specs.declared.fault.Fault.TheVariants.{NoBuild, BadCount, NotLoaded}
+use Rattle.keybytes.specs.declared.fault.Fault.TheVariants.{NoBuild, NotLoaded}
 use Rattle.building.specs.WorkerValue.{WorkerValue}
-use Rattle.builder_core.specs.Builds.{LiveValue, BuildingValue, WorkValue, IndexValue, IsRunning, WorksOn, MayApply, SideIsLooked, SeesSideAt, BuildFollows, IsWorkOf}
-use Rattle.builder_core.specs.Builds.{state_unless, work_state, core_state, cause_of, index_state}
+use Rattle.builder_core.specs.Builds.{LiveValue, IsRunning, WorksOn, MayApply, SideIsLooked, SeesSideAt}
+use Rattle.build_work.specs.BuildingValue.{BuildingValue, WorkValue, IndexValue, state_unless, work_state, index_state}
+use Rattle.build_scan.specs.TableBuilds.{BuildFollows}
+use Rattle.build_work.specs.WorkOn.{IsWorkOf}
+use Rattle.builder_core.specs.Builds.{core_state, cause_of}
 use Rattle.build_events.specs.CoreState.{BuildState, IndexState, WorkState, CoreState}
-use Rattle.builder_core.specs.SideFiles.{AreFedEntries}
+use Rattle.build_scan.specs.SideFiles.{AreFedEntries}
 use Rattle.build_events.specs.Workers.{index_at}
 use Rattle.side_file.specs.Ends.{PutEnd}
 use Rattle.side_file.specs.declared.entry.Entry.{Entry}
 use Rattle.std.specs.List.{slice_get}
 use Rattle.std.proofs.lemmas.Option.{get_or_from_slice_get}
-use Rattle.builder_core.proofs.Places.{below, there_is, map_at}
-use Rattle.builder_core.proofs.Applying.{stays_built}
+use Rattle.build_scan.proofs.Places.{below, there_is, map_at}
+use Rattle.build_work.proofs.Applying.{stays_built}
 use Rattle.build_events.specs.BuildSteps.{OnBuild, Applies, AppliesSome, build_cause, cause_if, apply_refusal, index_refusal, next_applied, after_apply}
 use Rattle.build_events.specs.Steps.{refusal}
-use Rattle.builder_core.specs.Working.{CanApply, HasApplied}
+use Rattle.build_work.specs.Working.{CanApply, HasApplied}
 use Rattle.build_events.specs.declared.event.Event.TheVariants.{Apply}
 use Rattle.builder_core.proofs.Feeding.{works_side_looked, state_side_looked}
 use Rattle.builder_core.proofs.IndexApplied.{AppliesNext, ring_is, can_apply, works_applied, state_applied}
 use Rattle.builder_core.proofs.Refusals.{running, state_is}
-
--- an index that isn't refused is one of the build
-pub index_below : (b : BuildState) (index : ℕ) → index_refusal b index ≡ None → index < length b.specs
-index_below b index free = by_test (nat_le (length b.specs) index) refl free where
-  by_test : (t : Bool) → nat_le (length b.specs) index ≡ t → cause_if t BadCount ≡ None → index < length b.specs
-  by_test true is none = absurd (cc)
-  by_test false is none = grind (arith, is)
+use Rattle.build_scan.proofs.SideEnds.{index_below}
 
 -- the work isn't spoiled, and the pairs of the index are in order
 pub fine_by :

@@ -10,17 +10,20 @@ use Rattle.keybytes.specs.Faults.{first_cause}
 use Rattle.keybytes.specs.Keys.{KeySpecValue}
 use Rattle.keybytes.specs.declared.fault.Fault.TheVariants.{NotLoaded}
 use Rattle.heap_log.specs.declared.record.LogRec.{LogRec}
-use Rattle.builder_core.specs.Builds.{LiveValue, BuildingValue, WorkValue, BuildFollows, IsRunning, IsWorkOf, WorksOn, work_state, core_state, index_state}
+use Rattle.builder_core.specs.Builds.{LiveValue, IsRunning, WorksOn, core_state}
+use Rattle.build_work.specs.BuildingValue.{BuildingValue, WorkValue, work_state, index_state}
+use Rattle.build_work.specs.WorkOn.{IsWorkOf}
+use Rattle.build_scan.specs.TableBuilds.{BuildFollows}
 use Rattle.builder_core.specs.CatchingUp.{MayCatchUp, IndexIsFurther, left_at, left_of, unapplied_at, further_by}
 use Rattle.build_events.specs.CoreState.{BuildState, IndexState, CoreState}
-use Rattle.builder_core.specs.SideFiles.{NoneAhead}
+use Rattle.build_scan.specs.SideFiles.{NoneAhead}
 use Rattle.builder_core.proofs.Refusals.{running}
 use Rattle.build_events.specs.BuildSteps.{OnBuild, CatchesUp, AreFurther, IsFurther, build_cause, cause_if, apply_refusal, index_refusal}
 use Rattle.build_events.specs.Steps.{refusal}
 use Rattle.build_events.specs.Workers.{all_entries, all_unapplied, fed_to, index_at, unapplied}
 use Rattle.build_events.specs.declared.event.Event.TheVariants.{Apply}
 use Rattle.builder_core.proofs.FedBeside.{indexes_seen}
-use Rattle.builder_core.proofs.Places.{below, here_set, map_at, there_is}
+use Rattle.build_scan.proofs.Places.{below, here_set, map_at, there_is}
 use Rattle.builder_core.proofs.IndexFurther.{at_is}
 
 -- all indexes of a build, as far as they are

@@ -6,8 +6,8 @@ use Rattle.ready_indexes.proofs.Crosses.{ready_send}
 use Rattle.side_file.proofs.side_file.SideFile.TheSendSync as side
 use Rattle.building.proofs.page_putter.PagePutter.TheSendSync as putter
 use Rattle.heap_table.proofs.heap.Heap.TheSendSync as heap
-use Rattle.builder_core.proofs.table_scan.TableScan.TheSendSync as scan
-use Rattle.builder_core.specs.declared.table.Table.{Ghosts}
+use Rattle.build_scan.proofs.table_scan.TableScan.TheSendSync as scan
+use Rattle.building.specs.declared.table.Table.{Ghosts}
 use Rattle.builder_core.specs.contracts.live.Live as Live
 
 pub live_send : (T : RattleType) (g : Ghosts T.Denot) → IsSend (Live.the_row T g)

@@ -3,16 +3,15 @@ use Rattle.std.proofs.Common.{◌≡◌, ◌∙◌, ℕ, pos, negsuc, Bool, true
 use Rattle.std.specs.Prelude.{◌||◌, ◌++◌, replicate}
 use Rattle.std.proofs.lemmas.Option.{same_Some}
 use Rattle.std.specs.Ordering.{eq_by_cmp}
-use Rattle.keybytes.specs.Keys.{KeySpecValue}
 use Rattle.keybytes.specs.declared.cell.Cell.{Cell}
 use Rattle.keybytes.specs.declared.cell.Cell.TheVariants.{Null, Int as Number}
 use Rattle.keybytes.specs.declared.kind.Kind.TheVariants.{Int}
-use Rattle.keybytes.specs.declared.fault.Fault.TheVariants.{BadCount, BadRanges, RangeDone, RingFull, NotScanned, NotSealed, NotLoaded, SpoolNotEmpty, NoPage, Memory}
+use Rattle.keybytes.specs.declared.fault.Fault.TheVariants.{BadCount, BadRanges, RangeDone, RingFull, NotScanned, NotSealed, NotLoaded, SpoolNotEmpty, NoPage}
+use Rattle.keybytes.specs.declared.fault.Fault.TheVariants.{Memory}
 use Rattle.heap_log.specs.declared.outcome.Outcome.TheVariants.{Ready}
 use Rattle.heap_log.specs.declared.record.LogRec.{LogRec}
 use Rattle.heap_log.specs.declared.record.LogRec.TheVariants as logged
 use Rattle.heap_table.specs.Pages.{rid_at}
-use Rattle.keybytes.specs.declared.pair.Pair.{Pair}
 use Rattle.scan_range.specs.declared.dealing.Dealing.TheVariants.{Even}
 use Rattle.build_events.specs.declared.event.Event.TheVariants.{Scan, Digest, Seal, Load, Switch}
 use Rattle.build_events.specs.declared.reply.Reply.{Reply}
@@ -26,29 +25,17 @@ use Rattle.build_events.specs.Ranges.{next_page, open_range}
 use Rattle.scan_range.specs.Dealings.{dealt_ends, dealing_refusal}
 use Rattle.build_events.specs.BuildSteps.{spools_refusal}
 use Rattle.build_events.specs.Steps.{refusal, Does, AfterWant, IsRefused}
-use Rattle.builder_core.specs.Holding.{spools_state}
-use Rattle.build_events.specs.Workers.{waiting, fill_runs, loud_worker}
+use Rattle.build_work.specs.Holding.{spools_state}
+use Rattle.build_events.specs.Workers.{waiting, fill_runs, unsealed_worker}
 use Rattle.build_events.specs.declared.scan.Scan.{Scan as Copied}
 use Rattle.keybytes.proofs.PairSets.{is_in, items_are}
-
--- an index on a column of numbers
-abbrev pub on_number : KeySpecValue
-on_number = record { kinds = Int ∷ []; columns = 0 ∷ []; unique = false }
+use Rattle.build_scan.proofs.ScanExamples.{five, on_number, pair, three}
 
 abbrev null : List ℕ
 null = 0 ∷ []
 
 abbrev minus_one : List ℕ
 minus_one = 1 ∷ 0x7F ∷ 0xFF ∷ 0xFF ∷ 0xFF ∷ 0xFF ∷ 0xFF ∷ 0xFF ∷ 0xFF ∷ []
-
-abbrev pub three : List ℕ
-three = 1 ∷ 0x80 ∷ 0 ∷ 0 ∷ 0 ∷ 0 ∷ 0 ∷ 0 ∷ 3 ∷ []
-
-abbrev pub five : List ℕ
-five = 1 ∷ 0x80 ∷ 0 ∷ 0 ∷ 0 ∷ 0 ∷ 0 ∷ 0 ∷ 5 ∷ []
-
-abbrev pub pair : List ℕ → ℕ → ℕ → Pair
-pair key page slot = record { key = key; rid = rid_at page slot }
 
 abbrev put : ℕ → ℕ → ℕ → Cell → LogRec
 put txn page slot cell = logged.Write txn (rid_at page slot) (Some (cell ∷ []))
@@ -324,16 +311,16 @@ none_waits = refl
 one_waits : waiting of_two (by_two 0 0) 1 ≡ 1
 one_waits = refl
 
--- a worker isn't quiet while a copy waits for it
-waits : loud_worker of_two three_rows (by_two 0 0) ≡ Some 1
+-- a worker isn't sealed while a copy waits for it
+waits : unsealed_worker of_two three_rows (by_two 0 0) ≡ Some 1
 waits = refl
 
 -- nor before it sealed what it took
-unsealed : loud_worker of_two three_rows (by_two 1 0) ≡ Some 1
+unsealed : unsealed_worker of_two three_rows (by_two 1 0) ≡ Some 1
 unsealed = refl
 
-all_quiet : loud_worker of_two three_rows (by_two 1 1) ≡ None
-all_quiet = refl
+all_sealed : unsealed_worker of_two three_rows (by_two 1 1) ≡ None
+all_sealed = refl
 
 -- runs close at 4,096 pairs
 short_run : fill_runs (replicate 4095 (pair five 0 0)) ≡ false
@@ -342,15 +329,15 @@ short_run = refl
 whole_run : fill_runs (replicate 4096 (pair five 0 0)) ≡ true
 whole_run = refl
 
--- a table without pages, three empty ranges, four workers: nothing is left to copy, and everybody is quiet
+-- a table without pages, three empty ranges, four workers: nothing is left to copy, and everybody is sealed
 abbrev of_nothing : BuildState
 of_nothing = record (the_build 0 (0 ∷ 0 ∷ 0 ∷ []) 4 []) { opened = 0 }
 
 nothing_left : open_range of_nothing ≡ None
 nothing_left = refl
 
-nobody_loud : loud_worker of_nothing [] (work_of (replicate 4 (worker_with 0 0)) false) ≡ None
-nobody_loud = refl
+nobody_unsealed : unsealed_worker of_nothing [] (work_of (replicate 4 (worker_with 0 0)) false) ≡ None
+nobody_unsealed = refl
 
 nothing_copied : scanned_pairs (scanning_of of_nothing on_number) [] ≡ []
 nothing_copied = refl
@@ -362,7 +349,7 @@ four_copied = copied 0 0 ∷ copied 0 1 ∷ copied 0 2 ∷ copied 0 3 ∷ []
 room_again : refusal (while_built 5 four_copied 1 false) (Scan 0 0) ≡ None
 room_again = refl
 
-fifth_waits : loud_worker (the_build 5 (5 ∷ []) 1 (four_copied ++ copied 0 4 ∷ [])) three_rows (work_of (worker_with 1 0 ∷ []) false) ≡ Some 0
+fifth_waits : unsealed_worker (the_build 5 (5 ∷ []) 1 (four_copied ++ copied 0 4 ∷ [])) three_rows (work_of (worker_with 1 0 ∷ []) false) ≡ Some 0
 fifth_waits = refl
 
 -- that no page is left is asked before whether the ring is full

@@ -5,18 +5,22 @@ use Rattle.std.specs.List.{slice_get}
 use Rattle.std.proofs.Math.Nat.{min-le_left, min-le_right, le-min}
 use Rattle.keybytes.specs.declared.fault.Fault.{Fault}
 use Rattle.building.specs.WorkerValue.{WorkerValue}
-use Rattle.builder_core.specs.Builds.{LiveValue, BuildingValue, WorkValue, WorksOn, BuildFollows, SideIsLooked, SeesSideAt, HasFed, least_fed, state_unless, work_state}
-use Rattle.builder_core.specs.Builds.{core_state, index_state, IsWorkOf}
+use Rattle.builder_core.specs.Builds.{LiveValue, WorksOn, SideIsLooked, SeesSideAt, HasFed, least_fed}
+use Rattle.build_work.specs.BuildingValue.{BuildingValue, WorkValue, state_unless, work_state, index_state}
+use Rattle.build_scan.specs.TableBuilds.{BuildFollows}
+use Rattle.builder_core.specs.Builds.{core_state}
+use Rattle.build_work.specs.WorkOn.{IsWorkOf}
 use Rattle.build_events.specs.CoreState.{BuildState, IndexState, LiveState, CoreState}
-use Rattle.builder_core.specs.SideFiles.{side_refusal}
+use Rattle.build_scan.specs.SideFiles.{side_refusal}
 use Rattle.side_file.specs.Ends.{PutEnd}
 use Rattle.side_file.specs.declared.entry.Entry.{Entry}
 use Rattle.std.proofs.lemmas.Option.{same_Some, get_or_from_slice_get}
-use Rattle.builder_core.proofs.Places.{there_is, map_at}
-use Rattle.builder_core.proofs.ApplyCauses.{index_below}
+use Rattle.build_scan.proofs.Places.{there_is, map_at}
+use Rattle.build_scan.proofs.SideEnds.{index_below}
 use Rattle.build_events.specs.BuildSteps.{OnBuild, Feeds, build_cause, index_refusal, next_fed, after_feed}
 use Rattle.build_events.specs.Workers.{fed_to, in_ring, index_at, unfed}
-use Rattle.builder_core.proofs.Feeding.{state_side_looked, works_side_looked, waiting_in_ring}
+use Rattle.builder_core.proofs.Feeding.{state_side_looked, works_side_looked}
+use Rattle.build_scan.proofs.Feeding.{waiting_in_ring}
 use Rattle.builder_core.proofs.Refusals.{running}
 
 -- why nothing is fed is why there is no side-file

@@ -6,18 +6,16 @@ use Rattle.heap_table.specs.Calls.{OnState, Commits}
 use Rattle.heap_table.specs.HeapState.{HeapState, txn_refusal, after_commit}
 use Rattle.heap_table.specs.HeapValue.{HeapValue}
 use Rattle.building.specs.declared.copied.Copied.{Copied}
-use Rattle.builder_core.specs.Builds.{WorkValue, BuildFollows, IsWorkOf, BuildingValue, WorkersFollow}
+use Rattle.build_work.specs.BuildingValue.{WorkValue, BuildingValue}
+use Rattle.build_work.specs.WorkOn.{IsWorkOf, WorkersFollow}
+use Rattle.build_scan.specs.TableBuilds.{BuildFollows}
 use Rattle.builder_core.specs.Rings.{PagesFollow}
 use Rattle.build_events.specs.CoreState.{BuildState}
 use Rattle.heap_log.specs.declared.record.LogRec.TheVariants.{Commit}
-use Rattle.side_file.specs.SideFileValue.{SideFileValue}
 use Rattle.side_file.specs.Ends.{PutEnd}
 use Rattle.side_file.specs.declared.entry.Entry.{Entry}
-use Rattle.builder_core.specs.SideFiles.{SidesFollow}
-use Rattle.build_events.proofs.EntrySteps.{commit_entries}
-use Rattle.builder_core.proofs.SideKept.{sides_plain}
 use Rattle.builder_core.proofs.Puts.{pages_kept}
-use Rattle.builder_core.proofs.TableBuilds.{build_kept, work_kept}
+use Rattle.builder_core.proofs.TableBuilds.{work_kept}
 
 -- what a commit leaves of the table: it is done, or nothing changed
 pub committed :
@@ -32,15 +30,7 @@ pub refused_same : {S : Type 0} (cause : Option Fault) (old new : S) (fault : Fa
 refused_same cause old new fault (inl caused) = caused.1
 refused_same cause old new fault (inr wants) = wants.2
 
--- the build is one of the table
-pub commit_follows :
-    (old new : HeapState) (txn : ℕ) (build : Option BuildState) → (new ≡ after_commit old txn) ⊎ (new ≡ old)
-    → BuildFollows old.schema old.log build → BuildFollows new.schema new.log build
-commit_follows old new txn build (inl done) is =
-    subst (λ (h : HeapState). BuildFollows h.schema h.log build) (sym done) (build_kept old.schema old.log (Commit txn) build is)
-commit_follows old new txn build (inr refused) is = subst (λ (h : HeapState). BuildFollows h.schema h.log build) (sym refused) is
-
--- its work is its own
+-- after a commit the work of the build is its own
 pub commit_works :
     (old new : HeapState) (txn : ℕ) (build : Option BuildState) (work : Option WorkValue) → (new ≡ after_commit old txn) ⊎ (new ≡ old)
     → BuildFollows old.schema old.log build → IsWorkOf old.schema old.log build work → IsWorkOf new.schema new.log build work
@@ -67,12 +57,3 @@ commit_pages old new txn builds build all (inl done) is put =
     (pages_kept old.schema old.log (Commit txn) builds build all is put)
 commit_pages old new txn builds build all (inr refused) is put =
     subst (λ (h : HeapState). PagesFollow h.schema h.log builds build all) (sym refused) put
-
--- and the side-files are its own
-pub commit_sides :
-    (old new : HeapState) (txn : ℕ) (build : Option BuildState) (sides : List SideFileValue) → (new ≡ after_commit old txn) ⊎ (new ≡ old)
-    → BuildFollows old.schema old.log build → SidesFollow old.log build sides → SidesFollow new.log build sides
-commit_sides old new txn build sides (inl done) is has =
-    subst (λ (h : HeapState). SidesFollow h.log build sides) (sym done)
-    (sides_plain old.schema old.log (Commit txn) build sides (λ s. commit_entries s old.log txn) is has)
-commit_sides old new txn build sides (inr refused) is has = subst (λ (h : HeapState). SidesFollow h.log build sides) (sym refused) has

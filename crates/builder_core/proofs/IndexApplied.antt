@@ -1,5 +1,6 @@
 -- What entries that are applied leave of the index of a build, and of its work.
-use Rattle.std.proofs.Common.{◌≡◌, ℕ, ◌+◌, ◌-◌, ◌<◌, ◌≤◌, List, ◌++◌, length, map, set, take, drop, append_assoc, Some, None, refl, sym, ap, ap₂, ◌∙◌, inl, inr}
+use Rattle.std.proofs.Common.{◌≡◌, ℕ, ◌+◌, ◌-◌, ◌<◌, ◌≤◌, List, ◌++◌, length, map, set, take, drop, append_assoc, Some, None, refl, sym, ap, ap₂, ◌∙◌, inl}
+use Rattle.std.proofs.Common.{inr}
 use Rattle.std.proofs.Common.{subst, arith, take-add, take-take, take-append-drop, drop-drop}
 use Rattle.std.specs.Prelude.{is_some}
 use Rattle.std.specs.FinMap.{keys}
@@ -16,8 +17,13 @@ use Rattle.visibility.specs.SideEntries.{SideEntry}
 use Rattle.visibility.proofs.Changes.{apply-append}
 use Rattle.catch_up.specs.Built.{told_to}
 use Rattle.catch_up.proofs.Telling.{told_entries}
-use Rattle.builder_core.specs.Builds.{LiveValue, BuildingValue, WorkValue, IndexValue, IsRunning, IsCaughtUpTo, IsIndexOn, AreFed, IsUnloaded, WorksOn, with_index, with_pairs, is_unique}
-use Rattle.builder_core.specs.Builds.{work_state, core_state, index_state}
+use Rattle.building.specs.SpoolValue.{SpoolValue}
+use Rattle.building.specs.WorkerValue.{WorkerValue}
+use Rattle.build_work.specs.Holding.{HaveColumns}
+use Rattle.builder_core.specs.Builds.{LiveValue, IsRunning, WorksOn}
+use Rattle.build_work.specs.BuildingValue.{BuildingValue, WorkValue, IndexValue, IsUnloaded, with_index, with_pairs, is_unique, work_state, index_state}
+use Rattle.build_work.specs.WorkOn.{IsCaughtUpTo, IsIndexOn, AreFed}
+use Rattle.builder_core.specs.Builds.{core_state}
 use Rattle.building.specs.TakeEnd.{TakeEnd}
 use Rattle.catch_up.specs.Built.{BuiltValue}
 use Rattle.keybytes.specs.Keys.{KeySpecValue}
@@ -25,19 +31,20 @@ use Rattle.side_file.specs.Ends.{PutEnd}
 use Rattle.std.specs.List.{slice_get}
 use Rattle.std.specs.Prelude.{◌==◌}
 use Rattle.std.proofs.lemmas.Bool.{cases_Bool, eqb-true, eqb-false}
-use Rattle.builder_core.proofs.Places.{at_set, set_there, set_elsewhere, here_set, stays_there, below, map_at}
-use Rattle.builder_core.proofs.Works.{set_work_on}
+use Rattle.build_scan.proofs.Places.{at_set, set_there, set_elsewhere, here_set, stays_there, below, map_at}
+use Rattle.build_work.proofs.Works.{set_work_on}
 use Rattle.build_events.specs.CoreState.{BuildState, IndexState, WorkState, scanning_of}
 use Rattle.build_events.specs.Scanning.{Scanning, scanned_pairs}
 use Rattle.build_events.specs.SideEntries.{side_entries}
-use Rattle.builder_core.specs.SideFiles.{IsFed, AreFedEntries, SeesSide}
+use Rattle.build_scan.specs.SideFiles.{IsFed, AreFedEntries, SeesSide}
 use Rattle.build_events.specs.BuildSteps.{after_apply}
 use Rattle.build_events.specs.Workers.{fed_to, in_ring, index_at}
 use Rattle.build_events.proofs.Verdicts.{set_ordered}
-use Rattle.builder_core.specs.Working.{IsTakingEntries, CanApply, HasApplied}
-use Rattle.builder_core.proofs.Feeding.{waiting_in_ring}
+use Rattle.build_work.specs.Working.{IsTakingEntries, CanApply, HasApplied}
+use Rattle.build_scan.proofs.Feeding.{waiting_in_ring}
 use Rattle.builder_core.proofs.Refusals.{state_of, state_is, works_with}
 use Rattle.keybytes.proofs.PairSets.{set_of-keys}
+use Rattle.build_work.proofs.Applying.{same_taking}
 
 -- the next of the first n
 next_of_first :
@@ -70,13 +77,15 @@ pub record AppliesNext (index waiting : ℕ) (live : LiveValue) (building : Buil
   pub fed : AreFedEntries live.state.heap.log build index spec put
   pub sees : SeesSide waiting put end
 
--- whatever is told of one index is of the same
-pub same_taking :
-    (index : ℕ) (building : BuildingValue) (x y : IsTakingEntries index building) → (x.work ≡ y.work) × (x.it ≡ y.it) × (x.built ≡ y.built) × (x.end ≡ y.end)
-same_taking index building x y =
-    let work : x.work ≡ y.work = same_Some x.work y.work (sym x.runs ∙ y.runs) in
-    let it : x.it ≡ y.it = same_Some x.it y.it (sym x.there ∙ ap (λ (w : WorkValue). slice_get w.indexes index) work ∙ y.there) in
-    (work, it, same_Some x.built y.built (sym x.loaded ∙ ap (λ (i : IndexValue). i.built) it ∙ y.loaded), same_Some x.end y.end (sym x.at ∙ y.at))
+-- of fewer indexes the spools hold what they held
+open_fewer :
+    (P Q : ℕ → Type 0) (specs : List KeySpecValue) (workers : List WorkerValue) (spools : List SpoolValue) → ((i : ℕ) → Q i → P i)
+    → HaveColumns P specs workers spools → HaveColumns Q specs workers spools
+open_fewer P Q specs workers spools fewer columns = record {
+  many = columns.many;
+  sorted = λ i less opened. columns.sorted i less (fewer i opened);
+  pairs = λ i k worker spool less opened at lent. columns.pairs i k worker spool less (fewer i opened) at lent;
+}
 
 -- an index that isn't in order was not before another was
 pub unloaded_before :
@@ -250,7 +259,6 @@ module _ (index waiting : ℕ) (live : LiveValue) (building : BuildingValue) (t 
     -- all goes on
     pub works_applied : WorksOn live new
     works_applied =
-        let kits = t.run.at_work.kits t.fine in
         subst (WorksOn live) (sym left_is)
         (works_with live left t.build after (record {
           build_is = t.run.build_is;
@@ -260,13 +268,13 @@ module _ (index waiting : ℕ) (live : LiveValue) (building : BuildingValue) (t 
           at_work = record {
             fed = fed_after;
             given = t.run.at_work.given;
+            many = t.run.at_work.many;
             taking = λ f. t.run.at_work.taking t.fine;
-            kits = λ f. record {
-              equipped = kits.equipped;
-              opened = kits.opened;
-              holding = λ i s at none.
-                  kits.holding i s at (unloaded_before t.work index done.pairs (t.it.applied + count) i (below t.work.indexes index t.it t.it_at) none);
-            };
+            lent = λ f. t.run.at_work.lent t.fine;
+            drained = λ f. t.run.at_work.drained t.fine;
+            columns = λ f loading. open_fewer _ _ t.work.specs building.workers building.spools
+                (λ i none. unloaded_before t.work index done.pairs (t.it.applied + count) i (below t.work.indexes index t.it t.it_at) none)
+                (t.run.at_work.columns t.fine loading);
           };
         }))
 

@@ -8,7 +8,8 @@ use Rattle.std.proofs.lemmas.Option.{get_or_from_slice_get, slice_get-get_or}
 use Rattle.keybytes.specs.Faults.{first_cause}
 use Rattle.keybytes.specs.Keys.{KeySpecValue}
 use Rattle.keybytes.specs.declared.fault.Fault.TheVariants.{NotLoaded}
-use Rattle.builder_core.specs.Builds.{LiveValue, BuildingValue, WorkValue, work_state, core_state, index_state}
+use Rattle.builder_core.specs.Builds.{LiveValue, core_state}
+use Rattle.build_work.specs.BuildingValue.{BuildingValue, WorkValue, work_state, index_state}
 use Rattle.builder_core.specs.CatchingUp.{IndexIsFurther, left_at, unapplied_at, further_by}
 use Rattle.build_events.specs.CoreState.{BuildState, IndexState, CoreState}
 use Rattle.build_events.specs.BuildSteps.{OnBuild, Feeds, Applies, AppliesSome, build_cause, cause_if, apply_refusal, index_refusal}
@@ -17,7 +18,7 @@ use Rattle.build_events.specs.Workers.{all_entries, fed_to, in_ring, index_at, u
 use Rattle.build_events.specs.declared.event.Event.TheVariants.{Apply}
 use Rattle.builder_core.proofs.FedBeside.{indexes_seen}
 use Rattle.builder_core.proofs.IndexApplied.{AppliesNext}
-use Rattle.builder_core.proofs.Places.{below, here_set, map_at, set_same}
+use Rattle.build_scan.proofs.Places.{below, here_set, map_at, set_same}
 
 -- what stands in a place of a list of indexes
 pub at_is : (indexes : List IndexState) (index : ℕ) (it : IndexState) → slice_get indexes index ≡ Some it → index_at indexes index ≡ it

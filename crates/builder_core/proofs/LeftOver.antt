@@ -5,19 +5,22 @@ use Rattle.std.specs.List.{slice_get}
 use Rattle.std.proofs.lemmas.List.{length-map}
 use Rattle.keybytes.specs.Keys.{KeySpecValue}
 use Rattle.heap_log.specs.declared.record.LogRec.{LogRec}
-use Rattle.builder_core.specs.Builds.{LiveValue, BuildingValue, WorkValue, IndexValue, BuildFollows, IsWorkOf, WorksOn, work_state, core_state, index_state}
+use Rattle.builder_core.specs.Builds.{LiveValue, WorksOn, core_state}
+use Rattle.build_work.specs.BuildingValue.{BuildingValue, WorkValue, IndexValue, work_state, index_state}
+use Rattle.build_work.specs.WorkOn.{IsWorkOf}
+use Rattle.build_scan.specs.TableBuilds.{BuildFollows}
 use Rattle.builder_core.specs.CatchingUp.{left_at, left_of, unapplied_at}
 use Rattle.build_events.specs.CoreState.{BuildState, IndexState, CoreState}
-use Rattle.builder_core.specs.SideFiles.{HasEntries, SidesFollow, put_ends}
+use Rattle.build_scan.specs.SideFiles.{HasEntries, SidesFollow, put_ends}
 use Rattle.side_file.specs.Ends.{PutEnd}
 use Rattle.side_file.specs.SideFileValue.{SideFileValue}
 use Rattle.side_file.specs.declared.entry.Entry.{Entry}
 use Rattle.std.proofs.lemmas.Bool.{false≢true}
-use Rattle.builder_core.proofs.Feeding.{left_unfed, fed_entries_there}
+use Rattle.build_scan.proofs.Feeding.{left_unfed, fed_entries_there}
 use Rattle.builder_core.proofs.Refusals.{running}
 use Rattle.build_events.specs.Workers.{all_entries, all_unapplied, fed_to, index_at, unapplied, unfed}
 use Rattle.builder_core.proofs.FedBeside.{indexes_seen}
-use Rattle.builder_core.proofs.Places.{at_index, map_at, there_is}
+use Rattle.build_scan.proofs.Places.{at_index, map_at, there_is}
 use Rattle.builder_core.proofs.IndexFurther.{at_is}
 
 -- numbers added up, and all but the first

@@ -1,9 +1,10 @@
 -- What a load leaves, as callers see it.
-use Rattle.std.proofs.Common.{◌≡◌, ℕ, ◌-◌, ◌*◌, ◌<◌, true, List, [], ◌∷◌, ◌++◌, length, get_or, take, take_all, Option, Some, None, Result, Ok, Err, IfOk, IfErr, IfSome, OnErr}
-use Rattle.std.proofs.Common.{Bool, false, if◌then◌else◌, set, inl, inr, refl, sym, ap, ap₂, ◌∙◌, subst, arith}
+use Rattle.std.proofs.Common.{◌≡◌, ℕ, ◌-◌, ◌*◌, ◌<◌, true, List, [], ◌∷◌, ◌++◌, length, take, take_all, Option, Some, None, Result, Ok, Err, IfOk, IfErr, IfSome, OnErr}
+use Rattle.std.proofs.Common.{Bool, false, if◌then◌else◌, set, inl, inr, refl, sym, ap, ◌∙◌, subst, arith}
 use Rattle.std.specs.Prelude.{is_some, flat_map, IsPermutation}
 use Rattle.std.specs.List.{slice_get}
-use Rattle.std.proofs.lemmas.List.{append-nil, map-set}
+use Rattle.std.proofs.lemmas.Bool.{false≢true}
+use Rattle.std.proofs.lemmas.List.{append-nil, map-append, map-set}
 use Rattle.std.proofs.lemmas.List.Sorted.{IsPermutation-trans, IsPermutation-sym, length_permutation}
 use Rattle.std.proofs.lemmas.Option.{same_Some, get_or_from_slice_get}
 use Rattle.keybytes.specs.Keys.{KeySpecValue}
@@ -11,30 +12,37 @@ use Rattle.keybytes.specs.declared.fault.Fault.{Fault}
 use Rattle.keybytes.specs.declared.pair.Pair.{Pair}
 use Rattle.side_file.specs.Ends.{PutEnd}
 use Rattle.building.specs.declared.copied.Copied.{Copied}
-use Rattle.builder_core.specs.Builds.{LiveValue, BuildingValue, WorkValue, IndexValue, IsRunning, IsIndexOn, IsUnloaded, AreFed, WorksOn, with_index, with_pairs}
-use Rattle.builder_core.specs.Builds.{work_state, core_state, index_state}
+use Rattle.builder_core.specs.Builds.{LiveValue, IsRunning, WorksOn}
+use Rattle.build_work.specs.BuildingValue.{BuildingValue, WorkValue, IndexValue, IsUnloaded, with_index, with_pairs, work_state, index_state}
+use Rattle.build_work.specs.WorkOn.{IsIndexOn, AreFed}
+use Rattle.builder_core.specs.Builds.{core_state}
 use Rattle.build_events.specs.CoreState.{BuildState, IndexState, WorkState, SpoolsState, scanning_of}
-use Rattle.builder_core.specs.Columns.{own_spools, column}
-use Rattle.builder_core.specs.Holding.{SpoolValue, runs_of, pairs_in, ended_spool, ended_column, spools_state}
+use Rattle.building.specs.Holding.{HoldsPairs}
+use Rattle.building.specs.SpoolValue.{SpoolValue, ended_spool, pairs_in, runs_of}
+use Rattle.building.specs.Taking.{received_images}
+use Rattle.keybytes.specs.declared.kind.Kind.{Kind}
+use Rattle.build_work.specs.Columns.{column}
+use Rattle.build_work.specs.Holding.{HaveColumns, all_spools, ended_column, lent_spools, spools_state}
 use Rattle.run_spool.specs.Spools.{AreSorted, all_pairs}
 use Rattle.run_merge.specs.Merging.{all_runs}
 use Rattle.std.specs.Prelude.{All, map}
 use Rattle.std.proofs.lemmas.List.Concat.{flat_map-append}
 use Rattle.build_events.specs.Ranges.{open_range}
-use Rattle.builder_core.specs.Rings.{all_sent, ArePut, AreDone, PagesFollow}
+use Rattle.build_work.specs.Rings.{all_sent}
+use Rattle.builder_core.specs.Rings.{ArePut, PagesFollow}
 use Rattle.build_events.specs.Scanning.{pairs_at_scan, scanned_pairs}
 use Rattle.build_events.specs.BuildSteps.{OnBuild, Loads, pairs_copied, after_load}
-use Rattle.builder_core.specs.SideFiles.{IsFed}
+use Rattle.build_scan.specs.SideFiles.{IsFed}
 use Rattle.build_events.specs.Workers.{put_to, fed_to, index_at}
 use Rattle.catch_up.specs.Built.{BuiltValue}
-use Rattle.builder_core.specs.Working.{AreEachOnce, CanLoad, HasLoaded, HasSorted, IsSpoiled}
+use Rattle.build_work.specs.Working.{AreEachOnce, CanLoad, HasLoaded, HasSorted, IsSpoiled}
 use Rattle.build_events.specs.declared.scan.Scan.{Scan}
-use Rattle.builder_core.proofs.Columns.{kept_changed}
-use Rattle.builder_core.proofs.Kits.{kits_sorted}
-use Rattle.builder_core.proofs.OwnSpools.{column_there, column_many}
+use Rattle.build_work.proofs.Columns.{every_elsewhere, kept_changed, length-changed}
+use Rattle.builder_core.proofs.HandedOver.{spec_is}
+use Rattle.build_work.proofs.SpoolPlaces.{column_many}
 use Rattle.builder_core.proofs.Partition.{parts_together}
 use Rattle.builder_core.proofs.IndexApplied.{unloaded_before}
-use Rattle.builder_core.proofs.Places.{there_is, at_set, here_set, set_same, map_at, below, all_at, mapped_of, all_mapped, no_pair}
+use Rattle.build_scan.proofs.Places.{there_is, at_set, here_set, set_same, map_at, below, all_at}
 use Rattle.builder_core.proofs.Refusals.{state_of, state_is, works_with}
 use Rattle.builder_core.proofs.Takes.{spoiled_works, put_of}
 use Rattle.builder_core.proofs.Waits.{waits, held_pairs}
@@ -44,20 +52,7 @@ use Rattle.std.specs.Ordering.{eq_by_cmp}
 use Rattle.keybytes.specs.Pairs.{pair_cmp}
 use Rattle.keybytes.proofs.PairSets.{pairs_total}
 use Rattle.build_events.proofs.Distinct.{scanned_distinct}
-use Rattle.builder_core.proofs.Works.{sorted_work_on}
-
--- the runs of each spool of an index are in order
-pub runs_sorted :
-    (live : LiveValue) (building : BuildingValue) (b : BuildState) (w : WorkValue) → IsRunning live building b w → w.spoiled ≡ None
-    → (index : ℕ) → index < length w.specs → All AreSorted (runs_of (column index (length w.specs) building.spools))
-runs_sorted live building b w run fine index less =
-    let equipped = (run.at_work.kits fine).equipped in
-    let n : ℕ = length w.specs in
-    mapped_of AreSorted (λ (s : SpoolValue). s.runs) (column index n building.spools) (λ k spool at.
-    let there = column_there n b.workers index building.spools less equipped.spools_many k spool at in
-    let maker = there_is w.makers k (omega (arith, there.0, equipped.makers_many)) in
-    all_at (λ (s : SpoolValue). AreSorted s.runs) (own_spools n k building.spools) index spool
-    (all_mapped AreSorted (λ (s : SpoolValue). s.runs) (own_spools n k building.spools) (equipped.fit k maker.0 maker.1).sorted) there.1)
+use Rattle.build_work.proofs.Works.{sorted_work_on}
 
 -- the pairs of all runs of spools, spool by spool
 pairs_by_spool :
@@ -78,8 +73,13 @@ put_inside inside live b same is follow =
 
 module _
     (live : LiveValue) (building : BuildingValue) (b : BuildState) (w : WorkValue) (run : IsRunning live building b w) (fine : w.spoiled ≡ None)
-    (put : ArePut live.state.heap.schema live.state.heap.log b (all_sent live.pages)) (rings : length live.pages ≡ 16) (sixteen : length building.workers ≡ 16)
-    (quiet : AreDone b.workers (all_sent live.pages) building.workers w.makers) (all : open_range b ≡ None) where
+    (put : ArePut live.state.heap.schema live.state.heap.log b (all_sent live.pages)) (rings : length live.pages ≡ 16) (loads : w.loading ≡ true) where
+  columns : HaveColumns (λ index. IsUnloaded index w) w.specs building.workers building.spools
+  columns = run.at_work.columns fine loads
+
+  all : open_range b ≡ None
+  all = (run.at_work.drained fine loads).0
+
   -- one index
   module _ (index : ℕ) (spec : KeySpecValue) (is : slice_get w.specs index ≡ Some spec) where
     abbrev scanned : List Pair
@@ -91,39 +91,34 @@ module _
     index_there : index < length w.specs
     index_there = below w.specs index spec is
 
-    -- the spool of a quiet worker holds the pairs of all pages that were copied for it
+    -- the spool of a sealed worker holds the pairs of all pages that were copied for it
     own_pairs :
         IsUnloaded index w → (k : ℕ) (spool : SpoolValue) → k < b.workers → slice_get own k ≡ Some spool
         → IsPermutation (all_pairs spool.runs) (flat_map (pairs_at_scan (scanning_of b spec) live.state.heap.log) (put_to b k))
     own_pairs none k spool less lent =
-        let kits = run.at_work.kits fine in
-        let columns = all_at (λ (s : KeySpecValue). s.kinds ≡ live.state.heap.schema) w.specs index spec run.on.columns is in
+        let kinds = all_at (λ (s : KeySpecValue). s.kinds ≡ live.state.heap.schema) w.specs index spec run.on.columns is in
         let end = there_is live.pages k (omega (arith, less, run.follows.few_workers, rings)) in
-        let it = there_is building.workers k (omega (arith, less, run.follows.few_workers, sixteen)) in
-        let maker = there_is w.makers k (omega (arith, less, kits.equipped.makers_many)) in
+        let it = there_is building.workers k (omega (arith, less, run.at_work.many)) in
         let sent : List Copied = end.0.sent in
         let there : slice_get (all_sent live.pages) k ≡ Some sent = map_at (λ (e : PutEnd Copied). e.sent) live.pages k end.0 end.1 in
-        let done = quiet k sent it.0 maker.0 less there it.1 maker.1 in
-        let taking = run.at_work.taking fine k sent it.0 less there it.1 in
-        let taken : it.0.end.received ++ [] ≡ sent = append-nil it.0.end.received ∙ done.taken in
-        let rest = waits live.state.heap.schema live.state.heap.log b k sent it.0 (put k sent there) taking [] taken in
-        let its : List SpoolValue = own_spools (length w.specs) k building.spools in
-        let own_one = (column_there (length w.specs) b.workers index building.spools index_there kits.equipped.spools_many k spool lent).1 in
-        let runs : get_or (runs_of its) index [] ≡ spool.runs =
-        get_or_from_slice_get (runs_of its) index spool.runs [] (map_at (λ (s : SpoolValue). s.runs) its index spool own_one) in
-        let begun : get_or maker.0.begun index [] ≡ [] = no_pair maker.0.begun index done.closed in
-        let held = held_pairs live.state.heap.schema live.state.heap.log b k sent it.0 (put k sent there) taking spec columns (get_or (runs_of its) index [])
-        (get_or maker.0.begun index []) (kits.holding index spec is none k it.0 maker.0 less it.1 maker.1) in
-        let closed : all_pairs (get_or (runs_of its) index []) ++ get_or maker.0.begun index [] ≡ all_pairs spool.runs =
-        ap₂ (λ (rs : List (List Pair)) (ps : List Pair). all_pairs rs ++ ps) runs begun ∙ append-nil (all_pairs spool.runs) in
-        let whole : take it.0.taken (put_to b k) ≡ put_to b k = take_all it.0.taken (put_to b k) (omega (arith, rest)) in
+        let done = (run.at_work.drained fine loads).1 k sent it.0 there it.1 in
+        let its = run.at_work.taking fine k sent it.0 there it.1 in
+        let taken : it.0.intake.end.received ++ [] ≡ sent = append-nil it.0.intake.end.received ∙ done.taken in
+        let rest = waits live.state.heap.schema live.state.heap.log b k sent it.0.intake (put k sent there) its.taking [] taken in
+        let held : HoldsPairs spec (received_images spec.kinds it.0.intake) spool.runs [] =
+        subst (λ (ks : List Kind). HoldsPairs spec (received_images ks it.0.intake) spool.runs []) (its.schema ∙ sym kinds)
+        (subst (λ (s : KeySpecValue). HoldsPairs s (received_images it.0.maker.schema it.0.intake) spool.runs []) (spec_is w.specs index spec is)
+        (columns.pairs index k it.0 spool index_there none it.1 lent)) in
+        let whole : take it.0.intake.taken (put_to b k) ≡ put_to b k = take_all it.0.intake.taken (put_to b k) (omega (arith, rest)) in
         subst (λ (scans : List Scan). IsPermutation (all_pairs spool.runs) (flat_map (pairs_at_scan (scanning_of b spec) live.state.heap.log) scans)) whole
-        (subst (λ (ps : List Pair). IsPermutation ps (flat_map (pairs_at_scan (scanning_of b spec) live.state.heap.log) (take it.0.taken (put_to b k)))) closed held)
+        (subst (λ (ps : List Pair). IsPermutation ps (flat_map (pairs_at_scan (scanning_of b spec) live.state.heap.log) (take it.0.intake.taken (put_to b k))))
+        (append-nil (all_pairs spool.runs))
+        (held_pairs live.state.heap.schema live.state.heap.log b k sent it.0.intake (put k sent there) its.taking spec kinds spool.runs [] held))
 
     -- all together hold those of all pages
     together : IsUnloaded index w → IsPermutation (pairs_in own) scanned
     together none =
-        let many = column_many (length w.specs) b.workers index building.spools index_there (run.at_work.kits fine).equipped.spools_many in
+        let many = column_many (length w.specs) b.workers index building.spools index_there (columns.many ∙ ap (λ (m : ℕ). m * length w.specs) run.at_work.many) in
         let all : take b.workers own ≡ own = take_all b.workers own (omega (arith, many)) in
         let each : flat_map (λ (s : SpoolValue). all_pairs s.runs) (take b.workers own) ≡ pairs_in own =
         ap (flat_map (λ (s : SpoolValue). all_pairs s.runs)) all ∙ sym (pairs_by_spool own) in
@@ -147,8 +142,8 @@ module _
         runs = run.work_is;
         there = less;
         many = run.on.many ∙ ap length run.on.specs;
-        lent = (run.at_work.kits fine).equipped.spools_many ∙ ap (λ (n : ℕ). n * length w.specs) (sym run.on.workers);
-        sorted = λ none. runs_sorted live building b w run fine index less;
+        lent = columns.many;
+        sorted = λ none. columns.sorted index less none;
         once = λ none. each_once index it.0 it.1 none;
       }
 
@@ -214,6 +209,27 @@ module _
         | inr other ↦ run.at_work.fed k i put end other.1 putting taking
       ]
 
+      -- an index that isn't in order now wasn't before, and is another
+      not_this : (i : ℕ) → IsUnloaded i sorted → i ≡ index → ⊥
+      not_this i none same =
+          let bad : loaded_it.built ≡ None = subst (λ (j : ℕ). IsUnloaded j sorted) same none loaded_it (here_set w.indexes index loaded_it here) in
+          cc
+
+      elsewhere : (i : ℕ) → i < length w.specs → IsUnloaded i sorted → column i (length w.specs) left.spools ≡ column i (length w.specs) building.spools
+      elsewhere i below none =
+          every_elsewhere ended_spool (length w.specs - 1) i index building.spools (omega (arith, below)) (omega (arith, less)) (not_this i none)
+
+      columns_left : HaveColumns (λ i. IsUnloaded i sorted) w.specs building.workers left.spools
+      columns_left = record {
+        many = length-changed ended_spool (length w.specs - 1) index building.spools ∙ columns.many;
+        sorted = λ i below none.
+            subst (λ (l : List SpoolValue). All AreSorted (runs_of l)) (sym (elsewhere i below none))
+            (columns.sorted i below (unloaded_before w index done.pairs 0 i here none));
+        pairs = λ i k worker spool below none at lent.
+            columns.pairs i k worker spool below (unloaded_before w index done.pairs 0 i here none) at
+            (ap (λ (l : List SpoolValue). slice_get l k) (sym (elsewhere i below none)) ∙ lent);
+      }
+
       sorted_works : WorksOn live new
       sorted_works =
           subst (WorksOn live) (sym done.left)
@@ -225,11 +241,11 @@ module _
             at_work = record {
               fed = fed_left;
               given = run.at_work.given;
+              many = run.at_work.many;
               taking = λ f. run.at_work.taking fine;
-              kits = λ f.
-                  kits_sorted b.workers building.workers building.spools index w sorted less (run.at_work.kits fine) refl refl
-                  (λ not. absurd (let bad : loaded_it.built ≡ None = not loaded_it (here_set w.indexes index loaded_it here) in cc))
-                  (λ i not. unloaded_before w index done.pairs 0 i here not);
+              lent = λ f e. absurd (false≢true (sym e ∙ loads));
+              drained = λ f. run.at_work.drained fine;
+              columns = λ f e. columns_left;
             };
           }))
 
@@ -248,10 +264,14 @@ module _
           ∙ sym (ap (λ (s : WorkState). after_load s index) (state_is building w run.work_is fine))
 
       -- the spools are given, as they were
-      spools_left : spools_state left.given left.spools ≡ spools_state building.given building.spools
+      spools_left : spools_state left.given (all_spools left.workers left.spools) ≡ spools_state building.given (all_spools building.workers building.spools)
       spools_left =
+          let stake : SpoolValue → _ = λ s. s.stake in
+          let lent : List SpoolValue = lent_spools building.workers in
           rw run.at_work.given (ap (λ stakes. record { stakes = stakes; left = [] })
-          (kept_changed ended_spool (λ (s : SpoolValue). s.stake) (λ s. refl) (length w.specs - 1) index building.spools))
+          (map-append stake left.spools lent
+          ∙ ap (λ l. l ++ map stake lent) (kept_changed ended_spool stake (λ s. refl) (length w.specs - 1) index building.spools)
+          ∙ sym (map-append stake building.spools lent)))
 
       answer_is : count ≡ load_answer b
       answer_is =
@@ -266,7 +286,7 @@ module _
           × (core_state live new ≡ record (core_state live building) { work = after_load before index })))
           (sym run.build_is) (
             answer_is,
-            ap (core_state live) done.left ∙ ap (λ (s : WorkState). record { live = live.state; work = s; spools = spools_state left.given left.spools }) state_left
+            ap (core_state live) done.left ∙ ap (λ (s : WorkState). record { live = live.state; work = s; spools = spools_state left.given (all_spools left.workers left.spools) }) state_left
                 ∙ ap (λ (s : SpoolsState). record { live = live.state; work = after_load before index; spools = s }) spools_left,
           )
 
@@ -285,7 +305,7 @@ module _
         subst (λ (o : Option BuildState). OnBuild o (λ x. (count ≡ load_answer x)
         × (core_state live building ≡ record (core_state live building) { work = after_load before index })))
         (sym run.build_is)
-        (rw loaded is_none, ap (λ (s : WorkState). record { live = live.state; work = s; spools = spools_state building.given building.spools }) state)
+        (rw loaded is_none, ap (λ (s : WorkState). record { live = live.state; work = s; spools = spools_state building.given (all_spools building.workers building.spools) }) state)
 
     module _ (new : BuildingValue) (count : ℕ) (done : HasLoaded index building count new) where
       same : done.work ≡ w

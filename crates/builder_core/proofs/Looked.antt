@@ -1,31 +1,29 @@
 -- A table and what stands beside it, where their rings were looked at.
-use Rattle.std.proofs.Common.{◌≡◌, List, [], map, Option, Some, None, refl, sym, ap, ◌∙◌, subst}
-use Rattle.building.specs.WorkerValue.{WorkerValue}
-use Rattle.building.specs.Work.{knowing}
-use Rattle.builder_core.specs.Builds.{LiveValue, BuildingValue, WorkValue, HasLooked, IsRunning, WorkersFollow, WorksOn, HaveKits, work_state, core_state, AreAtWork}
-use Rattle.builder_core.specs.Builds.{state_unless, index_state}
+use Rattle.std.proofs.Common.{◌≡◌, List, ◌++◌, Option, Some, None, sym, ap, ◌∙◌, subst}
+use Rattle.building.specs.SpoolValue.{SpoolValue}
+use Rattle.builder_core.specs.Builds.{LiveValue, HasLooked, IsRunning, WorksOn, core_state}
+use Rattle.build_work.specs.BuildingValue.{BuildingValue, WorkValue, work_state}
+use Rattle.build_work.specs.WorkOn.{WorkersFollow, AreAtWork}
 use Rattle.build_events.specs.CoreState.{BuildState, LiveState, WorkState, SpoolsState}
-use Rattle.builder_core.specs.Holding.{SpoolValue, spools_state}
-use Rattle.builder_core.proofs.AtWork.{states_same, taking_same}
-use Rattle.builder_core.proofs.Kits.{kits_looked}
+use Rattle.build_work.specs.Holding.{all_spools, spools_state}
+use Rattle.build_work.specs.Rings.{unseen}
+use Rattle.build_work.proofs.AtWork.{taking_same}
+use Rattle.build_work.proofs.Looks.{sealed_looked}
+use Rattle.build_scan.proofs.Places.{as_long}
 use Rattle.keybytes.specs.declared.kind.Kind.{Kind}
+use Rattle.build_work.proofs.Looked.{columns_looked, lent_looked, states_looked}
 
 -- callers see no difference
-states_looked : (old new : List WorkerValue) (work : Option WorkValue) → map (knowing []) new ≡ map (knowing []) old → work_state new work ≡ work_state old work
-states_looked old new None same = refl
-states_looked old new (Some w) same = by_fault w.spoiled where
-  by_fault : (o : Option _) → state_unless o new w ≡ state_unless o old w
-  by_fault (Some fault) = refl
-  by_fault None = ap (λ ws. record { workers = ws; indexes = map index_state w.indexes; spoiled = None }) (states_same w.workers old new same)
-
 pub state_looked : (live new_live : LiveValue) (building new : BuildingValue) → HasLooked live building new_live new → core_state new_live new ≡ core_state live building
 state_looked live new_live building new looked =
-    let spools : spools_state new.given new.spools ≡ spools_state building.given building.spools =
-    ap (λ g. spools_state g new.spools) looked.given ∙ ap (spools_state building.given) looked.spools in
+    let all : all_spools new.workers new.spools ≡ all_spools building.workers building.spools =
+    ap (all_spools new.workers) looked.spools ∙ ap (λ (l : List SpoolValue). building.spools ++ l) (lent_looked building.workers new.workers looked.rings.same) in
+    let spools : spools_state new.given (all_spools new.workers new.spools) ≡ spools_state building.given (all_spools building.workers building.spools) =
+    ap (λ g. spools_state g (all_spools new.workers new.spools)) looked.given ∙ ap (spools_state building.given) all in
     let work : work_state new.workers new.work ≡ work_state building.workers building.work =
     ap (work_state new.workers) looked.work ∙ states_looked building.workers new.workers building.work looked.rings.same in
-    ap (λ s. record { live = s; work = work_state new.workers new.work; spools = spools_state new.given new.spools }) looked.state
-    ∙ ap (λ (w : WorkState). record { live = live.state; work = w; spools = spools_state new.given new.spools }) work
+    ap (λ s. record { live = s; work = work_state new.workers new.work; spools = spools_state new.given (all_spools new.workers new.spools) }) looked.state
+    ∙ ap (λ (w : WorkState). record { live = live.state; work = w; spools = spools_state new.given (all_spools new.workers new.spools) }) work
     ∙ ap (λ (s : SpoolsState). record { live = live.state; work = work_state building.workers building.work; spools = s }) spools
 
 -- and all goes on
@@ -38,10 +36,12 @@ workers_after kinds live new_live building new (Some b) None looked follow = tt
 workers_after kinds live new_live building new (Some b) (Some w) looked follow = record {
   fed = rw (looked.sides, looked.other_sides) follow.fed;
   given = looked.given ∙ follow.given;
-  taking = λ fine. rw looked.rings.sent (taking_same b.number kinds b.workers _ building.workers new.workers looked.rings.same (follow.taking fine));
-  kits = λ fine.
-      subst (λ (spools : List SpoolValue). HaveKits b.workers new.workers spools w) (sym looked.spools)
-      (kits_looked b.workers building.workers new.workers building.spools w looked.rings.same (follow.kits fine));
+  many = as_long unseen unseen new.workers building.workers looked.rings.same ∙ follow.many;
+  taking = λ fine. rw looked.rings.sent (taking_same b.number kinds w.specs w.loading _ building.workers new.workers looked.rings.same (follow.taking fine));
+  lent = λ fine scans. looked.spools ∙ follow.lent fine scans;
+  drained = λ fine loading.
+      ((follow.drained fine loading).0, sealed_looked live.pages building.workers new_live.pages new.workers looked.rings (follow.drained fine loading).1);
+  columns = λ fine loading. rw looked.spools (columns_looked building.workers new.workers building.spools w looked.rings.same (follow.columns fine loading));
 }
 
 pub works_looked : (live new_live : LiveValue) (building new : BuildingValue) → HasLooked live building new_live new → WorksOn live building → WorksOn new_live new

@@ -16,8 +16,9 @@ use Rattle.tree_nodes.specs.Lists.{In}
 use Rattle.unique_verdict.specs.Verdicts.{IsUnique, IsVerdict, accepts}
 use Rattle.unique_verdict.specs.declared.verdict.Verdict.{Verdict}
 use Rattle.unique_verdict.specs.declared.verdict.Verdict.TheVariants.{Unique, Shared}
-use Rattle.builder_core.specs.Builds.{IndexValue}
-use Rattle.builder_core.specs.CatchingUp.{built_pairs, its_verdict, ready_of}
+use Rattle.build_work.specs.BuildingValue.{IndexValue}
+use Rattle.builder_core.specs.CatchingUp.{built_pairs, ready_of}
+use Rattle.build_work.specs.Verdicts.{its_verdict}
 use Rattle.ready_indexes.specs.Following.{MayFollow}
 use Rattle.build_events.specs.CoreState.{BuildState}
 use Rattle.ready_indexes.specs.Indexes.{ReadyValue, index_now}

@@ -12,19 +12,26 @@ use Rattle.heap_table.specs.Images.{ImageValue, IsImage}
 use Rattle.heap_table.specs.Pages.{pages_written}
 use Rattle.side_file.specs.Ends.{PutEnd, RingId}
 use Rattle.side_file.specs.declared.entry.Entry.{Entry}
+use Rattle.std.specs.Prelude.{Bool}
+use Rattle.keybytes.specs.Keys.{KeySpecValue}
 use Rattle.building.specs.Copies.{IsFor}
+use Rattle.building.specs.WorkerValue.{WorkerValue}
 use Rattle.building.specs.declared.copied.Copied.{Copied}
-use Rattle.builder_core.specs.Builds.{LiveValue, BuildingValue, WorkValue, BuildFollows, WorkersFollow, page_refusal, full_refusal, put_refusal, free_places}
+use Rattle.builder_core.specs.Builds.{LiveValue, page_refusal, full_refusal, put_refusal, free_places}
+use Rattle.build_work.specs.BuildingValue.{BuildingValue, WorkValue}
+use Rattle.build_work.specs.WorkOn.{WorkersFollow}
+use Rattle.build_scan.specs.TableBuilds.{BuildFollows}
 use Rattle.build_events.specs.CoreState.{BuildState, LiveState}
-use Rattle.build_events.specs.Ranges.{next_page}
-use Rattle.builder_core.specs.Rings.{all_sent, AreOfBuilds, ArePut, ArePutEnds, AreTaking, HasPut}
+use Rattle.build_events.specs.Ranges.{next_page, open_range}
+use Rattle.build_work.specs.Rings.{all_sent, AreOfBuilds, AreSealed, AreTaking, IsWorkerOf}
+use Rattle.builder_core.specs.Rings.{ArePut, ArePutEnds, HasPut}
 use Rattle.build_events.specs.BuildSteps.{OnBuild}
-use Rattle.builder_core.proofs.Places.{kept, all_at}
+use Rattle.build_scan.proofs.Places.{kept, all_at}
 use Rattle.building.proofs.Taking.{put_taking}
-use Rattle.builder_core.proofs.AtWork.{taking_put}
+use Rattle.build_work.proofs.AtWork.{taking_put}
 use Rattle.builder_core.proofs.Puts.{put_scanned}
 use Rattle.build_events.proofs.ScanSteps.{scan_now}
-use Rattle.builder_core.proofs.TableBuilds.{next_written}
+use Rattle.build_scan.proofs.TableBuilds.{next_written}
 
 -- the ends are of the same rings
 pub put_ends_set :
@@ -55,8 +62,13 @@ workers_looked kinds old new sides building (Some b) None same follow = tt
 workers_looked kinds old new sides building (Some b) (Some w) same follow = record {
   fed = follow.fed;
   given = follow.given;
-  taking = λ fine. subst (λ (all : List (List Copied)). AreTaking b.number kinds b.workers all building.workers) (sym same) (follow.taking fine);
-  kits = follow.kits;
+  many = follow.many;
+  taking = λ fine. subst (λ (all : List (List Copied)). AreTaking b.number kinds w.specs w.loading all building.workers) (sym same) (follow.taking fine);
+  lent = follow.lent;
+  drained = λ fine loading.
+      let was = follow.drained fine loading in
+      (was.0, subst (λ (all : List (List Copied)). AreSealed all building.workers) (sym same) was.1);
+  columns = follow.columns;
 }
 
 -- an end that knows no free place takes no copy
@@ -112,18 +124,37 @@ put_next kinds log builds b all worker page records number sent image is there n
       (put_scanned kinds log b all worker page sent image there is.put copy));
 }
 
+-- one copy more is put for a worker
+worker_put :
+    (build : ℕ) (kinds : List Kind) (specs : List KeySpecValue) (loading : Bool) (sent : List Copied) (worker : WorkerValue)
+    → IsWorkerOf build kinds specs loading sent worker → (copied : Copied) → IsFor build kinds copied
+    → IsWorkerOf build kinds specs loading (sent ++ copied ∷ []) worker
+worker_put build kinds specs loading sent worker it copied own = record {
+  fine = it.fine;
+  schema = it.schema;
+  specs_are = it.specs_are;
+  handed = it.handed;
+  own = it.own;
+  none = it.none;
+  opened = it.opened;
+  taking = put_taking build kinds sent worker.intake it.taking copied own;
+}
+
 -- a worker goes on taking what its ring is sent
 pub workers_put :
     (kinds : List Kind) (pages : List (PutEnd Copied)) (sides : List (PutEnd Entry)) (building : BuildingValue) (b new : BuildState) (work : Option WorkValue)
     (i : ℕ) (sent : List Copied) (copied : Copied) (put : List (PutEnd Copied)) → WorkersFollow kinds pages sides building (Some b) work
     → slice_get (all_sent pages) i ≡ Some sent → all_sent put ≡ set (all_sent pages) i (sent ++ copied ∷ []) → IsFor b.number kinds copied
-    → new.number ≡ b.number → new.workers ≡ b.workers → new.fed ≡ b.fed → WorkersFollow kinds put sides building (Some new) work
-workers_put kinds pages sides building b new None i sent copied put follow there is own number workers fed = tt
-workers_put kinds pages sides building b new (Some w) i sent copied put follow there is own number workers fed = record {
+    → new.number ≡ b.number → new.workers ≡ b.workers → new.fed ≡ b.fed → (open_range b ≡ None → ⊥) → WorkersFollow kinds put sides building (Some new) work
+workers_put kinds pages sides building b new None i sent copied put follow there is own number workers fed more = tt
+workers_put kinds pages sides building b new (Some w) i sent copied put follow there is own number workers fed more = record {
   fed = rw fed follow.fed;
-  taking = λ fine.
-      rw (is, number, workers) (taking_put b.number kinds b.workers (all_sent pages) building.workers i (sent ++ copied ∷ []) (follow.taking fine)
-      (λ worker less at. put_taking b.number kinds sent worker (follow.taking fine i sent worker less there at) copied own));
   given = follow.given;
-  kits = λ fine. rw workers (follow.kits fine);
+  many = follow.many ∙ sym workers;
+  taking = λ fine.
+      rw (is, number) (taking_put b.number kinds w.specs w.loading (all_sent pages) building.workers i (sent ++ copied ∷ []) (follow.taking fine)
+      (λ worker at. worker_put b.number kinds w.specs w.loading sent worker (follow.taking fine i sent worker there at) copied own));
+  lent = follow.lent;
+  drained = λ fine loading. absurd (more (follow.drained fine loading).0);
+  columns = follow.columns;
 }

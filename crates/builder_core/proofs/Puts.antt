@@ -9,15 +9,16 @@ use Rattle.keybytes.specs.declared.kind.Kind.{Kind}
 use Rattle.heap_log.specs.declared.record.LogRec.{LogRec}
 use Rattle.heap_table.specs.Images.{ImageValue, IsImage}
 use Rattle.building.specs.declared.copied.Copied.{Copied}
-use Rattle.builder_core.specs.Builds.{BuildFollows}
+use Rattle.build_scan.specs.TableBuilds.{BuildFollows}
 use Rattle.build_events.specs.CoreState.{BuildState, scanning_of}
-use Rattle.builder_core.specs.Rings.{all_images, AreOfBuilds, ArePut, HasPut, PagesFollow}
+use Rattle.builder_core.specs.Rings.{all_images, ArePut, HasPut, PagesFollow}
+use Rattle.build_work.specs.Rings.{AreOfBuilds}
 use Rattle.build_events.specs.Scanning.{IsScanOf, AreCopies}
 use Rattle.build_events.specs.Workers.{put_to}
 use Rattle.build_events.specs.declared.scan.Scan.{Scan}
 use Rattle.builder_core.proofs.AllImages.{all-append, all_none, all_one}
 use Rattle.build_events.proofs.Copies.{copies_kept, copies_scan}
-use Rattle.builder_core.proofs.Places.{at_set, all_at}
+use Rattle.build_scan.proofs.Places.{at_set, all_at}
 use Rattle.build_events.proofs.ScanSteps.{no_spec, scan_now}
 
 -- the log grows

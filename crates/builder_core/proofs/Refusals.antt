@@ -1,6 +1,6 @@
 -- Why a step of a build is refused, in the order of the causes.
-use Rattle.std.proofs.Common.{◌≡◌, ℕ, ◌-◌, ◌<◌, List, ◌++◌, length, map, take, Option, Some, None, refl}
-use Rattle.std.proofs.Common.{sym, ap, ◌∙◌, arith, subst}
+use Rattle.std.proofs.Common.{◌≡◌, ℕ, ◌-◌, List, ◌++◌, length, map, Option, Some, None, refl}
+use Rattle.std.proofs.Common.{sym, ap, ◌∙◌, subst}
 use Rattle.std.specs.Prelude.{IsSome, true}
 use Rattle.std.specs.List.{slice_get}
 use Rattle.std.proofs.lemmas.Bool.{false≢true}
@@ -10,13 +10,19 @@ use Rattle.side_file.specs.Ends.{PutEnd}
 use Rattle.side_file.specs.declared.entry.Entry.{Entry}
 use Rattle.build_events.specs.BuildSteps.{build_cause}
 use Rattle.building.specs.WorkerValue.{WorkerValue}
+use Rattle.std.proofs.lemmas.Option.{get_or_from_slice_get}
 use Rattle.building.specs.declared.copied.Copied.{Copied}
-use Rattle.builder_core.specs.Builds.{LiveValue, BuildingValue, WorkValue, work_state, worker_state, index_state, IsWorkOf}
-use Rattle.builder_core.specs.Builds.{BuildFollows, WorkersFollow, WorksOn, IsRunning}
+use Rattle.builder_core.specs.Builds.{LiveValue}
+use Rattle.build_work.specs.BuildingValue.{BuildingValue, WorkValue, work_state, worker_state, index_state}
+use Rattle.build_work.specs.WorkOn.{IsWorkOf, WorkersFollow}
+use Rattle.build_scan.specs.TableBuilds.{BuildFollows}
+use Rattle.builder_core.specs.Builds.{WorksOn, IsRunning}
 use Rattle.build_events.specs.CoreState.{BuildState, WorkState}
-use Rattle.builder_core.specs.Rings.{all_sent, ArePut}
+use Rattle.build_work.specs.Rings.{all_sent}
+use Rattle.builder_core.specs.Rings.{ArePut}
 use Rattle.build_events.specs.Workers.{put_to, waiting, worker_at}
-use Rattle.builder_core.proofs.Waits.{state_at, waits}
+use Rattle.build_scan.proofs.Places.{map_at}
+use Rattle.builder_core.proofs.Waits.{waits}
 
 pub running :
     (live : LiveValue) (building : BuildingValue) (b : BuildState) (w : WorkValue) → live.state.build ≡ Some b → building.work ≡ Some w
@@ -51,7 +57,7 @@ works_with live building b w run = record {
 
 -- what callers see of work that goes on
 abbrev pub state_of : BuildingValue → WorkValue → WorkState
-state_of building w = record { workers = map worker_state (take w.workers building.workers); indexes = map index_state w.indexes; spoiled = None }
+state_of building w = record { workers = map (λ (v : WorkerValue). worker_state v.intake) building.workers; indexes = map index_state w.indexes; spoiled = None }
 
 pub state_is : (building : BuildingValue) (w : WorkValue) → building.work ≡ Some w → w.spoiled ≡ None → work_state building.workers building.work ≡ state_of building w
 state_is building w is fine = rw (is, fine) refl
@@ -62,19 +68,20 @@ module _
   abbrev work : WorkState
   work = work_state building.workers building.work
 
-  pub worker_there : (k : ℕ) → k < b.workers → (worker : WorkerValue) → slice_get building.workers k ≡ Some worker → worker_at work k ≡ worker_state worker
-  worker_there k less worker at =
+  pub worker_there : (k : ℕ) (worker : WorkerValue) → slice_get building.workers k ≡ Some worker → worker_at work k ≡ worker_state worker.intake
+  worker_there k worker at =
       ap (λ (s : WorkState). worker_at s k) (state_is building w run.work_is fine)
-      ∙ state_at w.workers k building.workers worker _ (omega (arith, less, run.on.workers)) at
+      ∙ get_or_from_slice_get (map (λ (v : WorkerValue). worker_state v.intake) building.workers) k (worker_state worker.intake) _
+      (map_at (λ (v : WorkerValue). worker_state v.intake) building.workers k worker at)
 
-  module _ (k : ℕ) (sent : List Copied) (worker : WorkerValue) (less : k < b.workers) (there : slice_get (all_sent live.pages) k ≡ Some sent)
+  module _ (k : ℕ) (sent : List Copied) (worker : WorkerValue) (there : slice_get (all_sent live.pages) k ≡ Some sent)
       (at : slice_get building.workers k ≡ Some worker) where
     -- what waits is what the worker sees in its ring
-    pub waiting_is : (known : List Copied) → worker.end.received ++ known ≡ sent → waiting b work k ≡ length known
+    pub waiting_is : (known : List Copied) → worker.intake.end.received ++ known ≡ sent → waiting b work k ≡ length known
     waiting_is known in_order =
-        ap (λ s. length (put_to b k) - s.taken) (worker_there k less worker at)
-        ∙ waits live.state.heap.schema live.state.heap.log b k sent worker (put k sent there)
-        (run.at_work.taking fine k sent worker less there at) known in_order
+        ap (λ s. length (put_to b k) - s.taken) (worker_there k worker at)
+        ∙ waits live.state.heap.schema live.state.heap.log b k sent worker.intake (put k sent there)
+        (run.at_work.taking fine k sent worker there at).taking known in_order
 
 -- to give a running build up nothing is in the way
 pub builds_on : (o : Option BuildState) → IsSome o → build_cause o (λ b. None) ≡ None

@@ -5,16 +5,18 @@ use Rattle.std.proofs.lemmas.Bool.{le-leb, lt-leb}
 use Rattle.keybytes.specs.declared.fault.Fault.TheVariants.{RingFull}
 use Rattle.side_file.specs.Ends.{PutEnd}
 use Rattle.building.specs.declared.copied.Copied.{Copied}
-use Rattle.builder_core.specs.Builds.{LiveValue, BuildingValue, WorkValue, IsRunning, SeesRing, HasLooked, core_state, cause_of}
+use Rattle.builder_core.specs.Builds.{LiveValue, IsRunning, SeesRing, HasLooked, core_state, cause_of}
+use Rattle.build_work.specs.BuildingValue.{BuildingValue, WorkValue}
 use Rattle.build_events.specs.CoreState.{BuildState, CoreState, WorkState}
 use Rattle.build_events.specs.Ranges.{next_page}
-use Rattle.builder_core.specs.Rings.{all_sent, PagesFollow}
+use Rattle.build_work.specs.Rings.{all_sent}
+use Rattle.builder_core.specs.Rings.{PagesFollow}
 use Rattle.build_events.specs.BuildSteps.{cause_if, range_refusal}
 use Rattle.build_events.specs.Steps.{refusal}
 use Rattle.build_events.specs.Workers.{waiting}
 use Rattle.build_events.specs.declared.event.Event.TheVariants.{Scan}
 use Rattle.builder_core.proofs.Looked.{runs_looked, state_looked}
-use Rattle.builder_core.proofs.Places.{map_at}
+use Rattle.build_scan.proofs.Places.{map_at}
 use Rattle.builder_core.proofs.Refusals.{state_is, waiting_is}
 use Rattle.builder_core.proofs.Takes.{put_of}
 
@@ -39,7 +41,7 @@ module _
   cause_after : cause_of new_live new (Scan range worker) ≡ cause_if (nat_le 4 count) RingFull
   cause_after =
       let there = map_at (λ (end : PutEnd Copied). end.sent) new_live.pages worker sees.end sees.ring in
-      let waits = waiting_is new_live new b w after fine (put_of new_live b after.build_is put) worker sees.end.sent sees.it workers there sees.there sees.it.end.known sees.in_order in
+      let waits = waiting_is new_live new b w after fine (put_of new_live b after.build_is put) worker sees.end.sent sees.it there sees.there sees.it.intake.end.known sees.in_order in
       ring_cause (core_state new_live new) b range worker count after.build_is
       (ap (λ (s : WorkState). s.spoiled) (state_is new w after.work_is fine)) ranges workers more (waits ∙ sym sees.seen)
 

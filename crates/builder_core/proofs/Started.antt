@@ -1,5 +1,6 @@
 -- What the start of a build leaves.
-use Rattle.std.proofs.Common.{◌≡◌, ℕ, ◌+◌, ◌*◌, ◌≤◌, List, [], length, map, replicate, true, Some, None, refl, sym, ap, ◌∙◌, subst, ◌++◌, arith, ◌-◌}
+use Rattle.std.proofs.Common.{◌≡◌, ℕ, ◌+◌, ◌≤◌, List, [], length, map, replicate, true, Some, None, refl, sym, ap, ◌∙◌, subst, ◌++◌, arith, ◌-◌}
+use Rattle.std.proofs.lemmas.Bool.{false≢true}
 use Rattle.std.proofs.lemmas.List.{length-map, append-nil, drop_all}
 use Rattle.keybytes.specs.Keys.{KeySpecValue}
 use Rattle.keybytes.specs.declared.kind.Kind.{Kind}
@@ -9,25 +10,30 @@ use Rattle.scan_range.specs.Cuts.{CutsValue}
 use Rattle.side_file.specs.Ends.{PutEnd, RingId}
 use Rattle.side_file.specs.declared.entry.Entry.{Entry}
 use Rattle.building.specs.TakeEnd.{TakeEnd}
-use Rattle.building.specs.WorkerValue.{WorkerValue}
+use Rattle.building.specs.IntakeValue.{IntakeValue}
 use Rattle.building.specs.declared.copied.Copied.{Copied}
-use Rattle.builder_core.specs.Builds.{LiveValue, BuildingValue, WorkValue, IndexValue, AreFed, IsBuildOf, WorksOn, build_over, fresh, fresh_index}
+use Rattle.builder_core.specs.Builds.{LiveValue, WorksOn}
+use Rattle.build_work.specs.BuildingValue.{BuildingValue, WorkValue, IndexValue, fresh, fresh_index, intakes}
+use Rattle.build_work.specs.WorkOn.{AreFed}
+use Rattle.build_scan.specs.TableBuilds.{IsBuildOf, build_over}
 use Rattle.std.specs.List.{All, slice_get}
 use Rattle.std.proofs.lemmas.Option.{same_Some}
 use Rattle.build_events.specs.Workers.{fed_to}
-use Rattle.builder_core.proofs.SideKept.{none_at}
-use Rattle.builder_core.specs.Holding.{SpoolValue}
+use Rattle.build_scan.proofs.SideKept.{none_at}
+use Rattle.build_work.specs.Equipped.{IsEquipped}
+use Rattle.build_work.specs.Holding.{fresh_maker}
 use Rattle.build_events.specs.CoreState.{BuildState}
 use Rattle.scan_range.specs.Dealings.{dealing_refusal, dealt_ends}
-use Rattle.builder_core.specs.Rings.{all_sent, put_rings, take_rings, side_rings, taken_rings, begun_on, drained_end, AreOfBuilds, ArePutEnds, AreTakeEnds}
+use Rattle.build_work.specs.Rings.{all_sent, put_rings, take_rings, begun_on, AreOfBuilds, AreTakeEnds}
+use Rattle.builder_core.specs.Rings.{ArePutEnds}
+use Rattle.build_scan.specs.SideFiles.{side_rings, taken_rings, drained_end}
 use Rattle.scan_range.specs.declared.dealing.Dealing.{Dealing}
-use Rattle.builder_core.proofs.AtWork.{started_taking}
-use Rattle.builder_core.proofs.Kits.{started_kits}
-use Rattle.builder_core.proofs.Places.{as_long, at_map, mapped, replicate_at}
+use Rattle.build_work.proofs.AtWork.{started_taking}
+use Rattle.build_scan.proofs.Places.{as_long, at_map, mapped, replicate_at}
 use Rattle.builder_core.proofs.Refusals.{works_with}
 use Rattle.builder_core.proofs.Starts.{dealt_are_cuts}
-use Rattle.builder_core.proofs.TableBuilds.{started_build}
-use Rattle.builder_core.proofs.Works.{fresh_work_on}
+use Rattle.build_scan.proofs.TableBuilds.{started_build}
+use Rattle.build_work.proofs.Works.{fresh_work_on}
 
 -- the ends that put are of the rings that they were of
 pub put_ends_started :
@@ -42,10 +48,10 @@ put_ends_started page_rings entry_rings pages new sides new_sides are rings side
 
 -- and so are those that take
 pub take_ends_started :
-    (page_rings entry_rings : List RingId) (build : ℕ) (pages : List (PutEnd Copied)) (sides : List (PutEnd Entry)) (workers : List WorkerValue) (ends : List (TakeEnd Entry))
-    → ArePutEnds page_rings entry_rings pages sides → workers ≡ map (begun_on build) pages → ends ≡ map drained_end sides → AreTakeEnds page_rings entry_rings workers ends
-take_ends_started page_rings entry_rings build pages sides workers ends are is drained = record {
-  workers_are = ap take_rings is ∙ mapped (begun_on build) (λ (w : WorkerValue). w.end.ring) pages ∙ are.pages_are;
+    (page_rings entry_rings : List RingId) (build : ℕ) (pages : List (PutEnd Copied)) (sides : List (PutEnd Entry)) (intakes : List IntakeValue) (ends : List (TakeEnd Entry))
+    → ArePutEnds page_rings entry_rings pages sides → intakes ≡ map (begun_on build) pages → ends ≡ map drained_end sides → AreTakeEnds page_rings entry_rings intakes ends
+take_ends_started page_rings entry_rings build pages sides intakes ends are is drained = record {
+  intakes_are = ap take_rings is ∙ mapped (begun_on build) (λ (w : IntakeValue). w.end.ring) pages ∙ are.pages_are;
   sides_are = ap taken_rings drained ∙ mapped drained_end (λ (end : TakeEnd Entry). end.ring) sides ∙ are.sides_are;
   eight = ap length drained ∙ length-map sides drained_end ∙ are.eight;
   sixteen = ap length is ∙ length-map pages (begun_on build) ∙ are.sixteen;
@@ -95,22 +101,26 @@ only_fresh count k index at = ap (λ (i : IndexValue). i.applied) (replicate_at 
 pub started_works :
     (live : LiveValue) (building : BuildingValue) (b : BuildState) (w : WorkValue) (builds : ℕ) (specs : List KeySpecValue) (workers opened : ℕ) (cuts : CutsValue)
     → live.state.build ≡ Some b → building.work ≡ Some w → building.given ≡ true → b ≡ build_over (builds + 1) specs workers opened cuts [] (map (λ spec. 0) specs)
-    → w ≡ fresh (builds + 1) live.state.heap.schema specs workers → IsBuildOf live.state.heap.schema live.state.heap.log b
+    → w ≡ fresh (builds + 1) specs → IsBuildOf live.state.heap.schema live.state.heap.log b
     → All (λ (spec : KeySpecValue). spec.kinds ≡ live.state.heap.schema) specs → AreOfBuilds builds (all_sent live.pages)
-    → building.workers ≡ map (begun_on (builds + 1)) live.pages → building.sides ≡ map drained_end live.sides
-    → length building.spools ≡ workers * length specs
-    → ((k : ℕ) (spool : SpoolValue) → slice_get building.spools k ≡ Some spool → (spool.runs ≡ []) × (spool.open_run ≡ [])) → WorksOn live building
-started_works live building b w builds specs workers opened cuts build_is work_is given b_is w_is follows columns before workers_is drained many empty =
+    → intakes building.workers building.idle ≡ map (begun_on (builds + 1)) live.pages → building.sides ≡ map drained_end live.sides
+    → length building.workers ≡ workers → All (λ worker. worker.maker ≡ fresh_maker live.state.heap.schema specs) building.workers
+    → All (IsEquipped (length specs)) building.workers
+    → building.spools ≡ [] → WorksOn live building
+started_works live building b w builds specs workers opened cuts build_is work_is given b_is w_is follows columns before intakes_are drained many makers equipped none =
     let new : BuildState = build_over (builds + 1) specs workers opened cuts [] (map (λ spec. 0) specs) in
     works_with live building b w (record {
       build_is = build_is;
       work_is = work_is;
       follows = follows;
-      on = rw (b_is, w_is) (fresh_work_on live.state.heap.schema live.state.heap.log new live.state.heap.schema specs workers refl columns refl);
+      on = rw (b_is, w_is) (fresh_work_on live.state.heap.schema live.state.heap.log new specs refl columns);
       at_work = record {
         fed = rw (b_is, w_is) (started_fed new (replicate (length specs) fresh_index) live.sides building.sides drained (λ k. none_at specs k) (only_fresh (length specs)));
         given = given;
-        taking = λ fine. rw (b_is, workers_is) (started_taking builds live.pages before live.state.heap.schema workers);
-        kits = λ fine. rw (b_is, w_is, workers_is) (started_kits builds live.pages before live.state.heap.schema specs workers (builds + 1) building.spools columns many empty);
+        many = many ∙ sym (ap (λ (x : BuildState). x.workers) b_is);
+        taking = λ fine. rw (b_is, w_is) (started_taking builds live.pages before live.state.heap.schema specs building.workers building.idle intakes_are makers equipped);
+        lent = λ fine scans. none;
+        drained = λ fine loading. absurd (false≢true (ap (λ (x : WorkValue). x.loading) (sym w_is) ∙ loading));
+        columns = λ fine loading. absurd (false≢true (ap (λ (x : WorkValue). x.loading) (sym w_is) ∙ loading));
       };
     })

@@ -1,8 +1,7 @@
 -- When a build starts.
-use Rattle.std.proofs.Common.{◌≡◌, ℕ, zero, suc, ◌≤◌, Bool, true, false, List, [], ◌∷◌, Some, None, refl, ap, ap₂, ◌∙◌, arith}
-use Rattle.std.specs.Prelude.{◌&&◌, ◌==◌, ◌+◌, ◌*◌, not, nat_lt, nat_le, length, map, take, replicate, is_some, if◌then◌else◌}
+use Rattle.std.proofs.Common.{◌≡◌, ℕ, ◌≤◌, Bool, true, false, List, [], ◌∷◌, Some, None, refl, ap, ap₂, ◌∙◌}
+use Rattle.std.specs.Prelude.{◌&&◌, ◌==◌, ◌+◌, ◌*◌, not, nat_lt, nat_le, length, map, replicate, is_some, if◌then◌else◌}
 use Rattle.std.specs.List.{All, list_all}
-use Rattle.std.proofs.lemmas.List.{length-map}
 use Rattle.std.proofs.lemmas.List.Elements.{All-head, All-tail, All-nil, All-cons}
 use Rattle.std.proofs.lemmas.Bool.{and_parts, leb-true, eqb-true, false_from_ne_true}
 use Rattle.keybytes.specs.Keys.{KeySpecValue}
@@ -15,12 +14,9 @@ use Rattle.heap_table.specs.Pages.{pages_written}
 use Rattle.scan_range.specs.declared.dealing.Dealing.{Dealing}
 use Rattle.scan_range.specs.declared.dealing.Dealing.TheVariants.{Ends, Even}
 use Rattle.build_events.specs.declared.plan.Plan.{Plan}
-use Rattle.side_file.specs.Ends.{PutEnd}
 use Rattle.building.specs.WorkerValue.{WorkerValue}
-use Rattle.building.specs.declared.copied.Copied.{Copied}
-use Rattle.builder_core.specs.Builds.{fresh, fresh_index, index_state, work_state, worker_state}
-use Rattle.builder_core.specs.Rings.{begun_on}
-use Rattle.build_events.specs.CoreState.{LiveState, SpoolsState}
+use Rattle.build_work.specs.BuildingValue.{fresh, fresh_index, index_state, work_state, worker_state}
+use Rattle.build_events.specs.CoreState.{LiveState, SpoolsState, WorkerState}
 use Rattle.scan_range.specs.Cuts.{are_cuts}
 use Rattle.scan_range.proofs.EvenEnds.{even_are_cuts, even_fit}
 use Rattle.scan_range.specs.Dealings.{dealt_ends, dealing_refusal}
@@ -104,19 +100,10 @@ has_counts live spools plan e =
       lent = eqb-true spools (plan.workers * length plan.specs.items) lent.1;
     }
 
--- a list of one element, repeated
-repeated : {X Y : Type 0} (f : X → Y) (n : ℕ) (xs : List X) (y : Y) → n ≤ length xs → All (λ x. f x ≡ y) xs → map f (take n xs) ≡ replicate n y
-repeated f zero xs y few all = refl
-repeated f (suc n) [] y few all = absurd (omega (arith, few))
-repeated f (suc n) (x ∷ xs) y few all =
-    ap₂ ◌∷◌ (All-head (λ x. f x ≡ y) x xs all) (repeated f n xs y (omega (arith, few)) (All-tail (λ x. f x ≡ y) x xs all))
-
-abbrev IsFirst : WorkerValue → Type 0
-IsFirst worker = worker_state worker ≡ record { taken = 0; sealed = 0 }
-
-at_first : (build : ℕ) (pages : List (PutEnd Copied)) → All IsFirst (map (begun_on build) pages)
-at_first build [] = All-nil IsFirst
-at_first build (end ∷ ends) = All-cons IsFirst (begun_on build end) (map (begun_on build) ends) refl (at_first build ends)
+-- workers that all look the same
+pub alike : {X Y : Type 0} (f : X → Y) (xs : List X) (y : Y) → All (λ x. f x ≡ y) xs → map f xs ≡ replicate (length xs) y
+alike f [] y all = refl
+alike f (x ∷ xs) y all = ap₂ ◌∷◌ (All-head (λ x. f x ≡ y) x xs all) (alike f xs y (All-tail (λ x. f x ≡ y) x xs all))
 
 -- nothing was done on any of its indexes
 each_fresh :
@@ -126,9 +113,11 @@ each_fresh (spec ∷ specs) = ap (λ is. record { loaded = false; applied = 0 } 
 
 -- its work is that of so many workers on the plan's indexes
 pub fresh_is :
-    (plan : Plan) (kinds : List Kind) (specs : List KeySpecValue) (build number : ℕ) (pages : List (PutEnd Copied)) → plan.workers ≤ length pages
-    → specs ≡ plan.specs.items → work_state (map (begun_on build) pages) (Some (fresh number kinds specs plan.workers)) ≡ fresh_work plan
-fresh_is plan kinds specs build number pages few same =
-    let states : map worker_state (take plan.workers (map (begun_on build) pages)) ≡ replicate plan.workers (record { taken = 0; sealed = 0 }) =
-    repeated worker_state plan.workers (map (begun_on build) pages) (record { taken = 0; sealed = 0 }) (omega (arith, few, length-map pages (begun_on build))) (at_first build pages) in
+    (plan : Plan) (specs : List KeySpecValue) (number : ℕ) (workers : List WorkerValue) → length workers ≡ plan.workers
+    → All (λ worker. worker_state worker.intake ≡ record { taken = 0; sealed = 0 }) workers
+    → specs ≡ plan.specs.items → work_state workers (Some (fresh number specs)) ≡ fresh_work plan
+fresh_is plan specs number workers many first same =
+    let start : WorkerState = record { taken = 0; sealed = 0 } in
+    let states : map (λ (w : WorkerValue). worker_state w.intake) workers ≡ replicate plan.workers start =
+    alike (λ (w : WorkerValue). worker_state w.intake) workers start first ∙ ap (λ (n : ℕ). replicate n start) many in
     rw (same, states, each_fresh plan.specs.items) refl

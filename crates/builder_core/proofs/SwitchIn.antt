@@ -13,19 +13,21 @@ use Rattle.heap_table.specs.TablePairs.{index_pairs, pairs_at_rest}
 use Rattle.keybytes.proofs.ColumnOrder.{column_order}
 use Rattle.keybytes.specs.Pairs.{HaveKeysOf, AreInColumnOrder}
 use Rattle.catch_up.specs.Built.{BuiltValue}
-use Rattle.builder_core.specs.Builds.{LiveValue, BuildingValue, WorkValue, IndexValue, IsRunning, state_unless, work_state, core_state, index_state}
-use Rattle.builder_core.specs.CatchingUp.{IsDoneIndex, MayCatchUp, built_pairs, built_verdict, its_verdict, ready_of}
+use Rattle.builder_core.specs.Builds.{LiveValue, IsRunning, core_state}
+use Rattle.build_work.specs.BuildingValue.{BuildingValue, WorkValue, IndexValue, state_unless, work_state, index_state}
+use Rattle.builder_core.specs.CatchingUp.{IsDoneIndex, MayCatchUp, built_pairs, ready_of}
+use Rattle.build_work.specs.Verdicts.{built_verdict, its_verdict}
 use Rattle.ready_indexes.specs.Following.{MayFollow}
 use Rattle.heap_log.specs.declared.record.LogRec.{LogRec}
 use Rattle.std.specs.List.{All, AllZip, slice_get}
 use Rattle.std.proofs.lemmas.List.Elements.{All-cons, All-head, All-nil, All-tail}
 use Rattle.std.proofs.lemmas.Option.{same_Some}
 use Rattle.builder_core.proofs.ApplyCauses.{fine_by}
-use Rattle.builder_core.proofs.Applying.{stays_built}
-use Rattle.builder_core.proofs.Places.{below, map_at}
+use Rattle.build_work.proofs.Applying.{stays_built}
+use Rattle.build_scan.proofs.Places.{below, map_at}
 use Rattle.build_events.specs.CoreState.{BuildState, IndexState, LiveState, CoreState, SpoolsState, idle}
 use Rattle.ready_indexes.specs.Indexes.{IsIndex, ReadyValue, index_now}
-use Rattle.builder_core.specs.Holding.{spools_state}
+use Rattle.build_work.specs.Holding.{all_spools, spools_state}
 use Rattle.build_events.specs.BuildSteps.{AreKeyed, OnBuild, Switches, CatchesUp, AreFurther, apply_refusal, busy_refusal, after_switch_in, verdicts_on}
 use Rattle.build_events.specs.Verdicts.{accepted, outcomes, verdict_on}
 use Rattle.build_events.specs.Workers.{all_unapplied, unapplied}
@@ -36,7 +38,8 @@ use Rattle.unique_verdict.specs.declared.verdict.Verdict.TheVariants.{Unique}
 use Rattle.builder_core.proofs.MadeReady.{may_follow, no_writers, ready_more, ready_same}
 use Rattle.build_events.proofs.Verdicts.{accepted_more, accepted_same}
 use Rattle.builder_core.proofs.FedBeside.{indexes_seen}
-use Rattle.builder_core.proofs.TableBuilds.{columns_at, switched_pairs}
+use Rattle.build_scan.proofs.TableBuilds.{columns_at}
+use Rattle.builder_core.proofs.TableBuilds.{switched_pairs}
 
 -- of those that can be ready the first can, and the others
 module _
@@ -216,18 +219,18 @@ module _
       (told : ℕ × List Outcome) (heap : HeapState) (ready : List ReadyValue) (build : Option BuildState) (new : BuildingValue)
       → told.0 ≡ length live.state.heap.log + 1 → told.1 ≡ verdicts_on live.state b → heap ≡ after_fence false (after_switch live.state.heap (verdicts_on live.state b))
       → ready ≡ live.state.ready ++ ready_of b.specs w.indexes → build ≡ None → new.work ≡ None
-      → spools_state new.given new.spools ≡ spools_state building.given building.spools → AreKeyed live.state.heap.log b.specs
+      → spools_state new.given (all_spools new.workers new.spools) ≡ spools_state building.given (all_spools building.workers building.spools) → AreKeyed live.state.heap.log b.specs
       → Switches (core_state live building) told (record {
         live = record { heap = heap; ready = ready; builds = live.state.builds; build = build };
         work = work_state new.workers new.work;
-        spools = spools_state new.given new.spools;
+        spools = spools_state new.given (all_spools new.workers new.spools);
       })
   switches told heap ready build new number verdicts noted grown none gone ended keyed =
-      let spools : SpoolsState = spools_state building.given building.spools in
+      let spools : SpoolsState = spools_state building.given (all_spools building.workers building.spools) in
       let Whole : HeapState → List ReadyValue → CoreState =
       λ h r. record { live = record { heap = h; ready = r; builds = live.state.builds; build = None }; work = idle; spools = spools } in
       let table : LiveState = record { heap = heap; ready = ready; builds = live.state.builds; build = build } in
-      let left : CoreState = record { live = table; work = work_state new.workers new.work; spools = spools_state new.given new.spools } in
+      let left : CoreState = record { live = table; work = work_state new.workers new.work; spools = spools_state new.given (all_spools new.workers new.spools) } in
       let state : left ≡ record { live = after_switch_in live.state b; work = idle; spools = spools } =
       rw (none, gone, ended) (ap (λ h. Whole h ready) noted
       ∙ ap (Whole (after_fence false (after_switch live.state.heap (verdicts_on live.state b)))) (grown ∙ ap (λ is. live.state.ready ++ is) all_ready)) in

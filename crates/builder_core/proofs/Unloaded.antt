@@ -1,20 +1,21 @@
 -- The lowest index whose pairs are not in order.
-use Rattle.std.proofs.Common.{◌≡◌, ℕ, zero, suc, ◌<◌, ◌≤◌, Bool, true, false, List, [], ◌∷◌, length, map, Option, Some, None, inl, inr, ◌+◌, refl, sym, ap, ◌∙◌, subst, arith}
-use Rattle.std.specs.Prelude.{is_some, cond, nat_lt, not}
+use Rattle.std.proofs.Common.{◌≡◌, ℕ, ◌<◌, ◌≤◌, Bool, false, List, length, map, Option, Some, None, refl, sym, ap, ◌∙◌, subst, arith}
+use Rattle.std.specs.Prelude.{is_some, nat_lt, not}
 use Rattle.std.specs.Option.{option_map}
-use Rattle.std.specs.List.{position, position_or_len, slice_get}
-use Rattle.std.proofs.lemmas.Bool.{cases_lt, false≢true, false_from_ne_true, lt-ltb, ltb-true}
-use Rattle.std.proofs.lemmas.List.{length-map}
+use Rattle.std.specs.List.{position}
+use Rattle.std.proofs.lemmas.Bool.{false_from_ne_true, lt-ltb, ltb-true}
 use Rattle.keybytes.specs.declared.fault.Fault.{Fault}
 use Rattle.keybytes.specs.declared.fault.Fault.TheVariants.{NoBuild, NotLoaded, NotScanned, Behind}
 use Rattle.keybytes.specs.Faults.{first_cause}
 use Rattle.heap_table.specs.HeapState.{busy_txns}
-use Rattle.builder_core.specs.Builds.{LiveValue, BuildingValue, WorkValue, IndexValue, IsRunning, WorksOn, index_state, work_state, core_state, cause_of}
+use Rattle.builder_core.specs.Builds.{LiveValue, IsRunning, WorksOn, core_state, cause_of}
+use Rattle.build_work.specs.BuildingValue.{BuildingValue, WorkValue, IndexValue, index_state, work_state}
 use Rattle.builder_core.specs.CatchingUp.{MayCatchUp}
 use Rattle.build_events.specs.declared.event.Event.TheVariants.{Switch}
 use Rattle.build_events.specs.CoreState.{BuildState, IndexState, WorkState, CoreState}
 use Rattle.build_events.specs.Ranges.{open_range}
-use Rattle.build_events.specs.BuildSteps.{OnBuild, CatchesUp, AreFurther, build_cause, cause_if, index_refusal, apply_refusal, behind_refusal, busy_refusal, switch_refusal}
+use Rattle.build_events.specs.BuildSteps.{OnBuild, CatchesUp, AreFurther, build_cause, cause_if, index_refusal, apply_refusal, behind_refusal, busy_refusal}
+use Rattle.build_events.specs.BuildSteps.{switch_refusal}
 use Rattle.build_events.specs.Steps.{refusal}
 use Rattle.build_events.specs.Workers.{all_unapplied, index_at, unloaded_index}
 use Rattle.std.proofs.lemmas.Option.{get_or_from_slice_get}
@@ -22,73 +23,10 @@ use Rattle.builder_core.proofs.ApplyCauses.{inside_of}
 use Rattle.keybytes.proofs.FirstCause.{both_none}
 use Rattle.builder_core.proofs.LeftOver.{indexes_many}
 use Rattle.builder_core.proofs.Refusals.{state_of, state_is}
-use Rattle.builder_core.proofs.Places.{below, there_is}
+use Rattle.build_scan.proofs.Places.{there_is}
+use Rattle.build_work.proofs.Positions.{all_fail, position_of}
 
-module _ {X : Type 0} (test : X → Bool) where
-  first_place :
-      (xs : List X) (i : ℕ) (y : X) → ((k : ℕ) (x : X) → k < i → slice_get xs k ≡ Some x → test x ≡ false) → slice_get xs i ≡ Some y → test y ≡ true
-      → position_or_len test xs ≡ i
-  first_place [] i y before at passes = absurd (cc)
-  first_place (x ∷ xs) zero y before at passes =
-      let here : test x ≡ true = ap test (let same : x ≡ y = cc in same) ∙ passes in
-      rw here refl
-  first_place (x ∷ xs) (suc i) y before at passes =
-      let fails : test x ≡ false = before 0 x (omega arith) refl in
-      let rest = first_place xs i y (λ k z less there. before (suc k) z (omega (arith, less)) there) at passes in
-      rw fails (omega (arith, rest))
-
-  no_place : (xs : List X) → ((k : ℕ) (x : X) → slice_get xs k ≡ Some x → test x ≡ false) → position_or_len test xs ≡ length xs
-  no_place [] each = refl
-  no_place (x ∷ xs) each =
-      let fails : test x ≡ false = each 0 x refl in
-      let rest = no_place xs (λ k z there. each (suc k) z there) in
-      rw fails (omega (arith, rest))
-
-  -- the first that passes
-  pub first_here :
-      (xs : List X) (i : ℕ) (y : X) → ((k : ℕ) (x : X) → k < i → slice_get xs k ≡ Some x → test x ≡ false) → slice_get xs i ≡ Some y → test y ≡ true
-      → Some i ≡ position test xs
-  first_here xs i y before at passes =
-      let less : i < length xs = below xs i y at in
-      let place = first_place xs i y before at passes in
-      rw (place) (search (less, arith))
-
-  -- none passes
-  pub none_here : (xs : List X) → ((k : ℕ) (x : X) → slice_get xs k ≡ Some x → test x ≡ false) → None ≡ position test xs
-  none_here xs each = let place = no_place xs each in rw place (search arith)
-
-  same_place : {Y : Type 0} (f : Y → X) (ys : List Y) → position_or_len test (map f ys) ≡ position_or_len (λ (y : Y). test (f y)) ys
-  same_place f [] = refl
-  same_place f (y ∷ ys) = rw (same_place f ys) refl
-
-  -- what is made of a list passes where it passes
-  pub position_of : {Y : Type 0} (f : Y → X) (ys : List Y) → position test (map f ys) ≡ position (λ (y : Y). test (f y)) ys
-  position_of f ys = rw (same_place f ys, length-map ys f) refl
-
-  -- where none is the first that passes none passes
-  none_passes : (xs : List X) (k : ℕ) (x : X) → length xs ≤ position_or_len test xs → slice_get xs k ≡ Some x → test x ≡ false
-  none_passes [] k x far at = absurd (cc)
-  none_passes (y ∷ ys) k x far at = by_first (test y) refl (λ j rest there. none_passes ys j x rest there) k at where
-    by_first :
-        (b : Bool) → test y ≡ b → ((j : ℕ) → length ys ≤ position_or_len test ys → slice_get ys j ≡ Some x → test x ≡ false) → (k : ℕ)
-        → slice_get (y ∷ ys) k ≡ Some x → test x ≡ false
-    by_first true here others k there =
-        absurd (let less : suc (length ys) ≤ 0 = subst (λ (n : ℕ). suc (length ys) ≤ n) (rw here refl) far in omega (arith, less))
-    by_first false here others zero there = ap test (let same : x ≡ y = cc in same) ∙ here
-    by_first false here others (suc j) there =
-        let rest : suc (length ys) ≤ 1 + position_or_len test ys = subst (λ (n : ℕ). suc (length ys) ≤ n) (rw here refl) far in
-        others j (omega (arith, rest)) there
-
-  pub all_fail : (xs : List X) → position test xs ≡ None → (k : ℕ) (x : X) → slice_get xs k ≡ Some x → test x ≡ false
-  all_fail xs none k x at = by_test (nat_lt (position_or_len test xs) (length xs)) refl where
-    by_test : (b : Bool) → nat_lt (position_or_len test xs) (length xs) ≡ b → test x ≡ false
-    by_test true less = absurd (let bad : Some (position_or_len test xs) ≡ None = subst (λ (b : Bool). cond b (Some (position_or_len test xs)) None ≡ None) less none in cc)
-    by_test false more = none_passes xs k x (elim (cases_lt (position_or_len test xs) (length xs)) [
-      | inl less ↦ absurd (false≢true (sym more ∙ lt-ltb (position_or_len test xs) (length xs) less))
-      | inr far ↦ far
-    ]) at
-
--- callers see the same
+-- callers see that index too
 pub unloaded_seen :
     (indexes : List IndexValue) → position (λ (index : IndexState). not index.loaded) (map index_state indexes) ≡ position (λ (index : IndexValue). not (is_some index.built)) indexes
 unloaded_seen indexes = position_of (λ (index : IndexState). not index.loaded) index_state indexes

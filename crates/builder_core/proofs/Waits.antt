@@ -1,5 +1,5 @@
 -- What waits for a worker, and what it has not sealed, by what its ring was sent.
-use Rattle.std.proofs.Common.{◌≡◌, ℕ, zero, suc, ◌+◌, ◌-◌, ◌%◌, ◌<◌, ◌==◌, Bool, true, List, [], ◌∷◌, ◌++◌, length, map, take, take_all, drop}
+use Rattle.std.proofs.Common.{◌≡◌, ℕ, zero, suc, ◌+◌, ◌-◌, ◌%◌, ◌==◌, Bool, true, List, [], ◌∷◌, ◌++◌, length, take, take_all, drop}
 use Rattle.std.proofs.Common.{get_or, Some, refl, sym, ap, ◌∙◌, subst, arith, length-append}
 use Rattle.std.specs.Prelude.{flat_map, IsPermutation}
 use Rattle.std.proofs.lemmas.List.Sorted.{IsPermutation-sym}
@@ -17,21 +17,26 @@ use Rattle.heap_table.specs.Images.{ImageValue}
 use Rattle.building.specs.Copies.{images_of}
 use Rattle.building.specs.Holding.{HoldsPairs, HoldsOpen}
 use Rattle.building.specs.Taking.{IsTaking, received_images, unsealed_images}
-use Rattle.building.specs.WorkerValue.{WorkerValue}
+use Rattle.building.specs.IntakeValue.{IntakeValue}
 use Rattle.building.specs.declared.copied.Copied.{Copied}
 use Rattle.building.proofs.ManyPairs.{images-append}
 use Rattle.building.proofs.SamePairs.{have_same}
 use Rattle.building.proofs.Taking.{own_images, sent_count}
-use Rattle.builder_core.specs.Builds.{worker_state}
-use Rattle.build_events.specs.CoreState.{BuildState, WorkerState, scanning_of}
-use Rattle.builder_core.specs.Rings.{all_images, IsDone}
+use Rattle.build_work.specs.BuildingValue.{worker_state}
+use Rattle.build_events.specs.CoreState.{BuildState, scanning_of}
+use Rattle.builder_core.specs.Rings.{all_images}
 use Rattle.build_events.specs.Scanning.{AreCopies, pairs_at_scan}
-use Rattle.build_events.specs.Workers.{put_to, unsealed_pairs, fill_runs, is_quiet}
+use Rattle.build_events.specs.Workers.{put_to, unsealed_pairs, fill_runs, is_sealed}
 use Rattle.build_events.specs.declared.scan.Scan.{Scan}
 use Rattle.builder_core.proofs.AllImages.{all_own}
 use Rattle.build_events.proofs.Copies.{copies_count}
 use Rattle.builder_core.proofs.CopyPairs.{copies_pairs}
-use Rattle.builder_core.proofs.Places.{all_at, there_is, no_pair, no_pairs}
+use Rattle.build_scan.proofs.Places.{all_at, there_is, no_pair, no_pairs}
+
+-- all that was sent is received, and no run is open
+pub record IsDone (sent : List Copied) (intake : IntakeValue) (maker : MakerValue) : Type 0 where
+  pub taken : intake.end.received ≡ sent
+  pub closed : All (λ begun. begun ≡ []) maker.begun
 
 -- the first copies, and the others
 copies_take : (kinds : List Kind) (log : List LogRec) (n : ℕ) (scans : List Scan) (images : List ImageValue) → AreCopies kinds log scans images → AreCopies kinds log (take n scans) (take n images)
@@ -58,17 +63,8 @@ each_passes test [] all k x at = absurd (cc)
 each_passes test (y ∷ ys) all zero x at = ap test (sym (same_Some y x at)) ∙ (and_parts (test y) (list_all test ys) all).0
 each_passes test (y ∷ ys) all (suc k) x at = each_passes test ys (and_parts (test y) (list_all test ys) all).1 k x at
 
--- the state of a worker among those of all
-pub state_at :
-    (count k : ℕ) (workers : List WorkerValue) (worker : WorkerValue) (other : WorkerState) → k < count → slice_get workers k ≡ Some worker
-    → get_or (map worker_state (take count workers)) k other ≡ worker_state worker
-state_at count k [] worker other less at = absurd (cc)
-state_at zero k (w ∷ ws) worker other less at = absurd (omega (arith, less))
-state_at (suc count) zero (w ∷ ws) worker other less at = ap worker_state (same_Some w worker at)
-state_at (suc count) (suc k) (w ∷ ws) worker other less at = state_at count k ws worker other (omega (arith, less)) at
-
 module _
-    (kinds : List Kind) (log : List LogRec) (b : BuildState) (k : ℕ) (sent : List Copied) (worker : WorkerValue) (put : AreCopies kinds log (put_to b k) (all_images b.number sent))
+    (kinds : List Kind) (log : List LogRec) (b : BuildState) (k : ℕ) (sent : List Copied) (worker : IntakeValue) (put : AreCopies kinds log (put_to b k) (all_images b.number sent))
     (taking : IsTaking b.number kinds sent worker) where
   -- all of them are of the table's columns
   copies : AreCopies kinds log (put_to b k) (images_of b.number kinds sent)
@@ -140,20 +136,20 @@ module _
         → length (get_or maker.begun index []) ≡ length (unsealed_pairs b log k (worker_state worker) spec) % 4096
     open_is index spec at = begun_is spec (all_at (λ s. s.kinds ≡ kinds) specs index spec columns at) (get_or maker.begun index []) (opened index spec at)
 
-    -- a worker that took all, and whose runs are closed, is quiet
-    pub quiet_is : IsDone sent worker maker → is_quiet b log k (worker_state worker) ≡ true
-    quiet_is quiet =
-        let none : taking.rest ≡ [] = append_cancel_left worker.end.received taking.rest [] (taking.in_order ∙ sym quiet.taken ∙ sym (append-nil worker.end.received)) in
+    -- a worker that took all, and whose runs are closed, is sealed
+    pub sealed_is : IsDone sent worker maker → is_sealed b log k (worker_state worker) ≡ true
+    sealed_is sealed =
+        let none : taking.rest ≡ [] = append_cancel_left worker.end.received taking.rest [] (taking.in_order ∙ sym sealed.taken ∙ sym (append-nil worker.end.received)) in
         let all : worker.taken ≡ length (put_to b k) = let rest = ap (λ (cs : List Copied). length (images_of b.number kinds cs)) none in omega (arith, counted, rest) in
         let closed : list_all fills specs ≡ true =
         all_pass fills specs (λ index spec at.
         eq-eqb (length (unsealed_pairs b log k (worker_state worker) spec) % 4096) 0
-        (sym (open_is index spec at) ∙ ap (λ (ps : List Pair). length ps) (no_pair maker.begun index quiet.closed))) in
+        (sym (open_is index spec at) ∙ ap (λ (ps : List Pair). length ps) (no_pair maker.begun index sealed.closed))) in
         and_from (worker.taken == length (put_to b k)) (list_all fills b.specs) (eq-eqb worker.taken (length (put_to b k)) all) (ap (list_all fills) are ∙ closed)
 
     -- and only such a one
-    pub is_quiet-quiet : is_quiet b log k (worker_state worker) ≡ true → IsDone sent worker maker
-    is_quiet-quiet is =
+    pub from_is_sealed : is_sealed b log k (worker_state worker) ≡ true → IsDone sent worker maker
+    from_is_sealed is =
         let both = and_parts (worker.taken == length (put_to b k)) (list_all fills b.specs) is in
         let all : worker.taken ≡ length (put_to b k) = eqb-true worker.taken (length (put_to b k)) both.0 in
         let own = own_images b.number kinds taking.rest taking.own in

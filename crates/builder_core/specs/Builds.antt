@@ -1,40 +1,32 @@
--- What a table and the workers of its build keep between events, and how the two go together.
-use Rattle.std.specs.Prelude.{◌≡◌, ℕ, ◌+◌, ◌==◌, ◌<◌, ◌≤◌, Bool, List, [], ◌++◌, length, map, min, take, set, replicate, is_some, true, false, Option, drop}
+-- What a table keeps between events, and how it goes with what stands beside it.
+use Rattle.std.specs.Prelude.{◌≡◌, ℕ, ◌+◌, ◌==◌, ◌<◌, ◌≤◌, List, ◌++◌, length, map, min, take, set, is_some, true, false, Option, drop}
 use Rattle.std.specs.Prelude.{Some, None}
-use Rattle.std.specs.FinMap.{keys}
 use Rattle.std.specs.List.{All, slice_get}
 use Rattle.keybytes.specs.Faults.{first_cause}
 use Rattle.keybytes.specs.Keys.{KeySpecValue}
-use Rattle.keybytes.specs.Pairs.{set_of}
 use Rattle.keybytes.specs.declared.fault.Fault.{Fault}
 use Rattle.keybytes.specs.declared.fault.Fault.TheVariants.{RingFull}
-use Rattle.keybytes.specs.declared.kind.Kind.{Kind}
-use Rattle.keybytes.specs.declared.pair.Pair.{Pair}
 use Rattle.heap_log.specs.declared.record.LogRec.{LogRec}
 use Rattle.heap_table.specs.HeapState.{HeapState}
-use Rattle.run_maker.specs.Making.{MakerValue}
-use Rattle.scan_range.specs.Cuts.{CutsValue, are_cuts}
-use Rattle.scan_range.specs.Ranges.{RangesValue, is_passed}
 use Rattle.side_file.specs.Ends.{PutEnd, RingId}
 use Rattle.side_file.specs.declared.entry.Entry.{Entry}
 use Rattle.side_file.specs.Entries.{entry_of}
 use Rattle.building.specs.TakeEnd.{TakeEnd}
-use Rattle.building.specs.WorkerValue.{WorkerValue}
+use Rattle.building.specs.WorkerValue.{IsHolding, WorkerValue}
 use Rattle.building.specs.declared.copied.Copied.{Copied}
-use Rattle.build_events.specs.CoreState.{BuildState, LiveState, WorkerState, IndexState, WorkState, CoreState, scanning_of, live_with_heap, idle}
+use Rattle.build_events.specs.CoreState.{BuildState, LiveState, CoreState, scanning_of, live_with_heap}
 use Rattle.build_events.specs.Ranges.{next_page, open_range}
-use Rattle.builder_core.specs.Holding.{SpoolValue, spools_state, ended_spool, fresh_maker, AreEquipped, AreHolding, AreOpen}
-use Rattle.builder_core.specs.Rings.{all_sent, AreForWorkers, AreLooked, AreTaking, AreDone}
-use Rattle.build_events.specs.Scanning.{Scanning, IsScanned, ReadOnce, scanned_at, scanned_pairs}
-use Rattle.builder_core.specs.SideFiles.{IsFed, HasLookedAtSide, SeesSide}
+use Rattle.build_work.specs.Holding.{all_spools, spools_state}
+use Rattle.build_work.specs.Rings.{all_sent, AreLooked, AreSealed}
+use Rattle.build_scan.specs.SideFiles.{HasLookedAtSide, SeesSide}
 use Rattle.build_events.specs.BuildSteps.{cause_if, build_cause, counts_refusal, range_refusal, ring_most, after_feed}
 use Rattle.build_events.specs.Steps.{refusal}
 use Rattle.build_events.specs.declared.event.Event.{Event}
 use Rattle.build_events.specs.Workers.{fed_to, unfed}
 use Rattle.build_events.specs.SideEntries.{side_entries}
-use Rattle.visibility.specs.Applied.{apply_entries}
-use Rattle.catch_up.specs.Built.{BuiltValue}
-use Rattle.build_events.specs.declared.scan.Scan.{Scan}
+use Rattle.build_scan.specs.TableBuilds.{IsBuildOf}
+use Rattle.build_work.specs.BuildingValue.{BuildingValue, IndexValue, WorkValue, work_state}
+use Rattle.build_work.specs.WorkOn.{AreAtWork, IsWorkOf, IsWorkOn, WorkersFollow}
 
 -- a table with the ends of its rings that put
 pub record LiveValue : Type 0 where
@@ -48,217 +40,23 @@ pub record LiveValue : Type 0 where
 abbrev pub value_with_heap : LiveValue → HeapState → LiveValue
 value_with_heap live heap = record live { state = live_with_heap live.state heap }
 
--- an index of a build: its pairs, once they are in order, and how many entries of its side-file were applied to them
-pub record IndexValue : Type 0 where
-  pub built : Option BuiltValue
-  pub applied : ℕ
-
--- nothing was done on it
-abbrev pub fresh_index : IndexValue
-fresh_index = record { built = None; applied = 0 }
-
--- the work of a build
-pub record WorkValue : Type 0 where
-  -- the number of the build
-  pub build : ℕ
-  -- what makes the keys of its indexes
-  pub specs : List KeySpecValue
-  -- how many of the workers it has
-  pub workers : ℕ
-  -- what makes the pairs of each of them
-  pub makers : List MakerValue
-  pub indexes : List IndexValue
-  pub spoiled : Option Fault
-
--- the work of the build with that number by so many workers, on rows of these columns, that has done nothing
-abbrev pub fresh : ℕ → List Kind → List KeySpecValue → ℕ → WorkValue
-fresh build kinds specs workers = record {
-  build = build;
-  specs = specs;
-  workers = workers;
-  makers = replicate workers (fresh_maker kinds specs);
-  indexes = replicate (length specs) fresh_index;
-  spoiled = None;
-}
-
 -- a heap, and the rings for the builds of its indexes
 pub record PartsValue : Type 0 where
   pub heap : HeapState
   pub pages : List RingId
   pub sides : List RingId
 
--- the ends of a table's rings that take: those of the page rings are the workers'
-pub record EndsValue : Type 0 where
-  pub workers : List WorkerValue
-  pub sides : List (TakeEnd Entry)
-
--- what stands beside a table: the workers, the other ends of the side-files' rings, the spools, whether a build was given them, and the
--- work of the build that runs
-pub record BuildingValue : Type 0 where
-  pub workers : List WorkerValue
-  pub sides : List (TakeEnd Entry)
-  pub spools : List SpoolValue
-  pub given : Bool
-  pub work : Option WorkValue
-
--- what callers see of a worker
-abbrev pub worker_state : WorkerValue → WorkerState
-worker_state worker = record { taken = worker.taken; sealed = worker.sealed }
-
--- and of an index
-abbrev pub index_state : IndexValue → IndexState
-index_state index = record { loaded = is_some index.built; applied = index.applied }
-
--- what callers see of work that goes on, or is spoiled
-abbrev pub state_unless : Option Fault → List WorkerValue → WorkValue → WorkState
-state_unless None workers work = record { workers = map worker_state (take work.workers workers); indexes = map index_state work.indexes; spoiled = None }
-state_unless (Some fault) workers work = record { workers = []; indexes = map index_state work.indexes; spoiled = Some fault }
-
--- what callers see of the work
-abbrev pub work_state : List WorkerValue → Option WorkValue → WorkState
-work_state workers None = idle
-work_state workers (Some work) = state_unless work.spoiled workers work
-
 -- what callers see of a table and of what stands beside it
 abbrev pub core_state : LiveValue → BuildingValue → CoreState
 core_state live building = record {
   live = live.state;
   work = work_state building.workers building.work;
-  spools = spools_state building.given building.spools;
+  spools = spools_state building.given (all_spools building.workers building.spools);
 }
 
 -- why an event is refused of a table and of what stands beside it
 abbrev pub cause_of : LiveValue → BuildingValue → Event → Option Fault
 cause_of live building event = refusal (core_state live building) event
-
--- the work is given up, and the spools are ended
-abbrev pub given_up : BuildingValue → BuildingValue
-given_up building = record building { spools = map ended_spool building.spools; work = None }
-
--- whether a specification, if there is one, is of a unique index
-abbrev pub is_unique : Option KeySpecValue → Bool
-is_unique None = false
-is_unique (Some spec) = spec.unique
-
--- an index of the work with these pairs in order
-abbrev pub with_pairs : WorkValue → ℕ → List Pair → BuiltValue
-with_pairs work index pairs = record { build = work.build; unique = is_unique (slice_get work.specs index); pairs = pairs }
-
--- these pairs are the index's, in order, with so many entries applied
-abbrev pub with_index : WorkValue → ℕ → List Pair → ℕ → WorkValue
-with_index work index pairs applied =
-    record work { indexes = set work.indexes index (record { built = Some (with_pairs work index pairs); applied = applied }) }
-
--- a build of these indexes by so many workers, over the ranges that are cut so, which fed so many entries of each
-abbrev pub build_over : ℕ → List KeySpecValue → ℕ → ℕ → CutsValue → List Scan → List ℕ → BuildState
-build_over number specs workers opened cuts scans fed = record {
-  number = number;
-  specs = specs;
-  opened = opened;
-  pages = cuts.pages;
-  ends = cuts.ends;
-  workers = workers;
-  scans = scans;
-  fed = fed;
-}
-
--- the scans of a build by so many workers whose ranges are so far
-pub record AreScansOf (ranges : RangesValue) (workers : ℕ) (scans : List Scan) : Type 0 where
-  pub limit : ranges.pages ≤ 65536
-  -- room for a scan a page suffices
-  pub within : length scans ≤ ranges.pages
-  pub once : ReadOnce scans
-  -- a page was passed by its range exactly where it was copied
-  pub passed : (page : ℕ) → is_passed ranges page ≡ is_some (scanned_at scans page)
-  pub for_workers : AreForWorkers workers scans
-
--- a build on the table with that log
-pub record IsBuildOf (kinds : List Kind) (log : List LogRec) (b : BuildState) : Type 0 where
-  pub some_index : 1 ≤ length b.specs
-  pub few_indexes : length b.specs ≤ 8
-  pub few_workers : b.workers ≤ 16
-  pub columns : All (λ spec. spec.kinds ≡ kinds) b.specs
-  pub fed_many : length b.fed ≡ length b.specs
-  pub limit : b.pages ≤ 65536
-  -- its ranges are cuts of its pages
-  pub cuts : are_cuts b.pages b.ends ≡ true
-  pub for_workers : AreForWorkers b.workers b.scans
-  -- which pages were read is the same for each index
-  pub scanned : (spec : KeySpecValue) → IsScanned (scanning_of b spec) log
-
--- the running build, if any, is one of that table
-abbrev pub BuildFollows : List Kind → List LogRec → Option BuildState → Type 0
-BuildFollows kinds log None = Unit {0}
-BuildFollows kinds log (Some b) = IsBuildOf kinds log b
-
--- these are the pairs that were read, with the first so many entries of the side-file applied to them, in order
-abbrev pub IsCaughtUpTo : ℕ → Scanning → List LogRec → List Pair → Type 0
-IsCaughtUpTo applied b log pairs = pairs ≡ keys (apply_entries (take applied (side_entries b log)) (set_of (scanned_pairs b log)))
-
--- it is the work on an index of that build, of that specification
-pub record IsIndexOn (log : List LogRec) (b : BuildState) (spec : KeySpecValue) (index : IndexValue) : Type 0 where
-  -- its pairs are in order only once no page is left to copy
-  pub all : is_some index.built ≡ true → open_range b ≡ None
-  -- no entry was applied before, nor one that the side-file has not
-  pub none_before : index.built ≡ None → index.applied ≡ 0
-  pub there : index.applied ≤ length (side_entries (scanning_of b spec) log)
-  -- in order they are the index's, with that number
-  pub loaded : (built : BuiltValue) → index.built ≡ Some built → IsCaughtUpTo index.applied (scanning_of b spec) log built.pairs
-  pub of_build : (built : BuiltValue) → index.built ≡ Some built → built.build ≡ b.number
-  -- and keep a tally where the index is unique
-  pub of_spec : (built : BuiltValue) → index.built ≡ Some built → built.unique ≡ spec.unique
-
--- it is the work on these indexes of that build
-abbrev pub AreIndexesOn : List LogRec → BuildState → List IndexValue → Type 0
-AreIndexesOn log b indexes =
-    (k : ℕ) (spec : KeySpecValue) (index : IndexValue) → slice_get b.specs k ≡ Some spec → slice_get indexes k ≡ Some index → IsIndexOn log b spec index
-
--- it is the work of that build
-pub record IsWorkOn (kinds : List Kind) (log : List LogRec) (b : BuildState) (work : WorkValue) : Type 0 where
-  pub number : work.build ≡ b.number
-  pub specs : b.specs ≡ work.specs
-  pub columns : All (λ spec. spec.kinds ≡ kinds) work.specs
-  pub workers : work.workers ≡ b.workers
-  pub many : length work.indexes ≡ length b.specs
-  pub indexes : AreIndexesOn log b work.indexes
-
--- there is work exactly where a build runs, and it is that build's
-abbrev pub IsWorkOf : List Kind → List LogRec → Option BuildState → Option WorkValue → Type 0
-IsWorkOf kinds log None None = Unit {0}
-IsWorkOf kinds log None (Some work) = ⊥
-IsWorkOf kinds log (Some b) None = ⊥
-IsWorkOf kinds log (Some b) (Some work) = IsWorkOn kinds log b work
-
--- the pairs of an index are not in order
-abbrev pub IsUnloaded : ℕ → WorkValue → Type 0
-IsUnloaded k work = (index : IndexValue) → slice_get work.indexes k ≡ Some index → index.built ≡ None
-
--- what the makers and spools of so many workers hold of the copies that these took: their pairs, until they are in order
-pub record HaveKits (count : ℕ) (workers : List WorkerValue) (spools : List SpoolValue) (work : WorkValue) : Type 0 where
-  pub equipped : AreEquipped work.specs count work.makers spools
-  pub opened : (index : ℕ) (spec : KeySpecValue) → slice_get work.specs index ≡ Some spec → AreOpen index spec count workers work.makers
-  pub holding : (index : ℕ) (spec : KeySpecValue) → slice_get work.specs index ≡ Some spec → IsUnloaded index work
-      → AreHolding index spec (length work.specs) count workers work.makers spools
-
--- of each index the entries that were fed and not applied wait in the ring between these ends
-abbrev pub AreFed : BuildState → List IndexValue → List (PutEnd Entry) → List (TakeEnd Entry) → Type 0
-AreFed b indexes puts ends =
-    (k : ℕ) (index : IndexValue) (put : PutEnd Entry) (end : TakeEnd Entry) → slice_get indexes k ≡ Some index → slice_get puts k ≡ Some put
-    → slice_get ends k ≡ Some end → IsFed (fed_to b k) index.applied put end
-
--- the entries that were fed and not applied wait in the side-files' rings, the build has the spools, and its workers are at work on what
--- their rings were sent; of a spoiled build only the first two are known
-pub record AreAtWork (kinds : List Kind) (b : BuildState) (pages : List (PutEnd Copied)) (sides : List (PutEnd Entry)) (building : BuildingValue) (work : WorkValue) : Type 0 where
-  pub fed : AreFed b work.indexes sides building.sides
-  pub given : building.given ≡ true
-  pub taking : work.spoiled ≡ None → AreTaking b.number kinds b.workers (all_sent pages) building.workers
-  pub kits : work.spoiled ≡ None → HaveKits b.workers building.workers building.spools work
-
--- the same for the build that runs, if one does
-abbrev pub WorkersFollow : List Kind → List (PutEnd Copied) → List (PutEnd Entry) → BuildingValue → Option BuildState → Option WorkValue → Type 0
-WorkersFollow kinds pages sides building None work = Unit {0}
-WorkersFollow kinds pages sides building (Some b) None = Unit {0}
-WorkersFollow kinds pages sides building (Some b) (Some work) = AreAtWork kinds b pages sides building work
 
 -- work stands beside a table exactly where a build runs on it, and is that build's; its workers follow their rings, and their makers and
 -- spools hold what they took
@@ -271,6 +69,7 @@ pub record HasLooked (live : LiveValue) (building : BuildingValue) (new_live : L
   pub state : new_live.state ≡ live.state
   pub sides : new_live.sides ≡ live.sides
   pub rings : AreLooked live.pages building.workers new_live.pages new_building.workers
+  pub idle : new_building.idle ≡ building.idle
   pub other_sides : new_building.sides ≡ building.sides
   pub spools : new_building.spools ≡ building.spools
   pub given : new_building.given ≡ building.given
@@ -282,8 +81,8 @@ pub record SeesRing (worker count : ℕ) (live : LiveValue) (building : Building
   pub there : slice_get building.workers worker ≡ Some it
   pub end : PutEnd Copied
   pub ring : slice_get live.pages worker ≡ Some end
-  pub in_order : it.end.received ++ it.end.known ≡ end.sent
-  pub seen : count ≡ length it.end.known
+  pub in_order : it.intake.end.received ++ it.intake.end.known ≡ end.sent
+  pub seen : count ≡ length it.intake.end.known
   pub free : 4 ≤ end.free + count
 
 -- a build runs on that table, and this is its work
@@ -327,7 +126,17 @@ pub record MayLoad (live : LiveValue) (building : BuildingValue) (index : ℕ) :
   pub fine : work.spoiled ≡ None
   pub there : index < length work.specs
   pub all : open_range build ≡ None
-  pub quiet : AreDone build.workers (all_sent live.pages) building.workers work.makers
+  pub sealed : AreSealed (all_sent live.pages) building.workers
+  pub holding : work.loading ≡ false → All (λ worker. IsHolding worker.intake worker.maker worker.spools) building.workers
+
+-- its workers have handed their spools over for that
+pub record IsLoading (live : LiveValue) (building : BuildingValue) (index : ℕ) : Type 0 where
+  pub build : BuildState
+  pub work : WorkValue
+  pub runs : IsRunning live building build work
+  pub fine : work.spoiled ≡ None
+  pub there : index < length work.specs
+  pub loads : work.loading ≡ true
 
 -- entries of its side-file may be applied to the index
 pub record MayApply (live : LiveValue) (building : BuildingValue) (index : ℕ) : Type 0 where

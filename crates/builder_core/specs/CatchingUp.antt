@@ -4,14 +4,13 @@ use Rattle.std.specs.List.{slice_get}
 use Rattle.keybytes.specs.Keys.{KeySpecValue, are_key_columns}
 use Rattle.keybytes.specs.declared.pair.Pair.{Pair}
 use Rattle.unique_verdict.specs.Verdicts.{accepts}
-use Rattle.unique_verdict.specs.declared.verdict.Verdict.{Verdict}
-use Rattle.unique_verdict.specs.declared.verdict.Verdict.TheVariants.{Unique}
-use Rattle.catch_up.specs.Built.{BuiltValue, verdict_of}
-use Rattle.builder_core.specs.Builds.{IndexValue}
+use Rattle.catch_up.specs.Built.{BuiltValue}
+use Rattle.build_work.specs.BuildingValue.{IndexValue}
 use Rattle.build_events.specs.CoreState.{BuildState, IndexState, CoreState}
 use Rattle.ready_indexes.specs.Indexes.{ReadyValue, IsIndex}
 use Rattle.build_events.specs.BuildSteps.{OnBuild, IsFurther, apply_refusal}
 use Rattle.build_events.specs.Workers.{all_entries, unapplied, fed_to, index_at}
+use Rattle.build_work.specs.Verdicts.{its_verdict}
 
 -- how many entries of an index were not applied yet
 abbrev pub unapplied_at : BuildState → CoreState → ℕ → Option KeySpecValue → ℕ
@@ -50,14 +49,6 @@ pub record IndexIsFurther (index : ℕ) (s new : CoreState) : Type 0 where
   pub applied : ℕ
   pub further : IsFurther (all_entries build s.live.heap.log spec) (fed_to build index) old fed (record old { applied = applied })
   pub new_is : new ≡ further_by s build index old fed applied
-
--- whether the keys of an index of a build are unique, if it has to know that
-abbrev pub built_verdict : Option BuiltValue → Verdict
-built_verdict None = Unique
-built_verdict (Some built) = verdict_of built
-
-abbrev pub its_verdict : IndexValue → Verdict
-its_verdict index = built_verdict index.built
 
 -- an index of a build has its pairs, which can be those of a ready index if the columns of its specification make a key
 pub record IsDoneIndex (spec : KeySpecValue) (index : IndexValue) : Type 0 where

@@ -1,4 +1,4 @@
--- The full spool behind a digest or a seal that wants a page.
+-- Which events spool pairs, and the full spool behind one that wants a page.
 use Rattle.std.specs.Prelude.{◌≡◌, ℕ, ◌+◌, ◌*◌, ◌<◌, ◌⊎◌, List, length, Option, None, Some}
 use Rattle.std.specs.List.{slice_get}
 use Rattle.keybytes.specs.declared.fault.Fault.{Fault}
@@ -9,7 +9,8 @@ use Rattle.run_spool.specs.Spools.{IsFullForOne}
 use Rattle.build_events.specs.CoreState.{CoreState}
 use Rattle.build_events.specs.BuildSteps.{OnBuild}
 use Rattle.build_events.specs.declared.event.Event.{Event}
-use Rattle.build_events.specs.declared.event.Event.TheVariants.{Begin, Insert, Update, Delete, Undo, Commit, Start, Scan, Digest, Seal, Load, Feed, Apply, Fence, Switch, Abandon}
+use Rattle.build_events.specs.declared.event.Event.TheVariants.{Begin, Insert, Update, Delete, Undo, Commit, Start, Scan, Digest, Seal, Load, Feed, Apply}
+use Rattle.build_events.specs.declared.event.Event.TheVariants.{Fence, Switch, Abandon}
 
 -- what holds of the worker whose pairs an event spools; only a digest and a seal spool pairs
 abbrev pub IfSpooling : Event → (ℕ → Type 0) → Type 0

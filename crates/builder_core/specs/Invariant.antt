@@ -5,7 +5,8 @@ use Rattle.heap_log.specs.declared.record.LogRec.{LogRec}
 use Rattle.building.specs.declared.copied.Copied.{Copied}
 use Rattle.build_events.specs.CoreState.{BuildState}
 use Rattle.build_events.specs.Scanning.{ReadOnce}
-use Rattle.builder_core.specs.Rings.{AreForWorkers, ArePut}
+use Rattle.build_scan.specs.TableBuilds.{AreForWorkers}
+use Rattle.builder_core.specs.Rings.{ArePut}
 
 -- the copies that the rings were sent for the build are those of the scanned pages, each once
 pub record EachPageOnce (kinds : List Kind) (log : List LogRec) (b : BuildState) (all : List (List Copied)) : Type 0 where

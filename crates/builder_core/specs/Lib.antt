@@ -1,10 +1,6 @@
 pub mod Builds
 pub mod CatchingUp
 pub mod Changing
-pub mod Columns
 pub mod FullSpools
-pub mod Holding
 pub mod Invariant
 pub mod Rings
-pub mod SideFiles
-pub mod Working

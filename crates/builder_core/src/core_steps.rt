@@ -7,13 +7,13 @@ ghost use Rattle.keybytes.specs.Pairs.{HaveKeysOf, AreInColumnOrder};
 ghost use Rattle.heap_table.specs.TablePairs.{pairs_at_rest};
 ghost use Rattle.build_events.specs.CoreState.{opening, abandoned, after_visits, with_heap, ReadyFollowTable};
 ghost use Rattle.std.specs.VecDeque.Iter.{deque_iter_rest};
-ghost use Rattle.builder_core.specs.SideFiles.{AreEntriesLeft, HaveEntryKeys, side_refusal};
+ghost use Rattle.build_scan.specs.SideFiles.{AreEntriesLeft, HaveEntryKeys, side_refusal};
 ghost use Rattle.heap_log.specs.declared.outcome.Outcome.{Outcome};
 ghost use Rattle.build_events.specs.BuildSteps.{OnBuild};
 ghost use Rattle.build_events.specs.Steps.{Step, Answers};
 ghost use Rattle.build_events.specs.Verdicts.{HaveSharedKeys};
 ghost use Rattle.builder_core.specs.FullSpools.{IfSpooling, NoPageOnlyIfFull, WantedPage};
-ghost use Rattle.builder_core.specs.Holding.{spools_in};
+ghost use Rattle.build_work.specs.Holding.{spools_in};
 ghost use Rattle.build_events.specs.Soundness.{BuildIsSound};
 
 use crate::{Building, Ends, Event, Live, Pair, Plan, ReadyIndex, Reply, Table};
@@ -82,10 +82,10 @@ impl<S: Spool, T: Table> Core<S, T> {
         self.building.exchange(spools)
     }
 
-    /// The spools that were handed in. Once a build was given them and has ended, by a switch or by giving it up, each of them is
-    /// ended, with every leased page back.
+    /// The spools that were handed in, while no build runs. Once a build was given them and has ended, by a switch or by giving it up,
+    /// each of them is ended, with every leased page back.
     pub fn spools(&self) -> &[S]
-        ensures stakes { map S.stake result.now ≡ self.now.spools.stakes }
+        ensures stakes { self.now.live.build ≡ None → map S.stake result.now ≡ self.now.spools.stakes }
         ensures ended { self.now.live.build ≡ None → self.now.spools.left ≡ [] → All S.ended result.now }
     {
         self.building.spools()

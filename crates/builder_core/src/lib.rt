@@ -12,35 +12,24 @@
 //! the caller makes, and gets back ended ([`Core::into_live`]). [`at_rest`] makes the pairs of a table that nobody writes.
 #![tactic(auto)]
 
-mod beside;
 mod changes;
 mod core_calls;
 mod core_replies;
 mod core_steps;
-mod ending;
-mod ends;
-mod index_work;
 mod live;
 mod live_builds;
 mod live_sides;
 mod live_switch;
 mod live_workers;
 mod live_writes;
-mod merging;
 mod parts;
 mod rest;
-mod rings;
 mod run;
-mod sorted;
-mod table;
-mod table_scan;
-mod taking;
-mod work;
 
-pub use beside::Building;
 pub use build_events::{Event, Plan, Reply, Scan};
+pub use build_work::{Building, Ends};
+pub use building::{Table, Worker};
 pub use core_steps::Core;
-pub use ends::Ends;
 pub use keybytes::Pair;
 pub use live::Live;
 pub use parts::{INDEXES_MAX, Parts, WORKERS_MAX};
@@ -49,4 +38,3 @@ pub use rest::at_rest;
 pub use run::run_events;
 pub use scan_range::Dealing;
 pub use side_file::{Entry, Op};
-pub use table::Table;

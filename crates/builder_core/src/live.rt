@@ -7,20 +7,21 @@ ghost use Rattle.heap_table.specs.Pages.{pages_written};
 ghost use Rattle.heap_table.specs.Sound.{HoldsFollowLog};
 ghost use Rattle.heap_table.specs.TablePairs.{pairs_at_rest};
 ghost use Rattle.keybytes.specs.Pairs.{HaveKeysOf, AreInColumnOrder};
-ghost use Rattle.builder_core.specs.Builds.{BuildFollows, value_with_heap};
-ghost use Rattle.builder_core.specs.Rings.{all_sent, ArePutEnds, AreOfBuilds};
+ghost use Rattle.build_scan.specs.TableBuilds.{BuildFollows};
+ghost use Rattle.builder_core.specs.Builds.{value_with_heap};
+ghost use Rattle.build_work.specs.Rings.{all_sent, AreOfBuilds};
+ghost use Rattle.builder_core.specs.Rings.{ArePutEnds};
 ghost use Rattle.builder_core.specs.Invariant.{EachPageOnce};
 ghost use Rattle.build_events.specs.Soundness.{BuildIsSound};
 ghost use Rattle.std.specs.VecDeque.Iter.{deque_iter_rest};
-ghost use Rattle.builder_core.specs.SideFiles.{AreEntriesLeft, EachEntryOnce, HaveEntryKeys, NoneAhead, side_refusal, put_ends};
+ghost use Rattle.build_scan.specs.SideFiles.{AreEntriesLeft, EachEntryOnce, HaveEntryKeys, NoneAhead, side_refusal, put_ends};
 ghost use Rattle.build_events.specs.CoreState.{abandoned, after_visits, ReadyFollowTable};
 ghost use Rattle.ready_indexes.specs.Following.{indexes_of};
 ghost use Rattle.ready_indexes.specs.KeyCauses.{KeysAreGuarded};
 
-use crate::live_sides::reset_all;
 use crate::rest::at_rest;
-use crate::table_scan::TableScan;
 use crate::{Pair, Table};
+use build_scan::{TableScan, reset_all};
 use building::PagePutter;
 use heap_table::Heap;
 use keybytes::{Fault, KeySpec, Rid, Row};
@@ -61,9 +62,11 @@ impl<T: Table> Drop for Live<T> {
 
 impl<T: Table> Model for Live<T> {
     ghost use Rattle.ready_indexes.specs.Following.{AllFollow, indexes_of};
-    ghost use Rattle.builder_core.specs.Builds.{LiveValue, BuildFollows};
-    ghost use Rattle.builder_core.specs.Rings.{all_sent, ArePutEnds, AreOfBuilds, PagesFollow};
-    ghost use Rattle.builder_core.specs.SideFiles.{SidesFollow, put_ends};
+    ghost use Rattle.builder_core.specs.Builds.{LiveValue};
+    ghost use Rattle.build_scan.specs.TableBuilds.{BuildFollows};
+    ghost use Rattle.build_work.specs.Rings.{all_sent, AreOfBuilds};
+    ghost use Rattle.builder_core.specs.Rings.{ArePutEnds, PagesFollow};
+    ghost use Rattle.build_scan.specs.SideFiles.{SidesFollow, put_ends};
 
     ghost Value = { LiveValue };
 

@@ -5,20 +5,19 @@ ghost use Rattle.keybytes.specs.Answered.{Answered};
 ghost use Rattle.side_file.specs.Ends.{PutEnd};
 ghost use Rattle.heap_table.specs.Pages.{pages_written};
 ghost use Rattle.building.specs.declared.copied.Copied.{Copied};
-ghost use Rattle.builder_core.specs.Builds.{BuildingValue, given_up, core_state, put_refusal, page_refusal, WorksOn};
+ghost use Rattle.build_work.specs.BuildingValue.{BuildingValue, given_up, intakes};
+ghost use Rattle.builder_core.specs.Builds.{core_state, put_refusal, page_refusal, WorksOn};
 ghost use Rattle.build_events.specs.CoreState.{abandoned};
 ghost use Rattle.build_events.specs.Ranges.{next_page};
 ghost use Rattle.scan_range.specs.Dealings.{dealing_refusal, dealt_ends};
-ghost use Rattle.builder_core.specs.Rings.{begun_on};
+ghost use Rattle.build_work.specs.Rings.{begun_on};
 ghost use Rattle.build_events.specs.BuildSteps.{Starts, Scans, OnBuild, start_refusal, counts_fit, fenced};
 ghost use Rattle.keybytes.specs.Schemas.{same_kinds};
 
-use crate::live_sides::empty_all;
 use crate::parts::{INDEXES_MAX, WORKERS_MAX};
-use crate::rings::restart_all;
-use crate::table_scan::TableScan;
-use crate::work::Work;
 use crate::{Building, Live, Plan, Table};
+use build_scan::{TableScan, empty_all};
+use build_work::{Work, prepare, restart_all};
 use building::Copied;
 use heap_table::PageImage;
 use keybytes::{Fault, KeySpec, Schema, copied_specs};
@@ -51,26 +50,27 @@ impl<T: Table> Live<T> {
         ensures started { Answered (start_refusal self.old.state (core_state self.old building.old).spools plan.now) (Starts plan.now)
             (core_state self.old building.old) result (core_state self.new building.new) }
         ensures works { OnOk result (WorksOn self.new building.new) }
-        ensures emptied { OnOk result (building.new.workers ≡ map (begun_on self.new.state.builds) self.new.pages) }
+        ensures emptied { OnOk result (intakes building.new.workers building.new.idle ≡ map (begun_on self.new.state.builds) self.new.pages) }
         ensures kept { WorksOn self.old building.old → WorksOn self.new building.new }
         ensures unchanged { OnErr result ((self.new ≡ self.old) × (building.new ≡ building.old)) }
     {
         self.check_plan(plan, building)?;
         let pages = self.heap.pages();
         let cuts = plan.dealing.cuts(self.alloc, pages)?;
-        let schema = self.heap.schema();
         let number = self.builds + 1;
         let specs = copied_specs(self.alloc, &plan.specs)?;
-        let work = Work::new(self.alloc, number, schema, specs, plan.workers)?;
+        let equipment = prepare(self.alloc, self.heap.schema(), &specs, plan.workers)?;
+        let workers = Vec::with_capacity(self.alloc, plan.workers)?;
+        let home = Vec::with_capacity(self.alloc, building.spools_left())?;
+        let work = Work::new(self.alloc, number, specs)?;
         let specs = copied_specs(self.alloc, &plan.specs)?;
         let records = self.heap.records();
         let build = TableScan::new(self.alloc, number, specs, plan.workers, records, cuts)?;
-        restart_all(&mut self.pages, &mut building.workers, number);
+        restart_all(&mut self.pages, &mut building.idle, number);
         empty_all(&mut self.sides, &mut building.side_ends);
         self.builds = number;
         self.build = Some(build);
-        building.given = true;
-        building.work = Some(work);
+        building.begin(self.alloc, work, equipment, workers, home);
         Ok(pages)
     }
 

@@ -1,18 +1,16 @@
 //! The side-files of a build, one for each index: their entries go into their rings, and from there to the indexes.
-ghost use Rattle.std.specs.Prelude.{◌≡◌, ◌<◌, [], None, Some, All, map, slice_get, IfSome, IfOk, IfErr, OnOk, OnErr};
-ghost use Rattle.side_file.specs.Ends.{ring_take};
-ghost use Rattle.building.specs.TakeEnd.{take_end};
-ghost use Rattle.builder_core.specs.Builds.{BuildingValue, BuildFollows, core_state, cause_of, WorksOn, SideIsLooked, SeesSideAt, HasFed};
-ghost use Rattle.builder_core.specs.Rings.{side_rings, taken_rings, drained_end};
-ghost use Rattle.builder_core.specs.SideFiles.{AreFedEntries, side_refusal, put_ends};
+ghost use Rattle.std.specs.Prelude.{◌≡◌, ◌<◌, None, Some, slice_get, IfSome, IfOk, IfErr, OnOk, OnErr};
+ghost use Rattle.build_work.specs.BuildingValue.{BuildingValue};
+ghost use Rattle.builder_core.specs.Builds.{core_state, cause_of, WorksOn, SideIsLooked, SeesSideAt, HasFed};
+ghost use Rattle.build_scan.specs.TableBuilds.{BuildFollows};
+ghost use Rattle.build_scan.specs.SideFiles.{AreFedEntries, side_refusal};
 ghost use Rattle.build_events.specs.BuildSteps.{Feeds, Applies, AppliesSome};
 ghost use Rattle.build_events.specs.declared.event.Event.{Event};
 
 use crate::{Building, Live, Table};
 use keybytes::Fault;
-use rtrb::Consumer;
 use run_spool::Spool;
-use side_file::{Entry, RING_ENTRIES, SideFile};
+use side_file::RING_ENTRIES;
 
 impl<T: Table> Live<T> {
     /// Moves the next entries of an index's side-file into its ring, and answers how many: at most `most`, a ring's 256, and as many
@@ -114,39 +112,4 @@ impl<T: Table> Live<T> {
         let waiting = self.look_at_side(index, building);
         building.apply(index, most.min(waiting))
     }
-}
-
-/// Drops all entries that were not fed.
-pub fn reset_all(sides: &mut Vec<SideFile>)
-    ensures { put_ends sides.new.items ≡ put_ends sides.old.items }
-{
-    for index in 0..sides.len() {
-        sides[index].reset();
-    }
-}
-
-/// Drops all entries of each side-file, those in its ring too.
-pub fn empty_all(sides: &mut Vec<SideFile>, ends: &mut Vec<Consumer<Entry>>)
-    requires { side_rings (put_ends sides.old.items) ≡ taken_rings (map take_end ends.old.items) }
-    ensures left { All (λ side. (side.left ≡ []) × (side.fed ≡ [])) sides.new.items }
-    ensures rings { side_rings (put_ends sides.new.items) ≡ side_rings (put_ends sides.old.items) }
-    ensures drained { map take_end ends.new.items ≡ map drained_end (put_ends sides.new.items) }
-{
-    for index in 0..sides.len() {
-        empty_side(&mut sides[index], &mut ends[index]);
-    }
-}
-
-/// Drops all entries of a side-file, those in its ring too.
-fn empty_side(side: &mut SideFile, end: &mut Consumer<Entry>)
-    requires { side.old.end.ring ≡ ring_take end.old }
-    ensures left { side.new.left ≡ [] }
-    ensures fed { side.new.fed ≡ [] }
-    ensures ring { side.new.end.ring ≡ side.old.end.ring }
-    ensures drained { take_end end.new ≡ drained_end side.new.end }
-{
-    for _ in 0..side.beside(end) {
-        end.pop_known();
-    }
-    side.reset();
 }

@@ -5,7 +5,8 @@ ghost use Rattle.heap_table.specs.HeapState.{HeapState, after_switch, busy_txns}
 ghost use Rattle.keybytes.specs.Keys.{are_key_columns};
 ghost use Rattle.heap_table.specs.Pages.{KeepsRows};
 ghost use Rattle.builder_core.specs.Builds.{core_state, cause_of, WorksOn};
-ghost use Rattle.builder_core.specs.CatchingUp.{MayCatchUp, IndexIsFurther, IsDoneIndex, left_at, its_verdict, ready_of};
+ghost use Rattle.builder_core.specs.CatchingUp.{MayCatchUp, IndexIsFurther, IsDoneIndex, left_at, ready_of};
+ghost use Rattle.build_work.specs.Verdicts.{its_verdict};
 ghost use Rattle.ready_indexes.specs.Following.{AllFollow, MayFollow, indexes_of};
 ghost use Rattle.build_events.specs.BuildSteps.{Switches, OnBuild, CatchesUp, busy_refusal};
 ghost use Rattle.build_events.specs.Steps.{IsRefused};
@@ -13,10 +14,9 @@ ghost use Rattle.build_events.specs.Verdicts.{outcome, outcomes};
 ghost use Rattle.build_events.specs.Workers.{all_unapplied};
 ghost use Rattle.build_events.specs.declared.event.Event.{Event};
 
-use crate::ending::end_spools;
-use crate::index_work::IndexWork;
-use crate::table_scan::TableScan;
 use crate::{Building, Live, Table};
+use build_scan::TableScan;
+use build_work::IndexWork;
 use heap_log::{Outcome, Verdicts};
 use heap_table::Heap;
 use keybytes::{Fault, KeySpec};
@@ -172,13 +172,12 @@ impl<T: Table> Live<T> {
         };
         let noted = note_ready(self.alloc, &mut self.heap, &mut self.ready, work.indexes())?;
         self.heap.set_fence(false);
-        let (Some(build), Some(work)) = (self.build.take(), building.work.take()) else {
+        let (Some(build), Some(indexes)) = (self.build.take(), building.end()) else {
             unreachable!()
         };
-        let (specs, indexes) = (build.into_specs(), work.into_indexes());
+        let specs = build.into_specs();
         make_ready(self.alloc, &mut self.ready, specs, indexes);
         self.ready.laws();
-        end_spools(&mut building.spools);
         Ok(noted)
     }
 }

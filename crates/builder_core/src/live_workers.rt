@@ -1,19 +1,20 @@
 //! The steps of a build in which its workers have a part, with both ends of their rings at hand.
-ghost use Rattle.std.specs.Prelude.{◌≡◌, ◌++◌, ◌<◌, ◌≤◌, ◌+◌, length, slice_get, false, Some, None, IsSome, IfSome, IfOk, IfErr, OnOk, OnErr, MatchOption, MatchResult};
+ghost use Rattle.std.specs.Prelude.{◌≡◌, ◌++◌, ◌<◌, ◌≤◌, ◌+◌, All, length, slice_get, false, Some, None, IsSome, IfSome, IfOk, IfErr, OnOk, OnErr, MatchOption, MatchResult};
 ghost use Rattle.side_file.specs.Ends.{PutEnd};
 ghost use Rattle.run_spool.specs.Spools.{NoPageOnlyIf};
-ghost use Rattle.building.specs.WorkerValue.{WorkerValue};
+ghost use Rattle.building.specs.WorkerValue.{IsHolding};
 ghost use Rattle.building.specs.declared.copied.Copied.{Copied};
-ghost use Rattle.builder_core.specs.Builds.{core_state, cause_of, put_refusal, HasLooked, SeesRing, MayWork, MayLoad, WorksOn};
+ghost use Rattle.builder_core.specs.Builds.{core_state, cause_of, put_refusal, HasLooked, SeesRing, IsLoading, MayWork, MayLoad, WorksOn};
 ghost use Rattle.builder_core.specs.FullSpools.{WorkerWasFull};
-ghost use Rattle.builder_core.specs.Rings.{all_sent, AreDone, IsUnfinished, PagesFollow};
+ghost use Rattle.build_work.specs.Rings.{all_sent, AreSealed, FirstAreSealed, IsUnsealed};
+ghost use Rattle.builder_core.specs.Rings.{PagesFollow};
 ghost use Rattle.build_events.specs.BuildSteps.{Waits, Digests, Seals, Loads};
 ghost use Rattle.build_events.specs.Steps.{spoiled_by, IsWorkWant};
 ghost use Rattle.build_events.specs.Workers.{index_at};
 ghost use Rattle.build_events.specs.declared.event.Event.{Event};
 
-use crate::rings::{first_loud, waiting};
 use crate::{Building, Live, Table};
+use build_work::{first_unsealed, laws_of, waiting};
 use building::RING_IMAGES;
 use keybytes::Fault;
 use run_spool::Spool;
@@ -21,41 +22,34 @@ use run_spool::Spool;
 impl<T: Table> Live<T> {
     /// How many copies wait for a worker.
     fn look<S: Spool>(&mut self, worker: usize, building: &mut Building<S, T>) -> usize
-        requires { worker < 16 }
+        requires { worker < length building.old.workers }
         ensures looked { HasLooked self.old building.old self.new building.new }
         ensures sees { SeesRing worker result self.new building.new }
+        ensures pages { length self.new.pages ≡ 16 }
         ensures put { PagesFollow self.new.state.heap.schema self.new.state.heap.log self.new.state.builds self.new.state.build (all_sent self.new.pages) }
     {
+        // That there are few workers is known once their fields are reached.
+        let _idle = &building.idle;
         waiting(&mut self.pages, &mut building.workers, worker)
     }
 
-    /// The lowest of so many workers for which a copy waits, or whose run is open.
-    fn look_for_loud<S: Spool>(
-        &mut self,
-        count: usize,
-        building: &mut Building<S, T>,
-    ) -> Option<usize>
-        requires few { count ≤ 16 }
-        requires makers { IfSome building.old.work (λ work. count ≤ length work.makers) }
-        requires runs { IsSome building.old.work }
+    /// The lowest worker for which a copy waits, or whose run is open.
+    fn look_for_unsealed<S: Spool>(&mut self, building: &mut Building<S, T>) -> Option<usize>
         ensures looked { HasLooked self.old building.old self.new building.new }
-        ensures loud { IfSome building.old.work (λ work. MatchOption result
-            (AreDone count (all_sent self.new.pages) building.new.workers work.makers)
-            (λ k. (k < count) × AreDone k (all_sent self.new.pages) building.new.workers work.makers
-            × IsUnfinished k (all_sent self.new.pages) building.new.workers work.makers)) }
+        ensures unsealed { MatchOption result
+            (AreSealed (all_sent self.new.pages) building.new.workers)
+            (λ k. (k < length building.new.workers) × FirstAreSealed k (all_sent self.new.pages) building.new.workers
+            × IsUnsealed k (all_sent self.new.pages) building.new.workers) }
+        ensures begun { All (λ w. length w.maker.begun ≡ length w.maker.specs) building.new.workers }
+        ensures holding { All (λ w. w.fault ≡ None → w.handed ≡ false → IsHolding w.intake w.maker w.spools) building.new.workers }
         ensures put { PagesFollow self.new.state.heap.schema self.new.state.heap.log self.new.state.builds self.new.state.build (all_sent self.new.pages) }
         ensures pages { length self.new.pages ≡ 16 }
-        ensures workers { length building.new.workers ≡ 16 }
     {
-        let Some(work) = &building.work else {
-            unreachable!()
-        };
-        first_loud(
-            &mut self.pages,
-            &mut building.workers,
-            work.makers.as_slice(),
-            count,
-        )
+        // That there are few workers is known once their fields are reached.
+        let _idle = &building.idle;
+        let unsealed = first_unsealed(&mut self.pages, &mut building.workers);
+        laws_of(&building.workers);
+        unsealed
     }
 
     /// Why a page of the range would not be copied for the worker, with both ends of the worker's ring at hand. Takes no memory.
@@ -176,8 +170,7 @@ impl<T: Table> Live<T> {
         if let Some(range) = build.first_open() {
             return Err(Fault::NotScanned(range));
         }
-        let count = build.workers();
-        match self.look_for_loud(count, building) {
+        match self.look_for_unsealed(building) {
             Some(worker) => Err(Fault::NotSealed(worker)),
             None => Ok(()),
         }
@@ -198,8 +191,20 @@ impl<T: Table> Live<T> {
         ensures works { WorksOn self.now building.new }
         ensures memory { IfErr result (λ fault. fault ≡ Fault.Memory) }
     {
-        // That there are 16 workers is known once their field is reached.
-        let _workers = &building.workers;
+        self.hand_over(index, building);
         building.load(self.alloc, index)
+    }
+
+    /// From the first load on the spools of the workers are with the indexes. Nobody sees a difference.
+    fn hand_over<S: Spool>(&self, index: usize, building: &mut Building<S, T>)
+        requires { MayLoad self.now building.old index }
+        ensures state { core_state self.now building.new ≡ core_state self.now building.old }
+        ensures loads { IsLoading self.now building.new index }
+    {
+        // That there are sixteen rings is known once their fields are reached.
+        let _pages = &self.pages;
+        if !building.is_loading() {
+            building.hand_over();
+        }
     }
 }

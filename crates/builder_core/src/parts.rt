@@ -1,16 +1,16 @@
 ghost use Rattle.std.specs.Prelude.{◌≡◌, [], None, length, map, IfOk, IfErr};
 ghost use Rattle.building.specs.TakeEnd.{take_end};
-ghost use Rattle.builder_core.specs.Rings.{put_rings, take_rings, side_rings, taken_rings, all_sent, AreOfBuilds};
-ghost use Rattle.builder_core.specs.SideFiles.{put_ends};
+ghost use Rattle.build_work.specs.Rings.{put_rings, take_rings, all_sent, AreOfBuilds};
+ghost use Rattle.build_scan.specs.SideFiles.{side_rings, taken_rings, put_ends};
 
 use crate::{Ends, Live, Table};
-use building::{PagePutter, Worker, page_ring};
+use building::{Intake, PagePutter, page_ring};
 use heap_table::Heap;
 use keybytes::Fault;
 use rtrb::Consumer;
 use side_file::{Entry, SideFile};
 use std::alloc::Global;
-use std::marker::{Model, PhantomData};
+use std::marker::Model;
 
 /// The most workers of a build, and so the number of rings for copies of pages.
 pub const WORKERS_MAX: usize = 16;
@@ -23,7 +23,7 @@ pub struct Parts {
     alloc: Global,
     heap: Heap,
     pages: Vec<PagePutter>,
-    workers: Vec<Worker>,
+    intakes: Vec<Intake>,
     sides: Vec<SideFile>,
     side_ends: Vec<Consumer<Entry>>,
 }
@@ -34,7 +34,7 @@ impl Drop for Parts {
             alloc: _,
             heap: _,
             pages: _,
-            workers: _,
+            intakes: _,
             sides: _,
             side_ends: _,
         } = self;
@@ -48,8 +48,9 @@ impl Model for Parts {
 
     ghost use Rattle.std.specs.Prelude.{map};
     ghost use Rattle.building.specs.TakeEnd.{take_end};
-    ghost use Rattle.builder_core.specs.SideFiles.{put_ends};
-    ghost use Rattle.builder_core.specs.Rings.{put_rings, side_rings, all_sent, ArePutEnds, AreTakeEnds, AreOfBuilds};
+    ghost use Rattle.build_scan.specs.SideFiles.{put_ends, side_rings};
+    ghost use Rattle.build_work.specs.Rings.{put_rings, all_sent, AreTakeEnds, AreOfBuilds};
+    ghost use Rattle.builder_core.specs.Rings.{ArePutEnds};
 
     ghost view = { λ parts. record {
       heap = parts.heap.state;
@@ -59,7 +60,7 @@ impl Model for Parts {
 
     ghost invariant = { λ parts. ArePutEnds (put_rings parts.pages.items) (side_rings (put_ends parts.sides.items)) parts.pages.items
         (put_ends parts.sides.items)
-        × AreTakeEnds (put_rings parts.pages.items) (side_rings (put_ends parts.sides.items)) parts.workers.items (map take_end parts.side_ends.items)
+        × AreTakeEnds (put_rings parts.pages.items) (side_rings (put_ends parts.sides.items)) parts.intakes.items (map take_end parts.side_ends.items)
         × AreOfBuilds 0 (all_sent parts.pages.items) };
 }
 
@@ -71,7 +72,7 @@ impl Parts {
         ensures handed_back { IfErr result (λ back. back.0 ≡ heap) }
         ensures memory { IfErr result (λ back. back.1 ≡ Fault.Memory) }
     {
-        let (pages, workers) = match page_rings(alloc) {
+        let (pages, intakes) = match page_rings(alloc) {
             Ok(rings) => rings,
             Err(fault) => return Err((heap, fault)),
         };
@@ -83,7 +84,7 @@ impl Parts {
             alloc,
             heap,
             pages,
-            workers,
+            intakes,
             sides,
             side_ends,
         })
@@ -106,34 +107,30 @@ impl Parts {
             alloc,
             heap,
             pages,
-            workers,
+            intakes,
             sides,
             side_ends,
         } = self;
-        let ends = Ends {
-            workers,
-            side_ends,
-            of: PhantomData,
-        };
+        let ends = Ends::new(intakes, side_ends);
         (Live::with_ends(alloc, heap, pages, sides), ends)
     }
 }
 
-/// New rings for copies of pages, each with the worker that takes them.
-fn page_rings(alloc: Global) -> Result<(Vec<PagePutter>, Vec<Worker>), Fault>
+/// New rings for copies of pages, each with its intake.
+fn page_rings(alloc: Global) -> Result<(Vec<PagePutter>, Vec<Intake>), Fault>
     ensures rings { IfOk result (λ rings. put_rings rings.0.items ≡ take_rings rings.1.items) }
     ensures sixteen { IfOk result (λ rings. length rings.0.items ≡ 16) }
     ensures unused { IfOk result (λ rings. AreOfBuilds 0 (all_sent rings.0.items)) }
     ensures memory { IfErr result (λ fault. fault ≡ Fault.Memory) }
 {
     let mut pages = Vec::with_capacity(alloc, WORKERS_MAX)?;
-    let mut workers = Vec::with_capacity(alloc, WORKERS_MAX)?;
+    let mut intakes = Vec::with_capacity(alloc, WORKERS_MAX)?;
     for _ in 0..WORKERS_MAX {
         let (putter, end) = page_ring(alloc)?;
         pages.push_reserved(putter);
-        workers.push_reserved(Worker::new(end));
+        intakes.push_reserved(Intake::new(end));
     }
-    Ok((pages, workers))
+    Ok((pages, intakes))
 }
 
 /// New side-files, each with the other end of its ring.

@@ -1,10 +1,10 @@
 ghost use Rattle.std.specs.Prelude.{◌≡◌, All, map, IfOk, IfErr, OnErr};
 ghost use Rattle.build_events.specs.CoreState.{ReadyFollowTable};
 ghost use Rattle.build_events.specs.Headline.{RunsAsAtRest};
-ghost use Rattle.builder_core.specs.Holding.{spools_in};
+ghost use Rattle.build_work.specs.Holding.{spools_in};
 
-use crate::ending::end_spools;
 use crate::{Core, Ends, Event, Live, Reply, Table};
+use build_work::end_spools;
 use keybytes::Fault;
 use run_spool::Spool;
 use std::alloc::Global;

@@ -9,7 +9,7 @@ use Rattle.heap_table.specs.Images.{ImageValue}
 use Rattle.building.specs.declared.copied.Copied.{Copied}
 use Rattle.building.specs.Copies.{is_for, images_of}
 use Rattle.building.specs.TakeEnd.{TakeEnd, after_taking}
-use Rattle.building.specs.WorkerValue.{WorkerValue}
+use Rattle.building.specs.IntakeValue.{IntakeValue}
 use Rattle.building.specs.Work.{next_images, after_digest}
 use Rattle.building.proofs.ManyPairs.{images-append, images_few}
 
@@ -18,7 +18,7 @@ ImageList = List ImageValue
 
 -- the next copy, which is of its build and of these columns
 pub next_one :
-    (kinds : List Kind) (worker : WorkerValue) (copied : Copied) (rest : List Copied) → worker.end.known ≡ copied ∷ rest
+    (kinds : List Kind) (worker : IntakeValue) (copied : Copied) (rest : List Copied) → worker.end.known ≡ copied ∷ rest
     → is_for worker.build kinds copied ≡ true → next_images 1 kinds worker ≡ copied.image ∷ []
 next_one kinds worker copied rest known own = rw (known, own) refl
 
@@ -31,7 +31,7 @@ taking_more n m end =
 
 -- the images of a build among the next n copies, and among the m after them
 pub images_more :
-    (n m : ℕ) (kinds : List Kind) (worker next : WorkerValue) → next.build ≡ worker.build → next.end ≡ after_taking n worker.end
+    (n m : ℕ) (kinds : List Kind) (worker next : IntakeValue) → next.build ≡ worker.build → next.end ≡ after_taking n worker.end
     → next_images (n + m) kinds worker ≡ next_images n kinds worker ++ next_images m kinds next
 images_more n m kinds worker next build end =
     ap (images_of worker.build kinds) (take-add n m worker.end.known)
@@ -52,20 +52,20 @@ open_more a b =
     let all : b + a ≡ a + b = omega arith in
     ap (λ n. n % 4096) turn ∙ (whole_runs b a ∙ ap (λ n. n % 4096) all)
 
-worker_of : ℕ → TakeEnd Copied → ℕ → ℕ → WorkerValue
+worker_of : ℕ → TakeEnd Copied → ℕ → ℕ → IntakeValue
 worker_of build end taken sealed = record { build = build; end = end; taken = taken; sealed = sealed }
 
 -- two workers that agree in each part
-pub same_worker : (a b : WorkerValue) → a.build ≡ b.build → a.end ≡ b.end → a.taken ≡ b.taken → a.sealed ≡ b.sealed → a ≡ b
+pub same_worker : (a b : IntakeValue) → a.build ≡ b.build → a.end ≡ b.end → a.taken ≡ b.taken → a.sealed ≡ b.sealed → a ≡ b
 unfolding worker_of
 same_worker a b build end taken sealed =
     let same : worker_of a.build a.end a.taken a.sealed ≡ worker_of b.build b.end b.taken b.sealed = cc in
     same
 
 -- a digest of n copies, and then one of m
-pub digest_more : (n m : ℕ) (kinds : List Kind) (worker : WorkerValue) → after_digest m kinds (after_digest n kinds worker) ≡ after_digest (n + m) kinds worker
+pub digest_more : (n m : ℕ) (kinds : List Kind) (worker : IntakeValue) → after_digest m kinds (after_digest n kinds worker) ≡ after_digest (n + m) kinds worker
 digest_more n m kinds worker =
-    let next : WorkerValue = after_digest n kinds worker in
+    let next : IntakeValue = after_digest n kinds worker in
     let first : ImageList = next_images n kinds worker in
     let last : ImageList = next_images m kinds next in
     let images : next_images (n + m) kinds worker ≡ first ++ last = images_more n m kinds worker next refl refl in
@@ -74,5 +74,5 @@ digest_more n m kinds worker =
     same_worker (after_digest m kinds next) (after_digest (n + m) kinds worker) refl (taking_more n m worker.end) taken refl
 
 -- n copies have at most n images of a build
-pub next_few : (n : ℕ) (kinds : List Kind) (worker : WorkerValue) → length (next_images n kinds worker) ≤ n
+pub next_few : (n : ℕ) (kinds : List Kind) (worker : IntakeValue) → length (next_images n kinds worker) ≤ n
 next_few n kinds worker = omega (arith, images_few worker.build kinds (take n worker.end.known), length-take n worker.end.known)

@@ -33,10 +33,10 @@ takes_more specs xs ys start middle end first then = λ i lt made have.
     (get_or end.runs i []) (get_or end.begun i []) (first i lt parts.0 parts.2) (then i lt parts.1 parts.3))
 
 -- where each is empty, so is any
-pub none_at : (begun : List (List Pair)) (i : ℕ) → All (λ pairs. pairs ≡ []) begun → get_or begun i [] ≡ []
+pub none_at : {X : Type 0} (begun : List (List X)) (i : ℕ) → All (λ xs. xs ≡ []) begun → get_or begun i [] ≡ []
 none_at [] i all = refl
-none_at (pairs ∷ begun) zero all = All-head (λ (ps : List Pair). ps ≡ []) pairs begun all
-none_at (pairs ∷ begun) (suc i) all = none_at begun i (All-tail (λ (ps : List Pair). ps ≡ []) pairs begun all)
+none_at (pairs ∷ begun) zero all = All-head (λ ps. ps ≡ []) pairs begun all
+none_at (pairs ∷ begun) (suc i) all = none_at begun i (All-tail (λ ps. ps ≡ []) pairs begun all)
 
 -- images, and then what is in no run yet is spooled
 pub takes_sealed :

@@ -1,7 +1,9 @@
 pub mod Digests
 pub mod Holding
+pub mod Keeping
 pub mod ManyPairs
 pub mod PageCopies
 pub mod Rings
 pub mod SamePairs
+pub mod SpoolViews
 pub mod Taking

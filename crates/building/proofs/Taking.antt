@@ -21,7 +21,7 @@ use Rattle.building.specs.ImagePairs.{HavePairs}
 use Rattle.building.specs.TakeEnd.{TakeEnd}
 use Rattle.building.specs.Taking.{IsTaking, received_images, unsealed_images}
 use Rattle.building.specs.Work.{at_start, knowing, next_images, after_digest, after_seal}
-use Rattle.building.specs.WorkerValue.{WorkerValue}
+use Rattle.building.specs.IntakeValue.{IntakeValue}
 use Rattle.building.proofs.ManyPairs.{for_decides, have_append, images-append, images_none}
 use Rattle.building.proofs.Digests.{open_more}
 
@@ -33,7 +33,7 @@ own_images build kinds (copied ∷ copies) own =
     let rest = own_images build kinds copies (All-tail (IsFor build kinds) copied copies own) in
     rw is (omega (arith, rest))
 
-module _ (build : ℕ) (kinds : List Kind) (sent : List Copied) (worker : WorkerValue) (taking : IsTaking build kinds sent worker) where
+module _ (build : ℕ) (kinds : List Kind) (sent : List Copied) (worker : IntakeValue) (taking : IsTaking build kinds sent worker) where
   -- what it sees in the ring is what it hasn't taken
   pub sees_rest : (known : List Copied) → worker.end.received ++ known ≡ sent → known ≡ taking.rest
   sees_rest known in_order = append_cancel_left worker.end.received known taking.rest (in_order ∙ sym taking.in_order)
@@ -144,7 +144,7 @@ start_open build kinds spec end before = record {
   open_run = refl;
 }
 
-module _ (spec : KeySpecValue) (n : ℕ) (kinds : List Kind) (worker : WorkerValue) where
+module _ (spec : KeySpecValue) (n : ℕ) (kinds : List Kind) (worker : IntakeValue) where
   -- the images that it received, with the next ones behind them
   received_more : received_images kinds (after_digest n kinds worker) ≡ received_images kinds worker ++ next_images n kinds worker
   received_more = images-append worker.build kinds worker.end.received (take n worker.end.known)

@@ -4,4 +4,6 @@ pub mod ImagePairs
 pub mod TakeEnd
 pub mod Taking
 pub mod Work
+pub mod IntakeValue
+pub mod SpoolValue
 pub mod WorkerValue

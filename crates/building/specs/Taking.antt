@@ -5,18 +5,18 @@ use Rattle.keybytes.specs.declared.kind.Kind.{Kind}
 use Rattle.heap_table.specs.Images.{ImageValue}
 use Rattle.building.specs.declared.copied.Copied.{Copied}
 use Rattle.building.specs.Copies.{IsFor, images_of}
-use Rattle.building.specs.WorkerValue.{WorkerValue}
+use Rattle.building.specs.IntakeValue.{IntakeValue}
 
 -- the images of its build that a worker received, of a table of these columns
-abbrev pub received_images : List Kind → WorkerValue → List ImageValue
+abbrev pub received_images : List Kind → IntakeValue → List ImageValue
 received_images kinds worker = images_of worker.build kinds worker.end.received
 
 -- those that it received since it last sealed
-abbrev pub unsealed_images : List Kind → WorkerValue → List ImageValue
+abbrev pub unsealed_images : List Kind → IntakeValue → List ImageValue
 unsealed_images kinds worker = drop worker.sealed (received_images kinds worker)
 
 -- a worker takes what its ring was sent, in order, and counts what it took for that build of a table of these columns
-pub record IsTaking (build : ℕ) (kinds : List Kind) (sent : List Copied) (worker : WorkerValue) : Type 0 where
+pub record IsTaking (build : ℕ) (kinds : List Kind) (sent : List Copied) (worker : IntakeValue) : Type 0 where
   pub of_build : worker.build ≡ build
   -- the copies that it hasn't taken, all for that build and of these columns
   pub rest : List Copied

@@ -5,33 +5,33 @@ use Rattle.heap_table.specs.Images.{ImageValue}
 use Rattle.building.specs.declared.copied.Copied.{Copied}
 use Rattle.building.specs.Copies.{images_of}
 use Rattle.building.specs.TakeEnd.{TakeEnd, after_taking}
-use Rattle.building.specs.WorkerValue.{WorkerValue}
+use Rattle.building.specs.IntakeValue.{IntakeValue}
 
 -- a build begins: nothing of it is taken
-abbrev pub at_start : ℕ → TakeEnd Copied → WorkerValue
+abbrev pub at_start : ℕ → TakeEnd Copied → IntakeValue
 at_start build end = record { build = build; end = end; taken = 0; sealed = 0 }
 
 -- what every worker keeps
-pub record IsWorker (worker : WorkerValue) : Type 0 where
+pub record IsIntake (worker : IntakeValue) : Type 0 where
   pub sealed_was_taken : worker.sealed ≤ worker.taken
 
 -- its end of the ring has seen these
-abbrev pub knowing : List Copied → WorkerValue → WorkerValue
+abbrev pub knowing : List Copied → IntakeValue → IntakeValue
 knowing copies worker = record worker { end = record worker.end { known = copies } }
 
 -- the images of its build, of a table of these columns, among the first n copies that it has seen
-abbrev pub next_images : ℕ → List Kind → WorkerValue → List ImageValue
+abbrev pub next_images : ℕ → List Kind → IntakeValue → List ImageValue
 next_images n kinds worker = images_of worker.build kinds (take n worker.end.known)
 
 -- the first n copies that it has seen are taken
-abbrev pub after_digest : ℕ → List Kind → WorkerValue → WorkerValue
+abbrev pub after_digest : ℕ → List Kind → IntakeValue → IntakeValue
 after_digest n kinds worker = record worker { end = after_taking n worker.end; taken = worker.taken + length (next_images n kinds worker) }
 
 -- it stopped: the first n copies that it has seen are taken, and all of them counted but perhaps the last
-abbrev pub StopsAfter : ℕ → List Kind → WorkerValue → WorkerValue → Type 0
+abbrev pub StopsAfter : ℕ → List Kind → IntakeValue → IntakeValue → Type 0
 StopsAfter n kinds old new =
     (counted : ℕ) × (counted ≤ n) × (n ≤ counted + 1) × (new ≡ record (after_digest counted kinds old) { end = after_taking n old.end })
 
 -- all that is taken is sealed
-abbrev pub after_seal : WorkerValue → WorkerValue
+abbrev pub after_seal : IntakeValue → IntakeValue
 after_seal worker = record worker { sealed = worker.taken }

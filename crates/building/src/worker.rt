@@ -1,211 +1,229 @@
-ghost use Rattle.std.specs.Prelude.{◌≡◌, ◌≤◌, ◌⊎◌, ◌+◌, ◌++◌, [], ℕ, All, length, map};
-ghost use Rattle.std.specs.Prelude.{IfErr, IfOk, OnOk, OnErr};
-ghost use Rattle.side_file.specs.Ends.{ring_take};
-ghost use Rattle.run_spool.specs.Spools.{AreSorted, HasFull, NoPageOnlyIf};
+ghost use Rattle.std.specs.Prelude.{◌≡◌, ◌+◌, ◌++◌, ◌<◌, ◌≤◌, [], All, length, map, slice_get, true, false, Some, None, Err, IfOk, IfErr, IfSome, OnOk};
+ghost use Rattle.run_spool.specs.Spools.{NoPageOnlyIf};
 ghost use Rattle.run_maker.specs.Making.{AreReady};
 ghost use Rattle.run_maker.specs.Spooling.{MemoryOnlyIf};
-ghost use Rattle.building.specs.Holding.{TakesAll, HoldsMore};
-ghost use Rattle.building.specs.TakeEnd.{take_end, after_taking, PutEndLooked};
-ghost use Rattle.building.specs.Work.{at_start, IsWorker, StopsAfter, knowing, next_images, after_digest, after_seal};
+ghost use Rattle.building.specs.SpoolValue.{HaveFull, spool_value, runs_of, open_runs_of};
+ghost use Rattle.building.specs.TakeEnd.{PutEndLooked};
+ghost use Rattle.building.specs.Work.{at_start, knowing};
+ghost use Rattle.building.specs.WorkerValue.{HasTaken, IsCounting, IsHolding, IsShortage, SameWorker};
 
-use crate::{Copied, PagePutter};
+mod sealing;
+
+use crate::{Intake, PagePutter, Table};
 use keybytes::Fault;
-use rtrb::Consumer;
 use run_maker::Maker;
 use run_spool::Spool;
-use std::marker::Model;
+use std::alloc::Global;
+use std::marker::{Model, PhantomData};
+use std::mem::replace;
 
-/// A worker of a build: its end of its ring, and how far it is. It is lent the maker of its pairs and the spools that keep them.
-pub struct Worker {
-    build: u64,
-    ring: Consumer<Copied>,
-    taken: usize,
-    /// How many were taken when it last sealed.
-    sealed: usize,
+/// A worker of a build: its end of its ring, the maker of its pairs, and a spool for each index.
+///
+/// A thread that is lent one can do with it what it likes: its ring stays the table's at its number, and while no call was refused
+/// its maker and spools hold, for each index, exactly the pairs of the copies of its build that it took. A refused digest or
+/// seal stops it: each further one is refused for the same fault.
+pub struct Worker<S: Spool, T: Table> {
+    number: usize,
+    intake: Intake,
+    maker: Maker,
+    spools: Vec<S>,
+    /// Whether its spools went to the indexes.
+    handed: bool,
+    fault: Option<Fault>,
+    alloc: Global,
+    of: PhantomData<T>,
 }
 
-impl Drop for Worker {
+impl<S: Spool, T: Table> Drop for Worker<S, T> {
     fn drop(self) {
         let Worker {
-            build: _,
-            ring: _,
-            taken: _,
-            sealed: _,
+            number: _,
+            intake: _,
+            maker: _,
+            spools: _,
+            handed: _,
+            fault: _,
+            alloc: _,
+            of: _,
         } = self;
     }
 }
 
-impl Model for Worker {
+impl<S: Spool, T: Table> Model for Worker<S, T> {
     ghost use Rattle.building.specs.WorkerValue.{WorkerValue};
 
     ghost Value = { WorkerValue };
 
-    ghost use Rattle.std.specs.Prelude.{◌≤◌};
-    ghost use Rattle.building.specs.TakeEnd.{take_end};
+    ghost use Rattle.std.specs.Prelude.{◌≡◌, map, slice_get, false, Some, None, IfSome};
+    ghost use Rattle.building.specs.SpoolValue.{spool_value};
+    ghost use Rattle.building.specs.WorkerValue.{IsCounting, IsHolding, IsShortage};
 
     ghost view = { λ worker. record {
-      build = worker.build;
-      end = take_end worker.ring;
-      taken = worker.taken;
-      sealed = worker.sealed;
+      number = worker.number;
+      intake = worker.intake;
+      maker = worker.maker;
+      spools = map (spool_value S.runs S.open_run S.stake) worker.spools.items;
+      handed = worker.handed;
+      fault = worker.fault;
     } };
 
-    ghost invariant = { λ worker. worker.sealed ≤ worker.taken };
+    ghost invariant = { λ worker. (slice_get T.pages worker.number ≡ Some worker.intake.end.ring)
+        × IfSome worker.fault IsShortage
+        × (worker.fault ≡ None → IsCounting worker.intake worker.maker)
+        × (worker.fault ≡ None → worker.handed ≡ false
+        → IsHolding worker.intake worker.maker (map (spool_value S.runs S.open_run S.stake) worker.spools.items)) };
 }
 
-impl Worker {
-    /// A worker that has taken nothing. The numbers of builds begin above 0.
-    pub fn new(ring: Consumer<Copied>) -> Worker
-        ensures { result ≡ at_start 0 (take_end ring) }
+impl<S: Spool, T: Table> Worker<S, T> {
+    /// A worker that has taken nothing of its build. It gets a spool for each specification of its maker, all empty.
+    pub fn new(
+        alloc: Global,
+        number: usize,
+        intake: Intake,
+        maker: Maker,
+        spools: Vec<S>,
+    ) -> Worker<S, T>
+        requires ring { slice_get T.pages number ≡ Some intake.end.ring }
+        requires fresh { intake ≡ at_start intake.build intake.end }
+        requires earlier { All (λ copied. copied.build < intake.build) intake.end.received }
+        requires many { length spools.items ≡ length maker.specs }
+        requires none { All (λ begun. begun ≡ []) maker.begun }
+        requires empty { All (λ spool. (S.runs spool ≡ []) × (S.open_run spool ≡ [])) spools.items }
+        ensures { result ≡ record {
+          number = number;
+          intake = intake;
+          maker = maker;
+          spools = map (spool_value S.runs S.open_run S.stake) spools.items;
+          handed = false;
+          fault = None;
+        } }
     {
         Worker {
-            build: 0,
-            ring,
-            taken: 0,
-            sealed: 0,
+            number,
+            intake,
+            maker,
+            spools,
+            handed: false,
+            fault: None,
+            alloc,
+            of: PhantomData,
         }
     }
 
-    /// Does nothing: its clause tells what every worker keeps.
+    /// Does nothing: its clauses tell what every worker keeps.
     pub fn laws(&self)
-        ensures { IsWorker self.now }
+        ensures ring { slice_get T.pages self.now.number ≡ Some self.now.intake.end.ring }
+        ensures shortage { IfSome self.now.fault IsShortage }
+        ensures begun { length self.now.maker.begun ≡ length self.now.maker.specs }
+        ensures counts { self.now.fault ≡ None → IsCounting self.now.intake self.now.maker }
+        ensures holds { self.now.fault ≡ None → self.now.handed ≡ false → IsHolding self.now.intake self.now.maker self.now.spools }
     {
-        let _kept = &self.taken;
+        self.maker.laws();
     }
 
-    /// The number of its build.
-    pub fn build(&self) -> u64
-        ensures { result ≡ self.now.build }
+    /// Which of the table's rings it takes from: its place among the workers of its build.
+    pub fn number(&self) -> usize
+        ensures { result ≡ self.now.number }
     {
-        self.build
+        self.number
     }
 
-    /// How many copies of its build it took.
-    pub fn taken(&self) -> usize
-        ensures { result ≡ self.now.taken }
+    /// How far it is with its ring.
+    pub fn intake(&self) -> &Intake
+        ensures { result.now ≡ self.now.intake }
     {
-        self.taken
+        &self.intake
     }
 
-    /// How many of these when it last sealed.
-    pub fn sealed(&self) -> usize
-        ensures { result ≡ self.now.sealed }
+    /// What makes its pairs.
+    pub fn maker(&self) -> &Maker
+        ensures { result.now ≡ self.now.maker }
     {
-        self.sealed
+        &self.maker
     }
 
-    /// Empties its ring and begins a build. Takes no memory.
-    pub fn restart(&mut self, putter: &mut PagePutter, build: u64)
-        requires { putter.old.ring ≡ self.old.end.ring }
-        ensures worker { self.new ≡ at_start build (record { ring = self.old.end.ring; received = putter.old.sent; known = [] }) }
-        ensures putter { putter.new ≡ record putter.old { free = 4 } }
+    /// The fault that stopped it.
+    pub fn fault(&self) -> Option<Fault>
+        ensures { result ≡ self.now.fault }
     {
-        empty_ring(&mut self.ring, putter);
-        self.build = build;
-        self.taken = 0;
-        self.sealed = 0;
+        self.fault
+    }
+
+    /// Whether some pairs are in no run yet.
+    pub fn has_open_run(&self) -> bool
+        ensures some { result ≡ true → All (λ begun. begun ≡ []) self.now.maker.begun → ⊥ }
+        ensures none { result ≡ false → All (λ begun. begun ≡ []) self.now.maker.begun }
+    {
+        self.maker.has_open_run()
     }
 
     /// How many copies are in its ring, with the other end at hand. Both ends then know all that there is to know of the ring.
     pub fn waiting(&mut self, putter: &mut PagePutter) -> usize
-        requires { putter.old.ring ≡ self.old.end.ring }
-        ensures worker { self.new ≡ knowing self.new.end.known self.old }
+        requires { slice_get T.pages self.old.number ≡ Some putter.old.ring }
+        ensures worker { self.new ≡ record self.old { intake = knowing self.new.intake.end.known self.old.intake } }
         ensures putter { PutEndLooked putter.old putter.new }
-        ensures value { result ≡ length self.new.end.known }
-        ensures in_order { self.new.end.received ++ self.new.end.known ≡ putter.new.sent }
+        ensures value { result ≡ length self.new.intake.end.known }
+        ensures in_order { self.new.intake.end.received ++ self.new.intake.end.known ≡ putter.new.sent }
         ensures free { 4 ≤ putter.new.free + result }
     {
-        putter.beside(&mut self.ring)
+        self.intake.waiting(putter)
     }
 
     /// Takes the next copy that it has seen, spools its pairs and answers 1. The answer is 0 where it has seen none, and where the
-    /// copy is of another build or of other columns than its maker's, and so is dropped. It is lent the spool of each index. Want
-    /// of memory or of a page spoils the build: the copy is gone, and a part of its pairs may be spooled. [`Fault::Memory`] is also
-    /// the answer where its copies would be more than `usize` counts.
-    pub fn digest<S: Spool>(&mut self, maker: &mut Maker, spools: &mut [S]) -> Result<usize, Fault>
-        requires spools { length spools.old ≡ length maker.old.specs }
-        requires ready { AreReady (map S.runs spools.old) (map S.open_run spools.old) }
-        ensures count { IfOk result (λ images. images ≡ length (next_images 1 maker.old.schema self.old)) }
-        ensures taken { OnOk result (self.new ≡ after_digest 1 maker.old.schema self.old) }
-        ensures holds { OnOk result (TakesAll maker.old.specs (next_images 1 maker.old.schema self.old)
-            (record { runs = map S.runs spools.old; begun = maker.old.begun }) (record { runs = map S.runs spools.new; begun = maker.new.begun })) }
-        ensures ready { OnOk result (AreReady (map S.runs spools.new) (map S.open_run spools.new)) }
-        ensures sorted { All AreSorted (map S.runs spools.old) → All AreSorted (map S.runs spools.new) }
-        ensures stakes { map S.stake spools.new ≡ map S.stake spools.old }
-        ensures schema { maker.new.schema ≡ maker.old.schema }
-        ensures specs { maker.new.specs ≡ maker.old.specs }
-        ensures build { self.new.build ≡ self.old.build }
-        ensures end { self.new.end ≡ after_taking 1 self.old.end }
-        ensures uncounted { OnErr result (self.new.taken ≡ self.old.taken) }
-        ensures unsealed { self.new.sealed ≡ self.old.sealed }
-        ensures fault { IfErr result (λ fault. (fault ≡ Fault.NoPage) ⊎ (fault ≡ Fault.Memory)) }
-        ensures full { IfErr result (NoPageOnlyIf (HasFull S.is_full spools.new)) }
-        ensures want { IfErr result (MemoryOnlyIf (AreReady (map S.runs spools.new) (map S.open_run spools.new))) }
+    /// copy is of another build or of other columns, and so is dropped; and where its spools went to the indexes, and it takes nothing.
+    pub fn digest(&mut self) -> Result<usize, Fault>
+        ensures same { SameWorker self.old self.new }
+        ensures again { (fault : Fault) → self.old.fault ≡ Some fault → (result ≡ Err fault) × (self.new ≡ self.old) }
+        ensures sound { OnOk result ((self.old.fault ≡ None) × (self.new.fault ≡ None)) }
+        ensures taken { IfOk result (λ images. self.old.handed ≡ false → HasTaken 1 images self.old self.new) }
+        ensures handed { IfOk result (λ images. self.old.handed ≡ true → (images ≡ 0) × (self.new ≡ self.old)) }
+        ensures fault { IfErr result (λ fault. self.new.fault ≡ Some fault) }
+        ensures short { IfErr result IsShortage }
+        ensures full { self.old.fault ≡ None → IfErr result (NoPageOnlyIf (HaveFull S.is_full S.runs S.open_run S.stake self.new.spools)) }
+        ensures want { self.old.fault ≡ None → IfErr result (MemoryOnlyIf (AreReady (runs_of self.new.spools) (open_runs_of self.new.spools))) }
     {
-        if self.seen() == 0 {
+        if let Some(fault) = self.fault {
+            return Err(fault);
+        }
+        if self.handed {
             return Ok(0);
         }
-        let copied = self.ring.pop_known();
-        if !copied.is_for(self.build, maker.schema()) {
-            return Ok(0);
+        match self.intake.digest(&mut self.maker, &mut self.spools) {
+            Ok(images) => {
+                self.maker.laws();
+                Ok(images)
+            }
+            Err(fault) => {
+                self.fault = Some(fault);
+                Err(fault)
+            }
         }
-        if self.taken == usize::MAX {
-            return Err(Fault::Memory);
-        }
-        maker.take(copied.image, spools)?;
-        self.taken += 1;
-        Ok(1)
     }
 
-    /// Takes all copies that it has seen, spools their pairs, closes the run of each index, and answers how many copies of its
-    /// build and of its maker's columns there were. What it has taken is then sealed. Want of memory or of a page spoils the
-    /// build: some of the copies are gone.
-    pub fn seal<S: Spool>(&mut self, maker: &mut Maker, spools: &mut [S]) -> Result<usize, Fault>
-        requires spools { length spools.old ≡ length maker.old.specs }
-        requires ready { AreReady (map S.runs spools.old) (map S.open_run spools.old) }
-        ensures count { IfOk result (λ images. images ≡ length (next_images (length self.old.end.known) maker.old.schema self.old)) }
-        ensures taken { OnOk result (self.new ≡ after_seal (after_digest (length self.old.end.known) maker.old.schema self.old)) }
-        ensures holds { OnOk result (HoldsMore maker.old.specs (next_images (length self.old.end.known) maker.old.schema self.old)
-            (record { runs = map S.runs spools.old; begun = maker.old.begun }) (record { runs = map S.runs spools.new; begun = maker.new.begun })) }
-        ensures closed { OnOk result (All (λ begun. begun ≡ []) maker.new.begun) }
-        ensures ready { OnOk result (AreReady (map S.runs spools.new) (map S.open_run spools.new)) }
-        ensures sorted { All AreSorted (map S.runs spools.old) → All AreSorted (map S.runs spools.new) }
-        ensures stakes { map S.stake spools.new ≡ map S.stake spools.old }
-        ensures schema { maker.new.schema ≡ maker.old.schema }
-        ensures specs { maker.new.specs ≡ maker.old.specs }
-        ensures build { self.new.build ≡ self.old.build }
-        ensures ring { self.new.end.ring ≡ self.old.end.ring }
-        ensures failed { OnErr result ((n : ℕ) × (n ≤ length self.old.end.known) × StopsAfter n maker.old.schema self.old self.new) }
-        ensures fault { IfErr result (λ fault. (fault ≡ Fault.NoPage) ⊎ (fault ≡ Fault.Memory)) }
-        ensures full { IfErr result (NoPageOnlyIf (HasFull S.is_full spools.new)) }
-        ensures want { IfErr result (MemoryOnlyIf (AreReady (map S.runs spools.new) (map S.open_run spools.new))) }
+    /// Gives its spools away, to the indexes whose pairs they have; from then on it takes no copy.
+    pub fn hand_over(&mut self) -> Vec<S>
+        ensures spools { map (spool_value S.runs S.open_run S.stake) result.items ≡ self.old.spools }
+        ensures left { self.new ≡ record self.old { spools = []; handed = true } }
     {
-        let mut images = 0;
-        for _ in 0..self.seen() {
-            images += self.digest(maker, spools)?;
-        }
-        maker.laws();
-        maker.seal(spools)?;
-        self.sealed = self.taken;
-        Ok(images)
+        self.handed = true;
+        replace(&mut self.spools, Vec::new(self.alloc))
     }
 
-    // How many copies it has seen.
-    fn seen(&self) -> usize
-        ensures { result ≡ length self.now.end.known }
+    /// Its end of the ring, and the spools that it still has.
+    pub fn into_parts(self) -> (Intake, Vec<S>)
+        ensures intake { result.0 ≡ self.intake }
+        ensures spools { map (spool_value S.runs S.open_run S.stake) result.1.items ≡ self.spools }
     {
-        self.ring.cached_slots()
+        let Worker {
+            number: _,
+            intake,
+            maker: _,
+            spools,
+            handed: _,
+            fault: _,
+            alloc: _,
+            of: _,
+        } = self;
+        (intake, spools)
     }
-}
-
-// Takes out and drops all that is in the ring. Each of its places is then known to be free.
-fn empty_ring(ring: &mut Consumer<Copied>, putter: &mut PagePutter)
-    requires { putter.old.ring ≡ ring_take ring.old }
-    ensures ring { take_end ring.new ≡ record { ring = ring_take ring.old; received = putter.old.sent; known = [] } }
-    ensures putter { putter.new ≡ record putter.old { free = 4 } }
-{
-    for _ in 0..putter.beside(ring) {
-        ring.pop_known();
-    }
-    putter.beside(ring);
 }

@@ -9,7 +9,7 @@ use Rattle.run_spool.specs.Spools.{stakes_in}
 use Rattle.keybytes.specs.declared.fault.Fault.{Fault}
 use Rattle.keybytes.specs.declared.fault.Fault.TheVariants.{Memory}
 use Rattle.build_events.specs.CoreState.{CoreState, SpoolsState, idle, opening}
-use Rattle.builder_core.specs.Holding.{spools_in}
+use Rattle.build_work.specs.Holding.{spools_in}
 use Rattle.build_events.specs.Steps.{Step}
 use Rattle.build_events.specs.declared.event.Event.{Event}
 use Rattle.build_events.specs.declared.event.Event.TheVariants.{Begin, Insert, Update, Delete, Undo, Commit, Start, Scan, Digest, Seal, Load, Feed, Apply, Fence, Switch, Abandon}

@@ -7,7 +7,7 @@ ghost use Rattle.replay.specs.Answers.{Happens, answer_of};
 ghost use Rattle.replay.specs.Sessions.{state_of, Answers, IsNew, Runs};
 ghost use Rattle.replay.specs.Leasing.{KeepsBuild};
 ghost use Rattle.replay.specs.Limits.{is_refusal};
-ghost use Rattle.builder_core.specs.SideFiles.{side_refusal};
+ghost use Rattle.build_scan.specs.SideFiles.{side_refusal};
 ghost use Rattle.replay.specs.declared.answer.Answer.{Answer};
 ghost use Rattle.replay.specs.Listings.{key_spec_of, ListsLeft};
 ghost use Rattle.replay.specs.Plans.{specs_refusal};

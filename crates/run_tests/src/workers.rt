@@ -4,7 +4,7 @@ ghost use Rattle.spool_ledger.specs.Accounts.{new_account};
 ghost use Rattle.run_spool.specs.PlainSpools.{new_spool};
 ghost use Rattle.run_maker.specs.Making.{AreReady};
 
-use building::{Copied, PagePutter, Worker, page_ring};
+use building::{Copied, Intake, PagePutter, page_ring};
 use heap_table::{Heap, PageImage};
 use keybytes::{Cell, Fault, Key, KeySpec, Kind, Rid, Row, Schema};
 use run_maker::Maker;
@@ -18,7 +18,7 @@ use std::test::Fail;
 #[derive(Drop)]
 struct Bench {
     putter: PagePutter,
-    worker: Worker,
+    worker: Intake,
     ghost paired: { putter.ring ≡ worker.end.ring },
 }
 
@@ -28,7 +28,7 @@ impl Bench {
         ensures { IfOk result (λ bench. bench.putter.sent ≡ []) }
     {
         let (mut putter, ring) = page_ring(alloc)?;
-        let mut worker = Worker::new(ring);
+        let mut worker = Intake::new(ring);
         worker.restart(&mut putter, build);
         Ok(Bench { putter, worker })
     }
@@ -149,7 +149,7 @@ fn takes_all<S: Spool>(
     Ok(one == 1 && open && others == 1 && !maker.has_open_run())
 }
 
-fn has_taken_both(worker: &Worker) -> bool {
+fn has_taken_both(worker: &Intake) -> bool {
     worker.build() == 7 && worker.taken() == 2 && worker.sealed() == 2
 }
 

@@ -2,12 +2,14 @@ use Rattle.std.proofs.Common.{◌≡◌, length, sym, subst, ap, ◌∙◌, refl
 use Rattle.heap_table.specs.HeapState.{HeapState}
 use Rattle.heap_table.specs.Pages.{SetsRow}
 use Rattle.side_file.specs.SideFileValue.{SideFileValue}
-use Rattle.builder_core.specs.Builds.{BuildFollows, IsWorkOf}
+use Rattle.build_scan.specs.TableBuilds.{BuildFollows}
+use Rattle.build_work.specs.WorkOn.{IsWorkOf}
 use Rattle.builder_core.specs.Rings.{PagesFollow}
-use Rattle.builder_core.specs.SideFiles.{SidesFollow}
-use Rattle.builder_core.proofs.Places.{as_long}
-use Rattle.builder_core.proofs.Performed.{schema_is, follows_on, sides_follow_on, fits_build, fits_each, few_specs, pages_on, works_on}
-use Rattle.builder_core.proofs.SideKept.{sides_stay}
+use Rattle.build_scan.specs.SideFiles.{SidesFollow}
+use Rattle.build_scan.proofs.Places.{as_long}
+use Rattle.build_scan.proofs.Performed.{schema_is, follows_on, sides_follow_on, fits_build, few_specs}
+use Rattle.builder_core.proofs.Performed.{fits_each, pages_on, works_on}
+use Rattle.build_scan.proofs.SideKept.{sides_stay}
 use Rattle.builder_core.proofs.changes.perform.Goals as goal
 
 pub prepare-requires : goal.prepare-requires

@@ -8,7 +8,7 @@ use Rattle.keybytes.specs.Keys.{KeySpecValue, are_key_columns}
 use Rattle.keybytes.specs.declared.pair.Pair.{Pair}
 use Rattle.ready_indexes.specs.Following.{MayFollow, indexes_of}
 use Rattle.ready_indexes.specs.Indexes.{IsIndex, ReadyValue}
-use Rattle.builder_core.specs.Builds.{IndexValue}
+use Rattle.build_work.specs.BuildingValue.{IndexValue}
 use Rattle.builder_core.specs.CatchingUp.{ready_of, built_pairs}
 use Rattle.builder_core.proofs.MadeReady.{ready_more, ready_same}
 use Rattle.builder_core.proofs.SwitchIn.{first_done, none_done}

@@ -1,7 +1,6 @@
 use Rattle.std.proofs.Common.{◌≡◌, ◌≤◌, map, length, vec_capacity}
 use Rattle.building.specs.TakeEnd.{take_end}
-use Rattle.builder_core.specs.Rings.{side_rings, taken_rings}
-use Rattle.builder_core.specs.SideFiles.{put_ends}
+use Rattle.build_scan.specs.SideFiles.{side_rings, taken_rings, put_ends}
 use Rattle.builder_core.proofs.parts.entry_rings.Given as goal
 
 abbrev pub invariant-loop : goal.invariant-loop

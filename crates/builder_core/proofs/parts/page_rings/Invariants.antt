@@ -1,13 +1,13 @@
 use Rattle.std.proofs.Common.{◌≡◌, ◌≤◌, length, vec_capacity}
-use Rattle.builder_core.specs.Rings.{put_rings, take_rings, all_sent, AreOfBuilds}
+use Rattle.build_work.specs.Rings.{put_rings, take_rings, all_sent, AreOfBuilds}
 use Rattle.builder_core.proofs.parts.page_rings.Given as goal
 
 abbrev pub invariant-loop : goal.invariant-loop
 invariant-loop l = record {
-  rings : put_rings l.pages.items ≡ take_rings l.workers.items;
+  rings : put_rings l.pages.items ≡ take_rings l.intakes.items;
   pages : length l.pages.items ≡ l.counter;
-  workers : length l.workers.items ≡ l.counter;
+  intakes : length l.intakes.items ≡ l.counter;
   unused : AreOfBuilds 0 (all_sent l.pages.items);
   room : 16 ≤ vec_capacity l.pages;
-  more_room : 16 ≤ vec_capacity l.workers;
+  more_room : 16 ≤ vec_capacity l.intakes;
 }

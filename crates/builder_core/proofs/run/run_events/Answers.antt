@@ -2,7 +2,7 @@ use Rattle.std.proofs.Common.{◌≡◌, ◌+◌, ◌++◌, ◌∷◌, [], List,
 use Rattle.std.proofs.lemmas.List.{take_all, take_more}
 use Rattle.build_events.specs.declared.event.Event.{Event}
 use Rattle.build_events.specs.CoreState.{opening}
-use Rattle.builder_core.specs.Holding.{spools_in}
+use Rattle.build_work.specs.Holding.{spools_in}
 use Rattle.build_events.specs.Steps.{Run}
 use Rattle.build_events.proofs.Runs.{run_more}
 use Rattle.build_events.proofs.Switching.{each_switch, run_stakes}

@@ -1,7 +1,7 @@
 use Rattle.std.proofs.Common.{◌≡◌, ◌≤◌, length, take}
 use Rattle.std.specs.Vec.{vec_capacity}
 use Rattle.build_events.specs.CoreState.{opening}
-use Rattle.builder_core.specs.Holding.{spools_in}
+use Rattle.build_work.specs.Holding.{spools_in}
 use Rattle.build_events.specs.Steps.{Run}
 use Rattle.builder_core.proofs.run.run_events.Given as goal
 

@@ -1,8 +1,8 @@
-use Rattle.std.proofs.Common.{◌≡◌, ◌∙◌, IsSome, true, refl, ap, map, subst}
-use Rattle.builder_core.specs.Builds.{LiveValue, BuildingValue, core_state}
+use Rattle.std.proofs.Common.{◌≡◌, ◌∙◌, IsSome, true, refl, ap, subst}
+use Rattle.builder_core.specs.Builds.{LiveValue, core_state}
+use Rattle.build_work.specs.BuildingValue.{BuildingValue}
 use Rattle.build_events.specs.CoreState.{CoreState, SpoolsState, abandoned, idle, opening}
-use Rattle.builder_core.specs.Holding.{ended_spool}
-use Rattle.builder_core.proofs.OneWorker.{ended_stakes}
+use Rattle.build_work.proofs.OneWorker.{ended_stakes}
 use Rattle.builder_core.proofs.Refusals.{builds_on, given_to}
 use Rattle.builder_core.proofs.core_steps.Core.abandon.Goals as goal
 
@@ -13,7 +13,7 @@ returns g c =
     let runs : IsSome live.state.build = c.in_ok-abandon.ensures.accepted in
     let given : building.given ≡ true =
     given_to live.state.heap.schema live.state.heap.log live.pages live.sides building live.state.build building.work c.self.invariant.work c.self.invariant.workers runs in
-    let ended = ended_stakes building (map ended_spool building.spools) given refl in (
+    let ended = ended_stakes building given in (
       builds_on c.args.self.now.live.build (subst (λ (s : CoreState). IsSome s.live.build) c.self.view_is runs),
       (
         refl,

@@ -1,4 +1,5 @@
-use Rattle.builder_core.specs.Builds.{LiveValue, BuildingValue, core_state}
+use Rattle.builder_core.specs.Builds.{LiveValue, core_state}
+use Rattle.build_work.specs.BuildingValue.{BuildingValue}
 use Rattle.builder_core.proofs.ApplyCauses.{applies_next, can_apply_next, applies_all, applies_some, works_after_apply}
 use Rattle.builder_core.proofs.Feeding.{state_side_looked}
 use Rattle.builder_core.proofs.live.Live.apply.Goals as goal

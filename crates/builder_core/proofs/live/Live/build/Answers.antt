@@ -1,10 +1,10 @@
 use Rattle.std.proofs.Common.{subst}
 use Rattle.std.specs.Prelude.{IfSome}
 use Rattle.builder_core.specs.Builds.{LiveValue}
-use Rattle.builder_core.specs.SideFiles.{NoneAhead}
-use Rattle.builder_core.proofs.Performed.{few_specs}
+use Rattle.build_scan.specs.SideFiles.{NoneAhead}
+use Rattle.build_scan.proofs.Performed.{few_specs}
 use Rattle.builder_core.proofs.SideEnds.{eight_sides}
-use Rattle.builder_core.proofs.SideKept.{none_ahead}
+use Rattle.build_scan.proofs.SideKept.{none_ahead}
 use Rattle.builder_core.proofs.live.Live.build.Goals as goal
 
 pub returns-clause-fed : goal.returns-clause-fed

@@ -1,7 +1,9 @@
 use Rattle.std.proofs.Common.{◌≡◌, ◌<◌, ◌∙◌, length, sym, ap, subst, arith, inl, inr}
 use Rattle.std.proofs.lemmas.Bool.{cases_lt}
 use Rattle.std.proofs.lemmas.Option.{same_Some}
-use Rattle.builder_core.specs.Builds.{BuildingValue, BuildFollows, core_state}
+use Rattle.build_work.specs.BuildingValue.{BuildingValue}
+use Rattle.builder_core.specs.Builds.{core_state}
+use Rattle.build_scan.specs.TableBuilds.{BuildFollows}
 use Rattle.builder_core.specs.CatchingUp.{left_at}
 use Rattle.build_events.specs.CoreState.{BuildState}
 use Rattle.builder_core.proofs.CatchingUp.{begins, catches_up, all_further, others_left, may_apply_at, none_left}

@@ -1,5 +1,6 @@
 use Rattle.std.proofs.Common.{◌<◌, ◌∙◌, subst}
-use Rattle.builder_core.specs.Builds.{LiveValue, BuildingValue, core_state}
+use Rattle.builder_core.specs.Builds.{LiveValue, core_state}
+use Rattle.build_work.specs.BuildingValue.{BuildingValue}
 use Rattle.builder_core.specs.CatchingUp.{IndexIsFurther, left_at}
 use Rattle.build_events.specs.CoreState.{CoreState}
 use Rattle.builder_core.proofs.ApplyCauses.{applies_next}

@@ -1,90 +1,87 @@
-use Rattle.std.proofs.Common.{rules, ◌≡◌, ◌<◌, None, Some, Option, IfSome, ℕ, length, ap, subst, arith}
+use Rattle.std.proofs.Common.{rules, ◌≡◌, ◌<◌, None, Some, ℕ, length, ap, subst, arith}
 use Rattle.keybytes.specs.declared.fault.Fault.TheVariants.{NotSealed}
-use Rattle.builder_core.specs.Builds.{LiveValue, BuildingValue, WorkValue}
+use Rattle.builder_core.specs.Builds.{LiveValue}
+use Rattle.build_work.specs.BuildingValue.{BuildingValue, WorkValue}
 use Rattle.build_events.specs.CoreState.{BuildState, CoreState}
 use Rattle.build_events.specs.Ranges.{open_range}
-use Rattle.builder_core.specs.Rings.{all_sent, AreDone, IsUnfinished}
 use Rattle.build_events.specs.BuildSteps.{build_cause, load_refusal}
-use Rattle.builder_core.proofs.LoadCauses.{load_free, load_loud}
+use Rattle.builder_core.proofs.LoadCauses.{all_holding, load_free, load_unsealed, open_runs}
 use Rattle.builder_core.proofs.Looked.{works_looked, state_looked, runs_looked}
 use Rattle.builder_core.proofs.Refusals.{running}
 use Rattle.builder_core.proofs.Takes.{put_of}
 use Rattle.builder_core.proofs.live.Live.check_load.Goals as goal
 
-pub returns-in-Some-look_for_loud-clause-refused : goal.returns-in-Some-look_for_loud-clause-refused
-returns-in-Some-look_for_loud-clause-refused g c =
+pub returns-in-Some-look_for_unsealed-clause-refused : goal.returns-in-Some-look_for_unsealed-clause-refused
+returns-in-Some-look_for_unsealed-clause-refused g c =
     let old : LiveValue = c.args.self.now in
-    let live : LiveValue = c.look_for_loud.new.self in
+    let live : LiveValue = c.look_for_unsealed.new.self in
     let before : BuildingValue = c.args.building.now in
-    let building : BuildingValue = c.look_for_loud.new.building in
+    let building : BuildingValue = c.look_for_unsealed.new.building in
     let b : BuildState = c.in-Some-Some.build.now in
     let w : WorkValue = c.in-Some-Some.work.now in
-    let looked = c.look_for_loud.ensures.looked in
+    let looked = c.look_for_unsealed.ensures.looked in
     let same = state_looked old live before building looked in
     let was = running old before b w c.in-Some-Some.ensures.build c.in-Some-Some.ensures' c.build.ensures.follows c.requires in
     let run = runs_looked old live before building b w looked was in
     let all : open_range b ≡ None = search rules in
-    let worker : ℕ = c.in-Some-look_for_loud.worker in
-    let Loud : WorkValue → Type 0 =
-    λ work. (worker < c.workers-count.result) × AreDone worker (all_sent live.pages) building.workers work.makers
-    × IsUnfinished worker (all_sent live.pages) building.workers work.makers in
-    let loud : Loud w = subst (λ (o : Option WorkValue). IfSome o Loud) c.in-Some-Some.ensures' c.in-Some-look_for_loud.ensures.loud in
+    let worker : ℕ = c.in-Some-look_for_unsealed.worker in
+    let unsealed = c.in-Some-look_for_unsealed.ensures.unsealed in
     let there : c.args.index < length b.specs = omega (arith, c.if-index-indexes.false, c.indexes.ensures) in
-    let cause = load_loud live building b w run c.in_ok-check.ensures (put_of live b run.build_is c.look_for_loud.ensures.put) c.look_for_loud.ensures.pages
-    c.look_for_loud.ensures.workers c.args.index worker there all (omega (arith, loud.0, c.workers-count.ensures)) loud.1 loud.2 in
+    let cause = load_unsealed live building b w run c.in_ok-check.ensures (put_of live b run.build_is c.look_for_unsealed.ensures.put) c.look_for_unsealed.ensures.pages
+    (open_runs live building b w run c.in_ok-check.ensures (put_of live b run.build_is c.look_for_unsealed.ensures.put) c.look_for_unsealed.ensures.pages c.look_for_unsealed.ensures.begun c.look_for_unsealed.ensures.holding)
+    c.args.index worker there all unsealed.0 unsealed.1 unsealed.2 in
     subst (λ (s : CoreState). build_cause s.live.build (λ x. load_refusal x s c.args.index) ≡ Some (NotSealed worker)) same cause
 
-pub returns-in-Some-look_for_loud-clause-state : goal.returns-in-Some-look_for_loud-clause-state
-returns-in-Some-look_for_loud-clause-state g c = state_looked _ _ _ _ c.look_for_loud.ensures.looked
+pub returns-in-Some-look_for_unsealed-clause-state : goal.returns-in-Some-look_for_unsealed-clause-state
+returns-in-Some-look_for_unsealed-clause-state g c = state_looked _ _ _ _ c.look_for_unsealed.ensures.looked
 
-pub returns-in-Some-look_for_loud-clause-works : goal.returns-in-Some-look_for_loud-clause-works
-returns-in-Some-look_for_loud-clause-works g c = works_looked _ _ _ _ c.look_for_loud.ensures.looked c.requires
+pub returns-in-Some-look_for_unsealed-clause-works : goal.returns-in-Some-look_for_unsealed-clause-works
+returns-in-Some-look_for_unsealed-clause-works g c = works_looked _ _ _ _ c.look_for_unsealed.ensures.looked c.requires
 
 pub returns-in-None-clause-accepted : goal.returns-in-None-clause-accepted
 returns-in-None-clause-accepted g c =
     let old : LiveValue = c.args.self.now in
-    let live : LiveValue = c.look_for_loud.new.self in
+    let live : LiveValue = c.look_for_unsealed.new.self in
     let before : BuildingValue = c.args.building.now in
-    let building : BuildingValue = c.look_for_loud.new.building in
+    let building : BuildingValue = c.look_for_unsealed.new.building in
     let b : BuildState = c.in-Some-Some.build.now in
     let w : WorkValue = c.in-Some-Some.work.now in
-    let looked = c.look_for_loud.ensures.looked in
+    let looked = c.look_for_unsealed.ensures.looked in
     let same = state_looked old live before building looked in
     let was = running old before b w c.in-Some-Some.ensures.build c.in-Some-Some.ensures' c.build.ensures.follows c.requires in
     let run = runs_looked old live before building b w looked was in
     let all : open_range b ≡ None = search rules in
-    let quiet = subst (λ (n : ℕ). AreDone n (all_sent live.pages) building.workers w.makers) c.workers-count.ensures
-    (subst (λ (o : Option WorkValue). IfSome o (λ work. AreDone c.workers-count.result (all_sent live.pages) building.workers work.makers)) c.in-Some-Some.ensures'
-    c.in-None.ensures.loud) in
     let there : c.args.index < length b.specs = omega (arith, c.if-index-indexes.false, c.indexes.ensures) in
-    let cause = load_free live building b w run c.in_ok-check.ensures (put_of live b run.build_is c.look_for_loud.ensures.put) c.look_for_loud.ensures.pages
-    c.look_for_loud.ensures.workers c.args.index there all quiet in
+    let cause = load_free live building b w run c.in_ok-check.ensures (put_of live b run.build_is c.look_for_unsealed.ensures.put) c.look_for_unsealed.ensures.pages
+    (open_runs live building b w run c.in_ok-check.ensures (put_of live b run.build_is c.look_for_unsealed.ensures.put) c.look_for_unsealed.ensures.pages c.look_for_unsealed.ensures.begun c.look_for_unsealed.ensures.holding)
+    c.args.index there all c.in-None.ensures.unsealed in
     subst (λ (s : CoreState). build_cause s.live.build (λ x. load_refusal x s c.args.index) ≡ None) same cause
 
 pub returns-in-None-clause-state : goal.returns-in-None-clause-state
-returns-in-None-clause-state g c = state_looked _ _ _ _ c.look_for_loud.ensures.looked
+returns-in-None-clause-state g c = state_looked _ _ _ _ c.look_for_unsealed.ensures.looked
 
 pub returns-in-None-clause-works : goal.returns-in-None-clause-works
-returns-in-None-clause-works g c = works_looked _ _ _ _ c.look_for_loud.ensures.looked c.requires
+returns-in-None-clause-works g c = works_looked _ _ _ _ c.look_for_unsealed.ensures.looked c.requires
 
 pub returns-in-None-clause-runs : goal.returns-in-None-clause-runs
 returns-in-None-clause-runs g c =
     let old : LiveValue = c.args.self.now in
-    let live : LiveValue = c.look_for_loud.new.self in
+    let live : LiveValue = c.look_for_unsealed.new.self in
     let before : BuildingValue = c.args.building.now in
-    let building : BuildingValue = c.look_for_loud.new.building in
+    let building : BuildingValue = c.look_for_unsealed.new.building in
     let b : BuildState = c.in-Some-Some.build.now in
     let w : WorkValue = c.in-Some-Some.work.now in
-    let looked = c.look_for_loud.ensures.looked in
+    let looked = c.look_for_unsealed.ensures.looked in
     let was = running old before b w c.in-Some-Some.ensures.build c.in-Some-Some.ensures' c.build.ensures.follows c.requires in
+    let run = runs_looked old live before building b w looked was in
     record {
       build = b;
       work = w;
-      runs = runs_looked old live before building b w looked was;
+      runs = run;
       fine = c.in_ok-check.ensures;
       there = let specs = ap length was.on.specs in omega (arith, c.if-index-indexes.false, c.indexes.ensures, specs);
       all = search rules;
-      quiet = subst (λ (n : ℕ). AreDone n (all_sent live.pages) building.workers w.makers) c.workers-count.ensures
-          (subst (λ (o : Option WorkValue). IfSome o (λ work. AreDone c.workers-count.result (all_sent live.pages) building.workers work.makers)) c.in-Some-Some.ensures'
-          c.in-None.ensures.loud);
+      sealed = c.in-None.ensures.unsealed;
+      holding = all_holding live building b w run c.in_ok-check.ensures (put_of live b run.build_is c.look_for_unsealed.ensures.put) c.look_for_unsealed.ensures.pages c.look_for_unsealed.ensures.begun
+          c.look_for_unsealed.ensures.holding;
     }

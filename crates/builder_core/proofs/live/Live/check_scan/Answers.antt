@@ -1,6 +1,7 @@
 use Rattle.std.proofs.Common.{◌≡◌, ◌∙◌, true, ap, sym, arith}
 use Rattle.std.specs.Prelude.{is_some}
-use Rattle.builder_core.specs.Builds.{LiveValue, WorkValue, IsRunning}
+use Rattle.builder_core.specs.Builds.{LiveValue, IsRunning}
+use Rattle.build_work.specs.BuildingValue.{WorkValue}
 use Rattle.build_events.specs.CoreState.{BuildState}
 use Rattle.build_events.specs.Ranges.{next_page}
 use Rattle.builder_core.proofs.Refusals.{running}

@@ -4,10 +4,12 @@ use Rattle.heap_table.specs.HeapValue.{HeapValue}
 use Rattle.heap_log.specs.declared.record.LogRec.TheVariants.{Commit}
 use Rattle.ready_indexes.specs.Following.{AllFollow, GoesOn}
 use Rattle.builder_core.specs.Builds.{LiveValue, WorksOn}
-use Rattle.builder_core.specs.Rings.{all_sent}
-use Rattle.builder_core.proofs.Following.{committed, commit_follows, commit_pages, commit_sides, commit_workers, commit_works, refused_same}
+use Rattle.build_work.specs.Rings.{all_sent}
+use Rattle.builder_core.proofs.Following.{committed, commit_pages, commit_workers, commit_works, refused_same}
+use Rattle.build_scan.proofs.TableBuilds.{commit_follows}
+use Rattle.build_scan.proofs.SideKept.{commit_sides}
 use Rattle.builder_core.proofs.live.Live.commit.Goals as goal
-use Rattle.builder_core.specs.SideFiles.{put_ends}
+use Rattle.build_scan.specs.SideFiles.{put_ends}
 
 pub invariant_of-self : goal.invariant_of-self
 invariant_of-self g c =

@@ -6,10 +6,11 @@ use Rattle.std.specs.Prelude.{IfSome}
 use Rattle.builder_core.specs.Builds.{LiveValue}
 use Rattle.builder_core.specs.Invariant.{EachPageOnce}
 use Rattle.build_events.specs.Soundness.{BuildIsSound}
-use Rattle.builder_core.specs.Rings.{all_sent}
-use Rattle.builder_core.specs.SideFiles.{EachEntryOnce}
-use Rattle.builder_core.proofs.Feeding.{each_entry_once}
-use Rattle.builder_core.proofs.Sound.{runs_sound, runs_once}
+use Rattle.build_work.specs.Rings.{all_sent}
+use Rattle.build_scan.specs.SideFiles.{EachEntryOnce}
+use Rattle.build_scan.proofs.Feeding.{each_entry_once}
+use Rattle.build_scan.proofs.Sound.{runs_sound}
+use Rattle.builder_core.proofs.Sound.{runs_once}
 use Rattle.ready_indexes.specs.KeyCauses.{KeysAreGuarded}
 use Rattle.heap_table.specs.Sound.{HoldsFollowLog}
 use Rattle.ready_indexes.proofs.Each.{table_follows}

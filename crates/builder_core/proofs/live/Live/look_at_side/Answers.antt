@@ -5,12 +5,15 @@ use Rattle.side_file.specs.Ends.{PutEnd}
 use Rattle.side_file.specs.SideFileValue.{SideFileValue}
 use Rattle.side_file.specs.declared.entry.Entry.{Entry}
 use Rattle.building.specs.TakeEnd.{take_end}
-use Rattle.builder_core.specs.Builds.{LiveValue, BuildingValue, SideIsLooked}
-use Rattle.builder_core.specs.Holding.{spool_value}
-use Rattle.builder_core.specs.SideFiles.{AreFedEntries, HasLookedAtSide, SeesSide, put_ends}
-use Rattle.builder_core.proofs.Feeding.{fed_if_running}
-use Rattle.builder_core.proofs.Places.{at_index, here_set, map_at}
-use Rattle.builder_core.proofs.SideEnds.{sides_looked, put_ends_stay, take_ends_stay, eight_sides, eight_ends, paired, side_is_looked, sees_side}
+use Rattle.builder_core.specs.Builds.{LiveValue, SideIsLooked}
+use Rattle.build_work.specs.BuildingValue.{BuildingValue}
+use Rattle.building.specs.SpoolValue.{spool_value}
+use Rattle.build_scan.specs.SideFiles.{AreFedEntries, HasLookedAtSide, SeesSide, put_ends}
+use Rattle.build_scan.proofs.Feeding.{fed_if_running}
+use Rattle.build_scan.proofs.Places.{at_index, here_set, map_at}
+use Rattle.build_scan.proofs.SideEnds.{sides_looked, paired}
+use Rattle.builder_core.proofs.SideEnds.{put_ends_stay, eight_sides, side_is_looked, sees_side}
+use Rattle.build_work.proofs.SideEnds.{take_ends_stay, eight_ends}
 use Rattle.ready_indexes.specs.Following.{indexes_of}
 use Rattle.builder_core.proofs.live.Live.look_at_side.Goals as goal
 
@@ -43,6 +46,10 @@ invariant_of-building g c = (
   take_ends_stay _ _ _ c.building.inside.side_ends.items c.args.index c.index_mut.result.now c.beside-waiting.new.consumer c.building.invariant.0
       c.index_mut.ensures.value (search rules),
   c.building.invariant.1,
+  c.building.invariant.2,
+  c.building.invariant.3,
+  c.building.invariant.4,
+  c.building.invariant.5,
 )
 
 pub returns-clause-looked : goal.returns-clause-looked
@@ -70,6 +77,7 @@ returns-clause-looked g c =
     } in
     let building : BuildingValue = record {
       workers = c.building.inside.workers.items;
+      idle = c.building.inside.idle.items;
       sides = map take_end ends;
       spools = map (spool_value g.S.Spool.runs g.S.Spool.open_run g.S.Spool.stake) c.building.inside.spools.items;
       given = c.building.inside.given;

@@ -7,18 +7,23 @@ use Rattle.heap_table.specs.HeapState.{HeapState}
 use Rattle.heap_table.specs.Pages.{pages_written}
 use Rattle.side_file.specs.Ends.{PutEnd}
 use Rattle.building.specs.declared.copied.Copied.{Copied}
-use Rattle.builder_core.specs.Builds.{LiveValue, BuildFollows, IsBuildOf, IsWorkOf, WorkersFollow, WorksOn, full_refusal, put_refusal}
+use Rattle.builder_core.specs.Builds.{LiveValue, WorksOn, full_refusal, put_refusal}
+use Rattle.build_work.specs.WorkOn.{IsWorkOf, WorkersFollow}
+use Rattle.build_scan.specs.TableBuilds.{BuildFollows, IsBuildOf}
 use Rattle.build_events.specs.CoreState.{BuildState, LiveState}
-use Rattle.builder_core.specs.Rings.{all_sent, AreOfBuilds, HasPut, PagesFollow}
+use Rattle.build_work.specs.Rings.{all_sent, AreOfBuilds}
+use Rattle.builder_core.specs.Rings.{HasPut, PagesFollow}
 use Rattle.build_events.specs.Ranges.{next_page}
-use Rattle.builder_core.specs.SideFiles.{HaveEntries, SidesFollow, put_ends}
+use Rattle.build_scan.specs.SideFiles.{HaveEntries, SidesFollow, put_ends}
 use Rattle.build_events.specs.BuildSteps.{OnBuild}
-use Rattle.builder_core.proofs.Places.{here_set, map_at}
-use Rattle.builder_core.proofs.SideKept.{sides_next}
-use Rattle.builder_core.proofs.TableBuilds.{scanned_next, work_of_next}
+use Rattle.build_scan.proofs.Places.{here_set, map_at}
+use Rattle.build_scan.proofs.SideKept.{sides_next}
+use Rattle.build_scan.proofs.TableBuilds.{scanned_next}
+use Rattle.builder_core.proofs.TableBuilds.{work_of_next}
 use Rattle.builder_core.proofs.OneRing.{put_ends_set, sent_looked, sent_put, workers_looked, workers_put, builds_put, put_next, written_twice, full_at}
 use Rattle.builder_core.proofs.OneRing.{put_full, next_below, worker_below}
 use Rattle.ready_indexes.specs.Following.{AllFollow}
+use Rattle.build_events.proofs.NextPages.{no_page}
 use Rattle.builder_core.proofs.live.Live.scan_step.Goals as goal
 
 pub invariant_of-self : goal.invariant_of-self
@@ -185,5 +190,5 @@ returns-clause-works g c = λ building works.
           new_pages
           (subst (λ (o : Option BuildState). WorkersFollow heap.schema pages (put_ends inside.sides.items) building o building.work) c.in-Some.is before.workers) sent_there all (record { number = number; columns = c.copy_page.ensures.copy.schema })
           (ap (λ (x : BuildState). x.number) c.note.ensures.noted) (ap (λ (x : BuildState). x.workers) c.note.ensures.noted)
-          (ap (λ (x : BuildState). x.fed) c.note.ensures.noted));
+          (ap (λ (x : BuildState). x.fed) c.note.ensures.noted) (λ none. no_page b none c.args.range c.in-Ok.page next.0));
     }

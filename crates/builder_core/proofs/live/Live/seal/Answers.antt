@@ -1,45 +1,44 @@
-use Rattle.std.proofs.Common.{◌≡◌, length, subst, arith}
-use Rattle.std.specs.Prelude.{IfOk, IfErr, IfSome}
+use Rattle.std.proofs.Common.{◌≡◌, ◌∙◌, None, refl, sym, subst}
+use Rattle.std.specs.Prelude.{IfOk, IfErr, IfSome, IsSome}
+use Rattle.std.specs.List.{slice_get}
 use Rattle.std.proofs.lemmas.Result.{IfErr-weaker}
 use Rattle.side_file.specs.Ends.{PutEnd}
 use Rattle.run_spool.specs.Spools.{NoPageOnlyIf}
 use Rattle.building.specs.declared.copied.Copied.{Copied}
-use Rattle.builder_core.specs.Builds.{LiveValue, BuildingValue, core_state}
+use Rattle.builder_core.specs.Builds.{LiveValue, core_state}
+use Rattle.build_work.specs.BuildingValue.{BuildingValue}
 use Rattle.build_events.specs.CoreState.{CoreState}
-use Rattle.builder_core.specs.FullSpools.{WasFull, WorkerWasFull}
-use Rattle.builder_core.specs.Holding.{stakes_of}
+use Rattle.build_work.specs.FullSpools.{HadFull}
+use Rattle.builder_core.specs.FullSpools.{WorkerWasFull}
+use Rattle.building.specs.WorkerValue.{WorkerValue}
 use Rattle.build_events.specs.BuildSteps.{Seals}
 use Rattle.build_events.specs.Steps.{spoiled_by}
 use Rattle.builder_core.proofs.FullSpools.{full_in_build}
 use Rattle.builder_core.proofs.Looked.{state_looked, runs_looked}
-use Rattle.builder_core.proofs.Places.{map_at}
+use Rattle.build_scan.proofs.Places.{below, map_at}
 use Rattle.builder_core.proofs.Sealed.{works_after_seal, seals_after}
-use Rattle.builder_core.proofs.Takes.{its_kit, its_spools, put_of, spoiled_after}
+use Rattle.builder_core.proofs.Takes.{put_of, spoiled_after}
 use Rattle.builder_core.proofs.live.Live.seal.Goals as goal
 
-pub seal-requires : goal.seal-requires
-seal-requires g c =
+pub seal-requires-clause-there : goal.seal-requires-clause-there
+seal-requires-clause-there g c =
+    let sees = c.look.ensures.sees in
+    below c.look.new.building.workers c.args.worker sees.it sees.there
+
+pub seal-requires-clause-runs : goal.seal-requires-clause-runs
+seal-requires-clause-runs g c =
+    let may = c.requires.runs in
+    subst (λ o. IsSome o) (sym (c.look.ensures.looked.work ∙ may.runs.work_is)) refl
+
+pub seal-requires-clause-fine : goal.seal-requires-clause-fine
+seal-requires-clause-fine g c =
     let may = c.requires.runs in
     let live : LiveValue = c.look.new.self in
     let building : BuildingValue = c.look.new.building in
     let run = runs_looked c.args.self.now live c.args.building.now building may.build may.work c.look.ensures.looked may.runs in
     let sees = c.look.ensures.sees in
     let there = map_at (λ (end : PutEnd Copied). end.sent) live.pages c.args.worker sees.end sees.ring in
-    let put = put_of live may.build run.build_is c.look.ensures.put in
-    let kit = its_kit live building may.build may.work run may.fine put c.args.worker sees.end.sent sees.it may.there there sees.there sees.in_order in
-    record {
-      work = may.work;
-      runs = run.work_is;
-      can = record {
-        it = sees.it;
-        there = sees.there;
-        maker = kit.0;
-        made = kit.1;
-        lent = its_spools live building may.build may.work run may.fine put c.args.worker sees.end.sent sees.it may.there there sees.there sees.in_order;
-        fit = kit.2;
-        seen = omega arith;
-      };
-    }
+    subst (λ o. IfSome o (λ (w : WorkerValue). w.fault ≡ None)) (sym sees.there) (run.at_work.taking may.fine c.args.worker sees.end.sent sees.it there sees.there).fine
 
 pub returns-clause-works : goal.returns-clause-works
 returns-clause-works g c =
@@ -47,8 +46,8 @@ returns-clause-works g c =
     let live : LiveValue = c.look.new.self in
     let building : BuildingValue = c.look.new.building in
     let run = runs_looked c.args.self.now live c.args.building.now building may.build may.work c.look.ensures.looked may.runs in
-    works_after_seal live building c.seal.new.self may.build may.work run may.fine (put_of live may.build run.build_is c.look.ensures.put) c.args.worker may.there c.look.result
-    c.look.ensures.sees c.seal.result c.seal.ensures.taken c.seal.ensures.spoiled
+    works_after_seal live building c.seal.new.self may.build may.work run may.fine (put_of live may.build run.build_is c.look.ensures.put) c.args.worker c.look.result
+    c.look.ensures.sees c.seal.result c.seal.ensures.did c.seal.ensures.spoiled
 
 pub returns-clause-sealed : goal.returns-clause-sealed
 returns-clause-sealed g c =
@@ -58,8 +57,8 @@ returns-clause-sealed g c =
     let run = runs_looked c.args.self.now live c.args.building.now building may.build may.work c.look.ensures.looked may.runs in
     subst (λ (s : CoreState). IfOk c.seal.result (λ images. Seals c.args.worker s images (core_state live c.seal.new.self)))
     (state_looked c.args.self.now live c.args.building.now building c.look.ensures.looked)
-    (seals_after live building c.seal.new.self may.build may.work run may.fine (put_of live may.build run.build_is c.look.ensures.put) c.args.worker may.there c.look.result
-    c.look.ensures.sees c.seal.result c.seal.ensures.taken)
+    (seals_after live building c.seal.new.self may.build may.work run may.fine (put_of live may.build run.build_is c.look.ensures.put) c.args.worker c.look.result
+    c.look.ensures.sees c.seal.result c.seal.ensures.did)
 
 pub returns-clause-spoiled : goal.returns-clause-spoiled
 returns-clause-spoiled g c =
@@ -73,13 +72,17 @@ returns-clause-spoiled g c =
 
 pub returns-clause-full : goal.returns-clause-full
 returns-clause-full g c =
-    let live : LiveValue = c.args.self.now in
+    let may = c.requires.runs in
+    let live : LiveValue = c.look.new.self in
     let old : BuildingValue = c.args.building.now in
     let building : BuildingValue = c.look.new.building in
-    let is_full = g.S.Spool.is_full in
-    let stake = g.S.Spool.stake in
-    let looked = c.look.ensures.looked in
-    IfErr-weaker c.seal.result (NoPageOnlyIf (IfSome building.work (λ work. WasFull is_full stake (length work.specs) c.args.worker (stakes_of building.spools))))
-    (NoPageOnlyIf (WorkerWasFull is_full stake (core_state live old) c.args.worker))
-    (λ fault only is. full_in_build is_full stake live old building c.args.worker c.requires.runs looked.work looked.spools (only is))
+    let spool = g.S.Spool in
+    let run = runs_looked c.args.self.now live old building may.build may.work c.look.ensures.looked may.runs in
+    let sees = c.look.ensures.sees in
+    IfErr-weaker c.seal.result (NoPageOnlyIf (IfSome (slice_get building.workers c.args.worker) (HadFull spool.is_full spool.runs spool.open_run spool.stake)))
+    (NoPageOnlyIf (WorkerWasFull spool.is_full spool.stake (core_state c.args.self.now old) c.args.worker))
+    (λ fault only is.
+    subst (λ (s : CoreState). WorkerWasFull spool.is_full spool.stake s c.args.worker) (state_looked c.args.self.now live old building c.look.ensures.looked)
+    (full_in_build spool.is_full spool.runs spool.open_run spool.stake live building may.build may.work run may.fine c.look.ensures.pages c.args.worker sees.it sees.there
+    (subst (λ o. IfSome o (HadFull spool.is_full spool.runs spool.open_run spool.stake)) sees.there (only is))))
     c.seal.ensures.full

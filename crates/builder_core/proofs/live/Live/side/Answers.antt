@@ -2,10 +2,11 @@ use Rattle.std.proofs.Common.{◌≡◌, None, List, ap, sym, ◌∙◌, subst}
 use Rattle.std.specs.VecDeque.Iter.{deque_iter_rest}
 use Rattle.side_file.specs.declared.entry.Entry.{Entry}
 use Rattle.builder_core.specs.Builds.{LiveValue}
-use Rattle.builder_core.specs.SideFiles.{AreEntriesLeft, HaveEntryKeys, side_refusal}
-use Rattle.builder_core.proofs.Performed.{few_specs}
-use Rattle.builder_core.proofs.SideEnds.{eight_sides, side_there}
-use Rattle.builder_core.proofs.SideKept.{entries_left, keys_left}
+use Rattle.build_scan.specs.SideFiles.{AreEntriesLeft, HaveEntryKeys, side_refusal}
+use Rattle.build_scan.proofs.Performed.{few_specs}
+use Rattle.builder_core.proofs.SideEnds.{eight_sides}
+use Rattle.build_scan.proofs.SideEnds.{side_there}
+use Rattle.build_scan.proofs.SideKept.{entries_left, keys_left}
 use Rattle.builder_core.proofs.live.Live.side.Goals as goal
 
 pub returns-clause-keys : goal.returns-clause-keys

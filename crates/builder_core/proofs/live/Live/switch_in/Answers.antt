@@ -1,4 +1,4 @@
-use Rattle.std.proofs.Common.{◌≡◌, ◌∙◌, ◌+◌, ◌++◌, ℕ, List, length, map, ap, ap₂, sym, subst}
+use Rattle.std.proofs.Common.{◌≡◌, ◌∙◌, ◌+◌, ◌++◌, Option, Some, ℕ, List, length, map, ap, ap₂, sym, subst}
 use Rattle.std.specs.Prelude.{false, true}
 use Rattle.std.specs.List.{All, AllZip}
 use Rattle.std.proofs.lemmas.Option.{same_Some}
@@ -9,20 +9,27 @@ use Rattle.heap_table.specs.HeapState.{HeapState, after_switch, after_fence}
 use Rattle.heap_table.specs.Pages.{KeepsRows}
 use Rattle.heap_table.specs.Kept.{RowsFit}
 use Rattle.heap_table.specs.Sound.{HoldsFollowLog}
-use Rattle.building.specs.TakeEnd.{take_end}
-use Rattle.builder_core.specs.Builds.{LiveValue, BuildingValue, WorkValue, IndexValue, IsRunning, core_state, work_state}
-use Rattle.builder_core.specs.CatchingUp.{IsDoneIndex, its_verdict, ready_of}
+use Rattle.std.specs.Option.{IfSome}
+use Rattle.builder_core.specs.Builds.{LiveValue, IsRunning, core_state}
+use Rattle.build_work.specs.BuildingValue.{BuildingValue, WorkValue, IndexValue, work_state}
+use Rattle.builder_core.specs.CatchingUp.{IsDoneIndex, ready_of}
+use Rattle.build_work.specs.Verdicts.{its_verdict}
 use Rattle.ready_indexes.specs.Following.{AllFollow, GoesOn, MayFollow, indexes_of}
 use Rattle.build_events.specs.CoreState.{BuildState, CoreState}
 use Rattle.ready_indexes.specs.Indexes.{ReadyValue}
-use Rattle.builder_core.specs.Holding.{spool_value, spools_state}
+use Rattle.build_work.specs.Holding.{all_spools, spools_state}
 use Rattle.build_events.specs.BuildSteps.{Switches, verdicts_on}
 use Rattle.build_events.specs.Verdicts.{outcomes}
-use Rattle.builder_core.proofs.OneWorker.{ended_stakes}
+use Rattle.build_work.proofs.OneWorker.{ended_stakes}
 use Rattle.builder_core.proofs.Refusals.{running_inside}
 use Rattle.builder_core.proofs.SwitchIn.{all_done, all_keyed, all_may, all_verdicts, switches, switched_from}
 use Rattle.builder_core.proofs.Unloaded.{may_catch_up, may_after, no_busy_cause}
 use Rattle.builder_core.proofs.live.Live.switch_in.Goals as goal
+
+-- the indexes of the work that was ended
+ended_indexes :
+    (work : Option WorkValue) (w : WorkValue) (items : List IndexValue) → work ≡ Some w → IfSome work (λ work. work.indexes ≡ items) → w.indexes ≡ items
+ended_indexes work w items is same = subst (λ (o : Option WorkValue). IfSome o (λ work. work.indexes ≡ items)) is same
 
 pub catch_up-requires-clause-runs : goal.catch_up-requires-clause-runs
 catch_up-requires-clause-runs g c = may_catch_up c.args.self.now c.args.building.now c.requires c.in_ok-check_switch.ensures
@@ -32,17 +39,17 @@ make_ready-requires-clause-indexes g c =
     let live : LiveValue = c.catch_up.new.self in
     let building : BuildingValue = c.catch_up.new.building in
     let b : BuildState = c.in-Some-Some.build in
-    let w : WorkValue = c.in-Some-Some.work in
+    let w : WorkValue = c.in-Some.work.now in
     let run : IsRunning live building b w =
     running_inside _ live building b w c.self.view_is (sym c.take.ensures.value ∙ c.in-Some-Some.is-0)
-    (ap (λ (x : BuildingValue). x.work) (sym c.building.view_is) ∙ sym c.take-2.ensures.value ∙ c.in-Some-Some.is-1) c.self.invariant.1 c.catch_up.ensures.works in
+    c.in-Some.ensures c.self.invariant.1 c.catch_up.ensures.works in
     let may = may_after (core_state c.args.self.now c.args.building.now) (core_state live building) c.catch_up.ensures.further
     (may_catch_up c.args.self.now c.args.building.now c.requires c.in_ok-check_switch.ensures) in
     let rows : RowsFit live.state.heap.schema live.state.heap.log =
     subst (λ (l : LiveValue). RowsFit l.state.heap.schema l.state.heap.log) c.self.view_is c.laws.ensures.rows in
     let done = all_done live building b w run may c.in_ok-catch_up.ensures.all rows in
-    subst (λ (specs : List KeySpecValue). AllZip IsDoneIndex specs c.into_indexes-indexes.result.items) c.into_specs-specs.ensures
-    (subst (λ (is : List IndexValue). AllZip IsDoneIndex b.specs is) c.into_indexes-indexes.ensures done)
+    subst (λ (specs : List KeySpecValue). AllZip IsDoneIndex specs c.in-Some-Some.indexes.items) c.into_specs-specs.ensures
+    (subst (λ (is : List IndexValue). AllZip IsDoneIndex b.specs is) (ended_indexes building.work w c.in-Some-Some.indexes.items run.work_is c.in-Some-Some.ensures'.indexes) done)
 
 pub invariant_of-self-2 : goal.invariant_of-self-2
 invariant_of-self-2 g c =
@@ -50,10 +57,10 @@ invariant_of-self-2 g c =
     let live : LiveValue = c.catch_up.new.self in
     let building : BuildingValue = c.catch_up.new.building in
     let b : BuildState = c.in-Some-Some.build in
-    let w : WorkValue = c.in-Some-Some.work in
+    let w : WorkValue = c.in-Some.work.now in
     let run : IsRunning live building b w =
     running_inside _ live building b w c.self.view_is (sym c.take.ensures.value ∙ c.in-Some-Some.is-0)
-    (ap (λ (x : BuildingValue). x.work) (sym c.building.view_is) ∙ sym c.take-2.ensures.value ∙ c.in-Some-Some.is-1) c.self.invariant.1 c.catch_up.ensures.works in
+    c.in-Some.ensures c.self.invariant.1 c.catch_up.ensures.works in
     let may = may_after (core_state c.args.self.now c.args.building.now) (core_state live building) c.catch_up.ensures.further
     (may_catch_up c.args.self.now c.args.building.now c.requires c.in_ok-check_switch.ensures) in
     let free = no_busy_cause (core_state c.args.self.now c.args.building.now) (core_state live building) c.in_ok-check_switch.ensures c.catch_up.ensures.further in
@@ -61,8 +68,8 @@ invariant_of-self-2 g c =
     let left : HeapState = c.set_fence.new.self.state in
     let left_is = c.set_fence.ensures.state ∙ ap (after_fence false) c.in_ok-noted.ensures.noted in
     let rows : KeepsRows log left.log = subst (λ (h : HeapState). KeepsRows log h.log) (sym c.set_fence.ensures.state) c.in_ok-noted.ensures.rows in
-    let may_follow : All (λ it. MayFollow heap it.spec it.pairs) (ready_of c.into_specs-specs.result.items c.into_indexes-indexes.result.items) =
-    subst (λ (ready : List ReadyValue). All (λ it. MayFollow heap it.spec it.pairs) ready) (ap₂ ready_of c.into_specs-specs.ensures c.into_indexes-indexes.ensures)
+    let may_follow : All (λ it. MayFollow heap it.spec it.pairs) (ready_of c.into_specs-specs.result.items c.in-Some-Some.indexes.items) =
+    subst (λ (ready : List ReadyValue). All (λ it. MayFollow heap it.spec it.pairs) ready) (ap₂ ready_of c.into_specs-specs.ensures (ended_indexes building.work w c.in-Some-Some.indexes.items run.work_is c.in-Some-Some.ensures'.indexes))
     (subst (λ (l : LiveValue). All (λ it. MayFollow l.state.heap it.spec it.pairs) (ready_of b.specs w.indexes)) (sym c.self.view_is)
     (all_may live building b w run may c.in_ok-catch_up.ensures.all (subst (λ (l : LiveValue). HoldsFollowLog l.state.heap) c.self.view_is c.laws.ensures.holds) free)) in
     let before = subst (λ indexes. AllFollow heap.schema log indexes) (sym c.in_ok-noted.ensures.ready) c.self.invariant.0 in
@@ -83,13 +90,12 @@ returns-clause-switched g c =
     let live : LiveValue = c.catch_up.new.self in
     let building : BuildingValue = c.catch_up.new.building in
     let b : BuildState = c.in-Some-Some.build in
-    let w : WorkValue = c.in-Some-Some.work in
+    let w : WorkValue = c.in-Some.work.now in
     let run : IsRunning live building b w =
     running_inside _ live building b w c.self.view_is (sym c.take.ensures.value ∙ c.in-Some-Some.is-0)
-    (ap (λ (x : BuildingValue). x.work) (sym c.building.view_is) ∙ sym c.take-2.ensures.value ∙ c.in-Some-Some.is-1) c.self.invariant.1 c.catch_up.ensures.works in
+    c.in-Some.ensures c.self.invariant.1 c.catch_up.ensures.works in
     let may = may_after (core_state c.args.self.now c.args.building.now) (core_state live building) c.catch_up.ensures.further
     (may_catch_up c.args.self.now c.args.building.now c.requires c.in_ok-check_switch.ensures) in
-    let beside = c.building.inside in
     let worked : c.in-Some.work.now ≡ w =
     same_Some c.in-Some.work.now w (sym c.in-Some.ensures ∙ run.work_is) in
     let indexes : c.indexes.result.now ≡ w.indexes = c.indexes.ensures ∙ ap (λ (x : WorkValue). x.indexes) worked in
@@ -103,34 +109,19 @@ returns-clause-switched g c =
     ∙ ap (λ (l : LiveValue). after_switch l.state.heap (verdicts_on live.state b)) c.self.view_is) in
     let grown = c.make_ready.ensures.ready
     ∙ ap₂ (λ (xs ys : List ReadyValue). xs ++ ys) (ap indexes_of c.in_ok-noted.ensures.ready ∙ ap (λ (l : LiveValue). l.state.ready) c.self.view_is)
-    (sym (ap₂ ready_of c.into_specs-specs.ensures c.into_indexes-indexes.ensures)) in
-    let seen : BuildingValue = record {
-      workers = beside.workers.items;
-      sides = map take_end beside.side_ends.items;
-      spools = map (spool_value g.S.Spool.runs g.S.Spool.open_run g.S.Spool.stake) beside.spools.items;
-      given = beside.given;
-      work = beside.work;
-    } in
-    let left : BuildingValue = record {
-      workers = beside.workers.items;
-      sides = map take_end beside.side_ends.items;
-      spools = map (spool_value g.S.Spool.runs g.S.Spool.open_run g.S.Spool.stake) c.end_spools.new.spools.items;
-      given = beside.given;
-      work = c.take-2.new.self;
-    } in
-    let stakes : spools_state left.given left.spools ≡ spools_state building.given building.spools =
-    subst (λ (x : BuildingValue). spools_state left.given left.spools ≡ spools_state x.given x.spools) c.building.view_is
-    (ended_stakes seen left.spools (ap (λ (x : BuildingValue). x.given) c.building.view_is ∙ run.at_work.given) c.end_spools.ensures.left) in
+    (sym (ap₂ ready_of c.into_specs-specs.ensures (ended_indexes building.work w c.in-Some-Some.indexes.items run.work_is c.in-Some-Some.ensures'.indexes))) in
+    let left : BuildingValue = c.end.new.self in
+    let stakes = ap (λ (x : BuildingValue). spools_state x.given (all_spools x.workers x.spools)) c.end.ensures.left ∙ ended_stakes building run.at_work.given in
     let rows : RowsFit live.state.heap.schema live.state.heap.log =
     subst (λ (l : LiveValue). RowsFit l.state.heap.schema l.state.heap.log) c.self.view_is c.laws.ensures.rows in
     let keyed = all_keyed live building b w run may c.in_ok-catch_up.ensures.all rows
     (subst (λ (specs : List KeySpecValue). All (λ spec. are_key_columns spec.kinds spec.columns ≡ true) specs) (sym c.into_specs-specs.ensures) c.make_ready.ensures.keys) in
     let done = switches live building b w run may c.in_ok-catch_up.ensures.all c.in_ok-noted.noted
-    c.set_fence.new.self.state (indexes_of c.make_ready.new.ready.indexes) c.take.new.self left number verdicts noted grown c.take.ensures.after c.take-2.ensures.after stakes keyed in
+    c.set_fence.new.self.state (indexes_of c.make_ready.new.ready.indexes) c.take.new.self left number verdicts noted grown c.take.ensures.after (ap (λ (x : BuildingValue). x.work) c.end.ensures.left) stakes keyed in
     let Left : ℕ → CoreState = λ n. record {
       live = record { heap = c.set_fence.new.self.state; ready = indexes_of c.make_ready.new.ready.indexes; builds = n; build = c.take.new.self };
       work = work_state left.workers left.work;
-      spools = spools_state left.given left.spools;
+      spools = spools_state left.given (all_spools left.workers left.spools);
     } in
     switched_from (core_state c.args.self.now c.args.building.now) (core_state live building) (Left c.self.inside.builds) c.in_ok-noted.noted c.catch_up.ensures.further
     (subst (λ (n : ℕ). Switches (core_state live building) c.in_ok-noted.noted (Left n))

@@ -2,8 +2,10 @@ use Rattle.std.proofs.Common.{◌≡◌, ◌+◌, ◌-◌, List, length, map, sy
 use Rattle.side_file.specs.SideFileValue.{SideFileValue}
 use Rattle.side_file.specs.declared.entry.Entry.{Entry}
 use Rattle.building.specs.TakeEnd.{TakeEnd, take_end}
-use Rattle.builder_core.specs.Builds.{LiveValue, BuildingValue, BuildFollows}
-use Rattle.builder_core.specs.SideFiles.{SidesFollow}
+use Rattle.builder_core.specs.Builds.{LiveValue}
+use Rattle.build_work.specs.BuildingValue.{BuildingValue}
+use Rattle.build_scan.specs.TableBuilds.{BuildFollows}
+use Rattle.build_scan.specs.SideFiles.{SidesFollow}
 use Rattle.builder_core.proofs.LeftOver.{left_known}
 use Rattle.builder_core.proofs.SideEnds.{eight_sides}
 use Rattle.builder_core.proofs.live.Live.unapplied_of.Goals as goal

@@ -1,32 +1,96 @@
-use Rattle.std.proofs.Common.{◌≡◌, ◌∷◌, ◌∙◌, [], ℕ, true, List, map, sym, ap, ap₂}
-use Rattle.rtrb.specs.Ring.{known_items}
-use Rattle.keybytes.specs.declared.kind.Kind.{Kind}
-use Rattle.run_maker.specs.Making.{Holdings}
-use Rattle.building.specs.Copies.{is_for}
+use Rattle.std.proofs.Common.{◌≡◌, ◌∙◌, ℕ, List, All, length, map, Some, subst, sym, ap}
+use Rattle.run_spool.specs.Spools.{AreSorted}
+use Rattle.run_maker.specs.Making.{AreReady}
+use Rattle.building.specs.declared.copied.Copied.{Copied}
+use Rattle.building.specs.Holding.{TakesAll}
+use Rattle.building.specs.TakeEnd.{TakeEnd}
+use Rattle.building.specs.SpoolValue.{stakes_of}
 use Rattle.building.specs.Work.{next_images}
 use Rattle.building.specs.WorkerValue.{WorkerValue}
-use Rattle.building.proofs.Digests.{next_one}
-use Rattle.building.proofs.Holding.{takes_one}
-use Rattle.building.proofs.ManyPairs.{for_decides}
+use Rattle.building.proofs.Keeping.{digest_counts}
+use Rattle.building.proofs.SpoolViews.{digest_held, lent_back, lent_stakes, spools_ready, values_full, values_ready}
 use Rattle.building.proofs.worker.Worker.digest.Goals as goal
 
-pub take-requires-clause-schema : goal.take-requires-clause-schema
-take-requires-clause-schema g c =
-    let copied = c.pop_known-copied.result in
-    let own : is_for c.self.inside.build c.schema.result.now copied ≡ true = sym c.is_for.ensures ∙ c.if-not-is_for.false in
-    ((for_decides c.self.inside.build c.schema.result.now copied).0 own).columns ∙ c.schema.ensures
+pub digest-requires-clause-ready : goal.digest-requires-clause-ready
+digest-requires-clause-ready g c =
+    let holds = c.self.invariant.3 c.in_default.is c.if-self.false in
+    subst (λ (spools : List _). AreReady (map g.S.Spool.runs spools) (map g.S.Spool.open_run spools)) (sym c.deref_mut.ensures.value)
+    (spools_ready g.S.Spool.runs g.S.Spool.open_run g.S.Spool.stake c.self.inside.spools.items holds.ready)
 
-pub returns-clause-holds : goal.returns-clause-holds
-returns-clause-holds g c =
-    let worker = c.args.self.now in
-    let kinds = c.args.maker.now.schema in
-    let old : Holdings = record { runs = map g.S.Spool.runs c.args.spools.now; begun = c.args.maker.now.begun } in
-    let new : Holdings = record { runs = map g.S.Spool.runs c.take.new.spools; begun = c.take.new.self.begun } in
-    let copied = c.pop_known-copied.result in
-    let build = ap (λ (w : WorkerValue). w.build) c.self.view_is in
-    let own : is_for worker.build kinds copied ≡ true =
-    ap₂ (λ (b : ℕ) (ks : List Kind). is_for b ks copied) (sym build) (sym c.schema.ensures) ∙ (sym c.is_for.ensures ∙ c.if-not-is_for.false) in
-    let one : next_images 1 kinds worker ≡ copied.image ∷ [] =
-    next_one kinds worker copied (known_items c.pop_known-copied.new.self)
-    (sym (ap (λ (w : WorkerValue). w.end.known) c.self.view_is) ∙ c.pop_known-copied.ensures.received.1) own in
-    takes_one c.args.maker.now.specs copied.image (next_images 1 kinds worker) old new one c.in_ok-take.ensures.taken
+pub invariant_of-self : goal.invariant_of-self
+invariant_of-self g c =
+    let at = c.self.inside in
+    let it = c.in-Ok.ensures in
+    let after = c.digest.new.self in
+    let maker = c.digest.new.maker in
+    let spools = c.digest.new.spools in
+    let n : ℕ = 1 in
+    let lent = c.deref_mut.ensures.value in
+    let long : length spools ≡ at.spools.len = c.digest.auto.spools ∙ c.deref_mut.ensures.len in
+    let back = lent_back at.spools.len at.spools.items spools long in
+    let many : length spools ≡ length at.spools.items = c.digest.auto.spools ∙ ap length lent in
+    let sorted : All AreSorted (map g.S.Spool.runs at.spools.items) → All AreSorted (map g.S.Spool.runs spools) = λ all.
+    c.digest.ensures.sorted (subst (λ (old : List _). All AreSorted (map g.S.Spool.runs old)) (sym lent) all) in
+    let holds : TakesAll at.maker.specs (next_images n at.maker.schema at.intake) (record { runs = map g.S.Spool.runs at.spools.items; begun = at.maker.begun })
+    (record { runs = map g.S.Spool.runs spools; begun = maker.begun }) =
+    subst (λ (old : List _). TakesAll at.maker.specs (next_images n at.maker.schema at.intake) (record { runs = map g.S.Spool.runs old; begun = at.maker.begun })
+    (record { runs = map g.S.Spool.runs spools; begun = maker.begun })) lent it.holds in
+    rw back (
+      c.self.invariant.0 ∙ ap Some (sym (ap (λ (end : TakeEnd Copied). end.ring) c.digest.ensures.end)),
+      c.self.invariant.1,
+      (λ sound. digest_counts n at.maker maker at.intake after c.digest.ensures.schema it.taken (c.self.invariant.2 sound)),
+      (λ sound kept.
+          digest_held g.S.Spool.runs g.S.Spool.open_run g.S.Spool.stake n at.intake after at.maker maker at.spools.items spools (c.self.invariant.2 sound)
+          (c.self.invariant.3 sound kept) it.readable c.digest.ensures.specs c.digest.ensures.schema c.laws.ensures.specs many it.ready sorted it.taken holds
+          c.laws.ensures.short),
+    )
+
+pub returns-in-Ok-clause-same : goal.returns-in-Ok-clause-same
+returns-in-Ok-clause-same g c =
+    let at = c.self.inside in
+    let spools = c.digest.new.spools in
+    let long : length spools ≡ at.spools.len = c.digest.auto.spools ∙ c.deref_mut.ensures.len in
+    let stakes : map g.S.Spool.stake spools ≡ map g.S.Spool.stake at.spools.items = c.digest.ensures.stakes ∙ ap (map g.S.Spool.stake) c.deref_mut.ensures.value in
+    record {
+      number = ap (λ (w : WorkerValue). w.number) c.self.view_is;
+      build = c.digest.ensures.build ∙ ap (λ (w : WorkerValue). w.intake.build) c.self.view_is;
+      ring = ap (λ (end : TakeEnd Copied). end.ring) c.digest.ensures.end ∙ ap (λ (w : WorkerValue). w.intake.end.ring) c.self.view_is;
+      schema = c.digest.ensures.schema ∙ ap (λ (w : WorkerValue). w.maker.schema) c.self.view_is;
+      specs = c.digest.ensures.specs ∙ ap (λ (w : WorkerValue). w.maker.specs) c.self.view_is;
+      stakes = lent_stakes g.S.Spool.runs g.S.Spool.open_run g.S.Spool.stake at.spools.len at.spools.items spools long stakes
+          ∙ ap (λ (w : WorkerValue). stakes_of w.spools) c.self.view_is;
+      handed = ap (λ (w : WorkerValue). w.handed) c.self.view_is;
+    }
+
+pub returns-in-Err-clause-same : goal.returns-in-Err-clause-same
+returns-in-Err-clause-same g c =
+    let at = c.self.inside in
+    let spools = c.digest.new.spools in
+    let long : length spools ≡ at.spools.len = c.digest.auto.spools ∙ c.deref_mut.ensures.len in
+    let stakes : map g.S.Spool.stake spools ≡ map g.S.Spool.stake at.spools.items = c.digest.ensures.stakes ∙ ap (map g.S.Spool.stake) c.deref_mut.ensures.value in
+    record {
+      number = ap (λ (w : WorkerValue). w.number) c.self.view_is;
+      build = c.digest.ensures.build ∙ ap (λ (w : WorkerValue). w.intake.build) c.self.view_is;
+      ring = ap (λ (end : TakeEnd Copied). end.ring) c.digest.ensures.end ∙ ap (λ (w : WorkerValue). w.intake.end.ring) c.self.view_is;
+      schema = c.digest.ensures.schema ∙ ap (λ (w : WorkerValue). w.maker.schema) c.self.view_is;
+      specs = c.digest.ensures.specs ∙ ap (λ (w : WorkerValue). w.maker.specs) c.self.view_is;
+      stakes = lent_stakes g.S.Spool.runs g.S.Spool.open_run g.S.Spool.stake at.spools.len at.spools.items spools long stakes
+          ∙ ap (λ (w : WorkerValue). stakes_of w.spools) c.self.view_is;
+      handed = ap (λ (w : WorkerValue). w.handed) c.self.view_is;
+    }
+
+pub returns-in-Err-clause-full : goal.returns-in-Err-clause-full
+returns-in-Err-clause-full g c = λ sound no_page.
+    let at = c.self.inside in
+    let spools = c.digest.new.spools in
+    let long : length spools ≡ at.spools.len = c.digest.auto.spools ∙ c.deref_mut.ensures.len in
+    let back = lent_back at.spools.len at.spools.items spools long in
+    rw back (values_full g.S.Spool.runs g.S.Spool.open_run g.S.Spool.stake g.S.Spool.is_full spools (c.in-Err.ensures.full no_page))
+
+pub returns-in-Err-clause-want : goal.returns-in-Err-clause-want
+returns-in-Err-clause-want g c = λ sound memory.
+    let at = c.self.inside in
+    let spools = c.digest.new.spools in
+    let long : length spools ≡ at.spools.len = c.digest.auto.spools ∙ c.deref_mut.ensures.len in
+    let back = lent_back at.spools.len at.spools.items spools long in
+    rw back (values_ready g.S.Spool.runs g.S.Spool.open_run g.S.Spool.stake spools (c.in-Err.ensures.want memory))

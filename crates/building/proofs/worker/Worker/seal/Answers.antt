@@ -1,88 +1,94 @@
-use Rattle.std.proofs.Common.{◌≡◌, ◌+◌, ◌∙◌, ℕ, List, length, length-append, map, ap, sym, subst, arith}
-use Rattle.std.proofs.lemmas.Result.{err_from_is_err_and}
-use Rattle.keybytes.specs.Keys.{KeySpecValue}
-use Rattle.keybytes.specs.declared.kind.Kind.{Kind}
-use Rattle.heap_table.specs.Images.{ImageValue}
-use Rattle.run_maker.specs.Making.{Holdings}
-use Rattle.building.specs.Holding.{TakesAll}
-use Rattle.building.specs.TakeEnd.{after_taking}
-use Rattle.building.specs.Work.{next_images, after_digest}
+use Rattle.std.proofs.Common.{◌≡◌, ◌∙◌, List, All, length, map, Some, subst, sym, ap}
+use Rattle.run_spool.specs.Spools.{AreSorted}
+use Rattle.run_maker.specs.Making.{AreReady}
+use Rattle.building.specs.Holding.{HoldsMore}
+use Rattle.building.specs.SpoolValue.{stakes_of}
+use Rattle.building.specs.Work.{next_images}
 use Rattle.building.specs.WorkerValue.{WorkerValue}
-use Rattle.building.proofs.Digests.{digest_more, images_more, taking_more, next_few, same_worker}
-use Rattle.building.proofs.Holding.{takes_more, takes_sealed}
+use Rattle.building.proofs.Keeping.{seal_counts}
+use Rattle.building.proofs.SpoolViews.{seal_held, lent_back, lent_stakes, spools_ready, values_full, values_ready}
 use Rattle.building.proofs.worker.Worker.seal.Goals as goal
 
-pub returns-in_err-images-clause-failed : goal.returns-in_err-images-clause-failed
-returns-in_err-images-clause-failed g c =
-    let worker = c.args.self.now in
-    let p = err_from_is_err_and c.from_residual.result c.from_residual.ensures.1 in
-    let kinds = c.args.maker.now.schema in
-    let counted = c.loop.counter in
-    let build = ap (λ (w : WorkerValue). w.build) c.loop.invariant.taken in
-    let end = ap (λ (w : WorkerValue). w.end) c.loop.invariant.taken in
-    let taken = ap (λ (w : WorkerValue). w.taken) c.loop.invariant.taken in
-    let sealed = ap (λ (w : WorkerValue). w.sealed) c.loop.invariant.taken in
-    rw p.1 (
-      counted + 1,
-      omega arith,
-      (
-        counted,
-        omega arith,
-        omega arith,
-        same_worker c.digest.new.self (record (after_digest counted kinds worker) { end = after_taking (counted + 1) worker.end })
-            (c.digest.ensures.build ∙ build)
-            (c.digest.ensures.end ∙ (ap (λ end. after_taking 1 end) end ∙ taking_more counted 1 worker.end))
-            (c.in_err-images.ensures.uncounted ∙ taken)
-            (c.digest.ensures.unsealed ∙ sealed),
-      ),
+pub seal-requires-clause-ready : goal.seal-requires-clause-ready
+seal-requires-clause-ready g c =
+    let holds = c.self.invariant.3 c.in_default.is c.if-self.false in
+    subst (λ (spools : List _). AreReady (map g.S.Spool.runs spools) (map g.S.Spool.open_run spools)) (sym c.deref_mut.ensures.value)
+    (spools_ready g.S.Spool.runs g.S.Spool.open_run g.S.Spool.stake c.self.inside.spools.items holds.ready)
+
+pub invariant_of-self-in-Ok : goal.invariant_of-self-in-Ok
+invariant_of-self-in-Ok g c =
+    let at = c.self.inside in
+    let it = c.in-Ok.ensures in
+    let after = c.seal.new.self in
+    let maker = c.seal.new.maker in
+    let spools = c.seal.new.spools in
+    let n = length c.self.inside.intake.end.known in
+    let lent = c.deref_mut.ensures.value in
+    let long : length spools ≡ at.spools.len = c.seal.auto.spools ∙ c.deref_mut.ensures.len in
+    let back = lent_back at.spools.len at.spools.items spools long in
+    let many : length spools ≡ length at.spools.items = c.seal.auto.spools ∙ ap length lent in
+    let sorted : All AreSorted (map g.S.Spool.runs at.spools.items) → All AreSorted (map g.S.Spool.runs spools) = λ all.
+    c.seal.ensures.sorted (subst (λ (old : List _). All AreSorted (map g.S.Spool.runs old)) (sym lent) all) in
+    let holds : HoldsMore at.maker.specs (next_images n at.maker.schema at.intake) (record { runs = map g.S.Spool.runs at.spools.items; begun = at.maker.begun })
+    (record { runs = map g.S.Spool.runs spools; begun = maker.begun }) =
+    subst (λ (old : List _). HoldsMore at.maker.specs (next_images n at.maker.schema at.intake) (record { runs = map g.S.Spool.runs old; begun = at.maker.begun })
+    (record { runs = map g.S.Spool.runs spools; begun = maker.begun })) lent it.holds in
+    rw back (
+      c.self.invariant.0 ∙ ap Some (sym (c.seal.ensures.ring)),
+      c.self.invariant.1,
+      (λ sound. seal_counts n at.maker maker at.intake after c.seal.ensures.schema it.taken (c.self.invariant.2 sound)),
+      (λ sound kept.
+          seal_held g.S.Spool.runs g.S.Spool.open_run g.S.Spool.stake n at.intake after at.maker maker at.spools.items spools (c.self.invariant.2 sound)
+          (c.self.invariant.3 sound kept) it.readable c.seal.ensures.specs c.seal.ensures.schema c.laws.ensures.specs many it.ready sorted it.taken holds
+          it.closed),
     )
 
-pub overflow_add-images : goal.overflow_add-images
-overflow_add-images g c =
-    omega (arith, next_few c.loop.counter c.args.maker.now.schema c.args.self.now, next_few 1 c.loop.maker.schema c.loop.self, c.in_ok-images.ensures.count)
-
-pub loop-preserved : goal.loop-preserved
-loop-preserved g c =
-    let worker = c.args.self.now in
-    let n = c.loop.counter in
-    let was = c.loop.invariant in
-    let kinds = c.args.maker.now.schema in
-    let specs = c.args.maker.now.specs in
-    let start : Holdings = record { runs = map g.S.Spool.runs c.args.spools.now; begun = c.args.maker.now.begun } in
-    let middle : Holdings = record { runs = map g.S.Spool.runs c.loop.spools; begun = c.loop.maker.begun } in
-    let after : Holdings = record { runs = map g.S.Spool.runs c.digest.new.spools; begun = c.digest.new.maker.begun } in
-    let build = ap (λ (w : WorkerValue). w.build) was.taken in
-    let end = ap (λ (w : WorkerValue). w.end) was.taken in
-    let images = images_more n 1 kinds worker c.loop.self build end in
-    let one : TakesAll c.loop.maker.specs (next_images 1 kinds c.loop.self) middle after =
-    subst (λ (ks : List Kind). TakesAll c.loop.maker.specs (next_images 1 ks c.loop.self) middle after) was.schema c.in_ok-images.ensures.holds in
-    let then : TakesAll specs (next_images 1 kinds c.loop.self) middle after =
-    subst (λ (ss : List KeySpecValue). TakesAll ss (next_images 1 kinds c.loop.self) middle after) was.specs one in
+pub returns-in-Ok-clause-same : goal.returns-in-Ok-clause-same
+returns-in-Ok-clause-same g c =
+    let at = c.self.inside in
+    let spools = c.seal.new.spools in
+    let long : length spools ≡ at.spools.len = c.seal.auto.spools ∙ c.deref_mut.ensures.len in
+    let stakes : map g.S.Spool.stake spools ≡ map g.S.Spool.stake at.spools.items = c.seal.ensures.stakes ∙ ap (map g.S.Spool.stake) c.deref_mut.ensures.value in
     record {
-      taken = c.in_ok-images.ensures.taken
-          ∙ (ap (λ (ks : List Kind). after_digest 1 ks c.loop.self) was.schema ∙ (ap (after_digest 1 kinds) was.taken ∙ digest_more n 1 kinds worker));
-      holds = subst (λ (xs : List ImageValue). TakesAll specs xs start after) (sym images)
-          (takes_more specs (next_images n kinds worker) (next_images 1 kinds c.loop.self) start middle after was.holds then);
-      ready = c.in_ok-images.ensures.ready;
-      sorted = λ all. c.digest.ensures.sorted (was.sorted all);
-      stakes = c.digest.ensures.stakes ∙ was.stakes;
-      schema = c.digest.ensures.schema ∙ was.schema;
-      specs = c.digest.ensures.specs ∙ was.specs;
-      images =
-          let count = c.in_ok-images.ensures.count ∙ ap (λ (ks : List Kind). length (next_images 1 ks c.loop.self)) was.schema in
-          let both = length-append (next_images n kinds worker) (next_images 1 kinds c.loop.self) in
-          omega (arith, was.images, count, ap length images, both);
+      number = ap (λ (w : WorkerValue). w.number) c.self.view_is;
+      build = c.seal.ensures.build ∙ ap (λ (w : WorkerValue). w.intake.build) c.self.view_is;
+      ring = c.seal.ensures.ring ∙ ap (λ (w : WorkerValue). w.intake.end.ring) c.self.view_is;
+      schema = c.seal.ensures.schema ∙ ap (λ (w : WorkerValue). w.maker.schema) c.self.view_is;
+      specs = c.seal.ensures.specs ∙ ap (λ (w : WorkerValue). w.maker.specs) c.self.view_is;
+      stakes = lent_stakes g.S.Spool.runs g.S.Spool.open_run g.S.Spool.stake at.spools.len at.spools.items spools long stakes
+          ∙ ap (λ (w : WorkerValue). stakes_of w.spools) c.self.view_is;
+      handed = ap (λ (w : WorkerValue). w.handed) c.self.view_is;
     }
 
-pub returns-clause-holds : goal.returns-clause-holds
-returns-clause-holds g c =
-    let worker = c.args.self.now in
-    let was = c.loop.invariant in
-    let kinds = c.args.maker.now.schema in
-    let specs = c.args.maker.now.specs in
-    let start : Holdings = record { runs = map g.S.Spool.runs c.args.spools.now; begun = c.args.maker.now.begun } in
-    let middle : Holdings = record { runs = map g.S.Spool.runs c.loop.spools; begun = c.loop.maker.begun } in
-    let all : c.loop.counter ≡ length worker.end.known = omega (arith, c.loop-test.false, c.loop.auto.counter-end, c.seen-end.ensures) in
-    let takes = subst (λ (n : ℕ). TakesAll specs (next_images n kinds worker) start middle) all was.holds in
-    takes_sealed specs (next_images (length worker.end.known) kinds worker) start middle (map g.S.Spool.runs c.seal.new.spools) c.seal.new.self.begun takes
-    (c.laws.ensures.begun ∙ ap length was.specs) c.in_ok-seal.ensures.sealed c.in_ok-seal.ensures.none_open
+pub returns-in-Err-clause-same : goal.returns-in-Err-clause-same
+returns-in-Err-clause-same g c =
+    let at = c.self.inside in
+    let spools = c.seal.new.spools in
+    let long : length spools ≡ at.spools.len = c.seal.auto.spools ∙ c.deref_mut.ensures.len in
+    let stakes : map g.S.Spool.stake spools ≡ map g.S.Spool.stake at.spools.items = c.seal.ensures.stakes ∙ ap (map g.S.Spool.stake) c.deref_mut.ensures.value in
+    record {
+      number = ap (λ (w : WorkerValue). w.number) c.self.view_is;
+      build = c.seal.ensures.build ∙ ap (λ (w : WorkerValue). w.intake.build) c.self.view_is;
+      ring = c.seal.ensures.ring ∙ ap (λ (w : WorkerValue). w.intake.end.ring) c.self.view_is;
+      schema = c.seal.ensures.schema ∙ ap (λ (w : WorkerValue). w.maker.schema) c.self.view_is;
+      specs = c.seal.ensures.specs ∙ ap (λ (w : WorkerValue). w.maker.specs) c.self.view_is;
+      stakes = lent_stakes g.S.Spool.runs g.S.Spool.open_run g.S.Spool.stake at.spools.len at.spools.items spools long stakes
+          ∙ ap (λ (w : WorkerValue). stakes_of w.spools) c.self.view_is;
+      handed = ap (λ (w : WorkerValue). w.handed) c.self.view_is;
+    }
+
+pub returns-in-Err-clause-full : goal.returns-in-Err-clause-full
+returns-in-Err-clause-full g c = λ sound no_page.
+    let at = c.self.inside in
+    let spools = c.seal.new.spools in
+    let long : length spools ≡ at.spools.len = c.seal.auto.spools ∙ c.deref_mut.ensures.len in
+    let back = lent_back at.spools.len at.spools.items spools long in
+    rw back (values_full g.S.Spool.runs g.S.Spool.open_run g.S.Spool.stake g.S.Spool.is_full spools (c.in-Err.ensures.full no_page))
+
+pub returns-in-Err-clause-want : goal.returns-in-Err-clause-want
+returns-in-Err-clause-want g c = λ sound memory.
+    let at = c.self.inside in
+    let spools = c.seal.new.spools in
+    let long : length spools ≡ at.spools.len = c.seal.auto.spools ∙ c.deref_mut.ensures.len in
+    let back = lent_back at.spools.len at.spools.items spools long in
+    rw back (values_ready g.S.Spool.runs g.S.Spool.open_run g.S.Spool.stake spools (c.in-Err.ensures.want memory))

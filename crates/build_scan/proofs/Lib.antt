@@ -1,0 +1,12 @@
+pub mod Emptied
+pub mod Feeding
+pub mod Noting
+pub mod Performed
+pub mod Places
+pub mod RangeScans
+pub mod ScanExamples
+pub mod SideEnds
+pub mod SideKept
+pub mod SideKeys
+pub mod Sound
+pub mod TableBuilds

@@ -1,0 +1,22 @@
+use Rattle.std.proofs.Common.{rules, arith, ap, ◌≡◌, ◌∙◌, [], sym}
+use Rattle.rtrb.specs.Ring.{received, known_items}
+use Rattle.side_file.specs.Ends.{ring_take}
+use Rattle.side_file.specs.SideFileValue.{SideFileValue}
+use Rattle.building.proofs.Rings.{all_taken}
+use Rattle.building.specs.TakeEnd.{TakeEnd}
+use Rattle.side_file.specs.declared.entry.Entry.{Entry}
+use Rattle.std.proofs.lemmas.List.{nil_from_length}
+use Rattle.build_scan.proofs.side_files.empty_side.Goals as goal
+
+pub returns-clause-drained : goal.returns-clause-drained
+returns-clause-drained c =
+    let ring : ring_take c.loop.end ≡ ring_take c.args.end.now = search rules in
+    let same : ring_take c.loop.end ≡ c.reset.new.self.end.ring =
+    ring ∙ sym c.requires ∙ sym c.beside-end.ensures.looks.ring ∙ sym (ap (λ (s : SideFileValue). s.end.ring) c.reset.ensures.reset) in
+    let all : received c.loop.end ≡ c.reset.new.self.end.sent =
+    all_taken (received c.loop.end) (known_items c.loop.end) _ c.loop.invariant.all (omega arith)
+    ∙ sym (ap (λ (s : SideFileValue). s.end.sent) c.reset.ensures.reset) in
+    let none : known_items c.loop.end ≡ [] = nil_from_length (known_items c.loop.end) (omega arith) in
+    let Made : _ → _ → _ → TakeEnd Entry = λ r xs ys. record { ring = r; received = xs; known = ys } in
+    ap (λ r. Made r (received c.loop.end) (known_items c.loop.end)) same ∙ ap (λ xs. Made c.reset.new.self.end.ring xs (known_items c.loop.end)) all
+    ∙ ap (Made c.reset.new.self.end.ring c.reset.new.self.end.sent) none

@@ -1,0 +1,117 @@
+-- What a build begins with: rings that were sent nothing of it, makers that made nothing, and spools that are empty.
+use Rattle.std.proofs.Common.{◌≡◌, ◌∙◌, ◌+◌, [], ◌≤◌, ◌<◌, ℕ, List, length, Some, ◌++◌, append-nil, refl, ap, sym, subst, arith}
+use Rattle.std.specs.Prelude.{map, Bool, true, false, ◌*◌}
+use Rattle.std.specs.List.{All, list_all, slice_get}
+use Rattle.std.proofs.lemmas.List.{length-map}
+use Rattle.keybytes.specs.Keys.{KeySpecValue}
+use Rattle.keybytes.specs.declared.kind.Kind.{Kind}
+use Rattle.side_file.specs.Ends.{PutEnd}
+use Rattle.building.specs.IntakeValue.{IntakeValue}
+use Rattle.building.specs.declared.copied.Copied.{Copied}
+use Rattle.build_work.specs.BuildingValue.{BuildingValue, worker_state, intakes}
+use Rattle.building.specs.SpoolValue.{SpoolValue}
+use Rattle.build_work.specs.Holding.{all_spools, fresh_maker, spools_state}
+use Rattle.build_work.specs.Equipped.{IsFresh}
+use Rattle.building.specs.WorkerValue.{WorkerValue}
+use Rattle.run_maker.specs.Making.{MakerValue}
+use Rattle.keybytes.specs.declared.pair.Pair.{Pair}
+use Rattle.build_scan.proofs.Places.{all_at, all_from, at_map, map_at}
+use Rattle.build_work.proofs.AtWork.{intake_at}
+use Rattle.std.proofs.lemmas.List.Elements.{All-weaker}
+use Rattle.build_events.specs.declared.plan.Plan.{Plan}
+use Rattle.build_work.proofs.LeftBeside.{at_home, each_empty}
+use Rattle.run_spool.specs.Spools.{holds_nothing}
+use Rattle.build_work.specs.Rings.{all_sent, AreOfBuilds, begun_on}
+
+-- an intake that begins a build was sent nothing of it
+pub all_fresh : (builds : ℕ) (pages : List (PutEnd Copied)) → AreOfBuilds builds (all_sent pages) → All IsFresh (map (begun_on (builds + 1)) pages)
+all_fresh builds pages before = all_from IsFresh (map (begun_on (builds + 1)) pages) each where
+  each : (k : ℕ) (intake : IntakeValue) → slice_get (map (begun_on (builds + 1)) pages) k ≡ Some intake → IsFresh intake
+  each k intake at =
+      let end = at_map (begun_on (builds + 1)) pages k intake at in
+      let old = all_at (λ (sent : List Copied). All (λ copied. copied.build ≤ builds) sent) (all_sent pages) k end.0.sent before
+      (map_at (λ (e : PutEnd Copied). e.sent) pages k end.0 end.1) in
+      subst IsFresh end.2 (record {
+        begins = refl;
+        earlier = All-weaker (λ (copied : Copied). copied.build ≤ builds) (λ (copied : Copied). copied.build < builds + 1) (λ copied le. omega (arith, le)) end.0.sent old;
+      })
+
+-- a worker that begins has taken nothing
+pub all_first :
+    (builds : ℕ) (pages : List (PutEnd Copied)) (workers : List WorkerValue) (idle : List IntakeValue) → intakes workers idle ≡ map (begun_on (builds + 1)) pages
+    → All (λ worker. worker_state worker.intake ≡ record { taken = 0; sealed = 0 }) workers
+all_first builds pages workers idle are = all_from (λ (worker : WorkerValue). worker_state worker.intake ≡ record { taken = 0; sealed = 0 }) workers each where
+  each : (k : ℕ) (worker : WorkerValue) → slice_get workers k ≡ Some worker → worker_state worker.intake ≡ record { taken = 0; sealed = 0 }
+  each k worker at =
+      let end = at_map (begun_on (builds + 1)) pages k worker.intake
+      (ap (λ (is : List IntakeValue). slice_get is k) (sym are) ∙ intake_at workers idle k worker at) in
+      ap worker_state (sym end.2)
+
+-- no run of a maker that has made nothing is open
+none_begun : (specs : List KeySpecValue) → All (λ (begun : List Pair). begun ≡ []) (map (λ _. []) specs)
+none_begun specs = all_from (λ (begun : List Pair). begun ≡ []) (map (λ _. []) specs) each where
+  each : (k : ℕ) (begun : List Pair) → slice_get (map (λ _. []) specs) k ≡ Some begun → begun ≡ []
+  each k begun at = sym (at_map (λ (s : KeySpecValue). []) specs k begun at).2
+
+fresh_many : (maker : MakerValue) (kinds : List Kind) (specs : List KeySpecValue) → maker ≡ fresh_maker kinds specs
+    → (length maker.specs ≡ length specs) × All (λ begun. begun ≡ []) maker.begun
+fresh_many maker kinds specs is = rw is (refl, none_begun specs)
+
+-- spools that are left were given to no build
+not_given : (given : Bool) (spools : List SpoolValue) → 1 ≤ length (spools_state given spools).left → given ≡ false
+not_given true spools some = absurd (omega (arith, some))
+not_given false spools some = refl
+
+-- there is one, for one worker and one index at least
+pub some_spools : (workers indexes : ℕ) → 1 ≤ workers → 1 ≤ indexes → 1 ≤ workers * indexes
+some_spools workers indexes some one = grind arith
+
+-- where a plan finds the spools that it wants, none was given to a build
+pub left_for :
+    (building : BuildingValue) (plan : Plan) → length (spools_state building.given (all_spools building.workers building.spools)).left ≡ plan.workers * length plan.specs.items
+    → 1 ≤ plan.workers → 1 ≤ length plan.specs.items → building.given ≡ false
+left_for building plan many some one =
+    let all = some_spools plan.workers (length plan.specs.items) some one in
+    not_given building.given (all_spools building.workers building.spools) (omega (arith, many, all))
+
+-- so many are at home
+pub left_many :
+    (given : Bool) (workers : List WorkerValue) (spools : List SpoolValue) → given ≡ false → workers ≡ []
+    → length (spools_state given (all_spools workers spools)).left ≡ length spools
+left_many given workers spools is none =
+    rw (is, none) (length-map (spools ++ []) (λ (s : SpoolValue). holds_nothing s.runs s.open_run) ∙ ap length (append-nil spools))
+
+-- there is room for as many as are left
+pub as_many_fit : (asked left many room : ℕ) → asked ≡ left → left ≡ many → asked ≤ room → many ≤ room
+as_many_fit asked left many room is same fits = omega (arith, is, same, fits)
+
+-- the spools that are left are empty
+pub left_empty :
+    (building : BuildingValue) (spools : List SpoolValue) → spools ≡ building.spools → building.given ≡ false → building.workers ≡ []
+    → list_all (λ is_empty. is_empty) (spools_state building.given (all_spools building.workers building.spools)).left ≡ true
+    → All (λ spool. (spool.runs ≡ []) × (spool.open_run ≡ [])) spools
+left_empty building spools same given none empty =
+    let left : List SpoolValue → Bool → Bool = λ all is. list_all (λ is_empty. is_empty) (spools_state is all).left in
+    let all : left building.spools false ≡ true =
+    ap (left building.spools) (sym given) ∙ ap (λ (ss : List SpoolValue). left ss building.given) (sym (at_home building.workers building.spools none)) ∙ empty in
+    subst (All (λ spool. (spool.runs ≡ []) × (spool.open_run ≡ []))) (sym same)
+    (all_from (λ (spool : SpoolValue). (spool.runs ≡ []) × (spool.open_run ≡ [])) building.spools (each_empty building.spools all))
+
+-- makers that have made nothing have no run open
+pub fresh_makers :
+    {X : Type 0} (maker : X → MakerValue) (kinds : List Kind) (specs : List KeySpecValue) (n : ℕ) (all : List X) → length specs ≡ n
+    → All (λ it. maker it ≡ fresh_maker kinds specs) all → All (λ it. (length (maker it).specs ≡ n) × All (λ begun. begun ≡ []) (maker it).begun) all
+fresh_makers maker kinds specs n all many are =
+    All-weaker (λ it. maker it ≡ fresh_maker kinds specs) (λ it. (length (maker it).specs ≡ n) × All (λ begun. begun ≡ []) (maker it).begun)
+    (λ it is. let fresh = fresh_many (maker it) kinds specs is in (fresh.0 ∙ many, fresh.1)) all are
+
+-- the workers have the makers that were made for them
+pub their_makers :
+    {X : Type 0} (maker : X → MakerValue) (m : MakerValue) (all : List X) (workers : List WorkerValue) → map (λ worker. worker.maker) workers ≡ map maker all
+    → All (λ it. maker it ≡ m) all → All (λ worker. worker.maker ≡ m) workers
+their_makers maker m all workers same are = all_from (λ (worker : WorkerValue). worker.maker ≡ m) workers each where
+  each : (k : ℕ) (worker : WorkerValue) → slice_get workers k ≡ Some worker → worker.maker ≡ m
+  each k worker at =
+      let it = at_map maker all k worker.maker
+      (ap (λ (ms : List MakerValue). slice_get ms k) (sym same) ∙ map_at (λ (w : WorkerValue). w.maker) workers k worker at) in
+      sym it.2 ∙ all_at (λ x. maker x ≡ m) all k it.0 are it.1

@@ -1,0 +1,62 @@
+-- The workers of a build get their rings, makers and spools, one after another.
+use Rattle.std.proofs.Common.{◌≡◌, ℕ, suc, ◌+◌, ◌*◌, ◌<◌, List, [], ◌∷◌, ◌++◌, length, map, take, drop, get_or, Some, refl, sym, ap, ap₂, ◌∙◌, arith}
+use Rattle.std.proofs.Common.{append_assoc, append-nil}
+use Rattle.std.specs.List.{slice_get}
+use Rattle.std.proofs.Math.Nat.{suc-mul}
+use Rattle.std.proofs.lemmas.List.{drop_more, length-drop, length-map, map-append, take-append-drop, take_more}
+use Rattle.side_file.specs.Ends.{RingId}
+use Rattle.building.specs.IntakeValue.{IntakeValue}
+use Rattle.building.specs.SpoolValue.{SpoolValue}
+use Rattle.building.specs.WorkerValue.{WorkerValue}
+use Rattle.build_work.specs.BuildingValue.{intakes}
+use Rattle.build_work.specs.Holding.{lent_spools}
+use Rattle.build_work.specs.Rings.{take_rings}
+use Rattle.build_scan.proofs.Places.{map_at}
+
+-- the next one is taken from a list, of which n were taken before
+pub one_taken :
+    {X : Type 0} (xs rest : List X) (n : ℕ) (x : X) → drop n xs ≡ x ∷ rest → (take (n + 1) xs ≡ take n xs ++ x ∷ []) × (drop (n + 1) xs ≡ rest)
+one_taken xs rest n x is =
+    let less : n < length xs = omega (arith, length-drop n xs, ap length is) in
+    let all = drop_more xs n x less in
+    let here : get_or xs n x ≡ x = cc in
+    let left : drop (n + 1) xs ≡ rest = cc in
+    (take_more xs n x less ∙ ap (λ y. take n xs ++ y ∷ []) here, left)
+
+-- the first behind all others
+at_next : {X : Type 0} (xs ys : List X) (n : ℕ) → n ≡ length xs → slice_get (xs ++ ys) n ≡ slice_get ys 0
+at_next [] ys n is = ap (slice_get ys) is
+at_next (x ∷ xs) ys n is = ap (slice_get (x ∷ (xs ++ ys))) is ∙ at_next xs ys (length xs) refl
+
+-- the first idle ring is the next worker's
+pub next_ring :
+    (workers : List WorkerValue) (idle : List IntakeValue) (it : IntakeValue) (rings : List RingId) (n : ℕ) → take_rings (intakes workers idle) ≡ rings
+    → slice_get idle 0 ≡ Some it → n ≡ length workers → slice_get rings n ≡ Some it.end.ring
+next_ring workers idle it rings n all first is =
+    let own : WorkerValue → IntakeValue = λ worker. worker.intake in
+    ap (λ (rs : List RingId). slice_get rs n) (sym all)
+    ∙ map_at (λ (i : IntakeValue). i.end.ring) (intakes workers idle) n it (at_next (map own workers) idle n (is ∙ sym (length-map workers own)) ∙ first)
+
+-- one worker more has the next spools
+pub more_lent :
+    {S : Type 0} (value : S → SpoolValue) (workers : List WorkerValue) (worker : WorkerValue) (own rest left : List S) (n : ℕ) → worker.spools ≡ map value own
+    → own ≡ take n rest → left ≡ drop n rest → lent_spools (workers ++ worker ∷ []) ++ map value left ≡ lent_spools workers ++ map value rest
+more_lent value [] worker own rest left n is first others =
+    ap (λ (l : List SpoolValue). l ++ map value left) (append-nil worker.spools ∙ is)
+    ∙ sym (map-append value own left)
+    ∙ ap (map value) (ap₂ ◌++◌ first others ∙ take-append-drop n rest)
+more_lent value (w ∷ ws) worker own rest left n is first others =
+    append_assoc w.spools (lent_spools (ws ++ worker ∷ [])) (map value left)
+    ∙ ap (λ (l : List SpoolValue). w.spools ++ l) (more_lent value ws worker own rest left n is first others)
+    ∙ sym (append_assoc w.spools (lent_spools ws) (map value rest))
+
+-- what each was given, where one goes over to those that were made
+pub one_made :
+    {X Y Z : Type 0} (f : X → Z) (g : Y → Z) (xs : List X) (x : X) (y : Y) (ys : List Y) → f x ≡ g y
+    → map f (xs ++ x ∷ []) ++ map g ys ≡ map f xs ++ map g (y ∷ ys)
+one_made f g [] x y ys same = ap (λ z. z ∷ map g ys) same
+one_made f g (v ∷ vs) x y ys same = ap (λ zs. f v ∷ zs) (one_made f g vs x y ys same)
+
+-- where each takes n, enough are left for the others
+pub enough_left : {X : Type 0} (n m : ℕ) (xs : List X) → length xs ≡ suc m * n → length (drop n xs) ≡ m * n
+enough_left n m xs many = let e = suc-mul m n in omega (arith, length-drop n xs, many, e)

@@ -1,0 +1,37 @@
+use Rattle.std.proofs.Common.{◌≡◌, ◌+◌, OnErr, refl, subst, arith}
+use Rattle.build_work.specs.Working.{HasApplied}
+use Rattle.build_work.proofs.Applying.{applied_more, applied_none, can_go_on, same_taking, on_err}
+use Rattle.build_work.proofs.beside.Building.apply.Goals as goal
+
+pub loop-init : goal.loop-init
+loop-init g c = applied_none c.args.index c.args.self.now c.requires.taking c.requires.ordered
+
+pub apply_next-requires : goal.apply_next-requires
+apply_next-requires g c =
+    let same = same_taking c.args.index c.args.self.now c.loop.invariant.taking c.requires.taking in
+    can_go_on c.args.index c.args.self.now c.loop.self c.loop.counter c.loop.invariant c.args.count (rw same.3 c.requires.seen) (rw same.1 c.requires.countable) c.loop-test.true
+
+pub returns-in_err-apply_next-clause-some : goal.returns-in_err-apply_next-clause-some
+returns-in_err-apply_next-clause-some g c =
+    let same = same_taking c.args.index c.args.self.now c.loop.invariant.taking c.requires.taking in
+    on_err c.from_residual.result _ (
+      c.loop.counter,
+      c.loop-test.true,
+      subst (λ n. HasApplied c.args.index c.args.self.now n c.apply_next.new.self) (let same : c.loop.counter + 0 ≡ c.loop.counter = omega arith in same)
+          (applied_more c.args.index c.args.self.now c.loop.self c.loop.counter c.loop.invariant c.apply_next.new.self 0
+          (rw same.3 (omega (arith, c.requires.seen, c.loop-test.true)))
+          (subst (λ r. OnErr r (HasApplied c.args.index c.loop.self 0 c.apply_next.new.self)) c.in_err-apply_next.was c.apply_next.ensures.unchanged)),
+    )
+
+pub loop-preserved : goal.loop-preserved
+loop-preserved g c =
+    let same = same_taking c.args.index c.args.self.now c.loop.invariant.taking c.requires.taking in
+    applied_more c.args.index c.args.self.now c.loop.self c.loop.counter c.loop.invariant c.apply_next.new.self 1 (rw same.3 (omega (arith, c.requires.seen, c.loop-test.true)))
+    c.in_ok-apply_next.ensures.applied
+
+pub returns-clause-applied : goal.returns-clause-applied
+returns-clause-applied g c = (
+  refl,
+  subst (λ n. HasApplied c.args.index c.args.self.now n c.loop.self)
+      (let all : c.loop.counter ≡ c.args.count = omega (arith, c.loop-test.false, c.loop.auto.counter-end) in all) c.loop.invariant,
+)

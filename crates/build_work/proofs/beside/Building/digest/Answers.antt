@@ -1,0 +1,55 @@
+use Rattle.std.proofs.Common.{ℕ, ◌<◌, ◌≤◌, List, length, map, set, vec_capacity, refl, sym, ap, subst, arith}
+use Rattle.building.specs.SpoolValue.{spool_value}
+use Rattle.building.specs.WorkerValue.{WorkerValue}
+use Rattle.build_work.specs.BuildingValue.{BuildingValue}
+use Rattle.build_scan.proofs.Places.{at_index}
+use Rattle.build_work.proofs.Stepping.{as_many_after, digested_step, ends_stay, full_step, spoiled_step}
+use Rattle.build_work.proofs.beside.Building.digest.Goals as goal
+
+pub invariant_of-self : goal.invariant_of-self
+invariant_of-self g c =
+    let spool = g.S.Spool in
+    let value = spool_value spool.runs spool.open_run spool.stake in
+    let workers : List WorkerValue = c.self.inside.workers.items in
+    let it : WorkerValue = c.index_mut.result.now in
+    let after : WorkerValue = c.digest-digested.new.self in
+    let less : c.args.worker < length workers = omega (arith, c.requires.there, ap (λ (b : BuildingValue). length b.workers) c.self.view_is) in
+    let at = at_index workers c.args.worker it c.index_mut.ensures.value less in
+    let stays = c.digest-digested.ensures.same in
+    let many = as_many_after workers (map value c.self.inside.spools.items) c.args.worker it after at stays.stakes in (
+      ends_stay workers c.args.worker it after at stays.ring _ _ c.self.inside.idle.items _ c.self.invariant.0,
+      c.self.invariant.1,
+      subst (λ (n : ℕ). n ≤ vec_capacity c.self.inside.spools) (sym many) c.self.invariant.2,
+      λ none. absurd (cc),
+      λ given. ap (λ (ws : List WorkerValue). set ws c.args.worker after) (c.self.invariant.4 given),
+      λ given none. absurd (cc),
+    )
+
+pub returns-clause-did : goal.returns-clause-did
+returns-clause-did g c =
+    let workers : List WorkerValue = c.self.inside.workers.items in
+    let it : WorkerValue = c.index_mut.result.now in
+    let less : c.args.worker < length workers = omega (arith, c.requires.there, ap (λ (b : BuildingValue). length b.workers) c.self.view_is) in
+    let at = at_index workers c.args.worker it c.index_mut.ensures.value less in
+    let done = c.digest-digested.ensures in
+    digested_step c.args.self.now _ c.in-Some.work c.in-Some.work c.self.view_is c.in-Some.is refl c.args.worker it c.digest-digested.new.self at done.same
+    c.digest-digested.result c.note_fault.new.work c.note_fault.ensures.fine done.sound done.taken done.handed
+
+pub returns-clause-spoiled : goal.returns-clause-spoiled
+returns-clause-spoiled g c =
+    let workers : List WorkerValue = c.self.inside.workers.items in
+    let it : WorkerValue = c.index_mut.result.now in
+    let less : c.args.worker < length workers = omega (arith, c.requires.there, ap (λ (b : BuildingValue). length b.workers) c.self.view_is) in
+    let at = at_index workers c.args.worker it c.index_mut.ensures.value less in
+    spoiled_step c.args.self.now _ c.in-Some.work c.in-Some.work c.self.view_is c.in-Some.is refl c.args.worker it c.digest-digested.new.self at c.digest-digested.ensures.same
+    c.digest-digested.result c.note_fault.new.work c.note_fault.ensures.spoiled
+
+pub returns-clause-full : goal.returns-clause-full
+returns-clause-full g c =
+    let spool = g.S.Spool in
+    let workers : List WorkerValue = c.self.inside.workers.items in
+    let it : WorkerValue = c.index_mut.result.now in
+    let less : c.args.worker < length workers = omega (arith, c.requires.there, ap (λ (b : BuildingValue). length b.workers) c.self.view_is) in
+    let at = at_index workers c.args.worker it c.index_mut.ensures.value less in
+    full_step c.args.self.now _ c.in-Some.work c.in-Some.work c.self.view_is c.in-Some.is refl c.args.worker it c.digest-digested.new.self at c.digest-digested.ensures.same
+    spool.is_full spool.runs spool.open_run spool.stake c.digest-digested.result c.requires.fine c.digest-digested.ensures.full

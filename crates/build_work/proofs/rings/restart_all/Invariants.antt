@@ -1,0 +1,11 @@
+use Rattle.std.proofs.Common.{◌≡◌, map, take}
+use Rattle.build_work.specs.Rings.{put_rings, take_rings, all_sent, begun_on}
+use Rattle.build_work.proofs.rings.restart_all.Given as goal
+
+abbrev pub invariant-loop-k : goal.invariant-loop-k
+invariant-loop-k l = record {
+  put_ones : put_rings l.pages.items ≡ put_rings l.initial.pages.items;
+  sent : all_sent l.pages.items ≡ all_sent l.initial.pages.items;
+  take_ones : take_rings l.intakes.items ≡ put_rings l.initial.pages.items;
+  so_far : take l.k l.intakes.items ≡ map (begun_on l.build) (take l.k l.pages.items);
+}

@@ -1,0 +1,9 @@
+pub mod BuildingValue
+pub mod Columns
+pub mod Equipped
+pub mod FullSpools
+pub mod Holding
+pub mod Rings
+pub mod Verdicts
+pub mod WorkOn
+pub mod Working

@@ -1,0 +1,130 @@
+-- What the workers of a build do, and the entries that are applied to its indexes, and what that leaves beside the table.
+use Rattle.std.specs.Prelude.{◌≡◌, ℕ, ◌+◌, ◌*◌, ◌^◌, ◌<◌, ◌≤◌, List, [], ◌++◌, length, set, map, take, drop, is_some, true, false, Some, None, IsPermutation}
+use Rattle.std.specs.List.{All, slice_get, IsDistinct}
+use Rattle.std.specs.Ordering.{eq_by_cmp}
+use Rattle.keybytes.specs.declared.fault.Fault.{Fault}
+use Rattle.keybytes.specs.declared.pair.Pair.{Pair}
+use Rattle.keybytes.specs.Pairs.{AreOrdered, pair_cmp, set_of}
+use Rattle.side_file.specs.declared.entry.Entry.{Entry}
+use Rattle.visibility.specs.Applied.{apply_entries}
+use Rattle.catch_up.specs.Built.{BuiltValue, told_to}
+use Rattle.building.specs.TakeEnd.{TakeEnd}
+use Rattle.run_spool.specs.Spools.{AreSorted}
+use Rattle.building.specs.SpoolValue.{SpoolValue, pairs_in, runs_of, stakes_of}
+use Rattle.building.specs.Work.{after_seal}
+use Rattle.building.specs.WorkerValue.{HasSealed, HasTaken, SameWorker, WorkerValue}
+use Rattle.build_work.specs.BuildingValue.{BuildingValue, WorkValue, IndexValue, IsUnloaded, is_unique, with_index}
+use Rattle.build_work.specs.Columns.{column}
+use Rattle.build_work.specs.Holding.{all_spools, ended_column}
+
+-- a worker of the build that runs did this, answered with so many images, and nothing else changed
+pub record WorkerDid (worker : ℕ) (Did : ℕ → WorkerValue → WorkerValue → Type 0) (old : BuildingValue) (images : ℕ) (new : BuildingValue) : Type 0 where
+  pub it : WorkerValue
+  pub there : slice_get old.workers worker ≡ Some it
+  pub after : WorkerValue
+  pub same : SameWorker it after
+  pub sound : after.fault ≡ None
+  pub did : Did images it after
+  pub left : new ≡ record old { workers = set old.workers worker after }
+
+-- it took the next copy that it had seen; once its spools are handed over it takes nothing
+pub record Digested (images : ℕ) (it after : WorkerValue) : Type 0 where
+  pub took : it.handed ≡ false → HasTaken 1 images it after
+  pub nothing : it.handed ≡ true → (images ≡ 0) × (after ≡ it)
+
+-- it took all copies that it had seen, and closed its runs
+pub record Sealed (images : ℕ) (it after : WorkerValue) : Type 0 where
+  pub took : it.handed ≡ false → HasSealed images it after
+  pub nothing : it.handed ≡ true → (images ≡ 0) × (after ≡ record it { intake = after_seal it.intake })
+
+-- the build can't go on for that fault; its spools keep their stakes
+pub record IsSpoiled (fault : Fault) (old new : BuildingValue) : Type 0 where
+  pub work : WorkValue
+  pub runs : old.work ≡ Some work
+  pub workers : List WorkerValue
+  pub many : length workers ≡ length old.workers
+  pub spools : List SpoolValue
+  pub stakes : stakes_of (all_spools workers spools) ≡ stakes_of (all_spools old.workers old.spools)
+  pub left : new ≡ record old { workers = workers; spools = spools; work = Some (record work { spoiled = Some fault }) }
+
+-- a worker without its spools
+abbrev pub handed_over : WorkerValue → WorkerValue
+handed_over worker = record worker { spools = []; handed = true }
+
+-- the workers of the build handed their spools over, for the loads of its indexes
+pub record HasHandedOver (old new : BuildingValue) : Type 0 where
+  pub work : WorkValue
+  pub runs : old.work ≡ Some work
+  pub left : new ≡ record old {
+    workers = map handed_over old.workers;
+    spools = all_spools old.workers old.spools;
+    work = Some (record work { loading = true });
+  }
+
+-- the pairs of the index's spools are put in order, and these spools ended; answered with the number of pairs
+pub record HasSorted (index : ℕ) (work : WorkValue) (old : BuildingValue) (count : ℕ) (new : BuildingValue) : Type 0 where
+  pub pairs : List Pair
+  pub moved : IsPermutation (pairs_in (column index (length work.specs) old.spools)) pairs
+  pub ordered : AreOrdered pairs
+  pub counted : count ≡ length pairs
+  pub left : new ≡ record old { spools = ended_column index (length work.specs) old.spools; work = Some (with_index work index pairs 0) }
+
+-- no pair is there twice
+abbrev pub AreEachOnce : List Pair → Type 0
+AreEachOnce pairs = IsDistinct (eq_by_cmp pair_cmp) pairs
+
+-- the pairs of an index can be put in order: each run is, and no pair is there twice
+pub record CanLoad (index : ℕ) (building : BuildingValue) : Type 0 where
+  pub work : WorkValue
+  pub runs : building.work ≡ Some work
+  pub there : index < length work.specs
+  pub many : length work.indexes ≡ length work.specs
+  pub lent : length building.spools ≡ length building.workers * length work.specs
+  pub sorted : IsUnloaded index work → All AreSorted (runs_of (column index (length work.specs) building.spools))
+  pub once : IsUnloaded index work → AreEachOnce (pairs_in (column index (length work.specs) building.spools))
+
+-- a load of an index: its pairs are put in order, or were so before
+pub record HasLoaded (index : ℕ) (old : BuildingValue) (count : ℕ) (new : BuildingValue) : Type 0 where
+  pub work : WorkValue
+  pub runs : old.work ≡ Some work
+  pub it : IndexValue
+  pub there : slice_get work.indexes index ≡ Some it
+  pub again : is_some it.built ≡ true → (count ≡ 0) × (new ≡ old)
+  pub first : it.built ≡ None → HasSorted index work old count new
+
+-- an index of a build whose pairs are in order, with the end of its side-file's ring that takes
+pub record IsTakingEntries (index : ℕ) (building : BuildingValue) : Type 0 where
+  pub work : WorkValue
+  pub runs : building.work ≡ Some work
+  pub it : IndexValue
+  pub there : slice_get work.indexes index ≡ Some it
+  pub built : BuiltValue
+  pub loaded : it.built ≡ Some built
+  pub of_build : built.build ≡ work.build
+  pub of_spec : built.unique ≡ is_unique (slice_get work.specs index)
+  pub end : TakeEnd Entry
+  pub at : slice_get building.sides index ≡ Some end
+
+-- the next entries that the index's ring is seen to have can be applied, so many of them
+pub record CanApply (index count : ℕ) (building : BuildingValue) : Type 0 where
+  pub taking : IsTakingEntries index building
+  pub ordered : AreOrdered taking.built.pairs
+  pub seen : count ≤ length taking.end.known
+  pub countable : taking.it.applied + count < 2 ^ 64
+
+-- the first so many of them were taken from the ring, and those of its build were applied to the index
+pub record HasApplied (index : ℕ) (old : BuildingValue) (count : ℕ) (new : BuildingValue) : Type 0 where
+  pub taking : IsTakingEntries index old
+  pub pairs : List Pair
+  pub applied : set_of pairs ≡ apply_entries (told_to taking.built.build (take count taking.end.known)) (set_of taking.built.pairs)
+  pub ordered : AreOrdered pairs
+  pub end : TakeEnd Entry
+  pub ring : end.ring ≡ taking.end.ring
+  pub received : end.received ≡ taking.end.received ++ take count taking.end.known
+  -- the others are still seen, and more may be
+  pub more : List Entry
+  pub known : end.known ≡ drop count taking.end.known ++ more
+  pub left : new ≡ record old {
+    sides = set old.sides index end;
+    work = Some (with_index taking.work index pairs (taking.it.applied + count));
+  }

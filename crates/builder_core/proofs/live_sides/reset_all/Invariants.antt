@@ -1,9 +1,0 @@
-use Rattle.std.proofs.Common.{◌≡◌, length}
-use Rattle.builder_core.specs.SideFiles.{put_ends}
-use Rattle.builder_core.proofs.live_sides.reset_all.Given as goal
-
-abbrev pub invariant-loop-index : goal.invariant-loop-index
-invariant-loop-index l = record {
-  ends : put_ends l.sides.items ≡ put_ends l.initial.sides.items;
-  many : length l.sides.items ≡ l.index-end;
-}

@@ -1,0 +1,111 @@
+-- Spools of any kind as callers of a build see them, and what a worker's maker and these hold.
+use Rattle.std.proofs.Common.{◌≡◌, ℕ, ◌<◌, List, [], ◌++◌, All, length, map, take, drop, Option, sym, ap, ◌∙◌, subst}
+use Rattle.std.specs.Option.{option_map}
+use Rattle.std.proofs.lemmas.List.{length-map, take_at}
+use Rattle.std.proofs.lemmas.List.Elements.{All-map}
+use Rattle.std.proofs.lemmas.Option.{slice_get-map}
+use Rattle.std.proofs.lemmas.Simd.{map-map}
+use Rattle.keybytes.specs.declared.pair.Pair.{Pair}
+use Rattle.spool_ledger.specs.Accounts.{Stake}
+use Rattle.heap_table.specs.Images.{IsReadable}
+use Rattle.run_spool.specs.Spools.{AreSorted, HasFull}
+use Rattle.run_maker.specs.Making.{MakerValue, AreReady}
+use Rattle.building.specs.Holding.{TakesAll, HoldsMore}
+use Rattle.building.specs.IntakeValue.{IntakeValue}
+use Rattle.building.specs.SpoolValue.{SpoolValue, HaveFull, spool_value, runs_of, open_runs_of, stakes_of}
+use Rattle.building.specs.Work.{next_images, after_digest, after_seal}
+use Rattle.building.specs.WorkerValue.{IsCounting, IsHolding, holdings}
+use Rattle.building.proofs.Keeping.{digest_keeps, seal_keeps, start_keeps}
+
+-- of a list that was lent as a slice comes back what it was made
+pub lent_back : {S : Type 0} (n : ℕ) (spools new : List S) → length new ≡ n → take n (new ++ drop (length new) spools) ≡ new
+lent_back n spools new long = take_at new (drop (length new) spools) n long
+
+module _ {S : Type 0} (runs : S → List (List Pair)) (open_run : S → List Pair) (stake : S → Option Stake) where
+  abbrev values : List S → List SpoolValue
+  values spools = map (spool_value runs open_run stake) spools
+
+  pub value_runs : (spools : List S) → runs_of (values spools) ≡ map runs spools
+  value_runs spools = map-map (λ (spool : SpoolValue). spool.runs) (spool_value runs open_run stake) spools
+
+  pub value_open_runs : (spools : List S) → open_runs_of (values spools) ≡ map open_run spools
+  value_open_runs spools = map-map (λ (spool : SpoolValue). spool.open_run) (spool_value runs open_run stake) spools
+
+  pub value_stakes : (spools : List S) → stakes_of (values spools) ≡ map stake spools
+  value_stakes spools = map-map (λ (spool : SpoolValue). spool.stake) (spool_value runs open_run stake) spools
+
+  -- its stakes are the same where each spool kept its own
+  pub lent_stakes :
+      (n : ℕ) (spools new : List S) → length new ≡ n → map stake new ≡ map stake spools
+      → stakes_of (values (take n (new ++ drop (length new) spools))) ≡ stakes_of (values spools)
+  lent_stakes n spools new long same = rw (lent_back n spools new long) (value_stakes new ∙ (same ∙ sym (value_stakes spools)))
+
+  -- spools that are ready are seen to be
+  pub values_ready : (spools : List S) → AreReady (map runs spools) (map open_run spools) → AreReady (runs_of (values spools)) (open_runs_of (values spools))
+  values_ready spools ready = rw (value_runs spools, value_open_runs spools) ready
+
+  -- and those that are seen to be ready are so
+  pub spools_ready : (spools : List S) → AreReady (runs_of (values spools)) (open_runs_of (values spools)) → AreReady (map runs spools) (map open_run spools)
+  spools_ready spools ready = rw (value_runs spools, value_open_runs spools) at ready
+
+  -- a full one is seen
+  pub values_full : (is_full : S → Pair → Type 0) (spools : List S) → HasFull is_full spools → HaveFull is_full runs open_run stake (values spools)
+  values_full is_full spools has = record {
+    index = has.index;
+    spool = has.spool;
+    there = slice_get-map (spool_value runs open_run stake) spools has.index ∙ ap (λ (found : Option S). option_map (spool_value runs open_run stake) found) has.there;
+    full = has.full;
+  }
+
+  -- a worker that took nothing holds nothing
+  pub start_held :
+      (intake : IntakeValue) (maker : MakerValue) (spools : List S) → All (λ copied. copied.build < intake.build) intake.end.received
+      → length spools ≡ length maker.specs → All (λ begun. begun ≡ []) maker.begun
+      → All (λ spool. (runs spool ≡ []) × (open_run spool ≡ [])) spools → IsHolding intake maker (values spools)
+  start_held intake maker spools earlier many none empty =
+      let no_runs = All-map (λ (rs : List (List Pair)). rs ≡ []) runs spools (λ k d less. (empty k d less).0) in
+      let no_open = All-map (λ (ps : List Pair). ps ≡ []) open_run spools (λ k d less. (empty k d less).1) in
+      start_keeps intake maker (values spools) earlier (length-map spools (spool_value runs open_run stake) ∙ many) none (rw (value_runs spools) no_runs)
+      (rw (value_open_runs spools) no_open)
+
+  module _
+      (n : ℕ) (intake after : IntakeValue) (maker new : MakerValue) (spools new_spools : List S) (counts : IsCounting intake maker)
+      (holds : IsHolding intake maker (values spools)) (readable : All IsReadable (next_images n maker.schema intake)) (specs : new.specs ≡ maker.specs)
+      (schema : new.schema ≡ maker.schema) (columns : All (λ spec. spec.kinds ≡ new.schema) new.specs) (many : length new_spools ≡ length spools)
+      (ready : AreReady (map runs new_spools) (map open_run new_spools))
+      (sorted : All AreSorted (map runs spools) → All AreSorted (map runs new_spools)) where
+    many_values : length (values new_spools) ≡ length (values spools)
+    many_values = length-map new_spools (spool_value runs open_run stake) ∙ (many ∙ sym (length-map spools (spool_value runs open_run stake)))
+
+    sorted_values : All AreSorted (runs_of (values new_spools))
+    sorted_values = rw (value_runs new_spools) (sorted (rw (value_runs spools) at holds.sorted))
+
+    -- after a digest
+    pub digest_held :
+        after ≡ after_digest n maker.schema intake
+        → TakesAll maker.specs (next_images n maker.schema intake) (record { runs = map runs spools; begun = maker.begun })
+        (record { runs = map runs new_spools; begun = new.begun })
+        → All (λ begun. length begun < 4096) new.begun → IsHolding after new (values new_spools)
+    digest_held is takes short =
+        let seen : TakesAll maker.specs (next_images n maker.schema intake) (holdings maker (values spools)) (holdings new (values new_spools)) =
+        subst (λ (rs : List (List (List Pair))). TakesAll maker.specs (next_images n maker.schema intake) (record { runs = rs; begun = maker.begun }) (holdings new (values new_spools)))
+        (sym (value_runs spools))
+        (subst (λ (rs : List (List (List Pair))). TakesAll maker.specs (next_images n maker.schema intake) (record { runs = map runs spools; begun = maker.begun }) (record { runs = rs; begun = new.begun }))
+        (sym (value_runs new_spools)) takes) in
+        digest_keeps n intake maker (values spools) counts holds readable after new (values new_spools) specs schema columns many_values (values_ready new_spools ready)
+        sorted_values is seen short
+
+    -- after a seal
+    pub seal_held :
+        after ≡ after_seal (after_digest n maker.schema intake)
+        → HoldsMore maker.specs (next_images n maker.schema intake) (record { runs = map runs spools; begun = maker.begun })
+        (record { runs = map runs new_spools; begun = new.begun })
+        → All (λ begun. begun ≡ []) new.begun → IsHolding after new (values new_spools)
+    seal_held is more closed =
+        let seen : HoldsMore maker.specs (next_images n maker.schema intake) (holdings maker (values spools)) (holdings new (values new_spools)) =
+        subst (λ (rs : List (List (List Pair))). HoldsMore maker.specs (next_images n maker.schema intake) (record { runs = rs; begun = maker.begun }) (holdings new (values new_spools)))
+        (sym (value_runs spools))
+        (subst (λ (rs : List (List (List Pair))). HoldsMore maker.specs (next_images n maker.schema intake) (record { runs = map runs spools; begun = maker.begun }) (record { runs = rs; begun = new.begun }))
+        (sym (value_runs new_spools)) more) in
+        seal_keeps n intake maker (values spools) counts holds readable after new (values new_spools) specs schema columns many_values (values_ready new_spools ready)
+        sorted_values is seen closed

@@ -1,0 +1,98 @@
+use Rattle.std.proofs.Common.{◌≡◌, ◌+◌, ◌∙◌, ℕ, List, All, length, length-append, map, ap, sym, subst, arith}
+use Rattle.std.proofs.lemmas.List.Elements.{All-append}
+use Rattle.std.proofs.lemmas.Result.{err_from_is_err_and}
+use Rattle.keybytes.specs.Keys.{KeySpecValue}
+use Rattle.keybytes.specs.declared.kind.Kind.{Kind}
+use Rattle.heap_table.specs.Images.{ImageValue, IsReadable}
+use Rattle.run_maker.specs.Making.{Holdings}
+use Rattle.building.specs.Holding.{TakesAll}
+use Rattle.building.specs.TakeEnd.{after_taking}
+use Rattle.building.specs.Work.{next_images, after_digest}
+use Rattle.building.specs.IntakeValue.{IntakeValue}
+use Rattle.building.proofs.Digests.{digest_more, images_more, taking_more, next_few, same_worker}
+use Rattle.building.proofs.Holding.{takes_more, takes_sealed}
+use Rattle.building.proofs.intake.Intake.seal.Goals as goal
+
+pub returns-in_err-images-clause-failed : goal.returns-in_err-images-clause-failed
+returns-in_err-images-clause-failed g c =
+    let worker = c.args.self.now in
+    let p = err_from_is_err_and c.from_residual.result c.from_residual.ensures.1 in
+    let kinds = c.args.maker.now.schema in
+    let counted = c.loop.counter in
+    let build = ap (λ (w : IntakeValue). w.build) c.loop.invariant.taken in
+    let end = ap (λ (w : IntakeValue). w.end) c.loop.invariant.taken in
+    let taken = ap (λ (w : IntakeValue). w.taken) c.loop.invariant.taken in
+    let sealed = ap (λ (w : IntakeValue). w.sealed) c.loop.invariant.taken in
+    rw p.1 (
+      counted + 1,
+      omega arith,
+      (
+        counted,
+        omega arith,
+        omega arith,
+        same_worker c.digest.new.self (record (after_digest counted kinds worker) { end = after_taking (counted + 1) worker.end })
+            (c.digest.ensures.build ∙ build)
+            (c.digest.ensures.end ∙ (ap (λ end. after_taking 1 end) end ∙ taking_more counted 1 worker.end))
+            (c.in_err-images.ensures.uncounted ∙ taken)
+            (c.digest.ensures.unsealed ∙ sealed),
+      ),
+    )
+
+pub overflow_add-images : goal.overflow_add-images
+overflow_add-images g c =
+    omega (arith, next_few c.loop.counter c.args.maker.now.schema c.args.self.now, next_few 1 c.loop.maker.schema c.loop.self, c.in_ok-images.ensures.count)
+
+pub loop-preserved : goal.loop-preserved
+loop-preserved g c =
+    let worker = c.args.self.now in
+    let n = c.loop.counter in
+    let was = c.loop.invariant in
+    let kinds = c.args.maker.now.schema in
+    let specs = c.args.maker.now.specs in
+    let start : Holdings = record { runs = map g.S.Spool.runs c.args.spools.now; begun = c.args.maker.now.begun } in
+    let middle : Holdings = record { runs = map g.S.Spool.runs c.loop.spools; begun = c.loop.maker.begun } in
+    let after : Holdings = record { runs = map g.S.Spool.runs c.digest.new.spools; begun = c.digest.new.maker.begun } in
+    let build = ap (λ (w : IntakeValue). w.build) was.taken in
+    let end = ap (λ (w : IntakeValue). w.end) was.taken in
+    let images = images_more n 1 kinds worker c.loop.self build end in
+    let one : TakesAll c.loop.maker.specs (next_images 1 kinds c.loop.self) middle after =
+    subst (λ (ks : List Kind). TakesAll c.loop.maker.specs (next_images 1 ks c.loop.self) middle after) was.schema c.in_ok-images.ensures.holds in
+    let then : TakesAll specs (next_images 1 kinds c.loop.self) middle after =
+    subst (λ (ss : List KeySpecValue). TakesAll ss (next_images 1 kinds c.loop.self) middle after) was.specs one in
+    record {
+      taken = c.in_ok-images.ensures.taken
+          ∙ (ap (λ (ks : List Kind). after_digest 1 ks c.loop.self) was.schema ∙ (ap (after_digest 1 kinds) was.taken ∙ digest_more n 1 kinds worker));
+      holds = subst (λ (xs : List ImageValue). TakesAll specs xs start after) (sym images)
+          (takes_more specs (next_images n kinds worker) (next_images 1 kinds c.loop.self) start middle after was.holds then);
+      ready = c.in_ok-images.ensures.ready;
+      sorted = λ all. c.digest.ensures.sorted (was.sorted all);
+      stakes = c.digest.ensures.stakes ∙ was.stakes;
+      schema = c.digest.ensures.schema ∙ was.schema;
+      specs = c.digest.ensures.specs ∙ was.specs;
+      readable =
+          let next = subst (λ (ks : List Kind). All IsReadable (next_images 1 ks c.loop.self)) was.schema c.in_ok-images.ensures.readable in
+          subst (λ (xs : List ImageValue). All IsReadable xs) (sym images)
+          (All-append IsReadable (next_images n kinds worker) (next_images 1 kinds c.loop.self) was.readable next);
+      images =
+          let count = c.in_ok-images.ensures.count ∙ ap (λ (ks : List Kind). length (next_images 1 ks c.loop.self)) was.schema in
+          let both = length-append (next_images n kinds worker) (next_images 1 kinds c.loop.self) in
+          omega (arith, was.images, count, ap length images, both);
+    }
+
+pub returns-clause-holds : goal.returns-clause-holds
+returns-clause-holds g c =
+    let worker = c.args.self.now in
+    let was = c.loop.invariant in
+    let kinds = c.args.maker.now.schema in
+    let specs = c.args.maker.now.specs in
+    let start : Holdings = record { runs = map g.S.Spool.runs c.args.spools.now; begun = c.args.maker.now.begun } in
+    let middle : Holdings = record { runs = map g.S.Spool.runs c.loop.spools; begun = c.loop.maker.begun } in
+    let all : c.loop.counter ≡ length worker.end.known = omega (arith, c.loop-test.false, c.loop.auto.counter-end, c.seen-end.ensures) in
+    let takes = subst (λ (n : ℕ). TakesAll specs (next_images n kinds worker) start middle) all was.holds in
+    takes_sealed specs (next_images (length worker.end.known) kinds worker) start middle (map g.S.Spool.runs c.seal.new.spools) c.seal.new.self.begun takes
+    (c.laws.ensures.begun ∙ ap length was.specs) c.in_ok-seal.ensures.sealed c.in_ok-seal.ensures.none_open
+
+pub returns-clause-readable : goal.returns-clause-readable
+returns-clause-readable g c =
+    let all : c.loop.counter ≡ length c.args.self.now.end.known = omega (arith, c.loop-test.false, c.loop.auto.counter-end, c.seen-end.ensures) in
+    subst (λ (n : ℕ). All IsReadable (next_images n c.args.maker.now.schema c.args.self.now)) all c.loop.invariant.readable

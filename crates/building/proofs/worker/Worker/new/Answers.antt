@@ -1,0 +1,13 @@
+use Rattle.building.proofs.Keeping.{start_counts}
+use Rattle.building.proofs.SpoolViews.{start_held}
+use Rattle.building.proofs.worker.Worker.new.Goals as goal
+
+pub invariant_of-result : goal.invariant_of-result
+invariant_of-result g c = (
+  c.requires.ring,
+  tt,
+  λ _. start_counts c.args.intake c.args.maker c.requires.fresh c.requires.earlier,
+  λ _ _.
+      start_held g.S.Spool.runs g.S.Spool.open_run g.S.Spool.stake c.args.intake c.args.maker c.args.spools.items c.requires.earlier c.requires.many c.requires.none
+      c.requires.empty,
+)

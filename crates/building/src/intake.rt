@@ -1,0 +1,222 @@
+ghost use Rattle.std.specs.Prelude.{◌≡◌, ◌≤◌, ◌⊎◌, ◌+◌, ◌++◌, [], ℕ, All, length, map};
+ghost use Rattle.std.specs.Prelude.{IfErr, IfOk, OnOk, OnErr};
+ghost use Rattle.side_file.specs.Ends.{ring_take};
+ghost use Rattle.heap_table.specs.Images.{IsReadable};
+ghost use Rattle.run_spool.specs.Spools.{AreSorted, HasFull, NoPageOnlyIf};
+ghost use Rattle.run_maker.specs.Making.{AreReady};
+ghost use Rattle.run_maker.specs.Spooling.{MemoryOnlyIf};
+ghost use Rattle.building.specs.Holding.{TakesAll, HoldsMore};
+ghost use Rattle.building.specs.TakeEnd.{take_end, after_taking, PutEndLooked};
+ghost use Rattle.building.specs.Work.{at_start, IsIntake, StopsAfter, knowing, next_images, after_digest, after_seal};
+
+use crate::{Copied, PagePutter};
+use keybytes::Fault;
+use rtrb::Consumer;
+use run_maker::Maker;
+use run_spool::Spool;
+use std::marker::Model;
+
+/// A worker's end of its ring, and how far it is. It is lent the maker of its pairs and the spools that keep them.
+pub struct Intake {
+    build: u64,
+    ring: Consumer<Copied>,
+    taken: usize,
+    /// How many were taken when it last sealed.
+    sealed: usize,
+}
+
+impl Drop for Intake {
+    fn drop(self) {
+        let Intake {
+            build: _,
+            ring: _,
+            taken: _,
+            sealed: _,
+        } = self;
+    }
+}
+
+impl Model for Intake {
+    ghost use Rattle.building.specs.IntakeValue.{IntakeValue};
+
+    ghost Value = { IntakeValue };
+
+    ghost use Rattle.std.specs.Prelude.{◌≤◌};
+    ghost use Rattle.building.specs.TakeEnd.{take_end};
+
+    ghost view = { λ worker. record {
+      build = worker.build;
+      end = take_end worker.ring;
+      taken = worker.taken;
+      sealed = worker.sealed;
+    } };
+
+    ghost invariant = { λ worker. worker.sealed ≤ worker.taken };
+}
+
+impl Intake {
+    /// The end of a worker that has taken nothing. The numbers of builds begin above 0.
+    pub fn new(ring: Consumer<Copied>) -> Intake
+        ensures { result ≡ at_start 0 (take_end ring) }
+    {
+        Intake {
+            build: 0,
+            ring,
+            taken: 0,
+            sealed: 0,
+        }
+    }
+
+    /// Does nothing: its clause tells what every such end keeps.
+    pub fn laws(&self)
+        ensures { IsIntake self.now }
+    {
+        let _kept = &self.taken;
+    }
+
+    /// The number of its build.
+    pub fn build(&self) -> u64
+        ensures { result ≡ self.now.build }
+    {
+        self.build
+    }
+
+    /// How many copies of its build it took.
+    pub fn taken(&self) -> usize
+        ensures { result ≡ self.now.taken }
+    {
+        self.taken
+    }
+
+    /// How many of these when it last sealed.
+    pub fn sealed(&self) -> usize
+        ensures { result ≡ self.now.sealed }
+    {
+        self.sealed
+    }
+
+    /// Empties its ring and begins a build. Takes no memory.
+    pub fn restart(&mut self, putter: &mut PagePutter, build: u64)
+        requires { putter.old.ring ≡ self.old.end.ring }
+        ensures worker { self.new ≡ at_start build (record { ring = self.old.end.ring; received = putter.old.sent; known = [] }) }
+        ensures putter { putter.new ≡ record putter.old { free = 4 } }
+    {
+        empty_ring(&mut self.ring, putter);
+        self.build = build;
+        self.taken = 0;
+        self.sealed = 0;
+    }
+
+    /// How many copies are in its ring, with the other end at hand. Both ends then know all that there is to know of the ring.
+    pub fn waiting(&mut self, putter: &mut PagePutter) -> usize
+        requires { putter.old.ring ≡ self.old.end.ring }
+        ensures worker { self.new ≡ knowing self.new.end.known self.old }
+        ensures putter { PutEndLooked putter.old putter.new }
+        ensures value { result ≡ length self.new.end.known }
+        ensures in_order { self.new.end.received ++ self.new.end.known ≡ putter.new.sent }
+        ensures free { 4 ≤ putter.new.free + result }
+    {
+        putter.beside(&mut self.ring)
+    }
+
+    /// Takes the next copy that it has seen, spools its pairs and answers 1. The answer is 0 where it has seen none, and where the
+    /// copy is of another build or of other columns than its maker's, and so is dropped. It is lent the spool of each index. Want
+    /// of memory or of a page spoils the build: the copy is gone, and a part of its pairs may be spooled. [`Fault::Memory`] is also
+    /// the answer where its copies would be more than `usize` counts.
+    pub fn digest<S: Spool>(&mut self, maker: &mut Maker, spools: &mut [S]) -> Result<usize, Fault>
+        requires spools { length spools.old ≡ length maker.old.specs }
+        requires ready { AreReady (map S.runs spools.old) (map S.open_run spools.old) }
+        ensures count { IfOk result (λ images. images ≡ length (next_images 1 maker.old.schema self.old)) }
+        ensures taken { OnOk result (self.new ≡ after_digest 1 maker.old.schema self.old) }
+        ensures holds { OnOk result (TakesAll maker.old.specs (next_images 1 maker.old.schema self.old)
+            (record { runs = map S.runs spools.old; begun = maker.old.begun }) (record { runs = map S.runs spools.new; begun = maker.new.begun })) }
+        ensures ready { OnOk result (AreReady (map S.runs spools.new) (map S.open_run spools.new)) }
+        ensures sorted { All AreSorted (map S.runs spools.old) → All AreSorted (map S.runs spools.new) }
+        ensures stakes { map S.stake spools.new ≡ map S.stake spools.old }
+        ensures schema { maker.new.schema ≡ maker.old.schema }
+        ensures specs { maker.new.specs ≡ maker.old.specs }
+        ensures readable { OnOk result (All IsReadable (next_images 1 maker.old.schema self.old)) }
+        ensures build { self.new.build ≡ self.old.build }
+        ensures end { self.new.end ≡ after_taking 1 self.old.end }
+        ensures uncounted { OnErr result (self.new.taken ≡ self.old.taken) }
+        ensures unsealed { self.new.sealed ≡ self.old.sealed }
+        ensures fault { IfErr result (λ fault. (fault ≡ Fault.NoPage) ⊎ (fault ≡ Fault.Memory)) }
+        ensures full { IfErr result (NoPageOnlyIf (HasFull S.is_full spools.new)) }
+        ensures want { IfErr result (MemoryOnlyIf (AreReady (map S.runs spools.new) (map S.open_run spools.new))) }
+    {
+        if self.seen() == 0 {
+            return Ok(0);
+        }
+        let copied = self.ring.pop_known();
+        if !copied.is_for(self.build, maker.schema()) {
+            return Ok(0);
+        }
+        if self.taken == usize::MAX {
+            return Err(Fault::Memory);
+        }
+        copied.image.laws();
+        maker.take(copied.image, spools)?;
+        self.taken += 1;
+        Ok(1)
+    }
+
+    /// Takes all copies that it has seen, spools their pairs, closes the run of each index, and answers how many copies of its
+    /// build and of its maker's columns there were. What it has taken is then sealed. Want of memory or of a page spoils the
+    /// build: some of the copies are gone.
+    pub fn seal<S: Spool>(&mut self, maker: &mut Maker, spools: &mut [S]) -> Result<usize, Fault>
+        requires spools { length spools.old ≡ length maker.old.specs }
+        requires ready { AreReady (map S.runs spools.old) (map S.open_run spools.old) }
+        ensures count { IfOk result (λ images. images ≡ length (next_images (length self.old.end.known) maker.old.schema self.old)) }
+        ensures taken { OnOk result (self.new ≡ after_seal (after_digest (length self.old.end.known) maker.old.schema self.old)) }
+        ensures holds { OnOk result (HoldsMore maker.old.specs (next_images (length self.old.end.known) maker.old.schema self.old)
+            (record { runs = map S.runs spools.old; begun = maker.old.begun }) (record { runs = map S.runs spools.new; begun = maker.new.begun })) }
+        ensures closed { OnOk result (All (λ begun. begun ≡ []) maker.new.begun) }
+        ensures ready { OnOk result (AreReady (map S.runs spools.new) (map S.open_run spools.new)) }
+        ensures sorted { All AreSorted (map S.runs spools.old) → All AreSorted (map S.runs spools.new) }
+        ensures stakes { map S.stake spools.new ≡ map S.stake spools.old }
+        ensures schema { maker.new.schema ≡ maker.old.schema }
+        ensures specs { maker.new.specs ≡ maker.old.specs }
+        ensures readable { OnOk result (All IsReadable (next_images (length self.old.end.known) maker.old.schema self.old)) }
+        ensures build { self.new.build ≡ self.old.build }
+        ensures ring { self.new.end.ring ≡ self.old.end.ring }
+        ensures failed { OnErr result ((n : ℕ) × (n ≤ length self.old.end.known) × StopsAfter n maker.old.schema self.old self.new) }
+        ensures fault { IfErr result (λ fault. (fault ≡ Fault.NoPage) ⊎ (fault ≡ Fault.Memory)) }
+        ensures full { IfErr result (NoPageOnlyIf (HasFull S.is_full spools.new)) }
+        ensures want { IfErr result (MemoryOnlyIf (AreReady (map S.runs spools.new) (map S.open_run spools.new))) }
+    {
+        let mut images = 0;
+        for _ in 0..self.seen() {
+            images += self.digest(maker, spools)?;
+        }
+        maker.laws();
+        maker.seal(spools)?;
+        self.mark_sealed();
+        Ok(images)
+    }
+
+    /// All that it took counts as sealed.
+    pub(crate) fn mark_sealed(&mut self)
+        ensures { self.new ≡ after_seal self.old }
+    {
+        self.sealed = self.taken;
+    }
+
+    // How many copies it has seen.
+    fn seen(&self) -> usize
+        ensures { result ≡ length self.now.end.known }
+    {
+        self.ring.cached_slots()
+    }
+}
+
+// Takes out and drops all that is in the ring. Each of its places is then known to be free.
+fn empty_ring(ring: &mut Consumer<Copied>, putter: &mut PagePutter)
+    requires { putter.old.ring ≡ ring_take ring.old }
+    ensures ring { take_end ring.new ≡ record { ring = ring_take ring.old; received = putter.old.sent; known = [] } }
+    ensures putter { putter.new ≡ record putter.old { free = 4 } }
+{
+    for _ in 0..putter.beside(ring) {
+        ring.pop_known();
+    }
+    putter.beside(ring);
+}
