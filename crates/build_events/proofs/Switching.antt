@@ -121,12 +121,15 @@ step_goes_on s event reply new (inl refused) = elim refused.2 [
 step_goes_on s event reply new (inr done) = done_goes_on s event reply new done.1
 
 -- and so does a run
-run_goes_on : (s : CoreState) (events : List Event) (replies : List Reply) (end : CoreState) → Run s events replies end → GoesOn s.live.heap.log end.live.heap.log
-run_goes_on s [] [] end run = goes_same s.live.heap.log end.live.heap.log (ap (λ (t : CoreState). t.live.heap.log) run)
-run_goes_on s [] (reply ∷ replies) end run = absurd run
-run_goes_on s (event ∷ events) [] end run = absurd run
-run_goes_on s (event ∷ events) (reply ∷ replies) end run =
-    goes_on s.live.heap.log run.0.live.heap.log end.live.heap.log (step_goes_on s event reply run.0 run.1) (run_goes_on run.0 events replies end run.2)
+run_goes_on :
+    (MissedPage : CoreState → Event → Type 0) (s : CoreState) (events : List Event) (replies : List Reply) (end : CoreState)
+    → Run MissedPage s events replies end → GoesOn s.live.heap.log end.live.heap.log
+run_goes_on MissedPage s [] [] end run = goes_same s.live.heap.log end.live.heap.log (ap (λ (t : CoreState). t.live.heap.log) run)
+run_goes_on MissedPage s [] (reply ∷ replies) end run = absurd run
+run_goes_on MissedPage s (event ∷ events) [] end run = absurd run
+run_goes_on MissedPage s (event ∷ events) (reply ∷ replies) end run =
+    goes_on s.live.heap.log run.0.live.heap.log end.live.heap.log (step_goes_on s event reply run.0 run.1)
+    (run_goes_on MissedPage run.0 events replies end run.3)
 
 -- no step takes a stake from a spool
 abbrev stakes_of : CoreState → List (Option Stake)
@@ -159,11 +162,13 @@ step_stakes s event reply new (inr done) = done_stakes s event reply new done.1
 
 -- nor does a run
 pub run_stakes :
-    (s : CoreState) (events : List Event) (replies : List Reply) (end : CoreState) → Run s events replies end → end.spools.stakes ≡ s.spools.stakes
-run_stakes s [] [] end run = ap stakes_of run
-run_stakes s [] (reply ∷ replies) end run = absurd run
-run_stakes s (event ∷ events) [] end run = absurd run
-run_stakes s (event ∷ events) (reply ∷ replies) end run = run_stakes run.0 events replies end run.2 ∙ step_stakes s event reply run.0 run.1
+    (MissedPage : CoreState → Event → Type 0) (s : CoreState) (events : List Event) (replies : List Reply) (end : CoreState)
+    → Run MissedPage s events replies end → end.spools.stakes ≡ s.spools.stakes
+run_stakes MissedPage s [] [] end run = ap stakes_of run
+run_stakes MissedPage s [] (reply ∷ replies) end run = absurd run
+run_stakes MissedPage s (event ∷ events) [] end run = absurd run
+run_stakes MissedPage s (event ∷ events) (reply ∷ replies) end run =
+    run_stakes MissedPage run.0 events replies end run.3 ∙ step_stakes s event reply run.0 run.1
 
 -- what a switch did that decided
 pub record Switched_in (s : CoreState) (event : Event) (number : ℕ) (verdicts : List Outcome) (new : CoreState) : Type 0 where
@@ -337,33 +342,35 @@ module _ (s : CoreState) (event : Event) (number : ℕ) (verdicts : List Outcome
       decided_by spec verdict told (verdict_on s.live.heap.log spec) (keyed_at s.live.heap.log switch.build.specs i spec switch.keyed at) refl
 
 -- the headline, of every run
-pub each_switch : (start end : CoreState) (events : List Event) (replies : List Reply) → Run start events replies end → EachSwitchIsAtRest start end events replies
-each_switch start end [] [] run place number verdicts at = absurd (let bad : None ≡ Some (Switched number verdicts) = at in cc)
-each_switch start end [] (reply ∷ replies) run place number verdicts at = absurd run
-each_switch start end (event ∷ events) [] run place number verdicts at = absurd run
-each_switch start end (event ∷ events) (reply ∷ replies) run zero number verdicts at =
+pub each_switch :
+    (MissedPage : CoreState → Event → Type 0) (start end : CoreState) (events : List Event) (replies : List Reply)
+    → Run MissedPage start events replies end → EachSwitchIsAtRest MissedPage start end events replies
+each_switch MissedPage start end [] [] run place number verdicts at = absurd (let bad : None ≡ Some (Switched number verdicts) = at in cc)
+each_switch MissedPage start end [] (reply ∷ replies) run place number verdicts at = absurd run
+each_switch MissedPage start end (event ∷ events) [] run place number verdicts at = absurd run
+each_switch MissedPage start end (event ∷ events) (reply ∷ replies) run zero number verdicts at =
     let said : reply ≡ Switched number verdicts = same_Some reply (Switched number verdicts) at in
     let step : Step start event (Switched number verdicts) run.0 = subst (λ (r : Reply). Step start event r run.0) said run.1 in
     let switch = switches start event number verdicts run.0 step in
-    let goes = run_goes_on run.0 events replies end run.2 in
+    let goes = run_goes_on MissedPage run.0 events replies end run.3 in
     record {
       found = start;
       left = run.0;
       before = refl;
       decided = subst (λ (e : Event). Step start e (Switched number verdicts) run.0) switch.asked step;
-      after = run.2;
+      after = run.3;
       beginning = beginning_is start event number verdicts run.0 end switch goes;
       build = switch.build;
       running = switch.running;
       each = each_is start event number verdicts run.0 end switch goes;
       right = right_is start event number verdicts run.0 end switch goes;
     }
-each_switch start end (event ∷ events) (reply ∷ replies) run (suc place) number verdicts at =
-    let rest = each_switch run.0 end events replies run.2 place number verdicts at in
+each_switch MissedPage start end (event ∷ events) (reply ∷ replies) run (suc place) number verdicts at =
+    let rest = each_switch MissedPage run.0 end events replies run.3 place number verdicts at in
     record {
       found = rest.found;
       left = rest.left;
-      before = (run.0, run.1, rest.before);
+      before = (run.0, run.1, run.2, rest.before);
       decided = rest.decided;
       after = rest.after;
       beginning = rest.beginning;

@@ -34,14 +34,14 @@ IsDecided log ready spec (Shared key first second) =
 
 -- the switch that was answered in that place of the list of events, with the number of its log record and its verdicts, on a
 -- run that ends in that state
-pub record SwitchesIn (start end : CoreState) (events : List Event) (replies : List Reply) (place number : ℕ) (verdicts : List Outcome) : Type 0 where
+pub record SwitchesIn (MissedPage : CoreState → Event → Type 0) (start end : CoreState) (events : List Event) (replies : List Reply) (place number : ℕ) (verdicts : List Outcome) : Type 0 where
   -- the states that the switch found and left, on the way
   pub found : CoreState
   pub left : CoreState
-  pub before : Run start (take place events) (take place replies) found
+  pub before : Run MissedPage start (take place events) (take place replies) found
   -- the step from the one to the other is that switch
   pub decided : Step found Switch (Switched number verdicts) left
-  pub after : Run left (drop (suc place) events) (drop (suc place) replies) end
+  pub after : Run MissedPage left (drop (suc place) events) (drop (suc place) replies) end
   -- its log is the beginning of the final one that ends with the switch
   pub beginning : left.live.heap.log ≡ first_records number end.live.heap.log
   -- the build that ran, with a verdict on each of its indexes
@@ -53,15 +53,17 @@ pub record SwitchesIn (start end : CoreState) (events : List Event) (replies : L
       → IsDecided (first_records number end.live.heap.log) left.live.ready spec verdict
 
 -- so does every switch of the run that decided
-abbrev pub EachSwitchIsAtRest : CoreState → CoreState → List Event → List Reply → Type 0
-EachSwitchIsAtRest start end events replies =
+abbrev pub EachSwitchIsAtRest : (CoreState → Event → Type 0) → CoreState → CoreState → List Event → List Reply → Type 0
+EachSwitchIsAtRest MissedPage start end events replies =
     (place number : ℕ) (verdicts : List Outcome) → slice_get replies place ≡ Some (Switched number verdicts)
-    → SwitchesIn start end events replies place number verdicts
+    → SwitchesIn MissedPage start end events replies place number verdicts
 
 -- what a list of events comes to on a table, beside these spools: a run of the step relation, in which each index as it is switched in has the pairs
--- that a build at rest gives of the rows then live
-pub record RunsAsAtRest (live : LiveState) (spools : SpoolsState) (events : List Event) (replies : List Reply) (left : LiveState) : Type 0 where
+-- that a build at rest gives of the rows then live, and a page is missing only where that cause says so
+pub record RunsAsAtRest
+    (MissedPage : CoreState → Event → Type 0) (live : LiveState) (spools : SpoolsState) (events : List Event) (replies : List Reply)
+    (left : LiveState) : Type 0 where
   pub end : CoreState
-  pub run : Run (opening live spools) events replies end
+  pub run : Run MissedPage (opening live spools) events replies end
   pub left_is : left ≡ abandoned end.live
-  pub switches : EachSwitchIsAtRest (opening live spools) end events replies
+  pub switches : EachSwitchIsAtRest MissedPage (opening live spools) end events replies

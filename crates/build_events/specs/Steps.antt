@@ -154,9 +154,14 @@ abbrev pub Step : CoreState → Event → Reply → CoreState → Type 0
 Step s event reply new =
     ((fault : Fault) × (reply ≡ Refused fault) × IsRefused s event fault new) ⊎ ((refusal s event ≡ None) × Does s event reply new)
 
--- one event after another
-abbrev pub Run : CoreState → List Event → List Reply → CoreState → Type 0
-Run s [] [] new = new ≡ s
-Run s [] (reply ∷ replies) new = ⊥
-Run s (event ∷ events) [] new = ⊥
-Run s (event ∷ events) (reply ∷ replies) new = (mid : CoreState) × Step s event reply mid × Run mid events replies new
+-- a step that tells of a missing page, in a build that wasn't spoiled before, had that cause
+abbrev pub HasPageCause : (CoreState → Event → Type 0) → CoreState → Event → Reply → Type 0
+HasPageCause MissedPage s event reply = reply ≡ Refused NoPage → s.work.spoiled ≡ None → MissedPage s event
+
+-- one event after another; what a missing page comes from is told by that cause
+abbrev pub Run : (CoreState → Event → Type 0) → CoreState → List Event → List Reply → CoreState → Type 0
+Run MissedPage s [] [] new = new ≡ s
+Run MissedPage s [] (reply ∷ replies) new = ⊥
+Run MissedPage s (event ∷ events) [] new = ⊥
+Run MissedPage s (event ∷ events) (reply ∷ replies) new =
+    (mid : CoreState) × Step s event reply mid × HasPageCause MissedPage s event reply × Run MissedPage mid events replies new

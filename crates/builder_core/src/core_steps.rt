@@ -10,7 +10,7 @@ ghost use Rattle.std.specs.VecDeque.Iter.{deque_iter_rest};
 ghost use Rattle.build_scan.specs.SideFiles.{AreEntriesLeft, HaveEntryKeys, side_refusal};
 ghost use Rattle.heap_log.specs.declared.outcome.Outcome.{Outcome};
 ghost use Rattle.build_events.specs.BuildSteps.{OnBuild};
-ghost use Rattle.build_events.specs.Steps.{Step, Answers};
+ghost use Rattle.build_events.specs.Steps.{Step, HasPageCause, Answers};
 ghost use Rattle.build_events.specs.Verdicts.{HaveSharedKeys};
 ghost use Rattle.builder_core.specs.FullSpools.{IfSpooling, NoPageOnlyIfFull, WantedPage};
 ghost use Rattle.build_work.specs.Holding.{spools_in};
@@ -162,7 +162,7 @@ impl<S: Spool, T: Table> Core<S, T> {
         ensures stakes { self.new.spools.stakes ≡ self.old.spools.stakes }
         ensures keys { (number : ℕ) (verdicts : List Outcome) → result ≡ Reply.Switched number verdicts
             → OnBuild self.old.live.build (λ b. HaveSharedKeys b.specs verdicts) }
-        ensures full { result ≡ Reply.Refused Fault.NoPage → self.old.work.spoiled ≡ None → WantedPage S.is_full S.stake self.old event }
+        ensures full { HasPageCause (WantedPage S.is_full S.stake) self.old event result }
         ensures ready { ReadyFollowTable self.new.live }
         ensures sound { IfSome self.new.live.build (λ b. BuildIsSound b self.new.live.heap.log) }
     {
@@ -173,6 +173,7 @@ impl<S: Spool, T: Table> Core<S, T> {
     /// Does one event that it is lent. A row is copied only once nothing refuses it.
     pub(crate) fn answer(&mut self, event: &Event) -> Reply
         ensures step { Step self.old event.now result self.new }
+        ensures full { HasPageCause (WantedPage S.is_full S.stake) self.old event.now result }
         ensures ready { ReadyFollowTable self.new.live }
         ensures sound { IfSome self.new.live.build (λ b. BuildIsSound b self.new.live.heap.log) }
     {
