@@ -10,7 +10,7 @@ use Rattle.side_file.specs.SideFileValue.{SideFileValue}
 use Rattle.visibility.specs.SideEntries.{entries_of_change}
 use Rattle.visibility.specs.declared.change.Change.{Change}
 use Rattle.build_scan.specs.SideFiles.{noted}
-use Rattle.build_scan.specs.Noting.{without_room, IsChangeOf, AreChangesOf, IsLonger, HaveAppended, HaveNoted, change_entries}
+use Rattle.build_scan.specs.Noting.{without_room, IsChangeOf, AreChangesOf, IsLonger, HaveAppended, HaveNoted, OthersStay, change_entries}
 use Rattle.build_events.specs.CoreState.{BuildState}
 use Rattle.build_scan.proofs.Places.{at_set, below, same_at, there_is}
 
@@ -70,6 +70,24 @@ all_noted b ready changes olds news many are done = λ k spec old new at was now
     let entries : entries_of_change ready.rid change.0 ≡ _ = are k change.0 change.1 spec at in
     subst (λ es. IsLonger (map (entry_of b.number) es) old new) entries
     (subst (λ o. IsLonger (change_entries b.number ready.rid o) old new) change.1 (done k old new was now))
+
+-- and nothing else was noted
+pub others_stay :
+    (number : ℕ) (rid : Rid) (changes : List Change) (olds mids news : List SideFileValue) (used : ℕ) → length changes ≡ used
+    → map without_room mids ≡ map without_room olds → HaveAppended number rid changes mids news → OthersStay used olds news
+others_stay number rid changes olds mids news used many same done = λ k old new behind was now.
+    let mid = same_at without_room mids olds k old same was in
+    let longer = done k mid.0 new mid.1 now in
+    let none : change_entries number rid (slice_get changes k) ≡ [] = ap (change_entries number rid) (nothing_at changes k (omega (arith, many, behind))) in
+    record {
+      fed = longer.fed ∙ ap (λ (s : SideFileValue). s.fed) mid.2;
+      left = longer.left ∙ ap (λ es. mid.0.left ++ es) none ∙ ap (λ (s : SideFileValue). s.left ++ []) mid.2;
+      end = longer.end ∙ ap (λ (s : SideFileValue). s.end) mid.2;
+    }
+
+-- where no build runs
+pub none_noted : (used : ℕ) (sides : List SideFileValue) → OthersStay used sides sides
+none_noted used sides = λ k old new behind was now. subst (IsLonger [] old) (same_Some old new (sym was ∙ now)) (not_longer old)
 
 -- a change made for one index more
 pub more_changes :

@@ -1,5 +1,5 @@
 -- What a change of a row, made ready, appends to the side-files of a build.
-use Rattle.std.specs.Prelude.{◌≡◌, ℕ, List, [], ◌++◌, map, Option, Some, None}
+use Rattle.std.specs.Prelude.{◌≡◌, ℕ, ◌≤◌, List, [], ◌++◌, length, map, Option, Some, None}
 use Rattle.std.specs.List.{All, slice_get}
 use Rattle.keybytes.specs.Keys.{KeySpecValue}
 use Rattle.keybytes.specs.declared.rid.Rid.{Rid}
@@ -30,7 +30,7 @@ AreChangesOf b ready changes = (index : ℕ) (change : Change) → slice_get cha
 abbrev pub without_room : SideFileValue → SideFileValue
 without_room side = record side { room = 0 }
 
--- these entries were appended to a side-file, and nothing else was done to it
+-- these entries were appended to a side-file, and but for its room nothing else was done to it
 pub record IsLonger (entries : List Entry) (old new : SideFileValue) : Type 0 where
   pub fed : new.fed ≡ old.fed
   pub left : new.left ≡ old.left ++ entries
@@ -52,3 +52,13 @@ abbrev pub HaveNoted : BuildState → Ready → List SideFileValue → List Side
 HaveNoted b ready olds news =
     (k : ℕ) (spec : KeySpecValue) (old new : SideFileValue) → slice_get b.specs k ≡ Some spec → slice_get olds k ≡ Some old → slice_get news k ≡ Some new
     → IsLonger (map (entry_of b.number) (noted b spec ready.rid ready.old ready.new)) old new
+
+-- how many side-files the running build uses, one for each of its indexes
+abbrev pub sides_used : Option BuildState → ℕ
+sides_used None = 0
+sides_used (Some b) = length b.specs
+
+-- nothing was appended to the side-files behind the first so many
+abbrev pub OthersStay : ℕ → List SideFileValue → List SideFileValue → Type 0
+OthersStay used olds news =
+    (k : ℕ) (old new : SideFileValue) → used ≤ k → slice_get olds k ≡ Some old → slice_get news k ≡ Some new → IsLonger [] old new

@@ -3,7 +3,7 @@ ghost use Rattle.std.specs.Prelude.{◌≡◌, ◌++◌, ◌<◌, ◌≤◌, len
 ghost use Rattle.visibility.specs.SideEntries.{entries_of_change};
 ghost use Rattle.side_file.specs.Entries.{entry_of};
 ghost use Rattle.side_file.specs.SideFileValue.{SideFileValue};
-ghost use Rattle.build_scan.specs.Noting.{FitsBuild, IsChangeOf, AreChangesOf, HaveAppended, HaveNoted, without_room};
+ghost use Rattle.build_scan.specs.Noting.{FitsBuild, IsChangeOf, AreChangesOf, HaveAppended, HaveNoted, OthersStay, sides_used, without_room};
 ghost use Rattle.build_scan.specs.SideFiles.{put_ends};
 
 use crate::table_scan::TableScan;
@@ -97,7 +97,8 @@ fn append(side: &mut SideFile, build: u64, rid: Rid, change: Change)
     }
 }
 
-/// Makes the entries of a change for each index of the build, and appends them; for want of memory nothing changes.
+/// Makes the entries of a change for each index of the build, and appends them. Where there is no memory nothing changes but the room, and where
+/// no build runs there is nothing to note.
 pub fn note(
     alloc: Global,
     sides: &mut Vec<SideFile>,
@@ -107,6 +108,7 @@ pub fn note(
     requires fits { IfSome build.now (FitsBuild ready.now) }
     requires many { IfSome build.now (λ b. length b.specs ≤ length sides.old.items) }
     ensures noted { OnOk result (IfSome build.now (λ b. HaveNoted b ready.now sides.old.items sides.new.items)) }
+    ensures others { OnOk result (OthersStay (sides_used build.now) sides.old.items sides.new.items) }
     ensures unchanged { OnErr result (map without_room sides.new.items ≡ map without_room sides.old.items) }
     ensures ends { put_ends sides.new.items ≡ put_ends sides.old.items }
     ensures memory { IfErr result (λ fault. fault ≡ Fault.Memory) }

@@ -7,9 +7,10 @@ ghost use Rattle.build_scan.specs.SideFiles.{side_rings, taken_rings, drained_en
 use rtrb::Consumer;
 use side_file::{Entry, SideFile};
 
-/// Drops all entries that were not fed.
+/// Forgets all entries of each side-file, those that were fed too; what waits in a ring stays there.
 pub fn reset_all(sides: &mut Vec<SideFile>)
-    ensures { put_ends sides.new.items ≡ put_ends sides.old.items }
+    ensures left { All (λ side. (side.left ≡ []) × (side.fed ≡ [])) sides.new.items }
+    ensures ends { put_ends sides.new.items ≡ put_ends sides.old.items }
 {
     for index in 0..sides.len() {
         sides[index].reset();

@@ -1,11 +1,11 @@
-use Rattle.std.proofs.Common.{◌≡◌, ap, ◌∙◌, sym, subst, List, Option, map}
+use Rattle.std.proofs.Common.{◌≡◌, ap, ◌∙◌, sym, subst, List, Option, length, map}
 use Rattle.std.specs.Prelude.{IfSome}
 use Rattle.side_file.specs.SideFileValue.{SideFileValue}
-use Rattle.build_scan.specs.Noting.{HaveAppended, HaveNoted, without_room}
+use Rattle.build_scan.specs.Noting.{HaveAppended, HaveNoted, OthersStay, sides_used, without_room}
 use Rattle.build_scan.specs.SideFiles.{put_ends}
 use Rattle.build_scan.proofs.Places.{mapped}
 use Rattle.build_events.specs.CoreState.{BuildState}
-use Rattle.build_scan.proofs.Noting.{all_noted, noted_over}
+use Rattle.build_scan.proofs.Noting.{all_noted, none_noted, noted_over, others_stay}
 use Rattle.build_scan.proofs.notes.note.Goals as goal
 
 -- room changes no end
@@ -32,3 +32,16 @@ returns-clause-noted c =
     subst (λ (o : Option BuildState). IfSome o (λ x. HaveNoted x ready c.args.sides.now.items news)) (sym c.in-Some.is)
     (noted_over b ready c.args.sides.now.items mids news c.reserve_each.ensures.same
     (all_noted b ready changes mids news c.in_ok-changes.ensures.many c.in_ok-changes.ensures.ok appended))
+
+pub returns-in_default-clause-others : goal.returns-in_default-clause-others
+returns-in_default-clause-others c = none_noted _ c.args.sides.now.items
+
+pub returns-clause-others : goal.returns-clause-others
+returns-clause-others c =
+    let b : BuildState = c.in-Some.build in
+    let ready = c.args.ready.now in
+    let olds = c.args.sides.now.items in
+    let mids = c.reserve_each.new.sides.items in
+    let news = c.append_each.new.sides.items in
+    subst (λ (o : Option BuildState). OthersStay (sides_used o) olds news) (sym c.in-Some.is)
+    (others_stay _ ready.rid c.in_ok-changes.changes.items olds mids news (length b.specs) c.in_ok-changes.ensures.many c.reserve_each.ensures.same c.append_each.ensures.appended)

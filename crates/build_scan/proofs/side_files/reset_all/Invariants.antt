@@ -1,9 +1,11 @@
 use Rattle.std.proofs.Common.{◌≡◌, length}
 use Rattle.build_scan.specs.SideFiles.{put_ends}
+use Rattle.build_scan.proofs.Emptied.{AreForgotten}
 use Rattle.build_scan.proofs.side_files.reset_all.Given as goal
 
 abbrev pub invariant-loop-index : goal.invariant-loop-index
 invariant-loop-index l = record {
+  forgotten : AreForgotten l.index l.sides.items;
   ends : put_ends l.sides.items ≡ put_ends l.initial.sides.items;
   many : length l.sides.items ≡ l.index-end;
 }
