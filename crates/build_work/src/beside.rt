@@ -151,8 +151,9 @@ impl<S: Spool, T: Table> Building<S, T> {
         self.work.as_ref()
     }
 
-    /// The spools, while no build runs. Once a build that had them has ended they are ended.
+    /// The spools that no worker has: all of them, while no build runs. Once a build that had them has ended they are ended.
     pub fn spools(&self) -> &[S]
+        ensures own { map (spool_value S.runs S.open_run S.stake) result.now ≡ self.now.spools }
         ensures stakes { self.now.work ≡ None → map S.stake result.now ≡ (spools_state self.now.given (all_spools self.now.workers self.now.spools)).stakes }
         ensures ended { self.now.work ≡ None → (spools_state self.now.given (all_spools self.now.workers self.now.spools)).left ≡ [] → All S.ended result.now }
     {
@@ -251,7 +252,8 @@ impl<S: Spool, T: Table> Building<S, T> {
 
     /// Whether a build runs whose indexes are being loaded.
     pub fn is_loading(&self) -> bool
-        ensures { IfSome self.now.work (λ work. result ≡ work.loading) }
+        ensures loading { IfSome self.now.work (λ work. result ≡ work.loading) }
+        ensures none { self.now.work ≡ None → result ≡ false }
     {
         match &self.work {
             Some(work) => work.is_loading(),

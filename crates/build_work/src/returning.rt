@@ -55,7 +55,8 @@ fn put_behind<S: Spool>(own: Vec<S>, spools: &mut Vec<S>)
     }
 }
 
-/// The workers give their rings back, before those that are idle. There is room for them.
+/// The workers give their rings back, before those that are idle. There is room for them. They have handed their spools over before: what
+/// spools they still have are lost.
 pub fn free_rings<S: Spool, T: Table>(workers: &mut Vec<Worker<S, T>>, idle: &mut Vec<Intake>)
     requires { length (intakes workers.old.items idle.old.items) ≤ vec_capacity idle.old }
     ensures workers { workers.new.items ≡ [] }

@@ -23,7 +23,7 @@ use heap_table::PageImage;
 use keybytes::{Fault, KeySpec, Schema, copied_specs};
 use run_spool::Spool;
 
-/// The most indexes that a table may have.
+/// The most ready indexes of a table, counted with those that a plan is to build.
 const READY_MAX: usize = 32;
 
 /// Whether all specifications are of rows of these columns.
@@ -183,7 +183,8 @@ impl<T: Table> Live<T> {
         Ok(())
     }
 
-    /// Gives the build up, and the fence with it. [`Fault::NoBuild`]. Takes no memory.
+    /// Gives the build up, and the fence with it; what stands beside the table is given up by [`Building::give_up`]. [`Fault::NoBuild`].
+    /// Takes no memory.
     pub fn abandon(&mut self) -> Result<(), Fault>
         ensures abandoned { OnOk result (self.new ≡ record self.old { state = abandoned self.old.state }) }
         ensures works { OnOk result ((building : BuildingValue) → WorksOn self.new (given_up building)) }
