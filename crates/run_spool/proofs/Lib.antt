@@ -7,3 +7,4 @@ pub mod RunSteps
 pub mod SpoolSteps
 pub mod PairRuns
 pub mod EachSpool
+pub mod FullFor

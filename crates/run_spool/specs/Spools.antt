@@ -53,6 +53,15 @@ module _ {S : Type 0} where
     pub there : slice_get spools index ≡ Some spool
     pub full : IsFullForOne is_full spool
 
+  -- one of these spools has no room left for a pair that is given for its index
+  pub record HasFullFor (is_full : S → Pair → Type 0) (given : ℕ → Pair → Type 0) (spools : List S) : Type 0 where
+    pub index : ℕ
+    pub spool : S
+    pub there : slice_get spools index ≡ Some spool
+    pub pair : Pair
+    pub was_given : given index pair
+    pub full : is_full spool pair
+
 -- if a fault tells that a page is wanted, this holds
 abbrev pub NoPageOnlyIf : Type 0 → Fault → Type 0
 NoPageOnlyIf P fault = fault ≡ NoPage → P
