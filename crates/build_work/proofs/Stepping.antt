@@ -1,6 +1,6 @@
 -- What a step of a worker of the build that runs leaves beside a table.
 use Rattle.std.proofs.Common.{◌≡◌, ℕ, ◌+◌, ◌++◌, true, false, List, length, map, set, Option, Some, None, sym, ap, ◌∙◌, subst, length-set, length-append}
-use Rattle.std.specs.Prelude.{Result, Ok, Err, IfErr, IfOk, IfSome, OnOk}
+use Rattle.std.specs.Prelude.{Result, Ok, Err, IfErr, IfOk, IfSome, OnErr, OnOk}
 use Rattle.std.specs.List.{slice_get}
 use Rattle.std.proofs.lemmas.List.{length-map, map-append, map-set}
 use Rattle.keybytes.specs.declared.fault.Fault.{Fault}
@@ -10,10 +10,10 @@ use Rattle.side_file.specs.Ends.{RingId}
 use Rattle.side_file.specs.declared.entry.Entry.{Entry}
 use Rattle.spool_ledger.specs.Accounts.{Stake}
 use Rattle.building.specs.IntakeValue.{IntakeValue}
-use Rattle.building.specs.SpoolValue.{HaveFull, SpoolValue, stakes_of}
+use Rattle.building.specs.SpoolValue.{HaveFullFor, SpoolValue, stakes_of}
 use Rattle.building.specs.TakeEnd.{TakeEnd}
-use Rattle.building.specs.Work.{after_seal}
-use Rattle.building.specs.WorkerValue.{HasSealed, HasTaken, SameWorker, WorkerValue}
+use Rattle.building.specs.Work.{TakesSome, after_seal}
+use Rattle.building.specs.WorkerValue.{HasReceived, HasSealed, HasTaken, SameWorker, WorkerValue}
 use Rattle.build_work.specs.BuildingValue.{BuildingValue, WorkValue, intakes}
 use Rattle.build_work.specs.FullSpools.{HadFull}
 use Rattle.build_work.specs.Holding.{all_spools}
@@ -107,17 +107,19 @@ module _
 
   module _ {S : Type 0} (is_full : S → Pair → Type 0) (runs_of : S → List (List Pair)) (open_run : S → List Pair) (stake : S → Option Stake) where
     full_with :
-        (answer : Result ℕ Fault) → IfErr answer (NoPageOnlyIf (HaveFull is_full runs_of open_run stake after.spools))
+        (answer : Result ℕ Fault) → OnErr answer (TakesSome it.intake.end after.intake.end)
+        → IfErr answer (NoPageOnlyIf (HaveFullFor is_full runs_of open_run stake (HasReceived after) after.spools))
         → IfErr answer (NoPageOnlyIf (HadFull is_full runs_of open_run stake it))
-    full_with (Ok images) full = tt
-    full_with (Err fault) full = λ page. record { spools = after.spools; stakes = stays.stakes; full = full page }
+    full_with (Ok images) took full = tt
+    full_with (Err fault) took full = λ page. record { after = after; same = stays; took = took; full = full page }
 
     -- a page was missing only where one of its spools was full
     pub full_step :
-        (answer : Result ℕ Fault) → IfSome (slice_get old.workers k) (λ w. w.fault ≡ None)
-        → (it.fault ≡ None → IfErr answer (NoPageOnlyIf (HaveFull is_full runs_of open_run stake after.spools)))
+        (answer : Result ℕ Fault) → IfSome (slice_get old.workers k) (λ w. w.fault ≡ None) → OnErr answer (TakesSome it.intake.end after.intake.end)
+        → (it.fault ≡ None → IfErr answer (NoPageOnlyIf (HaveFullFor is_full runs_of open_run stake (HasReceived after) after.spools)))
         → IfErr answer (NoPageOnlyIf (IfSome (slice_get old.workers k) (HadFull is_full runs_of open_run stake)))
-    full_step answer fine full =
+    full_step answer fine took full =
         let here : slice_get old.workers k ≡ Some it = ap (λ (b : BuildingValue). slice_get b.workers k) (sym same) ∙ at in
         let sound : it.fault ≡ None = subst (λ (o : Option WorkerValue). IfSome o (λ w. w.fault ≡ None)) here fine in
-        subst (λ (o : Option WorkerValue). IfErr answer (NoPageOnlyIf (IfSome o (HadFull is_full runs_of open_run stake)))) (sym here) (full_with answer (full sound))
+        subst (λ (o : Option WorkerValue). IfErr answer (NoPageOnlyIf (IfSome o (HadFull is_full runs_of open_run stake)))) (sym here)
+        (full_with answer took (full sound))

@@ -1,12 +1,15 @@
 -- Which events spool pairs, and the full spool behind one that wants a page.
-use Rattle.std.specs.Prelude.{◌≡◌, ℕ, ◌+◌, ◌*◌, ◌<◌, ◌⊎◌, List, length, Option, None, Some}
+use Rattle.std.specs.Prelude.{◌≡◌, ℕ, ◌+◌, ◌*◌, ◌⊎◌, List, Contains, flat_map, length, Option, None, Some}
 use Rattle.std.specs.List.{slice_get}
+use Rattle.keybytes.specs.Keys.{KeySpecValue}
 use Rattle.keybytes.specs.declared.fault.Fault.{Fault}
 use Rattle.keybytes.specs.declared.fault.Fault.TheVariants.{NoPage}
 use Rattle.keybytes.specs.declared.pair.Pair.{Pair}
+use Rattle.heap_log.specs.declared.record.LogRec.{LogRec}
 use Rattle.spool_ledger.specs.Accounts.{Stake}
-use Rattle.run_spool.specs.Spools.{IsFullForOne}
-use Rattle.build_events.specs.CoreState.{CoreState}
+use Rattle.build_events.specs.CoreState.{BuildState, CoreState, scanning_of}
+use Rattle.build_events.specs.Scanning.{pairs_at_scan}
+use Rattle.build_events.specs.Workers.{put_to}
 use Rattle.build_events.specs.BuildSteps.{OnBuild}
 use Rattle.build_events.specs.declared.event.Event.{Event}
 use Rattle.build_events.specs.declared.event.Event.TheVariants.{Begin, Insert, Update, Delete, Undo, Commit, Start, Scan, Digest, Seal, Load, Feed, Apply}
@@ -31,18 +34,26 @@ IfSpooling Fence P = Unit {0}
 IfSpooling Switch P = Unit {0}
 IfSpooling Abandon P = Unit {0}
 
+-- the pairs of the pages that were copied for a worker, as each page was then
+abbrev pub pairs_put_to : BuildState → KeySpecValue → List LogRec → ℕ → List Pair
+pairs_put_to b spec log worker = flat_map (pairs_at_scan (scanning_of b spec) log) (put_to b worker)
+
 module _ {S : Type 0} (is_full : S → Pair → Type 0) (stake : S → Option Stake) where
-  -- a spool of that worker, for one of so many indexes, had no room left for a pair; pool and quota tell which spool it is
-  pub record WasFull (indexes worker : ℕ) (stakes : List (Option Stake)) : Type 0 where
+  -- a spool of that worker, for one of the build's indexes, had no room left for a pair of a page that was copied for the worker; pool and
+  -- quota tell which spool it is
+  pub record WasFull (b : BuildState) (log : List LogRec) (worker : ℕ) (stakes : List (Option Stake)) : Type 0 where
     pub index : ℕ
-    pub of_build : index < indexes
+    pub spec : KeySpecValue
+    pub of_build : slice_get b.specs index ≡ Some spec
     pub spool : S
-    pub there : slice_get stakes (worker * indexes + index) ≡ Some (stake spool)
-    pub full : IsFullForOne is_full spool
+    pub there : slice_get stakes (worker * length b.specs + index) ≡ Some (stake spool)
+    pub pair : Pair
+    pub copied : Contains (pairs_put_to b spec log worker) pair
+    pub full : is_full spool pair
 
   -- a spool of that worker of the running build was full
   abbrev pub WorkerWasFull : CoreState → ℕ → Type 0
-  WorkerWasFull s worker = OnBuild s.live.build (λ b. WasFull (length b.specs) worker s.spools.stakes)
+  WorkerWasFull s worker = OnBuild s.live.build (λ b. WasFull b s.live.heap.log worker s.spools.stakes)
 
   -- a fault that doesn't repeat what the build was spoiled for tells of a page only if a spool of that worker was full
   abbrev pub NoPageOnlyIfFull : CoreState → ℕ → Fault → Type 0

@@ -1,5 +1,5 @@
 -- Digests of a worker, one after another.
-use Rattle.std.proofs.Common.{◌≡◌, ℕ, ◌+◌, ◌*◌, ◌/◌, ◌%◌, ◌≤◌, true, List, [], ◌∷◌, ◌++◌, length, take, drop, append_assoc}
+use Rattle.std.proofs.Common.{◌≡◌, ℕ, ◌+◌, ◌*◌, ◌/◌, ◌%◌, ◌≤◌, true, false, List, [], ◌∷◌, ◌++◌, length, take, drop, append_assoc}
 use Rattle.std.proofs.Common.{refl, sym, ap, ap₂, ◌∙◌, arith, length-append}
 use Rattle.std.proofs.lemmas.List.{length-take, drop-drop}
 use Rattle.std.proofs.Math.Nat.{mod-add-div', add-mul-mod_self_right}
@@ -16,11 +16,25 @@ use Rattle.building.proofs.ManyPairs.{images-append, images_few}
 abbrev ImageList : Type 0
 ImageList = List ImageValue
 
+no_copy : (copies : List Copied) → length copies ≡ 0 → copies ≡ []
+no_copy [] none = refl
+no_copy (copied ∷ copies) none = absurd (omega (arith, none))
+
 -- the next copy, which is of its build and of these columns
 pub next_one :
     (kinds : List Kind) (worker : IntakeValue) (copied : Copied) (rest : List Copied) → worker.end.known ≡ copied ∷ rest
     → is_for worker.build kinds copied ≡ true → next_images 1 kinds worker ≡ copied.image ∷ []
 next_one kinds worker copied rest known own = rw (known, own) refl
+
+-- the next copy, which is not
+pub next_other :
+    (kinds : List Kind) (worker : IntakeValue) (copied : Copied) (rest : List Copied) → worker.end.known ≡ copied ∷ rest
+    → is_for worker.build kinds copied ≡ false → next_images 1 kinds worker ≡ []
+next_other kinds worker copied rest known other = rw (known, other) refl
+
+-- no next copy
+pub next_missing : (kinds : List Kind) (worker : IntakeValue) → length worker.end.known ≡ 0 → next_images 1 kinds worker ≡ []
+next_missing kinds worker none = ap (λ copies. images_of worker.build kinds (take 1 copies)) (no_copy worker.end.known none)
 
 -- the next n copies, and the m after them
 pub taking_more : {X : Type 0} (n m : ℕ) (end : TakeEnd X) → after_taking m (after_taking n end) ≡ after_taking (n + m) end

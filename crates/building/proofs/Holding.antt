@@ -8,7 +8,7 @@ use Rattle.keybytes.specs.declared.pair.Pair.{Pair}
 use Rattle.heap_table.specs.Images.{ImageValue}
 use Rattle.run_spool.specs.Spools.{all_pairs, with_closed_run}
 use Rattle.run_maker.specs.Making.{Holdings, AddsAt, Takes, Seals, spec_at}
-use Rattle.run_maker.proofs.Spoolings.{adds_more, all_closed}
+use Rattle.run_maker.proofs.Spoolings.{adds_more, adds_none, all_closed}
 use Rattle.building.specs.Holding.{TakesAll, HoldsMore, held_at}
 use Rattle.building.specs.ImagePairs.{HavePairs}
 use Rattle.building.proofs.ManyPairs.{have_split}
@@ -21,6 +21,12 @@ takes_one specs image images old new one takes = λ i lt made have.
     let here : HavePairs (spec_at specs i) (image ∷ []) made = subst (λ xs. HavePairs (spec_at specs i) xs made) one have in
     let is : made ≡ here.0 = here.4 ∙ (ap (λ ps. here.0 ++ ps) here.3 ∙ append-nil here.0) in
     subst (λ ps. AddsAt i ps old new) (sym is) (takes i lt here.0 here.2)
+
+-- no image
+pub takes_nothing : (specs : List KeySpecValue) (images : List ImageValue) (held : Holdings) → images ≡ [] → TakesAll specs images held held
+takes_nothing specs images held none = λ i lt made have.
+    let no_pair : made ≡ [] = subst (λ xs. HavePairs (spec_at specs i) xs made) none have in
+    subst (λ ps. AddsAt i ps held held) (sym no_pair) (adds_none (get_or held.runs i []) (get_or held.begun i []))
 
 -- images, and then more of them
 pub takes_more :

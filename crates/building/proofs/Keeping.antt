@@ -105,17 +105,18 @@ seal_counts n old new intake after schema is counts =
     let more = counts_same old new (after_digest n old.schema intake) schema (counts_more n old intake counts) in
     subst (λ (i : IntakeValue). IsCounting i new) (sym is) (record { taken = more.taken; sealed_was_taken = omega arith })
 
+-- the next copies have pairs of each index
+pub have_next :
+    (n : ℕ) (intake : IntakeValue) (kinds : List Kind) (specs : List KeySpecValue) → All (λ spec. spec.kinds ≡ kinds) specs
+    → All IsReadable (next_images n kinds intake) → (i : ℕ) → i < length specs
+    → (pairs : List Pair) × HavePairs (spec_at specs i) (next_images n kinds intake) pairs
+have_next n intake kinds specs columns readable i less =
+    have_pairs (spec_at specs i) kinds (next_images n kinds intake) (all_at (λ (spec : KeySpecValue). spec.kinds ≡ kinds) specs i columns less) readable
+    (images_columns intake.build kinds (take n intake.end.known))
+
 module _
     (n : ℕ) (intake : IntakeValue) (maker : MakerValue) (spools : List SpoolValue) (counts : IsCounting intake maker) (holds : IsHolding intake maker spools)
     (readable : All IsReadable (next_images n maker.schema intake)) where
-  -- the pairs of the next copies
-  made : All (λ spec. spec.kinds ≡ maker.schema) maker.specs → (i : ℕ) → i < length maker.specs
-      → (pairs : List Pair) × HavePairs (spec_at maker.specs i) (next_images n maker.schema intake) pairs
-  made columns i less =
-      have_pairs (spec_at maker.specs i) maker.schema (next_images n maker.schema intake)
-      (all_at (λ (spec : KeySpecValue). spec.kinds ≡ maker.schema) maker.specs i columns less) readable
-      (images_columns intake.build maker.schema (take n intake.end.known))
-
   module _
       (after : IntakeValue) (new : MakerValue) (new_spools : List SpoolValue) (specs : new.specs ≡ maker.specs) (schema : new.schema ≡ maker.schema)
       (columns : All (λ spec. spec.kinds ≡ new.schema) new.specs) (many : length new_spools ≡ length spools)
@@ -126,7 +127,7 @@ module _
         → All (λ begun. length begun < 4096) new.begun → IsHolding after new new_spools
     digest_keeps is takes short =
         let same : (i : ℕ) → spec_at new.specs i ≡ spec_at maker.specs i = λ i. ap (λ (ss : List KeySpecValue). spec_at ss i) specs in
-        let its = made (same_columns maker new specs schema columns) in
+        let its = have_next n intake maker.schema maker.specs (same_columns maker new specs schema columns) readable in
         record {
           many = many ∙ holds.many ∙ sym (ap length specs);
           ready = ready;
@@ -153,7 +154,7 @@ module _
     seal_keeps is more closed =
         let same : (i : ℕ) → spec_at new.specs i ≡ spec_at maker.specs i = λ i. ap (λ (ss : List KeySpecValue). spec_at ss i) specs in
         let none : (i : ℕ) → get_or new.begun i [] ≡ [] = λ i. none_at new.begun i closed in
-        let its = made (same_columns maker new specs schema columns) in
+        let its = have_next n intake maker.schema maker.specs (same_columns maker new specs schema columns) readable in
         record {
           many = many ∙ holds.many ∙ sym (ap length specs);
           ready = ready;

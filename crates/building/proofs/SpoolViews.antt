@@ -8,11 +8,11 @@ use Rattle.std.proofs.lemmas.Simd.{map-map}
 use Rattle.keybytes.specs.declared.pair.Pair.{Pair}
 use Rattle.spool_ledger.specs.Accounts.{Stake}
 use Rattle.heap_table.specs.Images.{IsReadable}
-use Rattle.run_spool.specs.Spools.{AreSorted, HasFull}
+use Rattle.run_spool.specs.Spools.{AreSorted, HasFullFor}
 use Rattle.run_maker.specs.Making.{MakerValue, AreReady}
 use Rattle.building.specs.Holding.{TakesAll, HoldsMore}
 use Rattle.building.specs.IntakeValue.{IntakeValue}
-use Rattle.building.specs.SpoolValue.{SpoolValue, HaveFull, spool_value, runs_of, open_runs_of, stakes_of}
+use Rattle.building.specs.SpoolValue.{SpoolValue, HaveFullFor, spool_value, runs_of, open_runs_of, stakes_of}
 use Rattle.building.specs.Work.{next_images, after_digest, after_seal}
 use Rattle.building.specs.WorkerValue.{IsCounting, IsHolding, holdings}
 use Rattle.building.proofs.Keeping.{digest_keeps, seal_keeps, start_keeps}
@@ -49,11 +49,15 @@ module _ {S : Type 0} (runs : S → List (List Pair)) (open_run : S → List Pai
   spools_ready spools ready = rw (value_runs spools, value_open_runs spools) at ready
 
   -- a full one is seen
-  pub values_full : (is_full : S → Pair → Type 0) (spools : List S) → HasFull is_full spools → HaveFull is_full runs open_run stake (values spools)
-  values_full is_full spools has = record {
+  pub values_full :
+      (is_full : S → Pair → Type 0) (given : ℕ → Pair → Type 0) (spools : List S) → HasFullFor is_full given spools
+      → HaveFullFor is_full runs open_run stake given (values spools)
+  values_full is_full given spools has = record {
     index = has.index;
     spool = has.spool;
     there = slice_get-map (spool_value runs open_run stake) spools has.index ∙ ap (λ (found : Option S). option_map (spool_value runs open_run stake) found) has.there;
+    pair = has.pair;
+    was_given = has.was_given;
     full = has.full;
   }
 

@@ -32,6 +32,10 @@ abbrev pub StopsAfter : ℕ → List Kind → IntakeValue → IntakeValue → Ty
 StopsAfter n kinds old new =
     (counted : ℕ) × (counted ≤ n) × (n ≤ counted + 1) × (new ≡ record (after_digest counted kinds old) { end = after_taking n old.end })
 
+-- an end took the next copies that it has seen, or none
+abbrev pub TakesSome : TakeEnd Copied → TakeEnd Copied → Type 0
+TakesSome old new = (n : ℕ) × (n ≤ length old.known) × (new ≡ after_taking n old)
+
 -- all that is taken is sealed
 abbrev pub after_seal : IntakeValue → IntakeValue
 after_seal worker = record worker { sealed = worker.taken }

@@ -4,10 +4,12 @@ use Rattle.std.specs.List.{All}
 use Rattle.keybytes.specs.Keys.{KeySpecValue}
 use Rattle.keybytes.specs.declared.fault.Fault.{Fault}
 use Rattle.keybytes.specs.declared.fault.Fault.TheVariants.{NoPage, Memory}
+use Rattle.keybytes.specs.declared.pair.Pair.{Pair}
 use Rattle.heap_table.specs.Images.{ImageValue}
 use Rattle.run_spool.specs.Spools.{AreSorted}
 use Rattle.run_maker.specs.Making.{MakerValue, AreReady, Holdings, spec_at}
 use Rattle.building.specs.Holding.{HoldsPairs, HoldsOpen}
+use Rattle.building.specs.ImagePairs.{IsOnOneOf}
 use Rattle.building.specs.IntakeValue.{IntakeValue}
 use Rattle.building.specs.SpoolValue.{SpoolValue, runs_of, open_runs_of, stakes_of}
 use Rattle.building.specs.Taking.{received_images, unsealed_images}
@@ -44,6 +46,10 @@ pub record IsHolding (intake : IntakeValue) (maker : MakerValue) (spools : List 
   pub sorted : All AreSorted (runs_of spools)
   pub holds : (i : ℕ) → i < length maker.specs → HoldsAt i (spec_at maker.specs i) (received_images maker.schema intake) (holdings maker spools)
   pub opened : (i : ℕ) → i < length maker.specs → HoldsOpen (spec_at maker.specs i) (unsealed_images maker.schema intake) (get_or maker.begun i [])
+
+-- a pair of index i that is that of a row on one of the images of its build that the worker received
+abbrev pub HasReceived : WorkerValue → ℕ → Pair → Type 0
+HasReceived worker i pair = IsOnOneOf (spec_at worker.maker.specs i) (received_images worker.maker.schema worker.intake) pair
 
 -- memory or a page was missing
 abbrev pub IsShortage : Fault → Type 0

@@ -2,11 +2,12 @@ ghost use Rattle.std.specs.Prelude.{◌≡◌, ◌≤◌, ◌⊎◌, ◌+◌, �
 ghost use Rattle.std.specs.Prelude.{IfErr, IfOk, OnOk, OnErr};
 ghost use Rattle.side_file.specs.Ends.{ring_take};
 ghost use Rattle.heap_table.specs.Images.{IsReadable};
-ghost use Rattle.run_spool.specs.Spools.{AreSorted, HasFull, NoPageOnlyIf};
+ghost use Rattle.run_spool.specs.Spools.{AreSorted, HasFullFor, NoPageOnlyIf};
 ghost use Rattle.run_maker.specs.Making.{AreReady};
 ghost use Rattle.run_maker.specs.Spooling.{MemoryOnlyIf};
-ghost use Rattle.building.specs.Holding.{TakesAll, HoldsMore};
+ghost use Rattle.building.specs.Holding.{TakesAll, HoldsMore, IsBegunOrOnOneOf};
 ghost use Rattle.building.specs.TakeEnd.{take_end, after_taking, PutEndLooked};
+ghost use Rattle.building.specs.Taking.{received_images};
 ghost use Rattle.building.specs.Work.{at_start, IsIntake, StopsAfter, knowing, next_images, after_digest, after_seal};
 
 use crate::{Copied, PagePutter};
@@ -141,7 +142,8 @@ impl Intake {
         ensures uncounted { OnErr result (self.new.taken ≡ self.old.taken) }
         ensures unsealed { self.new.sealed ≡ self.old.sealed }
         ensures fault { IfErr result (λ fault. (fault ≡ Fault.NoPage) ⊎ (fault ≡ Fault.Memory)) }
-        ensures full { IfErr result (NoPageOnlyIf (HasFull S.is_full spools.new)) }
+        ensures full { IfErr result (NoPageOnlyIf
+            (HasFullFor S.is_full (IsBegunOrOnOneOf maker.old.specs (next_images 1 maker.old.schema self.old) maker.old.begun) spools.new)) }
         ensures want { IfErr result (MemoryOnlyIf (AreReady (map S.runs spools.new) (map S.open_run spools.new))) }
     {
         if self.seen() == 0 {
@@ -181,9 +183,11 @@ impl Intake {
         ensures ring { self.new.end.ring ≡ self.old.end.ring }
         ensures failed { OnErr result ((n : ℕ) × (n ≤ length self.old.end.known) × StopsAfter n maker.old.schema self.old self.new) }
         ensures fault { IfErr result (λ fault. (fault ≡ Fault.NoPage) ⊎ (fault ≡ Fault.Memory)) }
-        ensures full { IfErr result (NoPageOnlyIf (HasFull S.is_full spools.new)) }
+        ensures full { IfErr result (NoPageOnlyIf
+            (HasFullFor S.is_full (IsBegunOrOnOneOf maker.old.specs (received_images maker.old.schema self.new) maker.old.begun) spools.new)) }
         ensures want { IfErr result (MemoryOnlyIf (AreReady (map S.runs spools.new) (map S.open_run spools.new))) }
     {
+        maker.laws();
         let mut images = 0;
         for _ in 0..self.seen() {
             images += self.digest(maker, spools)?;

@@ -1,11 +1,11 @@
-ghost use Rattle.std.specs.Prelude.{◌≡◌, ◌+◌, ◌++◌, ◌<◌, ◌≤◌, [], All, length, map, slice_get, true, false, Some, None, Err, IfOk, IfErr, IfSome, OnOk};
+ghost use Rattle.std.specs.Prelude.{◌≡◌, ◌+◌, ◌++◌, ◌<◌, ◌≤◌, [], All, length, map, slice_get, true, false, Some, None, Err, IfOk, IfErr, IfSome, OnOk, OnErr};
 ghost use Rattle.run_spool.specs.Spools.{NoPageOnlyIf};
 ghost use Rattle.run_maker.specs.Making.{AreReady};
 ghost use Rattle.run_maker.specs.Spooling.{MemoryOnlyIf};
-ghost use Rattle.building.specs.SpoolValue.{HaveFull, spool_value, runs_of, open_runs_of};
+ghost use Rattle.building.specs.SpoolValue.{HaveFullFor, spool_value, runs_of, open_runs_of};
 ghost use Rattle.building.specs.TakeEnd.{PutEndLooked};
-ghost use Rattle.building.specs.Work.{at_start, knowing};
-ghost use Rattle.building.specs.WorkerValue.{HasTaken, IsCounting, IsHolding, IsShortage, SameWorker};
+ghost use Rattle.building.specs.Work.{at_start, knowing, TakesSome};
+ghost use Rattle.building.specs.WorkerValue.{HasReceived, HasTaken, IsCounting, IsHolding, IsShortage, SameWorker};
 
 mod sealing;
 
@@ -179,7 +179,9 @@ impl<S: Spool, T: Table> Worker<S, T> {
         ensures handed { IfOk result (λ images. self.old.handed ≡ true → (images ≡ 0) × (self.new ≡ self.old)) }
         ensures fault { IfErr result (λ fault. self.new.fault ≡ Some fault) }
         ensures short { IfErr result IsShortage }
-        ensures full { self.old.fault ≡ None → IfErr result (NoPageOnlyIf (HaveFull S.is_full S.runs S.open_run S.stake self.new.spools)) }
+        ensures took { OnErr result (TakesSome self.old.intake.end self.new.intake.end) }
+        ensures full { self.old.fault ≡ None → IfErr result (NoPageOnlyIf
+            (HaveFullFor S.is_full S.runs S.open_run S.stake (HasReceived self.new) self.new.spools)) }
         ensures want { self.old.fault ≡ None → IfErr result (MemoryOnlyIf (AreReady (runs_of self.new.spools) (open_runs_of self.new.spools))) }
     {
         if let Some(fault) = self.fault {

@@ -1,10 +1,10 @@
 -- What a run that is spooled leaves, and pairs that are held one after another.
-use Rattle.std.proofs.Common.{◌≡◌, ℕ, ◌+◌, ◌%◌, ◌<◌, List, [], ◌∷◌, ◌++◌, length, reverse, append_assoc, append-nil, sym, ap, ◌∙◌, subst, arith}
+use Rattle.std.proofs.Common.{◌≡◌, ℕ, ◌+◌, ◌%◌, ◌<◌, List, [], ◌∷◌, ◌++◌, length, reverse, append_assoc, append-nil, sym, ap, ◌∙◌, subst, arith, inl, inr}
 use Rattle.std.specs.Prelude.{Result, Ok, Err, OnOk, Contains, IsPermutation}
 use Rattle.std.specs.List.Sorted.{IsSorted}
 use Rattle.std.proofs.lemmas.List.{length_push, length-append, reverse-reverse}
-use Rattle.std.proofs.lemmas.List.Elements.{All-push, Contains-push, Contains-append_right}
-use Rattle.std.proofs.lemmas.List.Sorted.{Contains-permutation, IsPermutation-append_left, IsPermutation-append_right, IsPermutation-reverse, IsPermutation-sym, IsPermutation-trans, length_permutation}
+use Rattle.std.proofs.lemmas.List.Elements.{All-contains, All-contains_itself, All-nil, All-push, All-weaker, Contains-append_cases, Contains-append_left, Contains-append_right, Contains-push}
+use Rattle.std.proofs.lemmas.List.Sorted.{Contains-permutation, IsPermutation-append_left, IsPermutation-append_right, IsPermutation-refl, IsPermutation-reverse, IsPermutation-sym, IsPermutation-trans, length_permutation}
 use Rattle.std.proofs.lemmas.Grind.{flat_map-append}
 use Rattle.keybytes.specs.Pairs.{pair_cmp}
 use Rattle.keybytes.specs.declared.pair.Pair.{Pair}
@@ -39,9 +39,28 @@ spooled_adds old new begun pair pairs is full s =
     let some : 0 < length s.run = omega (arith, full, length_permutation pairs s.run s.same) in
     record {
       all = rw (held, whole) (IsPermutation-append_right (all_pairs old) pairs s.run s.same);
+      kept = All-nil (Contains (begun ++ pair ∷ []));
       count = sym (ap (λ (n : ℕ). n % 4096) long);
       runs_many = omega (arith, long, ap length s.closed, one_closed old s.run some);
     }
+
+-- no pair more
+pub adds_none : (runs : List (List Pair)) (begun : List Pair) → Adds [] runs begun runs begun
+adds_none runs begun = record {
+  all = rw (append-nil (all_pairs runs ++ begun)) (IsPermutation-refl (all_pairs runs ++ begun));
+  kept = rw (append-nil begun) (All-contains_itself begun);
+  count = omega arith;
+  runs_many = omega arith;
+}
+
+-- a pair more that doesn't make a run full
+pub one_begun : (runs : List (List Pair)) (begun : List Pair) (pair : Pair) → Adds (pair ∷ []) runs begun runs (begun ++ pair ∷ [])
+one_begun runs begun pair = record {
+  all = rw (append_assoc (all_pairs runs) begun (pair ∷ [])) (IsPermutation-refl (all_pairs runs ++ (begun ++ pair ∷ [])));
+  kept = All-contains_itself (begun ++ pair ∷ []);
+  count = ap (λ (n : ℕ). n % 4096) (length_push begun pair);
+  runs_many = omega (arith, length_push begun pair);
+}
 
 -- pairs, and then more
 pub adds_more : (made more : List Pair) (runs0 : List (List Pair)) (begun0 : List Pair) (runs1 : List (List Pair)) (begun1 : List Pair)
@@ -50,9 +69,16 @@ pub adds_more : (made more : List Pair) (runs0 : List (List Pair)) (begun0 : Lis
 adds_more made more runs0 begun0 runs1 begun1 runs2 begun2 first then =
     let start = all_pairs runs0 ++ begun0 in
     let middle = all_pairs runs1 ++ begun1 in
+    let was : (pair : Pair) → Contains (begun1 ++ more) pair → Contains ((begun0 ++ made) ++ more) pair =
+    λ pair now. elim (Contains-append_cases begun1 more pair now) [
+      | inl before ↦
+          Contains-append_left (begun0 ++ made) more pair (All-contains (Contains (begun0 ++ made)) begun1 pair first.kept before)
+      | inr after ↦ Contains-append_right (begun0 ++ made) more pair after
+    ] in
     record {
       all = rw (← append_assoc start made more)
           (IsPermutation-trans _ _ _ (IsPermutation-append_left more (start ++ made) middle first.all) then.all);
+      kept = rw (← append_assoc begun0 made more) (All-weaker (Contains (begun1 ++ more)) (Contains ((begun0 ++ made) ++ more)) was begun2 then.kept);
       count = omega (arith, first.count, then.count, length-append made more);
       runs_many = omega (arith, first.runs_many, then.runs_many, length-append made more);
     }

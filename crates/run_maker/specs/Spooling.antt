@@ -1,5 +1,5 @@
 -- Pairs that are sorted and spooled.
-use Rattle.std.specs.Prelude.{◌≡◌, ◌+◌, ◌*◌, ◌%◌, List, ◌++◌, length, IsPermutation}
+use Rattle.std.specs.Prelude.{◌≡◌, ◌+◌, ◌*◌, ◌%◌, List, ◌++◌, All, Contains, length, IsPermutation}
 use Rattle.std.specs.List.Sorted.{IsSorted}
 use Rattle.keybytes.specs.Pairs.{pair_cmp}
 use Rattle.keybytes.specs.declared.fault.Fault.{Fault}
@@ -18,6 +18,8 @@ pub record Spooled (pairs : List Pair) (old new : List (List Pair)) : Type 0 whe
 -- are in no run they are one
 pub record Adds (made : List Pair) (old_runs : List (List Pair)) (old_open : List Pair) (runs : List (List Pair)) (begun : List Pair) : Type 0 where
   pub all : IsPermutation ((all_pairs old_runs ++ old_open) ++ made) (all_pairs runs ++ begun)
+  -- what is in no run yet was so before, or is one of these
+  pub kept : All (Contains (old_open ++ made)) begun
   pub count : length begun % 4096 ≡ (length old_open + length made) % 4096
   -- each run more has 4,096 of them
   pub runs_many : 4096 * length runs + length begun ≡ 4096 * length old_runs + (length old_open + length made)

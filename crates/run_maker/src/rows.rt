@@ -2,9 +2,9 @@
 ghost use Rattle.std.specs.Prelude.{◌≡◌, ◌⊎◌, [], ◌∷◌, ◌++◌, All, Some, IfErr, OnOk, map, length, true};
 ghost use Rattle.keybytes.specs.Cells.{fits};
 ghost use Rattle.keybytes.specs.Keys.{key_of};
-ghost use Rattle.run_spool.specs.Spools.{NoneEmpty, AreSorted, IsFullForOneOf, HasFull, NoPageOnlyIf};
+ghost use Rattle.run_spool.specs.Spools.{NoneEmpty, AreSorted, IsFullForOneOf, HasFullFor, NoPageOnlyIf};
 ghost use Rattle.run_maker.specs.Spooling.{Adds, MemoryOnlyIf};
-ghost use Rattle.run_maker.specs.Making.{AreReady, TakesRow};
+ghost use Rattle.run_maker.specs.Making.{AreReady, TakesRow, IsBegunOrOfRow};
 
 use crate::open_run::OpenRun;
 use keybytes::{Fault, KeySpec, Pair, Rid, Row};
@@ -55,7 +55,7 @@ pub(crate) fn add_row<S: Spool>(
     ensures sorted { All AreSorted (map S.runs spools.old) → All AreSorted (map S.runs spools.new) }
     ensures stakes { map S.stake spools.new ≡ map S.stake spools.old }
     ensures fault { IfErr result (λ fault. (fault ≡ Fault.NoPage) ⊎ (fault ≡ Fault.Memory)) }
-    ensures full { IfErr result (NoPageOnlyIf (HasFull S.is_full spools.new)) }
+    ensures full { IfErr result (NoPageOnlyIf (HasFullFor S.is_full (IsBegunOrOfRow specs.now rid (Some row.now) begun.old) spools.new)) }
     ensures want { IfErr result (MemoryOnlyIf (AreReady (map S.runs spools.new) (map S.open_run spools.new))) }
 {
     for i in 0..specs.len() {

@@ -1,11 +1,11 @@
 //! How a worker closes its runs.
-ghost use Rattle.std.specs.Prelude.{◌≡◌, true, false, Some, None, Err, IfOk, IfErr, OnOk};
+ghost use Rattle.std.specs.Prelude.{◌≡◌, true, false, Some, None, Err, IfOk, IfErr, OnOk, OnErr};
 ghost use Rattle.run_spool.specs.Spools.{NoPageOnlyIf};
 ghost use Rattle.run_maker.specs.Making.{AreReady};
 ghost use Rattle.run_maker.specs.Spooling.{MemoryOnlyIf};
-ghost use Rattle.building.specs.SpoolValue.{HaveFull, runs_of, open_runs_of};
-ghost use Rattle.building.specs.Work.{after_seal};
-ghost use Rattle.building.specs.WorkerValue.{HasSealed, IsShortage, SameWorker};
+ghost use Rattle.building.specs.SpoolValue.{HaveFullFor, runs_of, open_runs_of};
+ghost use Rattle.building.specs.Work.{after_seal, TakesSome};
+ghost use Rattle.building.specs.WorkerValue.{HasReceived, HasSealed, IsShortage, SameWorker};
 
 use super::Worker;
 use crate::Table;
@@ -24,7 +24,9 @@ impl<S: Spool, T: Table> Worker<S, T> {
             → (images ≡ 0) × (self.new ≡ record self.old { intake = after_seal self.old.intake })) }
         ensures fault { IfErr result (λ fault. self.new.fault ≡ Some fault) }
         ensures short { IfErr result IsShortage }
-        ensures full { self.old.fault ≡ None → IfErr result (NoPageOnlyIf (HaveFull S.is_full S.runs S.open_run S.stake self.new.spools)) }
+        ensures took { OnErr result (TakesSome self.old.intake.end self.new.intake.end) }
+        ensures full { self.old.fault ≡ None → IfErr result (NoPageOnlyIf
+            (HaveFullFor S.is_full S.runs S.open_run S.stake (HasReceived self.new) self.new.spools)) }
         ensures want { self.old.fault ≡ None → IfErr result (MemoryOnlyIf (AreReady (runs_of self.new.spools) (open_runs_of self.new.spools))) }
     {
         if let Some(fault) = self.fault {

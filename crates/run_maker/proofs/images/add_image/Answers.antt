@@ -1,19 +1,53 @@
-use Rattle.std.proofs.Common.{false, refl, ◌≡◌, ◌+◌, ◌∙◌, ◌++◌, [], List, length, get_or, map, sym, ap, subst, arith}
+use Rattle.std.proofs.Common.{false, refl, ◌≡◌, ◌<◌, ◌+◌, ◌∙◌, ◌++◌, [], ℕ, List, All, length, get_or, map, sym, ap, subst, arith}
+use Rattle.std.specs.Prelude.{Contains}
 use Rattle.std.specs.Option.{option_to_list}
+use Rattle.std.proofs.lemmas.Result.{err_from_is_err_and}
 use Rattle.keybytes.specs.Keys.{KeySpecValue}
 use Rattle.keybytes.specs.declared.kind.Kind.{Kind}
 use Rattle.keybytes.specs.Pairs.{pair_with}
 use Rattle.keybytes.specs.declared.pair.Pair.{Pair}
 use Rattle.heap_table.specs.Images.{Shows, image_slot}
 use Rattle.heap_table.specs.Pages.{rid_at}
+use Rattle.run_spool.proofs.FullFor.{full_given}
 use Rattle.run_maker.specs.Spooling.{Adds}
-use Rattle.run_maker.specs.Making.{spec_at}
-use Rattle.run_maker.proofs.CopyPairs.{pairs_before, slot_more}
-use Rattle.run_maker.proofs.Spoolings.{adds_more}
+use Rattle.run_maker.specs.Making.{IsBegunOrOfRow, IsBegunOrOnCopy, spec_at}
+use Rattle.run_maker.proofs.CopyPairs.{has_pairs, of_copy, pairs_before, slot_more}
+use Rattle.run_maker.proofs.Spoolings.{adds_more, adds_none}
 use Rattle.run_maker.proofs.images.add_image.Goals as goal
 
 pub add_slot-requires-clause-row : goal.add_slot-requires-clause-row
 add_slot-requires-clause-row g c = (c.requires.rows.0 c.loop-slot.slot, c.requires.rows.1 c.loop-slot.slot)
+
+pub loop-slot-init : goal.loop-slot-init
+loop-slot-init g c = record {
+  added = λ i lt made has. adds_none (get_or (map g.S.Spool.runs c.args.spools.now) i []) (get_or c.args.begun.now i []);
+  ready = c.requires.ready;
+  sorted = λ all. all;
+  stakes = refl;
+  long_spools = refl;
+  long_begun = refl;
+}
+
+pub returns-in_err-add_slot-clause-full : goal.returns-in_err-add_slot-clause-full
+returns-in_err-add_slot-clause-full g c =
+    let slot = c.loop-slot.slot in
+    let image = c.args.image.now in
+    let specs = c.args.specs.now in
+    let rows = c.requires.rows in
+    let inside : slot < length image.slots = omega (arith, c.loop-slot-test.true, c.loop-slot.auto.slot-end, c.slots-slot-end.ensures) in
+    let kept : (i : ℕ) → i < length specs
+    → All (Contains (get_or c.args.begun.now i [] ++ pairs_before (spec_at specs i) image.page rows.0 slot)) (get_or c.loop-slot.begun i []) =
+    λ i lt. (c.loop-slot.invariant.added i lt _ (has_pairs specs c.args.schema.now image rows.0 rows.1 c.requires.columns i lt)).kept in
+    let long : length c.add_slot.new.spools ≡ length specs =
+    omega (arith, c.add_slot.auto.spools, c.loop-slot.invariant.long_spools, c.requires.spools) in
+    let p = err_from_is_err_and c.from_residual.result c.from_residual.ensures.1 in
+    rw (p.1, p.2) (λ no_page.
+    full_given g.S.Spool.is_full c.add_slot.new.spools (IsBegunOrOfRow specs (rid_at image.page slot) (rows.0 slot) c.loop-slot.begun)
+    (IsBegunOrOnCopy specs image c.args.begun.now)
+    (λ i pair less is.
+    let lt : i < length specs = omega (arith, less, long) in
+    of_copy specs c.args.schema.now image rows.0 rows.1 c.requires.columns i lt slot inside c.args.begun.now c.loop-slot.begun (kept i lt) pair is)
+    (c.in_err-add_slot.ensures.full no_page (rows.0 slot) (rows.1 slot)))
 
 pub loop-slot-preserved : goal.loop-slot-preserved
 loop-slot-preserved g c =

@@ -1,14 +1,16 @@
-use Rattle.std.proofs.Common.{◌≡◌, ◌<◌, ◌∙◌, ◌∷◌, [], refl, ℕ, List, length, get_or, map, false, sym, subst, arith, Some}
+use Rattle.std.proofs.Common.{◌≡◌, ◌<◌, ◌∙◌, ◌∷◌, ◌++◌, [], refl, ℕ, List, length, get_or, map, false, sym, subst, arith, Some}
+use Rattle.std.specs.Prelude.{Contains}
 use Rattle.std.specs.Option.{option_to_list}
 use Rattle.std.proofs.Math.Seq.{map-set_same}
 use Rattle.std.proofs.lemmas.List.{get_or_read, get_or_default, length-map, length-set, map-set}
+use Rattle.std.proofs.lemmas.Result.{err_from_is_err_and}
 use Rattle.keybytes.specs.Keys.{KeySpecValue, key_of}
 use Rattle.keybytes.specs.Pairs.{pair_with}
 use Rattle.keybytes.specs.declared.pair.Pair.{Pair}
 use Rattle.run_spool.specs.Spools.{AreSorted}
 use Rattle.run_maker.specs.Spooling.{Adds}
-use Rattle.run_maker.specs.Making.{spec_at}
-use Rattle.run_maker.proofs.EachIndex.{read_at, holds_at, holds_after, ready_after, reached_none, reached_more}
+use Rattle.run_maker.specs.Making.{IsBegunOrOfRow, spec_at}
+use Rattle.run_maker.proofs.EachIndex.{read_at, holds_at, holds_after, ready_after, reached_none, reached_more, full_after}
 use Rattle.run_maker.proofs.rows.add_row.Goals as goal
 
 pub add_key-requires-clause-open_run : goal.add_key-requires-clause-open_run
@@ -26,6 +28,29 @@ returns-in_err-add_key-clause-sorted g c = λ all.
 pub returns-in_err-add_key-clause-stakes : goal.returns-in_err-add_key-clause-stakes
 returns-in_err-add_key-clause-stakes g c =
     map-set_same g.S.Spool.stake c.loop-i.spools c.loop-i.i c.add_key.new.spool c.index-spools-i.result c.add_key.ensures.stake ∙ c.loop-i.invariant.stakes
+
+pub returns-in_err-add_key-clause-full : goal.returns-in_err-add_key-clause-full
+returns-in_err-add_key-clause-full g c =
+    let i = c.loop-i.i in
+    let spec = c.index-specs-i.result in
+    let b = c.index-begun-i.result in
+    let was = c.loop-i.invariant in
+    let none : KeySpecValue = record { kinds = []; columns = []; unique = false } in
+    let inside : i < length c.loop-i.spools = omega (arith, c.loop-i-test.true, was.long_spools, c.requires.spools) in
+    let in-begun : i < length c.loop-i.begun = omega (arith, c.loop-i-test.true, was.long_begun, c.requires.begun) in
+    let spec-at : spec ≡ spec_at c.args.specs.now i = get_or_read c.args.specs.now i spec c.loop-i-test.true c.index-specs-i.is none in
+    let begun-at : get_or c.loop-i.begun i b ≡ get_or c.args.begun.now i [] =
+    get_or_default c.loop-i.begun i b [] in-begun ∙ was.reached.same_begun i (omega arith) in
+    let its : KeySpecValue → Pair = λ s. record { key = key_of s c.args.row.now; rid = c.args.rid } in
+    let of : (pair : Pair) → Contains (get_or c.loop-i.begun i b ++ its spec ∷ []) pair
+    → IsBegunOrOfRow c.args.specs.now c.args.rid (Some c.args.row.now) c.args.begun.now i pair =
+    λ pair here.
+    subst (λ (s : KeySpecValue). Contains (get_or c.args.begun.now i [] ++ its s ∷ []) pair) spec-at
+    (subst (λ (ps : List Pair). Contains (ps ++ its spec ∷ []) pair) begun-at here) in
+    let p = err_from_is_err_and c.from_residual.result c.from_residual.ensures.1 in
+    rw (p.1, p.2) (λ no_page.
+    full_after g.S.Spool.is_full (IsBegunOrOfRow c.args.specs.now c.args.rid (Some c.args.row.now) c.args.begun.now) (get_or c.loop-i.begun i b ++ its spec ∷ [])
+    c.loop-i.spools i c.add_key.new.spool inside of (c.in_err-add_key.ensures.full no_page))
 
 pub loop-i-init : goal.loop-i-init
 loop-i-init g c =

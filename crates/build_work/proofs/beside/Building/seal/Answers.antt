@@ -52,4 +52,4 @@ returns-clause-full g c =
     let less : c.args.worker < length workers = omega (arith, c.requires.there, ap (λ (b : BuildingValue). length b.workers) c.self.view_is) in
     let at = at_index workers c.args.worker it c.index_mut.ensures.value less in
     full_step c.args.self.now _ c.in-Some.work c.in-Some.work c.self.view_is c.in-Some.is refl c.args.worker it c.seal-sealed.new.self at c.seal-sealed.ensures.same
-    spool.is_full spool.runs spool.open_run spool.stake c.seal-sealed.result c.requires.fine c.seal-sealed.ensures.full
+    spool.is_full spool.runs spool.open_run spool.stake c.seal-sealed.result c.requires.fine c.seal-sealed.ensures.took c.seal-sealed.ensures.full

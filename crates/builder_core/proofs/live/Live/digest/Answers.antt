@@ -106,6 +106,7 @@ returns-clause-full g c =
     (NoPageOnlyIf (WorkerWasFull spool.is_full spool.stake (core_state c.args.self.now old) c.args.worker))
     (λ fault only is.
     subst (λ (s : CoreState). WorkerWasFull spool.is_full spool.stake s c.args.worker) (state_looked c.args.self.now live old building c.look.ensures.looked)
-    (full_in_build spool.is_full spool.runs spool.open_run spool.stake live building may.build may.work run may.fine c.look.ensures.pages c.args.worker sees.it sees.there
+    (full_in_build spool.is_full spool.runs spool.open_run spool.stake live building may.build may.work run may.fine c.look.ensures.pages
+    (put_of live may.build run.build_is c.look.ensures.put) c.args.worker c.look.result sees
     (subst (λ o. IfSome o (HadFull spool.is_full spool.runs spool.open_run spool.stake)) sees.there (only is))))
     c.digest.ensures.full

@@ -1,13 +1,17 @@
-use Rattle.std.proofs.Common.{◌≡◌, ◌∷◌, ◌∙◌, [], ℕ, true, List, map, sym, ap, ap₂}
+use Rattle.std.proofs.Common.{◌≡◌, ◌∷◌, ◌∙◌, [], ℕ, true, false, List, length, map, sym, ap, ap₂, arith}
+use Rattle.std.proofs.lemmas.Result.{err_from_is_err_and}
 use Rattle.rtrb.specs.Ring.{known_items}
 use Rattle.keybytes.specs.declared.kind.Kind.{Kind}
-use Rattle.run_maker.specs.Making.{Holdings}
+use Rattle.run_spool.proofs.FullFor.{full_given}
+use Rattle.run_maker.specs.Making.{Holdings, IsBegunOrOnCopy}
 use Rattle.building.specs.Copies.{is_for}
+use Rattle.building.specs.Holding.{IsBegunOrOnOneOf}
 use Rattle.building.specs.Work.{next_images}
 use Rattle.building.specs.IntakeValue.{IntakeValue}
-use Rattle.building.proofs.Digests.{next_one}
-use Rattle.building.proofs.Holding.{takes_one}
+use Rattle.building.proofs.Digests.{next_missing, next_one, next_other}
+use Rattle.building.proofs.Holding.{takes_nothing, takes_one}
 use Rattle.building.proofs.ManyPairs.{for_decides}
+use Rattle.building.proofs.Received.{on_alone}
 use Rattle.building.proofs.intake.Intake.digest.Goals as goal
 
 pub take-requires-clause-schema : goal.take-requires-clause-schema
@@ -15,6 +19,44 @@ take-requires-clause-schema g c =
     let copied = c.pop_known-copied.result in
     let own : is_for c.self.inside.build c.schema.result.now copied ≡ true = sym c.is_for.ensures ∙ c.if-not-is_for.false in
     ((for_decides c.self.inside.build c.schema.result.now copied).0 own).columns ∙ c.schema.ensures
+
+pub returns-then-seen-eq0-clause-holds : goal.returns-then-seen-eq0-clause-holds
+returns-then-seen-eq0-clause-holds g c =
+    let worker = c.args.self.now in
+    let maker = c.args.maker.now in
+    let none : length worker.end.known ≡ 0 =
+    omega (arith, c.seen.ensures, c.if-seen-eq0.true, ap (λ (w : IntakeValue). length w.end.known) c.self.view_is) in
+    takes_nothing maker.specs (next_images 1 maker.schema worker) (record { runs = map g.S.Spool.runs c.args.spools.now; begun = maker.begun })
+    (next_missing maker.schema worker none)
+
+pub returns-then-not-is_for-clause-holds : goal.returns-then-not-is_for-clause-holds
+returns-then-not-is_for-clause-holds g c =
+    let worker = c.args.self.now in
+    let maker = c.args.maker.now in
+    let copied = c.pop_known-copied.result in
+    let build = ap (λ (w : IntakeValue). w.build) c.self.view_is in
+    let other : is_for worker.build maker.schema copied ≡ false =
+    ap₂ (λ (b : ℕ) (ks : List Kind). is_for b ks copied) (sym build) (sym c.schema.ensures) ∙ (sym c.is_for.ensures ∙ c.if-not-is_for.true) in
+    takes_nothing maker.specs (next_images 1 maker.schema worker) (record { runs = map g.S.Spool.runs c.args.spools.now; begun = maker.begun })
+    (next_other maker.schema worker copied (known_items c.pop_known-copied.new.self)
+    (sym (ap (λ (w : IntakeValue). w.end.known) c.self.view_is) ∙ c.pop_known-copied.ensures.received.1) other)
+
+pub returns-in_err-take-clause-full : goal.returns-in_err-take-clause-full
+returns-in_err-take-clause-full g c =
+    let worker = c.args.self.now in
+    let maker = c.args.maker.now in
+    let copied = c.pop_known-copied.result in
+    let build = ap (λ (w : IntakeValue). w.build) c.self.view_is in
+    let own : is_for worker.build maker.schema copied ≡ true =
+    ap₂ (λ (b : ℕ) (ks : List Kind). is_for b ks copied) (sym build) (sym c.schema.ensures) ∙ (sym c.is_for.ensures ∙ c.if-not-is_for.false) in
+    let one : next_images 1 maker.schema worker ≡ copied.image ∷ [] =
+    next_one maker.schema worker copied (known_items c.pop_known-copied.new.self)
+    (sym (ap (λ (w : IntakeValue). w.end.known) c.self.view_is) ∙ c.pop_known-copied.ensures.received.1) own in
+    let p = err_from_is_err_and c.from_residual.result c.from_residual.ensures.1 in
+    rw (p.1, p.2) (λ no_page.
+    full_given g.S.Spool.is_full c.take.new.spools (IsBegunOrOnCopy maker.specs copied.image maker.begun)
+    (IsBegunOrOnOneOf maker.specs (next_images 1 maker.schema worker) maker.begun)
+    (λ i pair less is. on_alone maker.specs copied.image (next_images 1 maker.schema worker) maker.begun i pair one is) (c.in_err-take.ensures.full no_page))
 
 pub returns-clause-holds : goal.returns-clause-holds
 returns-clause-holds g c =

@@ -1,17 +1,33 @@
-use Rattle.std.proofs.Common.{◌≡◌, ◌+◌, ◌∙◌, ℕ, List, All, length, length-append, map, ap, sym, subst, arith}
+use Rattle.std.proofs.Common.{rules, ◌≡◌, ◌<◌, ◌+◌, ◌∙◌, [], ℕ, List, All, length, length-append, map, refl, ap, sym, subst, arith}
 use Rattle.std.proofs.lemmas.List.Elements.{All-append}
 use Rattle.std.proofs.lemmas.Result.{err_from_is_err_and}
 use Rattle.keybytes.specs.Keys.{KeySpecValue}
 use Rattle.keybytes.specs.declared.kind.Kind.{Kind}
 use Rattle.heap_table.specs.Images.{ImageValue, IsReadable}
-use Rattle.run_maker.specs.Making.{Holdings}
-use Rattle.building.specs.Holding.{TakesAll}
+use Rattle.run_spool.proofs.FullFor.{full_given}
+use Rattle.run_maker.specs.Making.{Holdings, IsBegun}
+use Rattle.building.specs.Holding.{IsBegunOrOnOneOf, TakesAll}
 use Rattle.building.specs.TakeEnd.{after_taking}
+use Rattle.building.specs.Taking.{received_images}
 use Rattle.building.specs.Work.{next_images, after_digest}
 use Rattle.building.specs.IntakeValue.{IntakeValue}
 use Rattle.building.proofs.Digests.{digest_more, images_more, taking_more, next_few, same_worker}
-use Rattle.building.proofs.Holding.{takes_more, takes_sealed}
+use Rattle.building.proofs.Holding.{takes_more, takes_nothing, takes_sealed}
+use Rattle.building.proofs.Received.{begun_or_on, next_received, received_after, received_more}
 use Rattle.building.proofs.intake.Intake.seal.Goals as goal
+
+pub loop-init : goal.loop-init
+loop-init g c = record {
+  taken = search rules;
+  holds = takes_nothing c.args.maker.now.specs [] (record { runs = map g.S.Spool.runs c.args.spools.now; begun = c.args.maker.now.begun }) refl;
+  ready = c.requires.ready;
+  sorted = λ all. all;
+  stakes = refl;
+  schema = refl;
+  specs = refl;
+  readable = search rules;
+  images = refl;
+}
 
 pub returns-in_err-images-clause-failed : goal.returns-in_err-images-clause-failed
 returns-in_err-images-clause-failed g c =
@@ -37,6 +53,52 @@ returns-in_err-images-clause-failed g c =
             (c.digest.ensures.unsealed ∙ sealed),
       ),
     )
+
+pub returns-in_err-images-clause-full : goal.returns-in_err-images-clause-full
+returns-in_err-images-clause-full g c =
+    let worker = c.args.self.now in
+    let maker = c.args.maker.now in
+    let was = c.loop.invariant in
+    let n = c.loop.counter in
+    let begun = c.loop.maker.begun in
+    let start : Holdings = record { runs = map g.S.Spool.runs c.args.spools.now; begun = maker.begun } in
+    let middle : Holdings = record { runs = map g.S.Spool.runs c.loop.spools; begun = begun } in
+    let build = ap (λ (w : IntakeValue). w.build) was.taken in
+    let end = ap (λ (w : IntakeValue). w.end) was.taken in
+    let long : length c.digest.new.spools ≡ length maker.specs = omega (arith, c.digest.auto.spools, c.loop.auto.spools, c.requires.spools) in
+    let p = err_from_is_err_and c.from_residual.result c.from_residual.ensures.1 in
+    rw (p.1, p.2) (λ no_page.
+    full_given g.S.Spool.is_full c.digest.new.spools (IsBegunOrOnOneOf c.loop.maker.specs (next_images 1 c.loop.maker.schema c.loop.self) begun)
+    (IsBegunOrOnOneOf maker.specs (received_images maker.schema c.digest.new.self) maker.begun)
+    (λ i pair less is.
+    let lt : i < length maker.specs = omega (arith, less, long) in
+    let same : IsBegunOrOnOneOf maker.specs (next_images 1 maker.schema c.loop.self) begun i pair =
+    subst (λ (ks : List Kind). IsBegunOrOnOneOf maker.specs (next_images 1 ks c.loop.self) begun i pair) was.schema
+    (subst (λ (ss : List KeySpecValue). IsBegunOrOnOneOf ss (next_images 1 c.loop.maker.schema c.loop.self) begun i pair) was.specs is) in
+    next_received n maker.specs maker.schema worker c.loop.self c.digest.new.self maker.begun begun i pair build end (c.digest.ensures.build ∙ build)
+    (c.digest.ensures.end ∙ (ap (λ end. after_taking 1 end) end ∙ taking_more n 1 worker.end))
+    (λ then. begun_or_on n maker.specs maker.schema worker start middle c.laws.ensures.specs was.readable was.holds i lt pair then) same)
+    (c.in_err-images.ensures.full no_page))
+
+pub returns-in_err-seal-clause-full : goal.returns-in_err-seal-clause-full
+returns-in_err-seal-clause-full g c =
+    let worker = c.args.self.now in
+    let maker = c.args.maker.now in
+    let was = c.loop.invariant in
+    let n = c.loop.counter in
+    let begun = c.loop.maker.begun in
+    let start : Holdings = record { runs = map g.S.Spool.runs c.args.spools.now; begun = maker.begun } in
+    let middle : Holdings = record { runs = map g.S.Spool.runs c.loop.spools; begun = begun } in
+    let all = received_after n maker.schema worker c.loop.self (ap (λ (w : IntakeValue). w.build) was.taken) (ap (λ (w : IntakeValue). w.end) was.taken) in
+    let long : length c.seal.new.spools ≡ length maker.specs = omega (arith, c.seal.auto.spools, c.loop.auto.spools, c.requires.spools) in
+    let p = err_from_is_err_and c.from_residual-in_err-seal.result c.from_residual-in_err-seal.ensures.1 in
+    rw (p.1, p.2) (λ no_page.
+    full_given g.S.Spool.is_full c.seal.new.spools (IsBegun begun) (IsBegunOrOnOneOf maker.specs (received_images maker.schema c.loop.self) maker.begun)
+    (λ i pair less is.
+    let lt : i < length maker.specs = omega (arith, less, long) in
+    received_more maker.specs (received_images maker.schema worker) (next_images n maker.schema worker) (received_images maker.schema c.loop.self) maker.begun i
+    pair all (begun_or_on n maker.specs maker.schema worker start middle c.laws.ensures.specs was.readable was.holds i lt pair is))
+    c.in_err-seal.ensures.full)
 
 pub overflow_add-images : goal.overflow_add-images
 overflow_add-images g c =
@@ -90,7 +152,7 @@ returns-clause-holds g c =
     let all : c.loop.counter ≡ length worker.end.known = omega (arith, c.loop-test.false, c.loop.auto.counter-end, c.seen-end.ensures) in
     let takes = subst (λ (n : ℕ). TakesAll specs (next_images n kinds worker) start middle) all was.holds in
     takes_sealed specs (next_images (length worker.end.known) kinds worker) start middle (map g.S.Spool.runs c.seal.new.spools) c.seal.new.self.begun takes
-    (c.laws.ensures.begun ∙ ap length was.specs) c.in_ok-seal.ensures.sealed c.in_ok-seal.ensures.none_open
+    (c.laws-2.ensures.begun ∙ ap length was.specs) c.in_ok-seal.ensures.sealed c.in_ok-seal.ensures.none_open
 
 pub returns-clause-readable : goal.returns-clause-readable
 returns-clause-readable g c =

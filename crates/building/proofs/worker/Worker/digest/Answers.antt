@@ -1,13 +1,19 @@
-use Rattle.std.proofs.Common.{◌≡◌, ◌∙◌, ℕ, List, All, length, map, Some, subst, sym, ap}
+use Rattle.std.proofs.Common.{◌≡◌, ◌∙◌, ℕ, List, All, length, map, Some, subst, sym, ap, arith}
+use Rattle.std.proofs.lemmas.List.{length-map}
+use Rattle.keybytes.specs.declared.pair.Pair.{Pair}
 use Rattle.run_spool.specs.Spools.{AreSorted}
-use Rattle.run_maker.specs.Making.{AreReady}
+use Rattle.run_spool.proofs.FullFor.{full_given}
+use Rattle.run_maker.specs.Making.{AreReady, spec_at}
 use Rattle.building.specs.declared.copied.Copied.{Copied}
-use Rattle.building.specs.Holding.{TakesAll}
+use Rattle.building.specs.Holding.{IsBegunOrOnOneOf, TakesAll}
+use Rattle.building.specs.ImagePairs.{IsOnOneOf}
 use Rattle.building.specs.TakeEnd.{TakeEnd}
-use Rattle.building.specs.SpoolValue.{stakes_of}
-use Rattle.building.specs.Work.{next_images}
+use Rattle.building.specs.SpoolValue.{spool_value, stakes_of}
+use Rattle.building.specs.Taking.{received_images}
+use Rattle.building.specs.Work.{TakesSome, next_images}
 use Rattle.building.specs.WorkerValue.{WorkerValue}
 use Rattle.building.proofs.Keeping.{digest_counts}
+use Rattle.building.proofs.Received.{received_after, received_more, spooled_received, takes_next, takes_none}
 use Rattle.building.proofs.SpoolViews.{digest_held, lent_back, lent_stakes, spools_ready, values_full, values_ready}
 use Rattle.building.proofs.worker.Worker.digest.Goals as goal
 
@@ -79,13 +85,36 @@ returns-in-Err-clause-same g c =
       handed = ap (λ (w : WorkerValue). w.handed) c.self.view_is;
     }
 
+pub returns-in-Some-clause-took : goal.returns-in-Some-clause-took
+returns-in-Some-clause-took g c = takes_none c.args.self.now.intake.end
+
+pub returns-in-Err-clause-took : goal.returns-in-Err-clause-took
+returns-in-Err-clause-took g c =
+    let at = c.self.inside in
+    subst (λ (w : WorkerValue). TakesSome w.intake.end c.digest.new.self.end) c.self.view_is (takes_next at.intake.end c.digest.new.self.end c.digest.ensures.end)
+
 pub returns-in-Err-clause-full : goal.returns-in-Err-clause-full
 returns-in-Err-clause-full g c = λ sound no_page.
     let at = c.self.inside in
     let spools = c.digest.new.spools in
     let long : length spools ≡ at.spools.len = c.digest.auto.spools ∙ c.deref_mut.ensures.len in
     let back = lent_back at.spools.len at.spools.items spools long in
-    rw back (values_full g.S.Spool.runs g.S.Spool.open_run g.S.Spool.stake g.S.Spool.is_full spools (c.in-Err.ensures.full no_page))
+    let holds = c.self.invariant.3 c.in_default.is c.if-self.false in
+    let maker = c.digest.new.maker in
+    let after = c.digest.new.self in
+    let next = next_images 1 at.maker.schema at.intake in
+    let many : length spools ≡ length at.maker.specs =
+    c.digest.auto.spools ∙ (ap length c.deref_mut.ensures.value
+    ∙ (sym (length-map at.spools.items (spool_value g.S.Spool.runs g.S.Spool.open_run g.S.Spool.stake)) ∙ holds.many)) in
+    let took = takes_next at.intake.end after.end c.digest.ensures.end in
+    let given : ℕ → Pair → Type 0 = λ i pair. IsOnOneOf (spec_at maker.specs i) (received_images maker.schema after) pair in
+    rw back (values_full g.S.Spool.runs g.S.Spool.open_run g.S.Spool.stake g.S.Spool.is_full given spools
+    (full_given g.S.Spool.is_full spools (IsBegunOrOnOneOf at.maker.specs next at.maker.begun) given
+    (λ i pair less is.
+    spooled_received at.intake after at.maker maker _ holds c.digest.ensures.specs c.digest.ensures.schema c.digest.ensures.build took i (omega (arith, less, many)) pair
+    (received_more at.maker.specs (received_images at.maker.schema at.intake) next (received_images at.maker.schema after) at.maker.begun i pair
+    (received_after 1 at.maker.schema at.intake after c.digest.ensures.build c.digest.ensures.end) is))
+    (c.in-Err.ensures.full no_page)))
 
 pub returns-in-Err-clause-want : goal.returns-in-Err-clause-want
 returns-in-Err-clause-want g c = λ sound memory.

@@ -1,11 +1,17 @@
-use Rattle.std.proofs.Common.{◌≡◌, ◌∙◌, List, All, length, map, Some, subst, sym, ap}
+use Rattle.std.proofs.Common.{◌≡◌, ◌∙◌, ℕ, List, All, length, map, Some, subst, sym, ap, arith}
+use Rattle.std.proofs.lemmas.List.{length-map}
+use Rattle.keybytes.specs.declared.pair.Pair.{Pair}
 use Rattle.run_spool.specs.Spools.{AreSorted}
-use Rattle.run_maker.specs.Making.{AreReady}
-use Rattle.building.specs.Holding.{HoldsMore}
-use Rattle.building.specs.SpoolValue.{stakes_of}
-use Rattle.building.specs.Work.{next_images}
+use Rattle.run_spool.proofs.FullFor.{full_given}
+use Rattle.run_maker.specs.Making.{AreReady, spec_at}
+use Rattle.building.specs.Holding.{HoldsMore, IsBegunOrOnOneOf}
+use Rattle.building.specs.ImagePairs.{IsOnOneOf}
+use Rattle.building.specs.SpoolValue.{spool_value, stakes_of}
+use Rattle.building.specs.Taking.{received_images}
+use Rattle.building.specs.Work.{TakesSome, next_images}
 use Rattle.building.specs.WorkerValue.{WorkerValue}
 use Rattle.building.proofs.Keeping.{seal_counts}
+use Rattle.building.proofs.Received.{spooled_received, takes_none, takes_stopped}
 use Rattle.building.proofs.SpoolViews.{seal_held, lent_back, lent_stakes, spools_ready, values_full, values_ready}
 use Rattle.building.proofs.worker.Worker.seal.Goals as goal
 
@@ -77,13 +83,33 @@ returns-in-Err-clause-same g c =
       handed = ap (λ (w : WorkerValue). w.handed) c.self.view_is;
     }
 
+pub returns-in-Some-clause-took : goal.returns-in-Some-clause-took
+returns-in-Some-clause-took g c = takes_none c.args.self.now.intake.end
+
+pub returns-in-Err-clause-took : goal.returns-in-Err-clause-took
+returns-in-Err-clause-took g c =
+    let at = c.self.inside in
+    subst (λ (w : WorkerValue). TakesSome w.intake.end c.seal.new.self.end) c.self.view_is (takes_stopped at.maker.schema at.intake c.seal.new.self c.in-Err.ensures.failed)
+
 pub returns-in-Err-clause-full : goal.returns-in-Err-clause-full
 returns-in-Err-clause-full g c = λ sound no_page.
     let at = c.self.inside in
     let spools = c.seal.new.spools in
     let long : length spools ≡ at.spools.len = c.seal.auto.spools ∙ c.deref_mut.ensures.len in
     let back = lent_back at.spools.len at.spools.items spools long in
-    rw back (values_full g.S.Spool.runs g.S.Spool.open_run g.S.Spool.stake g.S.Spool.is_full spools (c.in-Err.ensures.full no_page))
+    let holds = c.self.invariant.3 c.in_default.is c.if-self.false in
+    let maker = c.seal.new.maker in
+    let after = c.seal.new.self in
+    let many : length spools ≡ length at.maker.specs =
+    c.seal.auto.spools ∙ (ap length c.deref_mut.ensures.value
+    ∙ (sym (length-map at.spools.items (spool_value g.S.Spool.runs g.S.Spool.open_run g.S.Spool.stake)) ∙ holds.many)) in
+    let took = takes_stopped at.maker.schema at.intake after c.in-Err.ensures.failed in
+    let given : ℕ → Pair → Type 0 = λ i pair. IsOnOneOf (spec_at maker.specs i) (received_images maker.schema after) pair in
+    rw back (values_full g.S.Spool.runs g.S.Spool.open_run g.S.Spool.stake g.S.Spool.is_full given spools
+    (full_given g.S.Spool.is_full spools (IsBegunOrOnOneOf at.maker.specs (received_images at.maker.schema after) at.maker.begun) given
+    (λ i pair less is.
+    spooled_received at.intake after at.maker maker _ holds c.seal.ensures.specs c.seal.ensures.schema c.seal.ensures.build took i (omega (arith, less, many)) pair is)
+    (c.in-Err.ensures.full no_page)))
 
 pub returns-in-Err-clause-want : goal.returns-in-Err-clause-want
 returns-in-Err-clause-want g c = λ sound memory.

@@ -4,8 +4,15 @@ use Rattle.std.proofs.lemmas.Result.{IfErr-weaker}
 use Rattle.keybytes.specs.declared.pair.Pair.{Pair}
 use Rattle.run_spool.specs.Spools.{IsFullForOneOf, NoPageOnlyIf}
 use Rattle.run_maker.specs.Spooling.{Adds}
-use Rattle.run_maker.proofs.Spoolings.{spooled_adds, both_ok}
+use Rattle.run_maker.proofs.Spoolings.{one_begun, spooled_adds, both_ok}
 use Rattle.run_maker.proofs.open_run.OpenRun.add.Goals as goal
+
+pub returns-then-len-lt-RUN_PAIRS-clause-added : goal.returns-then-len-lt-RUN_PAIRS-clause-added
+returns-then-len-lt-RUN_PAIRS-clause-added g c =
+    let runs = g.S.Spool.runs c.args.spool.now in
+    let is : c.push.new.self.items ≡ c.args.self.now ++ c.args.pair ∷ [] =
+    c.in_ok-push.ensures.items ∙ ap (λ (ps : List Pair). ps ++ c.args.pair ∷ []) c.self.view_is in
+    subst (λ (ps : List Pair). Adds (c.args.pair ∷ []) runs c.args.self.now runs ps) (sym is) (one_begun runs c.args.self.now c.args.pair)
 
 pub returns-clause-added : goal.returns-clause-added
 returns-clause-added g c =
