@@ -1,5 +1,6 @@
 pub mod Emptied
 pub mod Feeding
+pub mod LookedEnds
 pub mod Noting
 pub mod Performed
 pub mod Places

@@ -3,4 +3,5 @@ pub mod CatchingUp
 pub mod Changing
 pub mod FullSpools
 pub mod Invariant
+pub mod Putting
 pub mod Rings

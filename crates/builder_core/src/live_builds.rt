@@ -1,12 +1,14 @@
 //! The steps of a build that touch the table.
 ghost use Rattle.std.specs.Prelude.{◌≡◌, ◌<◌, length, All, Some, None, IfOk, IfErr, OnOk, OnErr, IsOk, IsSome, MatchOption, MatchResult, true, slice_get, map};
-ghost use Rattle.std.specs.List.{list_all, list_any};
+ghost use Rattle.std.specs.List.{AllZip, list_all, list_any};
 ghost use Rattle.keybytes.specs.Answered.{Answered};
 ghost use Rattle.side_file.specs.Ends.{PutEnd};
 ghost use Rattle.heap_table.specs.Pages.{pages_written};
+ghost use Rattle.building.specs.TakeEnd.{PutEndLooked};
 ghost use Rattle.building.specs.declared.copied.Copied.{Copied};
 ghost use Rattle.build_work.specs.BuildingValue.{BuildingValue, given_up, intakes};
 ghost use Rattle.builder_core.specs.Builds.{core_state, put_refusal, page_refusal, WorksOn};
+ghost use Rattle.builder_core.specs.Putting.{IsPutTo};
 ghost use Rattle.build_events.specs.CoreState.{abandoned};
 ghost use Rattle.build_events.specs.Ranges.{next_page};
 ghost use Rattle.scan_range.specs.Dealings.{dealing_refusal, dealt_ends};
@@ -145,6 +147,9 @@ impl<T: Table> Live<T> {
         ensures succeeds { put_refusal self.old range worker ≡ None → IsOk result }
         ensures first { (end : PutEnd Copied) → slice_get self.old.pages worker ≡ Some end → length end.sent < 4
             → page_refusal self.old.state range worker ≡ None → IsOk result }
+        ensures put { IfOk result (λ page. IsPutTo worker self.old self.new) }
+        ensures looked { OnErr result (AllZip PutEndLooked self.old.pages self.new.pages) }
+        ensures sides { self.new.sides ≡ self.old.sides }
         ensures unchanged { OnErr result (self.new.state ≡ self.old.state) }
         ensures refused { IfErr result (λ back. put_refusal self.new range worker ≡ Some back.1) }
         ensures handed_back { IfErr result (λ back. back.0 ≡ image) }

@@ -65,6 +65,7 @@ impl<T: Table> Live<T> {
         ensures refused { IfErr result (λ fault. cause_of self.old building.old (Event.Feed index most) ≡ Some fault) }
         ensures unchanged { OnErr result (core_state self.new building.new ≡ core_state self.old building.old) }
         ensures works { WorksOn self.new building.new }
+        ensures pages { self.new.pages ≡ self.old.pages }
     {
         self.build_with(index)?;
         let waiting = self.look_at_side(index, building);
@@ -107,6 +108,7 @@ impl<T: Table> Live<T> {
         ensures applied { IfOk result (λ count. Applies index most (core_state self.old building.old) count (core_state self.new building.new)) }
         ensures some { OnErr result (AppliesSome index most (core_state self.old building.old) (core_state self.new building.new)) }
         ensures works { WorksOn self.new building.new }
+        ensures pages { self.new.pages ≡ self.old.pages }
         ensures memory { IfErr result (λ fault. fault ≡ Fault.Memory) }
     {
         let waiting = self.look_at_side(index, building);

@@ -112,6 +112,7 @@ impl<T: Table> Live<T> {
         ensures all { OnOk result (OnBuild self.new.state.build
             (λ b. all_unapplied b self.new.state.heap.log b.specs (core_state self.new building.new).work.indexes ≡ 0)) }
         ensures works { WorksOn self.new building.new }
+        ensures pages { self.new.pages ≡ self.old.pages }
         ensures memory { IfErr result (λ fault. fault ≡ Fault.Memory) }
     {
         let Some(build) = self.build() else {
@@ -137,6 +138,7 @@ impl<T: Table> Live<T> {
         ensures further { IndexIsFurther index (core_state self.old building.old) (core_state self.new building.new) }
         ensures all { OnOk result (left_at index (core_state self.new building.new) ≡ 0) }
         ensures works { WorksOn self.new building.new }
+        ensures pages { self.new.pages ≡ self.old.pages }
         ensures memory { IfErr result (λ fault. fault ≡ Fault.Memory) }
     {
         // Both ends of its ring then know what waits in it.
@@ -163,6 +165,7 @@ impl<T: Table> Live<T> {
         ensures accepted { OnOk result (cause_of self.old building.old Event.Switch ≡ None) }
         ensures refused { IfErr result (λ fault. IsRefused (core_state self.old building.old) Event.Switch fault (core_state self.new building.new)) }
         ensures works { WorksOn self.new building.new }
+        ensures pages { self.new.pages ≡ self.old.pages }
     {
         self.check_switch(building)?;
         self.catch_up(building)?;

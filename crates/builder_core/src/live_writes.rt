@@ -6,6 +6,7 @@ ghost use Rattle.heap_table.specs.Calls.{Begins, Inserts, Updates, Deletes, Undo
 ghost use Rattle.heap_table.specs.HeapState.{begin_refusal, insert_place, txn_refusal, delete_refusal, undo_refusal};
 ghost use Rattle.build_work.specs.BuildingValue.{BuildingValue};
 ghost use Rattle.builder_core.specs.Builds.{WorksOn};
+ghost use Rattle.builder_core.specs.Putting.{KeepsRings};
 ghost use Rattle.build_events.specs.Steps.{row_refusal, change_refusal, OnHeap, OnRows};
 
 use crate::{Live, Table, changes};
@@ -17,6 +18,7 @@ impl<T: Table> Live<T> {
     pub fn begin(&mut self) -> Result<u64, Fault>
         ensures begun { Answered (begin_refusal self.old.state.heap) (OnHeap Begins) self.old.state result self.new.state }
         ensures works { (building : BuildingValue) → WorksOn self.old building → WorksOn self.new building }
+        ensures rings { KeepsRings self.old self.new }
     {
         self.heap.begin()
     }
@@ -56,6 +58,7 @@ impl<T: Table> Live<T> {
     pub fn insert(&mut self, txn: u64, row: Row) -> Result<(usize, Rid), Fault>
         ensures inserted { Answered (row_refusal self.old.state txn row) (OnRows (Inserts txn row)) self.old.state result self.new.state }
         ensures works { (building : BuildingValue) → WorksOn self.old building → WorksOn self.new building }
+        ensures rings { KeepsRings self.old self.new }
     {
         let rid = self.check_place(txn, &row)?;
         self.insert_free(txn, rid, row)
@@ -72,6 +75,7 @@ impl<T: Table> Live<T> {
         requires place { insert_place self.old.state.heap (length (row_bytes row)) ≡ Some rid }
         ensures inserted { Answered (row_refusal self.old.state txn row) (OnRows (Inserts txn row)) self.old.state result self.new.state }
         ensures works { (building : BuildingValue) → WorksOn self.old building → WorksOn self.new building }
+        ensures rings { KeepsRings self.old self.new }
     {
         let ready = self.heap.ready_insert_at(txn, rid, row)?;
         changes::write(
@@ -88,6 +92,7 @@ impl<T: Table> Live<T> {
     pub fn update(&mut self, txn: u64, rid: Rid, row: Row) -> Result<(usize, Rid), Fault>
         ensures updated { Answered (change_refusal self.old.state txn rid row) (OnRows (Updates txn rid row)) self.old.state result self.new.state }
         ensures works { (building : BuildingValue) → WorksOn self.old building → WorksOn self.new building }
+        ensures rings { KeepsRings self.old self.new }
     {
         self.check_update(txn, rid, &row)?;
         self.update_free(txn, rid, row)
@@ -103,6 +108,7 @@ impl<T: Table> Live<T> {
         requires { change_refusal self.old.state txn rid row ≡ None }
         ensures updated { Answered (change_refusal self.old.state txn rid row) (OnRows (Updates txn rid row)) self.old.state result self.new.state }
         ensures works { (building : BuildingValue) → WorksOn self.old building → WorksOn self.new building }
+        ensures rings { KeepsRings self.old self.new }
     {
         let ready = self.heap.ready_update_at(txn, rid, row)?;
         changes::write(
@@ -119,6 +125,7 @@ impl<T: Table> Live<T> {
     pub fn delete(&mut self, txn: u64, rid: Rid) -> Result<(usize, Rid), Fault>
         ensures deleted { Answered (delete_refusal self.old.state.heap txn rid) (OnRows (Deletes txn rid)) self.old.state result self.new.state }
         ensures works { (building : BuildingValue) → WorksOn self.old building → WorksOn self.new building }
+        ensures rings { KeepsRings self.old self.new }
     {
         let ready = self.heap.ready_delete(txn, rid)?;
         changes::write(
@@ -136,6 +143,7 @@ impl<T: Table> Live<T> {
     pub fn undo(&mut self, txn: u64) -> Result<Undone, Fault>
         ensures undone { Answered (undo_refusal self.old.state.heap txn) (OnRows (Undoes txn)) self.old.state result self.new.state }
         ensures works { (building : BuildingValue) → WorksOn self.old building → WorksOn self.new building }
+        ensures rings { KeepsRings self.old self.new }
     {
         match self.heap.ready_undo(txn)? {
             Some(ready) => changes::undo(
@@ -155,6 +163,7 @@ impl<T: Table> Live<T> {
     pub fn commit(&mut self, txn: u64) -> Result<usize, Fault>
         ensures committed { Answered (txn_refusal self.old.state.heap txn) (OnHeap (Commits txn)) self.old.state result self.new.state }
         ensures works { (building : BuildingValue) → WorksOn self.old building → WorksOn self.new building }
+        ensures rings { KeepsRings self.old self.new }
     {
         self.heap.laws();
         let number = self.heap.commit(txn)?;

@@ -1,4 +1,4 @@
-use Rattle.std.proofs.Common.{◌≡◌, ◌<◌, ◌∙◌, length, sym, ap, subst, arith, inl, inr}
+use Rattle.std.proofs.Common.{◌≡◌, ◌<◌, ◌∙◌, length, refl, sym, ap, subst, arith, inl, inr}
 use Rattle.std.proofs.lemmas.Bool.{cases_lt}
 use Rattle.std.proofs.lemmas.Option.{same_Some}
 use Rattle.build_work.specs.BuildingValue.{BuildingValue}
@@ -17,6 +17,7 @@ loop-index-init g c =
           c.in-Some.ensures.sides eight;
       none = λ k less. absurd (omega (arith, less));
       works = c.requires.works;
+      pages = refl;
     }
 
 pub catch_up_one-requires-clause-works : goal.catch_up_one-requires-clause-works
@@ -50,6 +51,7 @@ loop-index-preserved g c =
             subst (λ i. left_at i new ≡ 0) same c.in_ok-catch_up_one.ensures.all
       ];
       works = c.catch_up_one.ensures.works;
+      pages = c.catch_up_one.ensures.pages ∙ c.loop-index.invariant.pages;
     }
 
 pub returns-in_err-catch_up_one-clause-further : goal.returns-in_err-catch_up_one-clause-further
@@ -75,3 +77,9 @@ returns-clause-all g c =
 
 pub returns-clause-works : goal.returns-clause-works
 returns-clause-works g c = c.loop-index.invariant.works
+
+pub returns-in_err-catch_up_one-clause-pages : goal.returns-in_err-catch_up_one-clause-pages
+returns-in_err-catch_up_one-clause-pages g c = c.catch_up_one.ensures.pages ∙ c.loop-index.invariant.pages
+
+pub returns-clause-pages : goal.returns-clause-pages
+returns-clause-pages g c = c.loop-index.invariant.pages

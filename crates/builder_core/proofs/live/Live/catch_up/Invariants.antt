@@ -9,4 +9,5 @@ invariant-loop-index g l = record {
   further : AllAreFurther (core_state l.fn.self l.fn.building) (core_state l.self l.building);
   none : (k : ℕ) → k < l.index → left_at k (core_state l.self l.building) ≡ 0;
   works : WorksOn l.self l.building;
+  pages : l.self.pages ≡ l.fn.self.pages;
 }

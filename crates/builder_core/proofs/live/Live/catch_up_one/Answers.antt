@@ -1,4 +1,4 @@
-use Rattle.std.proofs.Common.{◌<◌, ◌∙◌, subst}
+use Rattle.std.proofs.Common.{◌<◌, ◌∙◌, ap, subst}
 use Rattle.builder_core.specs.Builds.{LiveValue, core_state}
 use Rattle.build_work.specs.BuildingValue.{BuildingValue}
 use Rattle.builder_core.specs.CatchingUp.{IndexIsFurther, left_at}
@@ -20,6 +20,7 @@ loop-self-init g c =
       further = subst (λ (s : CoreState). IndexIsFurther c.args.index s (core_state looked.new.self looked.new.building)) state
           (further_from c.args.index looked.result looked.new.self looked.new.building next);
       works = works_side_looked c.args.index live looked.new.self building looked.new.building looked.ensures.looked c.requires.works;
+      pages = ap (λ (l : LiveValue). l.pages) looked.ensures.looked.puts;
     }
 
 pub unapplied_of-requires-clause-works : goal.unapplied_of-requires-clause-works
@@ -59,6 +60,7 @@ loop-self-preserved g c =
     record {
       further = applied_further c.args.index start fed further (core_state c.apply.new.self c.apply.new.building) 256 c.in_ok-apply.field-0 c.in_ok-apply.ensures.applied;
       works = c.in_ok-apply.ensures.works;
+      pages = c.in_ok-apply.ensures.pages ∙ c.in-Ok.ensures.pages ∙ c.loop-self.invariant.pages;
     }
 
 pub returns-in_err-apply-clause-further : goal.returns-in_err-apply-clause-further
@@ -73,3 +75,9 @@ returns-clause-further g c = c.loop-self.invariant.further
 
 pub returns-clause-works : goal.returns-clause-works
 returns-clause-works g c = c.loop-self.invariant.works
+
+pub returns-in_err-apply-clause-pages : goal.returns-in_err-apply-clause-pages
+returns-in_err-apply-clause-pages g c = c.in_err-apply.ensures.pages ∙ c.in-Ok.ensures.pages ∙ c.loop-self.invariant.pages
+
+pub returns-clause-pages : goal.returns-clause-pages
+returns-clause-pages g c = c.loop-self.invariant.pages

@@ -1,3 +1,4 @@
+use Rattle.std.proofs.Common.{◌≡◌}
 use Rattle.builder_core.specs.Builds.{core_state, WorksOn}
 use Rattle.builder_core.specs.CatchingUp.{IndexIsFurther, left_at}
 use Rattle.builder_core.proofs.live.Live.catch_up_one.Given as goal
@@ -6,6 +7,7 @@ abbrev pub invariant-loop-self : goal.invariant-loop-self
 invariant-loop-self g l = record {
   further : IndexIsFurther l.index (core_state l.fn.self l.fn.building) (core_state l.self l.building);
   works : WorksOn l.self l.building;
+  pages : l.self.pages ≡ l.fn.self.pages;
 }
 
 abbrev pub decreases-loop-self : goal.decreases-loop-self

@@ -1,11 +1,13 @@
-use Rattle.std.proofs.Common.{◌≡◌, ◌∙◌, ◌<◌, ◌++◌, ◌∷◌, [], ℕ, List, length, set, Option, Some, None, inl, inr, ap, sym, subst, arith}
+use Rattle.std.proofs.Common.{◌≡◌, ◌∙◌, ◌<◌, ◌++◌, ◌∷◌, [], ℕ, List, length, set, set-set, Option, Some, None, inl, inr, ap, sym, subst, arith}
 use Rattle.std.specs.Prelude.{slice_get}
+use Rattle.std.specs.List.{AllZip}
 use Rattle.std.proofs.lemmas.Bool.{cases_lt, false≢true}
-use Rattle.std.proofs.lemmas.Option.{slice_get-get_or}
+use Rattle.std.proofs.lemmas.Option.{get_or_from_slice_get, slice_get-get_or}
 use Rattle.keybytes.specs.declared.fault.Fault.TheVariants.{RingFull}
 use Rattle.heap_table.specs.HeapState.{HeapState}
 use Rattle.heap_table.specs.Pages.{pages_written}
 use Rattle.side_file.specs.Ends.{PutEnd}
+use Rattle.building.specs.TakeEnd.{PutEndLooked}
 use Rattle.building.specs.declared.copied.Copied.{Copied}
 use Rattle.builder_core.specs.Builds.{LiveValue, WorksOn, full_refusal, put_refusal}
 use Rattle.build_work.specs.WorkOn.{IsWorkOf, WorkersFollow}
@@ -16,6 +18,7 @@ use Rattle.builder_core.specs.Rings.{HasPut, PagesFollow}
 use Rattle.build_events.specs.Ranges.{next_page}
 use Rattle.build_scan.specs.SideFiles.{HaveEntries, SidesFollow, put_ends}
 use Rattle.build_events.specs.BuildSteps.{OnBuild}
+use Rattle.build_scan.proofs.LookedEnds.{all_unlooked, one_looked}
 use Rattle.build_scan.proofs.Places.{here_set, map_at}
 use Rattle.build_scan.proofs.SideKept.{sides_next}
 use Rattle.build_scan.proofs.TableBuilds.{scanned_next}
@@ -191,4 +194,52 @@ returns-clause-works g c = λ building works.
           (subst (λ (o : Option BuildState). WorkersFollow heap.schema pages (put_ends inside.sides.items) building o building.work) c.in-Some.is before.workers) sent_there all (record { number = number; columns = c.copy_page.ensures.copy.schema })
           (ap (λ (x : BuildState). x.number) c.note.ensures.noted) (ap (λ (x : BuildState). x.workers) c.note.ensures.noted)
           (ap (λ (x : BuildState). x.fed) c.note.ensures.noted) (λ none. no_page b none c.args.range c.in-Ok.page next.0));
+    }
+
+pub returns-in-Err-clause-looked : goal.returns-in-Err-clause-looked
+returns-in-Err-clause-looked g c = all_unlooked c.args.self.now.pages
+
+pub returns-then-not-has_room-clause-looked : goal.returns-then-not-has_room-clause-looked
+returns-then-not-has_room-clause-looked g c =
+    let pages : List (PutEnd Copied) = c.self.inside.pages.items in
+    let new : PutEnd Copied = c.has_room.new.self in
+    subst (λ (l : LiveValue). AllZip PutEndLooked l.pages (set pages c.args.worker new)) c.self.view_is
+    (one_looked pages pages c.args.worker c.index_mut.result.now new (all_unlooked pages) c.index_mut.ensures.value c.has_room.ensures.looked)
+
+pub returns-then-not-has_room-clause-first : goal.returns-then-not-has_room-clause-first
+returns-then-not-has_room-clause-first g c = λ end at few free.
+    let pages : List (PutEnd Copied) = c.self.inside.pages.items in
+    let old : PutEnd Copied = c.index_mut.result.now in
+    let here : slice_get pages c.args.worker ≡ Some end = ap (λ (l : LiveValue). slice_get l.pages c.args.worker) c.self.view_is ∙ at in
+    let same : old ≡ end = c.index_mut.ensures.value ∙ get_or_from_slice_get pages c.args.worker end old here in
+    c.if-not-has_room.ensures.first (subst (λ (e : PutEnd Copied). length e.sent < 4) (sym same) few)
+
+pub returns-clause-put : goal.returns-clause-put
+returns-clause-put g c =
+    let live : LiveValue = c.args.self.now in
+    let pages : List (PutEnd Copied) = c.self.inside.pages.items in
+    let old : PutEnd Copied = c.index_mut.result.now in
+    let looked : PutEnd Copied = c.has_room.new.self in
+    let new : PutEnd Copied = c.put.new.self in
+    let at : PutEnd Copied = c.index_mut-2.result.now in
+    let copied : Copied = record { build = c.number-build.result; image = c.copy_page.new.image } in
+    let follows : BuildFollows live.state.heap.schema live.state.heap.log live.state.build =
+    subst (λ (l : LiveValue). BuildFollows l.state.heap.schema l.state.heap.log l.state.build) c.self.view_is c.self.invariant.1 in
+    let below = worker_below live.state live.state.build c.args.range c.args.worker c.in-Ok.page c.in-Ok.ensures.page follows in
+    let less : c.args.worker < length pages = omega (arith, below, c.self.invariant.5.sixteen) in
+    let there : slice_get pages c.args.worker ≡ Some old =
+    slice_get-get_or pages c.args.worker old less ∙ ap (λ (end : PutEnd Copied). Some end) (sym c.index_mut.ensures.value) in
+    let same : at ≡ looked = written_twice pages c.args.worker looked at less c.index_mut-2.ensures.value in
+    let seen = c.has_room.ensures.looked in
+    let is_free : at.free ≡ looked.free = ap (λ (end : PutEnd Copied). end.free) same in
+    record {
+      put = old;
+      there = ap (λ (l : LiveValue). slice_get l.pages c.args.worker) (sym c.self.view_is) ∙ there;
+      after = new;
+      others = set-set pages c.args.worker looked new ∙ ap (λ (l : LiveValue). set l.pages c.args.worker new) c.self.view_is;
+      copied = copied;
+      sent = c.put.ensures.sent ∙ ap (λ (end : PutEnd Copied). end.sent ++ copied ∷ []) same ∙ ap (λ (s : List Copied). s ++ copied ∷ []) seen.sent;
+      ring = c.put.ensures.ring ∙ ap (λ (end : PutEnd Copied). end.ring) same ∙ seen.ring;
+      capacity = c.put.ensures.capacity ∙ ap (λ (end : PutEnd Copied). end.capacity) same ∙ seen.capacity;
+      free = omega (arith, is_free, c.put.ensures.free, seen.free);
     }
