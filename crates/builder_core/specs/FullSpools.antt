@@ -39,8 +39,8 @@ abbrev pub pairs_put_to : BuildState → KeySpecValue → List LogRec → ℕ �
 pairs_put_to b spec log worker = flat_map (pairs_at_scan (scanning_of b spec) log) (put_to b worker)
 
 module _ {S : Type 0} (is_full : S → Pair → Type 0) (stake : S → Option Stake) where
-  -- a spool of that worker, for one of the build's indexes, had no room left for a pair of a page that was copied for the worker; pool and
-  -- quota tell which spool it is
+  -- a spool, with the pool and the quota of that worker's spool for one of the build's indexes, had no room left for a pair of a page that was
+  -- copied for the worker
   pub record WasFull (b : BuildState) (log : List LogRec) (worker : ℕ) (stakes : List (Option Stake)) : Type 0 where
     pub index : ℕ
     pub spec : KeySpecValue
