@@ -1,4 +1,4 @@
-ghost use Rattle.std.specs.Prelude.{◌≡◌, ◌≤◌, ◌⊎◌, ◌+◌, ◌++◌, [], ℕ, All, length, map};
+ghost use Rattle.std.specs.Prelude.{◌≡◌, ◌<◌, ◌≤◌, ◌⊎◌, ◌+◌, ◌++◌, [], ℕ, All, length, map};
 ghost use Rattle.std.specs.Prelude.{IfErr, IfOk, OnOk, OnErr};
 ghost use Rattle.side_file.specs.Ends.{ring_take};
 ghost use Rattle.heap_table.specs.Images.{IsReadable};
@@ -137,6 +137,7 @@ impl Intake {
         ensures schema { maker.new.schema ≡ maker.old.schema }
         ensures specs { maker.new.specs ≡ maker.old.specs }
         ensures readable { OnOk result (All IsReadable (next_images 1 maker.old.schema self.old)) }
+        ensures copy { OnErr result (length (next_images 1 maker.old.schema self.old) ≡ 1) }
         ensures build { self.new.build ≡ self.old.build }
         ensures end { self.new.end ≡ after_taking 1 self.old.end }
         ensures uncounted { OnErr result (self.new.taken ≡ self.old.taken) }
@@ -181,6 +182,7 @@ impl Intake {
         ensures readable { OnOk result (All IsReadable (next_images (length self.old.end.known) maker.old.schema self.old)) }
         ensures build { self.new.build ≡ self.old.build }
         ensures ring { self.new.end.ring ≡ self.old.end.ring }
+        ensures copy { IfErr result (MemoryOnlyIf (0 < length self.old.end.known)) }
         ensures failed { OnErr result ((n : ℕ) × (n ≤ length self.old.end.known) × StopsAfter n maker.old.schema self.old self.new) }
         ensures fault { IfErr result (λ fault. (fault ≡ Fault.NoPage) ⊎ (fault ≡ Fault.Memory)) }
         ensures full { IfErr result (NoPageOnlyIf

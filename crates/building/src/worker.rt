@@ -5,7 +5,7 @@ ghost use Rattle.run_maker.specs.Spooling.{MemoryOnlyIf};
 ghost use Rattle.building.specs.SpoolValue.{HaveFullFor, spool_value, runs_of, open_runs_of};
 ghost use Rattle.building.specs.TakeEnd.{PutEndLooked};
 ghost use Rattle.building.specs.Work.{at_start, knowing, TakesSome};
-ghost use Rattle.building.specs.WorkerValue.{HasReceived, HasTaken, IsCounting, IsHolding, IsShortage, SameWorker};
+ghost use Rattle.building.specs.WorkerValue.{HasReceived, HasTaken, IsCounting, IsHolding, IsShortage, SameWorker, SeesOwnCopy};
 
 mod sealing;
 
@@ -180,6 +180,7 @@ impl<S: Spool, T: Table> Worker<S, T> {
         ensures fault { IfErr result (λ fault. self.new.fault ≡ Some fault) }
         ensures short { IfErr result IsShortage }
         ensures took { OnErr result (TakesSome self.old.intake.end self.new.intake.end) }
+        ensures copy { self.old.fault ≡ None → OnErr result ((self.old.handed ≡ false) × SeesOwnCopy self.old) }
         ensures full { self.old.fault ≡ None → IfErr result (NoPageOnlyIf
             (HaveFullFor S.is_full S.runs S.open_run S.stake (HasReceived self.new) self.new.spools)) }
         ensures want { self.old.fault ≡ None → IfErr result (MemoryOnlyIf (AreReady (runs_of self.new.spools) (open_runs_of self.new.spools))) }

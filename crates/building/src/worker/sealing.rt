@@ -5,7 +5,7 @@ ghost use Rattle.run_maker.specs.Making.{AreReady};
 ghost use Rattle.run_maker.specs.Spooling.{MemoryOnlyIf};
 ghost use Rattle.building.specs.SpoolValue.{HaveFullFor, runs_of, open_runs_of};
 ghost use Rattle.building.specs.Work.{after_seal, TakesSome};
-ghost use Rattle.building.specs.WorkerValue.{HasReceived, HasSealed, IsShortage, SameWorker};
+ghost use Rattle.building.specs.WorkerValue.{HasReceived, HasSealed, IsShortage, SameWorker, SeesCopy};
 
 use super::Worker;
 use crate::Table;
@@ -25,6 +25,7 @@ impl<S: Spool, T: Table> Worker<S, T> {
         ensures fault { IfErr result (λ fault. self.new.fault ≡ Some fault) }
         ensures short { IfErr result IsShortage }
         ensures took { OnErr result (TakesSome self.old.intake.end self.new.intake.end) }
+        ensures copy { self.old.fault ≡ None → IfErr result (MemoryOnlyIf (SeesCopy self.old)) }
         ensures full { self.old.fault ≡ None → IfErr result (NoPageOnlyIf
             (HaveFullFor S.is_full S.runs S.open_run S.stake (HasReceived self.new) self.new.spools)) }
         ensures want { self.old.fault ≡ None → IfErr result (MemoryOnlyIf (AreReady (runs_of self.new.spools) (open_runs_of self.new.spools))) }
