@@ -104,7 +104,7 @@ want_keeps {X} f s event fault new wants = by_event event wants where
   by_event (Start plan) is = ap (of_both f) is
   by_event (Scan range worker) is = ap (of_both f) is
   by_event (Digest worker) is = ap (of_both f) is.1
-  by_event (Seal worker) is = ap (of_both f) is
+  by_event (Seal worker) is = ap (of_both f) is.1
   by_event (Load index) is = ap (of_both f) is.1
   by_event (Feed index most) never = absurd never
   by_event (Apply index most) some = let on = on_build s.live.build _ some in ap (of_both f) on.1.2

@@ -127,7 +127,8 @@ AfterWant (Commit txn) fault s new = new ≡ s
 AfterWant (Start plan) fault s new = new ≡ s
 AfterWant (Scan range worker) fault s new = new ≡ s
 AfterWant (Digest worker) fault s new = Waits worker s × (new ≡ spoiled_by fault s)
-AfterWant (Seal worker) fault s new = new ≡ spoiled_by fault s
+-- to close runs takes no memory, so a seal may want it only for a copy
+AfterWant (Seal worker) fault s new = (fault ≡ Memory → Waits worker s) × (new ≡ spoiled_by fault s)
 AfterWant (Load index) fault s new = ((index_at s.work.indexes index).loaded ≡ false) × (new ≡ spoiled_by fault s)
 AfterWant (Feed index most) fault s new = ⊥
 AfterWant (Apply index most) fault s new = AppliesSome index most s new

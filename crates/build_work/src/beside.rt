@@ -4,7 +4,8 @@ ghost use Rattle.std.specs.List.{list_all};
 ghost use Rattle.run_spool.specs.Spools.{NoPageOnlyIf};
 ghost use Rattle.building.specs.SpoolValue.{spool_value};
 ghost use Rattle.build_work.specs.FullSpools.{HadFull};
-ghost use Rattle.building.specs.WorkerValue.{IsShortage};
+ghost use Rattle.building.specs.WorkerValue.{IsShortage, SeesCopy, SeesOwnCopy};
+ghost use Rattle.run_maker.specs.Spooling.{MemoryOnlyIf};
 ghost use Rattle.build_work.specs.BuildingValue.{given_up, intakes, IsUnloaded};
 ghost use Rattle.build_work.specs.Holding.{all_spools, lent_spools, spools_state};
 ghost use Rattle.build_work.specs.Equipped.{HasRoomFor, IsEquipped, IsFresh};
@@ -223,6 +224,7 @@ impl<S: Spool, T: Table> Building<S, T> {
         ensures spoiled { IfErr result (λ fault. IsSpoiled fault self.old self.new) }
         ensures short { IfErr result IsShortage }
         ensures full { IfErr result (NoPageOnlyIf (IfSome (slice_get self.old.workers worker) (HadFull S.is_full S.runs S.open_run S.stake))) }
+        ensures copy { OnErr result (IfSome (slice_get self.old.workers worker) SeesOwnCopy) }
     {
         let Some(work) = &mut self.work else {
             unreachable!()
@@ -241,6 +243,7 @@ impl<S: Spool, T: Table> Building<S, T> {
         ensures spoiled { IfErr result (λ fault. IsSpoiled fault self.old self.new) }
         ensures short { IfErr result IsShortage }
         ensures full { IfErr result (NoPageOnlyIf (IfSome (slice_get self.old.workers worker) (HadFull S.is_full S.runs S.open_run S.stake))) }
+        ensures copy { IfErr result (MemoryOnlyIf (IfSome (slice_get self.old.workers worker) SeesCopy)) }
     {
         let Some(work) = &mut self.work else {
             unreachable!()

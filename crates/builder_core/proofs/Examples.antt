@@ -1,5 +1,5 @@
 -- The definitions computed at small values that a reader can check by hand.
-use Rattle.std.proofs.Common.{◌≡◌, ◌∙◌, ℕ, pos, negsuc, Bool, true, false, List, [], ◌∷◌, Some, None, refl, sym, ap, inl, inr}
+use Rattle.std.proofs.Common.{◌≡◌, ◌∙◌, ◌<◌, arith, ℕ, pos, negsuc, Bool, true, false, List, [], ◌∷◌, Some, None, refl, sym, ap, inl, inr}
 use Rattle.std.specs.Prelude.{◌||◌, ◌++◌, replicate}
 use Rattle.std.proofs.lemmas.Option.{same_Some}
 use Rattle.std.specs.Ordering.{eq_by_cmp}
@@ -160,16 +160,20 @@ switch_before_a_load = refl
 switched : (new : CoreState) (reply : Reply) → Does (while_built 2 both_pages 2 true) Switch reply new → reply ≡ Switched 7 (Ready 0 ∷ [])
 switched new reply does = does.1 ∙ ap (λ number. Switched number does.0.1) does.2.0 ∙ ap (Switched 7) does.2.1
 
--- a seal that wants memory spoils the build, which from then on answers so after the counts
+-- a seal that wants memory for a copy spoils the build, which from then on answers so after the counts
 abbrev spoiled_build : CoreState
 spoiled_build = record before_a_scan { work = spoiled_work Memory before_a_scan.work }
 
 spoils : AfterWant (Seal 0) Memory before_a_scan spoiled_build
-spoils = refl
+spoils = (λ memory. omega arith, refl)
+
+-- one that has nothing to take wants none
+takes_nothing : AfterWant (Seal 0) Memory (while_built 2 both_pages 2 false) spoiled_build → ⊥
+takes_nothing after = let waits : 0 < 0 = after.0 refl in omega (arith, waits)
 
 -- and so does one that wants a page
 spoils_without_page : IsRefused before_a_scan (Seal 0) NoPage (record before_a_scan { work = spoiled_work NoPage before_a_scan.work })
-spoils_without_page = inr (refl, inl refl, refl)
+spoils_without_page = inr (refl, inl refl, (λ memory. absurd (let is : NoPage ≡ Memory = memory in cc), refl))
 
 page_stays_wanted : refusal (record before_a_scan { work = spoiled_work NoPage before_a_scan.work }) (Load 0) ≡ Some NoPage
 page_stays_wanted = refl

@@ -2,6 +2,7 @@
 ghost use Rattle.std.specs.Prelude.{◌≡◌, ◌++◌, ◌<◌, ◌≤◌, ◌+◌, All, length, slice_get, false, Some, None, IsSome, IfSome, IfOk, IfErr, OnOk, OnErr, MatchOption, MatchResult};
 ghost use Rattle.side_file.specs.Ends.{PutEnd};
 ghost use Rattle.run_spool.specs.Spools.{NoPageOnlyIf};
+ghost use Rattle.run_maker.specs.Spooling.{MemoryOnlyIf};
 ghost use Rattle.building.specs.WorkerValue.{IsHolding};
 ghost use Rattle.building.specs.declared.copied.Copied.{Copied};
 ghost use Rattle.builder_core.specs.Builds.{core_state, cause_of, put_refusal, HasLooked, SeesRing, IsLoading, MayWork, MayLoad, WorksOn};
@@ -137,6 +138,7 @@ impl<T: Table> Live<T> {
     ) -> Result<usize, Fault>
         requires works { WorksOn self.old building.old }
         requires runs { MayWork self.old building.old worker }
+        ensures waits { IfErr result (MemoryOnlyIf (Waits worker (core_state self.old building.old))) }
         ensures sealed { IfOk result (λ images. Seals worker (core_state self.old building.old) images (core_state self.new building.new)) }
         ensures spoiled { IfErr result (λ fault. core_state self.new building.new ≡ spoiled_by fault (core_state self.old building.old)) }
         ensures works { WorksOn self.new building.new }

@@ -154,7 +154,7 @@ want_keeps (Scan range worker) old new fault keeps none after = unchanged old ne
 want_keeps (Digest worker) old new fault keeps none after =
     on_want old new old.live.build (λ b. worker_refusal b old.work worker) fault refl none after.1
 want_keeps (Seal worker) old new fault keeps none after =
-    on_want old new old.live.build (λ b. worker_refusal b old.work worker) fault refl none after
+    on_want old new old.live.build (λ b. worker_refusal b old.work worker) fault refl none after.1
 want_keeps (Load index) old new fault keeps none after =
     on_want old new old.live.build (λ b. load_refusal b old index) fault refl none after.1
 want_keeps (Feed index most) old new fault keeps none after = absurd after

@@ -1,22 +1,24 @@
-use Rattle.std.proofs.Common.{◌≡◌, ◌∙◌, None, refl, sym, subst}
+use Rattle.std.proofs.Common.{◌≡◌, ◌∙◌, ◌<◌, None, length, refl, sym, subst, arith}
 use Rattle.std.specs.Prelude.{IfOk, IfErr, IfSome, IsSome}
 use Rattle.std.specs.List.{slice_get}
 use Rattle.std.proofs.lemmas.Result.{IfErr-weaker}
 use Rattle.side_file.specs.Ends.{PutEnd}
 use Rattle.run_spool.specs.Spools.{NoPageOnlyIf}
+use Rattle.run_maker.specs.Spooling.{MemoryOnlyIf}
 use Rattle.building.specs.declared.copied.Copied.{Copied}
 use Rattle.builder_core.specs.Builds.{LiveValue, core_state}
 use Rattle.build_work.specs.BuildingValue.{BuildingValue}
 use Rattle.build_events.specs.CoreState.{CoreState}
 use Rattle.build_work.specs.FullSpools.{HadFull}
 use Rattle.builder_core.specs.FullSpools.{WorkerWasFull}
-use Rattle.building.specs.WorkerValue.{WorkerValue}
-use Rattle.build_events.specs.BuildSteps.{Seals}
+use Rattle.building.specs.WorkerValue.{SeesCopy, WorkerValue}
+use Rattle.build_events.specs.BuildSteps.{Seals, Waits}
 use Rattle.build_events.specs.Steps.{spoiled_by}
 use Rattle.builder_core.proofs.FullSpools.{full_in_build}
 use Rattle.builder_core.proofs.Looked.{state_looked, runs_looked}
 use Rattle.build_scan.proofs.Places.{below, map_at}
 use Rattle.builder_core.proofs.Sealed.{works_after_seal, seals_after}
+use Rattle.builder_core.proofs.Taken.{waits_some}
 use Rattle.builder_core.proofs.Takes.{put_of, spoiled_after}
 use Rattle.builder_core.proofs.live.Live.seal.Goals as goal
 
@@ -48,6 +50,22 @@ returns-clause-works g c =
     let run = runs_looked c.args.self.now live c.args.building.now building may.build may.work c.look.ensures.looked may.runs in
     works_after_seal live building c.seal.new.self may.build may.work run may.fine (put_of live may.build run.build_is c.look.ensures.put) c.args.worker c.look.result
     c.look.ensures.sees c.seal.result c.seal.ensures.did c.seal.ensures.spoiled
+
+pub returns-clause-waits : goal.returns-clause-waits
+returns-clause-waits g c =
+    let may = c.requires.runs in
+    let live : LiveValue = c.look.new.self in
+    let building : BuildingValue = c.look.new.building in
+    let run = runs_looked c.args.self.now live c.args.building.now building may.build may.work c.look.ensures.looked may.runs in
+    let sees = c.look.ensures.sees in
+    IfErr-weaker c.seal.result (MemoryOnlyIf (IfSome (slice_get building.workers c.args.worker) SeesCopy))
+    (MemoryOnlyIf (Waits c.args.worker (core_state c.args.self.now c.args.building.now)))
+    (λ fault only memory.
+    let known : 0 < length sees.it.intake.end.known = subst (λ o. IfSome o SeesCopy) sees.there (only memory) in
+    subst (Waits c.args.worker) (state_looked c.args.self.now live c.args.building.now building c.look.ensures.looked)
+    (waits_some live building may.build may.work run may.fine (put_of live may.build run.build_is c.look.ensures.put) c.args.worker c.look.result sees
+    (omega (arith, sees.seen, known))))
+    c.seal.ensures.copy
 
 pub returns-clause-sealed : goal.returns-clause-sealed
 returns-clause-sealed g c =
