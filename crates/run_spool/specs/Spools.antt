@@ -37,22 +37,11 @@ stakes_in stakes = filter_map (λ stake. stake) stakes
 abbrev pub without_pages : Option Stake → Option Stake
 without_pages stake = option_map (λ s. record { pool = s.pool; quota = 0 }) stake
 
--- there is a pair for which the spool has no room left
-abbrev pub IsFullForOne : {S : Type 0} → (S → Pair → Type 0) → S → Type 0
-IsFullForOne is_full spool = (pair : Pair) × is_full spool pair
-
--- one of these pairs is such a pair
+-- the spool has no room left for one of these pairs
 abbrev pub IsFullForOneOf : {S : Type 0} → (S → Pair → Type 0) → List Pair → S → Type 0
 IsFullForOneOf is_full pairs spool = (pair : Pair) × Contains pairs pair × is_full spool pair
 
 module _ {S : Type 0} where
-  -- one of these spools has no room left for a pair
-  pub record HasFull (is_full : S → Pair → Type 0) (spools : List S) : Type 0 where
-    pub index : ℕ
-    pub spool : S
-    pub there : slice_get spools index ≡ Some spool
-    pub full : IsFullForOne is_full spool
-
   -- one of these spools has no room left for a pair that is given for its index
   pub record HasFullFor (is_full : S → Pair → Type 0) (given : ℕ → Pair → Type 0) (spools : List S) : Type 0 where
     pub index : ℕ
