@@ -1,7 +1,8 @@
 //! The side-files of a build together, one for each index: their entries are dropped.
 ghost use Rattle.std.specs.Prelude.{◌≡◌, [], All, map};
+ghost use Rattle.std.specs.List.{AllZip};
 ghost use Rattle.side_file.specs.Ends.{ring_take};
-ghost use Rattle.building.specs.TakeEnd.{take_end};
+ghost use Rattle.building.specs.TakeEnd.{take_end, PutEndLooked};
 ghost use Rattle.build_scan.specs.SideFiles.{side_rings, taken_rings, drained_end, put_ends};
 
 use rtrb::Consumer;
@@ -22,6 +23,7 @@ pub fn empty_all(sides: &mut Vec<SideFile>, ends: &mut Vec<Consumer<Entry>>)
     requires { side_rings (put_ends sides.old.items) ≡ taken_rings (map take_end ends.old.items) }
     ensures left { All (λ side. (side.left ≡ []) × (side.fed ≡ [])) sides.new.items }
     ensures rings { side_rings (put_ends sides.new.items) ≡ side_rings (put_ends sides.old.items) }
+    ensures looked { AllZip PutEndLooked (put_ends sides.old.items) (put_ends sides.new.items) }
     ensures drained { map take_end ends.new.items ≡ map drained_end (put_ends sides.new.items) }
 {
     for index in 0..sides.len() {
@@ -35,6 +37,7 @@ fn empty_side(side: &mut SideFile, end: &mut Consumer<Entry>)
     ensures left { side.new.left ≡ [] }
     ensures fed { side.new.fed ≡ [] }
     ensures ring { side.new.end.ring ≡ side.old.end.ring }
+    ensures looked { PutEndLooked side.old.end side.new.end }
     ensures drained { take_end end.new ≡ drained_end side.new.end }
 {
     for _ in 0..side.beside(end) {

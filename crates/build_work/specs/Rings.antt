@@ -26,6 +26,10 @@ take_rings intakes = map (λ intake. intake.end.ring) intakes
 abbrev pub all_sent : List (PutEnd Copied) → List (List Copied)
 all_sent pages = map (λ end. end.sent) pages
 
+-- an end that knows each of its ring's places to be free, and was sent what it was
+abbrev pub all_free : PutEnd Copied → PutEnd Copied
+all_free end = record end { free = 4 }
+
 -- the ends that take are those of a table with these rings
 pub record AreTakeEnds (page_rings entry_rings : List RingId) (intakes : List IntakeValue) (sides : List (TakeEnd Entry)) : Type 0 where
   pub intakes_are : take_rings intakes ≡ page_rings

@@ -5,7 +5,7 @@ ghost use Rattle.building.specs.IntakeValue.{IntakeValue};
 ghost use Rattle.building.specs.WorkerValue.{IsHolding, WorkerValue};
 ghost use Rattle.building.specs.declared.copied.Copied.{Copied};
 ghost use Rattle.build_work.specs.BuildingValue.{intakes};
-ghost use Rattle.build_work.specs.Rings.{put_rings, take_rings, all_sent, begun_on, AreLooked, AreSealed, FirstAreSealed, IsUnsealed, IsSealed};
+ghost use Rattle.build_work.specs.Rings.{put_rings, take_rings, all_sent, all_free, begun_on, AreLooked, AreSealed, FirstAreSealed, IsUnsealed, IsSealed};
 
 use building::{Intake, PagePutter, Table, Worker};
 use run_spool::Spool;
@@ -15,6 +15,7 @@ pub fn restart_all(pages: &mut Vec<PagePutter>, intakes: &mut Vec<Intake>, build
     requires { put_rings pages.old.items ≡ take_rings intakes.old.items }
     ensures rings { put_rings pages.new.items ≡ put_rings pages.old.items }
     ensures sent { all_sent pages.new.items ≡ all_sent pages.old.items }
+    ensures free { pages.new.items ≡ map all_free pages.old.items }
     ensures intakes { intakes.new.items ≡ map (begun_on build) pages.new.items }
     ensures room { vec_capacity intakes.new ≡ vec_capacity intakes.old }
 {

@@ -186,11 +186,13 @@ pub record HasFed (index most : ℕ) (live : LiveValue) (count : ℕ) (new : Liv
   pub exact : least_fed build live.state.heap.log index most ≤ put.free → count ≡ least_fed build live.state.heap.log index most
   -- a place that was never used is known to be free
   pub first : least_fed build live.state.heap.log index most + length put.sent ≤ ring_most → count ≡ least_fed build live.state.heap.log index most
-  -- fewer are moved only where no place is known to be free any more
   pub after : PutEnd Entry
+  -- each takes one place, and fewer are moved only where no place is known to be free any more
+  pub free : put.free ≤ after.free + count
   pub stops : count < least_fed build live.state.heap.log index most → after.free ≡ 0
   -- they are the next of its entries, put behind all that the ring was sent
   pub ring : after.ring ≡ put.ring
+  pub capacity : after.capacity ≡ put.capacity
   pub sent : (spec : KeySpecValue) → slice_get build.specs index ≡ Some spec → after.sent ≡ put.sent ++ next_entries build live.state.heap.log index spec count
   pub others : new.sides ≡ set live.sides index after
   pub left : new.state ≡ record live.state { build = Some (after_feed build index count) }

@@ -1,4 +1,4 @@
-ghost use Rattle.std.specs.Prelude.{◌≡◌, [], None, length, map, IfOk, IfErr};
+ghost use Rattle.std.specs.Prelude.{◌≡◌, [], All, None, length, map, IfOk, IfErr};
 ghost use Rattle.building.specs.TakeEnd.{take_end};
 ghost use Rattle.build_work.specs.Rings.{put_rings, take_rings, all_sent, AreOfBuilds};
 ghost use Rattle.build_scan.specs.SideFiles.{side_rings, taken_rings, put_ends};
@@ -46,7 +46,7 @@ impl Model for Parts {
 
     ghost Value = { PartsValue };
 
-    ghost use Rattle.std.specs.Prelude.{map};
+    ghost use Rattle.std.specs.Prelude.{◌≡◌, [], All, map};
     ghost use Rattle.building.specs.TakeEnd.{take_end};
     ghost use Rattle.build_scan.specs.SideFiles.{put_ends, side_rings};
     ghost use Rattle.build_work.specs.Rings.{put_rings, all_sent, AreTakeEnds, AreOfBuilds};
@@ -61,7 +61,8 @@ impl Model for Parts {
     ghost invariant = { λ parts. ArePutEnds (put_rings parts.pages.items) (side_rings (put_ends parts.sides.items)) parts.pages.items
         (put_ends parts.sides.items)
         × AreTakeEnds (put_rings parts.pages.items) (side_rings (put_ends parts.sides.items)) parts.intakes.items (map take_end parts.side_ends.items)
-        × AreOfBuilds 0 (all_sent parts.pages.items) };
+        × AreOfBuilds 0 (all_sent parts.pages.items)
+        × All (λ end. end.sent ≡ []) parts.pages.items × All (λ end. end.sent ≡ []) (put_ends parts.sides.items) };
 }
 
 impl Parts {
@@ -97,11 +98,13 @@ impl Parts {
         &self.heap
     }
 
-    /// The table under its name, with no index and no build, and the other ends of its rings.
+    /// The table under its name, with no index and no build, and the other ends of its rings, which were sent nothing yet.
     pub fn open<T: Table>(self) -> (Live<T>, Ends<T>)
         requires pages { self.pages ≡ T.pages }
         requires sides { self.sides ≡ T.sides }
         ensures live { result.0.state ≡ record { heap = self.heap; ready = []; builds = 0; build = None } }
+        ensures no_copies { All (λ end. end.sent ≡ []) result.0.pages }
+        ensures no_entries { All (λ end. end.sent ≡ []) result.0.sides }
     {
         let Parts {
             alloc,
@@ -121,6 +124,7 @@ fn page_rings(alloc: Global) -> Result<(Vec<PagePutter>, Vec<Intake>), Fault>
     ensures rings { IfOk result (λ rings. put_rings rings.0.items ≡ take_rings rings.1.items) }
     ensures sixteen { IfOk result (λ rings. length rings.0.items ≡ 16) }
     ensures unused { IfOk result (λ rings. AreOfBuilds 0 (all_sent rings.0.items)) }
+    ensures no_copies { IfOk result (λ rings. All (λ end. end.sent ≡ []) rings.0.items) }
     ensures memory { IfErr result (λ fault. fault ≡ Fault.Memory) }
 {
     let mut pages = Vec::with_capacity(alloc, WORKERS_MAX)?;
@@ -137,6 +141,7 @@ fn page_rings(alloc: Global) -> Result<(Vec<PagePutter>, Vec<Intake>), Fault>
 fn entry_rings(alloc: Global) -> Result<(Vec<SideFile>, Vec<Consumer<Entry>>), Fault>
     ensures rings { IfOk result (λ rings. side_rings (put_ends rings.0.items) ≡ taken_rings (map take_end rings.1.items)) }
     ensures eight { IfOk result (λ rings. length rings.0.items ≡ 8) }
+    ensures no_entries { IfOk result (λ rings. All (λ end. end.sent ≡ []) (put_ends rings.0.items)) }
     ensures memory { IfErr result (λ fault. fault ≡ Fault.Memory) }
 {
     let mut sides = Vec::with_capacity(alloc, INDEXES_MAX)?;

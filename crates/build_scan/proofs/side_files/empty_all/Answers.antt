@@ -1,10 +1,13 @@
-use Rattle.std.proofs.Common.{rules, ◌≡◌, ℕ, ◌<◌, ◌+◌, length, map, set, refl, sym, ap, ◌∙◌, subst, arith}
-use Rattle.std.proofs.lemmas.List.{length-map, length-set, map-set}
+use Rattle.std.proofs.Common.{rules, ◌≡◌, ℕ, ◌<◌, ◌+◌, List, length, map, set, get_or, refl, sym, ap, ◌∙◌, subst, arith}
+use Rattle.std.specs.List.{AllZip}
+use Rattle.std.proofs.lemmas.List.{get_or-map, length-map, length-set, map-set}
+use Rattle.side_file.specs.Ends.{PutEnd}
 use Rattle.side_file.specs.SideFileValue.{SideFileValue}
 use Rattle.side_file.specs.declared.entry.Entry.{Entry}
-use Rattle.building.specs.TakeEnd.{TakeEnd, take_end}
-use Rattle.build_scan.specs.SideFiles.{taken_rings}
+use Rattle.building.specs.TakeEnd.{PutEndLooked, TakeEnd, take_end}
+use Rattle.build_scan.specs.SideFiles.{taken_rings, put_ends}
 use Rattle.build_scan.proofs.Emptied.{IsEmptied, AreEmptied, more_emptied, all_emptied, all_drained}
+use Rattle.build_scan.proofs.LookedEnds.{all_unlooked, one_looked}
 use Rattle.build_scan.proofs.SideEnds.{as_many, paired, rings_stay, taken_stay}
 use Rattle.build_scan.proofs.side_files.empty_all.Goals as goal
 
@@ -12,6 +15,7 @@ pub loop-index-init : goal.loop-index-init
 loop-index-init c = record {
   emptied = λ k side end less at there. absurd (omega (arith, less));
   rings = refl;
+  looked = all_unlooked (put_ends c.args.sides.now.items);
   other_rings = c.requires;
   many = search rules;
 }
@@ -40,11 +44,16 @@ loop-index-preserved c =
     let emptied : IsEmptied side (take_end end) = record { left = c.empty_side.ensures.left; fed = c.empty_side.ensures.fed; drained = c.empty_side.ensures.drained } in
     let drained : take_end end ≡ _ = c.empty_side.ensures.drained in
     let ring_end = ap (λ (e : TakeEnd Entry). e.ring) drained ∙ c.empty_side.ensures.ring ∙ same in
+    let at : old.end ≡ get_or (put_ends sides) index old.end =
+    ap (λ (s : SideFileValue). s.end) c.index_mut.ensures.value ∙ sym (get_or-map (λ (s : SideFileValue). s.end) sides index old old.end less) in
     let stay = rings_stay sides _ index old side c.loop-index.invariant.other_rings c.index_mut.ensures.value c.empty_side.ensures.ring in
     record {
       emptied = subst (AreEmptied (index + 1) (set sides index side)) (sym (map-set take_end ends index end))
           (more_emptied index sides (map take_end ends) side (take_end end) c.loop-index.invariant.emptied emptied);
       rings = rings_stay sides _ index old side c.loop-index.invariant.rings c.index_mut.ensures.value c.empty_side.ensures.ring;
+      looked =
+          subst (λ (es : List (PutEnd Entry)). AllZip PutEndLooked (put_ends c.args.sides.now.items) es) (sym (map-set (λ (s : SideFileValue). s.end) sides index side))
+          (one_looked (put_ends c.args.sides.now.items) (put_ends sides) index old.end side.end c.loop-index.invariant.looked at c.empty_side.ensures.looked);
       other_rings = stay ∙ sym (taken_stay ends _ index c.index_mut-in-loop-index.result.now end refl c.index_mut-in-loop-index.ensures.value ring_end);
       many = length-set sides index side ∙ c.loop-index.invariant.many;
     }

@@ -1,6 +1,6 @@
 use Rattle.std.proofs.Common.{rules, arith, ap, ◌≡◌, ◌∙◌, [], sym}
 use Rattle.rtrb.specs.Ring.{received, known_items}
-use Rattle.side_file.specs.Ends.{ring_take}
+use Rattle.side_file.specs.Ends.{PutEnd, ring_take}
 use Rattle.side_file.specs.SideFileValue.{SideFileValue}
 use Rattle.building.proofs.Rings.{all_taken}
 use Rattle.building.specs.TakeEnd.{TakeEnd}
@@ -20,3 +20,15 @@ returns-clause-drained c =
     let Made : _ → _ → _ → TakeEnd Entry = λ r xs ys. record { ring = r; received = xs; known = ys } in
     ap (λ r. Made r (received c.loop.end) (known_items c.loop.end)) same ∙ ap (λ xs. Made c.reset.new.self.end.ring xs (known_items c.loop.end)) all
     ∙ ap (Made c.reset.new.self.end.ring c.reset.new.self.end.sent) none
+
+pub returns-clause-looked : goal.returns-clause-looked
+returns-clause-looked c =
+    let looks = c.beside-end.ensures.looks in
+    let same = ap (λ (s : SideFileValue). s.end) c.reset.ensures.reset in
+    let is_free = ap (λ (e : PutEnd Entry). e.free) same in
+    record {
+      ring = ap (λ (e : PutEnd Entry). e.ring) same ∙ looks.ring;
+      capacity = ap (λ (e : PutEnd Entry). e.capacity) same ∙ looks.capacity;
+      sent = ap (λ (e : PutEnd Entry). e.sent) same ∙ looks.sent;
+      free = omega (arith, is_free, looks.free);
+    }

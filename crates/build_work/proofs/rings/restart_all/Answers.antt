@@ -1,12 +1,23 @@
-use Rattle.std.proofs.Common.{◌≡◌, ◌∙◌, ◌<◌, ◌++◌, ◌∷◌, [], List, length, map, take, take_all, sym, ap, arith, get_or}
+use Rattle.std.proofs.Common.{◌≡◌, ◌∙◌, ◌<◌, ◌++◌, ◌∷◌, [], List, length, map, take, take_all, refl, sym, ap, ap₂, subst, arith, get_or}
+use Rattle.std.specs.List.{All}
 use Rattle.std.proofs.lemmas.List.{map-append, take_more_set}
+use Rattle.std.proofs.lemmas.List.Elements.{All-head, All-tail, All-push}
 use Rattle.side_file.specs.Ends.{PutEnd, RingId}
 use Rattle.building.specs.Work.{at_start}
 use Rattle.building.specs.IntakeValue.{IntakeValue}
 use Rattle.building.specs.declared.copied.Copied.{Copied}
-use Rattle.build_work.specs.Rings.{begun_on}
+use Rattle.build_work.specs.Rings.{all_free, begun_on}
 use Rattle.build_scan.proofs.Places.{kept, both_at, as_long}
 use Rattle.build_work.proofs.rings.restart_all.Goals as goal
+
+abbrev IsFree : PutEnd Copied → Type 0
+IsFree end = end.free ≡ 4
+
+-- ends that know each place to be free
+free_already : (ends : List (PutEnd Copied)) → All IsFree ends → map all_free ends ≡ ends
+free_already [] all = refl
+free_already (end ∷ ends) all =
+    ap₂ ◌∷◌ (ap (λ n. record end { free = n }) (sym (All-head IsFree end ends all))) (free_already ends (All-tail IsFree end ends all))
 
 pub restart-requires : goal.restart-requires
 restart-requires c =
@@ -44,6 +55,9 @@ loop-k-preserved c =
     record {
       put_ones = kept (λ (end : PutEnd Copied). end.ring) pages _ c.loop-k.k new old c.loop-k.invariant.put_ones (ap (λ (end : PutEnd Copied). end.ring) put);
       sent = kept (λ (end : PutEnd Copied). end.sent) pages _ c.loop-k.k new old c.loop-k.invariant.sent (ap (λ (end : PutEnd Copied). end.sent) put);
+      freed = kept all_free pages _ c.loop-k.k new old c.loop-k.invariant.freed (ap all_free put);
+      free = subst (All IsFree) (sym (take_more_set pages c.loop-k.k new less))
+          (All-push IsFree (take c.loop-k.k pages) new c.loop-k.invariant.free (ap (λ (end : PutEnd Copied). end.free) c.restart.ensures.putter));
       take_ones = kept (λ (w : IntakeValue). w.end.ring) workers _ c.loop-k.k c.restart.new.self worker c.loop-k.invariant.take_ones
           (ap (λ (w : IntakeValue). w.end.ring) (c.restart.ensures.worker) ∙ ap (λ (w : IntakeValue). w.end.ring) c.index_mut.ensures.value);
       so_far =
@@ -64,3 +78,9 @@ returns-clause-intakes c =
     sym (take_all c.loop-k.k workers (omega (arith, long, kept)))
     ∙ c.loop-k.invariant.so_far
     ∙ ap (map (begun_on c.args.build)) (take_all c.loop-k.k pages (omega (arith, kept)))
+
+pub returns-clause-free : goal.returns-clause-free
+returns-clause-free c =
+    let pages : List (PutEnd Copied) = c.loop-k.pages.items in
+    let many = as_long (λ (end : PutEnd Copied). end.ring) (λ (end : PutEnd Copied). end.ring) pages c.args.pages.now.items c.loop-k.invariant.put_ones in
+    sym (free_already pages (subst (All IsFree) (take_all c.loop-k.k pages (omega (arith, many))) c.loop-k.invariant.free)) ∙ c.loop-k.invariant.freed

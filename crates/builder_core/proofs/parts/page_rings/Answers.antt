@@ -32,6 +32,8 @@ loop-preserved c =
       intakes = omega (arith, ap length intakes, length-append c.loop.intakes.items (new ∷ []), c.loop.invariant.intakes);
       unused = subst (All None_sent) (sym all) (All-push None_sent (all_sent c.loop.pages.items) put.sent c.loop.invariant.unused
           (subst None_sent (sym sent) (All-nil (λ copied. copied.build ≤ 0))));
+      no_copies = subst (All (λ (end : PutEnd Copied). end.sent ≡ [])) (sym pages)
+          (All-push (λ (end : PutEnd Copied). end.sent ≡ []) c.loop.pages.items put c.loop.invariant.no_copies sent);
       room = omega (arith, c.push_reserved.ensures.capacity, c.loop.invariant.room);
       more_room = omega (arith, c.push_reserved-in-loop.ensures.capacity, c.loop.invariant.more_room);
     }

@@ -1,4 +1,4 @@
-use Rattle.std.proofs.Common.{◌≡◌, ◌≤◌, length, vec_capacity}
+use Rattle.std.proofs.Common.{◌≡◌, ◌≤◌, [], All, length, vec_capacity}
 use Rattle.build_work.specs.Rings.{put_rings, take_rings, all_sent, AreOfBuilds}
 use Rattle.builder_core.proofs.parts.page_rings.Given as goal
 
@@ -8,6 +8,7 @@ invariant-loop l = record {
   pages : length l.pages.items ≡ l.counter;
   intakes : length l.intakes.items ≡ l.counter;
   unused : AreOfBuilds 0 (all_sent l.pages.items);
+  no_copies : All (λ end. end.sent ≡ []) l.pages.items;
   room : 16 ≤ vec_capacity l.pages;
   more_room : 16 ≤ vec_capacity l.intakes;
 }

@@ -1,14 +1,14 @@
 use Rattle.std.specs.Vec.{vec_capacity}
 use Rattle.std.proofs.Common.{◌≡◌, ◌∙◌, ◌+◌, [], ◌≤◌, ℕ, List, length, Some, None, refl, ap, ap₂, sym, subst, arith}
 use Rattle.std.specs.Prelude.{map, ◌*◌}
-use Rattle.std.specs.List.{All}
+use Rattle.std.specs.List.{All, AllZip}
 use Rattle.keybytes.specs.Keys.{KeySpecValue}
 use Rattle.keybytes.specs.declared.kind.Kind.{Kind}
 use Rattle.heap_table.specs.Pages.{pages_written}
 use Rattle.scan_range.specs.Cuts.{CutsValue}
 use Rattle.side_file.specs.Ends.{PutEnd}
 use Rattle.side_file.specs.declared.entry.Entry.{Entry}
-use Rattle.building.specs.TakeEnd.{take_end}
+use Rattle.building.specs.TakeEnd.{PutEndLooked, take_end}
 use Rattle.building.specs.IntakeValue.{IntakeValue}
 use Rattle.builder_core.specs.Builds.{LiveValue}
 use Rattle.build_work.specs.BuildingValue.{BuildingValue, WorkValue, work_state, fresh, intakes}
@@ -21,7 +21,7 @@ use Rattle.build_work.specs.Equipped.{HasRoomFor, IsEquipped, IsFresh}
 use Rattle.building.specs.WorkerValue.{WorkerValue}
 use Rattle.run_maker.specs.Making.{MakerValue}
 use Rattle.build_work.specs.declared.equipment.Equipment.{Equipment}
-use Rattle.build_work.specs.Rings.{take_rings, all_sent, AreOfBuilds}
+use Rattle.build_work.specs.Rings.{take_rings, all_sent, all_free, AreOfBuilds}
 use Rattle.build_scan.proofs.Places.{as_long}
 use Rattle.build_scan.specs.SideFiles.{put_ends}
 use Rattle.build_work.proofs.LeftBeside.{at_home}
@@ -258,3 +258,10 @@ returns-clause-started g c =
 
 pub returns-clause-kept : goal.returns-clause-kept
 returns-clause-kept g c = λ works. returns-clause-works g c
+
+pub returns-clause-pages : goal.returns-clause-pages
+returns-clause-pages g c = c.restart_all.ensures.free ∙ ap (λ (l : LiveValue). map all_free l.pages) c.self.view_is
+
+pub returns-clause-sides : goal.returns-clause-sides
+returns-clause-sides g c =
+    subst (λ (l : LiveValue). AllZip PutEndLooked l.sides (put_ends c.empty_all.new.sides.items)) c.self.view_is c.empty_all.ensures.looked

@@ -23,4 +23,6 @@ invariant_of-result c =
       record { pages_are = refl; sides_are = refl; sixteen = c.in-Ok.ensures.sixteen; eight = eight },
       record { intakes_are = sym same; sides_are = sym same_entries; sixteen = sym long ∙ c.in-Ok.ensures.sixteen; eight = sym as_many ∙ eight },
       c.in-Ok.ensures.unused,
+      c.in-Ok.ensures.no_copies,
+      c.in-Ok-entry_rings.ensures.no_entries,
     )

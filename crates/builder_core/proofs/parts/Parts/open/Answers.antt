@@ -1,0 +1,10 @@
+use Rattle.std.proofs.Common.{◌≡◌, [], sym, subst}
+use Rattle.std.specs.List.{All}
+use Rattle.builder_core.specs.Builds.{LiveValue}
+use Rattle.builder_core.proofs.parts.Parts.open.Goals as goal
+
+pub returns-clause-no_copies : goal.returns-clause-no_copies
+returns-clause-no_copies g c = subst (λ (l : LiveValue). All (λ end. end.sent ≡ []) l.pages) (sym c.with_ends.ensures) c.self.invariant.3
+
+pub returns-clause-no_entries : goal.returns-clause-no_entries
+returns-clause-no_entries g c = subst (λ (l : LiveValue). All (λ end. end.sent ≡ []) l.sides) (sym c.with_ends.ensures) c.self.invariant.4
