@@ -106,7 +106,7 @@ impl<S: Spool, T: Table> Core<S, T> {
         }
     }
 
-    /// The worker takes the next copy that waits, and spools its pairs; answered with 1, or 0 where none waits. Want of memory or
+    /// The worker takes the next copy that waits, makes its pairs, and spools those that fill a run; answered with 1, or 0 where none waits. Want of memory or
     /// of a page spoils the build. [`Fault::NoBuild`], [`Fault::BadCount`], the fault of a spoiled build, [`Fault::NoPage`].
     pub fn digest(&mut self, worker: usize) -> Result<usize, Fault>
         ensures answers { AnswersBy Reply.Digested self.old (Event.Digest worker) result self.new }

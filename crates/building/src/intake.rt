@@ -120,7 +120,7 @@ impl Intake {
         putter.beside(&mut self.ring)
     }
 
-    /// Takes the next copy that it has seen, spools its pairs and answers 1. The answer is 0 where it has seen none, and where the
+    /// Takes the next copy that it has seen, makes its pairs, spools those that fill a run, and answers 1. The answer is 0 where it has seen none, and where the
     /// copy is of another build or of other columns than its maker's, and so is dropped. It is lent the spool of each index. Want
     /// of memory or of a page spoils the build: the copy is gone, and a part of its pairs may be spooled. [`Fault::Memory`] is also
     /// the answer where its copies would be more than `usize` counts.

@@ -19,9 +19,9 @@ use std::mem::replace;
 
 /// A worker of a build: its end of its ring, the maker of its pairs, and a spool for each index.
 ///
-/// A thread that is lent one can do with it what it likes: its ring stays the table's at its number, and while no call was refused
-/// its maker and spools hold, for each index, exactly the pairs of the copies of its build that it took. A refused digest or
-/// seal stops it: each further one is refused for the same fault.
+/// A thread that is lent one can do with it what it likes: its ring stays the table's at its number, and while no call was refused,
+/// and until it hands its spools over, maker and spools hold, for each index, exactly the pairs of the copies of its build that it took. A
+/// refused digest or seal stops it: each further one is refused for the same fault.
 pub struct Worker<S: Spool, T: Table> {
     number: usize,
     intake: Intake,
@@ -169,7 +169,7 @@ impl<S: Spool, T: Table> Worker<S, T> {
         self.intake.waiting(putter)
     }
 
-    /// Takes the next copy that it has seen, spools its pairs and answers 1. The answer is 0 where it has seen none, and where the
+    /// Takes the next copy that it has seen, makes its pairs, spools those that fill a run, and answers 1. The answer is 0 where it has seen none, and where the
     /// copy is of another build or of other columns, and so is dropped; and where its spools went to the indexes, and it takes nothing.
     pub fn digest(&mut self) -> Result<usize, Fault>
         ensures same { SameWorker self.old self.new }
