@@ -120,8 +120,8 @@ impl Intake {
         putter.beside(&mut self.ring)
     }
 
-    /// Takes the next copy that it has seen, makes its pairs, spools those that fill a run, and answers 1. The answer is 0 where it has seen none, and where the
-    /// copy is of another build or of other columns than its maker's, and so is dropped. It is lent the spool of each index. Want
+    /// Takes the next copy that it has seen, makes its pairs, spools those that fill a run, and answers 1. The answer is 0 where it has seen
+    /// none, and where the copy is of another build or of other columns than its maker's, and so is dropped. It is lent the spool of each index. Want
     /// of memory or of a page spoils the build: the copy is gone, and a part of its pairs may be spooled. [`Fault::Memory`] is also
     /// the answer where its copies would be more than `usize` counts.
     pub fn digest<S: Spool>(&mut self, maker: &mut Maker, spools: &mut [S]) -> Result<usize, Fault>

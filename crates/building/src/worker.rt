@@ -169,8 +169,9 @@ impl<S: Spool, T: Table> Worker<S, T> {
         self.intake.waiting(putter)
     }
 
-    /// Takes the next copy that it has seen, makes its pairs, spools those that fill a run, and answers 1. The answer is 0 where it has seen none, and where the
-    /// copy is of another build or of other columns, and so is dropped; and where its spools went to the indexes, and it takes nothing.
+    /// Takes the next copy that it has seen, makes its pairs, spools those that fill a run, and answers 1. The answer is 0 where it has seen
+    /// none, and where the copy is of another build or of other columns, and so is dropped; and where its spools went to the indexes, and it takes
+    /// nothing.
     pub fn digest(&mut self) -> Result<usize, Fault>
         ensures same { SameWorker self.old self.new }
         ensures again { (fault : Fault) → self.old.fault ≡ Some fault → (result ≡ Err fault) × (self.new ≡ self.old) }
