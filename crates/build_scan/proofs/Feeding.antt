@@ -1,11 +1,12 @@
 -- The ring of a side-file: it is looked at, and entries go into it.
-use Rattle.std.proofs.Common.{◌≡◌, ℕ, ◌+◌, ◌-◌, ◌<◌, ◌≤◌, ◌^◌, List, ◌++◌, length, map, set, take, drop, Option, Some, None, refl, inl, inr, ap₂, sym, ap, ◌∙◌}
+use Rattle.std.proofs.Common.{◌≡◌, ℕ, ◌+◌, ◌-◌, ◌<◌, ◌≤◌, ◌==◌, ◌^◌, List, ◌++◌, length, map, set, take, drop, Option, Some, None, refl, inl, inr, ap₂, sym, ap, ◌∙◌}
 use Rattle.std.proofs.Common.{subst, arith, length-append, length-drop, length-take, append_assoc}
 use Rattle.std.specs.List.{All, slice_get}
 use Rattle.keybytes.specs.Keys.{KeySpecValue, IsKeyOf}
 use Rattle.std.specs.Prelude.{IfSome}
 use Rattle.std.proofs.lemmas.List.{drop-append-le, length-map, length-set, take-map, get_or-set_same, get_or-set_other}
 use Rattle.std.proofs.Math.Seq.{drop-append_seam, take-append_seam}
+use Rattle.std.proofs.lemmas.List.Elements.{filter-append}
 use Rattle.side_file.specs.Entries.{entry_of}
 use Rattle.visibility.specs.SideEntries.{SideEntry}
 use Rattle.build_events.specs.SideEntries.{side_entries}
@@ -19,7 +20,8 @@ use Rattle.side_file.specs.declared.entry.Entry.{Entry}
 use Rattle.building.specs.TakeEnd.{TakeEnd}
 use Rattle.build_scan.specs.TableBuilds.{IsBuildOf}
 use Rattle.build_events.specs.CoreState.{BuildState, scanning_of}
-use Rattle.build_scan.specs.SideFiles.{IsFed, EachEntryOnce, HasEntries, HaveEntries, SidesFollow, AreFedEntries, HasLookedAtSide, SeesSide, put_ends}
+use Rattle.build_scan.specs.SideFiles.{IsFed, EachEntryOnce, HasEntries, HaveEntries, SidesFollow, AreFedEntries, HasLookedAtSide, SeesSide, own_entries, put_ends}
+use Rattle.build_scan.proofs.OwnEntries.{next_are_own, own_all}
 use Rattle.build_scan.proofs.Places.{at_set, at_map}
 use Rattle.build_events.specs.BuildSteps.{after_feed}
 use Rattle.build_events.specs.Workers.{fed_to, unfed}
@@ -80,6 +82,10 @@ module _
         ap₂ (λ (n : ℕ) (xs : List Entry). last_ones n xs) many feeds.sent
         ∙ last_more (length old.fed) count old.end.sent (take count old.left) (fed_count old count most few)
         ∙ ap (λ xs. xs ++ take count old.left) has.sent ∙ sym feeds.fed;
+    own =
+        ap (own_entries b.number) feeds.sent ∙ filter-append (λ (entry : Entry). entry.build == b.number) old.end.sent (take count old.left)
+        ∙ ap (λ (es : List Entry). es ++ own_entries b.number (take count old.left)) has.own
+        ∙ ap (λ (es : List Entry). old.fed ++ es) (own_all b.number (take count old.left) (next_are_own log b index spec old count has)) ∙ sym feeds.fed;
   } where
     many : length new.fed ≡ length old.fed + count
     many = ap length feeds.fed ∙ length-append old.fed (take count old.left) ∙ ap (λ n. length old.fed + n) (fed_count old count most few)
@@ -122,6 +128,7 @@ other_fed log b index count k spec side other has = record {
   keys = has.keys;
   count = fed_other b index count k other ∙ has.count;
   sent = has.sent;
+  own = has.own;
 }
 
 pub sides_fed :
@@ -172,6 +179,13 @@ fed_entries log b index spec side has = record {
       let es : List SideEntry = side_entries (scanning_of b spec) log in
       ap (λ n. last_ones n side.end.sent) has.count ∙ has.sent
       ∙ sym (take-append_seam side.fed side.left)
+      ∙ ap (take (length side.fed)) has.entries
+      ∙ take-map put (length side.fed) es
+      ∙ ap (λ n. map put (take n es)) (sym has.count);
+  no_other =
+      let put : SideEntry → Entry = entry_of b.number in
+      let es : List SideEntry = side_entries (scanning_of b spec) log in
+      has.own ∙ sym (take-append_seam side.fed side.left)
       ∙ ap (take (length side.fed)) has.entries
       ∙ take-map put (length side.fed) es
       ∙ ap (λ n. map put (take n es)) (sym has.count);

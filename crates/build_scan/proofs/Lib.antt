@@ -2,6 +2,7 @@ pub mod Emptied
 pub mod Feeding
 pub mod LookedEnds
 pub mod Noting
+pub mod OwnEntries
 pub mod Performed
 pub mod Places
 pub mod RangeScans

@@ -29,7 +29,7 @@ use Rattle.build_scan.specs.TableBuilds.{IsBuildOf, BuildFollows}
 use Rattle.build_events.specs.CoreState.{BuildState, scanning_of}
 use Rattle.build_events.specs.Scanning.{Scanning, is_visible}
 use Rattle.build_events.specs.SideEntries.{entries_of, side_entries}
-use Rattle.build_scan.specs.SideFiles.{noted, HasEntries, SidesFollow}
+use Rattle.build_scan.specs.SideFiles.{noted, own_entries, HasEntries, SidesFollow}
 use Rattle.build_scan.specs.Noting.{IsLonger, HaveNoted, FitsBuild}
 use Rattle.ready_indexes.proofs.Follow.{schema_stays}
 use Rattle.ready_indexes.specs.Following.{FitsColumns}
@@ -122,6 +122,7 @@ module _ (h : HeapValue) (ready : Ready) (is : IsReady h ready) (change : IsLawf
         (All-from_recursion (λ entry. IsKeyOf spec entry.key) _ (noted_keys b spec ready.rid ready.old ready.new old_row new_row)));
     count = has.count ∙ ap length (sym longer.fed);
     sent = ap₂ (λ (es : List Entry) (end : PutEnd Entry). last_ones (length es) end.sent) longer.fed longer.end ∙ has.sent ∙ sym longer.fed;
+    own = ap (λ (end : PutEnd Entry). own_entries b.number end.sent) longer.end ∙ has.own ∙ sym longer.fed;
   } where
     here : Scanning
     here = scanning_of b spec

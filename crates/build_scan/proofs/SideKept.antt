@@ -1,16 +1,18 @@
 -- The side-file of a build as it starts, as it copies a page more, and as the log grows by a record that changes no row.
-use Rattle.std.proofs.Common.{◌≡◌, ℕ, zero, suc, List, [], ◌∷◌, ◌++◌, length, map, drop, Option, Some, None, refl, sym, ap, ◌∙◌, subst, arith, ◌≤◌}
+use Rattle.std.proofs.Common.{◌≡◌, ℕ, ◌+◌, ◌<◌, ◌==◌, false, zero, suc, List, [], ◌∷◌, ◌++◌, length, map, drop, Option, Some, None, refl, sym, ap, ◌∙◌, subst, arith, ◌≤◌}
 use Rattle.std.proofs.Common.{length-append, ap₂, ◌⊎◌, inl, inr}
 use Rattle.std.proofs.lemmas.List.{append-nil, drop-map, length-map}
 use Rattle.std.proofs.Math.Seq.{drop-append_seam}
 use Rattle.std.specs.List.{All, slice_get}
-use Rattle.std.proofs.lemmas.List.Elements.{All-nil, All-tail}
+use Rattle.std.proofs.lemmas.Bool.Decides.{nat_tests}
+use Rattle.std.proofs.lemmas.List.Elements.{All-head, All-nil, All-tail, All-weaker}
 use Rattle.keybytes.specs.Keys.{KeySpecValue, IsKeyOf}
 use Rattle.keybytes.specs.declared.kind.Kind.{Kind}
 use Rattle.heap_log.specs.declared.record.LogRec.{LogRec}
 use Rattle.heap_table.specs.Pages.{pages_written}
 use Rattle.side_file.specs.Entries.{entry_of}
 use Rattle.side_file.specs.Changes.{all_appended}
+use Rattle.side_file.specs.Ends.{PutEnd}
 use Rattle.side_file.specs.SideFileValue.{SideFileValue}
 use Rattle.side_file.specs.declared.entry.Entry.{Entry}
 use Rattle.side_file.specs.Kept.{last_ones}
@@ -20,9 +22,9 @@ use Rattle.build_events.specs.CoreState.{BuildState, scanning_of}
 use Rattle.build_events.specs.Scanning.{Scanning, opened_scanning, scanned_at}
 use Rattle.build_events.specs.SideEntries.{entries_of, side_entries}
 use Rattle.build_scan.specs.Noting.{without_room}
-use Rattle.build_scan.specs.SideFiles.{HasEntries, HaveEntries, SidesFollow, AreEntriesLeft, HaveEntryKeys, NoneAhead, side_refusal}
+use Rattle.build_scan.specs.SideFiles.{HasEntries, HaveEntries, SidesFollow, AreEntriesLeft, EntriesAreOfBuilds, HaveEntryKeys, NoneAhead, own_entries, put_ends, side_refusal}
 use Rattle.build_events.specs.Workers.{fed_to}
-use Rattle.build_scan.proofs.Places.{all_at, same_at, below, there_is}
+use Rattle.build_scan.proofs.Places.{all_at, map_at, same_at, below, there_is}
 use Rattle.std.specs.Prelude.{get_or, IfSome}
 use Rattle.std.proofs.Math.ListN.{drop_of_length-le}
 use Rattle.build_events.proofs.EntrySteps.{opened_entries, more_entries, same_entries, commit_entries}
@@ -31,17 +33,26 @@ use Rattle.build_events.specs.Ranges.{next_page}
 use Rattle.heap_table.specs.HeapState.{HeapState, after_commit}
 use Rattle.heap_log.specs.declared.record.LogRec.TheVariants.{Commit}
 
+-- of a later build there is no entry
+own_none : (build : ℕ) (xs : List Entry) → All (λ entry. entry.build < build) xs → own_entries build xs ≡ []
+own_none build [] all = refl
+own_none build (x ∷ xs) all =
+    let before : x.build < build = All-head (λ (entry : Entry). entry.build < build) x xs all in
+    let other : (x.build == build) ≡ false = grind (arith, nat_tests) in
+    rw other (own_none build xs (All-tail (λ (entry : Entry). entry.build < build) x xs all))
+
 -- the side-file of one of its indexes, as it starts
 opened_one :
     (log : List LogRec) (b : BuildState) (index : ℕ) (spec : KeySpecValue) (side : SideFileValue) → b.opened ≡ length log → b.pages ≡ pages_written log → b.scans ≡ []
-    → fed_to b index ≡ 0 → side.left ≡ [] → side.fed ≡ [] → HasEntries log b index spec side
-opened_one log b index spec side opened pages scans none left fed = record {
+    → fed_to b index ≡ 0 → side.left ≡ [] → side.fed ≡ [] → All (λ entry. entry.build < b.number) side.end.sent → HasEntries log b index spec side
+opened_one log b index spec side opened pages scans none left fed before = record {
   entries =
       nothing
       ∙ sym (ap (map (entry_of b.number)) (ap (λ s. side_entries s log) same ∙ opened_entries spec log));
   keys = subst (All (λ entry. IsKeyOf spec entry.key)) (sym nothing) (All-nil (λ entry. IsKeyOf spec entry.key));
   count = none ∙ sym (ap length fed);
   sent = ap (λ (es : List Entry). last_ones (length es) side.end.sent) fed ∙ drop_of_length-le side.end.sent (omega arith) ∙ sym fed;
+  own = own_none b.number side.end.sent before ∙ sym fed;
 } where
   nothing : all_appended side ≡ []
   nothing = rw (fed, left) refl
@@ -60,10 +71,14 @@ none_at (spec ∷ specs) (suc index) = none_at specs index
 
 pub sides_opened :
     (log : List LogRec) (b : BuildState) (sides : List SideFileValue) → b.opened ≡ length log → b.pages ≡ pages_written log → b.scans ≡ []
-    → b.fed ≡ map (λ spec. 0) b.specs → All (λ (side : SideFileValue). (side.left ≡ []) × (side.fed ≡ [])) sides → HaveEntries log b sides
-sides_opened log b sides opened pages scans none empty = λ index spec side at there.
+    → b.fed ≡ map (λ spec. 0) b.specs → All (λ (side : SideFileValue). (side.left ≡ []) × (side.fed ≡ [])) sides → (builds : ℕ) → b.number ≡ builds + 1
+    → EntriesAreOfBuilds builds (put_ends sides) → HaveEntries log b sides
+sides_opened log b sides opened pages scans none empty builds number before = λ index spec side at there.
     let here = all_at (λ (s : SideFileValue). (s.left ≡ []) × (s.fed ≡ [])) sides index side empty there in
+    let sent = all_at (λ (put : PutEnd Entry). All (λ entry. entry.build ≤ builds) put.sent) (put_ends sides) index side.end before
+    (map_at (λ (s : SideFileValue). s.end) sides index side there) in
     opened_one log b index spec side opened pages scans (ap (λ fed. get_or fed index 0) none ∙ none_at b.specs index) here.0 here.1
+    (All-weaker (λ (entry : Entry). entry.build ≤ builds) (λ (entry : Entry). entry.build < b.number) (λ entry le. omega (arith, le, number)) side.end.sent sent)
 
 scanned_one :
     (log : List LogRec) (b : BuildState) (index : ℕ) (spec : KeySpecValue) (side : SideFileValue) (worker page : ℕ) → scanned_at b.scans page ≡ None
@@ -74,6 +89,7 @@ scanned_one log b index spec side worker page none has = record {
   keys = has.keys;
   count = has.count;
   sent = has.sent;
+  own = has.own;
 }
 
 same_one :
@@ -88,6 +104,7 @@ same_one kinds log rec b index spec side nothing build has = record {
   keys = has.keys;
   count = has.count;
   sent = has.sent;
+  own = has.own;
 }
 
 -- a side-file with the same entries
@@ -99,6 +116,7 @@ stays_one log b index spec old new fed left sent has = record {
   keys = subst (All (λ entry. IsKeyOf spec entry.key)) (sym same) has.keys;
   count = has.count ∙ ap length (sym fed);
   sent = ap₂ (λ (es xs : List Entry). last_ones (length es) xs) fed sent ∙ has.sent ∙ sym fed;
+  own = ap (own_entries b.number) sent ∙ has.own ∙ sym fed;
 } where
   same : all_appended new ≡ all_appended old
   same = rw (fed, left) refl

@@ -1,5 +1,5 @@
 -- The side-files of a running build, one for each index, and what a change of a row appends to them.
-use Rattle.std.specs.Prelude.{◌≡◌, ℕ, ◌+◌, ◌-◌, ◌<◌, ◌≤◌, ◌^◌, ◌++◌, Bool, ◌||◌, nat_le, is_some, if◌then◌else◌, List, [], length, map, take, drop, get_or}
+use Rattle.std.specs.Prelude.{◌≡◌, ℕ, ◌+◌, ◌-◌, ◌<◌, ◌≤◌, ◌==◌, ◌^◌, ◌++◌, Bool, ◌||◌, nat_le, is_some, if◌then◌else◌, List, [], length, map, filter, take, drop, get_or}
 use Rattle.std.specs.Prelude.{Option, Some, None}
 use Rattle.std.specs.List.{All, slice_get}
 use Rattle.keybytes.specs.Keys.{KeySpecValue, IsKeyOf}
@@ -31,6 +31,14 @@ sees b rid = nat_le b.pages rid.page || is_some (scanned_at b.scans rid.page)
 abbrev pub noted : BuildState → KeySpecValue → Rid → Option (List Cell) → Option (List Cell) → List SideEntry
 noted b spec rid old new = if sees b rid then changes (pair_with spec rid old) (pair_with spec rid new) else []
 
+-- the entries of that build
+abbrev pub own_entries : ℕ → List Entry → List Entry
+own_entries build entries = filter (λ entry. entry.build == build) entries
+
+-- no entry that these rings were sent is of a build with a greater number
+abbrev pub EntriesAreOfBuilds : ℕ → List (PutEnd Entry) → Type 0
+EntriesAreOfBuilds builds puts = All (λ put. All (λ entry. entry.build ≤ builds) put.sent) puts
+
 -- the side-file has that build's entries for an index of that specification, fed or left, under the build's number
 pub record HasEntries (log : List LogRec) (b : BuildState) (index : ℕ) (spec : KeySpecValue) (side : SideFileValue) : Type 0 where
   pub entries : all_appended side ≡ map (entry_of b.number) (side_entries (scanning_of b spec) log)
@@ -39,6 +47,8 @@ pub record HasEntries (log : List LogRec) (b : BuildState) (index : ℕ) (spec :
   pub count : fed_to b index ≡ length side.fed
   -- those fed are the last that its ring was sent
   pub sent : last_ones (length side.fed) side.end.sent ≡ side.fed
+  -- and the only ones of the build
+  pub own : own_entries b.number side.end.sent ≡ side.fed
 
 -- the first of these side-files have the entries of that build, one for each of its indexes
 abbrev pub HaveEntries : List LogRec → BuildState → List SideFileValue → Type 0
@@ -70,6 +80,8 @@ NoneAhead log b = (index : ℕ) (spec : KeySpecValue) → slice_get b.specs inde
 -- the entries of an index that were fed are the first of its side-file, and the last that its ring was sent
 pub record AreFedEntries (log : List LogRec) (b : BuildState) (index : ℕ) (spec : KeySpecValue) (put : PutEnd Entry) : Type 0 where
   pub entries : last_ones (fed_to b index) put.sent ≡ map (entry_of b.number) (take (fed_to b index) (side_entries (scanning_of b spec) log))
+  -- the ring was sent no other entry of the build
+  pub no_other : own_entries b.number put.sent ≡ map (entry_of b.number) (take (fed_to b index) (side_entries (scanning_of b spec) log))
   pub there : fed_to b index ≤ length (side_entries (scanning_of b spec) log)
 
 -- so it is of each index of the build

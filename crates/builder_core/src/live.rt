@@ -14,7 +14,7 @@ ghost use Rattle.builder_core.specs.Rings.{ArePutEnds};
 ghost use Rattle.builder_core.specs.Invariant.{EachPageOnce};
 ghost use Rattle.build_events.specs.Soundness.{BuildIsSound};
 ghost use Rattle.std.specs.VecDeque.Iter.{deque_iter_rest};
-ghost use Rattle.build_scan.specs.SideFiles.{AreEntriesLeft, EachEntryOnce, HaveEntryKeys, NoneAhead, side_refusal, put_ends};
+ghost use Rattle.build_scan.specs.SideFiles.{AreEntriesLeft, EachEntryOnce, EntriesAreOfBuilds, HaveEntryKeys, NoneAhead, side_refusal, put_ends};
 ghost use Rattle.build_events.specs.CoreState.{abandoned, after_visits, ReadyFollowTable};
 ghost use Rattle.ready_indexes.specs.Following.{indexes_of};
 ghost use Rattle.ready_indexes.specs.KeyCauses.{KeysAreGuarded};
@@ -66,7 +66,7 @@ impl<T: Table> Model for Live<T> {
     ghost use Rattle.build_scan.specs.TableBuilds.{BuildFollows};
     ghost use Rattle.build_work.specs.Rings.{all_sent, AreOfBuilds};
     ghost use Rattle.builder_core.specs.Rings.{ArePutEnds, PagesFollow};
-    ghost use Rattle.build_scan.specs.SideFiles.{SidesFollow, put_ends};
+    ghost use Rattle.build_scan.specs.SideFiles.{EntriesAreOfBuilds, SidesFollow, put_ends};
 
     ghost Value = { LiveValue };
 
@@ -80,7 +80,8 @@ impl<T: Table> Model for Live<T> {
         × BuildFollows live.heap.state.schema live.heap.state.log live.build
         × SidesFollow live.heap.state.log live.build live.sides.items
         × PagesFollow live.heap.state.schema live.heap.state.log live.builds live.build (all_sent live.pages.items)
-        × AreOfBuilds live.builds (all_sent live.pages.items) × ArePutEnds T.pages T.sides live.pages.items (put_ends live.sides.items) };
+        × AreOfBuilds live.builds (all_sent live.pages.items) × ArePutEnds T.pages T.sides live.pages.items (put_ends live.sides.items)
+        × EntriesAreOfBuilds live.builds (put_ends live.sides.items) };
 }
 
 impl<T: Table> Live<T> {
@@ -92,6 +93,7 @@ impl<T: Table> Live<T> {
         sides: Vec<SideFile>,
     ) -> Live<T>
         requires unused { AreOfBuilds 0 (all_sent pages.items) }
+        requires no_entries { EntriesAreOfBuilds 0 (put_ends sides.items) }
         requires ends { ArePutEnds T.pages T.sides pages.items (put_ends sides.items) }
         ensures { result ≡ record {
           state = record { heap = heap.state; ready = []; builds = 0; build = None };

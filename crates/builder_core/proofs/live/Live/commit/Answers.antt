@@ -23,6 +23,7 @@ invariant_of-self g c =
       commit_pages old.heap.state new c.args.txn old.builds old.build (all_sent old.pages.items) done c.self.invariant.1 c.self.invariant.3,
       c.self.invariant.4,
       c.self.invariant.5,
+      c.self.invariant.6,
     )
 
 pub returns-clause-works : goal.returns-clause-works
@@ -50,4 +51,5 @@ invariant_of-self-2 g c =
       commit_pages old.heap.state new c.args.txn old.builds old.build (all_sent old.pages.items) done c.self.invariant.1 c.self.invariant.3,
       c.self.invariant.4,
       c.self.invariant.5,
+      c.self.invariant.6,
     )

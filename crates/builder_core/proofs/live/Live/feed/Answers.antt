@@ -19,6 +19,7 @@ use Rattle.build_events.specs.BuildSteps.{after_feed}
 use Rattle.build_events.specs.Workers.{unfed, fed_to}
 use Rattle.build_scan.proofs.Feeding.{left_unfed, fed_countable, build_fed, sides_fed}
 use Rattle.builder_core.proofs.Feeding.{follow_fed, work_fed}
+use Rattle.build_scan.proofs.OwnEntries.{sent_at, sent_fed, sent_set}
 use Rattle.build_scan.proofs.Places.{at_index, map_at, there_is}
 use Rattle.builder_core.proofs.SideEnds.{put_ends_stay, eight_sides}
 use Rattle.ready_indexes.specs.Following.{indexes_of}
@@ -86,6 +87,8 @@ invariant_of-self g c =
           (record { number = put.number; put = put.put }),
       c.self.invariant.4,
       put_ends_stay _ _ _ sides c.args.index old new c.self.invariant.5 c.index_mut-side.ensures.value fed.fed.ring,
+      sent_set inside.builds sides c.args.index new c.self.invariant.6
+          (sent_fed heap.log b c.args.index spec.0 old new count inside.builds its fed.fed put.number (sent_at inside.builds sides c.args.index old c.self.invariant.6 there)),
     )
 
 pub returns-clause-fed : goal.returns-clause-fed

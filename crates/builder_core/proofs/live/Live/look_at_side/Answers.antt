@@ -1,6 +1,6 @@
-use Rattle.std.proofs.Common.{rules, ◌<◌, length, map, set, refl, sym, subst, arith, Option}
+use Rattle.std.proofs.Common.{rules, ◌<◌, ◌≤◌, length, map, set, refl, sym, subst, arith, Option}
 use Rattle.std.specs.Prelude.{IfSome}
-use Rattle.std.specs.List.{slice_get}
+use Rattle.std.specs.List.{All, slice_get}
 use Rattle.side_file.specs.Ends.{PutEnd}
 use Rattle.side_file.specs.SideFileValue.{SideFileValue}
 use Rattle.side_file.specs.declared.entry.Entry.{Entry}
@@ -10,6 +10,7 @@ use Rattle.build_work.specs.BuildingValue.{BuildingValue}
 use Rattle.building.specs.SpoolValue.{spool_value}
 use Rattle.build_scan.specs.SideFiles.{AreFedEntries, HasLookedAtSide, SeesSide, put_ends}
 use Rattle.build_scan.proofs.Feeding.{fed_if_running}
+use Rattle.build_scan.proofs.OwnEntries.{sent_at, sent_set}
 use Rattle.build_scan.proofs.Places.{at_index, here_set, map_at}
 use Rattle.build_scan.proofs.SideEnds.{sides_looked, paired}
 use Rattle.builder_core.proofs.SideEnds.{put_ends_stay, eight_sides, side_is_looked, sees_side}
@@ -39,6 +40,9 @@ invariant_of-self g c =
       c.self.invariant.3,
       c.self.invariant.4,
       put_ends_stay _ _ _ sides c.args.index c.index_mut-side.result.now c.beside-waiting.new.self c.self.invariant.5 c.index_mut-side.ensures.value looks.ring,
+      sent_set c.self.inside.builds sides c.args.index c.beside-waiting.new.self c.self.invariant.6
+          (subst (All (λ (entry : Entry). entry.build ≤ c.self.inside.builds)) (sym looks.sent)
+          (sent_at c.self.inside.builds sides c.args.index c.index_mut-side.result.now c.self.invariant.6 there)),
     )
 
 pub invariant_of-building : goal.invariant_of-building

@@ -43,6 +43,7 @@ invariant_of-self g c =
       subst (AreOfBuilds inside.builds) (sym same) c.self.invariant.4,
       put_ends_set g.T.Table.pages g.T.Table.sides inside.pages.items (put_ends inside.sides.items) c.args.worker new old c.self.invariant.5 c.index_mut.ensures.value
           c.has_room.ensures.looked.ring,
+      c.self.invariant.6,
     )
 
 pub returns-then-not-has_room-clause-works : goal.returns-then-not-has_room-clause-works
@@ -151,6 +152,7 @@ invariant_of-self-2 g c =
       put_ends_set g.T.Table.pages g.T.Table.sides (set pages c.args.worker looked) (put_ends inside.sides.items) c.args.worker new at
           (put_ends_set g.T.Table.pages g.T.Table.sides pages (put_ends inside.sides.items) c.args.worker looked old c.self.invariant.5 c.index_mut.ensures.value c.has_room.ensures.looked.ring)
           c.index_mut-2.ensures.value ring,
+      c.self.invariant.6,
     )
 
 pub returns-clause-works : goal.returns-clause-works

@@ -28,6 +28,7 @@ use Rattle.build_work.proofs.LeftBeside.{at_home}
 use Rattle.build_work.proofs.Beginning.{all_first, all_fresh, as_many_fit, fresh_makers, left_empty, left_for, left_many, their_makers}
 use Rattle.build_events.specs.BuildSteps.{started, fresh_work}
 use Rattle.builder_core.proofs.Puts.{pages_started, builds_more}
+use Rattle.build_scan.proofs.OwnEntries.{sent_looked, sent_more}
 use Rattle.build_scan.proofs.SideKept.{sides_opened}
 use Rattle.builder_core.proofs.Started.{build_on, build_is_on, started_follows, put_ends_started, take_ends_started, started_works}
 use Rattle.builder_core.proofs.Starts.{has_counts, fresh_is}
@@ -159,18 +160,21 @@ invariant_of-self g c =
     build_is_on heap.schema heap.log build (inside.builds + 1) specs plan.workers c.records-records.result c.pages-pages.result c.in_ok-cuts.cuts plan.dealing
     c.in_ok-build.ensures.ok c.records-records.ensures c.in_ok-cuts.ensures.ok c.pages-pages.ensures.pages in
     let counts = has_counts c.args.self.now.state _ plan c.in_ok-check_plan.ensures.counts in
+    let sent = sent_looked inside.builds (put_ends inside.sides.items) (put_ends c.empty_all.new.sides.items) c.empty_all.ensures.looked c.self.invariant.6 in
     let before = subst (AreOfBuilds inside.builds) (sym c.restart_all.ensures.sent) c.self.invariant.4 in (
       c.self.invariant.0,
       started_follows heap.schema heap.log build (inside.builds + 1) specs plan.workers c.records-records.result c.pages-pages.result c.in_ok-cuts.cuts plan.dealing
           c.in_ok-build.ensures.ok c.records-records.ensures c.in_ok-cuts.ensures.ok c.pages-pages.ensures.pages (omega (arith, counts.some_index, ap length same))
           (omega (arith, counts.few_indexes, ap length same)) columns c.pages-pages.ensures.limit fit counts.few,
       sides_opened heap.log build c.empty_all.new.sides.items (ap (λ (b : BuildState). b.opened) is) (ap (λ (b : BuildState). b.pages) is) (ap (λ (b : BuildState). b.scans) is)
-          (ap (λ (b : BuildState). b.fed) is ∙ ap (λ (ss : List KeySpecValue). map (λ spec. 0) ss) (sym (ap (λ (b : BuildState). b.specs) is))) c.empty_all.ensures.left,
+          (ap (λ (b : BuildState). b.fed) is ∙ ap (λ (ss : List KeySpecValue). map (λ spec. 0) ss) (sym (ap (λ (b : BuildState). b.specs) is))) c.empty_all.ensures.left
+          inside.builds (ap (λ (b : BuildState). b.number) is) sent,
       pages_started heap.schema heap.log inside.builds build (all_sent c.restart_all.new.pages.items) (ap (λ (b : BuildState). b.number) is)
           (ap (λ (b : BuildState). b.scans) is) before,
       builds_more inside.builds (all_sent c.restart_all.new.pages.items) before,
       put_ends_started g.T.Table.pages g.T.Table.sides inside.pages.items c.restart_all.new.pages.items (put_ends inside.sides.items)
           (put_ends c.empty_all.new.sides.items) c.self.invariant.5 c.restart_all.ensures.rings c.empty_all.ensures.rings,
+      sent_more inside.builds (put_ends c.empty_all.new.sides.items) sent,
     )
 
 pub returns-clause-works : goal.returns-clause-works

@@ -83,6 +83,7 @@ invariant_of-self-2 g c =
       rw c.take.ensures.after tt,
       c.self.invariant.4,
       c.self.invariant.5,
+      c.self.invariant.6,
     )
 
 pub returns-clause-switched : goal.returns-clause-switched
