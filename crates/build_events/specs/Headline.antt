@@ -34,7 +34,9 @@ IsDecided log ready spec (Shared key first second) =
 
 -- the switch that was answered in that place of the list of events, with the number of its log record and its verdicts, on a
 -- run that ends in that state
-pub record SwitchesIn (MissedPage : CoreState → Event → Type 0) (start end : CoreState) (events : List Event) (replies : List Reply) (place number : ℕ) (verdicts : List Outcome) : Type 0 where
+pub record SwitchesIn
+    (MissedPage : CoreState → Event → Type 0) (start end : CoreState) (events : List Event) (replies : List Reply) (place number : ℕ)
+    (verdicts : List Outcome) : Type 0 where
   -- the states that the switch found and left, on the way
   pub found : CoreState
   pub left : CoreState

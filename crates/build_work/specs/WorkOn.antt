@@ -68,7 +68,9 @@ AreFed b indexes puts ends =
 
 -- the entries that were fed and not applied wait in the side-files' rings, the build has the spools, and its workers are at work on what
 -- their rings were sent; of a spoiled build only the first two are known
-pub record AreAtWork (kinds : List Kind) (b : BuildState) (pages : List (PutEnd Copied)) (sides : List (PutEnd Entry)) (building : BuildingValue) (work : WorkValue) : Type 0 where
+pub record AreAtWork
+    (kinds : List Kind) (b : BuildState) (pages : List (PutEnd Copied)) (sides : List (PutEnd Entry)) (building : BuildingValue) (work : WorkValue)
+    : Type 0 where
   pub fed : AreFed b work.indexes sides building.sides
   pub given : building.given ≡ true
   pub many : length building.workers ≡ b.workers
