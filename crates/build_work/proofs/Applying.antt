@@ -18,6 +18,10 @@ use Rattle.catch_up.specs.Built.{BuiltValue, told_to}
 use Rattle.catch_up.proofs.Telling.{told_to-append}
 use Rattle.building.specs.TakeEnd.{TakeEnd, take_end}
 use Rattle.keybytes.specs.declared.pair.Pair.{Pair}
+use Rattle.building.specs.SpoolValue.{SpoolValue}
+use Rattle.building.specs.WorkerValue.{WorkerValue}
+use Rattle.build_work.specs.Keeping.{KeepsWork}
+use Rattle.build_work.proofs.AppliedKept.{applied_kept}
 use Rattle.build_scan.proofs.Places.{at_index, below, here_set, map_at, set_same}
 use Rattle.std.specs.Prelude.{is_some}
 use Rattle.std.proofs.lemmas.Bool.{false≢true}
@@ -142,6 +146,25 @@ module _
       ∙ ap (with_both old (set old.sides index (take_end ring_new)) taking.work) (total ∙ ap (λ n. n + count) (sym applied_is))) where
         with_both : BuildingValue → List (TakeEnd Entry) → WorkValue → ℕ → BuildingValue
         with_both b es v n = record b { sides = es; work = Some (record v { indexes = set v.indexes index (record { built = Some after; applied = n }) }) }
+
+  -- and the work keeps what it keeps
+  pub kept_next :
+      (workers : List WorkerValue) (spools : List SpoolValue) (ring_new : Consumer Entry Global P) (entries : List Entry) (sum : ℕ) (after : BuiltValue)
+      → Taken entries ring ring_new → Applied entries built after → AreOrdered after.pairs → KeepsWork workers (map take_end ends) spools seen.work
+      → KeepsWork workers (map take_end (set ends index ring_new)) spools
+      (Some (record held { indexes = set held.indexes index (record { built = Some after; applied = sum }) }))
+  kept_next workers spools ring_new entries sum after taken done ordered kept =
+      let there : slice_get held.indexes index ≡ Some it =
+      at_index held.indexes index it it_at (subst (λ (w : WorkValue). index < length w.indexes) work_is (below taking.work.indexes index taking.it taking.there)) in
+      let less : index < length (map take_end ends) =
+      subst (λ (es : List (TakeEnd Entry)). index < length es) its_sides (below old.sides index taking.end taking.at) in
+      let its_end : slice_get (map take_end ends) index ≡ Some (take_end ring) =
+      map_at take_end ends index ring (at_index ends index ring ring_at (omega (arith, less, length-map ends take_end))) in
+      subst (λ (sides : List (TakeEnd Entry)). KeepsWork workers sides spools
+      (Some (record held { indexes = set held.indexes index (record { built = Some after; applied = sum }) }))) (sym (map-set take_end ends index ring_new))
+      (applied_kept workers (map take_end ends) spools held index it there built after (ap (λ (i : IndexValue). i.built) (sym it_is)) (take_end ring) (take_end ring_new)
+      its_end entries taken.received done ordered sum
+      (subst (λ (o : Option WorkValue). KeepsWork workers (map take_end ends) spools o) (runs ∙ ap Some (sym is)) kept))
 
 module _ (index : ℕ) (old mid : BuildingValue) (m : ℕ) (first : HasApplied index old m mid) where
   -- the index as these entries leave it

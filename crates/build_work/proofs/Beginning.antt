@@ -5,7 +5,9 @@ use Rattle.std.specs.List.{All, list_all, slice_get}
 use Rattle.std.proofs.lemmas.List.{length-map}
 use Rattle.keybytes.specs.Keys.{KeySpecValue}
 use Rattle.keybytes.specs.declared.kind.Kind.{Kind}
-use Rattle.side_file.specs.Ends.{PutEnd}
+use Rattle.side_file.specs.Ends.{PutEnd, RingId}
+use Rattle.side_file.specs.declared.entry.Entry.{Entry}
+use Rattle.building.specs.TakeEnd.{TakeEnd}
 use Rattle.building.specs.IntakeValue.{IntakeValue}
 use Rattle.building.specs.declared.copied.Copied.{Copied}
 use Rattle.build_work.specs.BuildingValue.{BuildingValue, worker_state, intakes}
@@ -15,13 +17,39 @@ use Rattle.build_work.specs.Equipped.{IsFresh}
 use Rattle.building.specs.WorkerValue.{WorkerValue}
 use Rattle.run_maker.specs.Making.{MakerValue}
 use Rattle.keybytes.specs.declared.pair.Pair.{Pair}
-use Rattle.build_scan.proofs.Places.{all_at, all_from, at_map, map_at}
+use Rattle.build_scan.specs.SideFiles.{drained_end, side_rings, taken_rings}
+use Rattle.build_scan.proofs.Places.{all_at, all_from, as_long, at_map, map_at, mapped}
 use Rattle.build_work.proofs.AtWork.{intake_at}
 use Rattle.std.proofs.lemmas.List.Elements.{All-weaker}
 use Rattle.build_events.specs.declared.plan.Plan.{Plan}
 use Rattle.build_work.proofs.LeftBeside.{at_home, each_empty}
 use Rattle.run_spool.specs.Spools.{holds_nothing}
-use Rattle.build_work.specs.Rings.{all_sent, AreOfBuilds, begun_on}
+use Rattle.build_work.specs.Rings.{all_sent, put_rings, take_rings, AreOfBuilds, AreTakeEnds, begun_on}
+
+-- where no worker is, each intake is of a ring that has none
+pub idle_rings :
+    (page_rings entry_rings : List RingId) (workers : List WorkerValue) (idle : List IntakeValue) (sides : List (TakeEnd Entry))
+    → AreTakeEnds page_rings entry_rings (intakes workers idle) sides → workers ≡ [] → take_rings idle ≡ page_rings
+idle_rings page_rings entry_rings workers idle sides are none = ap (λ (ws : List WorkerValue). take_rings (intakes ws idle)) (sym none) ∙ are.intakes_are
+
+-- the ends that take stay those of the table's rings where each ring is emptied for a build
+pub ends_emptied :
+    (page_rings entry_rings : List RingId) (workers : List WorkerValue) (idle : List IntakeValue) (sides : List (TakeEnd Entry))
+    → AreTakeEnds page_rings entry_rings (intakes workers idle) sides → workers ≡ [] → (build : ℕ) (pages : List (PutEnd Copied)) (puts : List (PutEnd Entry))
+    → put_rings pages ≡ page_rings → side_rings puts ≡ entry_rings → (begun : List IntakeValue) (drained : List (TakeEnd Entry)) → begun ≡ map (begun_on build) pages
+    → drained ≡ map drained_end puts → AreTakeEnds page_rings entry_rings (intakes workers begun) drained
+ends_emptied page_rings entry_rings workers idle sides are none build pages puts page_puts side_puts begun drained begins drains =
+    let ring : IntakeValue → RingId = λ i. i.end.ring in
+    let taken : TakeEnd Entry → RingId = λ e. e.ring in
+    let alone : intakes workers begun ≡ begun = ap (λ (ws : List WorkerValue). intakes ws begun) none in
+    let pages_are : take_rings (intakes workers begun) ≡ page_rings = ap take_rings (alone ∙ begins) ∙ mapped (begun_on build) ring pages ∙ page_puts in
+    let sides_are : taken_rings drained ≡ entry_rings = ap taken_rings drains ∙ mapped drained_end taken puts ∙ side_puts in
+    record {
+      intakes_are = pages_are;
+      sides_are = sides_are;
+      sixteen = as_long ring ring (intakes workers begun) (intakes workers idle) (pages_are ∙ sym are.intakes_are) ∙ are.sixteen;
+      eight = as_long taken taken drained sides (sides_are ∙ sym are.sides_are) ∙ are.eight;
+    }
 
 -- an intake that begins a build was sent nothing of it
 pub all_fresh : (builds : ℕ) (pages : List (PutEnd Copied)) → AreOfBuilds builds (all_sent pages) → All IsFresh (map (begun_on (builds + 1)) pages)

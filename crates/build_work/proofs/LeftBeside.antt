@@ -8,11 +8,14 @@ use Rattle.keybytes.specs.declared.fault.Fault.{Fault}
 use Rattle.keybytes.specs.declared.pair.Pair.{Pair}
 use Rattle.run_spool.specs.Spools.{AreSorted, holds_nothing}
 use Rattle.building.specs.SpoolValue.{SpoolValue, pairs_in, runs_of, spool_value, stakes_of, ended_spool}
+use Rattle.building.specs.TakeEnd.{TakeEnd}
 use Rattle.building.specs.WorkerValue.{WorkerValue}
+use Rattle.side_file.specs.declared.entry.Entry.{Entry}
 use Rattle.catch_up.specs.Built.{BuiltValue}
 use Rattle.build_work.specs.BuildingValue.{BuildingValue, WorkValue, IndexValue, IsUnloaded, with_index, is_unique}
 use Rattle.build_work.specs.Columns.{column}
 use Rattle.build_work.specs.Holding.{all_spools, lent_spools, spools_state, ended_column, spools_in}
+use Rattle.build_work.specs.Keeping.{IsKept, KeepsWork}
 use Rattle.build_work.specs.Working.{AreEachOnce, CanLoad, IsSpoiled}
 use Rattle.build_work.proofs.Columns.{every_map}
 use Rattle.build_work.proofs.OneWorker.{the_work}
@@ -68,9 +71,11 @@ stakes_beside workers a b same =
     map-append stake a (lent_spools workers) ∙ ap (λ (l : List (Option Stake)). l ++ stakes_of (lent_spools workers)) same ∙ sym (map-append stake b (lent_spools workers))
 
 -- what is asked of work and spools for a load of an index
-pub record CanSort (index : ℕ) (work : WorkValue) (workers : List WorkerValue) (spools : List SpoolValue) : Type 0 where
+pub record CanSort (index : ℕ) (work : WorkValue) (workers : List WorkerValue) (sides : List (TakeEnd Entry)) (spools : List SpoolValue) : Type 0 where
   pub there : index < length work.specs
   pub many : length work.indexes ≡ length work.specs
+  pub loads : work.loading ≡ true
+  pub kept : IsKept workers sides spools work
   pub lent : length spools ≡ length workers * length work.specs
   pub sorted : IsUnloaded index work → All AreSorted (runs_of (column index (length work.specs) spools))
   pub once : IsUnloaded index work → AreEachOnce (pairs_in (column index (length work.specs) spools))
@@ -111,12 +116,25 @@ module _ (old seen : BuildingValue) (work held : WorkValue) (same : seen ≡ old
         }
 
   -- its pairs can be put in order
-  pub can_load : (index : ℕ) → CanLoad index old → CanSort index work seen.workers seen.spools
-  can_load index can =
+  pub can_load :
+      (index : ℕ) → KeepsWork seen.workers seen.sides seen.spools seen.work → CanLoad index old → CanSort index work seen.workers seen.sides seen.spools
+  can_load index keeps can =
       let it : can.work ≡ work = the_work old.work can.work work can.runs its_work in
-      let here : CanSort index can.work old.workers old.spools =
-      record { there = can.there; many = can.many; lent = can.lent; sorted = can.sorted; once = can.once } in
-      subst (λ (b : BuildingValue). CanSort index work b.workers b.spools) (sym same) (subst (λ (w : WorkValue). CanSort index w old.workers old.spools) it here)
+      let fine : work.spoiled ≡ None = ap (λ (w : WorkValue). w.spoiled) (sym it) ∙ can.fine in
+      let loads : work.loading ≡ true = ap (λ (w : WorkValue). w.loading) (sym it) ∙ can.loads in
+      let there : index < length work.specs = subst (λ (w : WorkValue). index < length w.specs) it can.there in
+      let kept : IsKept seen.workers seen.sides seen.spools work =
+      subst (λ (o : Option WorkValue). KeepsWork seen.workers seen.sides seen.spools o) runs keeps fine in
+      record {
+        there = there;
+        many = kept.many;
+        loads = loads;
+        kept = kept;
+        lent = (kept.columns loads).many;
+        sorted = λ none. (kept.columns loads).sorted index there none;
+        once = subst (λ (w : WorkValue). IsUnloaded index w → AreEachOnce (pairs_in (column index (length w.specs) seen.spools))) it
+            (subst (λ (b : BuildingValue). IsUnloaded index can.work → AreEachOnce (pairs_in (column index (length can.work.specs) b.spools))) (sym same) can.once);
+      }
 
 -- pairs that aren't in order are in no tree
 no_tree : (built : Option BuiltValue) → false ≡ is_some built → built ≡ None

@@ -1,10 +1,14 @@
+pub mod AppliedKept
 pub mod Applying
 pub mod AtWork
 pub mod Beginning
 pub mod BroughtHome
 pub mod Columns
 pub mod Equipping
+pub mod HandedKept
+pub mod Kept
 pub mod LeftBeside
+pub mod LoadedKept
 pub mod Looked
 pub mod Looks
 pub mod Merges
@@ -15,4 +19,5 @@ pub mod SpoolPlaces
 pub mod Stakes
 pub mod Stepping
 pub mod TakenOut
+pub mod Unloaded
 pub mod Works

@@ -6,6 +6,8 @@ use Rattle.build_work.specs.BuildingValue.{WorkValue, IsUnloaded, work_state, in
 use Rattle.build_work.specs.Holding.{HaveColumns, all_spools, lent_spools}
 use Rattle.build_work.specs.Rings.{AreTakeEnds, unseen}
 use Rattle.build_work.proofs.AtWork.{states_same}
+use Rattle.build_work.specs.Keeping.{KeepsWork}
+use Rattle.build_work.proofs.Kept.{looked_kept}
 use Rattle.build_work.proofs.Looks.{ends_same, rings_looked}
 use Rattle.std.proofs.lemmas.List.{nil_from_length}
 use Rattle.side_file.specs.Ends.{RingId}
@@ -55,15 +57,16 @@ pub beside_looked :
     (pages sides : List RingId) (old new : List WorkerValue) (idle : List IntakeValue) (ends : List (TakeEnd Entry)) (home : List SpoolValue) (idle_room room : ℕ)
     (work : Option WorkValue) (given : Bool) (Ended : Type 0) → map unseen new ≡ map unseen old
     → AreTakeEnds pages sides (intakes old idle) ends × (16 ≤ idle_room) × (length (all_spools old home) ≤ room) × (work ≡ None → old ≡ [])
-    × (given ≡ false → old ≡ []) × Ended
+    × (given ≡ false → work ≡ None) × Ended × KeepsWork old ends home work
     → AreTakeEnds pages sides (intakes new idle) ends × (16 ≤ idle_room) × (length (all_spools new home) ≤ room) × (work ≡ None → new ≡ [])
-    × (given ≡ false → new ≡ []) × Ended
-beside_looked pages sides old new idle ends home idle_room room work given Ended same (are, idle_fits, fits, no_work, not_given, ended) =
+    × (given ≡ false → work ≡ None) × Ended × KeepsWork new ends home work
+beside_looked pages sides old new idle ends home idle_room room work given Ended same (are, idle_fits, fits, no_work, not_given, ended, kept) =
     let none : old ≡ [] → new ≡ [] = λ e. let long = as_long unseen unseen new old same in nil_from_length new (omega (arith, long, ap length e)) in (
       ends_same pages sides old new idle ends are (rings_looked old new same),
       idle_fits,
       subst (λ (l : List SpoolValue). length (home ++ l) ≤ room) (sym (lent_looked old new same)) fits,
       λ e. none (no_work e),
-      λ e. none (not_given e),
+      not_given,
       ended,
+      looked_kept old new ends home work same kept,
     )

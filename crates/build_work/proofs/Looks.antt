@@ -10,7 +10,7 @@ use Rattle.building.specs.TakeEnd.{TakeEnd}
 use Rattle.building.specs.WorkerValue.{WorkerValue}
 use Rattle.building.specs.declared.copied.Copied.{Copied}
 use Rattle.build_work.specs.BuildingValue.{intakes}
-use Rattle.build_work.specs.Rings.{take_rings, all_sent, unseen, AreLooked, AreSealed, AreTakeEnds, FirstAreSealed, IsSealed}
+use Rattle.build_work.specs.Rings.{put_rings, take_rings, all_sent, unseen, AreLooked, AreSealed, AreTakeEnds, FirstAreSealed, IsSealed}
 use Rattle.build_work.proofs.AtWork.{intake_at}
 use Rattle.build_scan.proofs.Places.{as_long, map_at, same_at, mapped}
 
@@ -70,6 +70,25 @@ few_workers page_rings entry_rings workers idle sides are =
     let all = length-append (map (λ (w : WorkerValue). w.intake) workers) idle in
     let own = length-map workers (λ (w : WorkerValue). w.intake) in
     omega (arith, are.sixteen, all, own)
+
+-- and as ends that put into these
+pub few_with_pages :
+    (page_rings entry_rings : List RingId) (workers : List WorkerValue) (idle : List IntakeValue) (sides : List (TakeEnd Entry))
+    → AreTakeEnds page_rings entry_rings (intakes workers idle) sides → (pages : List (PutEnd Copied)) → put_rings pages ≡ page_rings
+    → length workers ≤ length pages
+few_with_pages page_rings entry_rings workers idle sides are pages puts =
+    let few = few_workers page_rings entry_rings workers idle sides are in
+    let many = as_long (λ (end : PutEnd Copied). end.ring) (λ (i : IntakeValue). i.end.ring) pages (intakes workers idle) (puts ∙ sym are.intakes_are) in
+    omega (arith, few, many, are.sixteen)
+
+-- and there are as few once their rings were looked at
+pub few_looked :
+    (page_rings entry_rings : List RingId) (workers : List WorkerValue) (idle : List IntakeValue) (sides : List (TakeEnd Entry))
+    → AreTakeEnds page_rings entry_rings (intakes workers idle) sides → (new : List WorkerValue) → map unseen new ≡ map unseen workers → length new ≤ 16
+few_looked page_rings entry_rings workers idle sides are new same =
+    let few = few_workers page_rings entry_rings workers idle sides are in
+    let many = as_long unseen unseen new workers same in
+    omega (arith, few, many)
 
 -- workers whose rings were looked at take from the rings that they took from
 pub at_looked :

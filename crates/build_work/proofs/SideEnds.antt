@@ -1,14 +1,23 @@
 -- The ends of the side-files' rings that take, where one of them changes.
-use Rattle.std.proofs.Common.{◌≡◌, ℕ, List, length, map, set, get_or, sym, ap, ◌∙◌}
+use Rattle.std.proofs.Common.{◌≡◌, ℕ, ◌<◌, List, length, map, set, get_or, Option, Some, sym, ap, ◌∙◌, subst, arith}
+use Rattle.std.specs.List.{slice_get}
 use Rattle.std.specs.declared.alloc.Global.{Global}
-use Rattle.std.proofs.lemmas.List.{length-map, length-set}
+use Rattle.std.proofs.lemmas.List.{length-map, length-set, map-set}
+use Rattle.std.proofs.lemmas.Option.{same_Some}
 use Rattle.rtrb.specs.declared.consumer.Consumer.{Consumer}
-use Rattle.side_file.specs.Ends.{RingId, ring_take}
+use Rattle.side_file.specs.Ends.{PutEnd, RingId, ring_take}
 use Rattle.side_file.specs.declared.entry.Entry.{Entry}
 use Rattle.building.specs.TakeEnd.{TakeEnd, take_end}
 use Rattle.building.specs.IntakeValue.{IntakeValue}
+use Rattle.build_scan.specs.SideFiles.{HasLookedAtSide, SeesSide}
+use Rattle.building.specs.SpoolValue.{SpoolValue}
+use Rattle.building.specs.WorkerValue.{WorkerValue}
+use Rattle.build_work.specs.BuildingValue.{BuildingValue, WorkValue}
+use Rattle.build_work.specs.Keeping.{KeepsWork}
+use Rattle.build_work.proofs.Kept.{side_looked_kept}
 use Rattle.build_work.specs.Rings.{AreTakeEnds}
-use Rattle.build_scan.proofs.Places.{kept, mapped}
+use Rattle.build_work.specs.Working.{SideIsSeen}
+use Rattle.build_scan.proofs.Places.{at_index, kept, map_at, mapped}
 
 module _ {P : Type 0} where
   -- the ends that take stay those of the table's rings
@@ -31,3 +40,44 @@ module _ {P : Type 0} where
       (page_rings entry_rings : List RingId) (workers : List IntakeValue) (ends : List (Consumer Entry Global P))
       → AreTakeEnds page_rings entry_rings workers (map take_end ends) → length ends ≡ 8
   eight_ends page_rings entry_rings workers ends are = sym (length-map ends take_end) ∙ are.eight
+
+  -- the end at a place is of the table's ring there
+  pub ring_of :
+      (page_rings entry_rings : List RingId) (workers : List IntakeValue) (ends : List (Consumer Entry Global P)) (index : ℕ) (end : Consumer Entry Global P) (ring : RingId)
+      → AreTakeEnds page_rings entry_rings workers (map take_end ends) → index < 8 → end ≡ get_or ends index end → slice_get entry_rings index ≡ Some ring
+      → ring ≡ ring_take end
+  ring_of page_rings entry_rings workers ends index end ring are less at table =
+      let many = eight_ends page_rings entry_rings workers ends are in
+      let there = map_at take_end ends index end (at_index ends index end at (omega (arith, less, many))) in
+      same_Some ring (ring_take end)
+      (sym table ∙ ap (λ (rings : List RingId). slice_get rings index) (sym are.sides_are)
+      ∙ map_at (λ (e : TakeEnd Entry). e.ring) (map take_end ends) index (take_end end) there)
+
+  -- both ends of the ring of that side-file were looked at
+  pub side_is_seen :
+      (index waiting : ℕ) (old seen : BuildingValue) (ends : List (Consumer Entry Global P)) (end after : Consumer Entry Global P) (put new_put : PutEnd Entry) → seen ≡ old
+      → seen.sides ≡ map take_end ends → end ≡ get_or ends index end → index < length ends → HasLookedAtSide put (take_end end) new_put (take_end after)
+      → SeesSide waiting new_put (take_end after)
+      → SideIsSeen index waiting put new_put old (record seen { sides = map take_end (set ends index after) })
+  side_is_seen index waiting old seen ends end after put new_put same are at less looked sees =
+      let here : old.sides ≡ map take_end ends = ap (λ (b : BuildingValue). b.sides) (sym same) ∙ are in
+      record {
+        end = take_end end;
+        there = ap (λ (es : List (TakeEnd Entry)). slice_get es index) here ∙ map_at take_end ends index end (at_index ends index end at less);
+        after = take_end after;
+        looked = looked;
+        sees = sees;
+        left = ap (λ (es : List (TakeEnd Entry)). record seen { sides = es })
+            (map-set take_end ends index after ∙ ap (λ (es : List (TakeEnd Entry)). set es index (take_end after)) (sym are))
+            ∙ ap (λ (b : BuildingValue). record b { sides = set b.sides index (take_end after) }) same;
+      }
+
+  -- what the work keeps doesn't depend on what the end has seen
+  pub side_end_kept :
+      (workers : List WorkerValue) (spools : List SpoolValue) (work : Option WorkValue) (ends : List (Consumer Entry Global P)) (index : ℕ)
+      (end after : Consumer Entry Global P) → end ≡ get_or ends index end → index < length ends → (take_end after).received ≡ (take_end end).received
+      → KeepsWork workers (map take_end ends) spools work → KeepsWork workers (map take_end (set ends index after)) spools work
+  side_end_kept workers spools work ends index end after at less same kept =
+      subst (λ (sides : List (TakeEnd Entry)). KeepsWork workers sides spools work) (sym (map-set take_end ends index after))
+      (side_looked_kept workers (map take_end ends) spools work index (take_end end) (take_end after)
+      (map_at take_end ends index end (at_index ends index end at less)) same kept)

@@ -100,7 +100,7 @@ spoiled_work_on kinds log b work fault is = record {
 }
 
 -- pairs that are each once have the set of those that they were, in another order
-same_set : (made pairs : List Pair) → IsPermutation made pairs → set_of pairs ≡ set_of made
+pub same_set : (made pairs : List Pair) → IsPermutation made pairs → set_of pairs ≡ set_of made
 same_set made pairs moved =
     same_members (set_of pairs) (set_of made) (λ q.
     contains-set_of pairs q ∙ sym (list_any-IsPermutation (eq_by_cmp pair_cmp q) made pairs moved) ∙ sym (contains-set_of made q))

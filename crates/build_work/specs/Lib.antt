@@ -3,6 +3,7 @@ pub mod Columns
 pub mod Equipped
 pub mod FullSpools
 pub mod Holding
+pub mod Keeping
 pub mod Rings
 pub mod Verdicts
 pub mod WorkOn

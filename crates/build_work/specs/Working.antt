@@ -5,6 +5,7 @@ use Rattle.std.specs.Ordering.{eq_by_cmp}
 use Rattle.keybytes.specs.declared.fault.Fault.{Fault}
 use Rattle.keybytes.specs.declared.pair.Pair.{Pair}
 use Rattle.keybytes.specs.Pairs.{AreOrdered, pair_cmp, set_of}
+use Rattle.side_file.specs.Ends.{PutEnd}
 use Rattle.side_file.specs.declared.entry.Entry.{Entry}
 use Rattle.visibility.specs.Applied.{apply_entries}
 use Rattle.catch_up.specs.Built.{BuiltValue, told_to}
@@ -13,8 +14,10 @@ use Rattle.run_spool.specs.Spools.{AreSorted}
 use Rattle.building.specs.SpoolValue.{SpoolValue, pairs_in, runs_of, stakes_of}
 use Rattle.building.specs.Work.{after_seal}
 use Rattle.building.specs.WorkerValue.{HasSealed, HasTaken, SameWorker, WorkerValue}
+use Rattle.build_scan.specs.SideFiles.{HasLookedAtSide, SeesSide}
 use Rattle.build_work.specs.BuildingValue.{BuildingValue, WorkValue, IndexValue, IsUnloaded, is_unique, with_index}
 use Rattle.build_work.specs.Columns.{column}
+use Rattle.build_work.specs.Keeping.{IsClosed}
 use Rattle.build_work.specs.Holding.{all_spools, ended_column}
 
 -- a worker of the build that runs did this, answered with so many images, and nothing else changed
@@ -51,6 +54,15 @@ pub record IsSpoiled (fault : Fault) (old new : BuildingValue) : Type 0 where
 abbrev pub handed_over : WorkerValue → WorkerValue
 handed_over worker = record worker { spools = []; handed = true }
 
+-- the workers of a build that goes on may hand their spools over: none did, and all their runs are closed
+pub record CanHandOver (building : BuildingValue) : Type 0 where
+  pub work : WorkValue
+  pub runs : building.work ≡ Some work
+  pub fine : work.spoiled ≡ None
+  pub scans : work.loading ≡ false
+  pub lent : All (λ worker. worker.handed ≡ false) building.workers
+  pub closed : All (IsClosed work.build work.specs) building.workers
+
 -- the workers of the build handed their spools over, for the loads of its indexes
 pub record HasHandedOver (old new : BuildingValue) : Type 0 where
   pub work : WorkValue
@@ -73,14 +85,13 @@ pub record HasSorted (index : ℕ) (work : WorkValue) (old : BuildingValue) (cou
 abbrev pub AreEachOnce : List Pair → Type 0
 AreEachOnce pairs = IsDistinct (eq_by_cmp pair_cmp) pairs
 
--- the pairs of an index can be put in order: each run is, and no pair is there twice
+-- the pairs of an index can be put in order: its build goes on, the spools were handed over, and no pair is there twice
 pub record CanLoad (index : ℕ) (building : BuildingValue) : Type 0 where
   pub work : WorkValue
   pub runs : building.work ≡ Some work
   pub there : index < length work.specs
-  pub many : length work.indexes ≡ length work.specs
-  pub lent : length building.spools ≡ length building.workers * length work.specs
-  pub sorted : IsUnloaded index work → All AreSorted (runs_of (column index (length work.specs) building.spools))
+  pub fine : work.spoiled ≡ None
+  pub loads : work.loading ≡ true
   pub once : IsUnloaded index work → AreEachOnce (pairs_in (column index (length work.specs) building.spools))
 
 -- a load of an index: its pairs are put in order, or were so before
@@ -128,3 +139,12 @@ pub record HasApplied (index : ℕ) (old : BuildingValue) (count : ℕ) (new : B
     sides = set old.sides index end;
     work = Some (with_index taking.work index pairs (taking.it.applied + count));
   }
+
+-- both ends of the ring of that side-file were looked at, so many entries wait in it, and nothing else changed
+pub record SideIsSeen (index waiting : ℕ) (put new_put : PutEnd Entry) (old new : BuildingValue) : Type 0 where
+  pub end : TakeEnd Entry
+  pub there : slice_get old.sides index ≡ Some end
+  pub after : TakeEnd Entry
+  pub looked : HasLookedAtSide put end new_put after
+  pub sees : SeesSide waiting new_put after
+  pub left : new ≡ record old { sides = set old.sides index after }

@@ -6,15 +6,18 @@ ghost use Rattle.building.specs.SpoolValue.{spool_value};
 ghost use Rattle.build_work.specs.FullSpools.{HadFull};
 ghost use Rattle.building.specs.WorkerValue.{IsShortage, SeesCopy, SeesOwnCopy};
 ghost use Rattle.run_maker.specs.Spooling.{MemoryOnlyIf};
-ghost use Rattle.build_work.specs.BuildingValue.{given_up, intakes, IsUnloaded};
+ghost use Rattle.build_work.specs.BuildingValue.{fresh, given_up, intakes, IsUnloaded};
 ghost use Rattle.build_work.specs.Holding.{all_spools, lent_spools, spools_state};
+ghost use Rattle.build_work.specs.Keeping.{KeepsWork};
+ghost use Rattle.catch_up.specs.Built.{told_to};
 ghost use Rattle.build_work.specs.Equipped.{HasRoomFor, IsEquipped, IsFresh};
-ghost use Rattle.build_work.specs.Working.{CanApply, CanLoad, Digested, HasApplied, HasHandedOver, HasLoaded, IsSpoiled, Sealed, WorkerDid};
+ghost use Rattle.build_work.specs.Working.{CanApply, CanHandOver, CanLoad, Digested, HasApplied, HasHandedOver, HasLoaded, IsSpoiled, Sealed, WorkerDid};
 
 use crate::ends::Ends;
 use crate::equipment::{Equipment, equip};
 use crate::index_work::IndexWork;
 use crate::returning::{bring_home, take_back};
+use crate::rings::laws_of;
 use crate::sorted::sorted_index;
 use crate::work::Work;
 use building::{Intake, Table, Worker};
@@ -32,11 +35,11 @@ use std::mem::replace;
 /// It is no `Drop`: whoever has it takes the spools out again, and they are ended then.
 pub struct Building<S: Spool, T: Table> {
     /// The workers of the build, numbered from 0.
-    pub workers: Vec<Worker<S, T>>,
+    pub(crate) workers: Vec<Worker<S, T>>,
     /// The intakes of the rings that have no worker, those behind the workers'.
-    pub idle: Vec<Intake>,
+    pub(crate) idle: Vec<Intake>,
     /// The ends of the side-files' rings that take, one for each index that a build may have.
-    pub side_ends: Vec<Consumer<Entry>>,
+    pub(crate) side_ends: Vec<Consumer<Entry>>,
     /// The spools that no worker has.
     pub(crate) spools: Vec<S>,
     /// Whether a build was given the spools; they are then not left for a next one.
@@ -54,6 +57,7 @@ impl<S: Spool, T: Table> Model for Building<S, T> {
     ghost use Rattle.building.specs.SpoolValue.{spool_value};
     ghost use Rattle.building.specs.TakeEnd.{take_end};
     ghost use Rattle.build_work.specs.Holding.{all_spools};
+    ghost use Rattle.build_work.specs.Keeping.{KeepsWork};
     ghost use Rattle.build_work.specs.Rings.{AreTakeEnds};
 
     ghost view = { λ building. record {
@@ -69,8 +73,10 @@ impl<S: Spool, T: Table> Model for Building<S, T> {
         × (16 ≤ vec_capacity building.idle)
         × (length (all_spools building.workers.items (map (spool_value S.runs S.open_run S.stake) building.spools.items)) ≤ vec_capacity building.spools)
         × (building.work ≡ None → building.workers.items ≡ [])
-        × (building.given ≡ false → building.workers.items ≡ [])
-        × (building.given ≡ true → building.work ≡ None → All S.ended building.spools.items) };
+        × (building.given ≡ false → building.work ≡ None)
+        × (building.given ≡ true → building.work ≡ None → All S.ended building.spools.items)
+        × KeepsWork building.workers.items (map take_end building.side_ends.items) (map (spool_value S.runs S.open_run S.stake) building.spools.items)
+        building.work };
 }
 
 impl<S: Spool, T: Table> Building<S, T> {
@@ -152,6 +158,13 @@ impl<S: Spool, T: Table> Building<S, T> {
         self.work.as_ref()
     }
 
+    /// How many workers the build has.
+    pub fn workers(&self) -> usize
+        ensures { result ≡ length self.now.workers }
+    {
+        self.workers.len()
+    }
+
     /// The spools that no worker has: all of them, while no build runs. Once a build that had them has ended they are ended.
     pub fn spools(&self) -> &[S]
         ensures own { map (spool_value S.runs S.open_run S.stake) result.now ≡ self.now.spools }
@@ -186,6 +199,8 @@ impl<S: Spool, T: Table> Building<S, T> {
         home: Vec<S>,
     )
         requires idle { self.old.workers ≡ [] }
+        requires nothing_done { work ≡ fresh work.build work.specs }
+        requires unused { All (λ end. told_to work.build end.received ≡ []) self.old.sides }
         requires fresh { All IsFresh self.old.idle }
         requires few { length equipment.items ≤ 16 }
         requires places { HasRoomFor (length equipment.items) workers }
@@ -266,12 +281,13 @@ impl<S: Spool, T: Table> Building<S, T> {
 
     /// The workers of the build hand their spools over, so that its indexes can be loaded. Takes no memory.
     pub fn hand_over(&mut self)
-        requires { IsSome self.old.work }
+        requires { CanHandOver self.old }
         ensures { HasHandedOver self.old self.new }
     {
         let Some(work) = &mut self.work else {
             unreachable!()
         };
+        laws_of(&self.workers);
         bring_home(&mut self.workers, &mut self.spools);
         work.loading = true;
     }

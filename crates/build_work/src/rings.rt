@@ -2,7 +2,7 @@
 ghost use Rattle.std.specs.Prelude.{◌≡◌, ◌++◌, ◌<◌, ◌≤◌, ◌+◌, List, map, length, slice_get, All, true, false, None, Some, IfSome, MatchOption, ℕ, vec_capacity};
 ghost use Rattle.side_file.specs.Ends.{PutEnd};
 ghost use Rattle.building.specs.IntakeValue.{IntakeValue};
-ghost use Rattle.building.specs.WorkerValue.{IsHolding, WorkerValue};
+ghost use Rattle.building.specs.WorkerValue.{IsCounting, IsHolding, WorkerValue};
 ghost use Rattle.building.specs.declared.copied.Copied.{Copied};
 ghost use Rattle.build_work.specs.BuildingValue.{intakes};
 ghost use Rattle.build_work.specs.Rings.{put_rings, take_rings, all_sent, all_free, begun_on, AreLooked, AreSealed, FirstAreSealed, IsUnsealed, IsSealed};
@@ -11,7 +11,7 @@ use building::{Intake, PagePutter, Table, Worker};
 use run_spool::Spool;
 
 /// Empties every ring, and lets its intake begin a build.
-pub fn restart_all(pages: &mut Vec<PagePutter>, intakes: &mut Vec<Intake>, build: u64)
+pub(crate) fn restart_all(pages: &mut Vec<PagePutter>, intakes: &mut Vec<Intake>, build: u64)
     requires { put_rings pages.old.items ≡ take_rings intakes.old.items }
     ensures rings { put_rings pages.new.items ≡ put_rings pages.old.items }
     ensures sent { all_sent pages.new.items ≡ all_sent pages.old.items }
@@ -25,7 +25,7 @@ pub fn restart_all(pages: &mut Vec<PagePutter>, intakes: &mut Vec<Intake>, build
 }
 
 /// How many copies wait for a worker. Both ends of its ring then know all that there is to know of it.
-pub fn waiting<S: Spool, T: Table>(
+pub(crate) fn waiting<S: Spool, T: Table>(
     pages: &mut Vec<PagePutter>,
     workers: &mut Vec<Worker<S, T>>,
     worker: usize,
@@ -63,7 +63,7 @@ fn is_unsealed<S: Spool, T: Table>(
 }
 
 /// The lowest worker that has a copy in its ring, or a run open.
-pub fn first_unsealed<S: Spool, T: Table>(
+pub(crate) fn first_unsealed<S: Spool, T: Table>(
     pages: &mut Vec<PagePutter>,
     workers: &mut Vec<Worker<S, T>>,
 ) -> Option<usize>
@@ -85,8 +85,10 @@ pub fn first_unsealed<S: Spool, T: Table>(
 }
 
 /// Does nothing: its clauses tell what each worker keeps that goes on and has its spools.
-pub fn laws_of<S: Spool, T: Table>(workers: &[Worker<S, T>])
+pub(crate) fn laws_of<S: Spool, T: Table>(workers: &[Worker<S, T>])
     ensures begun { All (λ w. length w.maker.begun ≡ length w.maker.specs) workers.now }
+    ensures columns { All (λ w. All (λ spec. spec.kinds ≡ w.maker.schema) w.maker.specs) workers.now }
+    ensures counting { All (λ w. w.fault ≡ None → IsCounting w.intake w.maker) workers.now }
     ensures holding { All (λ w. w.fault ≡ None → w.handed ≡ false → IsHolding w.intake w.maker w.spools) workers.now }
 {
     for worker in workers {

@@ -59,6 +59,20 @@ impl Work {
         })
     }
 
+    /// The number of the build.
+    pub fn number(&self) -> u64
+        ensures { result ≡ self.now.build }
+    {
+        self.build
+    }
+
+    /// What makes the keys of its indexes.
+    pub fn specs(&self) -> &[KeySpec]
+        ensures { result.now ≡ self.now.specs }
+    {
+        &self.specs
+    }
+
     /// Why the build can't go on, if it can't.
     pub fn check(&self) -> Result<(), Fault>
         ensures { MatchResult result (λ _. self.now.spoiled ≡ None) (λ fault. self.now.spoiled ≡ Some fault) }

@@ -20,10 +20,11 @@ use Rattle.build_work.specs.BuildingValue.{BuildingValue, WorkValue, IsUnloaded,
 use Rattle.build_work.specs.Columns.{column}
 use Rattle.build_work.specs.Holding.{HaveColumns, all_spools, lent_spools, spools_state}
 use Rattle.build_work.specs.Rings.{all_sent, AreSealed, IsSealed, IsWorkerOf}
-use Rattle.build_work.specs.Working.{HasHandedOver, handed_over}
-use Rattle.build_scan.proofs.Places.{all_at, all_mapped, at_map, below, map_at, mapped, mapped_of, no_pair, there_is}
+use Rattle.build_work.specs.Working.{CanHandOver, HasHandedOver, handed_over}
+use Rattle.build_work.specs.Keeping.{IsClosed}
+use Rattle.build_scan.proofs.Places.{all_at, all_from, all_mapped, at_map, below, map_at, mapped, mapped_of, no_pair, there_is}
 use Rattle.builder_core.proofs.Refusals.{state_is}
-use Rattle.build_work.proofs.SpoolPlaces.{column_is, column_there, flat_at, flat_many}
+use Rattle.build_work.proofs.HandedKept.{lent_columns}
 use Rattle.build_work.proofs.Works.{loading_work_on}
 use Rattle.build_work.proofs.BroughtHome.{none_left}
 use Rattle.build_work.proofs.AtWork.{opened_in}
@@ -63,62 +64,33 @@ module _
   of_build : (k : ℕ) (worker : WorkerValue) (at : slice_get building.workers k ≡ Some worker) → IsWorkerOf b.number live.state.heap.schema w.specs w.loading (sent_to k worker at).0 worker
   of_build k worker at = let sent = sent_to k worker at in run.at_work.taking fine k sent.0 worker sent.1 at
 
-  own_many : (k : ℕ) (worker : WorkerValue) → slice_get building.workers k ≡ Some worker → length worker.spools ≡ n
-  own_many k worker at = (of_build k worker at).own scans
-
   holds : (k : ℕ) (worker : WorkerValue) → slice_get building.workers k ≡ Some worker → IsHolding worker.intake worker.maker worker.spools
   holds k worker at = all_at (λ (v : WorkerValue). IsHolding v.intake v.maker v.spools) building.workers k worker holding at
 
   is_sealed : (k : ℕ) (worker : WorkerValue) (at : slice_get building.workers k ≡ Some worker) → IsSealed (sent_to k worker at).0 worker
   is_sealed k worker at = let sent = sent_to k worker at in sealed k sent.0 worker sent.1 at
 
-  lent_many : length lent ≡ length building.workers * n
-  lent_many = flat_many (λ (v : WorkerValue). v.spools) n building.workers own_many
+  -- all their runs are closed, and none has handed its spools over
+  all_lent_out : All (λ (worker : WorkerValue). worker.handed ≡ false) building.workers
+  all_lent_out = all_from (λ (worker : WorkerValue). worker.handed ≡ false) building.workers (λ k worker at. (of_build k worker at).handed ∙ scans)
 
-  -- the spool of an index at a worker's place is the worker's
-  module _ (index k : ℕ) (worker : WorkerValue) (spool : SpoolValue) (less : index < n) (at : slice_get building.workers k ≡ Some worker)
-      (here : slice_get (column index n lent) k ≡ Some spool) where
-    own : (s : SpoolValue) × (slice_get worker.spools index ≡ Some s)
-    own = there_is worker.spools index (let many = own_many k worker at in omega (arith, less, many))
+  all_closed : All (IsClosed w.build w.specs) building.workers
+  all_closed = all_from (IsClosed w.build w.specs) building.workers (λ k worker at.
+      let of = of_build k worker at in
+      record {
+        fine = of.fine;
+        of_build = of.taking.of_build ∙ sym run.on.number;
+        specs_are = of.specs_are;
+        closed = (is_sealed k worker at).closed;
+      })
 
-    same : own.0 ≡ spool
-    same =
-        same_Some own.0 spool (sym (flat_at (λ (v : WorkerValue). v.spools) n building.workers own_many k worker at index own.0 own.1)
-        ∙ sym (column_is n (length building.workers) index lent less lent_many k) ∙ here)
+  each_holding : All (λ worker. worker.fault ≡ None → worker.handed ≡ false → IsHolding worker.intake worker.maker worker.spools) building.workers
+  each_holding = all_from (λ (worker : WorkerValue). worker.fault ≡ None → worker.handed ≡ false → IsHolding worker.intake worker.maker worker.spools) building.workers
+      (λ k worker at fault handed. holds k worker at)
 
-    runs_there : get_or (runs_of worker.spools) index [] ≡ spool.runs
-    runs_there =
-        get_or_from_slice_get (runs_of worker.spools) index own.0.runs [] (map_at (λ (s : SpoolValue). s.runs) worker.spools index own.0 own.1)
-        ∙ ap (λ (s : SpoolValue). s.runs) same
-
-    in_order : AreSorted spool.runs
-    in_order =
-        subst (λ (s : SpoolValue). AreSorted s.runs) same
-        (all_at (λ (s : SpoolValue). AreSorted s.runs) worker.spools index own.0 (all_mapped AreSorted (λ (s : SpoolValue). s.runs) worker.spools (holds k worker at).sorted) own.1)
-
-    its_pairs : HoldsPairs (spec_at w.specs index) (received_images worker.maker.schema worker.intake) spool.runs []
-    its_pairs =
-        let of = of_build k worker at in
-        let there : index < length worker.maker.specs = omega (arith, less, ap length of.specs_are) in
-        let held : HoldsPairs (spec_at worker.maker.specs index) (received_images worker.maker.schema worker.intake) (get_or (runs_of worker.spools) index []) (get_or worker.maker.begun index []) =
-        (holds k worker at).holds index there in
-        let none : get_or worker.maker.begun index [] ≡ [] = no_pair worker.maker.begun index (is_sealed k worker at).closed in
-        subst (λ (specs : List KeySpecValue). HoldsPairs (spec_at specs index) (received_images worker.maker.schema worker.intake) spool.runs []) of.specs_are
-        (subst (λ (rs : List (List Pair)). HoldsPairs (spec_at worker.maker.specs index) (received_images worker.maker.schema worker.intake) rs []) runs_there
-        (subst (HoldsPairs (spec_at worker.maker.specs index) (received_images worker.maker.schema worker.intake) (get_or (runs_of worker.spools) index [])) none held))
-
-  lent_columns : HaveColumns (λ index. IsUnloaded index w) w.specs (map handed_over building.workers) lent
-  lent_columns = record {
-    many = lent_many ∙ ap (λ (m : ℕ). m * n) (sym (length-map building.workers handed_over));
-    sorted = λ index less opened. mapped_of AreSorted (λ (s : SpoolValue). s.runs) (column index n lent) (λ k spool here.
-        let k_less = column_there n (length building.workers) index lent less lent_many k spool here in
-        let worker = there_is building.workers k k_less in
-        in_order index k worker.0 spool less worker.1 here);
-    pairs = λ index k worker spool less opened at here.
-        let it = at_map handed_over building.workers k worker at in
-        subst (λ (v : WorkerValue). HoldsPairs (spec_at w.specs index) (received_images v.maker.schema v.intake) spool.runs []) it.2
-        (its_pairs index k it.0 spool less it.1 here);
-  }
+  -- so they may
+  pub can_hand_over : CanHandOver building
+  can_hand_over = record { work = w; runs = run.work_is; fine = fine; scans = scans; lent = all_lent_out; closed = all_closed }
 
   -- of what it took since its last seal
   still_open :
@@ -158,7 +130,7 @@ module _
             let was = sealed k sent it.0 there it.1 in
             subst (IsSealed sent) it.2 (record { taken = was.taken; closed = was.closed }),
       );
-      columns = λ f e. rw all_lent lent_columns;
+      columns = λ f e. rw all_lent (lent_columns w.build w.specs building.workers all_closed all_lent_out each_holding (λ index. IsUnloaded index (record w { loading = true })));
     };
   }
 

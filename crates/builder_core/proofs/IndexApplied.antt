@@ -32,6 +32,7 @@ use Rattle.std.specs.List.{slice_get}
 use Rattle.std.specs.Prelude.{◌==◌}
 use Rattle.std.proofs.lemmas.Bool.{cases_Bool, eqb-true, eqb-false}
 use Rattle.build_scan.proofs.Places.{at_set, set_there, set_elsewhere, here_set, stays_there, below, map_at}
+use Rattle.build_work.proofs.Unloaded.{open_fewer, unloaded_before}
 use Rattle.build_work.proofs.Works.{set_work_on}
 use Rattle.build_events.specs.CoreState.{BuildState, IndexState, WorkState, scanning_of}
 use Rattle.build_events.specs.Scanning.{Scanning, scanned_pairs}
@@ -76,29 +77,6 @@ pub record AppliesNext (index waiting : ℕ) (live : LiveValue) (building : Buil
   pub end_at : slice_get building.sides index ≡ Some end
   pub fed : AreFedEntries live.state.heap.log build index spec put
   pub sees : SeesSide waiting put end
-
--- of fewer indexes the spools hold what they held
-open_fewer :
-    (P Q : ℕ → Type 0) (specs : List KeySpecValue) (workers : List WorkerValue) (spools : List SpoolValue) → ((i : ℕ) → Q i → P i)
-    → HaveColumns P specs workers spools → HaveColumns Q specs workers spools
-open_fewer P Q specs workers spools fewer columns = record {
-  many = columns.many;
-  sorted = λ i less opened. columns.sorted i less (fewer i opened);
-  pairs = λ i k worker spool less opened at lent. columns.pairs i k worker spool less (fewer i opened) at lent;
-}
-
--- an index that isn't in order was not before another was
-pub unloaded_before :
-    (work : WorkValue) (index : ℕ) (pairs : List Pair) (applied k : ℕ) → index < length work.indexes → IsUnloaded k (with_index work index pairs applied) → IsUnloaded k work
-unloaded_before work index pairs applied k less none it at =
-    let new : IndexValue = record { built = Some (with_pairs work index pairs); applied = applied } in
-    elim (cases_Bool (k == index)) [
-      | inl same ↦
-          let there : slice_get (set work.indexes index new) k ≡ Some new =
-          ap (slice_get (set work.indexes index new)) (eqb-true k index same) ∙ here_set work.indexes index new less in
-          absurd (let bad : new.built ≡ None = none new there in cc)
-      | inr other ↦ none it (stays_there work.indexes index new k it (eqb-false k index other) at)
-    ]
 
 module _ (index waiting : ℕ) (live : LiveValue) (building : BuildingValue) (t : AppliesNext index waiting live building) where
   abbrev here : Scanning
@@ -273,7 +251,7 @@ module _ (index waiting : ℕ) (live : LiveValue) (building : BuildingValue) (t 
             lent = λ f. t.run.at_work.lent t.fine;
             drained = λ f. t.run.at_work.drained t.fine;
             columns = λ f loading. open_fewer _ _ t.work.specs building.workers building.spools
-                (λ i none. unloaded_before t.work index done.pairs (t.it.applied + count) i (below t.work.indexes index t.it t.it_at) none)
+                (unloaded_before t.work index (with_pairs t.work index done.pairs) (t.it.applied + count) (below t.work.indexes index t.it t.it_at))
                 (t.run.at_work.columns t.fine loading);
           };
         }))

@@ -3,6 +3,7 @@ pub mod AllImages
 pub mod CatchingUp
 pub mod CopyPairs
 pub mod Crosses
+pub mod EarlyCauses
 pub mod Examples
 pub mod FedBeside
 pub mod Feeding
@@ -16,12 +17,16 @@ pub mod LoadCauses
 pub mod Loaded
 pub mod Looked
 pub mod MadeReady
+pub mod OnlyLooked
 pub mod OneRing
+pub mod OwnSwitch
 pub mod PageCauses
+pub mod PartOf
 pub mod Partition
 pub mod Performed
 pub mod Puts
 pub mod Refusals
+pub mod Reunited
 pub mod ScanCauses
 pub mod Sealed
 pub mod SideEnds
@@ -31,7 +36,9 @@ pub mod Starts
 pub mod SwitchIn
 pub mod TableBuilds
 pub mod Taken
+pub mod TakenIn
 pub mod Takes
 pub mod Told
 pub mod Unloaded
+pub mod Unused
 pub mod Waits

@@ -41,7 +41,8 @@ use Rattle.build_work.proofs.Columns.{every_elsewhere, kept_changed, length-chan
 use Rattle.builder_core.proofs.HandedOver.{spec_is}
 use Rattle.build_work.proofs.SpoolPlaces.{column_many}
 use Rattle.builder_core.proofs.Partition.{parts_together}
-use Rattle.builder_core.proofs.IndexApplied.{unloaded_before}
+use Rattle.build_work.proofs.LoadedKept.{pairs_by_spool}
+use Rattle.build_work.proofs.Unloaded.{not_this, unloaded_before}
 use Rattle.build_scan.proofs.Places.{there_is, at_set, here_set, set_same, map_at, below, all_at}
 use Rattle.builder_core.proofs.Refusals.{state_of, state_is, works_with}
 use Rattle.builder_core.proofs.Takes.{spoiled_works, put_of}
@@ -53,14 +54,6 @@ use Rattle.keybytes.specs.Pairs.{pair_cmp}
 use Rattle.keybytes.proofs.PairSets.{pairs_total}
 use Rattle.build_events.proofs.Distinct.{scanned_distinct}
 use Rattle.build_work.proofs.Works.{sorted_work_on}
-
--- the pairs of all runs of spools, spool by spool
-pairs_by_spool :
-    (spools : List SpoolValue)
-    → pairs_in spools ≡ flat_map (λ (s : SpoolValue). all_pairs s.runs) spools
-pairs_by_spool [] = refl
-pairs_by_spool (s ∷ ss) =
-    flat_map-append (λ (run : List Pair). run) s.runs (all_runs (map (λ (s : SpoolValue). s.runs) ss)) ∙ ap (λ ps. all_pairs s.runs ++ ps) (pairs_by_spool ss)
 
 -- what was put for the running build, told of a table from within
 pub put_inside :
@@ -141,9 +134,8 @@ module _
         work = w;
         runs = run.work_is;
         there = less;
-        many = run.on.many ∙ ap length run.on.specs;
-        lent = columns.many;
-        sorted = λ none. columns.sorted index less none;
+        fine = fine;
+        loads = loads;
         once = λ none. each_once index it.0 it.1 none;
       }
 
@@ -209,24 +201,18 @@ module _
         | inr other ↦ run.at_work.fed k i put end other.1 putting taking
       ]
 
-      -- an index that isn't in order now wasn't before, and is another
-      not_this : (i : ℕ) → IsUnloaded i sorted → i ≡ index → ⊥
-      not_this i none same =
-          let bad : loaded_it.built ≡ None = subst (λ (j : ℕ). IsUnloaded j sorted) same none loaded_it (here_set w.indexes index loaded_it here) in
-          cc
-
       elsewhere : (i : ℕ) → i < length w.specs → IsUnloaded i sorted → column i (length w.specs) left.spools ≡ column i (length w.specs) building.spools
       elsewhere i below none =
-          every_elsewhere ended_spool (length w.specs - 1) i index building.spools (omega (arith, below)) (omega (arith, less)) (not_this i none)
+          every_elsewhere ended_spool (length w.specs - 1) i index building.spools (omega (arith, below)) (omega (arith, less)) (not_this w index (with_pairs w index done.pairs) 0 here i none)
 
       columns_left : HaveColumns (λ i. IsUnloaded i sorted) w.specs building.workers left.spools
       columns_left = record {
         many = length-changed ended_spool (length w.specs - 1) index building.spools ∙ columns.many;
         sorted = λ i below none.
             subst (λ (l : List SpoolValue). All AreSorted (runs_of l)) (sym (elsewhere i below none))
-            (columns.sorted i below (unloaded_before w index done.pairs 0 i here none));
+            (columns.sorted i below (unloaded_before w index (with_pairs w index done.pairs) 0 here i none));
         pairs = λ i k worker spool below none at lent.
-            columns.pairs i k worker spool below (unloaded_before w index done.pairs 0 i here none) at
+            columns.pairs i k worker spool below (unloaded_before w index (with_pairs w index done.pairs) 0 here i none) at
             (ap (λ (l : List SpoolValue). slice_get l k) (sym (elsewhere i below none)) ∙ lent);
       }
 

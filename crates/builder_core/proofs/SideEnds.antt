@@ -1,19 +1,17 @@
 -- A table and what stands beside it, where both ends of an index's ring were looked at.
-use Rattle.std.proofs.Common.{◌≡◌, ℕ, ◌<◌, List, length, map, set, get_or, sym, ap, ◌∙◌}
+use Rattle.std.proofs.Common.{◌≡◌, ℕ, ◌<◌, List, length, set, get_or, sym, ap, ◌∙◌}
 use Rattle.std.specs.List.{slice_get}
-use Rattle.std.specs.declared.alloc.Global.{Global}
 use Rattle.std.proofs.lemmas.List.{length-map, length-set, map-set}
-use Rattle.rtrb.specs.declared.consumer.Consumer.{Consumer}
 use Rattle.side_file.specs.Ends.{PutEnd, RingId}
 use Rattle.side_file.specs.SideFileValue.{SideFileValue}
 use Rattle.side_file.specs.declared.entry.Entry.{Entry}
-use Rattle.building.specs.TakeEnd.{TakeEnd, take_end}
 use Rattle.building.specs.declared.copied.Copied.{Copied}
 use Rattle.builder_core.specs.Builds.{LiveValue, SideIsLooked, SeesSideAt}
 use Rattle.build_work.specs.BuildingValue.{BuildingValue}
 use Rattle.builder_core.specs.Rings.{ArePutEnds}
-use Rattle.build_scan.specs.SideFiles.{HasLookedAtSide, SeesSide, put_ends}
-use Rattle.build_scan.proofs.Places.{at_index, here_set, kept, map_at, mapped}
+use Rattle.build_work.specs.Working.{SideIsSeen}
+use Rattle.build_scan.specs.SideFiles.{put_ends}
+use Rattle.build_scan.proofs.Places.{at_index, below, here_set, kept, map_at, mapped}
 
 -- the ends stay those of the table's rings
 pub put_ends_stay :
@@ -36,36 +34,37 @@ pub eight_sides :
     → length sides ≡ 8
 eight_sides page_rings entry_rings pages sides are = sym (length-map sides (λ (s : SideFileValue). s.end)) ∙ are.eight
 
-module _ {P : Type 0} where
-  -- both ends were looked at
-  module _
-      (index : ℕ) (live : LiveValue) (building : BuildingValue) (sides : List SideFileValue) (ends : List (Consumer Entry Global P)) (old new : SideFileValue)
-      (end new_end : Consumer Entry Global P) (puts : live.sides ≡ put_ends sides) (takes : building.sides ≡ map take_end ends)
-      (at : old ≡ get_or sides index old) (there : end ≡ get_or ends index end) (less : index < length sides) (below : index < length ends) where
-    pub side_is_looked :
-        HasLookedAtSide old.end (take_end end) new.end (take_end new_end)
-        → SideIsLooked index live building (record live { sides = put_ends (set sides index new) }) (record building { sides = map take_end (set ends index new_end) })
-    side_is_looked looked = record {
-      old_put = old.end;
-      put_there = ap (λ (ps : List (PutEnd Entry)). slice_get ps index) puts ∙ map_at (λ (s : SideFileValue). s.end) sides index old (at_index sides index old at less);
-      old_end = take_end end;
-      end_there = ap (λ (es : List (TakeEnd Entry)). slice_get es index) takes ∙ map_at take_end ends index end (at_index ends index end there below);
-      put = new.end;
-      end = take_end new_end;
-      looked = looked;
-      puts = ap (λ (ps : List (PutEnd Entry)). record live { sides = ps })
-          (map-set (λ (s : SideFileValue). s.end) sides index new ∙ ap (λ (ps : List (PutEnd Entry)). set ps index new.end) (sym puts));
-      ends = ap (λ (es : List (TakeEnd Entry)). record building { sides = es })
-          (map-set take_end ends index new_end ∙ ap (λ (es : List (TakeEnd Entry)). set es index (take_end new_end)) (sym takes));
-    }
+-- both ends were looked at
+module _
+    (index waiting : ℕ) (old seen : LiveValue) (building new_building : BuildingValue) (sides : List SideFileValue) (side new : SideFileValue) (same : seen ≡ old)
+    (puts : seen.sides ≡ put_ends sides) (at : side ≡ get_or sides index side) (less : index < length sides)
+    (sees : SideIsSeen index waiting side.end new.end building new_building) where
+  -- what is left of the table
+  abbrev looked : LiveValue
+  looked = record seen { sides = put_ends (set sides index new) }
 
-    pub sees_side :
-        (waiting : ℕ) → SeesSide waiting new.end (take_end new_end)
-        → SeesSideAt index waiting (record live { sides = put_ends (set sides index new) }) (record building { sides = map take_end (set ends index new_end) })
-    sees_side waiting sees = record {
-      put = new.end;
-      put_there = map_at (λ (s : SideFileValue). s.end) (set sides index new) index new (here_set sides index new less);
-      end = take_end new_end;
-      end_there = map_at take_end (set ends index new_end) index new_end (here_set ends index new_end below);
-      sees = sees;
-    }
+  pub side_is_looked : SideIsLooked index old building looked new_building
+  side_is_looked = record {
+    old_put = side.end;
+    put_there = ap (λ (l : LiveValue). slice_get l.sides index) (sym same) ∙ ap (λ (ps : List (PutEnd Entry)). slice_get ps index) puts
+        ∙ map_at (λ (s : SideFileValue). s.end) sides index side (at_index sides index side at less);
+    old_end = sees.end;
+    end_there = sees.there;
+    put = new.end;
+    end = sees.after;
+    looked = sees.looked;
+    puts = ap (λ (ps : List (PutEnd Entry)). record seen { sides = ps })
+        (map-set (λ (s : SideFileValue). s.end) sides index new ∙ ap (λ (ps : List (PutEnd Entry)). set ps index new.end) (sym puts))
+        ∙ ap (λ (l : LiveValue). record l { sides = set l.sides index new.end }) same;
+    ends = sees.left;
+  }
+
+  pub sees_side : SeesSideAt index waiting looked new_building
+  sees_side = record {
+    put = new.end;
+    put_there = map_at (λ (s : SideFileValue). s.end) (set sides index new) index new (here_set sides index new less);
+    end = sees.after;
+    end_there = ap (λ (b : BuildingValue). slice_get b.sides index) sees.left
+        ∙ here_set building.sides index sees.after (below building.sides index sees.end sees.there);
+    sees = sees.sees;
+  }

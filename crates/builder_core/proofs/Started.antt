@@ -1,7 +1,7 @@
 -- What the start of a build leaves.
 use Rattle.std.proofs.Common.{◌≡◌, ℕ, ◌+◌, ◌≤◌, List, [], length, map, replicate, true, Some, None, refl, sym, ap, ◌∙◌, subst, ◌++◌, arith, ◌-◌}
 use Rattle.std.proofs.lemmas.Bool.{false≢true}
-use Rattle.std.proofs.lemmas.List.{length-map, append-nil, drop_all}
+use Rattle.std.proofs.lemmas.List.{append-nil, drop_all}
 use Rattle.keybytes.specs.Keys.{KeySpecValue}
 use Rattle.keybytes.specs.declared.kind.Kind.{Kind}
 use Rattle.heap_log.specs.declared.record.LogRec.{LogRec}
@@ -10,7 +10,6 @@ use Rattle.scan_range.specs.Cuts.{CutsValue}
 use Rattle.side_file.specs.Ends.{PutEnd, RingId}
 use Rattle.side_file.specs.declared.entry.Entry.{Entry}
 use Rattle.building.specs.TakeEnd.{TakeEnd}
-use Rattle.building.specs.IntakeValue.{IntakeValue}
 use Rattle.building.specs.declared.copied.Copied.{Copied}
 use Rattle.builder_core.specs.Builds.{LiveValue, WorksOn}
 use Rattle.build_work.specs.BuildingValue.{BuildingValue, WorkValue, IndexValue, fresh, fresh_index, intakes}
@@ -24,12 +23,12 @@ use Rattle.build_work.specs.Equipped.{IsEquipped}
 use Rattle.build_work.specs.Holding.{fresh_maker}
 use Rattle.build_events.specs.CoreState.{BuildState}
 use Rattle.scan_range.specs.Dealings.{dealing_refusal, dealt_ends}
-use Rattle.build_work.specs.Rings.{all_sent, put_rings, take_rings, begun_on, AreOfBuilds, AreTakeEnds}
+use Rattle.build_work.specs.Rings.{all_sent, put_rings, begun_on, AreOfBuilds}
 use Rattle.builder_core.specs.Rings.{ArePutEnds}
-use Rattle.build_scan.specs.SideFiles.{side_rings, taken_rings, drained_end}
+use Rattle.build_scan.specs.SideFiles.{side_rings, drained_end}
 use Rattle.scan_range.specs.declared.dealing.Dealing.{Dealing}
 use Rattle.build_work.proofs.AtWork.{started_taking}
-use Rattle.build_scan.proofs.Places.{as_long, at_map, mapped, replicate_at}
+use Rattle.build_scan.proofs.Places.{as_long, at_map, replicate_at}
 use Rattle.builder_core.proofs.Refusals.{works_with}
 use Rattle.builder_core.proofs.Starts.{dealt_are_cuts}
 use Rattle.build_scan.proofs.TableBuilds.{started_build}
@@ -44,17 +43,6 @@ put_ends_started page_rings entry_rings pages new sides new_sides are rings side
   sides_are = side_rings_are ∙ are.sides_are;
   eight = as_long (λ (end : PutEnd Entry). end.ring) (λ (end : PutEnd Entry). end.ring) new_sides sides side_rings_are ∙ are.eight;
   sixteen = as_long (λ (end : PutEnd Copied). end.ring) (λ (end : PutEnd Copied). end.ring) new pages rings ∙ are.sixteen;
-}
-
--- and so are those that take
-pub take_ends_started :
-    (page_rings entry_rings : List RingId) (build : ℕ) (pages : List (PutEnd Copied)) (sides : List (PutEnd Entry)) (intakes : List IntakeValue) (ends : List (TakeEnd Entry))
-    → ArePutEnds page_rings entry_rings pages sides → intakes ≡ map (begun_on build) pages → ends ≡ map drained_end sides → AreTakeEnds page_rings entry_rings intakes ends
-take_ends_started page_rings entry_rings build pages sides intakes ends are is drained = record {
-  intakes_are = ap take_rings is ∙ mapped (begun_on build) (λ (w : IntakeValue). w.end.ring) pages ∙ are.pages_are;
-  sides_are = ap taken_rings drained ∙ mapped drained_end (λ (end : TakeEnd Entry). end.ring) sides ∙ are.sides_are;
-  eight = ap length drained ∙ length-map sides drained_end ∙ are.eight;
-  sixteen = ap length is ∙ length-map pages (begun_on build) ∙ are.sixteen;
 }
 
 -- a build over the pages of that log

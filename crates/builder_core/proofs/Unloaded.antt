@@ -71,7 +71,7 @@ module _
         ∙ ap (λ (test : Bool). first_cause (cause_if test (Behind left)) (busy_refusal b (length (busy_txns live.state.heap))))
         (false_from_ne_true (nat_lt 1024 left) (λ more. let less = ltb-true 1024 left more in omega (arith, less, few)))
 
-no_fault : (o : Option ℕ) → option_map NotLoaded o ≡ None → o ≡ None
+pub no_fault : (o : Option ℕ) → option_map NotLoaded o ≡ None → o ≡ None
 no_fault None none = refl
 no_fault (Some index) none = absurd (cc)
 

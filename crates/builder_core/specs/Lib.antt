@@ -5,3 +5,4 @@ pub mod FullSpools
 pub mod Invariant
 pub mod Putting
 pub mod Rings
+pub mod Switching

@@ -18,6 +18,7 @@ mod core_replies;
 mod core_steps;
 mod live;
 mod live_builds;
+mod live_part;
 mod live_sides;
 mod live_switch;
 mod live_workers;

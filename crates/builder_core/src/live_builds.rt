@@ -18,8 +18,8 @@ ghost use Rattle.keybytes.specs.Schemas.{same_kinds};
 
 use crate::parts::{INDEXES_MAX, WORKERS_MAX};
 use crate::{Building, Live, Plan, Table};
-use build_scan::{TableScan, empty_all};
-use build_work::{Work, prepare, restart_all};
+use build_scan::TableScan;
+use build_work::{Work, prepare};
 use building::Copied;
 use heap_table::PageImage;
 use keybytes::{Fault, KeySpec, Schema, copied_specs};
@@ -70,8 +70,8 @@ impl<T: Table> Live<T> {
         let specs = copied_specs(self.alloc, &plan.specs)?;
         let records = self.heap.records();
         let build = TableScan::new(self.alloc, number, specs, plan.workers, records, cuts)?;
-        restart_all(&mut self.pages, &mut building.idle, number);
-        empty_all(&mut self.sides, &mut building.side_ends);
+        building.laws();
+        building.empty_rings(&mut self.pages, &mut self.sides, number);
         self.builds = number;
         self.build = Some(build);
         building.begin(self.alloc, work, equipment, workers, home);

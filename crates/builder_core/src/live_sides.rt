@@ -46,10 +46,7 @@ impl<T: Table> Live<T> {
             (AreFedEntries self.new.state.heap.log b index spec))) }
         ensures follows { BuildFollows self.new.state.heap.schema self.new.state.heap.log self.new.state.build }
     {
-        let side = &mut self.sides[index];
-        let waiting = side.beside(&mut building.side_ends[index]);
-        side.laws();
-        waiting
+        building.look_at_side(index, &mut self.sides[index])
     }
 
     /// The same as [`Live::feed`], with both ends of the ring at hand, so that each free place is known.

@@ -5,6 +5,8 @@ ghost use Rattle.heap_table.specs.HeapState.{HeapState, after_switch, busy_txns}
 ghost use Rattle.keybytes.specs.Keys.{are_key_columns};
 ghost use Rattle.heap_table.specs.Pages.{KeepsRows};
 ghost use Rattle.builder_core.specs.Builds.{core_state, cause_of, WorksOn};
+ghost use Rattle.builder_core.specs.Putting.{PutsNoCopy};
+ghost use Rattle.builder_core.specs.Switching.{HaveAll, IsPartOf, RefusesSwitch};
 ghost use Rattle.builder_core.specs.CatchingUp.{MayCatchUp, IndexIsFurther, IsDoneIndex, left_at, ready_of};
 ghost use Rattle.build_work.specs.Verdicts.{its_verdict};
 ghost use Rattle.ready_indexes.specs.Following.{AllFollow, MayFollow, indexes_of};
@@ -41,8 +43,7 @@ impl<T: Table> Live<T> {
         let Some(work) = building.work() else {
             unreachable!()
         };
-        // That there is a ring for each index is known once their field is reached.
-        let _ends = &building.side_ends;
+        building.laws();
         let side = &self.sides[index];
         side.laws();
         side.left() + (side.fed() - work.applied(index))
@@ -118,8 +119,7 @@ impl<T: Table> Live<T> {
         let Some(build) = self.build() else {
             unreachable!()
         };
-        // That there is a ring for each index is known once their field is reached.
-        let _ends = &building.side_ends;
+        building.laws();
         for index in 0..build.indexes() {
             self.catch_up_one(index, building)?;
         }
@@ -153,10 +153,32 @@ impl<T: Table> Live<T> {
     }
 
     /// Applies the entries that are left, makes the indexes of the build ready, and ends it and its spools; answered with the
-    /// number of the log record, and what became of each index. [`Fault::NoBuild`], the fault of a spoiled build,
-    /// [`Fault::NotScanned`], [`Fault::NotLoaded`], [`Fault::Behind`], [`Fault::Busy`]. Where memory is wanted, entries that were applied stay
-    /// applied, and it can be called again.
+    /// number of the log record, and what became of each index. [`Fault::NoBuild`], also where what stands beside the table is another
+    /// build's; the fault of a spoiled build, [`Fault::NotScanned`], [`Fault::NotLoaded`]; [`Fault::NotSealed`] where a copy is left in a
+    /// worker's ring, or its run is open; [`Fault::Behind`], [`Fault::Busy`]. Where memory is wanted, entries that were applied stay applied, and
+    /// it can be called again.
     pub fn switch_in<S: Spool>(
+        &mut self,
+        building: &mut Building<S, T>,
+    ) -> Result<(usize, Verdicts), Fault>
+        ensures switched { IfOk result (λ told. Switches (core_state self.old building.old) told (core_state self.new building.new)) }
+        ensures accepted { OnOk result (cause_of self.old building.old Event.Switch ≡ None) }
+        ensures all { OnOk result (IsPartOf self.old building.old × HaveAll self.old building.old) }
+        ensures refused { IfErr result (λ fault. RefusesSwitch self.old building.old fault (core_state self.new building.new)) }
+        ensures own { WorksOn self.old building.old → IfErr result (λ fault. IsRefused (core_state self.old building.old) Event.Switch fault (core_state self.new building.new)) }
+        ensures works { OnOk result (WorksOn self.new building.new) }
+        ensures kept { WorksOn self.old building.old → WorksOn self.new building.new }
+        ensures pages { PutsNoCopy self.old self.new }
+    {
+        // What both keep is known once it is told.
+        building.laws();
+        let _pages = &self.pages;
+        self.take_in(building)?;
+        self.switch_own(building)
+    }
+
+    /// The same of work that goes with the build, once its workers have taken all.
+    fn switch_own<S: Spool>(
         &mut self,
         building: &mut Building<S, T>,
     ) -> Result<(usize, Verdicts), Fault>

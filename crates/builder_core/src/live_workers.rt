@@ -6,6 +6,7 @@ ghost use Rattle.run_maker.specs.Spooling.{MemoryOnlyIf};
 ghost use Rattle.building.specs.WorkerValue.{IsHolding};
 ghost use Rattle.building.specs.declared.copied.Copied.{Copied};
 ghost use Rattle.builder_core.specs.Builds.{core_state, cause_of, put_refusal, HasLooked, SeesRing, IsLoading, MayWork, MayLoad, WorksOn};
+ghost use Rattle.builder_core.specs.Switching.{HaveAll, IsLowestUnsealed};
 ghost use Rattle.builder_core.specs.FullSpools.{WorkerWasFull};
 ghost use Rattle.build_work.specs.Rings.{all_sent, AreSealed, FirstAreSealed, IsUnsealed};
 ghost use Rattle.builder_core.specs.Rings.{PagesFollow};
@@ -15,7 +16,6 @@ ghost use Rattle.build_events.specs.Workers.{index_at};
 ghost use Rattle.build_events.specs.declared.event.Event.{Event};
 
 use crate::{Building, Live, Table};
-use build_work::{first_unsealed, laws_of, waiting};
 use building::RING_IMAGES;
 use keybytes::Fault;
 use run_spool::Spool;
@@ -29,28 +29,20 @@ impl<T: Table> Live<T> {
         ensures pages { length self.new.pages ≡ 16 }
         ensures put { PagesFollow self.new.state.heap.schema self.new.state.heap.log self.new.state.builds self.new.state.build (all_sent self.new.pages) }
     {
-        // That there are few workers is known once their fields are reached.
-        let _idle = &building.idle;
-        waiting(&mut self.pages, &mut building.workers, worker)
+        building.waiting(&mut self.pages, worker)
     }
 
-    /// The lowest worker for which a copy waits, or whose run is open.
-    fn look_for_unsealed<S: Spool>(&mut self, building: &mut Building<S, T>) -> Option<usize>
+    /// The lowest worker of what stands beside the table for which a copy waits in its ring, or whose run is open: it has to seal before
+    /// an index is loaded, and before a switch. Both ends of the workers' rings then know all that there is to know of them. Takes no memory.
+    pub fn unsealed<S: Spool>(&mut self, building: &mut Building<S, T>) -> Option<usize>
         ensures looked { HasLooked self.old building.old self.new building.new }
-        ensures unsealed { MatchOption result
-            (AreSealed (all_sent self.new.pages) building.new.workers)
-            (λ k. (k < length building.new.workers) × FirstAreSealed k (all_sent self.new.pages) building.new.workers
-            × IsUnsealed k (all_sent self.new.pages) building.new.workers) }
+        ensures unsealed { MatchOption result (HaveAll self.new building.new) (IsLowestUnsealed self.new building.new) }
         ensures begun { All (λ w. length w.maker.begun ≡ length w.maker.specs) building.new.workers }
         ensures holding { All (λ w. w.fault ≡ None → w.handed ≡ false → IsHolding w.intake w.maker w.spools) building.new.workers }
         ensures put { PagesFollow self.new.state.heap.schema self.new.state.heap.log self.new.state.builds self.new.state.build (all_sent self.new.pages) }
         ensures pages { length self.new.pages ≡ 16 }
     {
-        // That there are few workers is known once their fields are reached.
-        let _idle = &building.idle;
-        let unsealed = first_unsealed(&mut self.pages, &mut building.workers);
-        laws_of(&building.workers);
-        unsealed
+        building.first_unsealed(&mut self.pages)
     }
 
     /// Why a page of the range would not be copied for the worker, with both ends of the worker's ring at hand. Takes no memory.
@@ -172,7 +164,7 @@ impl<T: Table> Live<T> {
         if let Some(range) = build.first_open() {
             return Err(Fault::NotScanned(range));
         }
-        match self.look_for_unsealed(building) {
+        match self.unsealed(building) {
             Some(worker) => Err(Fault::NotSealed(worker)),
             None => Ok(()),
         }

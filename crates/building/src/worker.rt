@@ -115,6 +115,7 @@ impl<S: Spool, T: Table> Worker<S, T> {
         ensures ring { slice_get T.pages self.now.number ≡ Some self.now.intake.end.ring }
         ensures shortage { IfSome self.now.fault IsShortage }
         ensures begun { length self.now.maker.begun ≡ length self.now.maker.specs }
+        ensures columns { All (λ spec. spec.kinds ≡ self.now.maker.schema) self.now.maker.specs }
         ensures counts { self.now.fault ≡ None → IsCounting self.now.intake self.now.maker }
         ensures holds { self.now.fault ≡ None → self.now.handed ≡ false → IsHolding self.now.intake self.now.maker self.now.spools }
     {

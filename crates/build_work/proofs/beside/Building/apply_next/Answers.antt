@@ -1,9 +1,10 @@
 use Rattle.catch_up.specs.Built.{BuiltValue}
-use Rattle.std.proofs.Common.{rules, ◌≡◌, ◌∙◌, ap, Option, [], refl, OnOk, OnErr, ◌+◌, ◌<◌, ◌≤◌, ◌^◌, length, sym, subst, arith}
+use Rattle.std.proofs.Common.{rules, ◌≡◌, ◌∙◌, ap, Option, [], refl, OnOk, OnErr, ◌+◌, ◌<◌, ◌≤◌, ◌^◌, length, map, sym, subst, arith}
 use Rattle.rtrb.specs.Ring.{known_items}
 use Rattle.building.specs.TakeEnd.{TakeEnd}
 use Rattle.side_file.specs.declared.entry.Entry.{Entry}
-use Rattle.build_work.proofs.Applying.{applied_is, applied_next, end_is, one_taken, on_err}
+use Rattle.building.specs.SpoolValue.{spool_value}
+use Rattle.build_work.proofs.Applying.{applied_is, applied_next, end_is, kept_next, one_taken, on_err}
 use Rattle.build_work.proofs.SideEnds.{take_ends_stay}
 use Rattle.build_work.proofs.beside.Building.apply_next.Goals as goal
 
@@ -36,8 +37,14 @@ invariant_of-self-in-Break-1 g c = (
   c.self.invariant.1,
   c.self.invariant.2,
   λ none. absurd (cc),
-  c.self.invariant.4,
+  λ given. let none = c.self.invariant.4 given in let some = c.in-Some.is in absurd (cc),
   λ given none. absurd (cc),
+  kept_next c.args.index c.args.self.now _ c.in-Some.work _ c.index_mut-it.result.now c.in-Some-built.built c.it.inside.applied c.self.inside.side_ends.items
+      c.index_mut.result.now c.self.view_is c.in-Some.is c.work.view_is c.index_mut-it.ensures.value
+      (ap (λ (o : Option BuiltValue). record { built = o; applied = c.it.inside.applied }) (sym c.in-Some-built.is) ∙ c.it.view_is) refl c.index_mut.ensures.value
+      c.requires.taking c.self.inside.workers.items (map (spool_value g.S.Spool.runs g.S.Spool.open_run g.S.Spool.stake) c.self.inside.spools.items)
+      c.apply-taken.new.ring c.apply-taken.ensures.entries _ c.apply-taken.new.built c.apply-taken.ensures.taken c.apply-taken.ensures.applied c.laws.ensures
+      c.self.invariant.6,
 )
 
 pub overflow_add-it : goal.overflow_add-it
@@ -55,6 +62,12 @@ invariant_of-self-2 g c = (
   c.self.invariant.1,
   c.self.invariant.2,
   λ none. absurd (cc),
-  c.self.invariant.4,
+  λ given. let none = c.self.invariant.4 given in let some = c.in-Some.is in absurd (cc),
   λ given none. absurd (cc),
+  kept_next c.args.index c.args.self.now _ c.in-Some.work _ c.index_mut-it.result.now c.in-Some-built.built c.it.inside.applied c.self.inside.side_ends.items
+      c.index_mut.result.now c.self.view_is c.in-Some.is c.work.view_is c.index_mut-it.ensures.value
+      (ap (λ (o : Option BuiltValue). record { built = o; applied = c.it.inside.applied }) (sym c.in-Some-built.is) ∙ c.it.view_is) refl c.index_mut.ensures.value
+      c.requires.taking c.self.inside.workers.items (map (spool_value g.S.Spool.runs g.S.Spool.open_run g.S.Spool.stake) c.self.inside.spools.items)
+      c.apply-taken.new.ring c.apply-taken.ensures.entries _ c.apply-taken.new.built c.apply-taken.ensures.taken c.apply-taken.ensures.applied c.laws.ensures
+      c.self.invariant.6,
 )

@@ -12,7 +12,7 @@ returns-else-self g c =
     let spool = g.S.Spool in
     let value = spool_value spool.runs spool.open_run spool.stake in
     let items = c.self.inside.spools.items in
-    let idle = c.self.invariant.4 c.if-self.false in
+    let idle = c.self.invariant.3 (c.self.invariant.4 c.if-self.false) in
     c.are_empty.ensures ∙ ap (list_all (λ s. holds_nothing (spool.runs s) (spool.open_run s))) c.as_slice.ensures.value
     ∙ left_seen spool.runs spool.open_run spool.stake c.self.inside.given items c.if-self.false
     ∙ ap (λ (l : List SpoolValue). list_all (λ is_empty. is_empty) (spools_state c.self.inside.given l).left) (sym (at_home c.self.inside.workers.items (map value items) idle))

@@ -1,8 +1,11 @@
-use Rattle.std.proofs.Common.{ℕ, ◌<◌, ◌≤◌, List, length, map, set, vec_capacity, refl, sym, ap, subst, arith}
+use Rattle.std.proofs.Common.{ℕ, ◌<◌, ◌≤◌, List, length, map, set, Option, vec_capacity, refl, sym, ap, subst, arith}
 use Rattle.building.specs.SpoolValue.{spool_value}
+use Rattle.building.specs.TakeEnd.{take_end}
 use Rattle.building.specs.WorkerValue.{WorkerValue}
-use Rattle.build_work.specs.BuildingValue.{BuildingValue}
+use Rattle.build_work.specs.BuildingValue.{BuildingValue, WorkValue}
+use Rattle.build_work.specs.Keeping.{KeepsWork}
 use Rattle.build_scan.proofs.Places.{at_index}
+use Rattle.build_work.proofs.Kept.{digested_kept}
 use Rattle.build_work.proofs.Stepping.{as_many_after, digested_step, ends_stay, full_step, spoiled_step}
 use Rattle.build_work.proofs.beside.Building.digest.Goals as goal
 
@@ -21,8 +24,11 @@ invariant_of-self g c =
       c.self.invariant.1,
       subst (λ (n : ℕ). n ≤ vec_capacity c.self.inside.spools) (sym many) c.self.invariant.2,
       λ none. absurd (cc),
-      λ given. ap (λ (ws : List WorkerValue). set ws c.args.worker after) (c.self.invariant.4 given),
+      λ given. let none = c.self.invariant.4 given in let some = c.in-Some.is in absurd (cc),
       λ given none. absurd (cc),
+      digested_kept workers (map take_end c.self.inside.side_ends.items) (map value c.self.inside.spools.items) c.in-Some.work c.note_fault.new.work c.args.worker it after
+          at (subst (λ (o : Option WorkValue). KeepsWork workers (map take_end c.self.inside.side_ends.items) (map value c.self.inside.spools.items) o) c.in-Some.is
+          c.self.invariant.6) c.digest-digested.result c.note_fault.ensures.fine c.note_fault.ensures.spoiled c.digest-digested.ensures.handed,
     )
 
 pub returns-clause-did : goal.returns-clause-did

@@ -1,9 +1,10 @@
-use Rattle.std.proofs.Common.{◌∙◌, List, length, map, ap, arith}
+use Rattle.std.proofs.Common.{◌≡◌, ◌∙◌, false, List, All, None, length, map, ap, subst, arith}
 use Rattle.std.proofs.lemmas.List.{length-map}
 use Rattle.building.specs.SpoolValue.{spool_value}
-use Rattle.building.specs.WorkerValue.{WorkerValue}
+use Rattle.building.specs.WorkerValue.{IsCounting, IsHolding, WorkerValue}
 use Rattle.build_work.specs.Working.{handed_over}
 use Rattle.build_work.proofs.BroughtHome.{ends_kept, none_away}
+use Rattle.build_work.proofs.HandedKept.{handed_over_kept}
 use Rattle.build_work.proofs.beside.Building.hand_over.Goals as goal
 
 pub invariant_of-self : goal.invariant_of-self
@@ -14,11 +15,18 @@ invariant_of-self g c =
     let new : List WorkerValue = c.bring_home.new.workers.items in
     let spools = c.bring_home.new.spools in
     let is = c.bring_home.ensures.workers in
-    let all = none_away old new (map value spools.items) is in (
+    let all = none_away old new (map value spools.items) is in
+    let seen : c.deref.result.now ≡ old = c.deref.ensures.value in
+    let kept = handed_over_kept c.args.self.now _ c.in-Some.work _ c.self.view_is c.in-Some.is c.work.view_is c.requires
+    (subst (All (λ (w : WorkerValue). All (λ spec. spec.kinds ≡ w.maker.schema) w.maker.specs)) seen c.laws_of.ensures.columns)
+    (subst (All (λ (w : WorkerValue). w.fault ≡ None → IsCounting w.intake w.maker)) seen c.laws_of.ensures.counting)
+    (subst (All (λ (w : WorkerValue). w.fault ≡ None → w.handed ≡ false → IsHolding w.intake w.maker w.spools)) seen c.laws_of.ensures.holding)
+    c.self.invariant.6 new (map value spools.items) is c.bring_home.ensures.spools in (
       ends_kept old new _ _ c.self.inside.idle.items _ is c.self.invariant.0,
       c.self.invariant.1,
       omega (arith, ap length all, length-map spools.items value, spools.ok),
       λ none. absurd (cc),
-      λ given. is ∙ ap (map handed_over) (c.self.invariant.4 given),
+      λ given. let none = c.self.invariant.4 given in let some = c.in-Some.is in absurd (cc),
       λ given none. absurd (cc),
+      kept,
     )

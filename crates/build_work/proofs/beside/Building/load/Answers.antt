@@ -1,4 +1,4 @@
-use Rattle.std.proofs.Common.{rules, ◌*◌, ◌≡◌, ◌∙◌, ℕ, List, Option, Some, length, All, map, refl, sym, ap, subst, arith}
+use Rattle.std.proofs.Common.{rules, ◌*◌, ◌≡◌, ◌∙◌, ℕ, List, Option, Some, length, All, map, set, refl, sym, ap, subst, arith}
 use Rattle.std.specs.Prelude.{is_some, IfSome, IsPermutation}
 use Rattle.std.proofs.lemmas.Bool.{false≢true}
 use Rattle.std.proofs.lemmas.List.{length-map}
@@ -8,23 +8,26 @@ use Rattle.run_merge.specs.Merging.{all_runs}
 use Rattle.build_work.specs.BuildingValue.{BuildingValue, WorkValue, IsUnloaded, is_unique}
 use Rattle.std.specs.List.{slice_get}
 use Rattle.build_work.specs.Columns.{column}
+use Rattle.build_work.specs.Keeping.{KeepsWork}
 use Rattle.building.specs.SpoolValue.{SpoolValue, spool_value}
+use Rattle.building.specs.TakeEnd.{take_end}
 use Rattle.build_work.specs.Working.{AreEachOnce}
 use Rattle.build_work.proofs.LeftBeside.{column_seen, same_seen, spoiled_after, stakes_beside, left_sorted, can_load, is_unloaded}
 use Rattle.build_scan.proofs.Places.{there_is}
 use Rattle.build_work.specs.Holding.{all_spools}
+use Rattle.build_work.proofs.LoadedKept.{loaded_kept}
 use Rattle.build_work.proofs.Stakes.{as_many}
 use Rattle.build_work.proofs.beside.Building.load.Goals as goal
 
 pub sorted_index-requires-clause-there : goal.sorted_index-requires-clause-there
 sorted_index-requires-clause-there g c =
-    let can = can_load c.args.self.now _ c.in-Some.work _ c.self.view_is c.in-Some.is c.work.view_is c.args.index c.requires in
+    let can = can_load c.args.self.now _ c.in-Some.work _ c.self.view_is c.in-Some.is c.work.view_is c.args.index c.self.invariant.6 c.requires in
     can.there
 
 pub sorted_index-requires-clause-all : goal.sorted_index-requires-clause-all
 sorted_index-requires-clause-all g c =
     let spool = g.S.Spool in
-    let can = can_load c.args.self.now _ c.in-Some.work _ c.self.view_is c.in-Some.is c.work.view_is c.args.index c.requires in
+    let can = can_load c.args.self.now _ c.in-Some.work _ c.self.view_is c.in-Some.is c.work.view_is c.args.index c.self.invariant.6 c.requires in
     let long = length-map c.self.inside.spools.items (spool_value spool.runs spool.open_run spool.stake) in
     let lent = can.lent in
     sym long ∙ lent ∙ ap (λ (n : ℕ). n * length c.in-Some.work.specs) (sym (c.len-workers.ensures ∙ c.self.inside.workers.ok.0))
@@ -33,7 +36,7 @@ pub sorted_index-requires-clause-sorted : goal.sorted_index-requires-clause-sort
 sorted_index-requires-clause-sorted g c =
     let spool = g.S.Spool in
     let items = c.self.inside.spools.items in
-    let can = can_load c.args.self.now _ c.in-Some.work _ c.self.view_is c.in-Some.is c.work.view_is c.args.index c.requires in
+    let can = can_load c.args.self.now _ c.in-Some.work _ c.self.view_is c.in-Some.is c.work.view_is c.args.index c.self.invariant.6 c.requires in
     subst (All AreSorted) (column_seen spool.runs spool.open_run spool.stake c.args.index (length c.in-Some.work.specs) items)
     (can.sorted (is_unloaded c.in-Some.work c.args.index c.if-is_loaded.ensures))
 
@@ -41,7 +44,7 @@ pub sorted_index-requires-clause-once : goal.sorted_index-requires-clause-once
 sorted_index-requires-clause-once g c =
     let spool = g.S.Spool in
     let items = c.self.inside.spools.items in
-    let can = can_load c.args.self.now _ c.in-Some.work _ c.self.view_is c.in-Some.is c.work.view_is c.args.index c.requires in
+    let can = can_load c.args.self.now _ c.in-Some.work _ c.self.view_is c.in-Some.is c.work.view_is c.args.index c.self.invariant.6 c.requires in
     subst (λ (rs : List (List (List Pair))). AreEachOnce (all_pairs (all_runs rs)))
     (column_seen spool.runs spool.open_run spool.stake c.args.index (length c.in-Some.work.specs) items)
     (can.once (is_unloaded c.in-Some.work c.args.index c.if-is_loaded.ensures))
@@ -65,7 +68,7 @@ returns-clause-loaded g c =
     let n : ℕ = length c.in-Some.work.specs in
     let seen = sym (column_seen spool.runs spool.open_run spool.stake c.args.index n items)
     ∙ ap (λ (b : BuildingValue). map (λ (s : SpoolValue). s.runs) (column c.args.index n b.spools)) c.self.view_is in
-    let can = can_load c.args.self.now _ c.in-Some.work _ c.self.view_is c.in-Some.is c.work.view_is c.args.index c.requires in
+    let can = can_load c.args.self.now _ c.in-Some.work _ c.self.view_is c.in-Some.is c.work.view_is c.args.index c.self.invariant.6 c.requires in
     let it = there_is c.in-Some.work.indexes c.args.index (omega (arith, can.there, can.many)) in
     record {
       work = c.in-Some.work;
@@ -93,7 +96,7 @@ returns-in-Err-clause-first g c =
 
 pub returns-then-is_loaded-clause-loaded : goal.returns-then-is_loaded-clause-loaded
 returns-then-is_loaded-clause-loaded g c =
-    let can = can_load c.args.self.now _ c.in-Some.work _ c.self.view_is c.in-Some.is c.work.view_is c.args.index c.requires in
+    let can = can_load c.args.self.now _ c.in-Some.work _ c.self.view_is c.in-Some.is c.work.view_is c.args.index c.self.invariant.6 c.requires in
     let it = there_is c.in-Some.work.indexes c.args.index (omega (arith, can.there, can.many)) in
     record {
       work = c.in-Some.work;
@@ -117,8 +120,9 @@ invariant_of-self-in-Err g c =
       c.self.invariant.1,
       omega (arith, many, merged.ensures.capacity, c.self.invariant.2),
       λ none. absurd (cc),
-      c.self.invariant.4,
+      λ given. let none = c.self.invariant.4 given in let some = c.in-Some.is in absurd (cc),
       λ given none. absurd (cc),
+      λ fine. absurd (cc),
     )
 
 pub invariant_of-self-2 : goal.invariant_of-self-2
@@ -127,13 +131,27 @@ invariant_of-self-2 g c =
     let value = spool_value spool.runs spool.open_run spool.stake in
     let merged = c.sorted_index in
     let workers = c.self.inside.workers.items in
-    let same = stakes_beside workers (map value merged.new.spools.items) (map value c.self.inside.spools.items)
-    (same_seen spool.runs spool.open_run spool.stake merged.new.spools.items c.self.inside.spools.items merged.ensures.stakes) in
-    let many = as_many (all_spools workers (map value merged.new.spools.items)) (all_spools workers (map value c.self.inside.spools.items)) same in (
+    let items = c.self.inside.spools.items in
+    let built = c.in-Ok.built in
+    let n : ℕ = length c.in-Some.work.specs in
+    let same = stakes_beside workers (map value merged.new.spools.items) (map value items)
+    (same_seen spool.runs spool.open_run spool.stake merged.new.spools.items items merged.ensures.stakes) in
+    let many = as_many (all_spools workers (map value merged.new.spools.items)) (all_spools workers (map value items)) same in
+    let can = can_load c.args.self.now _ c.in-Some.work _ c.self.view_is c.in-Some.is c.work.view_is c.args.index c.self.invariant.6 c.requires in
+    let it = there_is c.in-Some.work.indexes c.args.index (omega (arith, can.there, can.many)) in
+    let spec = there_is c.in-Some.work.specs c.args.index can.there in
+    let none = is_unloaded c.in-Some.work c.args.index c.if-is_loaded.ensures it.0 it.1 in
+    let seen = sym (column_seen spool.runs spool.open_run spool.stake c.args.index n items) in
+    let kept = loaded_kept workers (map take_end c.self.inside.side_ends.items) (map value items) c.in-Some.work can.kept can.loads c.args.index spec.0 spec.1 it.0
+    it.1 none (map value merged.new.spools.items) built
+    (subst (λ (rs : List (List (List Pair))). IsPermutation (all_pairs (all_runs rs)) built.pairs) seen c.in-Ok.ensures.all) c.in-Ok.ensures.order
+    c.in-Ok.ensures.build c.in-Ok.ensures.unique c.in-Ok.ensures.ended in (
       c.self.invariant.0,
       c.self.invariant.1,
       omega (arith, many, merged.ensures.capacity, c.self.invariant.2),
       λ none. absurd (cc),
-      c.self.invariant.4,
+      λ given. let none = c.self.invariant.4 given in let some = c.in-Some.is in absurd (cc),
       λ given none. absurd (cc),
+      subst (λ (w : WorkValue). KeepsWork workers (map take_end c.self.inside.side_ends.items) (map value merged.new.spools.items)
+          (Some (record w { indexes = set w.indexes c.args.index (record { built = Some built; applied = 0 }) }))) (sym c.work.view_is) kept,
     )

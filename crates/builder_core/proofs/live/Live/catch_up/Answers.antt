@@ -1,7 +1,6 @@
-use Rattle.std.proofs.Common.{◌≡◌, ◌<◌, ◌∙◌, length, refl, sym, ap, subst, arith, inl, inr}
+use Rattle.std.proofs.Common.{◌≡◌, ◌<◌, ◌∙◌, length, refl, sym, subst, arith, inl, inr}
 use Rattle.std.proofs.lemmas.Bool.{cases_lt}
 use Rattle.std.proofs.lemmas.Option.{same_Some}
-use Rattle.build_work.specs.BuildingValue.{BuildingValue}
 use Rattle.builder_core.specs.Builds.{core_state}
 use Rattle.build_scan.specs.TableBuilds.{BuildFollows}
 use Rattle.builder_core.specs.CatchingUp.{left_at}
@@ -11,7 +10,7 @@ use Rattle.builder_core.proofs.live.Live.catch_up.Goals as goal
 
 pub loop-index-init : goal.loop-index-init
 loop-index-init g c =
-    let eight : length c.args.building.now.sides ≡ 8 = ap (λ (b : BuildingValue). length b.sides) (sym c.building.view_is) ∙ c.building.invariant.0.eight in
+    let eight : length c.args.building.now.sides ≡ 8 = c.laws.ensures.ends.eight in
     record {
       further = begins c.args.self.now c.args.building.now c.in-Some.build.now c.in-Some.ensures.build c.requires.works c.in-Some.ensures.follows c.in-Some.ensures.fed
           c.in-Some.ensures.sides eight;

@@ -11,67 +11,67 @@ use Rattle.builder_core.proofs.Refusals.{running}
 use Rattle.builder_core.proofs.Takes.{put_of}
 use Rattle.builder_core.proofs.live.Live.check_load.Goals as goal
 
-pub returns-in-Some-look_for_unsealed-clause-refused : goal.returns-in-Some-look_for_unsealed-clause-refused
-returns-in-Some-look_for_unsealed-clause-refused g c =
+pub returns-in-Some-unsealed-clause-refused : goal.returns-in-Some-unsealed-clause-refused
+returns-in-Some-unsealed-clause-refused g c =
     let old : LiveValue = c.args.self.now in
-    let live : LiveValue = c.look_for_unsealed.new.self in
+    let live : LiveValue = c.unsealed.new.self in
     let before : BuildingValue = c.args.building.now in
-    let building : BuildingValue = c.look_for_unsealed.new.building in
+    let building : BuildingValue = c.unsealed.new.building in
     let b : BuildState = c.in-Some-Some.build.now in
     let w : WorkValue = c.in-Some-Some.work.now in
-    let looked = c.look_for_unsealed.ensures.looked in
+    let looked = c.unsealed.ensures.looked in
     let same = state_looked old live before building looked in
     let was = running old before b w c.in-Some-Some.ensures.build c.in-Some-Some.ensures' c.build.ensures.follows c.requires in
     let run = runs_looked old live before building b w looked was in
     let all : open_range b ≡ None = search rules in
-    let worker : ℕ = c.in-Some-look_for_unsealed.worker in
-    let unsealed = c.in-Some-look_for_unsealed.ensures.unsealed in
+    let worker : ℕ = c.in-Some-unsealed.worker in
+    let unsealed = c.in-Some-unsealed.ensures.unsealed in
     let there : c.args.index < length b.specs = omega (arith, c.if-index-indexes.false, c.indexes.ensures) in
-    let cause = load_unsealed live building b w run c.in_ok-check.ensures (put_of live b run.build_is c.look_for_unsealed.ensures.put) c.look_for_unsealed.ensures.pages
-    (open_runs live building b w run c.in_ok-check.ensures (put_of live b run.build_is c.look_for_unsealed.ensures.put) c.look_for_unsealed.ensures.pages c.look_for_unsealed.ensures.begun c.look_for_unsealed.ensures.holding)
-    c.args.index worker there all unsealed.0 unsealed.1 unsealed.2 in
+    let cause = load_unsealed live building b w run c.in_ok-check.ensures (put_of live b run.build_is c.unsealed.ensures.put) c.unsealed.ensures.pages
+    (open_runs live building b w run c.in_ok-check.ensures (put_of live b run.build_is c.unsealed.ensures.put) c.unsealed.ensures.pages c.unsealed.ensures.begun c.unsealed.ensures.holding)
+    c.args.index worker there all unsealed.there unsealed.lower unsealed.unsealed in
     subst (λ (s : CoreState). build_cause s.live.build (λ x. load_refusal x s c.args.index) ≡ Some (NotSealed worker)) same cause
 
-pub returns-in-Some-look_for_unsealed-clause-state : goal.returns-in-Some-look_for_unsealed-clause-state
-returns-in-Some-look_for_unsealed-clause-state g c = state_looked _ _ _ _ c.look_for_unsealed.ensures.looked
+pub returns-in-Some-unsealed-clause-state : goal.returns-in-Some-unsealed-clause-state
+returns-in-Some-unsealed-clause-state g c = state_looked _ _ _ _ c.unsealed.ensures.looked
 
-pub returns-in-Some-look_for_unsealed-clause-works : goal.returns-in-Some-look_for_unsealed-clause-works
-returns-in-Some-look_for_unsealed-clause-works g c = works_looked _ _ _ _ c.look_for_unsealed.ensures.looked c.requires
+pub returns-in-Some-unsealed-clause-works : goal.returns-in-Some-unsealed-clause-works
+returns-in-Some-unsealed-clause-works g c = works_looked _ _ _ _ c.unsealed.ensures.looked c.requires
 
 pub returns-in-None-clause-accepted : goal.returns-in-None-clause-accepted
 returns-in-None-clause-accepted g c =
     let old : LiveValue = c.args.self.now in
-    let live : LiveValue = c.look_for_unsealed.new.self in
+    let live : LiveValue = c.unsealed.new.self in
     let before : BuildingValue = c.args.building.now in
-    let building : BuildingValue = c.look_for_unsealed.new.building in
+    let building : BuildingValue = c.unsealed.new.building in
     let b : BuildState = c.in-Some-Some.build.now in
     let w : WorkValue = c.in-Some-Some.work.now in
-    let looked = c.look_for_unsealed.ensures.looked in
+    let looked = c.unsealed.ensures.looked in
     let same = state_looked old live before building looked in
     let was = running old before b w c.in-Some-Some.ensures.build c.in-Some-Some.ensures' c.build.ensures.follows c.requires in
     let run = runs_looked old live before building b w looked was in
     let all : open_range b ≡ None = search rules in
     let there : c.args.index < length b.specs = omega (arith, c.if-index-indexes.false, c.indexes.ensures) in
-    let cause = load_free live building b w run c.in_ok-check.ensures (put_of live b run.build_is c.look_for_unsealed.ensures.put) c.look_for_unsealed.ensures.pages
-    (open_runs live building b w run c.in_ok-check.ensures (put_of live b run.build_is c.look_for_unsealed.ensures.put) c.look_for_unsealed.ensures.pages c.look_for_unsealed.ensures.begun c.look_for_unsealed.ensures.holding)
+    let cause = load_free live building b w run c.in_ok-check.ensures (put_of live b run.build_is c.unsealed.ensures.put) c.unsealed.ensures.pages
+    (open_runs live building b w run c.in_ok-check.ensures (put_of live b run.build_is c.unsealed.ensures.put) c.unsealed.ensures.pages c.unsealed.ensures.begun c.unsealed.ensures.holding)
     c.args.index there all c.in-None.ensures.unsealed in
     subst (λ (s : CoreState). build_cause s.live.build (λ x. load_refusal x s c.args.index) ≡ None) same cause
 
 pub returns-in-None-clause-state : goal.returns-in-None-clause-state
-returns-in-None-clause-state g c = state_looked _ _ _ _ c.look_for_unsealed.ensures.looked
+returns-in-None-clause-state g c = state_looked _ _ _ _ c.unsealed.ensures.looked
 
 pub returns-in-None-clause-works : goal.returns-in-None-clause-works
-returns-in-None-clause-works g c = works_looked _ _ _ _ c.look_for_unsealed.ensures.looked c.requires
+returns-in-None-clause-works g c = works_looked _ _ _ _ c.unsealed.ensures.looked c.requires
 
 pub returns-in-None-clause-runs : goal.returns-in-None-clause-runs
 returns-in-None-clause-runs g c =
     let old : LiveValue = c.args.self.now in
-    let live : LiveValue = c.look_for_unsealed.new.self in
+    let live : LiveValue = c.unsealed.new.self in
     let before : BuildingValue = c.args.building.now in
-    let building : BuildingValue = c.look_for_unsealed.new.building in
+    let building : BuildingValue = c.unsealed.new.building in
     let b : BuildState = c.in-Some-Some.build.now in
     let w : WorkValue = c.in-Some-Some.work.now in
-    let looked = c.look_for_unsealed.ensures.looked in
+    let looked = c.unsealed.ensures.looked in
     let was = running old before b w c.in-Some-Some.ensures.build c.in-Some-Some.ensures' c.build.ensures.follows c.requires in
     let run = runs_looked old live before building b w looked was in
     record {
@@ -82,6 +82,6 @@ returns-in-None-clause-runs g c =
       there = let specs = ap length was.on.specs in omega (arith, c.if-index-indexes.false, c.indexes.ensures, specs);
       all = search rules;
       sealed = c.in-None.ensures.unsealed;
-      holding = all_holding live building b w run c.in_ok-check.ensures (put_of live b run.build_is c.look_for_unsealed.ensures.put) c.look_for_unsealed.ensures.pages c.look_for_unsealed.ensures.begun
-          c.look_for_unsealed.ensures.holding;
+      holding = all_holding live building b w run c.in_ok-check.ensures (put_of live b run.build_is c.unsealed.ensures.put) c.unsealed.ensures.pages c.unsealed.ensures.begun
+          c.unsealed.ensures.holding;
     }

@@ -1,27 +1,24 @@
 use Rattle.std.specs.Vec.{vec_capacity}
-use Rattle.std.proofs.Common.{◌≡◌, ◌∙◌, ◌+◌, [], ◌≤◌, ℕ, List, length, Some, None, refl, ap, ap₂, sym, subst, arith}
+use Rattle.std.proofs.Common.{◌≡◌, ◌∙◌, ◌+◌, [], ℕ, List, length, Some, None, refl, ap, ap₂, sym, subst, arith}
 use Rattle.std.specs.Prelude.{map, ◌*◌}
 use Rattle.std.specs.List.{All, AllZip}
 use Rattle.keybytes.specs.Keys.{KeySpecValue}
 use Rattle.keybytes.specs.declared.kind.Kind.{Kind}
 use Rattle.heap_table.specs.Pages.{pages_written}
 use Rattle.scan_range.specs.Cuts.{CutsValue}
-use Rattle.side_file.specs.Ends.{PutEnd}
-use Rattle.side_file.specs.declared.entry.Entry.{Entry}
-use Rattle.building.specs.TakeEnd.{PutEndLooked, take_end}
-use Rattle.building.specs.IntakeValue.{IntakeValue}
+use Rattle.building.specs.TakeEnd.{PutEndLooked, TakeEnd}
 use Rattle.builder_core.specs.Builds.{LiveValue}
 use Rattle.build_work.specs.BuildingValue.{BuildingValue, WorkValue, work_state, fresh, intakes}
 use Rattle.build_scan.specs.TableBuilds.{build_over}
 use Rattle.scan_range.specs.Dealings.{dealing_refusal, dealt_ends}
 use Rattle.build_events.specs.CoreState.{BuildState, LiveState, WorkState, SpoolsState, CoreState, all_given}
-use Rattle.building.specs.SpoolValue.{SpoolValue, spool_value}
+use Rattle.building.specs.SpoolValue.{SpoolValue}
 use Rattle.build_work.specs.Holding.{all_spools, fresh_maker, spools_state}
 use Rattle.build_work.specs.Equipped.{HasRoomFor, IsEquipped, IsFresh}
 use Rattle.building.specs.WorkerValue.{WorkerValue}
 use Rattle.run_maker.specs.Making.{MakerValue}
 use Rattle.build_work.specs.declared.equipment.Equipment.{Equipment}
-use Rattle.build_work.specs.Rings.{take_rings, all_sent, all_free, AreOfBuilds}
+use Rattle.build_work.specs.Rings.{all_sent, all_free, AreOfBuilds}
 use Rattle.build_scan.proofs.Places.{as_long}
 use Rattle.build_scan.specs.SideFiles.{put_ends}
 use Rattle.build_work.proofs.LeftBeside.{at_home}
@@ -30,7 +27,11 @@ use Rattle.build_events.specs.BuildSteps.{started, fresh_work}
 use Rattle.builder_core.proofs.Puts.{pages_started, builds_more}
 use Rattle.build_scan.proofs.OwnEntries.{sent_looked, sent_more}
 use Rattle.build_scan.proofs.SideKept.{sides_opened}
-use Rattle.builder_core.proofs.Started.{build_on, build_is_on, started_follows, put_ends_started, take_ends_started, started_works}
+use Rattle.builder_core.proofs.Started.{build_on, build_is_on, started_follows, put_ends_started, started_works}
+use Rattle.side_file.specs.Ends.{PutEnd}
+use Rattle.side_file.specs.declared.entry.Entry.{Entry}
+use Rattle.catch_up.specs.Built.{told_to}
+use Rattle.builder_core.proofs.Unused.{unused_ends}
 use Rattle.builder_core.proofs.Starts.{has_counts, fresh_is}
 use Rattle.builder_core.proofs.live.Live.start.Goals as goal
 
@@ -43,51 +44,42 @@ own_columns :
     → All (λ (spec : KeySpecValue). spec.kinds ≡ own) copies
 own_columns specs copies kinds own same is columns = rw (same, is) columns
 
-pub restart_all-requires : goal.restart_all-requires
-restart_all-requires g c =
-    let now : BuildingValue = c.args.building.now in
+pub empty_rings-requires-clause-idle : goal.empty_rings-requires-clause-idle
+empty_rings-requires-clause-idle g c =
     let plan = c.args.plan.now in
     let counts = has_counts c.args.self.now.state _ plan c.in_ok-check_plan.ensures.counts in
-    let given = ap (λ (b : BuildingValue). b.given) c.building.view_is ∙ left_for now plan counts.lent counts.some counts.some_index in
-    let idle : List IntakeValue = c.building.inside.idle.items in
-    c.self.invariant.5.pages_are
-    ∙ sym (ap (λ (ws : List WorkerValue). take_rings (intakes ws idle)) (sym (c.building.invariant.4 given)) ∙ c.building.invariant.0.intakes_are)
+    c.laws.ensures.given (left_for c.args.building.now plan counts.lent counts.some counts.some_index)
 
-pub invariant_of-building : goal.invariant_of-building
-invariant_of-building g c =
-    let now : BuildingValue = c.args.building.now in
-    let plan = c.args.plan.now in
-    let counts = has_counts c.args.self.now.state _ plan c.in_ok-check_plan.ensures.counts in
-    let given = ap (λ (b : BuildingValue). b.given) c.building.view_is ∙ left_for now plan counts.lent counts.some counts.some_index in
-    let inside = c.self.inside in
-    let sides : List (PutEnd Entry) = put_ends c.empty_all.new.sides.items in
-    let idle : List IntakeValue = c.restart_all.new.intakes.items in
-    let all = ap (λ (ws : List WorkerValue). intakes ws idle) (c.building.invariant.4 given) ∙ c.restart_all.ensures.intakes in (
-      take_ends_started g.T.Table.pages g.T.Table.sides (inside.builds + 1) c.restart_all.new.pages.items sides
-          (intakes c.building.inside.workers.items idle) (map take_end c.empty_all.new.ends.items)
-          (put_ends_started g.T.Table.pages g.T.Table.sides inside.pages.items c.restart_all.new.pages.items (put_ends inside.sides.items) sides c.self.invariant.5
-          c.restart_all.ensures.rings c.empty_all.ensures.rings)
-          all c.empty_all.ensures.drained,
-      subst (λ (room : ℕ). 16 ≤ room) (sym c.restart_all.ensures.room) c.building.invariant.1,
-      c.building.invariant.2,
-      c.building.invariant.3,
-      c.building.invariant.4,
-      c.building.invariant.5,
-    )
+pub empty_rings-requires-clause-pages : goal.empty_rings-requires-clause-pages
+empty_rings-requires-clause-pages g c = c.self.invariant.5.pages_are
+
+pub empty_rings-requires-clause-sides : goal.empty_rings-requires-clause-sides
+empty_rings-requires-clause-sides g c = c.self.invariant.5.sides_are
 
 pub begin-requires-clause-idle : goal.begin-requires-clause-idle
 begin-requires-clause-idle g c =
-    let now : BuildingValue = c.args.building.now in
     let plan = c.args.plan.now in
     let counts = has_counts c.args.self.now.state _ plan c.in_ok-check_plan.ensures.counts in
-    let given = ap (λ (b : BuildingValue). b.given) c.building.view_is ∙ left_for now plan counts.lent counts.some counts.some_index in
-    c.building.invariant.4 given
+    let given = left_for c.args.building.now plan counts.lent counts.some counts.some_index in
+    ap (λ (b : BuildingValue). b.workers) c.empty_rings.ensures.rest ∙ c.laws.ensures.workers (c.laws.ensures.given given)
+
+pub begin-requires-clause-nothing_done : goal.begin-requires-clause-nothing_done
+begin-requires-clause-nothing_done g c = subst (λ (w : WorkValue). w ≡ fresh w.build w.specs) (sym c.in_ok-work.ensures.ok) refl
+
+pub begin-requires-clause-unused : goal.begin-requires-clause-unused
+begin-requires-clause-unused g c =
+    let inside = c.self.inside in
+    let puts : List (PutEnd Entry) = put_ends c.empty_rings.new.sides.items in
+    subst (λ (n : ℕ). All (λ (end : TakeEnd Entry). told_to n end.received ≡ []) c.empty_rings.new.self.sides)
+    (sym (ap (λ (w : WorkValue). w.build) c.in_ok-work.ensures.ok))
+    (subst (λ (ends : List (TakeEnd Entry)). All (λ end. told_to (inside.builds + 1) end.received ≡ []) ends) (sym c.empty_rings.ensures.drained)
+    (unused_ends inside.builds puts (sent_looked inside.builds (put_ends inside.sides.items) puts c.empty_rings.ensures.looked c.self.invariant.6)))
 
 pub begin-requires-clause-fresh : goal.begin-requires-clause-fresh
 begin-requires-clause-fresh g c =
     let inside = c.self.inside in
-    subst (All IsFresh) (sym c.restart_all.ensures.intakes)
-    (all_fresh inside.builds c.restart_all.new.pages.items (subst (AreOfBuilds inside.builds) (sym c.restart_all.ensures.sent) c.self.invariant.4))
+    subst (All IsFresh) (sym c.empty_rings.ensures.intakes)
+    (all_fresh inside.builds c.empty_rings.new.pages.items (subst (AreOfBuilds inside.builds) (sym c.empty_rings.ensures.sent) c.self.invariant.4))
 
 pub begin-requires-clause-few : goal.begin-requires-clause-few
 begin-requires-clause-few g c =
@@ -99,11 +91,10 @@ begin-requires-clause-home g c =
     let now : BuildingValue = c.args.building.now in
     let plan = c.args.plan.now in
     let counts = has_counts c.args.self.now.state _ plan c.in_ok-check_plan.ensures.counts in
-    let given = ap (λ (b : BuildingValue). b.given) c.building.view_is ∙ left_for now plan counts.lent counts.some counts.some_index in
-    let spools : List SpoolValue = map (spool_value g.S.Spool.runs g.S.Spool.open_run g.S.Spool.stake) c.building.inside.spools.items in
-    let none = sym (ap (λ (b : BuildingValue). b.workers) c.building.view_is) ∙ c.building.invariant.4 given in
-    let many = left_many now.given now.workers now.spools (left_for now plan counts.lent counts.some counts.some_index) none
-    ∙ sym (ap (λ (b : BuildingValue). length b.spools) c.building.view_is) in
+    let given = left_for now plan counts.lent counts.some counts.some_index in
+    let none = c.laws.ensures.workers (c.laws.ensures.given given) in
+    let spools : List SpoolValue = c.empty_rings.new.self.spools in
+    let many = left_many now.given now.workers now.spools given none ∙ sym (ap (λ (b : BuildingValue). length b.spools) c.empty_rings.ensures.rest) in
     record {
       none = c.in_ok-home.ensures.items;
       room = as_many_fit c.spools_left.result _ (length spools) (vec_capacity c.in_ok-home.home) c.spools_left.ensures many c.in_ok-home.ensures.capacity;
@@ -124,24 +115,21 @@ begin-requires-clause-many g c =
     let now : BuildingValue = c.args.building.now in
     let plan = c.args.plan.now in
     let counts = has_counts c.args.self.now.state _ plan c.in_ok-check_plan.ensures.counts in
-    let given = ap (λ (b : BuildingValue). b.given) c.building.view_is ∙ left_for now plan counts.lent counts.some counts.some_index in
-    let spools : List SpoolValue = map (spool_value g.S.Spool.runs g.S.Spool.open_run g.S.Spool.stake) c.building.inside.spools.items in
+    let given = left_for now plan counts.lent counts.some counts.some_index in
+    let none = c.laws.ensures.workers (c.laws.ensures.given given) in
     let own : c.in_ok-specs.specs.items ≡ plan.specs.items = c.in_ok-specs.ensures.same ∙ c.deref.ensures.value in
     let of_work : length c.in_ok-work.work.specs ≡ length plan.specs.items = ap (λ (w : WorkValue). length w.specs) c.in_ok-work.ensures.ok ∙ ap length own in
-    let left = left_many c.building.inside.given c.building.inside.workers.items spools given (c.building.invariant.4 given) in
-    let lent = ap (λ (b : BuildingValue). length (spools_state b.given (all_spools b.workers b.spools)).left) c.building.view_is ∙ counts.lent in
-    sym left ∙ lent ∙ ap₂ ◌*◌ (sym c.in_ok-equipment.ensures.many) (sym of_work)
+    ap (λ (b : BuildingValue). length b.spools) c.empty_rings.ensures.rest ∙ sym (left_many now.given now.workers now.spools given none) ∙ counts.lent
+    ∙ ap₂ ◌*◌ (sym c.in_ok-equipment.ensures.many) (sym of_work)
 
 pub begin-requires-clause-empty : goal.begin-requires-clause-empty
 begin-requires-clause-empty g c =
     let now : BuildingValue = c.args.building.now in
     let plan = c.args.plan.now in
     let counts = has_counts c.args.self.now.state _ plan c.in_ok-check_plan.ensures.counts in
-    let given = ap (λ (b : BuildingValue). b.given) c.building.view_is ∙ left_for now plan counts.lent counts.some counts.some_index in
-    let spools : List SpoolValue = map (spool_value g.S.Spool.runs g.S.Spool.open_run g.S.Spool.stake) c.building.inside.spools.items in
-    let none = sym (ap (λ (b : BuildingValue). b.workers) c.building.view_is) ∙ c.building.invariant.4 given in
-    left_empty now spools (ap (λ (b : BuildingValue). b.spools) c.building.view_is) (left_for now plan counts.lent counts.some counts.some_index) none
-    c.in_ok-check_plan.ensures.empty
+    let given = left_for now plan counts.lent counts.some counts.some_index in
+    let none = c.laws.ensures.workers (c.laws.ensures.given given) in
+    left_empty now c.empty_rings.new.self.spools (ap (λ (b : BuildingValue). b.spools) c.empty_rings.ensures.rest) given none c.in_ok-check_plan.ensures.empty
 
 pub invariant_of-self : goal.invariant_of-self
 invariant_of-self g c =
@@ -160,21 +148,21 @@ invariant_of-self g c =
     build_is_on heap.schema heap.log build (inside.builds + 1) specs plan.workers c.records-records.result c.pages-pages.result c.in_ok-cuts.cuts plan.dealing
     c.in_ok-build.ensures.ok c.records-records.ensures c.in_ok-cuts.ensures.ok c.pages-pages.ensures.pages in
     let counts = has_counts c.args.self.now.state _ plan c.in_ok-check_plan.ensures.counts in
-    let sent = sent_looked inside.builds (put_ends inside.sides.items) (put_ends c.empty_all.new.sides.items) c.empty_all.ensures.looked c.self.invariant.6 in
-    let before = subst (AreOfBuilds inside.builds) (sym c.restart_all.ensures.sent) c.self.invariant.4 in (
+    let sent = sent_looked inside.builds (put_ends inside.sides.items) (put_ends c.empty_rings.new.sides.items) c.empty_rings.ensures.looked c.self.invariant.6 in
+    let before = subst (AreOfBuilds inside.builds) (sym c.empty_rings.ensures.sent) c.self.invariant.4 in (
       c.self.invariant.0,
       started_follows heap.schema heap.log build (inside.builds + 1) specs plan.workers c.records-records.result c.pages-pages.result c.in_ok-cuts.cuts plan.dealing
           c.in_ok-build.ensures.ok c.records-records.ensures c.in_ok-cuts.ensures.ok c.pages-pages.ensures.pages (omega (arith, counts.some_index, ap length same))
           (omega (arith, counts.few_indexes, ap length same)) columns c.pages-pages.ensures.limit fit counts.few,
-      sides_opened heap.log build c.empty_all.new.sides.items (ap (λ (b : BuildState). b.opened) is) (ap (λ (b : BuildState). b.pages) is) (ap (λ (b : BuildState). b.scans) is)
-          (ap (λ (b : BuildState). b.fed) is ∙ ap (λ (ss : List KeySpecValue). map (λ spec. 0) ss) (sym (ap (λ (b : BuildState). b.specs) is))) c.empty_all.ensures.left
+      sides_opened heap.log build c.empty_rings.new.sides.items (ap (λ (b : BuildState). b.opened) is) (ap (λ (b : BuildState). b.pages) is) (ap (λ (b : BuildState). b.scans) is)
+          (ap (λ (b : BuildState). b.fed) is ∙ ap (λ (ss : List KeySpecValue). map (λ spec. 0) ss) (sym (ap (λ (b : BuildState). b.specs) is))) c.empty_rings.ensures.left
           inside.builds (ap (λ (b : BuildState). b.number) is) sent,
-      pages_started heap.schema heap.log inside.builds build (all_sent c.restart_all.new.pages.items) (ap (λ (b : BuildState). b.number) is)
+      pages_started heap.schema heap.log inside.builds build (all_sent c.empty_rings.new.pages.items) (ap (λ (b : BuildState). b.number) is)
           (ap (λ (b : BuildState). b.scans) is) before,
-      builds_more inside.builds (all_sent c.restart_all.new.pages.items) before,
-      put_ends_started g.T.Table.pages g.T.Table.sides inside.pages.items c.restart_all.new.pages.items (put_ends inside.sides.items)
-          (put_ends c.empty_all.new.sides.items) c.self.invariant.5 c.restart_all.ensures.rings c.empty_all.ensures.rings,
-      sent_more inside.builds (put_ends c.empty_all.new.sides.items) sent,
+      builds_more inside.builds (all_sent c.empty_rings.new.pages.items) before,
+      put_ends_started g.T.Table.pages g.T.Table.sides inside.pages.items c.empty_rings.new.pages.items (put_ends inside.sides.items)
+          (put_ends c.empty_rings.new.sides.items) c.self.invariant.5 c.empty_rings.ensures.page_rings c.empty_rings.ensures.side_rings,
+      sent_more inside.builds (put_ends c.empty_rings.new.sides.items) sent,
     )
 
 pub returns-clause-works : goal.returns-clause-works
@@ -206,8 +194,8 @@ returns-clause-works g c =
     (started_follows heap.schema heap.log c.in_ok-build.build (inside.builds + 1) specs plan.workers c.records-records.result c.pages-pages.result c.in_ok-cuts.cuts
     plan.dealing build c.records-records.ensures c.in_ok-cuts.ensures.ok c.pages-pages.ensures.pages counts.some_index counts.few_indexes columns
     c.pages-pages.ensures.limit fit counts.few)
-    columns (subst (AreOfBuilds inside.builds) (sym c.restart_all.ensures.sent) c.self.invariant.4) (c.begin.ensures.intakes ∙ c.restart_all.ensures.intakes)
-    (ap (λ (b : BuildingValue). b.sides) c.begin.ensures.rest ∙ c.empty_all.ensures.drained) many
+    columns (subst (AreOfBuilds inside.builds) (sym c.empty_rings.ensures.sent) c.self.invariant.4) (c.begin.ensures.intakes ∙ c.empty_rings.ensures.intakes)
+    (ap (λ (b : BuildingValue). b.sides) c.begin.ensures.rest ∙ c.empty_rings.ensures.drained) many
     (their_makers (λ (it : Equipment g.row.S.Denot). it.maker) (fresh_maker heap.schema specs) c.in_ok-equipment.equipment.items new.workers c.begin.ensures.makers
     (subst (λ (m : MakerValue). All (λ (it : Equipment g.row.S.Denot). it.maker ≡ m) c.in_ok-equipment.equipment.items) maker c.in_ok-equipment.ensures.makers))
     (subst (λ (n : ℕ). All (IsEquipped n) new.workers) of_work c.begin.ensures.equipped) (ap (λ (b : BuildingValue). b.spools) c.begin.ensures.rest)
@@ -220,8 +208,7 @@ returns-clause-started g c =
     let now : BuildingValue = c.args.building.now in
     let plan = c.args.plan.now in
     let counts = has_counts c.args.self.now.state _ plan c.in_ok-check_plan.ensures.counts in
-    let given = ap (λ (b : BuildingValue). b.given) c.building.view_is ∙ left_for now plan counts.lent counts.some counts.some_index in
-    let spools : List SpoolValue = map (spool_value g.S.Spool.runs g.S.Spool.open_run g.S.Spool.stake) c.building.inside.spools.items in
+    let given = left_for now plan counts.lent counts.some counts.some_index in
     let own : c.in_ok-specs.specs.items ≡ plan.specs.items = c.in_ok-specs.ensures.same ∙ c.deref.ensures.value in
     let of_work : length c.in_ok-work.work.specs ≡ length plan.specs.items = ap (λ (w : WorkValue). length w.specs) c.in_ok-work.ensures.ok ∙ ap length own in
     let specs : List KeySpecValue = plan.specs.items in
@@ -236,16 +223,16 @@ returns-clause-started g c =
     ∙ ap (opened (live.builds + 1) specs plan.workers (length live.heap.log)) (c.in_ok-cuts.ensures.ok ∙ ap cuts_of pages) in
     let many = as_long (λ (w : WorkerValue). w.maker) (λ (it : Equipment g.row.S.Denot). it.maker) new.workers c.in_ok-equipment.equipment.items c.begin.ensures.makers
     ∙ c.in_ok-equipment.ensures.many in
-    let first = all_first inside.builds c.restart_all.new.pages.items new.workers new.idle (c.begin.ensures.intakes ∙ c.restart_all.ensures.intakes) in
+    let first = all_first inside.builds c.empty_rings.new.pages.items new.workers new.idle (c.begin.ensures.intakes ∙ c.empty_rings.ensures.intakes) in
     let old_work : WorkState = work_state new.workers new.work in
     let work : old_work ≡ fresh_work plan =
     ap (work_state new.workers) (ap (λ (b : BuildingValue). b.work) c.begin.ensures.rest ∙ ap (λ (w : WorkValue). Some w) c.in_ok-work.ensures.ok)
     ∙ fresh_is plan c.in_ok-specs.specs.items (inside.builds + 1) new.workers many first own in
     let old_spools : SpoolsState = spools_state new.given (all_spools new.workers new.spools) in
-    let none = sym (ap (λ (b : BuildingValue). b.workers) c.building.view_is) ∙ c.building.invariant.4 given in
+    let none = c.laws.ensures.workers (c.laws.ensures.given given) in
     let home : all_spools new.workers new.spools ≡ all_spools now.workers now.spools =
     ap (all_spools new.workers) (ap (λ (b : BuildingValue). b.spools) c.begin.ensures.rest) ∙ c.begin.ensures.lent
-    ∙ ap (λ (b : BuildingValue). b.spools) c.building.view_is ∙ sym (at_home now.workers now.spools none) in
+    ∙ ap (λ (b : BuildingValue). b.spools) c.empty_rings.ensures.rest ∙ sym (at_home now.workers now.spools none) in
     let lent : old_spools ≡ all_given (spools_state now.given (all_spools now.workers now.spools)) =
     ap₂ spools_state (ap (λ (b : BuildingValue). b.given) c.begin.ensures.rest) home in
     let Whole : LiveState → BuildState → WorkState → SpoolsState → CoreState =
@@ -264,8 +251,8 @@ pub returns-clause-kept : goal.returns-clause-kept
 returns-clause-kept g c = λ works. returns-clause-works g c
 
 pub returns-clause-pages : goal.returns-clause-pages
-returns-clause-pages g c = c.restart_all.ensures.free ∙ ap (λ (l : LiveValue). map all_free l.pages) c.self.view_is
+returns-clause-pages g c = c.empty_rings.ensures.free ∙ ap (λ (l : LiveValue). map all_free l.pages) c.self.view_is
 
 pub returns-clause-sides : goal.returns-clause-sides
 returns-clause-sides g c =
-    subst (λ (l : LiveValue). AllZip PutEndLooked l.sides (put_ends c.empty_all.new.sides.items)) c.self.view_is c.empty_all.ensures.looked
+    subst (λ (l : LiveValue). AllZip PutEndLooked l.sides (put_ends c.empty_rings.new.sides.items)) c.self.view_is c.empty_rings.ensures.looked

@@ -1,7 +1,5 @@
-use Rattle.std.proofs.Common.{◌≡◌, ◌+◌, ◌-◌, List, length, map, sym, ap, ◌∙◌, subst, arith}
+use Rattle.std.proofs.Common.{◌≡◌, ◌+◌, ◌-◌, List, length, sym, ap, ◌∙◌, subst, arith}
 use Rattle.side_file.specs.SideFileValue.{SideFileValue}
-use Rattle.side_file.specs.declared.entry.Entry.{Entry}
-use Rattle.building.specs.TakeEnd.{TakeEnd, take_end}
 use Rattle.builder_core.specs.Builds.{LiveValue}
 use Rattle.build_work.specs.BuildingValue.{BuildingValue}
 use Rattle.build_scan.specs.TableBuilds.{BuildFollows}
@@ -15,8 +13,7 @@ overflow_sub-result g c =
     let live : LiveValue = c.args.self.now in
     let building : BuildingValue = c.args.building.now in
     let sides : List SideFileValue = c.self.inside.sides.items in
-    let ends : List (TakeEnd Entry) = map take_end c.building.inside.side_ends.items in
-    let eight : length building.sides ≡ 8 = ap (λ (b : BuildingValue). length b.sides) (sym c.building.view_is) ∙ c.building.invariant.0.eight in
+    let eight : length building.sides ≡ 8 = c.laws.ensures.ends.eight in
     let follows = subst (λ (l : LiveValue). BuildFollows l.state.heap.schema l.state.heap.log l.state.build) c.self.view_is c.self.invariant.1 in
     let has = subst (λ (l : LiveValue). SidesFollow l.state.heap.log l.state.build sides) c.self.view_is c.self.invariant.2 in
     let known = left_known live building c.args.index c.applied.result sides c.index-side.result.now c.in-Some.work.now c.requires.works c.in-Some.ensures c.requires.runs
@@ -29,8 +26,7 @@ returns-clause-left g c =
     let live : LiveValue = c.args.self.now in
     let building : BuildingValue = c.args.building.now in
     let sides : List SideFileValue = c.self.inside.sides.items in
-    let ends : List (TakeEnd Entry) = map take_end c.building.inside.side_ends.items in
-    let eight : length building.sides ≡ 8 = ap (λ (b : BuildingValue). length b.sides) (sym c.building.view_is) ∙ c.building.invariant.0.eight in
+    let eight : length building.sides ≡ 8 = c.laws.ensures.ends.eight in
     let follows = subst (λ (l : LiveValue). BuildFollows l.state.heap.schema l.state.heap.log l.state.build) c.self.view_is c.self.invariant.1 in
     let has = subst (λ (l : LiveValue). SidesFollow l.state.heap.log l.state.build sides) c.self.view_is c.self.invariant.2 in
     let known = left_known live building c.args.index c.applied.result sides c.index-side.result.now c.in-Some.work.now c.requires.works c.in-Some.ensures c.requires.runs

@@ -1,0 +1,149 @@
+-- The workers of a build hand their spools over: these hold the pairs of what the workers received.
+use Rattle.std.proofs.Common.{◌≡◌, ℕ, ◌*◌, ◌<◌, true, false, List, [], ◌++◌, All, length, map, get_or, Option, Some, None, refl, sym, ap, ◌∙◌, subst, arith}
+use Rattle.std.specs.List.{slice_get}
+use Rattle.std.proofs.lemmas.Bool.{false≢true}
+use Rattle.std.proofs.lemmas.List.{length-map}
+use Rattle.std.proofs.lemmas.Option.{same_Some, get_or_from_slice_get}
+use Rattle.keybytes.specs.Keys.{KeySpecValue}
+use Rattle.keybytes.specs.declared.pair.Pair.{Pair}
+use Rattle.side_file.specs.declared.entry.Entry.{Entry}
+use Rattle.run_spool.specs.Spools.{AreSorted}
+use Rattle.run_maker.specs.Making.{spec_at}
+use Rattle.building.specs.Holding.{HoldsOpen, HoldsPairs}
+use Rattle.building.specs.SpoolValue.{SpoolValue, runs_of}
+use Rattle.building.specs.TakeEnd.{TakeEnd}
+use Rattle.building.specs.Taking.{received_images, unsealed_images}
+use Rattle.building.specs.WorkerValue.{IsCounting, IsHolding, WorkerValue}
+use Rattle.build_work.specs.BuildingValue.{BuildingValue, IndexValue, IsUnloaded, WorkValue}
+use Rattle.build_work.specs.Columns.{column}
+use Rattle.build_work.specs.Holding.{HaveColumns, all_spools, lent_spools}
+use Rattle.build_work.specs.Keeping.{HasHanded, IsClosed, IsKept, KeepsWork}
+use Rattle.build_work.specs.Working.{CanHandOver, handed_over}
+use Rattle.build_work.proofs.Kept.{any_workers}
+use Rattle.build_work.proofs.OneWorker.{the_work}
+use Rattle.build_work.proofs.SpoolPlaces.{column_is, column_there, flat_at, flat_many}
+use Rattle.build_scan.proofs.Places.{all_at, all_from, all_mapped, at_map, map_at, mapped_of, no_pair, there_is}
+
+module _
+    (build : ℕ) (specs : List KeySpecValue) (workers : List WorkerValue) (closed : All (IsClosed build specs) workers)
+    (lent : All (λ worker. worker.handed ≡ false) workers)
+    (holding : All (λ worker. worker.fault ≡ None → worker.handed ≡ false → IsHolding worker.intake worker.maker worker.spools) workers) where
+  abbrev n : ℕ
+  n = length specs
+
+  its_closed : (k : ℕ) (worker : WorkerValue) → slice_get workers k ≡ Some worker → IsClosed build specs worker
+  its_closed k worker at = all_at (IsClosed build specs) workers k worker closed at
+
+  holds : (k : ℕ) (worker : WorkerValue) → slice_get workers k ≡ Some worker → IsHolding worker.intake worker.maker worker.spools
+  holds k worker at =
+      all_at (λ (w : WorkerValue). w.fault ≡ None → w.handed ≡ false → IsHolding w.intake w.maker w.spools) workers k worker holding at (its_closed k worker at).fine
+      (all_at (λ (w : WorkerValue). w.handed ≡ false) workers k worker lent at)
+
+  own_many : (k : ℕ) (worker : WorkerValue) → slice_get workers k ≡ Some worker → length worker.spools ≡ n
+  own_many k worker at = (holds k worker at).many ∙ ap length (its_closed k worker at).specs_are
+
+  lent_many : length (lent_spools workers) ≡ length workers * n
+  lent_many = flat_many (λ (v : WorkerValue). v.spools) n workers own_many
+
+  -- the spool of an index at a worker's place is the worker's
+  module _ (index k : ℕ) (worker : WorkerValue) (spool : SpoolValue) (less : index < n) (at : slice_get workers k ≡ Some worker)
+      (here : slice_get (column index n (lent_spools workers)) k ≡ Some spool) where
+    own : (s : SpoolValue) × (slice_get worker.spools index ≡ Some s)
+    own = there_is worker.spools index (let many = own_many k worker at in omega (arith, less, many))
+
+    same : own.0 ≡ spool
+    same =
+        same_Some own.0 spool (sym (flat_at (λ (v : WorkerValue). v.spools) n workers own_many k worker at index own.0 own.1)
+        ∙ sym (column_is n (length workers) index (lent_spools workers) less lent_many k) ∙ here)
+
+    runs_there : get_or (runs_of worker.spools) index [] ≡ spool.runs
+    runs_there =
+        get_or_from_slice_get (runs_of worker.spools) index own.0.runs [] (map_at (λ (s : SpoolValue). s.runs) worker.spools index own.0 own.1)
+        ∙ ap (λ (s : SpoolValue). s.runs) same
+
+    in_order : AreSorted spool.runs
+    in_order =
+        subst (λ (s : SpoolValue). AreSorted s.runs) same
+        (all_at (λ (s : SpoolValue). AreSorted s.runs) worker.spools index own.0
+        (all_mapped AreSorted (λ (s : SpoolValue). s.runs) worker.spools (holds k worker at).sorted) own.1)
+
+    its_pairs : HoldsPairs (spec_at specs index) (received_images worker.maker.schema worker.intake) spool.runs []
+    its_pairs =
+        let is = its_closed k worker at in
+        let there : index < length worker.maker.specs = omega (arith, less, ap length is.specs_are) in
+        let held = (holds k worker at).holds index there in
+        let none : get_or worker.maker.begun index [] ≡ [] = no_pair worker.maker.begun index is.closed in
+        subst (λ (ss : List KeySpecValue). HoldsPairs (spec_at ss index) (received_images worker.maker.schema worker.intake) spool.runs []) is.specs_are
+        (subst (λ (rs : List (List Pair)). HoldsPairs (spec_at worker.maker.specs index) (received_images worker.maker.schema worker.intake) rs []) runs_there
+        (subst (HoldsPairs (spec_at worker.maker.specs index) (received_images worker.maker.schema worker.intake) (get_or (runs_of worker.spools) index [])) none held))
+
+  pub lent_columns : (is_open : ℕ → Type 0) → HaveColumns is_open specs (map handed_over workers) (lent_spools workers)
+  lent_columns is_open = record {
+    many = lent_many ∙ ap (λ (m : ℕ). m * n) (sym (length-map workers handed_over));
+    sorted = λ index less opened. mapped_of AreSorted (λ (s : SpoolValue). s.runs) (column index n (lent_spools workers)) (λ k spool here.
+        let k_less = column_there n (length workers) index (lent_spools workers) less lent_many k spool here in
+        let worker = there_is workers k k_less in
+        in_order index k worker.0 spool less worker.1 here);
+    pairs = λ index k worker spool less opened at here.
+        let it = at_map handed_over workers k worker at in
+        subst (λ (v : WorkerValue). HoldsPairs (spec_at specs index) (received_images v.maker.schema v.intake) spool.runs []) it.2
+        (its_pairs index k it.0 spool less it.1 here);
+  }
+
+  pub all_handed :
+      All (λ worker. All (λ spec. spec.kinds ≡ worker.maker.schema) worker.maker.specs) workers
+      → All (λ worker. worker.fault ≡ None → IsCounting worker.intake worker.maker) workers → All (HasHanded build specs) (map handed_over workers)
+  all_handed columns counting = mapped_of (HasHanded build specs) handed_over workers (λ k worker at.
+      let is = its_closed k worker at in
+      record {
+        is_closed = record { fine = is.fine; of_build = is.of_build; specs_are = is.specs_are; closed = is.closed };
+        handed = refl;
+        none = refl;
+        columns = all_at (λ (w : WorkerValue). All (λ spec. spec.kinds ≡ w.maker.schema) w.maker.specs) workers k worker columns at;
+        counting = all_at (λ (w : WorkerValue). w.fault ≡ None → IsCounting w.intake w.maker) workers k worker counting at is.fine;
+        opened = subst (λ (ss : List KeySpecValue). (i : ℕ) → i < length ss
+            → HoldsOpen (spec_at ss i) (unsealed_images worker.maker.schema worker.intake) (get_or worker.maker.begun i [])) is.specs_are (holds k worker at).opened;
+      })
+
+-- the work goes on, and its indexes are being loaded
+pub handed_kept :
+    (workers : List WorkerValue) (sides : List (TakeEnd Entry)) (spools : List SpoolValue) (work : WorkValue) → work.loading ≡ false
+    → All (IsClosed work.build work.specs) workers → All (λ worker. worker.handed ≡ false) workers
+    → All (λ worker. All (λ spec. spec.kinds ≡ worker.maker.schema) worker.maker.specs) workers
+    → All (λ worker. worker.fault ≡ None → IsCounting worker.intake worker.maker) workers
+    → All (λ worker. worker.fault ≡ None → worker.handed ≡ false → IsHolding worker.intake worker.maker worker.spools) workers
+    → KeepsWork workers sides spools (Some work) → KeepsWork (map handed_over workers) sides (all_spools workers spools) (Some (record work { loading = true }))
+handed_kept workers sides spools work scans closed lent columns counting holding is = λ fine.
+    let old = is fine in
+    let all : all_spools workers spools ≡ lent_spools workers = ap (λ (home : List SpoolValue). home ++ lent_spools workers) (old.lent scans) in
+    record {
+      many = old.many;
+      indexes = λ k spec end index here there at.
+          any_workers work.build spec workers (map handed_over workers) end index
+          (all_at (λ (i : IndexValue). i.built ≡ None) work.indexes k index (old.unloaded scans) at) (old.indexes k spec end index here there at);
+      lent = λ e. absurd (false≢true (sym e));
+      unloaded = λ e. absurd (false≢true (sym e));
+      handed = λ e. all_handed work.build work.specs workers closed lent holding columns counting;
+      columns = λ e. rw all (lent_columns work.build work.specs workers closed lent holding (λ index. IsUnloaded index (record work { loading = true })));
+    }
+
+-- the same of the work that runs, as it was seen
+pub handed_over_kept :
+    (old seen : BuildingValue) (work held : WorkValue) → seen ≡ old → seen.work ≡ Some work → held ≡ work → CanHandOver old
+    → All (λ worker. All (λ spec. spec.kinds ≡ worker.maker.schema) worker.maker.specs) seen.workers
+    → All (λ worker. worker.fault ≡ None → IsCounting worker.intake worker.maker) seen.workers
+    → All (λ worker. worker.fault ≡ None → worker.handed ≡ false → IsHolding worker.intake worker.maker worker.spools) seen.workers
+    → KeepsWork seen.workers seen.sides seen.spools seen.work
+    → (workers : List WorkerValue) (spools : List SpoolValue) → workers ≡ map handed_over seen.workers → spools ≡ all_spools seen.workers seen.spools
+    → KeepsWork workers seen.sides spools (Some (record held { loading = true }))
+handed_over_kept old seen work held same runs is can columns counting holding keeps workers spools workers_are spools_are =
+    let it : can.work ≡ work = the_work old.work can.work work can.runs (ap (λ (b : BuildingValue). b.work) (sym same) ∙ runs) in
+    let scans : work.loading ≡ false = ap (λ (w : WorkValue). w.loading) (sym it) ∙ can.scans in
+    let closed : All (IsClosed work.build work.specs) seen.workers =
+    subst (λ (w : WorkValue). All (IsClosed w.build w.specs) seen.workers) it
+    (subst (λ (b : BuildingValue). All (IsClosed can.work.build can.work.specs) b.workers) (sym same) can.closed) in
+    let lent : All (λ worker. worker.handed ≡ false) seen.workers =
+    subst (λ (b : BuildingValue). All (λ (worker : WorkerValue). worker.handed ≡ false) b.workers) (sym same) can.lent in
+    rw (workers_are, spools_are, is)
+    (handed_kept seen.workers seen.sides seen.spools work scans closed lent columns counting holding
+    (subst (λ (o : Option WorkValue). KeepsWork seen.workers seen.sides seen.spools o) runs keeps))

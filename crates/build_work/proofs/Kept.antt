@@ -1,0 +1,263 @@
+-- What the work of a build keeps by itself stays, as it begins, as its rings are looked at and as its workers go on.
+use Rattle.std.proofs.Common.{◌≡◌, ℕ, true, false, List, [], ◌∷◌, ◌++◌, length, map, set, get_or, Option, Some, None, Result, Ok, Err, refl, sym, ap, ◌∙◌, subst}
+use Rattle.std.proofs.Common.{inl, inr, arith, drop, drop_of_length-le, ◌≤◌, ◌*◌}
+use Rattle.std.specs.Prelude.{IfErr, IfOk, OnOk, flat_map}
+use Rattle.std.specs.List.{All, slice_get}
+use Rattle.std.proofs.lemmas.Bool.{cases_Bool, false≢true}
+use Rattle.std.proofs.lemmas.List.{length-map, length-replicate, map-set}
+use Rattle.keybytes.specs.Keys.{KeySpecValue}
+use Rattle.keybytes.specs.declared.fault.Fault.{Fault}
+use Rattle.side_file.specs.declared.entry.Entry.{Entry}
+use Rattle.heap_table.specs.Images.{ImageValue}
+use Rattle.catch_up.specs.Built.{BuiltValue, told_to}
+use Rattle.run_maker.specs.Making.{spec_at}
+use Rattle.building.specs.Holding.{HoldsOpen, HoldsPairs}
+use Rattle.building.specs.ImagePairs.{HavePairs}
+use Rattle.building.specs.SpoolValue.{SpoolValue}
+use Rattle.building.specs.TakeEnd.{TakeEnd}
+use Rattle.building.specs.Taking.{received_images}
+use Rattle.building.specs.Work.{after_seal}
+use Rattle.building.specs.WorkerValue.{WorkerValue}
+use Rattle.build_work.specs.BuildingValue.{IndexValue, IsUnloaded, WorkValue, fresh, fresh_index}
+use Rattle.build_work.specs.Holding.{HaveColumns}
+use Rattle.build_work.specs.Keeping.{ArePairsOf, HasHanded, IsIndexOf, IsKept, KeepsWork}
+use Rattle.build_work.specs.Rings.{unseen}
+use Rattle.build_scan.proofs.Places.{all_at, all_from, at_set, mapped, no_pair, replicate_at, same_at, set_same}
+
+-- the images that a worker received
+abbrev pub own_images : WorkerValue → List ImageValue
+own_images worker = received_images worker.maker.schema worker.intake
+
+-- lists of which f gives the same have the same in a row
+flat_same : {X Y : Type 0} (f : X → List Y) (xs ys : List X) → map f xs ≡ map f ys → flat_map f xs ≡ flat_map f ys
+flat_same f [] [] same = refl
+flat_same f [] (y ∷ ys) same = absurd (cc)
+flat_same f (x ∷ xs) [] same = absurd (cc)
+flat_same f (x ∷ xs) (y ∷ ys) same =
+    let first : f x ≡ f y = cc in
+    let rest : map f xs ≡ map f ys = cc in
+    rw (first, flat_same f xs ys rest) refl
+
+-- nothing is done on an index of which its end took no entry
+fresh_of :
+    (build : ℕ) (spec : KeySpecValue) (workers : List WorkerValue) (end : TakeEnd Entry) → told_to build end.received ≡ [] → IsIndexOf build spec workers end fresh_index
+fresh_of build spec workers end none = record {
+  none_before = λ e. none;
+  of_build = λ built e. absurd (cc);
+  of_spec = λ built e. absurd (cc);
+  loaded = λ built e. absurd (cc);
+}
+
+-- a build begins, of which no entry was taken
+pub fresh_kept :
+    (build : ℕ) (specs : List KeySpecValue) (workers : List WorkerValue) (sides : List (TakeEnd Entry)) → All (λ end. told_to build end.received ≡ []) sides
+    → KeepsWork workers sides [] (Some (fresh build specs))
+fresh_kept build specs workers sides unused = λ fine. record {
+  many = length-replicate (length specs) fresh_index;
+  indexes = λ k spec end index here there at.
+      subst (IsIndexOf build spec workers end) (sym (replicate_at (length specs) fresh_index k index at))
+      (fresh_of build spec workers end (all_at (λ (e : TakeEnd Entry). told_to build e.received ≡ []) sides k end unused there));
+  lent = λ e. refl;
+  unloaded = λ e. all_from (λ (index : IndexValue). index.built ≡ None) (fresh build specs).indexes (λ k index at.
+      ap (λ (i : IndexValue). i.built) (replicate_at (length specs) fresh_index k index at));
+  handed = λ e. absurd (false≢true e);
+  columns = λ e. absurd (false≢true e);
+}
+
+-- an index of which nothing is in order goes with any workers
+pub any_workers :
+    (build : ℕ) (spec : KeySpecValue) (old new : List WorkerValue) (end : TakeEnd Entry) (index : IndexValue) → index.built ≡ None → IsIndexOf build spec old end index
+    → IsIndexOf build spec new end index
+any_workers build spec old new end index none is = record {
+  none_before = is.none_before;
+  of_build = is.of_build;
+  of_spec = is.of_spec;
+  loaded = λ built e. absurd (let bad : None ≡ Some built = sym none ∙ e in cc);
+}
+
+-- until the first load the workers may do anything
+pub scanning_kept :
+    (old new : List WorkerValue) (sides : List (TakeEnd Entry)) (spools : List SpoolValue) (work : WorkValue) → work.loading ≡ false → IsKept old sides spools work
+    → IsKept new sides spools work
+scanning_kept old new sides spools work scans is = record {
+  many = is.many;
+  indexes = λ k spec end index here there at.
+      any_workers work.build spec old new end index (all_at (λ (i : IndexValue). i.built ≡ None) work.indexes k index (is.unloaded scans) at)
+      (is.indexes k spec end index here there at);
+  lent = is.lent;
+  unloaded = is.unloaded;
+  handed = λ e. absurd (false≢true (sym scans ∙ e));
+  columns = λ e. absurd (false≢true (sym scans ∙ e));
+}
+
+-- the pairs of an index go with what the workers received, and with nothing else of them
+same_pairs :
+    (build : ℕ) (spec : KeySpecValue) (old new : List WorkerValue) (end : TakeEnd Entry) (index : IndexValue) → map own_images new ≡ map own_images old
+    → IsIndexOf build spec old end index → IsIndexOf build spec new end index
+same_pairs build spec old new end index same is = record {
+  none_before = is.none_before;
+  of_build = is.of_build;
+  of_spec = is.of_spec;
+  loaded = λ built e.
+      let was = is.loaded built e in
+      record {
+        made = was.made;
+        received = subst (λ (images : List ImageValue). HavePairs spec images was.made) (sym (flat_same own_images new old same)) was.received;
+        applied = was.applied;
+      };
+}
+
+same_columns :
+    (is_open : ℕ → Type 0) (specs : List KeySpecValue) (old new : List WorkerValue) (spools : List SpoolValue) → map own_images new ≡ map own_images old
+    → HaveColumns is_open specs old spools → HaveColumns is_open specs new spools
+same_columns is_open specs old new spools same is = record {
+  many = is.many ∙ ap (λ (n : ℕ). n * length specs) (sym (length-map old own_images) ∙ ap length (sym same) ∙ length-map new own_images);
+  sorted = is.sorted;
+  pairs = λ index k worker spool less opened at here.
+      let it = same_at own_images old new k worker (sym same) at in
+      subst (λ (images : List ImageValue). HoldsPairs (spec_at specs index) images spool.runs []) it.2 (is.pairs index k it.0 spool less opened it.1 here);
+}
+
+-- workers that received the same
+pub workers_kept :
+    (old new : List WorkerValue) (sides : List (TakeEnd Entry)) (spools : List SpoolValue) (work : WorkValue) → map own_images new ≡ map own_images old
+    → (work.loading ≡ true → All (HasHanded work.build work.specs) old → All (HasHanded work.build work.specs) new) → IsKept old sides spools work
+    → IsKept new sides spools work
+workers_kept old new sides spools work same handed is = record {
+  many = is.many;
+  indexes = λ k spec end index here there at. same_pairs work.build spec old new end index same (is.indexes k spec end index here there at);
+  lent = is.lent;
+  unloaded = is.unloaded;
+  handed = λ loads. handed loads (is.handed loads);
+  columns = λ loads. same_columns (λ index. IsUnloaded index work) work.specs old new spools same (is.columns loads);
+}
+
+-- what a worker handed over doesn't depend on what it has seen of its ring
+module _ (build : ℕ) (specs : List KeySpecValue) (worker : WorkerValue) where
+  to_unseen : HasHanded build specs worker → HasHanded build specs (unseen worker)
+  to_unseen is = record {
+    is_closed = record { fine = is.is_closed.fine; of_build = is.is_closed.of_build; specs_are = is.is_closed.specs_are; closed = is.is_closed.closed };
+    handed = is.handed;
+    none = is.none;
+    columns = is.columns;
+    counting = record { taken = is.counting.taken; sealed_was_taken = is.counting.sealed_was_taken };
+    opened = is.opened;
+  }
+
+  from_unseen : HasHanded build specs (unseen worker) → HasHanded build specs worker
+  from_unseen is = record {
+    is_closed = record { fine = is.is_closed.fine; of_build = is.is_closed.of_build; specs_are = is.is_closed.specs_are; closed = is.is_closed.closed };
+    handed = is.handed;
+    none = is.none;
+    columns = is.columns;
+    counting = record { taken = is.counting.taken; sealed_was_taken = is.counting.sealed_was_taken };
+    opened = is.opened;
+  }
+
+-- both ends of the workers' rings were looked at
+pub looked_kept :
+    (old new : List WorkerValue) (sides : List (TakeEnd Entry)) (spools : List SpoolValue) (work : Option WorkValue) → map unseen new ≡ map unseen old
+    → KeepsWork old sides spools work → KeepsWork new sides spools work
+looked_kept old new sides spools None same is = tt
+looked_kept old new sides spools (Some work) same is = λ fine.
+    workers_kept old new sides spools work (sym (mapped unseen own_images new) ∙ ap (map own_images) same ∙ mapped unseen own_images old)
+    (λ loads all. all_from (HasHanded work.build work.specs) new (λ k worker at.
+    let it = same_at unseen old new k worker (sym same) at in
+    from_unseen work.build work.specs worker
+    (subst (HasHanded work.build work.specs) it.2
+    (to_unseen work.build work.specs it.0 (all_at (HasHanded work.build work.specs) old k it.0 all it.1))))) (is fine)
+
+-- both ends of a side-file's ring were
+pub side_looked_kept :
+    (workers : List WorkerValue) (sides : List (TakeEnd Entry)) (spools : List SpoolValue) (work : Option WorkValue) (index : ℕ) (was end : TakeEnd Entry)
+    → slice_get sides index ≡ Some was → end.received ≡ was.received → KeepsWork workers sides spools work → KeepsWork workers (set sides index end) spools work
+side_looked_kept workers sides spools None index was end there same is = tt
+side_looked_kept workers sides spools (Some work) index was end there same is = λ fine.
+    let old = is fine in
+    record {
+      many = old.many;
+      indexes = λ k spec other it here at_end at. elim (at_set sides index end k other at_end) [
+        | inl this ↦
+            let its = old.indexes k spec was it here (ap (slice_get sides) this.0 ∙ there) at in
+            subst (λ (e : TakeEnd Entry). IsIndexOf work.build spec workers e it) (sym this.1)
+            (with_end work.build spec workers was end it same its)
+        | inr another ↦ old.indexes k spec other it here another.1 at
+      ];
+      lent = old.lent;
+      unloaded = old.unloaded;
+      handed = old.handed;
+      columns = old.columns;
+    }
+  where
+    with_end :
+        (build : ℕ) (spec : KeySpecValue) (workers : List WorkerValue) (a b : TakeEnd Entry) (it : IndexValue) → b.received ≡ a.received → IsIndexOf build spec workers a it
+        → IsIndexOf build spec workers b it
+    with_end build spec workers a b it same is = record {
+      none_before = λ e. ap (told_to build) same ∙ is.none_before e;
+      of_build = is.of_build;
+      of_spec = is.of_spec;
+      loaded = λ built e. subst (λ (es : List Entry). ArePairsOf spec workers (told_to build es) built.pairs) (sym same) (is.loaded built e);
+    }
+
+-- what a worker handed over stays so when it seals once more
+sealed_again : (build : ℕ) (specs : List KeySpecValue) (it : WorkerValue) → HasHanded build specs it → HasHanded build specs (record it { intake = after_seal it.intake })
+sealed_again build specs it is =
+    let images : List ImageValue = received_images it.maker.schema it.intake in
+    let all : length images ≤ it.intake.taken = omega (arith, is.counting.taken) in
+    let none : drop it.intake.taken images ≡ [] = drop_of_length-le images all in
+    record {
+      is_closed = record { fine = is.is_closed.fine; of_build = is.is_closed.of_build; specs_are = is.is_closed.specs_are; closed = is.is_closed.closed };
+      handed = is.handed;
+      none = is.none;
+      columns = is.columns;
+      counting = record { taken = is.counting.taken; sealed_was_taken = omega arith };
+      opened = λ i less.
+          subst (HoldsOpen (spec_at specs i) (drop it.intake.taken images)) (sym (no_pair it.maker.begun i is.is_closed.closed)) (record {
+            last = [];
+            since_seal = subst (λ (left : List ImageValue). HavePairs (spec_at specs i) left []) (sym none) refl;
+            open_run = refl;
+          });
+    }
+
+-- the worker of a place, as a digest or a seal leaves it
+module _
+    (workers : List WorkerValue) (sides : List (TakeEnd Entry)) (spools : List SpoolValue) (held new : WorkValue) (k : ℕ) (it after : WorkerValue)
+    (at : slice_get workers k ≡ Some it) (is : KeepsWork workers sides spools (Some held)) where
+  -- while pages are copied it may do anything, and from the first load on it stays as it is
+  stepped_kept :
+      new ≡ held → (HasHanded held.build held.specs it → (own_images after ≡ own_images it) × HasHanded held.build held.specs after)
+      → KeepsWork (set workers k after) sides spools (Some new)
+  stepped_kept same stays = λ fine.
+      let old : IsKept workers sides spools held = is (ap (λ (w : WorkValue). w.spoiled) (sym same) ∙ fine) in
+      subst (IsKept (set workers k after) sides spools) (sym same) (elim (cases_Bool held.loading) [
+        | inl loads ↦
+            let was = all_at (HasHanded held.build held.specs) workers k it (old.handed loads) at in
+            let now = stays was in
+            workers_kept workers (set workers k after) sides spools held
+            (map-set own_images workers k after ∙ ap (set (map own_images workers) k) now.0 ∙ sym (map-set own_images workers k it) ∙ ap (map own_images) (set_same workers k it at))
+            (λ e all. all_from (HasHanded held.build held.specs) (set workers k after) (λ j worker there. elim (at_set workers k after j worker there) [
+              | inl this ↦ subst (HasHanded held.build held.specs) (sym this.1) now.1
+              | inr other ↦ all_at (HasHanded held.build held.specs) workers j worker all other.1
+            ])) old
+        | inr scans ↦ scanning_kept workers (set workers k after) sides spools held scans old
+      ])
+
+  spoiled_kept : (fault : Fault) → new ≡ record held { spoiled = Some fault } → KeepsWork (set workers k after) sides spools (Some new)
+  spoiled_kept fault spoiled = λ fine. absurd (let bad : Some fault ≡ None = ap (λ (w : WorkValue). w.spoiled) (sym spoiled) ∙ fine in cc)
+
+  pub digested_kept :
+      (answer : Result ℕ Fault) → OnOk answer (new ≡ held) → IfErr answer (λ fault. new ≡ record held { spoiled = Some fault })
+      → IfOk answer (λ images. it.handed ≡ true → (images ≡ 0) × (after ≡ it)) → KeepsWork (set workers k after) sides spools (Some new)
+  digested_kept (Ok images) same spoiled nothing = stepped_kept same (λ was.
+      let stays : after ≡ it = (nothing was.handed).1 in
+      (ap own_images stays, subst (HasHanded held.build held.specs) (sym stays) was))
+  digested_kept (Err fault) same spoiled nothing = spoiled_kept fault spoiled
+
+  pub sealed_kept :
+      (answer : Result ℕ Fault) → OnOk answer (new ≡ held) → IfErr answer (λ fault. new ≡ record held { spoiled = Some fault })
+      → IfOk answer (λ images. it.handed ≡ true → (images ≡ 0) × (after ≡ record it { intake = after_seal it.intake }))
+      → KeepsWork (set workers k after) sides spools (Some new)
+  sealed_kept (Ok images) same spoiled nothing = stepped_kept same (λ was.
+      let stays : after ≡ record it { intake = after_seal it.intake } = (nothing was.handed).1 in
+      (ap own_images stays, subst (HasHanded held.build held.specs) (sym stays) (sealed_again held.build held.specs it was)))
+  sealed_kept (Err fault) same spoiled nothing = spoiled_kept fault spoiled

@@ -1,0 +1,74 @@
+-- What the work of a build keeps by itself, of whatever table it is: the pairs of what its workers received are in its spools or its trees,
+-- and what the rings of its side-files gave is applied to these trees.
+use Rattle.std.specs.Prelude.{◌≡◌, ℕ, ◌<◌, true, false, List, [], get_or, flat_map, length, Option, Some, None}
+use Rattle.std.specs.FinMap.{keys}
+use Rattle.std.specs.List.{All, slice_get}
+use Rattle.keybytes.specs.Keys.{KeySpecValue}
+use Rattle.keybytes.specs.Pairs.{set_of}
+use Rattle.keybytes.specs.declared.pair.Pair.{Pair}
+use Rattle.side_file.specs.declared.entry.Entry.{Entry}
+use Rattle.heap_table.specs.Images.{ImageValue}
+use Rattle.visibility.specs.Applied.{apply_entries}
+use Rattle.visibility.specs.SideEntries.{SideEntry}
+use Rattle.catch_up.specs.Built.{BuiltValue, told_to}
+use Rattle.run_maker.specs.Making.{spec_at}
+use Rattle.building.specs.Holding.{HoldsOpen}
+use Rattle.building.specs.ImagePairs.{HavePairs}
+use Rattle.building.specs.SpoolValue.{SpoolValue}
+use Rattle.building.specs.TakeEnd.{TakeEnd}
+use Rattle.building.specs.Taking.{received_images, unsealed_images}
+use Rattle.building.specs.WorkerValue.{IsCounting, WorkerValue}
+use Rattle.build_work.specs.BuildingValue.{IndexValue, IsUnloaded, WorkValue}
+use Rattle.build_work.specs.Holding.{HaveColumns}
+
+-- the images of its build that each worker received, worker after worker
+abbrev pub all_received : List WorkerValue → List ImageValue
+all_received workers = flat_map (λ worker. received_images worker.maker.schema worker.intake) workers
+
+-- in order they are the pairs on all images that the workers received, with these entries applied to them
+pub record ArePairsOf (spec : KeySpecValue) (workers : List WorkerValue) (entries : List SideEntry) (pairs : List Pair) : Type 0 where
+  pub made : List Pair
+  pub received : HavePairs spec (all_received workers) made
+  pub applied : pairs ≡ keys (apply_entries entries (set_of made))
+
+-- an index of that build and specification, beside the end of its side-file's ring that takes: until its pairs are in order that end took
+-- no entry of the build, and from then on those that it took are applied to them
+pub record IsIndexOf (build : ℕ) (spec : KeySpecValue) (workers : List WorkerValue) (end : TakeEnd Entry) (index : IndexValue) : Type 0 where
+  pub none_before : index.built ≡ None → told_to build end.received ≡ []
+  pub of_build : (built : BuiltValue) → index.built ≡ Some built → built.build ≡ build
+  pub of_spec : (built : BuiltValue) → index.built ≡ Some built → built.unique ≡ spec.unique
+  pub loaded : (built : BuiltValue) → index.built ≡ Some built → ArePairsOf spec workers (told_to build end.received) built.pairs
+
+-- a worker of that build of these indexes which goes on, all whose runs are closed
+pub record IsClosed (build : ℕ) (specs : List KeySpecValue) (worker : WorkerValue) : Type 0 where
+  pub fine : worker.fault ≡ None
+  pub of_build : worker.intake.build ≡ build
+  pub specs_are : worker.maker.specs ≡ specs
+  pub closed : All (λ begun. begun ≡ []) worker.maker.begun
+
+-- the same once it handed its spools over; what it took since its last seal fills whole runs
+pub record HasHanded (build : ℕ) (specs : List KeySpecValue) (worker : WorkerValue) : Type 0 where
+  pub is_closed : IsClosed build specs worker
+  pub handed : worker.handed ≡ true
+  pub none : worker.spools ≡ []
+  pub columns : All (λ spec. spec.kinds ≡ worker.maker.schema) worker.maker.specs
+  pub counting : IsCounting worker.intake worker.maker
+  pub opened : (i : ℕ) → i < length specs
+      → HoldsOpen (spec_at specs i) (unsealed_images worker.maker.schema worker.intake) (get_or worker.maker.begun i [])
+
+-- what the work of a build that goes on keeps, with its workers, the spools that no worker has, and the ends of its side-files' rings
+pub record IsKept (workers : List WorkerValue) (sides : List (TakeEnd Entry)) (spools : List SpoolValue) (work : WorkValue) : Type 0 where
+  pub many : length work.indexes ≡ length work.specs
+  pub indexes : (k : ℕ) (spec : KeySpecValue) (end : TakeEnd Entry) (index : IndexValue) → slice_get work.specs k ≡ Some spec
+      → slice_get sides k ≡ Some end → slice_get work.indexes k ≡ Some index → IsIndexOf work.build spec workers end index
+  -- until the first load each spool is with its worker, and no index is in order
+  pub lent : work.loading ≡ false → spools ≡ []
+  pub unloaded : work.loading ≡ false → All (λ index. index.built ≡ None) work.indexes
+  -- from then on no worker has one, and those of an index that isn't in order hold its pairs
+  pub handed : work.loading ≡ true → All (HasHanded work.build work.specs) workers
+  pub columns : work.loading ≡ true → HaveColumns (λ index. IsUnloaded index work) work.specs workers spools
+
+-- so it is of the work, if there is any, until it is spoiled
+abbrev pub KeepsWork : List WorkerValue → List (TakeEnd Entry) → List SpoolValue → Option WorkValue → Type 0
+KeepsWork workers sides spools None = Unit {0}
+KeepsWork workers sides spools (Some work) = work.spoiled ≡ None → IsKept workers sides spools work
