@@ -1,5 +1,5 @@
 -- Entries that an index's ring gave are applied to its pairs.
-use Rattle.std.proofs.Common.{◌≡◌, ℕ, ◌<◌, true, false, List, ◌++◌, length, set, Some, None, refl, sym, ap, ◌∙◌, subst, inl, inr}
+use Rattle.std.proofs.Common.{◌≡◌, ℕ, ◌<◌, false, List, ◌++◌, length, set, Some, None, sym, ap, ◌∙◌, subst, inl, inr}
 use Rattle.std.specs.FinMap.{keys}
 use Rattle.std.specs.List.{slice_get}
 use Rattle.std.proofs.lemmas.List.{length-set}
@@ -18,7 +18,7 @@ use Rattle.building.specs.SpoolValue.{SpoolValue}
 use Rattle.building.specs.TakeEnd.{TakeEnd}
 use Rattle.building.specs.WorkerValue.{WorkerValue}
 use Rattle.build_work.specs.BuildingValue.{IndexValue, IsUnloaded, WorkValue}
-use Rattle.build_work.specs.Keeping.{ArePairsOf, IsIndexOf, IsKept, KeepsWork}
+use Rattle.build_work.specs.Keeping.{ArePairsOf, IsIndexOf, KeepsWork}
 use Rattle.build_work.proofs.Unloaded.{open_fewer, unloaded_before, with_tree}
 use Rattle.build_scan.proofs.Places.{all_at, at_set, below, set_elsewhere, set_there}
 

@@ -1,14 +1,16 @@
 -- The workers of a build get their rings, makers and spools, one after another.
-use Rattle.std.proofs.Common.{◌≡◌, ℕ, suc, ◌+◌, ◌*◌, ◌<◌, List, [], ◌∷◌, ◌++◌, length, map, take, drop, get_or, Some, refl, sym, ap, ap₂, ◌∙◌, arith}
-use Rattle.std.proofs.Common.{append_assoc, append-nil}
+use Rattle.std.proofs.Common.{◌≡◌, ℕ, zero, suc, ◌⊎◌, ◌+◌, ◌*◌, ◌<◌, List, [], ◌∷◌, ◌++◌, length, map, take, drop, get_or, Some, refl, sym, ap, ap₂, ◌∙◌, arith}
+use Rattle.std.proofs.Common.{append_assoc, append-nil, inl, inr}
 use Rattle.std.specs.List.{slice_get}
 use Rattle.std.proofs.Math.Nat.{suc-mul}
 use Rattle.std.proofs.lemmas.List.{drop_more, length-drop, length-map, map-append, take-append-drop, take_more}
+use Rattle.std.proofs.lemmas.Option.{same_Some}
 use Rattle.side_file.specs.Ends.{RingId}
 use Rattle.building.specs.IntakeValue.{IntakeValue}
 use Rattle.building.specs.SpoolValue.{SpoolValue}
 use Rattle.building.specs.WorkerValue.{WorkerValue}
 use Rattle.build_work.specs.BuildingValue.{intakes}
+use Rattle.build_work.specs.Equipped.{AreNumbered}
 use Rattle.build_work.specs.Holding.{lent_spools}
 use Rattle.build_work.specs.Rings.{take_rings}
 use Rattle.build_scan.proofs.Places.{map_at}
@@ -60,3 +62,22 @@ one_made f g (v ∷ vs) x y ys same = ap (λ zs. f v ∷ zs) (one_made f g vs x 
 -- where each takes n, enough are left for the others
 pub enough_left : {X : Type 0} (n m : ℕ) (xs : List X) → length xs ≡ suc m * n → length (drop n xs) ≡ m * n
 enough_left n m xs many = let e = suc-mul m n in omega (arith, length-drop n xs, many, e)
+
+-- what stands in a place of a list with one element more
+at_more :
+    {X : Type 0} (xs : List X) (y : X) (k : ℕ) (x : X) → slice_get (xs ++ y ∷ []) k ≡ Some x → (slice_get xs k ≡ Some x) ⊎ ((k ≡ length xs) × (x ≡ y))
+at_more [] y zero x at = inr (refl, sym (same_Some y x at))
+at_more [] y (suc k) x at = absurd (cc)
+at_more (z ∷ zs) y zero x at = inl at
+at_more (z ∷ zs) y (suc k) x at = elim (at_more zs y k x at) [
+  | inl before ↦ inl before
+  | inr last ↦ inr (ap suc last.0, last.1)
+]
+
+-- one worker more has the next number
+pub numbered_more :
+    (workers : List WorkerValue) (worker : WorkerValue) → AreNumbered workers → worker.number ≡ length workers → AreNumbered (workers ++ worker ∷ [])
+numbered_more workers worker before next k it at = elim (at_more workers worker k it at) [
+  | inl there ↦ before k it there
+  | inr last ↦ ap (λ (w : WorkerValue). w.number) last.1 ∙ next ∙ sym last.0
+]

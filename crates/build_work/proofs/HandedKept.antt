@@ -17,12 +17,12 @@ use Rattle.building.specs.WorkerValue.{IsCounting, IsHolding, WorkerValue}
 use Rattle.build_work.specs.BuildingValue.{BuildingValue, IndexValue, IsUnloaded, WorkValue}
 use Rattle.build_work.specs.Columns.{column}
 use Rattle.build_work.specs.Holding.{HaveColumns, all_spools, lent_spools}
-use Rattle.build_work.specs.Keeping.{HasHanded, IsClosed, IsKept, KeepsWork}
+use Rattle.build_work.specs.Keeping.{HasHanded, IsClosed, KeepsWork}
 use Rattle.build_work.specs.Working.{CanHandOver, handed_over}
 use Rattle.build_work.proofs.Kept.{any_workers}
 use Rattle.build_work.proofs.OneWorker.{the_work}
 use Rattle.build_work.proofs.SpoolPlaces.{column_is, column_there, flat_at, flat_many}
-use Rattle.build_scan.proofs.Places.{all_at, all_from, all_mapped, at_map, map_at, mapped_of, no_pair, there_is}
+use Rattle.build_scan.proofs.Places.{all_at, all_mapped, at_map, map_at, mapped_of, no_pair, there_is}
 
 module _
     (build : ℕ) (specs : List KeySpecValue) (workers : List WorkerValue) (closed : All (IsClosed build specs) workers)

@@ -1,5 +1,5 @@
 -- What the work of a build keeps by itself stays, as it begins, as its rings are looked at and as its workers go on.
-use Rattle.std.proofs.Common.{◌≡◌, ℕ, true, false, List, [], ◌∷◌, ◌++◌, length, map, set, get_or, Option, Some, None, Result, Ok, Err, refl, sym, ap, ◌∙◌, subst}
+use Rattle.std.proofs.Common.{◌≡◌, ℕ, true, false, List, [], ◌∷◌, length, map, set, Option, Some, None, Result, Ok, Err, refl, sym, ap, ◌∙◌, subst}
 use Rattle.std.proofs.Common.{inl, inr, arith, drop, drop_of_length-le, ◌≤◌, ◌*◌}
 use Rattle.std.specs.Prelude.{IfErr, IfOk, OnOk, flat_map}
 use Rattle.std.specs.List.{All, slice_get}
@@ -9,7 +9,7 @@ use Rattle.keybytes.specs.Keys.{KeySpecValue}
 use Rattle.keybytes.specs.declared.fault.Fault.{Fault}
 use Rattle.side_file.specs.declared.entry.Entry.{Entry}
 use Rattle.heap_table.specs.Images.{ImageValue}
-use Rattle.catch_up.specs.Built.{BuiltValue, told_to}
+use Rattle.catch_up.specs.Built.{told_to}
 use Rattle.run_maker.specs.Making.{spec_at}
 use Rattle.building.specs.Holding.{HoldsOpen, HoldsPairs}
 use Rattle.building.specs.ImagePairs.{HavePairs}

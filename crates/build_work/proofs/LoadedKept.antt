@@ -1,5 +1,5 @@
 -- The pairs of an index are put in order: they are those of what all workers received.
-use Rattle.std.proofs.Common.{◌≡◌, ℕ, zero, suc, ◌-◌, ◌<◌, true, List, [], ◌∷◌, ◌++◌, All, length, map, set, Some, None, refl, sym, ap, ◌∙◌, subst, inl, inr, arith}
+use Rattle.std.proofs.Common.{◌≡◌, ℕ, suc, ◌-◌, ◌<◌, true, List, [], ◌∷◌, ◌++◌, All, length, map, Some, None, refl, sym, ap, ◌∙◌, subst, inl, inr, arith}
 use Rattle.std.proofs.Common.{false}
 use Rattle.std.specs.Prelude.{flat_map, IsPermutation}
 use Rattle.std.specs.FinMap.{keys}
@@ -10,12 +10,11 @@ use Rattle.std.proofs.lemmas.List.Concat.{flat_map-append}
 use Rattle.std.proofs.lemmas.List.Sorted.{IsPermutation-append, IsPermutation-refl, IsPermutation-trans}
 use Rattle.std.proofs.lemmas.Option.{get_or_from_slice_get, same_Some}
 use Rattle.keybytes.specs.Keys.{KeySpecValue}
-use Rattle.keybytes.specs.Pairs.{AreOrdered, set_of}
+use Rattle.keybytes.specs.Pairs.{AreOrdered}
 use Rattle.keybytes.specs.declared.pair.Pair.{Pair}
 use Rattle.side_file.specs.declared.entry.Entry.{Entry}
 use Rattle.run_spool.specs.Spools.{AreSorted, all_pairs}
 use Rattle.run_merge.specs.Merging.{all_runs}
-use Rattle.run_maker.specs.Making.{spec_at}
 use Rattle.visibility.specs.SideEntries.{SideEntry}
 use Rattle.catch_up.specs.Built.{BuiltValue, told_to}
 use Rattle.building.specs.Holding.{HoldsPairs}
@@ -31,7 +30,7 @@ use Rattle.build_work.specs.Keeping.{ArePairsOf, IsIndexOf, IsKept, KeepsWork, a
 use Rattle.build_work.proofs.Columns.{every_elsewhere, length-changed}
 use Rattle.build_work.proofs.Kept.{own_images}
 use Rattle.build_work.proofs.SpoolPlaces.{column_many}
-use Rattle.build_work.proofs.Unloaded.{not_this, open_fewer, unloaded_before, with_tree}
+use Rattle.build_work.proofs.Unloaded.{not_this, unloaded_before, with_tree}
 use Rattle.build_work.proofs.Works.{same_set}
 use Rattle.build_scan.proofs.Places.{at_set, below}
 

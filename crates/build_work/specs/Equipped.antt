@@ -1,6 +1,6 @@
 -- What a build begins with.
-use Rattle.std.specs.Prelude.{◌≡◌, ℕ, ◌<◌, ◌≤◌, List, [], ◌∷◌, ◌++◌, length, None, false}
-use Rattle.std.specs.List.{All}
+use Rattle.std.specs.Prelude.{◌≡◌, ℕ, ◌<◌, ◌≤◌, List, [], ◌∷◌, ◌++◌, length, None, Some, false}
+use Rattle.std.specs.List.{All, slice_get}
 use Rattle.std.specs.declared.alloc.Global.{Global}
 use Rattle.std.specs.declared.vec.Vec.{Vec}
 use Rattle.std.specs.Vec.{vec_capacity}
@@ -30,4 +30,9 @@ pub record HasOneMore (indexes : ℕ) (maker : MakerValue) (old new : List Worke
   pub worker : WorkerValue
   pub last : new ≡ old ++ worker ∷ []
   pub made : worker.maker ≡ maker
+  pub numbered : worker.number ≡ length old
   pub equipped : IsEquipped indexes worker
+
+-- each has the number of its place
+abbrev pub AreNumbered : List WorkerValue → Type 0
+AreNumbered workers = (k : ℕ) (worker : WorkerValue) → slice_get workers k ≡ Some worker → worker.number ≡ k

@@ -1,5 +1,5 @@
 -- What the workers of a build do, and the entries that are applied to its indexes, and what that leaves beside the table.
-use Rattle.std.specs.Prelude.{◌≡◌, ℕ, ◌+◌, ◌*◌, ◌^◌, ◌<◌, ◌≤◌, List, [], ◌++◌, length, set, map, take, drop, is_some, true, false, Some, None, IsPermutation}
+use Rattle.std.specs.Prelude.{◌≡◌, ℕ, ◌+◌, ◌^◌, ◌<◌, ◌≤◌, List, [], ◌++◌, length, set, map, take, drop, is_some, true, false, Some, None, IsPermutation}
 use Rattle.std.specs.List.{All, slice_get, IsDistinct}
 use Rattle.std.specs.Ordering.{eq_by_cmp}
 use Rattle.keybytes.specs.declared.fault.Fault.{Fault}
@@ -10,8 +10,7 @@ use Rattle.side_file.specs.declared.entry.Entry.{Entry}
 use Rattle.visibility.specs.Applied.{apply_entries}
 use Rattle.catch_up.specs.Built.{BuiltValue, told_to}
 use Rattle.building.specs.TakeEnd.{TakeEnd}
-use Rattle.run_spool.specs.Spools.{AreSorted}
-use Rattle.building.specs.SpoolValue.{SpoolValue, pairs_in, runs_of, stakes_of}
+use Rattle.building.specs.SpoolValue.{SpoolValue, pairs_in, stakes_of}
 use Rattle.building.specs.Work.{after_seal}
 use Rattle.building.specs.WorkerValue.{HasSealed, HasTaken, SameWorker, WorkerValue}
 use Rattle.build_scan.specs.SideFiles.{HasLookedAtSide, SeesSide}

@@ -10,7 +10,7 @@ ghost use Rattle.build_work.specs.BuildingValue.{fresh, given_up, intakes, IsUnl
 ghost use Rattle.build_work.specs.Holding.{all_spools, lent_spools, spools_state};
 ghost use Rattle.build_work.specs.Keeping.{KeepsWork};
 ghost use Rattle.catch_up.specs.Built.{told_to};
-ghost use Rattle.build_work.specs.Equipped.{HasRoomFor, IsEquipped, IsFresh};
+ghost use Rattle.build_work.specs.Equipped.{AreNumbered, HasRoomFor, IsEquipped, IsFresh};
 ghost use Rattle.build_work.specs.Working.{CanApply, CanHandOver, CanLoad, Digested, HasApplied, HasHandedOver, HasLoaded, IsSpoiled, Sealed, WorkerDid};
 
 use crate::ends::Ends;
@@ -214,6 +214,7 @@ impl<S: Spool, T: Table> Building<S, T> {
         ensures makers { map (λ worker. worker.maker) self.new.workers ≡ map (λ it. it.maker) equipment.items }
         ensures lent { lent_spools self.new.workers ≡ self.old.spools }
         ensures equipped { All (IsEquipped (length work.specs)) self.new.workers }
+        ensures numbered { AreNumbered self.new.workers }
     {
         let mut workers = workers;
         let spools = replace(&mut self.spools, home);

@@ -5,7 +5,7 @@ ghost use Rattle.building.specs.SpoolValue.{spool_value};
 ghost use Rattle.build_work.specs.BuildingValue.{intakes};
 ghost use Rattle.build_work.specs.Holding.{fresh_maker, lent_spools};
 ghost use Rattle.build_work.specs.Rings.{take_rings};
-ghost use Rattle.build_work.specs.Equipped.{HasOneMore, HasRoomFor, IsEquipped, IsFresh};
+ghost use Rattle.build_work.specs.Equipped.{AreNumbered, HasOneMore, HasRoomFor, IsEquipped, IsFresh};
 
 use building::{Intake, Table, Worker};
 use keybytes::{Fault, KeySpec, Schema, copied_specs};
@@ -79,6 +79,7 @@ pub fn equip<S: Spool, T: Table>(
     ensures makers { map (λ worker. worker.maker) workers.new.items ≡ map (λ it. it.maker) equipment.items }
     ensures lent { lent_spools workers.new.items ≡ map (spool_value S.runs S.open_run S.stake) spools.items }
     ensures equipped { All (IsEquipped indexes) workers.new.items }
+    ensures numbered { AreNumbered workers.new.items }
 {
     let mut rest = spools.into_iter();
     for it in equipment {

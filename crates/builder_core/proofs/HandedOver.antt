@@ -1,28 +1,25 @@
 -- The spools of a build's workers, once these handed them over.
-use Rattle.std.proofs.Common.{◌≡◌, ℕ, ◌*◌, ◌<◌, true, false, List, [], ◌++◌, All, length, map, get_or, Some, None, refl, sym, ap, ◌∙◌, subst, arith, append-nil}
+use Rattle.std.proofs.Common.{◌≡◌, ℕ, true, false, List, [], ◌++◌, All, length, map, get_or, Some, None, refl, sym, ap, ◌∙◌, subst, arith, append-nil}
 use Rattle.std.specs.List.{slice_get}
 use Rattle.std.proofs.lemmas.Bool.{false≢true}
 use Rattle.std.proofs.lemmas.List.{length-map}
 use Rattle.std.proofs.lemmas.Option.{same_Some, get_or_from_slice_get}
 use Rattle.keybytes.specs.Keys.{KeySpecValue}
-use Rattle.keybytes.specs.declared.pair.Pair.{Pair}
-use Rattle.run_spool.specs.Spools.{AreSorted}
 use Rattle.run_maker.specs.Making.{spec_at}
-use Rattle.building.specs.Holding.{HoldsOpen, HoldsPairs}
-use Rattle.building.specs.SpoolValue.{SpoolValue, runs_of}
-use Rattle.building.specs.Taking.{received_images, unsealed_images}
+use Rattle.building.specs.Holding.{HoldsOpen}
+use Rattle.building.specs.SpoolValue.{SpoolValue}
+use Rattle.building.specs.Taking.{unsealed_images}
 use Rattle.building.specs.WorkerValue.{IsHolding, WorkerValue}
 use Rattle.building.specs.declared.copied.Copied.{Copied}
 use Rattle.build_events.specs.CoreState.{BuildState, WorkState}
 use Rattle.build_events.specs.Ranges.{open_range}
 use Rattle.builder_core.specs.Builds.{LiveValue, IsRunning, core_state}
 use Rattle.build_work.specs.BuildingValue.{BuildingValue, WorkValue, IsUnloaded, index_state, work_state, worker_state}
-use Rattle.build_work.specs.Columns.{column}
-use Rattle.build_work.specs.Holding.{HaveColumns, all_spools, lent_spools, spools_state}
+use Rattle.build_work.specs.Holding.{all_spools, lent_spools, spools_state}
 use Rattle.build_work.specs.Rings.{all_sent, AreSealed, IsSealed, IsWorkerOf}
 use Rattle.build_work.specs.Working.{CanHandOver, HasHandedOver, handed_over}
 use Rattle.build_work.specs.Keeping.{IsClosed}
-use Rattle.build_scan.proofs.Places.{all_at, all_from, all_mapped, at_map, below, map_at, mapped, mapped_of, no_pair, there_is}
+use Rattle.build_scan.proofs.Places.{all_at, all_from, at_map, below, map_at, mapped, there_is}
 use Rattle.builder_core.proofs.Refusals.{state_is}
 use Rattle.build_work.proofs.HandedKept.{lent_columns}
 use Rattle.build_work.proofs.Works.{loading_work_on}

@@ -1,5 +1,5 @@
 -- What entries that are applied leave of the index of a build, and of its work.
-use Rattle.std.proofs.Common.{◌≡◌, ℕ, ◌+◌, ◌-◌, ◌<◌, ◌≤◌, List, ◌++◌, length, map, set, take, drop, append_assoc, Some, None, refl, sym, ap, ap₂, ◌∙◌, inl}
+use Rattle.std.proofs.Common.{◌≡◌, ℕ, ◌+◌, ◌-◌, ◌≤◌, List, ◌++◌, length, map, set, take, drop, append_assoc, Some, None, refl, sym, ap, ap₂, ◌∙◌, inl}
 use Rattle.std.proofs.Common.{inr}
 use Rattle.std.proofs.Common.{subst, arith, take-add, take-take, take-append-drop, drop-drop}
 use Rattle.std.specs.Prelude.{is_some}
@@ -8,7 +8,6 @@ use Rattle.std.specs.FinSet.{FinSet}
 use Rattle.std.proofs.lemmas.List.{take-map, drop-map, map-set}
 use Rattle.std.proofs.lemmas.Option.{same_Some, get_or_from_slice_get}
 use Rattle.keybytes.specs.Pairs.{pair_cmp, set_of}
-use Rattle.keybytes.specs.declared.pair.Pair.{Pair}
 use Rattle.side_file.specs.Entries.{entry_of}
 use Rattle.side_file.specs.Kept.{last_ones}
 use Rattle.side_file.specs.declared.entry.Entry.{Entry}
@@ -17,11 +16,8 @@ use Rattle.visibility.specs.SideEntries.{SideEntry}
 use Rattle.visibility.proofs.Changes.{apply-append}
 use Rattle.catch_up.specs.Built.{told_to}
 use Rattle.catch_up.proofs.Telling.{told_entries}
-use Rattle.building.specs.SpoolValue.{SpoolValue}
-use Rattle.building.specs.WorkerValue.{WorkerValue}
-use Rattle.build_work.specs.Holding.{HaveColumns}
 use Rattle.builder_core.specs.Builds.{LiveValue, IsRunning, WorksOn}
-use Rattle.build_work.specs.BuildingValue.{BuildingValue, WorkValue, IndexValue, IsUnloaded, with_index, with_pairs, is_unique, work_state, index_state}
+use Rattle.build_work.specs.BuildingValue.{BuildingValue, WorkValue, IndexValue, with_index, with_pairs, is_unique, work_state, index_state}
 use Rattle.build_work.specs.WorkOn.{IsCaughtUpTo, IsIndexOn, AreFed}
 use Rattle.builder_core.specs.Builds.{core_state}
 use Rattle.building.specs.TakeEnd.{TakeEnd}
@@ -29,9 +25,7 @@ use Rattle.catch_up.specs.Built.{BuiltValue}
 use Rattle.keybytes.specs.Keys.{KeySpecValue}
 use Rattle.side_file.specs.Ends.{PutEnd}
 use Rattle.std.specs.List.{slice_get}
-use Rattle.std.specs.Prelude.{◌==◌}
-use Rattle.std.proofs.lemmas.Bool.{cases_Bool, eqb-true, eqb-false}
-use Rattle.build_scan.proofs.Places.{at_set, set_there, set_elsewhere, here_set, stays_there, below, map_at}
+use Rattle.build_scan.proofs.Places.{at_set, set_there, set_elsewhere, below, map_at}
 use Rattle.build_work.proofs.Unloaded.{open_fewer, unloaded_before}
 use Rattle.build_work.proofs.Works.{set_work_on}
 use Rattle.build_events.specs.CoreState.{BuildState, IndexState, WorkState, scanning_of}

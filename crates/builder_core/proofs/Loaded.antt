@@ -1,5 +1,5 @@
 -- What a load leaves, as callers see it.
-use Rattle.std.proofs.Common.{◌≡◌, ℕ, ◌-◌, ◌*◌, ◌<◌, true, List, [], ◌∷◌, ◌++◌, length, take, take_all, Option, Some, None, Result, Ok, Err, IfOk, IfErr, IfSome, OnErr}
+use Rattle.std.proofs.Common.{◌≡◌, ℕ, ◌-◌, ◌*◌, ◌<◌, true, List, [], ◌++◌, length, take, take_all, Option, Some, None, Result, Ok, Err, IfOk, IfErr, IfSome, OnErr}
 use Rattle.std.proofs.Common.{Bool, false, if◌then◌else◌, set, inl, inr, refl, sym, ap, ◌∙◌, subst, arith}
 use Rattle.std.specs.Prelude.{is_some, flat_map, IsPermutation}
 use Rattle.std.specs.List.{slice_get}
@@ -24,9 +24,7 @@ use Rattle.keybytes.specs.declared.kind.Kind.{Kind}
 use Rattle.build_work.specs.Columns.{column}
 use Rattle.build_work.specs.Holding.{HaveColumns, all_spools, ended_column, lent_spools, spools_state}
 use Rattle.run_spool.specs.Spools.{AreSorted, all_pairs}
-use Rattle.run_merge.specs.Merging.{all_runs}
 use Rattle.std.specs.Prelude.{All, map}
-use Rattle.std.proofs.lemmas.List.Concat.{flat_map-append}
 use Rattle.build_events.specs.Ranges.{open_range}
 use Rattle.build_work.specs.Rings.{all_sent}
 use Rattle.builder_core.specs.Rings.{ArePut, PagesFollow}
@@ -43,7 +41,7 @@ use Rattle.build_work.proofs.SpoolPlaces.{column_many}
 use Rattle.builder_core.proofs.Partition.{parts_together}
 use Rattle.build_work.proofs.LoadedKept.{pairs_by_spool}
 use Rattle.build_work.proofs.Unloaded.{not_this, unloaded_before}
-use Rattle.build_scan.proofs.Places.{there_is, at_set, here_set, set_same, map_at, below, all_at}
+use Rattle.build_scan.proofs.Places.{there_is, at_set, set_same, map_at, below, all_at}
 use Rattle.builder_core.proofs.Refusals.{state_of, state_is, works_with}
 use Rattle.builder_core.proofs.Takes.{spoiled_works, put_of}
 use Rattle.builder_core.proofs.Waits.{waits, held_pairs}

@@ -1,30 +1,26 @@
 -- A switch of the work that goes with the build: it is the build's, and nothing is left over of what its workers were sent.
-use Rattle.std.proofs.Common.{◌≡◌, ℕ, true, false, List, length, map, Option, Some, None, refl, sym, ap, ◌∙◌, subst, inl, inr, arith}
-use Rattle.std.specs.Prelude.{is_some, not}
-use Rattle.std.specs.List.{All, position, slice_get}
+use Rattle.std.proofs.Common.{◌≡◌, ℕ, true, length, Option, Some, None, refl, sym, ap, ◌∙◌, subst, inl, inr, arith}
 use Rattle.std.specs.Option.{option_map}
-use Rattle.std.proofs.lemmas.Bool.{cases_Bool, false≢true, not-false}
 use Rattle.keybytes.specs.declared.fault.Fault.{Fault}
-use Rattle.keybytes.specs.declared.fault.Fault.TheVariants.{NoBuild, NotLoaded, NotScanned}
-use Rattle.keybytes.specs.Faults.{first_cause}
+use Rattle.keybytes.specs.declared.fault.Fault.TheVariants.{NotScanned}
 use Rattle.keybytes.proofs.FirstCause.{both_none}
 use Rattle.side_file.specs.Ends.{PutEnd}
 use Rattle.building.specs.declared.copied.Copied.{Copied}
 use Rattle.build_events.specs.BuildSteps.{build_cause, switch_refusal}
-use Rattle.build_events.specs.CoreState.{BuildState, CoreState, IndexState, WorkState}
+use Rattle.build_events.specs.CoreState.{BuildState, CoreState}
 use Rattle.build_events.specs.Ranges.{open_range}
 use Rattle.build_events.specs.Steps.{IsRefused}
-use Rattle.build_events.specs.Workers.{unloaded_index}
 use Rattle.build_events.specs.declared.event.Event.TheVariants.{Switch}
 use Rattle.build_scan.specs.TableBuilds.{BuildFollows}
-use Rattle.build_work.specs.BuildingValue.{BuildingValue, IndexValue, WorkValue, index_state, state_unless, work_state}
+use Rattle.build_work.specs.BuildingValue.{BuildingValue, WorkValue, work_state}
 use Rattle.build_work.specs.Keeping.{IsKept, KeepsWork}
 use Rattle.build_work.specs.WorkOn.{IsWorkOf}
-use Rattle.build_work.proofs.Positions.{all_fail}
-use Rattle.build_scan.proofs.Places.{all_at, map_at, there_is}
+use Rattle.build_scan.proofs.Places.{map_at, there_is}
 use Rattle.builder_core.specs.Builds.{IsRunning, LiveValue, WorksOn, core_state}
-use Rattle.builder_core.specs.Switching.{HasLeftCopy, IsEventRefused, IsForeign, IsPartOf, RefusesSwitch, early_cause}
-use Rattle.builder_core.proofs.Refusals.{running, state_is, state_of}
+use Rattle.builder_core.specs.Switching.{HasLeftCopy, IsForeign, IsPartOf, RefusesSwitch}
+use Rattle.builder_core.proofs.EarlyCauses.{early_is, first_unloaded}
+use Rattle.builder_core.proofs.Refusals.{running}
+use Rattle.builder_core.proofs.Reunited.{all_loaded, loading}
 use Rattle.builder_core.proofs.Unloaded.{no_fault}
 
 -- where a build runs there is work
@@ -67,38 +63,17 @@ module _
         let b = of.build in
         let w = of.work in
         let run : IsRunning live building b w = running live building b w of.runs of.there follows works in
-        let causes = ap (λ (o : Option BuildState). build_cause o (λ x.
-        first_cause (work_state building.workers building.work).spoiled
-        (first_cause (option_map NotScanned (open_range x)) (option_map NotLoaded (unloaded_index (work_state building.workers building.work)))))) (sym of.runs) ∙ left.first in
-        let parts = both_none (work_state building.workers building.work).spoiled _ causes in
-        let fine : w.spoiled ≡ None = unspoiled w (ap (λ (o : Option WorkValue). (work_state building.workers o).spoiled) (sym of.there) ∙ parts.0) in
+        let parts = both_none w.spoiled _ (sym (early_is live building b w of.runs of.there) ∙ left.first) in
+        let fine : w.spoiled ≡ None = parts.0 in
         let later = both_none (option_map NotScanned (open_range b)) _ parts.1 in
-        let none : unloaded_index (state_of building w) ≡ None =
-        ap unloaded_index (sym (state_is building w of.there fine)) ∙ no_fault (unloaded_index (work_state building.workers building.work)) later.1 in
         let kept : IsKept building.workers building.sides building.spools w =
         subst (λ (o : Option WorkValue). KeepsWork building.workers building.sides building.spools o) of.there keeps fine in
-        let first = there_is w.indexes 0 (omega (arith, run.follows.some_index, kept.many, ap length run.on.specs)) in
-        let built : is_some first.0.built ≡ true =
-        not-false (is_some first.0.built) (all_fail (λ (i : IndexState). not i.loaded) (map index_state w.indexes) none 0 (index_state first.0)
-        (map_at index_state w.indexes 0 first.0 first.1)) in
-        let loads : w.loading ≡ true = elim (cases_Bool w.loading) [
-          | inl loaded ↦ loaded
-          | inr scans ↦
-              let empty = all_at (λ (i : IndexValue). i.built ≡ None) w.indexes 0 first.0 (kept.unloaded scans) first.1 in
-              absurd (false≢true (sym (ap is_some empty) ∙ built))
-        ] in
+        let loads : w.loading ≡ true = loading live building left.part kept run.follows (all_loaded w.indexes (sym (no_fault (first_unloaded w) later.1))) in
         let k : ℕ = left.worker in
         let worker = there_is building.workers k left.lowest.there in
         let end = there_is live.pages k (omega (arith, left.lowest.there, run.at_work.many, run.follows.few_workers, rings)) in
         let sent = map_at (λ (e : PutEnd Copied). e.sent) live.pages k end.0 end.1 in
         left.lowest.unsealed end.0.sent worker.0 sent worker.1 ((run.at_work.drained fine loads).1 k end.0.sent worker.0 sent worker.1)
-      where
-        unspoiled : (v : WorkValue) → (work_state building.workers (Some v)).spoiled ≡ None → v.spoiled ≡ None
-        unspoiled v is = by_fault v.spoiled refl where
-          by_fault : (o : Option Fault) → v.spoiled ≡ o → v.spoiled ≡ None
-          by_fault None spoiled = spoiled
-          by_fault (Some fault) spoiled =
-              absurd (let bad : Some fault ≡ None = sym (ap (λ (o : Option Fault). (state_unless o building.workers v).spoiled) spoiled) ∙ is in cc)
 
     -- so each refusal of its switch is one of the event
     pub own_refused : (fault : Fault) (new : CoreState) → RefusesSwitch live building fault new → IsRefused (core_state live building) Switch fault new

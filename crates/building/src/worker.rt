@@ -54,7 +54,7 @@ impl<S: Spool, T: Table> Model for Worker<S, T> {
 
     ghost Value = { WorkerValue };
 
-    ghost use Rattle.std.specs.Prelude.{◌≡◌, map, slice_get, false, Some, None, IfSome};
+    ghost use Rattle.std.specs.Prelude.{◌≡◌, [], map, slice_get, true, false, Some, None, IfSome};
     ghost use Rattle.building.specs.SpoolValue.{spool_value};
     ghost use Rattle.building.specs.WorkerValue.{IsCounting, IsHolding, IsShortage};
 
@@ -71,7 +71,8 @@ impl<S: Spool, T: Table> Model for Worker<S, T> {
         × IfSome worker.fault IsShortage
         × (worker.fault ≡ None → IsCounting worker.intake worker.maker)
         × (worker.fault ≡ None → worker.handed ≡ false
-        → IsHolding worker.intake worker.maker (map (spool_value S.runs S.open_run S.stake) worker.spools.items)) };
+        → IsHolding worker.intake worker.maker (map (spool_value S.runs S.open_run S.stake) worker.spools.items))
+        × (worker.handed ≡ true → worker.spools.items ≡ []) };
 }
 
 impl<S: Spool, T: Table> Worker<S, T> {
@@ -118,6 +119,7 @@ impl<S: Spool, T: Table> Worker<S, T> {
         ensures columns { All (λ spec. spec.kinds ≡ self.now.maker.schema) self.now.maker.specs }
         ensures counts { self.now.fault ≡ None → IsCounting self.now.intake self.now.maker }
         ensures holds { self.now.fault ≡ None → self.now.handed ≡ false → IsHolding self.now.intake self.now.maker self.now.spools }
+        ensures handed { self.now.handed ≡ true → self.now.spools ≡ [] }
     {
         self.maker.laws();
     }

@@ -3,8 +3,8 @@ use Rattle.std.proofs.lemmas.List.{length_push}
 use Rattle.std.proofs.lemmas.List.Elements.{All-drop, All-push, All-rest}
 use Rattle.std.specs.Vec.Iter.{into_iter_items}
 use Rattle.building.specs.WorkerValue.{WorkerValue}
-use Rattle.build_work.specs.Equipped.{HasRoomFor, IsEquipped, IsFresh}
-use Rattle.build_work.proofs.Equipping.{enough_left, one_made}
+use Rattle.build_work.specs.Equipped.{AreNumbered, HasRoomFor, IsEquipped, IsFresh}
+use Rattle.build_work.proofs.Equipping.{enough_left, numbered_more, one_made}
 use Rattle.build_work.proofs.equipment.equip.Goals as goal
 
 pub loop-it-preserved : goal.loop-it-preserved
@@ -35,4 +35,5 @@ loop-it-preserved g c =
       idle_room = added.idle_room ∙ inv.idle_room;
       room = added.room ∙ inv.room;
       equipped = subst (All (IsEquipped c.args.indexes)) (sym more.last) (All-push (IsEquipped c.args.indexes) workers more.worker inv.equipped more.equipped);
+      numbered = subst AreNumbered (sym more.last) (numbered_more workers more.worker inv.numbered more.numbered);
     }

@@ -3,7 +3,7 @@ use Rattle.std.specs.Vec.Iter.{into_iter_items}
 use Rattle.building.specs.SpoolValue.{spool_value}
 use Rattle.building.specs.WorkerValue.{WorkerValue}
 use Rattle.build_work.specs.BuildingValue.{intakes}
-use Rattle.build_work.specs.Equipped.{HasRoomFor, IsEquipped, IsFresh}
+use Rattle.build_work.specs.Equipped.{AreNumbered, HasRoomFor, IsEquipped, IsFresh}
 use Rattle.build_work.specs.Holding.{lent_spools}
 use Rattle.build_work.proofs.equipment.equip.Given as goal
 
@@ -22,4 +22,5 @@ invariant-loop-it g l = record {
   idle_room : vec_capacity l.idle ≡ vec_capacity l.fn.idle;
   room : vec_capacity l.workers ≡ vec_capacity l.fn.workers;
   equipped : All (IsEquipped l.indexes) l.workers.items;
+  numbered : AreNumbered l.workers.items;
 }

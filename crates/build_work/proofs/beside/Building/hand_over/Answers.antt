@@ -1,8 +1,7 @@
-use Rattle.std.proofs.Common.{◌≡◌, ◌∙◌, false, List, All, None, length, map, ap, subst, arith}
+use Rattle.std.proofs.Common.{◌≡◌, false, List, All, None, length, map, ap, subst, arith}
 use Rattle.std.proofs.lemmas.List.{length-map}
 use Rattle.building.specs.SpoolValue.{spool_value}
 use Rattle.building.specs.WorkerValue.{IsCounting, IsHolding, WorkerValue}
-use Rattle.build_work.specs.Working.{handed_over}
 use Rattle.build_work.proofs.BroughtHome.{ends_kept, none_away}
 use Rattle.build_work.proofs.HandedKept.{handed_over_kept}
 use Rattle.build_work.proofs.beside.Building.hand_over.Goals as goal

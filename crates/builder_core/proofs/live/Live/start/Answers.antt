@@ -8,7 +8,7 @@ use Rattle.heap_table.specs.Pages.{pages_written}
 use Rattle.scan_range.specs.Cuts.{CutsValue}
 use Rattle.building.specs.TakeEnd.{PutEndLooked, TakeEnd}
 use Rattle.builder_core.specs.Builds.{LiveValue}
-use Rattle.build_work.specs.BuildingValue.{BuildingValue, WorkValue, work_state, fresh, intakes}
+use Rattle.build_work.specs.BuildingValue.{BuildingValue, WorkValue, work_state, fresh}
 use Rattle.build_scan.specs.TableBuilds.{build_over}
 use Rattle.scan_range.specs.Dealings.{dealing_refusal, dealt_ends}
 use Rattle.build_events.specs.CoreState.{BuildState, LiveState, WorkState, SpoolsState, CoreState, all_given}

@@ -1,3 +1,4 @@
+use Rattle.std.proofs.lemmas.Bool.{false≢true}
 use Rattle.building.proofs.Keeping.{start_counts}
 use Rattle.building.proofs.SpoolViews.{start_held}
 use Rattle.building.proofs.worker.Worker.new.Goals as goal
@@ -10,4 +11,5 @@ invariant_of-result g c = (
   λ _ _.
       start_held g.S.Spool.runs g.S.Spool.open_run g.S.Spool.stake c.args.intake c.args.maker c.args.spools.items c.requires.earlier c.requires.many c.requires.none
       c.requires.empty,
+  λ handed. absurd (false≢true handed),
 )

@@ -1,4 +1,5 @@
 use Rattle.std.proofs.Common.{◌≡◌, ◌∙◌, ℕ, List, All, length, map, Some, subst, sym, ap, arith}
+use Rattle.std.proofs.lemmas.Bool.{false≢true}
 use Rattle.std.proofs.lemmas.List.{length-map}
 use Rattle.keybytes.specs.declared.pair.Pair.{Pair}
 use Rattle.run_spool.specs.Spools.{AreSorted}
@@ -47,6 +48,7 @@ invariant_of-self-in-Ok g c =
           seal_held g.S.Spool.runs g.S.Spool.open_run g.S.Spool.stake n at.intake after at.maker maker at.spools.items spools (c.self.invariant.2 sound)
           (c.self.invariant.3 sound kept) it.readable c.seal.ensures.specs c.seal.ensures.schema c.laws.ensures.specs many it.ready sorted it.taken holds
           it.closed),
+      (λ handed. absurd (false≢true (sym c.if-self.false ∙ handed))),
     )
 
 pub returns-in-Ok-clause-same : goal.returns-in-Ok-clause-same
