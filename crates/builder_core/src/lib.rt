@@ -12,30 +12,15 @@
 //! the caller makes, and gets back ended ([`Core::into_live`]). [`at_rest`] makes the pairs of a table that nobody writes.
 #![tactic(auto)]
 
-mod changes;
 mod core_calls;
 mod core_replies;
 mod core_steps;
-mod live;
-mod live_builds;
-mod live_part;
-mod live_sides;
-mod live_switch;
-mod live_workers;
-mod live_writes;
-mod parts;
-mod rest;
 mod run;
 
 pub use build_events::{Event, Plan, Reply, Scan};
-pub use build_work::{Building, Ends};
-pub use building::{Table, Worker};
 pub use core_steps::Core;
-pub use keybytes::Pair;
-pub use live::Live;
-pub use parts::{INDEXES_MAX, Parts, WORKERS_MAX};
-pub use ready_indexes::{ReadyIndex, ReadyIndexes};
-pub use rest::at_rest;
+pub use live_table::{
+    Building, Ends, Entry, INDEXES_MAX, Live, Op, Pair, Parts, ReadyIndex, ReadyIndexes, Table, WORKERS_MAX, Worker, at_rest,
+};
 pub use run::run_events;
 pub use scan_range::Dealing;
-pub use side_file::{Entry, Op};

@@ -7,7 +7,7 @@ use Rattle.known_log.proofs.known.Known.TheSendSync as known
 use Rattle.known_log.proofs.keeper.Keeper.TheSendSync as keeper
 use Rattle.known_log.specs.declared.named.Named as named
 use Rattle.building.specs.declared.table.Table as table
-use Rattle.builder_core.proofs.Crosses.{live_send}
+use Rattle.live_table.proofs.Crosses.{live_send}
 use Rattle.crew.specs.declared.opened.Opened as opened
 use Rattle.crew.specs.contracts.locked.Locked as Locked
 use Rattle.crew.specs.contracts.table.Table as Table

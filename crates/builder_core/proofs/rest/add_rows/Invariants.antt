@@ -1,6 +1,0 @@
-use Rattle.std.proofs.Common.{◌≡◌, ◌++◌, map, take}
-use Rattle.heap_table.specs.TablePairs.{pair_of}
-use Rattle.builder_core.proofs.rest.add_rows.Given as goal
-
-abbrev pub invariant-loop-rid : goal.invariant-loop-rid
-invariant-loop-rid l = l.pairs.items ≡ l.fn.pairs.items ++ map (pair_of l.spec) (take l.rid-index l.rows)

@@ -1,0 +1,84 @@
+use Rattle.std.proofs.Common.{◌≡◌, ◌<◌, ◌∙◌, length, refl, sym, subst, arith, inl, inr}
+use Rattle.std.proofs.lemmas.Bool.{cases_lt}
+use Rattle.std.proofs.lemmas.Option.{same_Some}
+use Rattle.live_table.specs.Builds.{core_state}
+use Rattle.build_scan.specs.TableBuilds.{BuildFollows}
+use Rattle.live_table.specs.CatchingUp.{left_at}
+use Rattle.build_events.specs.CoreState.{BuildState}
+use Rattle.live_table.proofs.CatchingUp.{begins, catches_up, all_further, others_left, may_apply_at, none_left}
+use Rattle.live_table.proofs.live.Live.catch_up.Goals as goal
+
+pub loop-index-init : goal.loop-index-init
+loop-index-init g c =
+    let eight : length c.args.building.now.sides ≡ 8 = c.laws.ensures.ends.eight in
+    record {
+      further = begins c.args.self.now c.args.building.now c.in-Some.build.now c.in-Some.ensures.build c.requires.works c.in-Some.ensures.follows c.in-Some.ensures.fed
+          c.in-Some.ensures.sides eight;
+      none = λ k less. absurd (omega (arith, less));
+      works = c.requires.works;
+      pages = refl;
+    }
+
+pub catch_up_one-requires-clause-works : goal.catch_up_one-requires-clause-works
+catch_up_one-requires-clause-works g c = c.loop-index.invariant.works
+
+pub catch_up_one-requires-clause-few : goal.catch_up_one-requires-clause-few
+catch_up_one-requires-clause-few g c =
+    let follows = subst (BuildFollows c.args.self.now.state.heap.schema c.args.self.now.state.heap.log) c.in-Some.ensures.build c.in-Some.ensures.follows in
+    omega (arith, c.loop-index-test.true, c.indexes-index-end.ensures, follows.few_indexes)
+
+pub catch_up_one-requires-clause-runs : goal.catch_up_one-requires-clause-runs
+catch_up_one-requires-clause-runs g c =
+    let start = core_state c.args.self.now c.args.building.now in
+    let now = core_state c.loop-index.self c.loop-index.building in
+    may_apply_at start now c.loop-index.invariant.further c.in-Some.build.now c.in-Some.ensures.build c.requires.runs c.loop-index.index
+    (omega (arith, c.loop-index-test.true, c.indexes-index-end.ensures))
+
+pub loop-index-preserved : goal.loop-index-preserved
+loop-index-preserved g c =
+    let start = core_state c.args.self.now c.args.building.now in
+    let mid = core_state c.loop-index.self c.loop-index.building in
+    let new = core_state c.catch_up_one.new.self c.catch_up_one.new.building in
+    let one = c.catch_up_one.ensures.further in
+    record {
+      further = all_further c.loop-index.index start mid new c.loop-index.invariant.further one;
+      none = λ k less. elim (cases_lt k c.loop-index.index) [
+        | inl before ↦
+            others_left c.loop-index.index start mid new c.loop-index.invariant.further one k (λ same. omega (arith, same, before)) ∙ c.loop-index.invariant.none k before
+        | inr after ↦
+            let same : c.loop-index.index ≡ k = omega (arith, less, after) in
+            subst (λ i. left_at i new ≡ 0) same c.in_ok-catch_up_one.ensures.all
+      ];
+      works = c.catch_up_one.ensures.works;
+      pages = c.catch_up_one.ensures.pages ∙ c.loop-index.invariant.pages;
+    }
+
+pub returns-in_err-catch_up_one-clause-further : goal.returns-in_err-catch_up_one-clause-further
+returns-in_err-catch_up_one-clause-further g c =
+    let start = core_state c.args.self.now c.args.building.now in
+    let mid = core_state c.loop-index.self c.loop-index.building in
+    let new = core_state c.catch_up_one.new.self c.catch_up_one.new.building in
+    catches_up start new (all_further c.loop-index.index start mid new c.loop-index.invariant.further c.catch_up_one.ensures.further)
+
+pub returns-clause-further : goal.returns-clause-further
+returns-clause-further g c =
+    catches_up (core_state c.args.self.now c.args.building.now) (core_state c.loop-index.self c.loop-index.building) c.loop-index.invariant.further
+
+pub returns-clause-all : goal.returns-clause-all
+returns-clause-all g c =
+    let start = core_state c.args.self.now c.args.building.now in
+    let now = core_state c.loop-index.self c.loop-index.building in
+    let all = c.loop-index.invariant.further in
+    let same : all.build ≡ c.in-Some.build.now = same_Some all.build c.in-Some.build.now (sym all.runs ∙ c.in-Some.ensures.build) in
+    none_left start now all (λ k less.
+    c.loop-index.invariant.none k (let there : k < length c.in-Some.build.now.specs = subst (λ (b : BuildState). k < length b.specs) same less in
+    omega (arith, there, c.indexes-index-end.ensures, c.loop-index-test.false)))
+
+pub returns-clause-works : goal.returns-clause-works
+returns-clause-works g c = c.loop-index.invariant.works
+
+pub returns-in_err-catch_up_one-clause-pages : goal.returns-in_err-catch_up_one-clause-pages
+returns-in_err-catch_up_one-clause-pages g c = c.catch_up_one.ensures.pages ∙ c.loop-index.invariant.pages
+
+pub returns-clause-pages : goal.returns-clause-pages
+returns-clause-pages g c = c.loop-index.invariant.pages

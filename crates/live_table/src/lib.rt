@@ -1,0 +1,28 @@
+//! A table with its ready indexes and the build that may run on it: all that a lock has to keep once threads share it.
+//!
+//! [`Parts`] are a heap with the rings for all its builds, and [`Parts::open`] gives them the name of a [`Table`]: [`Live`] is then
+//! the table, and [`Ends`] are the ends of the rings that stand beside it, of which a [`Building`] is made. Each step of a table is one call of `Live`;
+//! what the steps of a build do together is told by `WorksOn` of `specs/Builds.antt`, and what a switch looks at by `specs/Switching.antt`.
+//! [`at_rest`] makes the pairs of a table that nobody writes.
+#![tactic(auto)]
+
+mod changes;
+mod live;
+mod live_builds;
+mod live_part;
+mod live_sides;
+mod live_switch;
+mod live_workers;
+mod live_writes;
+mod parts;
+mod rest;
+
+pub use build_events::Plan;
+pub use build_work::{Building, Ends};
+pub use building::{Table, Worker};
+pub use keybytes::Pair;
+pub use live::Live;
+pub use parts::{INDEXES_MAX, Parts, WORKERS_MAX};
+pub use ready_indexes::{ReadyIndex, ReadyIndexes};
+pub use rest::at_rest;
+pub use side_file::{Entry, Op};

@@ -1,0 +1,204 @@
+//! The steps of a build in which its workers have a part, with both ends of their rings at hand.
+ghost use Rattle.std.specs.Prelude.{◌≡◌, ◌++◌, ◌<◌, ◌≤◌, ◌+◌, All, length, slice_get, false, Some, None, IsSome, IfSome, IfOk, IfErr, OnOk, OnErr, MatchOption, MatchResult};
+ghost use Rattle.side_file.specs.Ends.{PutEnd};
+ghost use Rattle.run_spool.specs.Spools.{NoPageOnlyIf};
+ghost use Rattle.run_maker.specs.Spooling.{MemoryOnlyIf};
+ghost use Rattle.building.specs.WorkerValue.{IsHolding};
+ghost use Rattle.building.specs.declared.copied.Copied.{Copied};
+ghost use Rattle.live_table.specs.Builds.{core_state, cause_of, put_refusal, HasLooked, SeesRing, IsLoading, MayWork, MayLoad, WorksOn};
+ghost use Rattle.live_table.specs.Switching.{HaveAll, IsLowestUnsealed};
+ghost use Rattle.live_table.specs.FullSpools.{WorkerWasFull};
+ghost use Rattle.build_work.specs.Rings.{all_sent, AreSealed, FirstAreSealed, IsUnsealed};
+ghost use Rattle.live_table.specs.Rings.{PagesFollow};
+ghost use Rattle.build_events.specs.BuildSteps.{Waits, Digests, Seals, Loads};
+ghost use Rattle.build_events.specs.Steps.{spoiled_by, IsWorkWant};
+ghost use Rattle.build_events.specs.Workers.{index_at};
+ghost use Rattle.build_events.specs.declared.event.Event.{Event};
+
+use crate::{Building, Live, Table};
+use building::RING_IMAGES;
+use keybytes::Fault;
+use run_spool::Spool;
+
+impl<T: Table> Live<T> {
+    /// How many copies wait for a worker.
+    fn look<S: Spool>(&mut self, worker: usize, building: &mut Building<S, T>) -> usize
+        requires { worker < length building.old.workers }
+        ensures looked { HasLooked self.old building.old self.new building.new }
+        ensures sees { SeesRing worker result self.new building.new }
+        ensures pages { length self.new.pages ≡ 16 }
+        ensures put { PagesFollow self.new.state.heap.schema self.new.state.heap.log self.new.state.builds self.new.state.build (all_sent self.new.pages) }
+    {
+        building.waiting(&mut self.pages, worker)
+    }
+
+    /// The lowest worker of what stands beside the table for which a copy waits in its ring, or whose run is open: it has to seal before
+    /// an index is loaded, and before a switch. Both ends of the workers' rings then know all that there is to know of them. Takes no memory.
+    pub fn unsealed<S: Spool>(&mut self, building: &mut Building<S, T>) -> Option<usize>
+        ensures looked { HasLooked self.old building.old self.new building.new }
+        ensures unsealed { MatchOption result (HaveAll self.new building.new) (IsLowestUnsealed self.new building.new) }
+        ensures begun { All (λ w. length w.maker.begun ≡ length w.maker.specs) building.new.workers }
+        ensures holding { All (λ w. w.fault ≡ None → w.handed ≡ false → IsHolding w.intake w.maker w.spools) building.new.workers }
+        ensures put { PagesFollow self.new.state.heap.schema self.new.state.heap.log self.new.state.builds self.new.state.build (all_sent self.new.pages) }
+        ensures pages { length self.new.pages ≡ 16 }
+    {
+        building.first_unsealed(&mut self.pages)
+    }
+
+    /// Why a page of the range would not be copied for the worker, with both ends of the worker's ring at hand. Takes no memory.
+    pub fn check_scan<S: Spool>(
+        &mut self,
+        range: usize,
+        worker: usize,
+        building: &mut Building<S, T>,
+    ) -> Result<(), Fault>
+        requires { WorksOn self.old building.old }
+        ensures accepted { OnOk result (cause_of self.old building.old (Event.Scan range worker) ≡ None) }
+        ensures refused { IfErr result (λ fault. cause_of self.old building.old (Event.Scan range worker) ≡ Some fault) }
+        ensures state { core_state self.new building.new ≡ core_state self.old building.old }
+        ensures works { WorksOn self.new building.new }
+        ensures room { OnOk result (put_refusal self.new range worker ≡ None) }
+    {
+        let (Some(build), Some(work)) = (self.build(), building.work()) else {
+            return Err(Fault::NoBuild);
+        };
+        if range >= build.ranges() || worker >= build.workers() {
+            return Err(Fault::BadCount);
+        }
+        work.check()?;
+        if build.next_page(range).is_none() {
+            return Err(Fault::RangeDone);
+        }
+        if self.look(worker, building) >= RING_IMAGES {
+            return Err(Fault::RingFull);
+        }
+        Ok(())
+    }
+
+    /// Why the worker would make no pairs. Takes no memory.
+    pub fn check_worker<S: Spool>(
+        &self,
+        worker: usize,
+        building: &Building<S, T>,
+    ) -> Result<(), Fault>
+        requires { WorksOn self.now building.now }
+        ensures seal { MatchResult result
+            (λ _. cause_of self.now building.now (Event.Seal worker) ≡ None)
+            (λ fault. cause_of self.now building.now (Event.Seal worker) ≡ Some fault) }
+        ensures digest { MatchResult result
+            (λ _. cause_of self.now building.now (Event.Digest worker) ≡ None)
+            (λ fault. cause_of self.now building.now (Event.Digest worker) ≡ Some fault) }
+        ensures runs { OnOk result (MayWork self.now building.now worker) }
+    {
+        let (Some(build), Some(work)) = (self.build(), building.work()) else {
+            return Err(Fault::NoBuild);
+        };
+        if worker >= build.workers() {
+            return Err(Fault::BadCount);
+        }
+        work.check()
+    }
+
+    /// Lets the worker take the next copy, if one waits, and answers how many it took. Want of memory or of a page
+    /// spoils the build.
+    pub fn digest<S: Spool>(
+        &mut self,
+        worker: usize,
+        building: &mut Building<S, T>,
+    ) -> Result<usize, Fault>
+        requires works { WorksOn self.old building.old }
+        requires runs { MayWork self.old building.old worker }
+        ensures waits { OnErr result (Waits worker (core_state self.old building.old)) }
+        ensures digested { IfOk result (λ images. Digests worker (core_state self.old building.old) images (core_state self.new building.new)) }
+        ensures spoiled { IfErr result (λ fault. core_state self.new building.new ≡ spoiled_by fault (core_state self.old building.old)) }
+        ensures works { WorksOn self.new building.new }
+        ensures fault { IfErr result IsWorkWant }
+        ensures full { IfErr result (NoPageOnlyIf (WorkerWasFull S.is_full S.stake (core_state self.old building.old) worker)) }
+    {
+        if self.look(worker, building) == 0 {
+            return Ok(0);
+        }
+        building.digest(worker)
+    }
+
+    /// Lets the worker take all copies that wait and close its runs, and answers how many it took. Want of
+    /// memory or of a page spoils the build.
+    pub fn seal<S: Spool>(
+        &mut self,
+        worker: usize,
+        building: &mut Building<S, T>,
+    ) -> Result<usize, Fault>
+        requires works { WorksOn self.old building.old }
+        requires runs { MayWork self.old building.old worker }
+        ensures waits { IfErr result (MemoryOnlyIf (Waits worker (core_state self.old building.old))) }
+        ensures sealed { IfOk result (λ images. Seals worker (core_state self.old building.old) images (core_state self.new building.new)) }
+        ensures spoiled { IfErr result (λ fault. core_state self.new building.new ≡ spoiled_by fault (core_state self.old building.old)) }
+        ensures works { WorksOn self.new building.new }
+        ensures fault { IfErr result IsWorkWant }
+        ensures full { IfErr result (NoPageOnlyIf (WorkerWasFull S.is_full S.stake (core_state self.old building.old) worker)) }
+    {
+        self.look(worker, building);
+        building.seal(worker)
+    }
+
+    /// Why the pairs of the index would not be put in order, with both ends of the rings at hand. Takes no memory.
+    pub fn check_load<S: Spool>(
+        &mut self,
+        index: usize,
+        building: &mut Building<S, T>,
+    ) -> Result<(), Fault>
+        requires { WorksOn self.old building.old }
+        ensures accepted { OnOk result (cause_of self.old building.old (Event.Load index) ≡ None) }
+        ensures refused { IfErr result (λ fault. cause_of self.old building.old (Event.Load index) ≡ Some fault) }
+        ensures state { core_state self.new building.new ≡ core_state self.old building.old }
+        ensures works { WorksOn self.new building.new }
+        ensures runs { OnOk result (MayLoad self.new building.new index) }
+    {
+        let (Some(build), Some(work)) = (self.build(), building.work()) else {
+            return Err(Fault::NoBuild);
+        };
+        if index >= build.indexes() {
+            return Err(Fault::BadCount);
+        }
+        work.check()?;
+        if let Some(range) = build.first_open() {
+            return Err(Fault::NotScanned(range));
+        }
+        match self.unsealed(building) {
+            Some(worker) => Err(Fault::NotSealed(worker)),
+            None => Ok(()),
+        }
+    }
+
+    /// Puts the pairs of the index in order that the workers made, and answers how many there are; 0 where they are in order
+    /// already. Want of memory spoils the build.
+    pub fn load<S: Spool>(
+        &self,
+        index: usize,
+        building: &mut Building<S, T>,
+    ) -> Result<usize, Fault>
+        requires works { WorksOn self.now building.old }
+        requires runs { MayLoad self.now building.old index }
+        ensures first { OnErr result ((index_at (core_state self.now building.old).work.indexes index).loaded ≡ false) }
+        ensures loaded { IfOk result (λ pairs. Loads index (core_state self.now building.old) pairs (core_state self.now building.new)) }
+        ensures spoiled { IfErr result (λ fault. core_state self.now building.new ≡ spoiled_by fault (core_state self.now building.old)) }
+        ensures works { WorksOn self.now building.new }
+        ensures memory { IfErr result (λ fault. fault ≡ Fault.Memory) }
+    {
+        self.hand_over(index, building);
+        building.load(self.alloc, index)
+    }
+
+    /// From the first load on the spools of the workers are with the indexes. Nobody sees a difference.
+    fn hand_over<S: Spool>(&self, index: usize, building: &mut Building<S, T>)
+        requires { MayLoad self.now building.old index }
+        ensures state { core_state self.now building.new ≡ core_state self.now building.old }
+        ensures loads { IsLoading self.now building.new index }
+    {
+        // That there are sixteen rings is known once their fields are reached.
+        let _pages = &self.pages;
+        if !building.is_loading() {
+            building.hand_over();
+        }
+    }
+}
