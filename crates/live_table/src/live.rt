@@ -135,6 +135,7 @@ impl<T: Table> Live<T> {
         let _build = &self.build;
     }
 
+    /// Where the table takes its memory from.
     pub fn allocator(&self) -> Global {
         self.alloc
     }

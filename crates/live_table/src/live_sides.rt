@@ -49,7 +49,7 @@ impl<T: Table> Live<T> {
         building.look_at_side(index, &mut self.sides[index])
     }
 
-    /// The same as [`Live::feed`], with both ends of the ring at hand, so that each free place is known.
+    /// Moves entries into an index's ring as [`Live::feed`], with both ends of the ring at hand, so that each free place is known.
     pub fn feed_beside<S: Spool>(
         &mut self,
         index: usize,

@@ -32,7 +32,7 @@ impl<T: Table> Live<T> {
         Ok(())
     }
 
-    /// The same, answered with the RID that the row would get.
+    /// Why the transaction could not insert the row, as [`Live::check_insert`]; answered with the RID that the row would get.
     pub fn check_place(&self, txn: u64, row: &Row) -> Result<Rid, Fault>
         ensures place { IfOk result (λ rid. insert_place self.now.state.heap (length (row_bytes row.now)) ≡ Some rid) }
         ensures accepted { OnOk result (row_refusal self.now.state txn row.now ≡ None) }
@@ -64,13 +64,8 @@ impl<T: Table> Live<T> {
         self.insert_free(txn, rid, row)
     }
 
-    /// The same of a row that nothing refuses, at the RID that it gets.
-    pub fn insert_free(
-        &mut self,
-        txn: u64,
-        rid: Rid,
-        row: Row,
-    ) -> Result<(usize, Rid), Fault>
+    /// The transaction inserts a row that nothing refuses, as [`Live::insert`], at the RID that it gets ([`Live::check_place`]). [`Fault::Memory`].
+    pub fn insert_free(&mut self, txn: u64, rid: Rid, row: Row) -> Result<(usize, Rid), Fault>
         requires free { row_refusal self.old.state txn row ≡ None }
         requires place { insert_place self.old.state.heap (length (row_bytes row)) ≡ Some rid }
         ensures inserted { Answered (row_refusal self.old.state txn row) (OnRows (Inserts txn row)) self.old.state result self.new.state }
@@ -98,13 +93,8 @@ impl<T: Table> Live<T> {
         self.update_free(txn, rid, row)
     }
 
-    /// The same where nothing refuses the row.
-    pub fn update_free(
-        &mut self,
-        txn: u64,
-        rid: Rid,
-        row: Row,
-    ) -> Result<(usize, Rid), Fault>
+    /// The transaction gives a RID another row, as [`Live::update`], where nothing refuses it ([`Live::check_update`]). [`Fault::Memory`].
+    pub fn update_free(&mut self, txn: u64, rid: Rid, row: Row) -> Result<(usize, Rid), Fault>
         requires { change_refusal self.old.state txn rid row ≡ None }
         ensures updated { Answered (change_refusal self.old.state txn rid row) (OnRows (Updates txn rid row)) self.old.state result self.new.state }
         ensures works { (building : BuildingValue) → WorksOn self.old building → WorksOn self.new building }
