@@ -5,7 +5,7 @@ ghost use Rattle.build_events.specs.Steps.{AnswersBy};
 ghost use Rattle.build_events.specs.Verdicts.{HaveSharedKeys};
 ghost use Rattle.build_events.specs.declared.event.Event.{Event};
 ghost use Rattle.build_events.specs.declared.reply.Reply.{Reply};
-ghost use Rattle.live_table.specs.FullSpools.{NoPageOnlyIfFull};
+ghost use Rattle.build_halves.specs.FullSpools.{NoPageOnlyIfFull};
 
 use crate::{Core, Plan, Table};
 use heap_log::Verdicts;

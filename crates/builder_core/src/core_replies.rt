@@ -1,7 +1,7 @@
 //! The calls of a core, answered by replies.
 ghost use Rattle.std.specs.Prelude.{IfErr};
 ghost use Rattle.build_events.specs.Steps.{Answers};
-ghost use Rattle.live_table.specs.FullSpools.{NoPageOnlyIfFull};
+ghost use Rattle.build_halves.specs.FullSpools.{NoPageOnlyIfFull};
 
 use crate::{Core, Event, Plan, Reply, Table};
 use heap_table::Undone;

@@ -12,7 +12,7 @@ ghost use Rattle.heap_log.specs.declared.outcome.Outcome.{Outcome};
 ghost use Rattle.build_events.specs.BuildSteps.{OnBuild};
 ghost use Rattle.build_events.specs.Steps.{Step, HasPageCause, Answers};
 ghost use Rattle.build_events.specs.Verdicts.{HaveSharedKeys};
-ghost use Rattle.live_table.specs.FullSpools.{IfSpooling, NoPageOnlyIfFull, WantedPage};
+ghost use Rattle.build_halves.specs.FullSpools.{IfSpooling, NoPageOnlyIfFull, WantedPage};
 ghost use Rattle.build_work.specs.Holding.{spools_in};
 ghost use Rattle.build_events.specs.Soundness.{BuildIsSound};
 
@@ -35,7 +35,7 @@ pub struct Core<S: Spool, T: Table> {
 
 impl<S: Spool, T: Table> Model for Core<S, T> {
     ghost use Rattle.build_events.specs.CoreState.{CoreState};
-    ghost use Rattle.live_table.specs.Builds.{core_state, WorksOn};
+    ghost use Rattle.build_halves.specs.Builds.{core_state, WorksOn};
 
     ghost Value = { CoreState };
 

@@ -2,7 +2,7 @@ ghost use Rattle.std.specs.Prelude.{◌≡◌, All, map, IfOk, IfErr, OnErr};
 ghost use Rattle.build_events.specs.CoreState.{ReadyFollowTable};
 ghost use Rattle.build_events.specs.Headline.{RunsAsAtRest};
 ghost use Rattle.build_work.specs.Holding.{spools_in};
-ghost use Rattle.live_table.specs.FullSpools.{WantedPage};
+ghost use Rattle.build_halves.specs.FullSpools.{WantedPage};
 
 use crate::{Core, Ends, Event, Live, Reply, Table};
 use build_work::end_spools;

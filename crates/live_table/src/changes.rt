@@ -3,7 +3,7 @@ ghost use Rattle.std.specs.Prelude.{◌≡◌, length, Some, None, ℕ, IsSome, 
 ghost use Rattle.heap_log.specs.Standing.{standing_count};
 ghost use Rattle.heap_table.specs.HeapState.{after_write, after_undo};
 ghost use Rattle.heap_table.specs.Ready.{IsReady, after_ready, answer_of};
-ghost use Rattle.live_table.specs.Changing.{BuildHears, HasHeard};
+ghost use Rattle.build_halves.specs.Changing.{BuildHears, HasHeard};
 ghost use Rattle.ready_indexes.specs.Following.{AllFollow, AreLetIn, indexes_of};
 ghost use Rattle.ready_indexes.specs.Indexes.{ready_now};
 

@@ -8,10 +8,10 @@ ghost use Rattle.heap_table.specs.Sound.{HoldsFollowLog};
 ghost use Rattle.heap_table.specs.TablePairs.{pairs_at_rest};
 ghost use Rattle.keybytes.specs.Pairs.{HaveKeysOf, AreInColumnOrder};
 ghost use Rattle.build_scan.specs.TableBuilds.{BuildFollows};
-ghost use Rattle.live_table.specs.Builds.{value_with_heap};
+ghost use Rattle.build_halves.specs.Builds.{value_with_heap};
 ghost use Rattle.build_work.specs.Rings.{all_sent, AreOfBuilds};
-ghost use Rattle.live_table.specs.Rings.{ArePutEnds};
-ghost use Rattle.live_table.specs.Invariant.{EachPageOnce};
+ghost use Rattle.build_halves.specs.Rings.{ArePutEnds};
+ghost use Rattle.build_halves.specs.Invariant.{EachPageOnce};
 ghost use Rattle.build_events.specs.Soundness.{BuildIsSound};
 ghost use Rattle.std.specs.VecDeque.Iter.{deque_iter_rest};
 ghost use Rattle.build_scan.specs.SideFiles.{AreEntriesLeft, EachEntryOnce, EntriesAreOfBuilds, HaveEntryKeys, NoneAhead, side_refusal, put_ends};
@@ -62,10 +62,10 @@ impl<T: Table> Drop for Live<T> {
 
 impl<T: Table> Model for Live<T> {
     ghost use Rattle.ready_indexes.specs.Following.{AllFollow, indexes_of};
-    ghost use Rattle.live_table.specs.Builds.{LiveValue};
+    ghost use Rattle.build_halves.specs.Builds.{LiveValue};
     ghost use Rattle.build_scan.specs.TableBuilds.{BuildFollows};
     ghost use Rattle.build_work.specs.Rings.{all_sent, AreOfBuilds};
-    ghost use Rattle.live_table.specs.Rings.{ArePutEnds, PagesFollow};
+    ghost use Rattle.build_halves.specs.Rings.{ArePutEnds, PagesFollow};
     ghost use Rattle.build_scan.specs.SideFiles.{EntriesAreOfBuilds, SidesFollow, put_ends};
 
     ghost Value = { LiveValue };

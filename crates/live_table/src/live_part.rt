@@ -1,10 +1,10 @@
 //! Whether what stands beside a table is of the build that runs on it.
 ghost use Rattle.std.specs.Prelude.{◌≡◌, ◌<◌, ◌↔◌, All, IsTrue, length, true, false, None, Some, IfErr, IfSome, OnOk, MatchResult};
 ghost use Rattle.build_events.specs.BuildSteps.{OnBuild};
-ghost use Rattle.live_table.specs.Builds.{core_state, SideIsLooked, SeesSideAt, WorksOn};
-ghost use Rattle.live_table.specs.Putting.{PutsNoCopy};
-ghost use Rattle.live_table.specs.Switching.{IsFedAt, IsLoadedWhole, IsOfBuild, IsPartOf, IsScannedWhole, SidesAreLooked};
-ghost use Rattle.live_table.specs.Switching.{early_cause, HaveAll, RefusesSwitch};
+ghost use Rattle.build_halves.specs.Builds.{core_state, SideIsLooked, SeesSideAt, WorksOn};
+ghost use Rattle.build_halves.specs.Putting.{PutsNoCopy};
+ghost use Rattle.build_halves.specs.Switching.{IsFedAt, IsLoadedWhole, IsOfBuild, IsPartOf, IsScannedWhole, SidesAreLooked};
+ghost use Rattle.build_halves.specs.Switching.{early_cause, HaveAll, RefusesSwitch};
 
 use crate::{Building, Live, Table};
 use keybytes::{Fault, KeySpec, Schema};

@@ -1,7 +1,7 @@
 //! The side-files of a build, one for each index: their entries go into their rings, and from there to the indexes.
 ghost use Rattle.std.specs.Prelude.{◌≡◌, ◌<◌, None, Some, slice_get, IfSome, IfOk, IfErr, OnOk, OnErr};
 ghost use Rattle.build_work.specs.BuildingValue.{BuildingValue};
-ghost use Rattle.live_table.specs.Builds.{core_state, cause_of, WorksOn, SideIsLooked, SeesSideAt, HasFed};
+ghost use Rattle.build_halves.specs.Builds.{core_state, cause_of, WorksOn, SideIsLooked, SeesSideAt, HasFed};
 ghost use Rattle.build_scan.specs.TableBuilds.{BuildFollows};
 ghost use Rattle.build_scan.specs.SideFiles.{AreFedEntries, side_refusal};
 ghost use Rattle.build_events.specs.BuildSteps.{Feeds, Applies, AppliesSome};

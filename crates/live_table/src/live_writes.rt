@@ -5,8 +5,8 @@ ghost use Rattle.keybytes.specs.Rows.{row_bytes};
 ghost use Rattle.heap_table.specs.Calls.{Begins, Inserts, Updates, Deletes, Undoes, Commits};
 ghost use Rattle.heap_table.specs.HeapState.{begin_refusal, insert_place, txn_refusal, delete_refusal, undo_refusal};
 ghost use Rattle.build_work.specs.BuildingValue.{BuildingValue};
-ghost use Rattle.live_table.specs.Builds.{WorksOn};
-ghost use Rattle.live_table.specs.Putting.{KeepsRings};
+ghost use Rattle.build_halves.specs.Builds.{WorksOn};
+ghost use Rattle.build_halves.specs.Putting.{KeepsRings};
 ghost use Rattle.build_events.specs.Steps.{row_refusal, change_refusal, OnHeap, OnRows};
 
 use crate::{Live, Table, changes};

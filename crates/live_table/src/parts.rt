@@ -42,7 +42,7 @@ impl Drop for Parts {
 }
 
 impl Model for Parts {
-    ghost use Rattle.live_table.specs.Builds.{PartsValue};
+    ghost use Rattle.build_halves.specs.Builds.{PartsValue};
 
     ghost Value = { PartsValue };
 
@@ -50,7 +50,7 @@ impl Model for Parts {
     ghost use Rattle.building.specs.TakeEnd.{take_end};
     ghost use Rattle.build_scan.specs.SideFiles.{put_ends, side_rings};
     ghost use Rattle.build_work.specs.Rings.{put_rings, all_sent, AreTakeEnds, AreOfBuilds};
-    ghost use Rattle.live_table.specs.Rings.{ArePutEnds};
+    ghost use Rattle.build_halves.specs.Rings.{ArePutEnds};
 
     ghost view = { λ parts. record {
       heap = parts.heap.state;

@@ -6,7 +6,7 @@ use Rattle.build_work.specs.Holding.{spools_in}
 use Rattle.build_events.specs.Steps.{Run}
 use Rattle.build_events.proofs.Runs.{run_more}
 use Rattle.build_events.proofs.Switching.{each_switch, run_stakes}
-use Rattle.live_table.specs.FullSpools.{WantedPage}
+use Rattle.build_halves.specs.FullSpools.{WantedPage}
 use Rattle.builder_core.proofs.run.run_events.Goals as goal
 
 pub loop-event-preserved : goal.loop-event-preserved

@@ -3,7 +3,7 @@ use Rattle.std.specs.Vec.{vec_capacity}
 use Rattle.build_events.specs.CoreState.{opening}
 use Rattle.build_work.specs.Holding.{spools_in}
 use Rattle.build_events.specs.Steps.{Run}
-use Rattle.live_table.specs.FullSpools.{WantedPage}
+use Rattle.build_halves.specs.FullSpools.{WantedPage}
 use Rattle.builder_core.proofs.run.run_events.Given as goal
 
 abbrev pub invariant-loop-event : goal.invariant-loop-event

@@ -4,11 +4,11 @@ use Rattle.heap_table.specs.Pages.{SetsRow}
 use Rattle.side_file.specs.SideFileValue.{SideFileValue}
 use Rattle.build_scan.specs.TableBuilds.{BuildFollows}
 use Rattle.build_work.specs.WorkOn.{IsWorkOf}
-use Rattle.live_table.specs.Rings.{PagesFollow}
+use Rattle.build_halves.specs.Rings.{PagesFollow}
 use Rattle.build_scan.specs.SideFiles.{SidesFollow}
 use Rattle.build_scan.proofs.Places.{as_long}
 use Rattle.build_scan.proofs.Performed.{schema_is, follows_on, sides_follow_on, fits_build, few_specs}
-use Rattle.live_table.proofs.Performed.{fits_each, pages_on, works_on}
+use Rattle.build_halves.proofs.Performed.{fits_each, pages_on, works_on}
 use Rattle.build_scan.proofs.SideKept.{sides_stay}
 use Rattle.live_table.proofs.changes.perform.Goals as goal
 

@@ -1,5 +1,5 @@
 use Rattle.std.proofs.Common.{◌∙◌, ap}
-use Rattle.live_table.specs.Builds.{LiveValue, core_state}
+use Rattle.build_halves.specs.Builds.{LiveValue, core_state}
 use Rattle.build_events.specs.CoreState.{abandoned, opening}
 use Rattle.build_work.proofs.LeftBeside.{spools_handed}
 use Rattle.builder_core.proofs.core_steps.Core.new.Goals as goal

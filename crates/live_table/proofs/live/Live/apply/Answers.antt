@@ -1,7 +1,7 @@
-use Rattle.live_table.specs.Builds.{LiveValue, core_state}
+use Rattle.build_halves.specs.Builds.{LiveValue, core_state}
 use Rattle.build_work.specs.BuildingValue.{BuildingValue}
-use Rattle.live_table.proofs.ApplyCauses.{applies_next, can_apply_next, applies_all, applies_some, works_after_apply}
-use Rattle.live_table.proofs.Feeding.{state_side_looked}
+use Rattle.build_halves.proofs.ApplyCauses.{applies_next, can_apply_next, applies_all, applies_some, works_after_apply}
+use Rattle.build_halves.proofs.Feeding.{state_side_looked}
 use Rattle.live_table.proofs.live.Live.apply.Goals as goal
 
 pub apply-requires : goal.apply-requires

@@ -1,11 +1,11 @@
 use Rattle.std.proofs.Common.{◌≡◌, List, sym, ap, ◌∙◌, subst}
 use Rattle.side_file.specs.SideFileValue.{SideFileValue}
-use Rattle.live_table.specs.Builds.{LiveValue}
+use Rattle.build_halves.specs.Builds.{LiveValue}
 use Rattle.build_scan.specs.SideFiles.{SidesFollow, put_ends, side_rings, taken_rings}
 use Rattle.build_scan.specs.TableBuilds.{BuildFollows}
 use Rattle.build_work.specs.BuildingValue.{BuildingValue}
-use Rattle.live_table.proofs.PartOf.{then_waits, else_waits}
-use Rattle.live_table.proofs.SideEnds.{eight_sides}
+use Rattle.build_halves.proofs.PartOf.{then_waits, else_waits}
+use Rattle.build_halves.proofs.SideEnds.{eight_sides}
 use Rattle.live_table.proofs.live.Live.are_waiting.Goals as goal
 
 pub returns-then-applied-fed : goal.returns-then-applied-fed

@@ -1,9 +1,9 @@
 use Rattle.std.proofs.Common.{subst}
 use Rattle.std.specs.Prelude.{IfSome}
-use Rattle.live_table.specs.Builds.{LiveValue}
+use Rattle.build_halves.specs.Builds.{LiveValue}
 use Rattle.build_scan.specs.SideFiles.{NoneAhead}
 use Rattle.build_scan.proofs.Performed.{few_specs}
-use Rattle.live_table.proofs.SideEnds.{eight_sides}
+use Rattle.build_halves.proofs.SideEnds.{eight_sides}
 use Rattle.build_scan.proofs.SideKept.{none_ahead}
 use Rattle.live_table.proofs.live.Live.build.Goals as goal
 

@@ -1,11 +1,11 @@
 use Rattle.std.proofs.Common.{◌≡◌, ◌<◌, ◌∙◌, length, refl, sym, subst, arith, inl, inr}
 use Rattle.std.proofs.lemmas.Bool.{cases_lt}
 use Rattle.std.proofs.lemmas.Option.{same_Some}
-use Rattle.live_table.specs.Builds.{core_state}
+use Rattle.build_halves.specs.Builds.{core_state}
 use Rattle.build_scan.specs.TableBuilds.{BuildFollows}
-use Rattle.live_table.specs.CatchingUp.{left_at}
+use Rattle.build_halves.specs.CatchingUp.{left_at}
 use Rattle.build_events.specs.CoreState.{BuildState}
-use Rattle.live_table.proofs.CatchingUp.{begins, catches_up, all_further, others_left, may_apply_at, none_left}
+use Rattle.build_halves.proofs.CatchingUp.{begins, catches_up, all_further, others_left, may_apply_at, none_left}
 use Rattle.live_table.proofs.live.Live.catch_up.Goals as goal
 
 pub loop-index-init : goal.loop-index-init

@@ -1,7 +1,7 @@
 use Rattle.std.proofs.Common.{◌≡◌, ◌<◌, ℕ}
-use Rattle.live_table.specs.Builds.{core_state, WorksOn}
-use Rattle.live_table.specs.CatchingUp.{left_at}
-use Rattle.live_table.proofs.CatchingUp.{AllAreFurther}
+use Rattle.build_halves.specs.Builds.{core_state, WorksOn}
+use Rattle.build_halves.specs.CatchingUp.{left_at}
+use Rattle.build_halves.proofs.CatchingUp.{AllAreFurther}
 use Rattle.live_table.proofs.live.Live.catch_up.Given as goal
 
 abbrev pub invariant-loop-index : goal.invariant-loop-index

@@ -1,6 +1,6 @@
 use Rattle.std.proofs.Common.{◌≡◌}
-use Rattle.live_table.specs.Builds.{core_state, WorksOn}
-use Rattle.live_table.specs.CatchingUp.{IndexIsFurther, left_at}
+use Rattle.build_halves.specs.Builds.{core_state, WorksOn}
+use Rattle.build_halves.specs.CatchingUp.{IndexIsFurther, left_at}
 use Rattle.live_table.proofs.live.Live.catch_up_one.Given as goal
 
 abbrev pub invariant-loop-self : goal.invariant-loop-self

@@ -1,7 +1,7 @@
 use Rattle.std.proofs.Common.{rules, ◌≡◌, None}
 use Rattle.build_events.specs.CoreState.{BuildState}
 use Rattle.build_events.specs.Ranges.{open_range}
-use Rattle.live_table.proofs.EarlyCauses.{no_cause, not_loaded}
+use Rattle.build_halves.proofs.EarlyCauses.{no_cause, not_loaded}
 use Rattle.live_table.proofs.live.Live.check_early.Goals as goal
 
 pub returns-in-Some-first_unloaded-clause-cause : goal.returns-in-Some-first_unloaded-clause-cause

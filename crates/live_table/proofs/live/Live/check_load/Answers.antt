@@ -1,14 +1,14 @@
 use Rattle.std.proofs.Common.{rules, ◌≡◌, ◌<◌, None, Some, ℕ, length, ap, subst, arith}
 use Rattle.keybytes.specs.declared.fault.Fault.TheVariants.{NotSealed}
-use Rattle.live_table.specs.Builds.{LiveValue}
+use Rattle.build_halves.specs.Builds.{LiveValue}
 use Rattle.build_work.specs.BuildingValue.{BuildingValue, WorkValue}
 use Rattle.build_events.specs.CoreState.{BuildState, CoreState}
 use Rattle.build_events.specs.Ranges.{open_range}
 use Rattle.build_events.specs.BuildSteps.{build_cause, load_refusal}
-use Rattle.live_table.proofs.LoadCauses.{all_holding, load_free, load_unsealed, open_runs}
-use Rattle.live_table.proofs.Looked.{works_looked, state_looked, runs_looked}
-use Rattle.live_table.proofs.Refusals.{running}
-use Rattle.live_table.proofs.Takes.{put_of}
+use Rattle.build_halves.proofs.LoadCauses.{all_holding, load_free, load_unsealed, open_runs}
+use Rattle.build_halves.proofs.Looked.{works_looked, state_looked, runs_looked}
+use Rattle.build_halves.proofs.Refusals.{running}
+use Rattle.build_halves.proofs.Takes.{put_of}
 use Rattle.live_table.proofs.live.Live.check_load.Goals as goal
 
 pub returns-in-Some-unsealed-clause-refused : goal.returns-in-Some-unsealed-clause-refused

@@ -1,12 +1,12 @@
 use Rattle.std.proofs.Common.{◌≡◌, ◌∙◌, true, ap, sym, arith}
 use Rattle.std.specs.Prelude.{is_some}
-use Rattle.live_table.specs.Builds.{LiveValue, IsRunning}
+use Rattle.build_halves.specs.Builds.{LiveValue, IsRunning}
 use Rattle.build_work.specs.BuildingValue.{WorkValue}
 use Rattle.build_events.specs.CoreState.{BuildState}
 use Rattle.build_events.specs.Ranges.{next_page}
-use Rattle.live_table.proofs.Refusals.{running}
-use Rattle.live_table.proofs.ScanCauses.{ring_full, has_place}
-use Rattle.live_table.proofs.Looked.{works_looked, state_looked}
+use Rattle.build_halves.proofs.Refusals.{running}
+use Rattle.build_halves.proofs.ScanCauses.{ring_full, has_place}
+use Rattle.build_halves.proofs.Looked.{works_looked, state_looked}
 use Rattle.live_table.proofs.live.Live.check_scan.Goals as goal
 
 pub returns-then-look-ge-RING_IMAGES-clause-refused : goal.returns-then-look-ge-RING_IMAGES-clause-refused

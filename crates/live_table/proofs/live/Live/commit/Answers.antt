@@ -3,9 +3,9 @@ use Rattle.heap_table.specs.HeapState.{HeapState}
 use Rattle.heap_table.specs.HeapValue.{HeapValue}
 use Rattle.heap_log.specs.declared.record.LogRec.TheVariants.{Commit}
 use Rattle.ready_indexes.specs.Following.{AllFollow, GoesOn}
-use Rattle.live_table.specs.Builds.{LiveValue, WorksOn}
+use Rattle.build_halves.specs.Builds.{LiveValue, WorksOn}
 use Rattle.build_work.specs.Rings.{all_sent}
-use Rattle.live_table.proofs.Following.{committed, commit_pages, commit_workers, commit_works, refused_same}
+use Rattle.build_halves.proofs.Following.{committed, commit_pages, commit_workers, commit_works, refused_same}
 use Rattle.build_scan.proofs.TableBuilds.{commit_follows}
 use Rattle.build_scan.proofs.SideKept.{commit_sides}
 use Rattle.live_table.proofs.live.Live.commit.Goals as goal

@@ -4,9 +4,9 @@ use Rattle.build_events.specs.BuildSteps.{Loads}
 use Rattle.build_events.specs.CoreState.{CoreState}
 use Rattle.build_events.specs.Steps.{spoiled_by}
 use Rattle.build_events.specs.Workers.{index_at}
-use Rattle.live_table.specs.Builds.{LiveValue, core_state}
-use Rattle.live_table.proofs.Loaded.{put_inside, can_load, works_after_load, loads_after, wanted_first}
-use Rattle.live_table.proofs.Takes.{spoiled_after}
+use Rattle.build_halves.specs.Builds.{LiveValue, core_state}
+use Rattle.build_halves.proofs.Loaded.{put_inside, can_load, works_after_load, loads_after, wanted_first}
+use Rattle.build_halves.proofs.Takes.{spoiled_after}
 use Rattle.live_table.proofs.live.Live.load.Goals as goal
 
 pub load-requires : goal.load-requires

@@ -9,12 +9,12 @@ use Rattle.heap_table.specs.Pages.{pages_written}
 use Rattle.side_file.specs.Ends.{PutEnd}
 use Rattle.building.specs.TakeEnd.{PutEndLooked}
 use Rattle.building.specs.declared.copied.Copied.{Copied}
-use Rattle.live_table.specs.Builds.{LiveValue, WorksOn, full_refusal, put_refusal}
+use Rattle.build_halves.specs.Builds.{LiveValue, WorksOn, full_refusal, put_refusal}
 use Rattle.build_work.specs.WorkOn.{IsWorkOf, WorkersFollow}
 use Rattle.build_scan.specs.TableBuilds.{BuildFollows, IsBuildOf}
 use Rattle.build_events.specs.CoreState.{BuildState, LiveState}
 use Rattle.build_work.specs.Rings.{all_sent, AreOfBuilds}
-use Rattle.live_table.specs.Rings.{HasPut, PagesFollow}
+use Rattle.build_halves.specs.Rings.{HasPut, PagesFollow}
 use Rattle.build_events.specs.Ranges.{next_page}
 use Rattle.build_scan.specs.SideFiles.{HaveEntries, SidesFollow, put_ends}
 use Rattle.build_events.specs.BuildSteps.{OnBuild}
@@ -22,9 +22,9 @@ use Rattle.build_scan.proofs.LookedEnds.{all_unlooked, one_looked}
 use Rattle.build_scan.proofs.Places.{here_set, map_at}
 use Rattle.build_scan.proofs.SideKept.{sides_next}
 use Rattle.build_scan.proofs.TableBuilds.{scanned_next}
-use Rattle.live_table.proofs.TableBuilds.{work_of_next}
-use Rattle.live_table.proofs.OneRing.{put_ends_set, sent_looked, sent_put, workers_looked, workers_put, builds_put, put_next, written_twice, full_at}
-use Rattle.live_table.proofs.OneRing.{put_full, next_below, worker_below}
+use Rattle.build_halves.proofs.TableBuilds.{work_of_next}
+use Rattle.build_halves.proofs.OneRing.{put_ends_set, sent_looked, sent_put, workers_looked, workers_put, builds_put, put_next, written_twice, full_at}
+use Rattle.build_halves.proofs.OneRing.{put_full, next_below, worker_below}
 use Rattle.ready_indexes.specs.Following.{AllFollow}
 use Rattle.build_events.proofs.NextPages.{no_page}
 use Rattle.live_table.proofs.live.Live.scan_step.Goals as goal

@@ -6,20 +6,20 @@ use Rattle.side_file.specs.Ends.{PutEnd}
 use Rattle.run_spool.specs.Spools.{NoPageOnlyIf}
 use Rattle.run_maker.specs.Spooling.{MemoryOnlyIf}
 use Rattle.building.specs.declared.copied.Copied.{Copied}
-use Rattle.live_table.specs.Builds.{LiveValue, core_state}
+use Rattle.build_halves.specs.Builds.{LiveValue, core_state}
 use Rattle.build_work.specs.BuildingValue.{BuildingValue}
 use Rattle.build_events.specs.CoreState.{CoreState}
 use Rattle.build_work.specs.FullSpools.{HadFull}
-use Rattle.live_table.specs.FullSpools.{WorkerWasFull}
+use Rattle.build_halves.specs.FullSpools.{WorkerWasFull}
 use Rattle.building.specs.WorkerValue.{SeesCopy, WorkerValue}
 use Rattle.build_events.specs.BuildSteps.{Seals, Waits}
 use Rattle.build_events.specs.Steps.{spoiled_by}
-use Rattle.live_table.proofs.FullSpools.{full_in_build}
-use Rattle.live_table.proofs.Looked.{state_looked, runs_looked}
+use Rattle.build_halves.proofs.FullSpools.{full_in_build}
+use Rattle.build_halves.proofs.Looked.{state_looked, runs_looked}
 use Rattle.build_scan.proofs.Places.{below, map_at}
-use Rattle.live_table.proofs.Sealed.{works_after_seal, seals_after}
-use Rattle.live_table.proofs.Taken.{waits_some}
-use Rattle.live_table.proofs.Takes.{put_of, spoiled_after}
+use Rattle.build_halves.proofs.Sealed.{works_after_seal, seals_after}
+use Rattle.build_halves.proofs.Taken.{waits_some}
+use Rattle.build_halves.proofs.Takes.{put_of, spoiled_after}
 use Rattle.live_table.proofs.live.Live.seal.Goals as goal
 
 pub seal-requires-clause-there : goal.seal-requires-clause-there

@@ -1,10 +1,10 @@
 use Rattle.std.proofs.Common.{◌≡◌, None, List, ap, sym, ◌∙◌, subst}
 use Rattle.std.specs.VecDeque.Iter.{deque_iter_rest}
 use Rattle.side_file.specs.declared.entry.Entry.{Entry}
-use Rattle.live_table.specs.Builds.{LiveValue}
+use Rattle.build_halves.specs.Builds.{LiveValue}
 use Rattle.build_scan.specs.SideFiles.{AreEntriesLeft, HaveEntryKeys, side_refusal}
 use Rattle.build_scan.proofs.Performed.{few_specs}
-use Rattle.live_table.proofs.SideEnds.{eight_sides}
+use Rattle.build_halves.proofs.SideEnds.{eight_sides}
 use Rattle.build_scan.proofs.SideEnds.{side_there}
 use Rattle.build_scan.proofs.SideKept.{entries_left, keys_left}
 use Rattle.live_table.proofs.live.Live.side.Goals as goal

@@ -7,7 +7,7 @@ use Rattle.keybytes.specs.declared.kind.Kind.{Kind}
 use Rattle.heap_table.specs.Pages.{pages_written}
 use Rattle.scan_range.specs.Cuts.{CutsValue}
 use Rattle.building.specs.TakeEnd.{PutEndLooked, TakeEnd}
-use Rattle.live_table.specs.Builds.{LiveValue}
+use Rattle.build_halves.specs.Builds.{LiveValue}
 use Rattle.build_work.specs.BuildingValue.{BuildingValue, WorkValue, work_state, fresh}
 use Rattle.build_scan.specs.TableBuilds.{build_over}
 use Rattle.scan_range.specs.Dealings.{dealing_refusal, dealt_ends}
@@ -24,15 +24,15 @@ use Rattle.build_scan.specs.SideFiles.{put_ends}
 use Rattle.build_work.proofs.LeftBeside.{at_home}
 use Rattle.build_work.proofs.Beginning.{all_first, all_fresh, as_many_fit, fresh_makers, left_empty, left_for, left_many, their_makers}
 use Rattle.build_events.specs.BuildSteps.{started, fresh_work}
-use Rattle.live_table.proofs.Puts.{pages_started, builds_more}
+use Rattle.build_halves.proofs.Puts.{pages_started, builds_more}
 use Rattle.build_scan.proofs.OwnEntries.{sent_looked, sent_more}
 use Rattle.build_scan.proofs.SideKept.{sides_opened}
-use Rattle.live_table.proofs.Started.{build_on, build_is_on, started_follows, put_ends_started, started_works}
+use Rattle.build_halves.proofs.Started.{build_on, build_is_on, started_follows, put_ends_started, started_works}
 use Rattle.side_file.specs.Ends.{PutEnd}
 use Rattle.side_file.specs.declared.entry.Entry.{Entry}
 use Rattle.catch_up.specs.Built.{told_to}
-use Rattle.live_table.proofs.Unused.{unused_ends}
-use Rattle.live_table.proofs.Starts.{has_counts, fresh_is}
+use Rattle.build_halves.proofs.Unused.{unused_ends}
+use Rattle.build_halves.proofs.Starts.{has_counts, fresh_is}
 use Rattle.live_table.proofs.live.Live.start.Goals as goal
 
 abbrev opened : ℕ → List KeySpecValue → ℕ → ℕ → CutsValue → BuildState

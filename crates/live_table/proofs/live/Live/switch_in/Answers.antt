@@ -1,8 +1,8 @@
 use Rattle.std.proofs.Common.{◌≡◌, ◌∙◌, length, ap, sym, subst}
 use Rattle.std.proofs.lemmas.Result.{err_from_is_err_and}
 use Rattle.build_scan.specs.TableBuilds.{BuildFollows}
-use Rattle.live_table.specs.Builds.{LiveValue}
-use Rattle.live_table.proofs.OwnSwitch.{own_refused}
+use Rattle.build_halves.specs.Builds.{LiveValue}
+use Rattle.build_halves.proofs.OwnSwitch.{own_refused}
 use Rattle.live_table.proofs.live.Live.switch_in.Goals as goal
 
 pub returns-in_err-take_in-clause-own : goal.returns-in_err-take_in-clause-own

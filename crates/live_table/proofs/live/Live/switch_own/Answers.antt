@@ -10,9 +10,9 @@ use Rattle.heap_table.specs.Pages.{KeepsRows}
 use Rattle.heap_table.specs.Kept.{RowsFit}
 use Rattle.heap_table.specs.Sound.{HoldsFollowLog}
 use Rattle.std.specs.Option.{IfSome}
-use Rattle.live_table.specs.Builds.{LiveValue, IsRunning, core_state}
+use Rattle.build_halves.specs.Builds.{LiveValue, IsRunning, core_state}
 use Rattle.build_work.specs.BuildingValue.{BuildingValue, WorkValue, IndexValue, work_state}
-use Rattle.live_table.specs.CatchingUp.{IsDoneIndex, ready_of}
+use Rattle.build_halves.specs.CatchingUp.{IsDoneIndex, ready_of}
 use Rattle.build_work.specs.Verdicts.{its_verdict}
 use Rattle.ready_indexes.specs.Following.{AllFollow, GoesOn, MayFollow, indexes_of}
 use Rattle.build_events.specs.CoreState.{BuildState, CoreState}
@@ -21,9 +21,9 @@ use Rattle.build_work.specs.Holding.{all_spools, spools_state}
 use Rattle.build_events.specs.BuildSteps.{Switches, verdicts_on}
 use Rattle.build_events.specs.Verdicts.{outcomes}
 use Rattle.build_work.proofs.OneWorker.{ended_stakes}
-use Rattle.live_table.proofs.Refusals.{running_inside}
-use Rattle.live_table.proofs.SwitchIn.{all_done, all_keyed, all_may, all_verdicts, switches, switched_from}
-use Rattle.live_table.proofs.Unloaded.{may_catch_up, may_after, no_busy_cause}
+use Rattle.build_halves.proofs.Refusals.{running_inside}
+use Rattle.build_halves.proofs.SwitchIn.{all_done, all_keyed, all_may, all_verdicts, switches, switched_from}
+use Rattle.build_halves.proofs.Unloaded.{may_catch_up, may_after, no_busy_cause}
 use Rattle.live_table.proofs.live.Live.switch_own.Goals as goal
 
 -- the indexes of the work that was ended

@@ -1,7 +1,7 @@
 use Rattle.std.proofs.lemmas.Result.{err_from_is_err_and}
-use Rattle.live_table.proofs.OnlyLooked.{none_by_rings, none_by_sides}
-use Rattle.live_table.proofs.PartOf.{works_sides_looked}
-use Rattle.live_table.proofs.TakenIn.{part_rings_looked, refused_early, refused_left, state_taken, was_taken, works_taken}
+use Rattle.build_halves.proofs.OnlyLooked.{none_by_rings, none_by_sides}
+use Rattle.build_halves.proofs.PartOf.{works_sides_looked}
+use Rattle.build_halves.proofs.TakenIn.{part_rings_looked, refused_early, refused_left, state_taken, was_taken, works_taken}
 use Rattle.live_table.proofs.live.Live.take_in.Goals as goal
 
 pub returns-then-not-is_part-clause-kept : goal.returns-then-not-is_part-clause-kept

@@ -1,11 +1,11 @@
 use Rattle.std.proofs.Common.{◌≡◌, ◌+◌, ◌-◌, List, length, sym, ap, ◌∙◌, subst, arith}
 use Rattle.side_file.specs.SideFileValue.{SideFileValue}
-use Rattle.live_table.specs.Builds.{LiveValue}
+use Rattle.build_halves.specs.Builds.{LiveValue}
 use Rattle.build_work.specs.BuildingValue.{BuildingValue}
 use Rattle.build_scan.specs.TableBuilds.{BuildFollows}
 use Rattle.build_scan.specs.SideFiles.{SidesFollow}
-use Rattle.live_table.proofs.LeftOver.{left_known}
-use Rattle.live_table.proofs.SideEnds.{eight_sides}
+use Rattle.build_halves.proofs.LeftOver.{left_known}
+use Rattle.build_halves.proofs.SideEnds.{eight_sides}
 use Rattle.live_table.proofs.live.Live.unapplied_of.Goals as goal
 
 pub overflow_sub-result : goal.overflow_sub-result

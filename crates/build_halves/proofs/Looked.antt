@@ -1,0 +1,66 @@
+-- A table and what stands beside it, where their rings were looked at.
+use Rattle.std.proofs.Common.{◌≡◌, List, ◌++◌, Option, Some, None, sym, ap, ◌∙◌, subst}
+use Rattle.building.specs.SpoolValue.{SpoolValue}
+use Rattle.build_halves.specs.Builds.{LiveValue, HasLooked, IsRunning, WorksOn, core_state}
+use Rattle.build_work.specs.BuildingValue.{BuildingValue, WorkValue, work_state}
+use Rattle.build_work.specs.WorkOn.{WorkersFollow, AreAtWork}
+use Rattle.build_events.specs.CoreState.{BuildState, LiveState, WorkState, SpoolsState}
+use Rattle.build_work.specs.Holding.{all_spools, spools_state}
+use Rattle.build_work.specs.Rings.{unseen}
+use Rattle.build_work.proofs.AtWork.{taking_same}
+use Rattle.build_work.proofs.Looks.{sealed_looked}
+use Rattle.build_scan.proofs.Places.{as_long}
+use Rattle.keybytes.specs.declared.kind.Kind.{Kind}
+use Rattle.build_work.proofs.Looked.{columns_looked, lent_looked, states_looked}
+
+-- callers see no difference
+pub state_looked : (live new_live : LiveValue) (building new : BuildingValue) → HasLooked live building new_live new → core_state new_live new ≡ core_state live building
+state_looked live new_live building new looked =
+    let all : all_spools new.workers new.spools ≡ all_spools building.workers building.spools =
+    ap (all_spools new.workers) looked.spools ∙ ap (λ (l : List SpoolValue). building.spools ++ l) (lent_looked building.workers new.workers looked.rings.same) in
+    let spools : spools_state new.given (all_spools new.workers new.spools) ≡ spools_state building.given (all_spools building.workers building.spools) =
+    ap (λ g. spools_state g (all_spools new.workers new.spools)) looked.given ∙ ap (spools_state building.given) all in
+    let work : work_state new.workers new.work ≡ work_state building.workers building.work =
+    ap (work_state new.workers) looked.work ∙ states_looked building.workers new.workers building.work looked.rings.same in
+    ap (λ s. record { live = s; work = work_state new.workers new.work; spools = spools_state new.given (all_spools new.workers new.spools) }) looked.state
+    ∙ ap (λ (w : WorkState). record { live = live.state; work = w; spools = spools_state new.given (all_spools new.workers new.spools) }) work
+    ∙ ap (λ (s : SpoolsState). record { live = live.state; work = work_state building.workers building.work; spools = s }) spools
+
+-- and all goes on
+workers_after :
+    (kinds : List Kind) (live new_live : LiveValue) (building new : BuildingValue) (build : Option BuildState) (work : Option WorkValue)
+    → HasLooked live building new_live new
+    → WorkersFollow kinds live.pages live.sides building build work → WorkersFollow kinds new_live.pages new_live.sides new build work
+workers_after kinds live new_live building new None work looked follow = tt
+workers_after kinds live new_live building new (Some b) None looked follow = tt
+workers_after kinds live new_live building new (Some b) (Some w) looked follow = record {
+  fed = rw (looked.sides, looked.other_sides) follow.fed;
+  given = looked.given ∙ follow.given;
+  many = as_long unseen unseen new.workers building.workers looked.rings.same ∙ follow.many;
+  taking = λ fine. rw looked.rings.sent (taking_same b.number kinds w.specs w.loading _ building.workers new.workers looked.rings.same (follow.taking fine));
+  lent = λ fine scans. looked.spools ∙ follow.lent fine scans;
+  drained = λ fine loading.
+      ((follow.drained fine loading).0, sealed_looked live.pages building.workers new_live.pages new.workers looked.rings (follow.drained fine loading).1);
+  columns = λ fine loading. rw looked.spools (columns_looked building.workers new.workers building.spools w looked.rings.same (follow.columns fine loading));
+}
+
+pub works_looked : (live new_live : LiveValue) (building new : BuildingValue) → HasLooked live building new_live new → WorksOn live building → WorksOn new_live new
+works_looked live new_live building new looked works = record {
+  work = rw (looked.state, looked.work) works.work;
+  workers =
+      subst (WorkersFollow new_live.state.heap.schema new_live.pages new_live.sides new new_live.state.build) (sym looked.work)
+      (subst (λ (s : LiveState). WorkersFollow s.heap.schema new_live.pages new_live.sides new s.build building.work) (sym looked.state)
+      (workers_after live.state.heap.schema live new_live building new live.state.build building.work looked works.workers));
+}
+
+pub runs_looked :
+    (live new_live : LiveValue) (building new : BuildingValue) (b : BuildState) (w : WorkValue) → HasLooked live building new_live new
+    → IsRunning live building b w → IsRunning new_live new b w
+runs_looked live new_live building new b w looked run = record {
+  build_is = rw looked.state run.build_is;
+  work_is = looked.work ∙ run.work_is;
+  follows = rw looked.state run.follows;
+  on = rw looked.state run.on;
+  at_work = subst (λ (s : LiveState). AreAtWork s.heap.schema b new_live.pages new_live.sides new w) (sym looked.state)
+      (workers_after live.state.heap.schema live new_live building new (Some b) (Some w) looked run.at_work);
+}

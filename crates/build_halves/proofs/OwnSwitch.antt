@@ -1,0 +1,95 @@
+-- A switch of the work that goes with the build: it is the build's, and nothing is left over of what its workers were sent.
+use Rattle.std.proofs.Common.{◌≡◌, ℕ, true, length, Option, Some, None, refl, sym, ap, ◌∙◌, subst, inl, inr, arith}
+use Rattle.std.specs.Option.{option_map}
+use Rattle.keybytes.specs.declared.fault.Fault.{Fault}
+use Rattle.keybytes.specs.declared.fault.Fault.TheVariants.{NotScanned}
+use Rattle.keybytes.proofs.FirstCause.{both_none}
+use Rattle.side_file.specs.Ends.{PutEnd}
+use Rattle.building.specs.declared.copied.Copied.{Copied}
+use Rattle.build_events.specs.BuildSteps.{build_cause, switch_refusal}
+use Rattle.build_events.specs.CoreState.{BuildState, CoreState}
+use Rattle.build_events.specs.Ranges.{open_range}
+use Rattle.build_events.specs.Steps.{IsRefused}
+use Rattle.build_events.specs.declared.event.Event.TheVariants.{Switch}
+use Rattle.build_scan.specs.TableBuilds.{BuildFollows}
+use Rattle.build_work.specs.BuildingValue.{BuildingValue, WorkValue, work_state}
+use Rattle.build_work.specs.Keeping.{IsKept, KeepsWork}
+use Rattle.build_work.specs.WorkOn.{IsWorkOf}
+use Rattle.build_scan.proofs.Places.{map_at, there_is}
+use Rattle.build_halves.specs.Builds.{IsRunning, LiveValue, WorksOn, core_state}
+use Rattle.build_halves.specs.Switching.{HasLeftCopy, IsForeign, IsPartOf, RefusesSwitch}
+use Rattle.build_halves.proofs.EarlyCauses.{early_is, first_unloaded}
+use Rattle.build_halves.proofs.Refusals.{running}
+use Rattle.build_halves.proofs.Reunited.{all_loaded, loading}
+use Rattle.build_halves.proofs.Unloaded.{no_fault}
+
+-- where a build runs there is work
+work_there :
+    (live : LiveValue) (building : BuildingValue) (b : BuildState) → live.state.build ≡ Some b → WorksOn live building
+    → (w : WorkValue) × (building.work ≡ Some w)
+work_there live building b runs works = by_work building.work refl where
+  by_work : (o : Option WorkValue) → building.work ≡ o → (w : WorkValue) × (building.work ≡ Some w)
+  by_work (Some w) is = (w, is)
+  by_work None is =
+      absurd (subst (λ (o : Option BuildState). IsWorkOf live.state.heap.schema live.state.heap.log o None) runs
+      (subst (IsWorkOf live.state.heap.schema live.state.heap.log live.state.build) is works.work))
+
+module _
+    (live : LiveValue) (building : BuildingValue) (follows : BuildFollows live.state.heap.schema live.state.heap.log live.state.build) (works : WorksOn live building) where
+  -- the work is the build's
+  pub own_part : (b : BuildState) → live.state.build ≡ Some b → IsPartOf live building
+  own_part b runs =
+      let work = work_there live building b runs works in
+      let run = running live building b work.0 runs work.1 follows works in
+      record {
+        of = record {
+          build = b;
+          runs = runs;
+          work = work.0;
+          there = work.1;
+          number = run.on.number;
+          specs = run.on.specs;
+          many = run.on.many;
+          workers = run.at_work.many;
+        };
+        fed = run.at_work.fed;
+      }
+
+  -- and once its indexes are in order its workers have taken all
+  module _ (rings : length live.pages ≡ 16) (keeps : KeepsWork building.workers building.sides building.spools building.work) where
+    none_left : (fault : Fault) (new : CoreState) → HasLeftCopy live building fault new → ⊥
+    none_left fault new left =
+        let of = left.part.of in
+        let b = of.build in
+        let w = of.work in
+        let run : IsRunning live building b w = running live building b w of.runs of.there follows works in
+        let parts = both_none w.spoiled _ (sym (early_is live building b w of.runs of.there) ∙ left.first) in
+        let fine : w.spoiled ≡ None = parts.0 in
+        let later = both_none (option_map NotScanned (open_range b)) _ parts.1 in
+        let kept : IsKept building.workers building.sides building.spools w =
+        subst (λ (o : Option WorkValue). KeepsWork building.workers building.sides building.spools o) of.there keeps fine in
+        let loads : w.loading ≡ true = loading live building left.part kept run.follows (all_loaded w.indexes (sym (no_fault (first_unloaded w) later.1))) in
+        let k : ℕ = left.worker in
+        let worker = there_is building.workers k left.lowest.there in
+        let end = there_is live.pages k (omega (arith, left.lowest.there, run.at_work.many, run.follows.few_workers, rings)) in
+        let sent = map_at (λ (e : PutEnd Copied). e.sent) live.pages k end.0 end.1 in
+        left.lowest.unsealed end.0.sent worker.0 sent worker.1 ((run.at_work.drained fine loads).1 k end.0.sent worker.0 sent worker.1)
+
+    -- so each refusal of its switch is one of the event
+    pub own_refused : (fault : Fault) (new : CoreState) → RefusesSwitch live building fault new → IsRefused (core_state live building) Switch fault new
+    own_refused fault new refused = elim refused [
+      | inl foreign ↦ no_build foreign
+      | inr others ↦ elim others [
+        | inl left ↦ absurd (none_left fault new left)
+        | inr event ↦ event.refused
+      ]
+    ] where
+      no_build : IsForeign live building fault new → IsRefused (core_state live building) Switch fault new
+      no_build foreign = by_build live.state.build refl where
+        by_build : (o : Option BuildState) → live.state.build ≡ o → IsRefused (core_state live building) Switch fault new
+        by_build (Some b) runs = absurd (foreign.foreign (own_part b runs))
+        by_build None runs = inl (
+          ap (λ (o : Option BuildState). build_cause o (λ b. switch_refusal b live.state.heap (work_state building.workers building.work))) runs
+              ∙ ap Some (sym foreign.no_build),
+          foreign.unchanged,
+        )

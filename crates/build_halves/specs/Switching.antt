@@ -1,0 +1,109 @@
+-- What a switch asks of what stands beside the table, and why it is refused.
+use Rattle.std.specs.Prelude.{◌≡◌, ℕ, ◌<◌, ◌⊎◌, [], is_some, not, length, map, Option, Some, None, IfSome}
+use Rattle.std.specs.Option.{option_map}
+use Rattle.std.specs.List.{position, slice_get}
+use Rattle.keybytes.specs.Faults.{first_cause}
+use Rattle.keybytes.specs.declared.fault.Fault.{Fault}
+use Rattle.keybytes.specs.declared.fault.Fault.TheVariants.{NoBuild, NotLoaded, NotScanned, NotSealed}
+use Rattle.side_file.specs.Ends.{PutEnd}
+use Rattle.side_file.specs.declared.entry.Entry.{Entry}
+use Rattle.building.specs.TakeEnd.{TakeEnd}
+use Rattle.build_events.specs.BuildSteps.{OnBuild, build_cause}
+use Rattle.build_events.specs.CoreState.{BuildState, CoreState}
+use Rattle.build_events.specs.Ranges.{open_range}
+use Rattle.build_events.specs.Steps.{IsRefused}
+use Rattle.build_events.specs.Workers.{fed_to, unloaded_index}
+use Rattle.build_events.specs.declared.event.Event.TheVariants.{Switch}
+use Rattle.build_scan.specs.SideFiles.{IsFed}
+use Rattle.build_work.specs.BuildingValue.{BuildingValue, IndexValue, WorkValue}
+use Rattle.build_work.specs.Rings.{all_sent, AreSealed, FirstAreSealed, IsUnsealed}
+use Rattle.build_work.specs.WorkOn.{AreFed}
+use Rattle.build_halves.specs.Builds.{LiveValue, core_state}
+
+-- what stands beside the table is of the build that runs: it has its number and its indexes, work on each of these, and as many workers
+pub record IsOfBuild (live : LiveValue) (building : BuildingValue) : Type 0 where
+  pub build : BuildState
+  pub runs : live.state.build ≡ Some build
+  pub work : WorkValue
+  pub there : building.work ≡ Some work
+  pub number : work.build ≡ build.number
+  pub specs : build.specs ≡ work.specs
+  pub many : length work.indexes ≡ length build.specs
+  pub workers : length building.workers ≡ build.workers
+
+-- and of each index just the entries that were fed and not applied wait in the ring between these ends
+pub record IsPartOf (live : LiveValue) (building : BuildingValue) : Type 0 where
+  pub of : IsOfBuild live building
+  pub fed : AreFed of.build of.work.indexes live.sides building.sides
+
+-- so it is of that index of the build
+abbrev pub IsFedAt : ℕ → LiveValue → BuildingValue → Type 0
+IsFedAt k live building =
+    OnBuild live.state.build (λ b. IfSome building.work (λ w.
+    (index : IndexValue) (put : PutEnd Entry) (end : TakeEnd Entry) → slice_get w.indexes k ≡ Some index → slice_get live.sides k ≡ Some put
+    → slice_get building.sides k ≡ Some end → IsFed (fed_to b k) index.applied put end))
+
+-- an end that puts entries, and one that takes them, but for what it has seen in its ring
+abbrev pub unseen_put : PutEnd Entry → PutEnd Entry
+unseen_put end = record end { free = 0 }
+
+abbrev pub unseen_take : TakeEnd Entry → TakeEnd Entry
+unseen_take end = record end { known = [] }
+
+-- both ends of side-files' rings were looked at, and nothing else changed
+pub record SidesAreLooked (live : LiveValue) (building : BuildingValue) (new_live : LiveValue) (new_building : BuildingValue) : Type 0 where
+  pub puts : map unseen_put new_live.sides ≡ map unseen_put live.sides
+  pub takes : map unseen_take new_building.sides ≡ map unseen_take building.sides
+  pub of_live : new_live ≡ record live { sides = new_live.sides }
+  pub of_building : new_building ≡ record building { sides = new_building.sides }
+
+-- all pages of the build are copied
+abbrev pub IsScannedWhole : LiveValue → Type 0
+IsScannedWhole live = OnBuild live.state.build (λ b. open_range b ≡ None)
+
+-- its work isn't spoiled, and each of its indexes is in order
+abbrev pub IsLoadedWhole : BuildingValue → Type 0
+IsLoadedWhole building =
+    IfSome building.work (λ w. (w.spoiled ≡ None) × (None ≡ position (λ (index : IndexValue). not (is_some index.built)) w.indexes))
+
+-- what keeps a switch waiting before its workers are asked: the build is spoiled, a page isn't copied, an index isn't in order
+abbrev pub early_cause : CoreState → Option Fault
+early_cause s =
+    build_cause s.live.build (λ b.
+    first_cause s.work.spoiled (first_cause (option_map NotScanned (open_range b)) (option_map NotLoaded (unloaded_index s.work))))
+
+-- this is the lowest worker for which a copy waits, or whose run is open
+pub record IsLowestUnsealed (live : LiveValue) (building : BuildingValue) (worker : ℕ) : Type 0 where
+  pub there : worker < length building.workers
+  pub lower : FirstAreSealed worker (all_sent live.pages) building.workers
+  pub unsealed : IsUnsealed worker (all_sent live.pages) building.workers
+
+-- nothing of what the rings were sent is missing from the trees
+abbrev pub HaveAll : LiveValue → BuildingValue → Type 0
+HaveAll live building = AreSealed (all_sent live.pages) building.workers
+
+-- what stands beside the table isn't of the build that runs
+pub record IsForeign (live : LiveValue) (building : BuildingValue) (fault : Fault) (new : CoreState) : Type 0 where
+  pub foreign : IsPartOf live building → ⊥
+  pub no_build : fault ≡ NoBuild
+  pub unchanged : new ≡ core_state live building
+
+-- a copy is left in a ring, or isn't in the trees
+pub record HasLeftCopy (live : LiveValue) (building : BuildingValue) (fault : Fault) (new : CoreState) : Type 0 where
+  pub part : IsPartOf live building
+  pub first : early_cause (core_state live building) ≡ None
+  pub worker : ℕ
+  pub lowest : IsLowestUnsealed live building worker
+  pub not_sealed : fault ≡ NotSealed worker
+  pub unchanged : new ≡ core_state live building
+
+-- any other cause is that of the event, which comes before the workers are asked, or once they have taken all
+pub record IsEventRefused (live : LiveValue) (building : BuildingValue) (fault : Fault) (new : CoreState) : Type 0 where
+  pub part : IsPartOf live building
+  pub turn : (early_cause (core_state live building) ≡ Some fault) ⊎ HaveAll live building
+  pub refused : IsRefused (core_state live building) Switch fault new
+
+-- why the table doesn't switch in what stands beside it
+abbrev pub RefusesSwitch : LiveValue → BuildingValue → Fault → CoreState → Type 0
+RefusesSwitch live building fault new =
+    IsForeign live building fault new ⊎ HasLeftCopy live building fault new ⊎ IsEventRefused live building fault new
