@@ -28,28 +28,27 @@ enum Step {
 }
 
 /// A step, and the number that it is answered with; 0 where it tells none.
-struct Case {
-    step: Step,
-    answer: Result<usize, Fault>,
-}
+#[derive(Clone, Copy)]
+struct Case(Step, Result<usize, Fault>);
 
 /// On the two pages of the rows.
-const CASES: [Case; 15] = [
-    Case { step: Step::Switch, answer: Err(Fault::NoBuild) },
-    Case { step: Step::Start, answer: Ok(2) },
-    Case { step: Step::Scan, answer: Ok(0) },
-    Case { step: Step::Switch, answer: Err(Fault::NotScanned(0)) },
-    Case { step: Step::Scan, answer: Ok(1) },
-    Case { step: Step::Switch, answer: Err(Fault::NotLoaded(0)) },
-    Case { step: Step::GiveUp, answer: Ok(0) },
-    Case { step: Step::Switch, answer: Err(Fault::NoBuild) },
-    Case { step: Step::Scan, answer: Err(Fault::RangeDone) },
-    Case { step: Step::Abandon, answer: Ok(0) },
-    Case { step: Step::Start, answer: Err(Fault::BadCount) },
-    Case { step: Step::Exchange, answer: Ok(0) },
-    Case { step: Step::Start, answer: Ok(2) },
-    Case { step: Step::Switch, answer: Err(Fault::NotScanned(0)) },
-    Case { step: Step::Exchange, answer: Ok(0) },
+const CASES: [Case; 16] = [
+    Case(Step::Switch, Err(Fault::NoBuild)),
+    Case(Step::Start, Ok(2)),
+    Case(Step::Scan, Ok(0)),
+    Case(Step::Switch, Err(Fault::NotScanned(0))),
+    Case(Step::Scan, Ok(1)),
+    Case(Step::Switch, Err(Fault::NotLoaded(0))),
+    Case(Step::GiveUp, Ok(0)),
+    Case(Step::Switch, Err(Fault::NoBuild)),
+    Case(Step::Scan, Err(Fault::RangeDone)),
+    Case(Step::Abandon, Ok(0)),
+    Case(Step::Start, Err(Fault::BadCount)),
+    Case(Step::Exchange, Ok(0)),
+    Case(Step::Start, Ok(2)),
+    Case(Step::Switch, Err(Fault::NotScanned(0))),
+    Case(Step::Exchange, Ok(0)),
+    Case(Step::Switch, Err(Fault::NoBuild)),
 ];
 
 /// A build of the same table to its end.
@@ -128,8 +127,8 @@ fn first_other<T: Table>(
     building: &mut Building<ListSpool, T>,
 ) -> Option<usize> {
     for number in 0..CASES.len() {
-        let case = &CASES[number];
-        if answer(alloc, live, building, case.step) != case.answer {
+        let Case(step, told) = CASES[number];
+        if answer(alloc, live, building, step) != told {
             return Some(number);
         }
     }
