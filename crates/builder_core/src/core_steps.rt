@@ -102,7 +102,7 @@ impl<S: Spool, T: Table> Core<S, T> {
     pub fn is_building(&self) -> bool
         ensures { result ≡ is_some self.now.live.build }
     {
-        self.live.build().is_some()
+        self.live.specs().is_some()
     }
 
     /// The ready index of that number, from 0; [`Fault::BadCount`] where there is none.
