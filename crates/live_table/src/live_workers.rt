@@ -33,7 +33,7 @@ impl<T: Table> Live<T> {
     }
 
     /// The lowest worker of what stands beside the table for which a copy waits in its ring, or whose run is open: it has to seal before
-    /// an index is loaded, and before a switch. Both ends of the workers' rings then know all that there is to know of them. Takes no memory.
+    /// an index is loaded, and before a switch. Takes no memory.
     pub fn unsealed<S: Spool>(&mut self, building: &mut Building<S, T>) -> Option<usize>
         ensures looked { HasLooked self.old building.old self.new building.new }
         ensures unsealed { MatchOption result (HaveAll self.new building.new) (IsLowestUnsealed self.new building.new) }
