@@ -165,7 +165,8 @@ impl<T: Table> Live<T> {
         ensures accepted { OnOk result (cause_of self.old building.old Event.Switch ≡ None) }
         ensures all { OnOk result (IsPartOf self.old building.old × HaveAll self.old building.old) }
         ensures refused { IfErr result (λ fault. RefusesSwitch self.old building.old fault (core_state self.new building.new)) }
-        ensures own { WorksOn self.old building.old → IfErr result (λ fault. IsRefused (core_state self.old building.old) Event.Switch fault (core_state self.new building.new)) }
+        ensures own { WorksOn self.old building.old
+            → IfErr result (λ fault. IsRefused (core_state self.old building.old) Event.Switch fault (core_state self.new building.new)) }
         ensures works { OnOk result (WorksOn self.new building.new) }
         ensures kept { WorksOn self.old building.old → WorksOn self.new building.new }
         ensures pages { PutsNoCopy self.old self.new }
