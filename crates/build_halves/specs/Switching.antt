@@ -78,7 +78,7 @@ pub record IsLowestUnsealed (live : LiveValue) (building : BuildingValue) (worke
   pub lower : FirstAreSealed worker (all_sent live.pages) building.workers
   pub unsealed : IsUnsealed worker (all_sent live.pages) building.workers
 
--- nothing of what the rings were sent is missing from the trees
+-- the workers took all that their rings were sent, and none has a run open
 abbrev pub HaveAll : LiveValue → BuildingValue → Type 0
 HaveAll live building = AreSealed (all_sent live.pages) building.workers
 
@@ -88,7 +88,7 @@ pub record IsForeign (live : LiveValue) (building : BuildingValue) (fault : Faul
   pub no_build : fault ≡ NoBuild
   pub unchanged : new ≡ core_state live building
 
--- a copy is left in a ring, or isn't in the trees
+-- a copy is left in a ring, or a run is open
 pub record HasLeftCopy (live : LiveValue) (building : BuildingValue) (fault : Fault) (new : CoreState) : Type 0 where
   pub part : IsPartOf live building
   pub first : early_cause (core_state live building) ≡ None
