@@ -67,19 +67,9 @@ module _
   is_sealed : (k : ℕ) (worker : WorkerValue) (at : slice_get building.workers k ≡ Some worker) → IsSealed (sent_to k worker at).0 worker
   is_sealed k worker at = let sent = sent_to k worker at in sealed k sent.0 worker sent.1 at
 
-  -- all their runs are closed, and none has handed its spools over
-  all_lent_out : All (λ (worker : WorkerValue). worker.handed ≡ false) building.workers
-  all_lent_out = all_from (λ (worker : WorkerValue). worker.handed ≡ false) building.workers (λ k worker at. (of_build k worker at).handed ∙ scans)
-
-  all_closed : All (IsClosed w.build w.specs) building.workers
-  all_closed = all_from (IsClosed w.build w.specs) building.workers (λ k worker at.
-      let of = of_build k worker at in
-      record {
-        fine = of.fine;
-        of_build = of.taking.of_build ∙ sym run.on.number;
-        specs_are = of.specs_are;
-        closed = (is_sealed k worker at).closed;
-      })
+  -- all their runs are closed
+  all_closed : All IsClosed building.workers
+  all_closed = all_from IsClosed building.workers (λ k worker at. (is_sealed k worker at).closed)
 
   each_holding : All (λ worker. worker.fault ≡ None → worker.handed ≡ false → IsHolding worker.intake worker.maker worker.spools) building.workers
   each_holding = all_from (λ (worker : WorkerValue). worker.fault ≡ None → worker.handed ≡ false → IsHolding worker.intake worker.maker worker.spools) building.workers
@@ -87,7 +77,7 @@ module _
 
   -- so they may
   pub can_hand_over : CanHandOver building
-  can_hand_over = record { work = w; runs = run.work_is; fine = fine; scans = scans; lent = all_lent_out; closed = all_closed }
+  can_hand_over = record { work = w; runs = run.work_is; fine = fine; scans = scans; closed = all_closed }
 
   -- of what it took since its last seal
   still_open :

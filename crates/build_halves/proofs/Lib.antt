@@ -16,7 +16,7 @@ pub mod Loaded
 pub mod Looked
 pub mod MadeReady
 pub mod OneRing
-pub mod OnlyLooked
+pub mod LowestUnsealed
 pub mod OwnSwitch
 pub mod PartOf
 pub mod Partition
@@ -26,6 +26,7 @@ pub mod Refusals
 pub mod Reunited
 pub mod ScanCauses
 pub mod Sealed
+pub mod SentNext
 pub mod SideEnds
 pub mod Sound
 pub mod Started

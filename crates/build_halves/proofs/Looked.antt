@@ -6,9 +6,9 @@ use Rattle.build_work.specs.BuildingValue.{BuildingValue, WorkValue, work_state}
 use Rattle.build_work.specs.WorkOn.{WorkersFollow, AreAtWork}
 use Rattle.build_events.specs.CoreState.{BuildState, LiveState, WorkState, SpoolsState}
 use Rattle.build_work.specs.Holding.{all_spools, spools_state}
-use Rattle.build_work.specs.Rings.{unseen}
+use Rattle.build_work.specs.Rings.{all_sent, unseen}
 use Rattle.build_work.proofs.AtWork.{taking_same}
-use Rattle.build_work.proofs.Looks.{sealed_looked}
+use Rattle.build_work.proofs.Looks.{same_sent, sealed_looked}
 use Rattle.build_scan.proofs.Places.{as_long}
 use Rattle.keybytes.specs.declared.kind.Kind.{Kind}
 use Rattle.build_work.proofs.Looked.{columns_looked, lent_looked, states_looked}
@@ -37,10 +37,11 @@ workers_after kinds live new_live building new (Some b) (Some w) looked follow =
   fed = rw (looked.sides, looked.other_sides) follow.fed;
   given = looked.given ∙ follow.given;
   many = as_long unseen unseen new.workers building.workers looked.rings.same ∙ follow.many;
-  taking = λ fine. rw looked.rings.sent (taking_same b.number kinds w.specs w.loading _ building.workers new.workers looked.rings.same (follow.taking fine));
+  taking = λ fine. rw (same_sent live.pages new_live.pages looked.rings.puts) (taking_same b.number kinds w.specs w.loading _ building.workers new.workers looked.rings.same (follow.taking fine));
   lent = λ fine scans. looked.spools ∙ follow.lent fine scans;
   drained = λ fine loading.
-      ((follow.drained fine loading).0, sealed_looked live.pages building.workers new_live.pages new.workers looked.rings (follow.drained fine loading).1);
+      ((follow.drained fine loading).0, sealed_looked (all_sent live.pages) building.workers (all_sent new_live.pages) new.workers
+      (same_sent live.pages new_live.pages looked.rings.puts) looked.rings.same (follow.drained fine loading).1);
   columns = λ fine loading. rw looked.spools (columns_looked building.workers new.workers building.spools w looked.rings.same (follow.columns fine loading));
 }
 

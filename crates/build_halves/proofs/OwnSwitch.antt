@@ -17,8 +17,8 @@ use Rattle.build_work.specs.Keeping.{IsKept, KeepsWork}
 use Rattle.build_work.specs.WorkOn.{IsWorkOf}
 use Rattle.build_scan.proofs.Places.{map_at, there_is}
 use Rattle.build_halves.specs.Builds.{IsRunning, LiveValue, WorksOn, core_state}
-use Rattle.build_halves.specs.Switching.{HasLeftCopy, IsForeign, IsPartOf, RefusesSwitch}
-use Rattle.build_halves.proofs.EarlyCauses.{early_is, first_unloaded}
+use Rattle.build_halves.specs.Switching.{HasLeftCopy, IsForeign, IsPartOf, KeepsOut}
+use Rattle.build_halves.proofs.EarlyCauses.{early_is, first_unloaded, switch_refused}
 use Rattle.build_halves.proofs.Refusals.{running}
 use Rattle.build_halves.proofs.Reunited.{all_loaded, loading}
 use Rattle.build_halves.proofs.Unloaded.{no_fault}
@@ -57,8 +57,8 @@ module _
 
   -- and once its indexes are in order its workers have taken all
   module _ (rings : length live.pages ≡ 16) (keeps : KeepsWork building.workers building.sides building.spools building.work) where
-    none_left : (fault : Fault) (new : CoreState) → HasLeftCopy live building fault new → ⊥
-    none_left fault new left =
+    none_left : (fault : Fault) → HasLeftCopy live building fault → ⊥
+    none_left fault left =
         let of = left.part.of in
         let b = of.build in
         let w = of.work in
@@ -76,20 +76,22 @@ module _
         left.lowest.unsealed end.0.sent worker.0 sent worker.1 ((run.at_work.drained fine loads).1 k end.0.sent worker.0 sent worker.1)
 
     -- so each refusal of its switch is one of the event
-    pub own_refused : (fault : Fault) (new : CoreState) → RefusesSwitch live building fault new → IsRefused (core_state live building) Switch fault new
-    own_refused fault new refused = elim refused [
+    pub own_refused :
+        (fault : Fault) (new_live : LiveValue) (new : BuildingValue) → core_state new_live new ≡ core_state live building → KeepsOut live building fault
+        → IsRefused (core_state live building) Switch fault (core_state new_live new)
+    own_refused fault new_live new unchanged cause = elim cause [
       | inl foreign ↦ no_build foreign
       | inr others ↦ elim others [
-        | inl left ↦ absurd (none_left fault new left)
-        | inr event ↦ event.refused
+        | inl early ↦ inl (switch_refused (core_state live building) fault early.cause, unchanged)
+        | inr left ↦ absurd (none_left fault left)
       ]
     ] where
-      no_build : IsForeign live building fault new → IsRefused (core_state live building) Switch fault new
+      no_build : IsForeign live building fault → IsRefused (core_state live building) Switch fault (core_state new_live new)
       no_build foreign = by_build live.state.build refl where
-        by_build : (o : Option BuildState) → live.state.build ≡ o → IsRefused (core_state live building) Switch fault new
+        by_build : (o : Option BuildState) → live.state.build ≡ o → IsRefused (core_state live building) Switch fault (core_state new_live new)
         by_build (Some b) runs = absurd (foreign.foreign (own_part b runs))
         by_build None runs = inl (
           ap (λ (o : Option BuildState). build_cause o (λ b. switch_refusal b live.state.heap (work_state building.workers building.work))) runs
               ∙ ap Some (sym foreign.no_build),
-          foreign.unchanged,
+          unchanged,
         )

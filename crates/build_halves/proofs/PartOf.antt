@@ -2,7 +2,7 @@
 use Rattle.std.proofs.Common.{◌≡◌, ℕ, ◌-◌, ◌<◌, ◌≤◌, ◌^◌, List, ◌++◌, length, map, set, drop, get_or, Option, Some, None}
 use Rattle.std.proofs.Common.{refl, sym, ap, ◌∙◌, subst, arith, length-append, eq-eqb, eqb-true, leb-true}
 use Rattle.std.specs.Prelude.{IfSome, IsTrue, nat_eq, nat_le, ◌↔◌}
-use Rattle.std.specs.List.{slice_get}
+use Rattle.std.specs.List.{AllZip, slice_get}
 use Rattle.std.proofs.Math.Seq.{drop-append_seam, map-set_same}
 use Rattle.std.proofs.lemmas.Option.{same_Some, get_or_from_slice_get}
 use Rattle.keybytes.specs.Keys.{KeySpecValue}
@@ -12,7 +12,7 @@ use Rattle.side_file.specs.Ends.{PutEnd, RingId}
 use Rattle.side_file.specs.Kept.{last_ones}
 use Rattle.side_file.specs.SideFileValue.{SideFileValue}
 use Rattle.side_file.specs.declared.entry.Entry.{Entry}
-use Rattle.building.specs.TakeEnd.{TakeEnd}
+use Rattle.building.specs.TakeEnd.{PutEndLooked, TakeEnd}
 use Rattle.building.specs.declared.copied.Copied.{Copied}
 use Rattle.build_events.specs.BuildSteps.{OnBuild}
 use Rattle.build_events.specs.CoreState.{BuildState, LiveState}
@@ -20,19 +20,32 @@ use Rattle.build_events.specs.Workers.{fed_to}
 use Rattle.build_scan.specs.SideFiles.{HasEntries, IsFed, SeesSide, SidesFollow, put_ends, side_rings, taken_rings}
 use Rattle.build_scan.specs.TableBuilds.{BuildFollows, IsBuildOf}
 use Rattle.build_scan.proofs.Feeding.{waiting_in_ring}
+use Rattle.build_scan.proofs.LookedEnds.{all_looked_twice, all_unlooked, same_looked, one_looked as end_looked}
 use Rattle.build_scan.proofs.Places.{at_index, below, map_at, same_at, there_is}
 use Rattle.build_work.specs.BuildingValue.{BuildingValue, IndexValue, WorkValue}
 use Rattle.build_work.specs.WorkOn.{AreFed, WorkersFollow}
 use Rattle.build_halves.specs.Builds.{LiveValue, SeesSideAt, SideIsLooked, WorksOn, core_state}
-use Rattle.build_halves.specs.Switching.{IsFedAt, IsOfBuild, IsPartOf, SidesAreLooked, unseen_put, unseen_take}
+use Rattle.build_halves.specs.Switching.{IsFedAt, IsOfBuild, IsPartOf, SidesAreLooked, unseen_take}
 
--- one end looked at is as it was but for what it has seen
-put_unseen :
-    (puts : List (PutEnd Entry)) (index : ℕ) (old put : PutEnd Entry) → slice_get puts index ≡ Some old → put.ring ≡ old.ring → put.capacity ≡ old.capacity
-    → put.sent ≡ old.sent → map unseen_put (set puts index put) ≡ map unseen_put puts
-put_unseen puts index old put there ring capacity sent =
-    map-set_same unseen_put puts index put old
-    (rw (ring, capacity, sent) (ap unseen_put (sym (get_or_from_slice_get puts index old old there))))
+-- an end that puts entries, but for the places that it has seen free
+unseen_put : PutEnd Entry → PutEnd Entry
+unseen_put end = record end { free = 0 }
+
+-- both ends of side-files' rings are the same but for what they have seen, and nothing else changed: this can be taken back
+pub record SidesAreSame (live : LiveValue) (building : BuildingValue) (new_live : LiveValue) (new_building : BuildingValue) : Type 0 where
+  pub puts : map unseen_put new_live.sides ≡ map unseen_put live.sides
+  pub takes : map unseen_take new_building.sides ≡ map unseen_take building.sides
+  pub of_live : new_live ≡ record live { sides = new_live.sides }
+  pub of_building : new_building ≡ record building { sides = new_building.sides }
+
+pub sides_same :
+    (live new_live : LiveValue) (building new : BuildingValue) → SidesAreLooked live building new_live new → SidesAreSame live building new_live new
+sides_same live new_live building new looked = record {
+  puts = same_looked unseen_put (λ old end one. rw (one.ring, one.capacity, one.sent) refl) live.sides new_live.sides looked.puts;
+  takes = looked.takes;
+  of_live = looked.of_live;
+  of_building = looked.of_building;
+}
 
 take_unseen :
     (ends : List (TakeEnd Entry)) (index : ℕ) (old end : TakeEnd Entry) → slice_get ends index ≡ Some old → end.ring ≡ old.ring → end.received ≡ old.received
@@ -46,9 +59,9 @@ pub one_looked :
     (index : ℕ) (live new_live : LiveValue) (building new : BuildingValue) → SideIsLooked index live building new_live new
     → SidesAreLooked live building new_live new
 one_looked index live new_live building new looked = record {
-  puts = ap (λ (l : LiveValue). map unseen_put l.sides) looked.puts
-      ∙ put_unseen live.sides index looked.old_put looked.put looked.put_there looked.looked.put_end.ring looked.looked.put_end.capacity
-      looked.looked.put_end.sent;
+  puts = subst (λ (l : LiveValue). AllZip PutEndLooked live.sides l.sides) (sym looked.puts)
+      (end_looked live.sides live.sides index looked.old_put looked.put (all_unlooked live.sides)
+      (sym (get_or_from_slice_get live.sides index looked.old_put looked.old_put looked.put_there)) looked.looked.put_end);
   takes = ap (λ (b : BuildingValue). map unseen_take b.sides) looked.ends
       ∙ take_unseen building.sides index looked.old_end looked.end looked.end_there looked.looked.ring looked.looked.received;
   of_live = looked.puts ∙ ap (λ (ps : List (PutEnd Entry)). record live { sides = ps }) (sym (ap (λ (l : LiveValue). l.sides) looked.puts));
@@ -60,7 +73,7 @@ pub more_looked :
     (live mid_live new_live : LiveValue) (building mid new : BuildingValue) → SidesAreLooked live building mid_live mid
     → SidesAreLooked mid_live mid new_live new → SidesAreLooked live building new_live new
 more_looked live mid_live new_live building mid new first next = record {
-  puts = next.puts ∙ first.puts;
+  puts = all_looked_twice live.sides mid_live.sides new_live.sides first.puts next.puts;
   takes = next.takes ∙ first.takes;
   of_live = next.of_live ∙ ap (λ (l : LiveValue). record l { sides = new_live.sides }) first.of_live;
   of_building = next.of_building ∙ ap (λ (b : BuildingValue). record b { sides = new.sides }) first.of_building;
@@ -68,7 +81,7 @@ more_looked live mid_live new_live building mid new first next = record {
 
 -- taken back
 pub looked_back :
-    (live new_live : LiveValue) (building new : BuildingValue) → SidesAreLooked live building new_live new → SidesAreLooked new_live new live building
+    (live new_live : LiveValue) (building new : BuildingValue) → SidesAreSame live building new_live new → SidesAreSame new_live new live building
 looked_back live new_live building new looked = record {
   puts = sym looked.puts;
   takes = sym looked.takes;
@@ -103,7 +116,7 @@ all_unseen b indexes puts new_puts ends new_ends same_puts same_takes fed k inde
     let end = same_at unseen_take ends new_ends k new_end (sym same_takes) end_at in
     fed_unseen (fed_to b k) index.applied put.0 new_put end.0 new_end put.2 end.2 (fed k index put.0 end.0 at put.1 end.1)
 
-module _ (live new_live : LiveValue) (building new : BuildingValue) (looked : SidesAreLooked live building new_live new) where
+module _ (live new_live : LiveValue) (building new : BuildingValue) (looked : SidesAreSame live building new_live new) where
   same_state : new_live.state ≡ live.state
   same_state = ap (λ (l : LiveValue). l.state) looked.of_live
 
@@ -181,7 +194,7 @@ follow_sides kinds pages puts new_puts building new_ends (Some b) (Some w) same_
 }
 
 pub works_sides_looked :
-    (live new_live : LiveValue) (building new : BuildingValue) → SidesAreLooked live building new_live new → WorksOn live building → WorksOn new_live new
+    (live new_live : LiveValue) (building new : BuildingValue) → SidesAreSame live building new_live new → WorksOn live building → WorksOn new_live new
 works_sides_looked live new_live building new looked works =
     subst (λ (l : LiveValue). WorksOn l new) (sym looked.of_live)
     (subst (WorksOn (record live { sides = new_live.sides })) (sym looked.of_building) (record {

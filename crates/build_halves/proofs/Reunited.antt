@@ -162,15 +162,15 @@ module _
   ]
 
   -- one of the workers
-  handed : (k : ℕ) (worker : WorkerValue) → slice_get building.workers k ≡ Some worker → HasHanded w.build w.specs worker
-  handed k worker at = all_at (HasHanded w.build w.specs) building.workers k worker (kept.handed loading) at
+  handed : (k : ℕ) (worker : WorkerValue) → slice_get building.workers k ≡ Some worker → HasHanded w.specs worker
+  handed k worker at = all_at (HasHanded w.specs) building.workers k worker (kept.handed loading) at
 
   -- where each worker's specifications are of the columns that it reads, these are the table's
   pub same_columns :
       All (λ worker. All (λ spec. spec.kinds ≡ worker.maker.schema) worker.maker.specs) building.workers
       → All (λ worker. worker.maker.schema ≡ kinds) building.workers
   same_columns own = all_from (λ (worker : WorkerValue). worker.maker.schema ≡ kinds) building.workers (λ k worker at.
-      let specs_are : worker.maker.specs ≡ b.specs = (handed k worker at).is_closed.specs_are ∙ sym part.of.specs in
+      let specs_are : worker.maker.specs ≡ b.specs = (kept.placed k worker at).specs_are ∙ sym part.of.specs in
       let first = there_is b.specs 0 follows.some_index in
       let its : slice_get worker.maker.specs 0 ≡ Some first.0 = ap (λ (specs : List KeySpecValue). slice_get specs 0) specs_are ∙ first.1 in
       let mine = all_at (λ (v : WorkerValue). All (λ spec. spec.kinds ≡ v.maker.schema) v.maker.specs) building.workers k worker own at in
@@ -190,7 +190,7 @@ module _
     module _
         (k : ℕ) (sent : List Copied) (worker : WorkerValue) (there : slice_get (all_sent live.pages) k ≡ Some sent)
         (at : slice_get building.workers k ≡ Some worker) where
-      its : HasHanded w.build w.specs worker
+      its : HasHanded w.specs worker
       its = handed k worker at
 
       done : IsSealed sent worker
@@ -200,14 +200,14 @@ module _
       schema = all_at (λ (v : WorkerValue). v.maker.schema ≡ kinds) building.workers k worker schemas at
 
       of_build : worker.intake.build ≡ b.number
-      of_build = its.is_closed.of_build ∙ part.of.number
+      of_build = (kept.placed k worker at).of_build ∙ part.of.number
 
       is_worker : IsWorkerOf b.number kinds w.specs w.loading sent worker
       is_worker = record {
-        fine = its.is_closed.fine;
+        fine = (kept.placed k worker at).fine;
         schema = schema;
-        specs_are = its.is_closed.specs_are;
-        handed = its.handed ∙ sym loading;
+        specs_are = (kept.placed k worker at).specs_are;
+        handed = (kept.placed k worker at).spools_are;
         own = λ scans. absurd (false≢true (sym scans ∙ loading));
         none = λ loads. its.none;
         opened = λ loads index spec is.

@@ -19,7 +19,8 @@ use Rattle.std.specs.List.{All, slice_get}
 use Rattle.std.proofs.lemmas.Option.{same_Some}
 use Rattle.build_events.specs.Workers.{fed_to}
 use Rattle.build_scan.proofs.SideKept.{none_at}
-use Rattle.build_work.specs.Equipped.{IsEquipped}
+use Rattle.build_work.specs.Equipped.{HasOwnSpools}
+use Rattle.build_work.specs.Keeping.{AreWorkers}
 use Rattle.build_work.specs.Holding.{fresh_maker}
 use Rattle.build_events.specs.CoreState.{BuildState}
 use Rattle.scan_range.specs.Dealings.{dealing_refusal, dealt_ends}
@@ -93,9 +94,9 @@ pub started_works :
     → All (λ (spec : KeySpecValue). spec.kinds ≡ live.state.heap.schema) specs → AreOfBuilds builds (all_sent live.pages)
     → intakes building.workers building.idle ≡ map (begun_on (builds + 1)) live.pages → building.sides ≡ map drained_end live.sides
     → length building.workers ≡ workers → All (λ worker. worker.maker ≡ fresh_maker live.state.heap.schema specs) building.workers
-    → All (IsEquipped (length specs)) building.workers
+    → All (HasOwnSpools specs) building.workers → AreWorkers (builds + 1) specs false building.workers
     → building.spools ≡ [] → WorksOn live building
-started_works live building b w builds specs workers opened cuts build_is work_is given b_is w_is follows columns before intakes_are drained many makers equipped none =
+started_works live building b w builds specs workers opened cuts build_is work_is given b_is w_is follows columns before intakes_are drained many makers own placed none =
     let new : BuildState = build_over (builds + 1) specs workers opened cuts [] (map (λ spec. 0) specs) in
     works_with live building b w (record {
       build_is = build_is;
@@ -106,7 +107,7 @@ started_works live building b w builds specs workers opened cuts build_is work_i
         fed = rw (b_is, w_is) (started_fed new (replicate (length specs) fresh_index) live.sides building.sides drained (λ k. none_at specs k) (only_fresh (length specs)));
         given = given;
         many = many ∙ sym (ap (λ (x : BuildState). x.workers) b_is);
-        taking = λ fine. rw (b_is, w_is) (started_taking builds live.pages before live.state.heap.schema specs building.workers building.idle intakes_are makers equipped);
+        taking = λ fine. rw (b_is, w_is) (started_taking builds live.pages before live.state.heap.schema specs building.workers building.idle intakes_are makers own placed);
         lent = λ fine scans. none;
         drained = λ fine loading. absurd (false≢true (ap (λ (x : WorkValue). x.loading) (sym w_is) ∙ loading));
         columns = λ fine loading. absurd (false≢true (ap (λ (x : WorkValue). x.loading) (sym w_is) ∙ loading));

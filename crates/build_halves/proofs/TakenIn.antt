@@ -1,11 +1,13 @@
 -- What was kept apart from a table is taken in for a switch, or isn't.
-use Rattle.std.proofs.Common.{◌≡◌, ℕ, ◌<◌, true, false, List, [], length, Option, Some, None, refl, sym, ap, ◌∙◌, subst, inl, inr}
+use Rattle.std.proofs.Common.{◌≡◌, ℕ, ◌<◌, true, false, List, [], length, map, Option, Some, None, refl, sym, ap, ◌∙◌, subst, inl, inr}
 use Rattle.std.specs.Prelude.{IfSome, is_some, not}
-use Rattle.std.specs.List.{All, position, slice_get}
+use Rattle.std.specs.List.{All, AllZip, position, slice_get}
 use Rattle.std.proofs.lemmas.Bool.{cases_Bool}
 use Rattle.keybytes.specs.declared.fault.Fault.{Fault}
-use Rattle.keybytes.specs.declared.fault.Fault.TheVariants.{NotSealed}
+use Rattle.keybytes.specs.declared.fault.Fault.TheVariants.{NoBuild, NotSealed}
 use Rattle.side_file.specs.Ends.{PutEnd}
+use Rattle.side_file.specs.declared.entry.Entry.{Entry}
+use Rattle.building.specs.TakeEnd.{PutEndLooked}
 use Rattle.building.specs.WorkerValue.{WorkerValue}
 use Rattle.building.specs.declared.copied.Copied.{Copied}
 use Rattle.build_events.specs.BuildSteps.{OnBuild}
@@ -17,13 +19,13 @@ use Rattle.build_scan.proofs.Places.{all_at, all_from, as_long, same_at}
 use Rattle.build_work.specs.BuildingValue.{BuildingValue, IndexValue, WorkValue}
 use Rattle.build_work.specs.Keeping.{HasHanded, IsKept, KeepsWork}
 use Rattle.build_work.specs.Rings.{AreLooked, FirstAreSealed, IsUnsealed, all_sent, unseen}
-use Rattle.build_work.proofs.Looks.{first_looked, sealed_looked}
+use Rattle.build_work.proofs.Looks.{first_looked, same_sent, sealed_looked}
+use Rattle.build_scan.proofs.LookedEnds.{all_unlooked}
 use Rattle.build_halves.specs.Builds.{HasLooked, LiveValue, WorksOn, core_state}
 use Rattle.build_halves.specs.Invariant.{EachPageOnce}
-use Rattle.build_halves.specs.Switching.{HaveAll, IsLoadedWhole, IsPartOf, IsScannedWhole, RefusesSwitch, SidesAreLooked, early_cause}
-use Rattle.build_halves.proofs.EarlyCauses.{switch_refused}
+use Rattle.build_halves.specs.Switching.{HaveAll, IsKeptOut, IsLoadedWhole, IsOnlyLookedAt, IsPartOf, IsScannedWhole, SidesAreLooked, early_cause, unseen_take}
 use Rattle.build_halves.proofs.Looked.{state_looked, works_looked}
-use Rattle.build_halves.proofs.PartOf.{looked_back, part_looked, state_sides_looked, works_sides_looked}
+use Rattle.build_halves.proofs.PartOf.{SidesAreSame, looked_back, part_looked, sides_same, state_sides_looked, works_sides_looked}
 use Rattle.build_halves.proofs.Reunited.{all_loaded, loading, reunited, same_columns}
 
 -- what is part of the build, and of which nothing is left over, works on it
@@ -52,17 +54,22 @@ works_again live building part scanned whole sealed follows pages entries page_r
     let loads = loading live building part kept build_of in_order in
     let own : All (λ (worker : WorkerValue). All (λ spec. spec.kinds ≡ worker.maker.schema) worker.maker.specs) building.workers =
     all_from (λ (worker : WorkerValue). All (λ spec. spec.kinds ≡ worker.maker.schema) worker.maker.specs) building.workers
-    (λ k worker at. (all_at (HasHanded w.build w.specs) building.workers k worker (kept.handed loads) at).columns) in
+    (λ k worker at. (all_at (HasHanded w.specs) building.workers k worker (kept.handed loads) at).columns) in
     reunited live building part kept build_of in_order was_given
     (subst (λ (o : Option BuildState). IfSome o (λ x. EachPageOnce live.state.heap.schema live.state.heap.log x (all_sent live.pages))) part.of.runs pages)
     (subst (λ (o : Option BuildState). IfSome o (λ x. EachEntryOnce live.state.heap.log x live.sides)) part.of.runs entries)
     page_rings entry_rings taken_rings all sealed (same_columns live building part kept build_of in_order own)
 
--- a look at both ends of the page rings, taken back
-rings_back :
-    (pages : List (PutEnd Copied)) (workers : List WorkerValue) (new_pages : List (PutEnd Copied)) (new_workers : List WorkerValue)
-    → AreLooked pages workers new_pages new_workers → AreLooked new_pages new_workers pages workers
-rings_back pages workers new_pages new_workers looked = record { rings = sym looked.rings; sent = sym looked.sent; same = sym looked.same }
+-- two looks leave the rest of what stands beside the table
+rest_same :
+    (new old mid : BuildingValue) → new.idle ≡ mid.idle → new.sides ≡ mid.sides → new.spools ≡ mid.spools → new.given ≡ mid.given → new.work ≡ mid.work
+    → mid ≡ record old { sides = mid.sides } → new ≡ record old { workers = new.workers; sides = new.sides }
+rest_same new old mid idle sides spools given work of_mid =
+    let idle_is : new.idle ≡ old.idle = idle ∙ ap (λ (b : BuildingValue). b.idle) of_mid in
+    let spools_are : new.spools ≡ old.spools = spools ∙ ap (λ (b : BuildingValue). b.spools) of_mid in
+    let given_is : new.given ≡ old.given = given ∙ ap (λ (b : BuildingValue). b.given) of_mid in
+    let work_is : new.work ≡ old.work = work ∙ ap (λ (b : BuildingValue). b.work) of_mid in
+    cc
 
 -- it leaves what is part of the build so
 pub part_rings_looked :
@@ -83,21 +90,38 @@ part_rings_looked live new_live building new looked part = record {
 
 -- the side-files' rings were looked at
 module _ (live mid_live : LiveValue) (building mid : BuildingValue) (sides : SidesAreLooked live building mid_live mid) where
+  abbrev same : SidesAreSame live building mid_live mid
+  same = sides_same live mid_live building mid sides
+
   was_part : IsPartOf mid_live mid → IsPartOf live building
-  was_part part = part_looked mid_live live mid building (looked_back live mid_live building mid sides) part
+  was_part part = part_looked mid_live live mid building (looked_back live mid_live building mid same) part
 
-  same_state : core_state mid_live mid ≡ core_state live building
-  same_state = state_sides_looked live mid_live building mid sides
+  pub same_state : core_state mid_live mid ≡ core_state live building
+  same_state = state_sides_looked live mid_live building mid same
 
-  pub refused_early :
-      (fault : Fault) → IsPartOf mid_live mid → early_cause (core_state mid_live mid) ≡ Some fault → RefusesSwitch live building fault (core_state mid_live mid)
-  refused_early fault part cause =
-      let was : early_cause (core_state live building) ≡ Some fault = ap early_cause (sym same_state) ∙ cause in
-      inr (inr (record {
-        part = was_part part;
-        turn = inl was;
-        refused = inl (switch_refused (core_state live building) fault was, same_state);
-      }))
+  pub works_same : WorksOn live building → WorksOn mid_live mid
+  works_same = works_sides_looked live mid_live building mid same
+
+  pub sides_only : IsOnlyLookedAt live building mid_live mid
+  sides_only = record {
+    state = ap (λ (l : LiveValue). l.state) sides.of_live;
+    pages = record {
+      puts = subst (λ (ps : List (PutEnd Copied)). AllZip PutEndLooked live.pages ps) (sym (ap (λ (l : LiveValue). l.pages) sides.of_live)) (all_unlooked live.pages);
+      same = ap (λ (b : BuildingValue). map unseen b.workers) sides.of_building;
+    };
+    puts = sides.puts;
+    takes = sides.takes;
+    rest = sides.of_building ∙ ap (λ (ws : List WorkerValue). record building { workers = ws; sides = mid.sides }) (sym (ap (λ (b : BuildingValue). b.workers) sides.of_building));
+  }
+
+  pub kept_early : (fault : Fault) → IsPartOf mid_live mid → early_cause (core_state mid_live mid) ≡ Some fault → IsKeptOut live building fault mid_live mid
+  kept_early fault part cause = record {
+    cause = inr (inl (record { part = was_part part; cause = ap early_cause (sym same_state) ∙ cause }));
+    looked = sides_only;
+  }
+
+  pub kept_foreign : (IsPartOf live building → ⊥) → IsKeptOut live building NoBuild mid_live mid
+  kept_foreign foreign = record { cause = inl (record { foreign = foreign; no_build = refl }); looked = sides_only }
 
   -- and then those of the workers
   module _ (new_live : LiveValue) (new : BuildingValue) (rings : HasLooked mid_live mid new_live new) where
@@ -105,7 +129,7 @@ module _ (live mid_live : LiveValue) (building mid : BuildingValue) (sides : Sid
     state_taken = state_looked mid_live new_live mid new rings ∙ same_state
 
     pub works_taken : WorksOn live building → WorksOn new_live new
-    works_taken works = works_looked mid_live new_live mid new rings (works_sides_looked live mid_live building mid sides works)
+    works_taken works = works_looked mid_live new_live mid new rings (works_same works)
 
     pages_are : mid_live.pages ≡ live.pages
     pages_are = ap (λ (l : LiveValue). l.pages) sides.of_live
@@ -113,13 +137,25 @@ module _ (live mid_live : LiveValue) (building mid : BuildingValue) (sides : Sid
     workers_are : mid.workers ≡ building.workers
     workers_are = ap (λ (b : BuildingValue). b.workers) sides.of_building
 
-    back : AreLooked new_live.pages new.workers live.pages building.workers
-    back =
-        subst (λ (ps : List (PutEnd Copied)). AreLooked new_live.pages new.workers ps building.workers) pages_are
-        (subst (AreLooked new_live.pages new.workers mid_live.pages) workers_are (rings_back mid_live.pages mid.workers new_live.pages new.workers rings.rings))
+    both : AreLooked live.pages building.workers new_live.pages new.workers
+    both =
+        subst (λ (ps : List (PutEnd Copied)). AreLooked ps building.workers new_live.pages new.workers) pages_are
+        (subst (λ (ws : List WorkerValue). AreLooked mid_live.pages ws new_live.pages new.workers) workers_are rings.rings)
+
+    sent_back : all_sent live.pages ≡ all_sent new_live.pages
+    sent_back = sym (same_sent live.pages new_live.pages both.puts)
+
+    pub all_only : IsOnlyLookedAt live building new_live new
+    all_only = record {
+      state = rings.state ∙ ap (λ (l : LiveValue). l.state) sides.of_live;
+      pages = both;
+      puts = subst (λ (ps : List (PutEnd Entry)). AllZip PutEndLooked live.sides ps) (sym rings.sides) sides.puts;
+      takes = ap (map unseen_take) rings.other_sides ∙ sides.takes;
+      rest = rest_same new building mid rings.idle rings.other_sides rings.spools rings.given rings.work sides.of_building;
+    }
 
     pub had_all : HaveAll new_live new → HaveAll live building
-    had_all = sealed_looked new_live.pages new.workers live.pages building.workers back
+    had_all = sealed_looked (all_sent new_live.pages) new.workers (all_sent live.pages) building.workers sent_back (sym both.same)
 
     pub was_taken : IsPartOf mid_live mid → HaveAll new_live new → IsPartOf live building × HaveAll live building
     was_taken part sealed = (was_part part, had_all sealed)
@@ -127,27 +163,33 @@ module _ (live mid_live : LiveValue) (building mid : BuildingValue) (sides : Sid
     still_unsealed :
         (worker : ℕ) → IsUnsealed worker (all_sent new_live.pages) new.workers → IsUnsealed worker (all_sent live.pages) building.workers
     still_unsealed worker unsealed sent it there at sealed =
-        let now = same_at unseen new.workers building.workers worker it (sym back.same) at in
-        unsealed sent now.0 (sym (ap (λ (l : List (List Copied)). slice_get l worker) back.sent) ∙ there) now.1 (record {
+        let now = same_at unseen new.workers building.workers worker it both.same at in
+        unsealed sent now.0 (sym (ap (λ (l : List (List Copied)). slice_get l worker) sent_back) ∙ there) now.1 (record {
           taken = ap (λ (v : WorkerValue). v.intake.end.received) now.2 ∙ sealed.taken;
           closed = subst (λ (v : WorkerValue). All (λ begun. begun ≡ []) v.maker.begun) (sym now.2) sealed.closed;
         })
 
-    pub refused_left :
+    pub kept_left :
         (worker : ℕ) → IsPartOf mid_live mid → early_cause (core_state mid_live mid) ≡ None → worker < length new.workers
         → FirstAreSealed worker (all_sent new_live.pages) new.workers → IsUnsealed worker (all_sent new_live.pages) new.workers
-        → RefusesSwitch live building (NotSealed worker) (core_state new_live new)
-    refused_left worker part none less lower unsealed =
-        let many = as_long unseen unseen building.workers new.workers back.same in
-        inr (inl (record {
-          part = was_part part;
-          first = ap early_cause (sym same_state) ∙ none;
-          worker = worker;
-          lowest = record {
-            there = subst (λ (n : ℕ). worker < n) (sym many) less;
-            lower = first_looked new_live.pages new.workers live.pages building.workers back worker lower;
-            unsealed = still_unsealed worker unsealed;
-          };
-          not_sealed = refl;
-          unchanged = state_taken;
-        }))
+        → IsKeptOut live building (NotSealed worker) new_live new
+    kept_left worker part none less lower unsealed =
+        let many = as_long unseen unseen new.workers building.workers both.same in
+        record {
+          cause = inr (inr (record {
+            part = was_part part;
+            first = ap early_cause (sym same_state) ∙ none;
+            worker = worker;
+            lowest = record {
+              there = subst (λ (n : ℕ). worker < n) many less;
+              lower = first_looked (all_sent new_live.pages) new.workers (all_sent live.pages) building.workers sent_back (sym both.same) worker lower;
+              unsealed = still_unsealed worker unsealed;
+            };
+            not_sealed = refl;
+          }));
+          looked = all_only;
+        }
+
+    -- what was taken in was part of the build, which nothing held back
+    pub first_none : early_cause (core_state mid_live mid) ≡ None → early_cause (core_state live building) ≡ None
+    first_none none = ap early_cause (sym same_state) ∙ none

@@ -1,20 +1,53 @@
 -- What a step of a table does to the ends of its rings.
-use Rattle.std.specs.Prelude.{◌≡◌, ℕ, ◌+◌, ◌≤◌, [], ◌∷◌, ◌++◌, set, Some}
-use Rattle.std.specs.List.{slice_get}
+use Rattle.std.specs.Prelude.{◌≡◌, ℕ, ◌+◌, ◌≤◌, List, [], ◌∷◌, ◌++◌, set, MatchOption, Option, None, Some}
+use Rattle.std.specs.List.{AllZip, slice_get}
+use Rattle.keybytes.specs.Keys.{KeySpecValue}
+use Rattle.heap_log.specs.declared.record.LogRec.{LogRec}
 use Rattle.side_file.specs.Ends.{PutEnd}
+use Rattle.side_file.specs.declared.entry.Entry.{Entry}
+use Rattle.building.specs.TakeEnd.{PutEndLooked}
 use Rattle.building.specs.declared.copied.Copied.{Copied}
-use Rattle.build_work.specs.Rings.{all_sent, put_rings}
-use Rattle.build_halves.specs.Builds.{LiveValue}
+use Rattle.build_events.specs.CoreState.{BuildState}
+use Rattle.build_events.specs.Workers.{fed_to}
+use Rattle.build_halves.specs.Builds.{LiveValue, next_entries}
 
 -- the ends of its rings are as they were: nothing was put, and none was looked at
 pub record KeepsRings (old new : LiveValue) : Type 0 where
   pub pages : new.pages ≡ old.pages
   pub sides : new.sides ≡ old.sides
 
--- no copy was put into a page ring, and each is still that of its place
-pub record PutsNoCopy (old new : LiveValue) : Type 0 where
-  pub rings : put_rings new.pages ≡ put_rings old.pages
-  pub sent : all_sent new.pages ≡ all_sent old.pages
+-- the entries of an index that come next after those that were fed, so many; none where the build has no such index
+abbrev pub next_of : BuildState → List LogRec → ℕ → Option KeySpecValue → ℕ → List Entry
+next_of b log index None count = []
+next_of b log index (Some spec) count = next_entries b log index spec count
+
+-- an end was sent so many entries of its index of the build, those that come next, and nothing else
+pub record IsSentNext (b : BuildState) (log : List LogRec) (index count : ℕ) (old new : PutEnd Entry) : Type 0 where
+  pub ring : new.ring ≡ old.ring
+  pub capacity : new.capacity ≡ old.capacity
+  pub sent : new.sent ≡ old.sent ++ next_of b log index (slice_get b.specs index) count
+
+-- so is the end of each side-file's ring
+abbrev pub AreSentNext : BuildState → List LogRec → List (PutEnd Entry) → List (PutEnd Entry) → Type 0
+AreSentNext b log olds news =
+    (index : ℕ) (old : PutEnd Entry) → slice_get olds index ≡ Some old
+    → (new : PutEnd Entry) × (slice_get news index ≡ Some new) × (count : ℕ) × IsSentNext b log index count old new
+
+-- the rings of side-files were sent what comes next of the build that runs, and nothing where none runs
+abbrev pub SendsNext : LiveValue → List (PutEnd Entry) → Type 0
+SendsNext live news = MatchOption live.state.build (AllZip PutEndLooked live.sides news) (λ b. AreSentNext b live.state.heap.log live.sides news)
+
+-- a build goes on, and the rings of its side-files were sent what comes next
+pub record SendsOn (old new : LiveValue) : Type 0 where
+  pub build : BuildState
+  pub runs : old.state.build ≡ Some build
+  pub after : BuildState
+  pub goes_on : new.state.build ≡ Some after
+  pub same : after ≡ record build { fed = after.fed }
+  pub log : new.state.heap.log ≡ old.state.heap.log
+  pub each : (index : ℕ) (end : PutEnd Entry) → slice_get old.sides index ≡ Some end
+      → (new_end : PutEnd Entry) × (slice_get new.sides index ≡ Some new_end) × (count : ℕ) × (fed_to after index ≡ fed_to build index + count)
+      × IsSentNext build old.state.heap.log index count end new_end
 
 -- one copy of a page was put into the worker's ring, behind all that it was sent, and the other page rings are as they were
 pub record IsPutTo (worker : ℕ) (old new : LiveValue) : Type 0 where

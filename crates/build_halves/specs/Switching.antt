@@ -1,13 +1,13 @@
 -- What a switch asks of what stands beside the table, and why it is refused.
 use Rattle.std.specs.Prelude.{◌≡◌, ℕ, ◌<◌, ◌⊎◌, [], is_some, not, length, map, Option, Some, None, IfSome}
 use Rattle.std.specs.Option.{option_map}
-use Rattle.std.specs.List.{position, slice_get}
+use Rattle.std.specs.List.{AllZip, position, slice_get}
 use Rattle.keybytes.specs.Faults.{first_cause}
 use Rattle.keybytes.specs.declared.fault.Fault.{Fault}
 use Rattle.keybytes.specs.declared.fault.Fault.TheVariants.{NoBuild, NotLoaded, NotScanned, NotSealed}
 use Rattle.side_file.specs.Ends.{PutEnd}
 use Rattle.side_file.specs.declared.entry.Entry.{Entry}
-use Rattle.building.specs.TakeEnd.{TakeEnd}
+use Rattle.building.specs.TakeEnd.{PutEndLooked, TakeEnd}
 use Rattle.build_events.specs.BuildSteps.{OnBuild, build_cause}
 use Rattle.build_events.specs.CoreState.{BuildState, CoreState}
 use Rattle.build_events.specs.Ranges.{open_range}
@@ -16,9 +16,9 @@ use Rattle.build_events.specs.Workers.{fed_to, unloaded_index}
 use Rattle.build_events.specs.declared.event.Event.TheVariants.{Switch}
 use Rattle.build_scan.specs.SideFiles.{IsFed}
 use Rattle.build_work.specs.BuildingValue.{BuildingValue, IndexValue, WorkValue}
-use Rattle.build_work.specs.Rings.{all_sent, AreSealed, FirstAreSealed, IsUnsealed}
+use Rattle.build_work.specs.Rings.{all_sent, AreLooked, AreSealed, FirstAreSealed, IsUnsealed}
 use Rattle.build_work.specs.WorkOn.{AreFed}
-use Rattle.build_halves.specs.Builds.{LiveValue, core_state}
+use Rattle.build_halves.specs.Builds.{LiveValue, WorksOn, core_state}
 
 -- what stands beside the table is of the build that runs: it has its number and its indexes, work on each of these, and as many workers
 pub record IsOfBuild (live : LiveValue) (building : BuildingValue) : Type 0 where
@@ -43,19 +43,24 @@ IsFedAt k live building =
     (index : IndexValue) (put : PutEnd Entry) (end : TakeEnd Entry) → slice_get w.indexes k ≡ Some index → slice_get live.sides k ≡ Some put
     → slice_get building.sides k ≡ Some end → IsFed (fed_to b k) index.applied put end))
 
--- an end that puts entries, and one that takes them, but for what it has seen in its ring
-abbrev pub unseen_put : PutEnd Entry → PutEnd Entry
-unseen_put end = record end { free = 0 }
-
+-- an end that takes entries, but for what it has seen in its ring
 abbrev pub unseen_take : TakeEnd Entry → TakeEnd Entry
 unseen_take end = record end { known = [] }
 
 -- both ends of side-files' rings were looked at, and nothing else changed
 pub record SidesAreLooked (live : LiveValue) (building : BuildingValue) (new_live : LiveValue) (new_building : BuildingValue) : Type 0 where
-  pub puts : map unseen_put new_live.sides ≡ map unseen_put live.sides
+  pub puts : AllZip PutEndLooked live.sides new_live.sides
   pub takes : map unseen_take new_building.sides ≡ map unseen_take building.sides
   pub of_live : new_live ≡ record live { sides = new_live.sides }
   pub of_building : new_building ≡ record building { sides = new_building.sides }
+
+-- both ends of all rings were, and nothing else changed
+pub record IsOnlyLookedAt (live : LiveValue) (building : BuildingValue) (new_live : LiveValue) (new_building : BuildingValue) : Type 0 where
+  pub state : new_live.state ≡ live.state
+  pub pages : AreLooked live.pages building.workers new_live.pages new_building.workers
+  pub puts : AllZip PutEndLooked live.sides new_live.sides
+  pub takes : map unseen_take new_building.sides ≡ map unseen_take building.sides
+  pub rest : new_building ≡ record building { workers = new_building.workers; sides = new_building.sides }
 
 -- all pages of the build are copied
 abbrev pub IsScannedWhole : LiveValue → Type 0
@@ -83,27 +88,45 @@ abbrev pub HaveAll : LiveValue → BuildingValue → Type 0
 HaveAll live building = AreSealed (all_sent live.pages) building.workers
 
 -- what stands beside the table isn't of the build that runs
-pub record IsForeign (live : LiveValue) (building : BuildingValue) (fault : Fault) (new : CoreState) : Type 0 where
+pub record IsForeign (live : LiveValue) (building : BuildingValue) (fault : Fault) : Type 0 where
   pub foreign : IsPartOf live building → ⊥
   pub no_build : fault ≡ NoBuild
-  pub unchanged : new ≡ core_state live building
+
+-- a cause stands that comes before the workers are asked
+pub record IsTooEarly (live : LiveValue) (building : BuildingValue) (fault : Fault) : Type 0 where
+  pub part : IsPartOf live building
+  pub cause : early_cause (core_state live building) ≡ Some fault
 
 -- a copy is left in a ring, or a run is open
-pub record HasLeftCopy (live : LiveValue) (building : BuildingValue) (fault : Fault) (new : CoreState) : Type 0 where
+pub record HasLeftCopy (live : LiveValue) (building : BuildingValue) (fault : Fault) : Type 0 where
   pub part : IsPartOf live building
   pub first : early_cause (core_state live building) ≡ None
   pub worker : ℕ
   pub lowest : IsLowestUnsealed live building worker
   pub not_sealed : fault ≡ NotSealed worker
-  pub unchanged : new ≡ core_state live building
 
--- any other cause is that of the event, which comes before the workers are asked, or once they have taken all
-pub record IsEventRefused (live : LiveValue) (building : BuildingValue) (fault : Fault) (new : CoreState) : Type 0 where
+-- why the table doesn't take in what stands beside it
+abbrev pub KeepsOut : LiveValue → BuildingValue → Fault → Type 0
+KeepsOut live building fault = IsForeign live building fault ⊎ IsTooEarly live building fault ⊎ HasLeftCopy live building fault
+
+-- it was kept out, and looked at only
+pub record IsKeptOut
+    (live : LiveValue) (building : BuildingValue) (fault : Fault) (new_live : LiveValue) (new_building : BuildingValue)
+    : Type 0 where
+  pub cause : KeepsOut live building fault
+  pub looked : IsOnlyLookedAt live building new_live new_building
+
+-- it was taken in, and its switch refused as the event is; the same switch can be tried again
+pub record IsSwitchRefused
+    (live : LiveValue) (building : BuildingValue) (fault : Fault) (new_live : LiveValue) (new_building : BuildingValue)
+    : Type 0 where
   pub part : IsPartOf live building
-  pub turn : (early_cause (core_state live building) ≡ Some fault) ⊎ HaveAll live building
-  pub refused : IsRefused (core_state live building) Switch fault new
+  pub first : early_cause (core_state live building) ≡ None
+  pub all : HaveAll live building
+  pub refused : IsRefused (core_state live building) Switch fault (core_state new_live new_building)
+  pub works : WorksOn new_live new_building
 
--- why the table doesn't switch in what stands beside it
-abbrev pub RefusesSwitch : LiveValue → BuildingValue → Fault → CoreState → Type 0
-RefusesSwitch live building fault new =
-    IsForeign live building fault new ⊎ HasLeftCopy live building fault new ⊎ IsEventRefused live building fault new
+-- why the table doesn't switch in what stands beside it, and what that leaves
+abbrev pub RefusesSwitch : LiveValue → BuildingValue → Fault → LiveValue → BuildingValue → Type 0
+RefusesSwitch live building fault new_live new_building =
+    IsKeptOut live building fault new_live new_building ⊎ IsSwitchRefused live building fault new_live new_building

@@ -64,6 +64,19 @@ pub same_at :
     → (x : X) × (slice_get xs k ≡ Some x) × (f x ≡ f y)
 same_at f xs ys k y same at = at_map f xs k (f y) (ap (λ (l : List _). slice_get l k) same ∙ map_at f ys k y at)
 
+-- a place has what is written there, and each other what it had
+pub once_set :
+    {X : Type 0} (xs : List X) (i : ℕ) (y : X) (k : ℕ) (x : X) → slice_get xs k ≡ Some x
+    → ((k ≡ i) × (slice_get (set xs i y) k ≡ Some y)) ⊎ ((k ≡ i → ⊥) × (slice_get (set xs i y) k ≡ Some x))
+once_set [] i y k x at = absurd (cc)
+once_set (z ∷ zs) zero y zero x at = inl (refl, refl)
+once_set (z ∷ zs) zero y (suc k) x at = inr (λ same. omega (arith, same), at)
+once_set (z ∷ zs) (suc i) y zero x at = inr (λ same. omega (arith, same), at)
+once_set (z ∷ zs) (suc i) y (suc k) x at = elim (once_set zs i y k x at) [
+  | inl it ↦ inl (ap suc it.0, it.1)
+  | inr it ↦ inr (λ same. it.0 (omega (arith, same)), it.1)
+]
+
 -- what f gives at a place stays, where it is the same of what is written there
 pub kept : {X Y : Type 0} (f : X → Y) (xs : List X) (ys : List Y) (i : ℕ) (y d : X) → map f xs ≡ ys → f y ≡ f (get_or xs i d) → map f (set xs i y) ≡ ys
 kept f xs ys i y d same e = map-set_same f xs i y d e ∙ same

@@ -71,6 +71,7 @@ module _
       cc in
       record {
         many = length-set work.indexes index new_it ∙ kept.many;
+        placed = kept.placed;
         indexes = λ k spec e x there at_end x_at. elim (at_set work.indexes index new_it k x x_at) [
           | inl this ↦
               let its = kept.indexes index spec end it (ap (slice_get work.specs) (sym this.0) ∙ there) taking at in

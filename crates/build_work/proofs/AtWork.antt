@@ -16,7 +16,8 @@ use Rattle.building.specs.WorkerValue.{IsHolding, WorkerValue}
 use Rattle.building.specs.declared.copied.Copied.{Copied}
 use Rattle.building.proofs.Taking.{start_taking}
 use Rattle.build_work.specs.BuildingValue.{intakes, worker_state}
-use Rattle.build_work.specs.Equipped.{IsEquipped}
+use Rattle.build_work.specs.Equipped.{HasOwnSpools}
+use Rattle.build_work.specs.Keeping.{AreWorkers}
 use Rattle.build_work.specs.Holding.{fresh_maker}
 use Rattle.build_work.specs.Rings.{all_sent, begun_on, unseen, AreOfBuilds, AreTaking, IsWorkerOf}
 use Rattle.build_scan.proofs.Places.{at_set, all_at, at_map, map_at, same_at, mapped}
@@ -120,22 +121,22 @@ module _
   pub started_taking :
       (kinds : List Kind) (specs : List KeySpecValue) (workers : List WorkerValue) (idle : List IntakeValue)
       → intakes workers idle ≡ map (begun_on (builds + 1)) pages → All (λ worker. worker.maker ≡ fresh_maker kinds specs) workers
-      → All (IsEquipped (length specs)) workers
+      → All (HasOwnSpools specs) workers → AreWorkers (builds + 1) specs false workers
       → AreTaking (builds + 1) kinds specs false (all_sent pages) workers
-  started_taking kinds specs workers idle are makers equipped k sent worker there at =
+  started_taking kinds specs workers idle are makers equipped placed k sent worker there at =
       let end = at_map (λ (e : PutEnd Copied). e.sent) pages k sent there in
       let place : slice_get (map (begun_on (builds + 1)) pages) k ≡ Some worker.intake =
       ap (λ (is : List IntakeValue). slice_get is k) (sym are) ∙ intake_at workers idle k worker at in
       let it = at_map (begun_on (builds + 1)) pages k worker.intake place in
       let same : it.0 ≡ end.0 = same_Some it.0 end.0 (sym it.1 ∙ end.1) in
       let maker = all_at (λ (w : WorkerValue). w.maker ≡ fresh_maker kinds specs) workers k worker makers at in
-      let sound = all_at (IsEquipped (length specs)) workers k worker equipped at in
+      let sound = placed k worker at in
       record {
         fine = sound.fine;
         schema = ap (λ (m : MakerValue). m.schema) maker;
-        specs_are = ap (λ (m : MakerValue). m.specs) maker;
-        handed = sound.has_them;
-        own = λ e. sound.own;
+        specs_are = sound.specs_are;
+        handed = sound.spools_are;
+        own = λ e. all_at (HasOwnSpools specs) workers k worker equipped at;
         none = λ e. absurd (false≢true e);
         opened = λ e. absurd (false≢true e);
         taking =

@@ -13,7 +13,7 @@ use Rattle.building.specs.declared.copied.Copied.{Copied}
 use Rattle.build_work.specs.BuildingValue.{BuildingValue, worker_state, intakes}
 use Rattle.building.specs.SpoolValue.{SpoolValue}
 use Rattle.build_work.specs.Holding.{all_spools, fresh_maker, spools_state}
-use Rattle.build_work.specs.Equipped.{IsFresh}
+use Rattle.build_work.specs.Equipped.{IsFresh, IsNewMaker}
 use Rattle.building.specs.WorkerValue.{WorkerValue}
 use Rattle.run_maker.specs.Making.{MakerValue}
 use Rattle.keybytes.specs.declared.pair.Pair.{Pair}
@@ -52,14 +52,14 @@ ends_emptied page_rings entry_rings workers idle sides are none build pages puts
     }
 
 -- an intake that begins a build was sent nothing of it
-pub all_fresh : (builds : ℕ) (pages : List (PutEnd Copied)) → AreOfBuilds builds (all_sent pages) → All IsFresh (map (begun_on (builds + 1)) pages)
-all_fresh builds pages before = all_from IsFresh (map (begun_on (builds + 1)) pages) each where
-  each : (k : ℕ) (intake : IntakeValue) → slice_get (map (begun_on (builds + 1)) pages) k ≡ Some intake → IsFresh intake
+pub all_fresh : (builds : ℕ) (pages : List (PutEnd Copied)) → AreOfBuilds builds (all_sent pages) → All (IsFresh (builds + 1)) (map (begun_on (builds + 1)) pages)
+all_fresh builds pages before = all_from (IsFresh (builds + 1)) (map (begun_on (builds + 1)) pages) each where
+  each : (k : ℕ) (intake : IntakeValue) → slice_get (map (begun_on (builds + 1)) pages) k ≡ Some intake → IsFresh (builds + 1) intake
   each k intake at =
       let end = at_map (begun_on (builds + 1)) pages k intake at in
       let old = all_at (λ (sent : List Copied). All (λ copied. copied.build ≤ builds) sent) (all_sent pages) k end.0.sent before
       (map_at (λ (e : PutEnd Copied). e.sent) pages k end.0 end.1) in
-      subst IsFresh end.2 (record {
+      subst (IsFresh (builds + 1)) end.2 (record {
         begins = refl;
         earlier = All-weaker (λ (copied : Copied). copied.build ≤ builds) (λ (copied : Copied). copied.build < builds + 1) (λ copied le. omega (arith, le)) end.0.sent old;
       })
@@ -81,9 +81,8 @@ none_begun specs = all_from (λ (begun : List Pair). begun ≡ []) (map (λ _. [
   each : (k : ℕ) (begun : List Pair) → slice_get (map (λ _. []) specs) k ≡ Some begun → begun ≡ []
   each k begun at = sym (at_map (λ (s : KeySpecValue). []) specs k begun at).2
 
-fresh_many : (maker : MakerValue) (kinds : List Kind) (specs : List KeySpecValue) → maker ≡ fresh_maker kinds specs
-    → (length maker.specs ≡ length specs) × All (λ begun. begun ≡ []) maker.begun
-fresh_many maker kinds specs is = rw is (refl, none_begun specs)
+is_new : (maker : MakerValue) (kinds : List Kind) (specs : List KeySpecValue) → maker ≡ fresh_maker kinds specs → IsNewMaker specs maker
+is_new maker kinds specs is = rw is (record { specs_are = refl; none = none_begun specs })
 
 -- spools that are left were given to no build
 not_given : (given : Bool) (spools : List SpoolValue) → 1 ≤ length (spools_state given spools).left → given ≡ false
@@ -127,11 +126,10 @@ left_empty building spools same given none empty =
 
 -- makers that have made nothing have no run open
 pub fresh_makers :
-    {X : Type 0} (maker : X → MakerValue) (kinds : List Kind) (specs : List KeySpecValue) (n : ℕ) (all : List X) → length specs ≡ n
-    → All (λ it. maker it ≡ fresh_maker kinds specs) all → All (λ it. (length (maker it).specs ≡ n) × All (λ begun. begun ≡ []) (maker it).begun) all
-fresh_makers maker kinds specs n all many are =
-    All-weaker (λ it. maker it ≡ fresh_maker kinds specs) (λ it. (length (maker it).specs ≡ n) × All (λ begun. begun ≡ []) (maker it).begun)
-    (λ it is. let fresh = fresh_many (maker it) kinds specs is in (fresh.0 ∙ many, fresh.1)) all are
+    {X : Type 0} (maker : X → MakerValue) (kinds : List Kind) (specs : List KeySpecValue) (all : List X)
+    → All (λ it. maker it ≡ fresh_maker kinds specs) all → All (λ it. IsNewMaker specs (maker it)) all
+fresh_makers maker kinds specs all are =
+    All-weaker (λ it. maker it ≡ fresh_maker kinds specs) (λ it. IsNewMaker specs (maker it)) (λ it. is_new (maker it) kinds specs) all are
 
 -- the workers have the makers that were made for them
 pub their_makers :

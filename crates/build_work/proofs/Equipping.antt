@@ -1,16 +1,17 @@
 -- The workers of a build get their rings, makers and spools, one after another.
-use Rattle.std.proofs.Common.{◌≡◌, ℕ, zero, suc, ◌⊎◌, ◌+◌, ◌*◌, ◌<◌, List, [], ◌∷◌, ◌++◌, length, map, take, drop, get_or, Some, refl, sym, ap, ap₂, ◌∙◌, arith}
+use Rattle.std.proofs.Common.{◌≡◌, ℕ, zero, suc, ◌⊎◌, ◌+◌, ◌*◌, ◌<◌, List, [], ◌∷◌, ◌++◌, length, map, take, drop, get_or, Some, false, refl, sym, ap, ap₂, ◌∙◌, arith}
 use Rattle.std.proofs.Common.{append_assoc, append-nil, inl, inr}
 use Rattle.std.specs.List.{slice_get}
 use Rattle.std.proofs.Math.Nat.{suc-mul}
 use Rattle.std.proofs.lemmas.List.{drop_more, length-drop, length-map, map-append, take-append-drop, take_more}
 use Rattle.std.proofs.lemmas.Option.{same_Some}
+use Rattle.keybytes.specs.Keys.{KeySpecValue}
 use Rattle.side_file.specs.Ends.{RingId}
 use Rattle.building.specs.IntakeValue.{IntakeValue}
 use Rattle.building.specs.SpoolValue.{SpoolValue}
 use Rattle.building.specs.WorkerValue.{WorkerValue}
 use Rattle.build_work.specs.BuildingValue.{intakes}
-use Rattle.build_work.specs.Equipped.{AreNumbered}
+use Rattle.build_work.specs.Keeping.{AreWorkers, IsWorkerAt}
 use Rattle.build_work.specs.Holding.{lent_spools}
 use Rattle.build_work.specs.Rings.{take_rings}
 use Rattle.build_scan.proofs.Places.{map_at}
@@ -74,10 +75,11 @@ at_more (z ∷ zs) y (suc k) x at = elim (at_more zs y k x at) [
   | inr last ↦ inr (ap suc last.0, last.1)
 ]
 
--- one worker more has the next number
-pub numbered_more :
-    (workers : List WorkerValue) (worker : WorkerValue) → AreNumbered workers → worker.number ≡ length workers → AreNumbered (workers ++ worker ∷ [])
-numbered_more workers worker before next k it at = elim (at_more workers worker k it at) [
+-- one worker more, at the next place
+pub workers_more :
+    (build : ℕ) (specs : List KeySpecValue) (workers : List WorkerValue) (worker : WorkerValue) → AreWorkers build specs false workers
+    → IsWorkerAt build specs false (length workers) worker → AreWorkers build specs false (workers ++ worker ∷ [])
+workers_more build specs workers worker before next k it at = elim (at_more workers worker k it at) [
   | inl there ↦ before k it there
-  | inr last ↦ ap (λ (w : WorkerValue). w.number) last.1 ∙ next ∙ sym last.0
+  | inr last ↦ rw (last.0, last.1) next
 ]

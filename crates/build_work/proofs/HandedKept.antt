@@ -1,5 +1,5 @@
 -- The workers of a build hand their spools over: these hold the pairs of what the workers received.
-use Rattle.std.proofs.Common.{◌≡◌, ℕ, ◌*◌, ◌<◌, true, false, List, [], ◌++◌, All, length, map, get_or, Option, Some, None, refl, sym, ap, ◌∙◌, subst, arith}
+use Rattle.std.proofs.Common.{◌≡◌, ℕ, ◌*◌, ◌<◌, Bool, true, false, List, [], ◌++◌, All, length, map, get_or, Option, Some, None, refl, sym, ap, ◌∙◌, subst, arith}
 use Rattle.std.specs.List.{slice_get}
 use Rattle.std.proofs.lemmas.Bool.{false≢true}
 use Rattle.std.proofs.lemmas.List.{length-map}
@@ -17,7 +17,7 @@ use Rattle.building.specs.WorkerValue.{IsCounting, IsHolding, WorkerValue}
 use Rattle.build_work.specs.BuildingValue.{BuildingValue, IndexValue, IsUnloaded, WorkValue}
 use Rattle.build_work.specs.Columns.{column}
 use Rattle.build_work.specs.Holding.{HaveColumns, all_spools, lent_spools}
-use Rattle.build_work.specs.Keeping.{HasHanded, IsClosed, KeepsWork}
+use Rattle.build_work.specs.Keeping.{AreWorkers, HasHanded, IsClosed, IsWorkerAt, KeepsWork}
 use Rattle.build_work.specs.Working.{CanHandOver, handed_over}
 use Rattle.build_work.proofs.Kept.{any_workers}
 use Rattle.build_work.proofs.OneWorker.{the_work}
@@ -25,22 +25,18 @@ use Rattle.build_work.proofs.SpoolPlaces.{column_is, column_there, flat_at, flat
 use Rattle.build_scan.proofs.Places.{all_at, all_mapped, at_map, map_at, mapped_of, no_pair, there_is}
 
 module _
-    (build : ℕ) (specs : List KeySpecValue) (workers : List WorkerValue) (closed : All (IsClosed build specs) workers)
-    (lent : All (λ worker. worker.handed ≡ false) workers)
+    (build : ℕ) (specs : List KeySpecValue) (workers : List WorkerValue) (placed : AreWorkers build specs false workers) (closed : All IsClosed workers)
     (holding : All (λ worker. worker.fault ≡ None → worker.handed ≡ false → IsHolding worker.intake worker.maker worker.spools) workers) where
   abbrev n : ℕ
   n = length specs
 
-  its_closed : (k : ℕ) (worker : WorkerValue) → slice_get workers k ≡ Some worker → IsClosed build specs worker
-  its_closed k worker at = all_at (IsClosed build specs) workers k worker closed at
-
   holds : (k : ℕ) (worker : WorkerValue) → slice_get workers k ≡ Some worker → IsHolding worker.intake worker.maker worker.spools
   holds k worker at =
-      all_at (λ (w : WorkerValue). w.fault ≡ None → w.handed ≡ false → IsHolding w.intake w.maker w.spools) workers k worker holding at (its_closed k worker at).fine
-      (all_at (λ (w : WorkerValue). w.handed ≡ false) workers k worker lent at)
+      all_at (λ (w : WorkerValue). w.fault ≡ None → w.handed ≡ false → IsHolding w.intake w.maker w.spools) workers k worker holding at
+      (placed k worker at).fine (placed k worker at).spools_are
 
   own_many : (k : ℕ) (worker : WorkerValue) → slice_get workers k ≡ Some worker → length worker.spools ≡ n
-  own_many k worker at = (holds k worker at).many ∙ ap length (its_closed k worker at).specs_are
+  own_many k worker at = (holds k worker at).many ∙ ap length (placed k worker at).specs_are
 
   lent_many : length (lent_spools workers) ≡ length workers * n
   lent_many = flat_many (λ (v : WorkerValue). v.spools) n workers own_many
@@ -69,10 +65,10 @@ module _
 
     its_pairs : HoldsPairs (spec_at specs index) (received_images worker.maker.schema worker.intake) spool.runs []
     its_pairs =
-        let is = its_closed k worker at in
+        let is = placed k worker at in
         let there : index < length worker.maker.specs = omega (arith, less, ap length is.specs_are) in
         let held = (holds k worker at).holds index there in
-        let none : get_or worker.maker.begun index [] ≡ [] = no_pair worker.maker.begun index is.closed in
+        let none : get_or worker.maker.begun index [] ≡ [] = no_pair worker.maker.begun index (all_at IsClosed workers k worker closed at) in
         subst (λ (ss : List KeySpecValue). HoldsPairs (spec_at ss index) (received_images worker.maker.schema worker.intake) spool.runs []) is.specs_are
         (subst (λ (rs : List (List Pair)). HoldsPairs (spec_at worker.maker.specs index) (received_images worker.maker.schema worker.intake) rs []) runs_there
         (subst (HoldsPairs (spec_at worker.maker.specs index) (received_images worker.maker.schema worker.intake) (get_or (runs_of worker.spools) index [])) none held))
@@ -92,12 +88,11 @@ module _
 
   pub all_handed :
       All (λ worker. All (λ spec. spec.kinds ≡ worker.maker.schema) worker.maker.specs) workers
-      → All (λ worker. worker.fault ≡ None → IsCounting worker.intake worker.maker) workers → All (HasHanded build specs) (map handed_over workers)
-  all_handed columns counting = mapped_of (HasHanded build specs) handed_over workers (λ k worker at.
-      let is = its_closed k worker at in
+      → All (λ worker. worker.fault ≡ None → IsCounting worker.intake worker.maker) workers → All (HasHanded specs) (map handed_over workers)
+  all_handed columns counting = mapped_of (HasHanded specs) handed_over workers (λ k worker at.
+      let is = placed k worker at in
       record {
-        is_closed = record { fine = is.fine; of_build = is.of_build; specs_are = is.specs_are; closed = is.closed };
-        handed = refl;
+        closed = all_at IsClosed workers k worker closed at;
         none = refl;
         columns = all_at (λ (w : WorkerValue). All (λ spec. spec.kinds ≡ w.maker.schema) w.maker.specs) workers k worker columns at;
         counting = all_at (λ (w : WorkerValue). w.fault ≡ None → IsCounting w.intake w.maker) workers k worker counting at is.fine;
@@ -105,26 +100,39 @@ module _
             → HoldsOpen (spec_at ss i) (unsealed_images worker.maker.schema worker.intake) (get_or worker.maker.begun i [])) is.specs_are (holds k worker at).opened;
       })
 
+  pub placed_handed : AreWorkers build specs true (map handed_over workers)
+  placed_handed k worker at =
+      let it = at_map handed_over workers k worker at in
+      let is = placed k it.0 it.1 in
+      subst (IsWorkerAt build specs true k) it.2 (record {
+        number = is.number;
+        fine = is.fine;
+        of_build = is.of_build;
+        specs_are = is.specs_are;
+        spools_are = refl;
+      })
+
 -- the work goes on, and its indexes are being loaded
 pub handed_kept :
     (workers : List WorkerValue) (sides : List (TakeEnd Entry)) (spools : List SpoolValue) (work : WorkValue) → work.loading ≡ false
-    → All (IsClosed work.build work.specs) workers → All (λ worker. worker.handed ≡ false) workers
-    → All (λ worker. All (λ spec. spec.kinds ≡ worker.maker.schema) worker.maker.specs) workers
+    → All IsClosed workers → All (λ worker. All (λ spec. spec.kinds ≡ worker.maker.schema) worker.maker.specs) workers
     → All (λ worker. worker.fault ≡ None → IsCounting worker.intake worker.maker) workers
     → All (λ worker. worker.fault ≡ None → worker.handed ≡ false → IsHolding worker.intake worker.maker worker.spools) workers
     → KeepsWork workers sides spools (Some work) → KeepsWork (map handed_over workers) sides (all_spools workers spools) (Some (record work { loading = true }))
-handed_kept workers sides spools work scans closed lent columns counting holding is = λ fine.
+handed_kept workers sides spools work scans closed columns counting holding is = λ fine.
     let old = is fine in
+    let placed = subst (λ (handed : Bool). AreWorkers work.build work.specs handed workers) scans old.placed in
     let all : all_spools workers spools ≡ lent_spools workers = ap (λ (home : List SpoolValue). home ++ lent_spools workers) (old.lent scans) in
     record {
       many = old.many;
+      placed = placed_handed work.build work.specs workers placed closed holding;
       indexes = λ k spec end index here there at.
           any_workers work.build spec workers (map handed_over workers) end index
           (all_at (λ (i : IndexValue). i.built ≡ None) work.indexes k index (old.unloaded scans) at) (old.indexes k spec end index here there at);
       lent = λ e. absurd (false≢true (sym e));
       unloaded = λ e. absurd (false≢true (sym e));
-      handed = λ e. all_handed work.build work.specs workers closed lent holding columns counting;
-      columns = λ e. rw all (lent_columns work.build work.specs workers closed lent holding (λ index. IsUnloaded index (record work { loading = true })));
+      handed = λ e. all_handed work.build work.specs workers placed closed holding columns counting;
+      columns = λ e. rw all (lent_columns work.build work.specs workers placed closed holding (λ index. IsUnloaded index (record work { loading = true })));
     }
 
 -- the same of the work that runs, as it was seen
@@ -139,11 +147,7 @@ pub handed_over_kept :
 handed_over_kept old seen work held same runs is can columns counting holding keeps workers spools workers_are spools_are =
     let it : can.work ≡ work = the_work old.work can.work work can.runs (ap (λ (b : BuildingValue). b.work) (sym same) ∙ runs) in
     let scans : work.loading ≡ false = ap (λ (w : WorkValue). w.loading) (sym it) ∙ can.scans in
-    let closed : All (IsClosed work.build work.specs) seen.workers =
-    subst (λ (w : WorkValue). All (IsClosed w.build w.specs) seen.workers) it
-    (subst (λ (b : BuildingValue). All (IsClosed can.work.build can.work.specs) b.workers) (sym same) can.closed) in
-    let lent : All (λ worker. worker.handed ≡ false) seen.workers =
-    subst (λ (b : BuildingValue). All (λ (worker : WorkerValue). worker.handed ≡ false) b.workers) (sym same) can.lent in
+    let closed : All IsClosed seen.workers = subst (λ (b : BuildingValue). All IsClosed b.workers) (sym same) can.closed in
     rw (workers_are, spools_are, is)
-    (handed_kept seen.workers seen.sides seen.spools work scans closed lent columns counting holding
+    (handed_kept seen.workers seen.sides seen.spools work scans closed columns counting holding
     (subst (λ (o : Option WorkValue). KeepsWork seen.workers seen.sides seen.spools o) runs keeps))

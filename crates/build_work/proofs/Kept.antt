@@ -1,5 +1,5 @@
 -- What the work of a build keeps by itself stays, as it begins, as its rings are looked at and as its workers go on.
-use Rattle.std.proofs.Common.{◌≡◌, ℕ, true, false, List, [], ◌∷◌, length, map, set, Option, Some, None, Result, Ok, Err, refl, sym, ap, ◌∙◌, subst}
+use Rattle.std.proofs.Common.{◌≡◌, ℕ, Bool, true, false, List, [], ◌∷◌, length, map, set, Option, Some, None, Result, Ok, Err, refl, sym, ap, ◌∙◌, subst}
 use Rattle.std.proofs.Common.{inl, inr, arith, drop, drop_of_length-le, ◌≤◌, ◌*◌}
 use Rattle.std.specs.Prelude.{IfErr, IfOk, OnOk, flat_map}
 use Rattle.std.specs.List.{All, slice_get}
@@ -17,10 +17,10 @@ use Rattle.building.specs.SpoolValue.{SpoolValue}
 use Rattle.building.specs.TakeEnd.{TakeEnd}
 use Rattle.building.specs.Taking.{received_images}
 use Rattle.building.specs.Work.{after_seal}
-use Rattle.building.specs.WorkerValue.{WorkerValue}
+use Rattle.building.specs.WorkerValue.{SameWorker, WorkerValue}
 use Rattle.build_work.specs.BuildingValue.{IndexValue, IsUnloaded, WorkValue, fresh, fresh_index}
 use Rattle.build_work.specs.Holding.{HaveColumns}
-use Rattle.build_work.specs.Keeping.{ArePairsOf, HasHanded, IsIndexOf, IsKept, KeepsWork}
+use Rattle.build_work.specs.Keeping.{ArePairsOf, AreWorkers, HasHanded, IsIndexOf, IsKept, KeepsWork}
 use Rattle.build_work.specs.Rings.{unseen}
 use Rattle.build_scan.proofs.Places.{all_at, all_from, at_set, mapped, no_pair, replicate_at, same_at, set_same}
 
@@ -50,10 +50,11 @@ fresh_of build spec workers end none = record {
 
 -- a build begins, of which no entry was taken
 pub fresh_kept :
-    (build : ℕ) (specs : List KeySpecValue) (workers : List WorkerValue) (sides : List (TakeEnd Entry)) → All (λ end. told_to build end.received ≡ []) sides
-    → KeepsWork workers sides [] (Some (fresh build specs))
-fresh_kept build specs workers sides unused = λ fine. record {
+    (build : ℕ) (specs : List KeySpecValue) (workers : List WorkerValue) (sides : List (TakeEnd Entry)) → AreWorkers build specs false workers
+    → All (λ end. told_to build end.received ≡ []) sides → KeepsWork workers sides [] (Some (fresh build specs))
+fresh_kept build specs workers sides placed unused = λ fine. record {
   many = length-replicate (length specs) fresh_index;
+  placed = placed;
   indexes = λ k spec end index here there at.
       subst (IsIndexOf build spec workers end) (sym (replicate_at (length specs) fresh_index k index at))
       (fresh_of build spec workers end (all_at (λ (e : TakeEnd Entry). told_to build e.received ≡ []) sides k end unused there));
@@ -75,12 +76,13 @@ any_workers build spec old new end index none is = record {
   loaded = λ built e. absurd (let bad : None ≡ Some built = sym none ∙ e in cc);
 }
 
--- until the first load the workers may do anything
+-- until the first load the workers may do anything, as long as they go on
 pub scanning_kept :
-    (old new : List WorkerValue) (sides : List (TakeEnd Entry)) (spools : List SpoolValue) (work : WorkValue) → work.loading ≡ false → IsKept old sides spools work
-    → IsKept new sides spools work
-scanning_kept old new sides spools work scans is = record {
+    (old new : List WorkerValue) (sides : List (TakeEnd Entry)) (spools : List SpoolValue) (work : WorkValue) → work.loading ≡ false
+    → AreWorkers work.build work.specs work.loading new → IsKept old sides spools work → IsKept new sides spools work
+scanning_kept old new sides spools work scans placed is = record {
   many = is.many;
+  placed = placed;
   indexes = λ k spec end index here there at.
       any_workers work.build spec old new end index (all_at (λ (i : IndexValue). i.built ≡ None) work.indexes k index (is.unloaded scans) at)
       (is.indexes k spec end index here there at);
@@ -121,10 +123,11 @@ same_columns is_open specs old new spools same is = record {
 -- workers that received the same
 pub workers_kept :
     (old new : List WorkerValue) (sides : List (TakeEnd Entry)) (spools : List SpoolValue) (work : WorkValue) → map own_images new ≡ map own_images old
-    → (work.loading ≡ true → All (HasHanded work.build work.specs) old → All (HasHanded work.build work.specs) new) → IsKept old sides spools work
-    → IsKept new sides spools work
-workers_kept old new sides spools work same handed is = record {
+    → AreWorkers work.build work.specs work.loading new
+    → (work.loading ≡ true → All (HasHanded work.specs) old → All (HasHanded work.specs) new) → IsKept old sides spools work → IsKept new sides spools work
+workers_kept old new sides spools work same placed handed is = record {
   many = is.many;
+  placed = placed;
   indexes = λ k spec end index here there at. same_pairs work.build spec old new end index same (is.indexes k spec end index here there at);
   lent = is.lent;
   unloaded = is.unloaded;
@@ -133,26 +136,39 @@ workers_kept old new sides spools work same handed is = record {
 }
 
 -- what a worker handed over doesn't depend on what it has seen of its ring
-module _ (build : ℕ) (specs : List KeySpecValue) (worker : WorkerValue) where
-  to_unseen : HasHanded build specs worker → HasHanded build specs (unseen worker)
+module _ (specs : List KeySpecValue) (worker : WorkerValue) where
+  to_unseen : HasHanded specs worker → HasHanded specs (unseen worker)
   to_unseen is = record {
-    is_closed = record { fine = is.is_closed.fine; of_build = is.is_closed.of_build; specs_are = is.is_closed.specs_are; closed = is.is_closed.closed };
-    handed = is.handed;
+    closed = is.closed;
     none = is.none;
     columns = is.columns;
     counting = record { taken = is.counting.taken; sealed_was_taken = is.counting.sealed_was_taken };
     opened = is.opened;
   }
 
-  from_unseen : HasHanded build specs (unseen worker) → HasHanded build specs worker
+  from_unseen : HasHanded specs (unseen worker) → HasHanded specs worker
   from_unseen is = record {
-    is_closed = record { fine = is.is_closed.fine; of_build = is.is_closed.of_build; specs_are = is.is_closed.specs_are; closed = is.is_closed.closed };
-    handed = is.handed;
+    closed = is.closed;
     none = is.none;
     columns = is.columns;
     counting = record { taken = is.counting.taken; sealed_was_taken = is.counting.sealed_was_taken };
     opened = is.opened;
   }
+
+-- nor does that it goes on, at its place
+placed_looked :
+    (build : ℕ) (specs : List KeySpecValue) (handed : Bool) (old new : List WorkerValue) → map unseen new ≡ map unseen old → AreWorkers build specs handed old
+    → AreWorkers build specs handed new
+placed_looked build specs handed old new same are k worker at =
+    let it = same_at unseen old new k worker (sym same) at in
+    let was = are k it.0 it.1 in
+    record {
+      number = sym (ap (λ (w : WorkerValue). w.number) it.2) ∙ was.number;
+      fine = sym (ap (λ (w : WorkerValue). w.fault) it.2) ∙ was.fine;
+      of_build = sym (ap (λ (w : WorkerValue). w.intake.build) it.2) ∙ was.of_build;
+      specs_are = sym (ap (λ (w : WorkerValue). w.maker.specs) it.2) ∙ was.specs_are;
+      spools_are = sym (ap (λ (w : WorkerValue). w.handed) it.2) ∙ was.spools_are;
+    }
 
 -- both ends of the workers' rings were looked at
 pub looked_kept :
@@ -161,11 +177,11 @@ pub looked_kept :
 looked_kept old new sides spools None same is = tt
 looked_kept old new sides spools (Some work) same is = λ fine.
     workers_kept old new sides spools work (sym (mapped unseen own_images new) ∙ ap (map own_images) same ∙ mapped unseen own_images old)
-    (λ loads all. all_from (HasHanded work.build work.specs) new (λ k worker at.
+    (placed_looked work.build work.specs work.loading old new same (is fine).placed)
+    (λ loads all. all_from (HasHanded work.specs) new (λ k worker at.
     let it = same_at unseen old new k worker (sym same) at in
-    from_unseen work.build work.specs worker
-    (subst (HasHanded work.build work.specs) it.2
-    (to_unseen work.build work.specs it.0 (all_at (HasHanded work.build work.specs) old k it.0 all it.1))))) (is fine)
+    from_unseen work.specs worker
+    (subst (HasHanded work.specs) it.2 (to_unseen work.specs it.0 (all_at (HasHanded work.specs) old k it.0 all it.1))))) (is fine)
 
 -- both ends of a side-file's ring were
 pub side_looked_kept :
@@ -176,6 +192,7 @@ side_looked_kept workers sides spools (Some work) index was end there same is = 
     let old = is fine in
     record {
       many = old.many;
+      placed = old.placed;
       indexes = λ k spec other it here at_end at. elim (at_set sides index end k other at_end) [
         | inl this ↦
             let its = old.indexes k spec was it here (ap (slice_get sides) this.0 ∙ there) at in
@@ -200,19 +217,18 @@ side_looked_kept workers sides spools (Some work) index was end there same is = 
     }
 
 -- what a worker handed over stays so when it seals once more
-sealed_again : (build : ℕ) (specs : List KeySpecValue) (it : WorkerValue) → HasHanded build specs it → HasHanded build specs (record it { intake = after_seal it.intake })
-sealed_again build specs it is =
+sealed_again : (specs : List KeySpecValue) (it : WorkerValue) → HasHanded specs it → HasHanded specs (record it { intake = after_seal it.intake })
+sealed_again specs it is =
     let images : List ImageValue = received_images it.maker.schema it.intake in
     let all : length images ≤ it.intake.taken = omega (arith, is.counting.taken) in
     let none : drop it.intake.taken images ≡ [] = drop_of_length-le images all in
     record {
-      is_closed = record { fine = is.is_closed.fine; of_build = is.is_closed.of_build; specs_are = is.is_closed.specs_are; closed = is.is_closed.closed };
-      handed = is.handed;
+      closed = is.closed;
       none = is.none;
       columns = is.columns;
       counting = record { taken = is.counting.taken; sealed_was_taken = omega arith };
       opened = λ i less.
-          subst (HoldsOpen (spec_at specs i) (drop it.intake.taken images)) (sym (no_pair it.maker.begun i is.is_closed.closed)) (record {
+          subst (HoldsOpen (spec_at specs i) (drop it.intake.taken images)) (sym (no_pair it.maker.begun i is.closed)) (record {
             last = [];
             since_seal = subst (λ (left : List ImageValue). HavePairs (spec_at specs i) left []) (sym none) refl;
             open_run = refl;
@@ -222,42 +238,60 @@ sealed_again build specs it is =
 -- the worker of a place, as a digest or a seal leaves it
 module _
     (workers : List WorkerValue) (sides : List (TakeEnd Entry)) (spools : List SpoolValue) (held new : WorkValue) (k : ℕ) (it after : WorkerValue)
-    (at : slice_get workers k ≡ Some it) (is : KeepsWork workers sides spools (Some held)) where
+    (at : slice_get workers k ≡ Some it) (same_worker : SameWorker it after) (is : KeepsWork workers sides spools (Some held)) where
+  -- it goes on at its place, and the others as before
+  placed_set : after.fault ≡ None → AreWorkers held.build held.specs held.loading workers → AreWorkers held.build held.specs held.loading (set workers k after)
+  placed_set sound are j worker there = elim (at_set workers k after j worker there) [
+    | inl this ↦
+        let was = are k it at in
+        rw (this.1, this.0) (record {
+          number = same_worker.number ∙ was.number;
+          fine = sound;
+          of_build = same_worker.build ∙ was.of_build;
+          specs_are = same_worker.specs ∙ was.specs_are;
+          spools_are = same_worker.handed ∙ was.spools_are;
+        })
+    | inr other ↦ are j worker other.1
+  ]
+
   -- while pages are copied it may do anything, and from the first load on it stays as it is
   stepped_kept :
-      new ≡ held → (HasHanded held.build held.specs it → (own_images after ≡ own_images it) × HasHanded held.build held.specs after)
+      new ≡ held → after.fault ≡ None
+      → (it.handed ≡ true → HasHanded held.specs it → (own_images after ≡ own_images it) × HasHanded held.specs after)
       → KeepsWork (set workers k after) sides spools (Some new)
-  stepped_kept same stays = λ fine.
+  stepped_kept same sound stays = λ fine.
       let old : IsKept workers sides spools held = is (ap (λ (w : WorkValue). w.spoiled) (sym same) ∙ fine) in
+      let placed = placed_set sound old.placed in
       subst (IsKept (set workers k after) sides spools) (sym same) (elim (cases_Bool held.loading) [
         | inl loads ↦
-            let was = all_at (HasHanded held.build held.specs) workers k it (old.handed loads) at in
-            let now = stays was in
+            let was = all_at (HasHanded held.specs) workers k it (old.handed loads) at in
+            let now = stays ((old.placed k it at).spools_are ∙ loads) was in
             workers_kept workers (set workers k after) sides spools held
             (map-set own_images workers k after ∙ ap (set (map own_images workers) k) now.0 ∙ sym (map-set own_images workers k it) ∙ ap (map own_images) (set_same workers k it at))
-            (λ e all. all_from (HasHanded held.build held.specs) (set workers k after) (λ j worker there. elim (at_set workers k after j worker there) [
-              | inl this ↦ subst (HasHanded held.build held.specs) (sym this.1) now.1
-              | inr other ↦ all_at (HasHanded held.build held.specs) workers j worker all other.1
+            placed
+            (λ e all. all_from (HasHanded held.specs) (set workers k after) (λ j worker there. elim (at_set workers k after j worker there) [
+              | inl this ↦ subst (HasHanded held.specs) (sym this.1) now.1
+              | inr other ↦ all_at (HasHanded held.specs) workers j worker all other.1
             ])) old
-        | inr scans ↦ scanning_kept workers (set workers k after) sides spools held scans old
+        | inr scans ↦ scanning_kept workers (set workers k after) sides spools held scans placed old
       ])
 
   spoiled_kept : (fault : Fault) → new ≡ record held { spoiled = Some fault } → KeepsWork (set workers k after) sides spools (Some new)
   spoiled_kept fault spoiled = λ fine. absurd (let bad : Some fault ≡ None = ap (λ (w : WorkValue). w.spoiled) (sym spoiled) ∙ fine in cc)
 
   pub digested_kept :
-      (answer : Result ℕ Fault) → OnOk answer (new ≡ held) → IfErr answer (λ fault. new ≡ record held { spoiled = Some fault })
+      (answer : Result ℕ Fault) → OnOk answer ((it.fault ≡ None) × (after.fault ≡ None)) → OnOk answer (new ≡ held) → IfErr answer (λ fault. new ≡ record held { spoiled = Some fault })
       → IfOk answer (λ images. it.handed ≡ true → (images ≡ 0) × (after ≡ it)) → KeepsWork (set workers k after) sides spools (Some new)
-  digested_kept (Ok images) same spoiled nothing = stepped_kept same (λ was.
-      let stays : after ≡ it = (nothing was.handed).1 in
-      (ap own_images stays, subst (HasHanded held.build held.specs) (sym stays) was))
-  digested_kept (Err fault) same spoiled nothing = spoiled_kept fault spoiled
+  digested_kept (Ok images) sound same spoiled nothing = stepped_kept same sound.1 (λ handed was.
+      let stays : after ≡ it = (nothing handed).1 in
+      (ap own_images stays, subst (HasHanded held.specs) (sym stays) was))
+  digested_kept (Err fault) sound same spoiled nothing = spoiled_kept fault spoiled
 
   pub sealed_kept :
-      (answer : Result ℕ Fault) → OnOk answer (new ≡ held) → IfErr answer (λ fault. new ≡ record held { spoiled = Some fault })
+      (answer : Result ℕ Fault) → OnOk answer ((it.fault ≡ None) × (after.fault ≡ None)) → OnOk answer (new ≡ held) → IfErr answer (λ fault. new ≡ record held { spoiled = Some fault })
       → IfOk answer (λ images. it.handed ≡ true → (images ≡ 0) × (after ≡ record it { intake = after_seal it.intake }))
       → KeepsWork (set workers k after) sides spools (Some new)
-  sealed_kept (Ok images) same spoiled nothing = stepped_kept same (λ was.
-      let stays : after ≡ record it { intake = after_seal it.intake } = (nothing was.handed).1 in
-      (ap own_images stays, subst (HasHanded held.build held.specs) (sym stays) (sealed_again held.build held.specs it was)))
-  sealed_kept (Err fault) same spoiled nothing = spoiled_kept fault spoiled
+  sealed_kept (Ok images) sound same spoiled nothing = stepped_kept same sound.1 (λ handed was.
+      let stays : after ≡ record it { intake = after_seal it.intake } = (nothing handed).1 in
+      (ap own_images stays, subst (HasHanded held.specs) (sym stays) (sealed_again held.specs it was)))
+  sealed_kept (Err fault) sound same spoiled nothing = spoiled_kept fault spoiled

@@ -137,6 +137,7 @@ module _
     pub loaded_kept : KeepsWork workers sides left (Some after)
     loaded_kept = λ fine. record {
       many = length-set work.indexes index (record { built = Some built; applied = 0 }) ∙ kept.many;
+      placed = kept.placed;
       indexes = λ k s end x there taking x_at. elim (at_set work.indexes index (record { built = Some built; applied = 0 }) k x x_at) [
         | inl this ↦
             subst (IsIndexOf work.build s workers end) (sym this.1)

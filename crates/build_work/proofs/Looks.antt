@@ -1,27 +1,34 @@
 -- What looking at both ends of the rings leaves.
 use Rattle.std.proofs.Common.{◌≡◌, ℕ, ◌+◌, ◌++◌, List, [], map, length, Some, sym, ap, ◌∙◌, inl, inr, arith, subst, length-append, ◌≤◌}
-use Rattle.std.specs.List.{All, slice_get}
+use Rattle.std.specs.List.{All, AllZip, slice_get}
 use Rattle.std.proofs.lemmas.Bool.{cases_lt}
 use Rattle.std.proofs.lemmas.List.{length-map, map-append}
 use Rattle.side_file.specs.Ends.{PutEnd, RingId}
 use Rattle.side_file.specs.declared.entry.Entry.{Entry}
 use Rattle.building.specs.IntakeValue.{IntakeValue}
-use Rattle.building.specs.TakeEnd.{TakeEnd}
+use Rattle.building.specs.TakeEnd.{PutEndLooked, TakeEnd}
 use Rattle.building.specs.WorkerValue.{WorkerValue}
 use Rattle.building.specs.declared.copied.Copied.{Copied}
 use Rattle.build_work.specs.BuildingValue.{intakes}
 use Rattle.build_work.specs.Rings.{put_rings, take_rings, all_sent, unseen, AreLooked, AreSealed, AreTakeEnds, FirstAreSealed, IsSealed}
 use Rattle.build_work.proofs.AtWork.{intake_at}
+use Rattle.build_scan.proofs.LookedEnds.{all_looked_twice, same_looked}
 use Rattle.build_scan.proofs.Places.{as_long, map_at, same_at, mapped}
 
 pub looked_again :
     (p : List (PutEnd Copied)) (w : List WorkerValue) (p' : List (PutEnd Copied)) (w' : List WorkerValue) (p'' : List (PutEnd Copied)) (w'' : List WorkerValue)
     → AreLooked p w p' w' → AreLooked p' w' p'' w'' → AreLooked p w p'' w''
 looked_again p w p' w' p'' w'' first then = record {
-  rings = then.rings ∙ first.rings;
-  sent = then.sent ∙ first.sent;
+  puts = all_looked_twice p p' p'' first.puts then.puts;
   same = then.same ∙ first.same;
 }
+
+-- ends that were looked at are of their rings, and were sent what they were
+pub same_rings : (p p' : List (PutEnd Copied)) → AllZip PutEndLooked p p' → put_rings p' ≡ put_rings p
+same_rings p p' = same_looked (λ (e : PutEnd Copied). e.ring) (λ old new looked. looked.ring) p p'
+
+pub same_sent : (p p' : List (PutEnd Copied)) → AllZip PutEndLooked p p' → all_sent p' ≡ all_sent p
+same_sent p p' = same_looked (λ (e : PutEnd Copied). e.sent) (λ old new looked. looked.sent) p p'
 
 -- the rings of the workers are those that they were
 pub rings_looked : (old new : List WorkerValue) → map unseen new ≡ map unseen old → map (λ (w : WorkerValue). w.intake.end.ring) new ≡ map (λ (w : WorkerValue). w.intake.end.ring) old
@@ -99,24 +106,25 @@ at_looked rings old new same are k w at =
     let it = same_at unseen old new k w (sym same) at in
     are k it.0 it.1 ∙ ap (λ (v : WorkerValue). Some v.intake.end.ring) it.2
 
--- who was sealed is
+-- who was sealed is, where the rings were sent the same and the workers took the same
 module _
-    (p : List (PutEnd Copied)) (w : List WorkerValue) (p' : List (PutEnd Copied)) (w' : List WorkerValue) (looked : AreLooked p w p' w') where
+    (all : List (List Copied)) (w : List WorkerValue) (all' : List (List Copied)) (w' : List WorkerValue) (sent_same : all' ≡ all)
+    (same : map unseen w' ≡ map unseen w) where
   one_looked :
-      (k : ℕ) (sent : List Copied) (worker : WorkerValue) → slice_get (all_sent p') k ≡ Some sent → slice_get w' k ≡ Some worker
-      → ((it : WorkerValue) → slice_get (all_sent p) k ≡ Some sent → slice_get w k ≡ Some it → IsSealed sent it) → IsSealed sent worker
+      (k : ℕ) (sent : List Copied) (worker : WorkerValue) → slice_get all' k ≡ Some sent → slice_get w' k ≡ Some worker
+      → ((it : WorkerValue) → slice_get all k ≡ Some sent → slice_get w k ≡ Some it → IsSealed sent it) → IsSealed sent worker
   one_looked k sent worker there at sealed =
-      let it = same_at unseen w w' k worker (sym looked.same) at in
-      let was : IsSealed sent it.0 = sealed it.0 (sym (ap (λ (l : List (List Copied)). slice_get l k) looked.sent) ∙ there) it.1 in
+      let it = same_at unseen w w' k worker (sym same) at in
+      let was : IsSealed sent it.0 = sealed it.0 (sym (ap (λ (l : List (List Copied)). slice_get l k) sent_same) ∙ there) it.1 in
       record {
         taken = sym (ap (λ (v : WorkerValue). v.intake.end.received) it.2) ∙ was.taken;
         closed = subst (λ (v : WorkerValue). All (λ begun. begun ≡ []) v.maker.begun) it.2 was.closed;
       }
 
-  pub sealed_looked : AreSealed (all_sent p) w → AreSealed (all_sent p') w'
+  pub sealed_looked : AreSealed all w → AreSealed all' w'
   sealed_looked sealed k sent worker there at = one_looked k sent worker there at (λ it put here. sealed k sent it put here)
 
-  pub first_looked : (count : ℕ) → FirstAreSealed count (all_sent p) w → FirstAreSealed count (all_sent p') w'
+  pub first_looked : (count : ℕ) → FirstAreSealed count all w → FirstAreSealed count all' w'
   first_looked count sealed k sent worker less there at = one_looked k sent worker there at (λ it put here. sealed k sent it less put here)
 
 -- one more is sealed

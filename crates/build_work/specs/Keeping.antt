@@ -1,6 +1,6 @@
 -- What the work of a build keeps by itself, of whatever table it is: the pairs of what its workers received are in its spools or its trees,
 -- and what the rings of its side-files gave is applied to these trees.
-use Rattle.std.specs.Prelude.{◌≡◌, ℕ, ◌<◌, true, false, List, [], get_or, flat_map, length, Option, Some, None}
+use Rattle.std.specs.Prelude.{◌≡◌, ℕ, ◌<◌, true, false, List, [], get_or, flat_map, length, Bool, Option, Some, None}
 use Rattle.std.specs.FinMap.{keys}
 use Rattle.std.specs.List.{All, slice_get}
 use Rattle.keybytes.specs.Keys.{KeySpecValue}
@@ -39,17 +39,26 @@ pub record IsIndexOf (build : ℕ) (spec : KeySpecValue) (workers : List WorkerV
   pub of_spec : (built : BuiltValue) → index.built ≡ Some built → built.unique ≡ spec.unique
   pub loaded : (built : BuiltValue) → index.built ≡ Some built → ArePairsOf spec workers (told_to build end.received) built.pairs
 
--- a worker of that build of these indexes which goes on, all whose runs are closed
-pub record IsClosed (build : ℕ) (specs : List KeySpecValue) (worker : WorkerValue) : Type 0 where
+-- a worker of that build of these indexes which goes on, with the number of its place; its spools are with it, or were handed over
+pub record IsWorkerAt (build : ℕ) (specs : List KeySpecValue) (handed : Bool) (place : ℕ) (worker : WorkerValue) : Type 0 where
+  pub number : worker.number ≡ place
   pub fine : worker.fault ≡ None
   pub of_build : worker.intake.build ≡ build
   pub specs_are : worker.maker.specs ≡ specs
-  pub closed : All (λ begun. begun ≡ []) worker.maker.begun
+  pub spools_are : worker.handed ≡ handed
 
--- the same once it handed its spools over; what it took since its last seal fills whole runs
-pub record HasHanded (build : ℕ) (specs : List KeySpecValue) (worker : WorkerValue) : Type 0 where
-  pub is_closed : IsClosed build specs worker
-  pub handed : worker.handed ≡ true
+-- so is each of these
+abbrev pub AreWorkers : ℕ → List KeySpecValue → Bool → List WorkerValue → Type 0
+AreWorkers build specs handed workers =
+    (place : ℕ) (worker : WorkerValue) → slice_get workers place ≡ Some worker → IsWorkerAt build specs handed place worker
+
+-- no run of the worker is open
+abbrev pub IsClosed : WorkerValue → Type 0
+IsClosed worker = All (λ begun. begun ≡ []) worker.maker.begun
+
+-- a worker that handed its spools over, all whose runs are closed; what it took since its last seal fills whole runs
+pub record HasHanded (specs : List KeySpecValue) (worker : WorkerValue) : Type 0 where
+  pub closed : IsClosed worker
   pub none : worker.spools ≡ []
   pub columns : All (λ spec. spec.kinds ≡ worker.maker.schema) worker.maker.specs
   pub counting : IsCounting worker.intake worker.maker
@@ -59,13 +68,14 @@ pub record HasHanded (build : ℕ) (specs : List KeySpecValue) (worker : WorkerV
 -- what the work of a build that goes on keeps, with its workers, the spools that no worker has, and the ends of its side-files' rings
 pub record IsKept (workers : List WorkerValue) (sides : List (TakeEnd Entry)) (spools : List SpoolValue) (work : WorkValue) : Type 0 where
   pub many : length work.indexes ≡ length work.specs
+  pub placed : AreWorkers work.build work.specs work.loading workers
   pub indexes : (k : ℕ) (spec : KeySpecValue) (end : TakeEnd Entry) (index : IndexValue) → slice_get work.specs k ≡ Some spec
       → slice_get sides k ≡ Some end → slice_get work.indexes k ≡ Some index → IsIndexOf work.build spec workers end index
   -- until the first load each spool is with its worker, and no index is in order
   pub lent : work.loading ≡ false → spools ≡ []
   pub unloaded : work.loading ≡ false → All (λ index. index.built ≡ None) work.indexes
   -- from then on no worker has one, and those of an index that isn't in order hold its pairs
-  pub handed : work.loading ≡ true → All (HasHanded work.build work.specs) workers
+  pub handed : work.loading ≡ true → All (HasHanded work.specs) workers
   pub columns : work.loading ≡ true → HaveColumns (λ index. IsUnloaded index work) work.specs workers spools
 
 -- so it is of the work, if there is any, until it is spoiled

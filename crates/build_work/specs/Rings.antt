@@ -1,11 +1,11 @@
 -- The rings between a table and the workers of its build: what each worker has of its ring.
 use Rattle.std.specs.Prelude.{◌≡◌, ℕ, ◌<◌, ◌≤◌, Bool, true, false, List, [], get_or, length, map, Some, None}
-use Rattle.std.specs.List.{All, slice_get}
+use Rattle.std.specs.List.{All, AllZip, slice_get}
 use Rattle.keybytes.specs.declared.kind.Kind.{Kind}
 use Rattle.keybytes.specs.Keys.{KeySpecValue}
 use Rattle.side_file.specs.Ends.{PutEnd, RingId}
 use Rattle.side_file.specs.declared.entry.Entry.{Entry}
-use Rattle.building.specs.TakeEnd.{TakeEnd}
+use Rattle.building.specs.TakeEnd.{PutEndLooked, TakeEnd}
 use Rattle.building.specs.Holding.{HoldsOpen}
 use Rattle.building.specs.Taking.{IsTaking, unsealed_images}
 use Rattle.building.specs.Work.{knowing, at_start}
@@ -68,8 +68,7 @@ unseen worker = record worker { intake = knowing [] worker.intake }
 pub record AreLooked
     (pages : List (PutEnd Copied)) (workers : List WorkerValue) (new_pages : List (PutEnd Copied)) (new_workers : List WorkerValue)
     : Type 0 where
-  pub rings : put_rings new_pages ≡ put_rings pages
-  pub sent : all_sent new_pages ≡ all_sent pages
+  pub puts : AllZip PutEndLooked pages new_pages
   pub same : map unseen new_workers ≡ map unseen workers
 
 -- an intake that begins a build, and has taken all that its ring was sent before

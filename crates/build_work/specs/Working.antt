@@ -53,14 +53,13 @@ pub record IsSpoiled (fault : Fault) (old new : BuildingValue) : Type 0 where
 abbrev pub handed_over : WorkerValue → WorkerValue
 handed_over worker = record worker { spools = []; handed = true }
 
--- the workers of a build that goes on may hand their spools over: none did, and all their runs are closed
+-- the workers of a build that goes on may hand their spools over: none did, and no run is open
 pub record CanHandOver (building : BuildingValue) : Type 0 where
   pub work : WorkValue
   pub runs : building.work ≡ Some work
   pub fine : work.spoiled ≡ None
   pub scans : work.loading ≡ false
-  pub lent : All (λ worker. worker.handed ≡ false) building.workers
-  pub closed : All (IsClosed work.build work.specs) building.workers
+  pub closed : All IsClosed building.workers
 
 -- the workers of the build handed their spools over, for the loads of its indexes
 pub record HasHandedOver (old new : BuildingValue) : Type 0 where

@@ -8,9 +8,9 @@ ghost use Rattle.building.specs.WorkerValue.{IsShortage, SeesCopy, SeesOwnCopy};
 ghost use Rattle.run_maker.specs.Spooling.{MemoryOnlyIf};
 ghost use Rattle.build_work.specs.BuildingValue.{fresh, given_up, intakes, IsUnloaded};
 ghost use Rattle.build_work.specs.Holding.{all_spools, lent_spools, spools_state};
-ghost use Rattle.build_work.specs.Keeping.{KeepsWork};
+ghost use Rattle.build_work.specs.Keeping.{AreWorkers, KeepsWork};
 ghost use Rattle.catch_up.specs.Built.{told_to};
-ghost use Rattle.build_work.specs.Equipped.{AreNumbered, HasRoomFor, IsEquipped, IsFresh};
+ghost use Rattle.build_work.specs.Equipped.{HasOwnSpools, HasRoomFor, IsFresh, IsNewMaker};
 ghost use Rattle.build_work.specs.Working.{CanApply, CanHandOver, CanLoad, Digested, HasApplied, HasHandedOver, HasLoaded, IsSpoiled, Sealed, WorkerDid};
 
 use crate::ends::Ends;
@@ -201,11 +201,11 @@ impl<S: Spool, T: Table> Building<S, T> {
         requires idle { self.old.workers ≡ [] }
         requires nothing_done { work ≡ fresh work.build work.specs }
         requires unused { All (λ end. told_to work.build end.received ≡ []) self.old.sides }
-        requires fresh { All IsFresh self.old.idle }
+        requires fresh { All (IsFresh work.build) self.old.idle }
         requires few { length equipment.items ≤ 16 }
         requires places { HasRoomFor (length equipment.items) workers }
         requires home { HasRoomFor (length self.old.spools) home }
-        requires makers { All (λ it. (length it.maker.specs ≡ length work.specs) × All (λ begun. begun ≡ []) it.maker.begun) equipment.items }
+        requires makers { All (λ it. IsNewMaker work.specs it.maker) equipment.items }
         requires rooms { All (λ it. HasRoomFor (length work.specs) it.spools) equipment.items }
         requires many { length self.old.spools ≡ length equipment.items * length work.specs }
         requires empty { All (λ spool. (spool.runs ≡ []) × (spool.open_run ≡ [])) self.old.spools }
@@ -213,15 +213,15 @@ impl<S: Spool, T: Table> Building<S, T> {
         ensures intakes { intakes self.new.workers self.new.idle ≡ self.old.idle }
         ensures makers { map (λ worker. worker.maker) self.new.workers ≡ map (λ it. it.maker) equipment.items }
         ensures lent { lent_spools self.new.workers ≡ self.old.spools }
-        ensures equipped { All (IsEquipped (length work.specs)) self.new.workers }
-        ensures numbered { AreNumbered self.new.workers }
+        ensures own { All (HasOwnSpools work.specs) self.new.workers }
+        ensures workers { AreWorkers work.build work.specs false self.new.workers }
     {
         let mut workers = workers;
         let spools = replace(&mut self.spools, home);
         equip(
             alloc,
+            &work,
             equipment,
-            work.specs.len(),
             spools,
             &mut self.idle,
             &mut workers,

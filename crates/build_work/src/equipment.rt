@@ -1,12 +1,14 @@
 //! What the workers of a build begin with.
-ghost use Rattle.std.specs.Prelude.{◌≡◌, ◌≤◌, ◌<◌, ◌+◌, ◌*◌, ◌++◌, [], All, map, take, drop, length, vec_capacity, IfOk, IfErr};
+ghost use Rattle.std.specs.Prelude.{◌≡◌, ◌≤◌, ◌<◌, ◌+◌, ◌*◌, ◌++◌, [], All, map, take, drop, length, vec_capacity, false, IfOk, IfErr};
 ghost use Rattle.std.specs.Vec.Iter.{into_iter_items};
 ghost use Rattle.building.specs.SpoolValue.{spool_value};
 ghost use Rattle.build_work.specs.BuildingValue.{intakes};
 ghost use Rattle.build_work.specs.Holding.{fresh_maker, lent_spools};
 ghost use Rattle.build_work.specs.Rings.{take_rings};
-ghost use Rattle.build_work.specs.Equipped.{AreNumbered, HasOneMore, HasRoomFor, IsEquipped, IsFresh};
+ghost use Rattle.build_work.specs.Equipped.{HasOneMore, HasOwnSpools, HasRoomFor, IsFresh, IsNewMaker};
+ghost use Rattle.build_work.specs.Keeping.{AreWorkers};
 
+use crate::work::Work;
 use building::{Intake, Table, Worker};
 use keybytes::{Fault, KeySpec, Schema, copied_specs};
 use run_maker::Maker;
@@ -55,12 +57,12 @@ fn one<S: Spool>(alloc: Global, schema: &Schema, specs: &[KeySpec]) -> Result<Eq
     })
 }
 
-/// Makes the workers of a build, numbered from 0: each gets the next ring, and as many of the spools as there are indexes. The
+/// Makes the workers for this work, numbered from 0: each gets the next ring, and as many of the spools as there are indexes. The
 /// rings have been emptied for the build, and the spools are empty. Takes no memory.
 pub fn equip<S: Spool, T: Table>(
     alloc: Global,
+    work: &Work,
     equipment: Vec<Equipment<S>>,
-    indexes: usize,
     spools: Vec<S>,
     idle: &mut Vec<Intake>,
     workers: &mut Vec<Worker<S, T>>,
@@ -69,46 +71,46 @@ pub fn equip<S: Spool, T: Table>(
     requires room { length equipment.items ≤ vec_capacity workers.old }
     requires rings { take_rings idle.old.items ≡ T.pages }
     requires enough { length equipment.items ≤ length idle.old.items }
-    requires fresh { All IsFresh idle.old.items }
-    requires makers { All (λ it. (length it.maker.specs ≡ indexes) × All (λ begun. begun ≡ []) it.maker.begun) equipment.items }
-    requires rooms { All (λ it. HasRoomFor indexes it.spools) equipment.items }
-    requires many { length spools.items ≡ length equipment.items * indexes }
+    requires fresh { All (IsFresh work.now.build) idle.old.items }
+    requires makers { All (λ it. IsNewMaker work.now.specs it.maker) equipment.items }
+    requires rooms { All (λ it. HasRoomFor (length work.now.specs) it.spools) equipment.items }
+    requires many { length spools.items ≡ length equipment.items * length work.now.specs }
     requires empty { All (λ spool. (S.runs spool ≡ []) × (S.open_run spool ≡ [])) spools.items }
     ensures intakes { intakes workers.new.items idle.new.items ≡ idle.old.items }
     ensures idle_room { vec_capacity idle.new ≡ vec_capacity idle.old }
     ensures makers { map (λ worker. worker.maker) workers.new.items ≡ map (λ it. it.maker) equipment.items }
     ensures lent { lent_spools workers.new.items ≡ map (spool_value S.runs S.open_run S.stake) spools.items }
-    ensures equipped { All (IsEquipped indexes) workers.new.items }
-    ensures numbered { AreNumbered workers.new.items }
+    ensures own { All (HasOwnSpools work.now.specs) workers.new.items }
+    ensures workers { AreWorkers work.now.build work.now.specs false workers.new.items }
 {
     let mut rest = spools.into_iter();
     for it in equipment {
-        add_one(alloc, it, indexes, &mut rest, idle, workers);
+        add_one(alloc, work, it, &mut rest, idle, workers);
     }
 }
 
 /// Makes the next worker.
 fn add_one<S: Spool, T: Table>(
     alloc: Global,
+    work: &Work,
     it: Equipment<S>,
-    indexes: usize,
     rest: &mut IntoIter<S>,
     idle: &mut Vec<Intake>,
     workers: &mut Vec<Worker<S, T>>,
 )
     requires rings { take_rings (intakes workers.old.items idle.old.items) ≡ T.pages }
     requires next { 0 < length idle.old.items }
-    requires fresh { All IsFresh idle.old.items }
+    requires fresh { All (IsFresh work.now.build) idle.old.items }
     requires room { length workers.old.items < vec_capacity workers.old }
-    requires maker { (length it.maker.specs ≡ indexes) × All (λ begun. begun ≡ []) it.maker.begun }
-    requires own { HasRoomFor indexes it.spools }
-    requires there { indexes ≤ length (into_iter_items rest.old) }
+    requires maker { IsNewMaker work.now.specs it.maker }
+    requires own { HasRoomFor (length work.now.specs) it.spools }
+    requires there { length work.now.specs ≤ length (into_iter_items rest.old) }
     requires empty { All (λ spool. (S.runs spool ≡ []) × (S.open_run spool ≡ [])) (into_iter_items rest.old) }
     ensures intakes { intakes workers.new.items idle.new.items ≡ intakes workers.old.items idle.old.items }
-    ensures more { HasOneMore indexes it.maker workers.old.items workers.new.items }
+    ensures more { HasOneMore work.now.build work.now.specs it.maker workers.old.items workers.new.items }
     ensures lent { lent_spools workers.new.items ++ map (spool_value S.runs S.open_run S.stake) (into_iter_items rest.new)
         ≡ lent_spools workers.old.items ++ map (spool_value S.runs S.open_run S.stake) (into_iter_items rest.old) }
-    ensures rest { into_iter_items rest.new ≡ drop indexes (into_iter_items rest.old) }
+    ensures rest { into_iter_items rest.new ≡ drop (length work.now.specs) (into_iter_items rest.old) }
     ensures idle { idle.new.items ≡ drop 1 idle.old.items }
     ensures idle_room { vec_capacity idle.new ≡ vec_capacity idle.old }
     ensures room { vec_capacity workers.new ≡ vec_capacity workers.old }
@@ -117,7 +119,7 @@ fn add_one<S: Spool, T: Table>(
         maker,
         spools: mut own,
     } = it;
-    lend(&mut own, rest, indexes);
+    lend(&mut own, rest, work.specs.len());
     let number = workers.len();
     let intake = idle.remove(0);
     workers.push_reserved(Worker::new(alloc, number, intake, maker, own));

@@ -2,9 +2,8 @@
 ghost use Rattle.std.specs.Prelude.{◌≡◌, ◌<◌, ◌↔◌, All, IsTrue, length, true, false, None, Some, IfErr, IfSome, OnOk, MatchResult};
 ghost use Rattle.build_events.specs.BuildSteps.{OnBuild};
 ghost use Rattle.build_halves.specs.Builds.{core_state, SideIsLooked, SeesSideAt, WorksOn};
-ghost use Rattle.build_halves.specs.Putting.{PutsNoCopy};
 ghost use Rattle.build_halves.specs.Switching.{IsFedAt, IsLoadedWhole, IsOfBuild, IsPartOf, IsScannedWhole, SidesAreLooked};
-ghost use Rattle.build_halves.specs.Switching.{early_cause, HaveAll, RefusesSwitch};
+ghost use Rattle.build_halves.specs.Switching.{early_cause, HaveAll, IsOnlyLookedAt, KeepsOut};
 
 use crate::{Building, Live, Table};
 use keybytes::{Fault, KeySpec, Schema};
@@ -17,10 +16,11 @@ impl<T: Table> Live<T> {
     pub(crate) fn take_in<S: Spool>(&mut self, building: &mut Building<S, T>) -> Result<(), Fault>
         ensures works { OnOk result (WorksOn self.new building.new) }
         ensures all { OnOk result (IsPartOf self.old building.old × HaveAll self.old building.old) }
+        ensures first { OnOk result (early_cause (core_state self.old building.old) ≡ None) }
         ensures state { core_state self.new building.new ≡ core_state self.old building.old }
         ensures kept { WorksOn self.old building.old → WorksOn self.new building.new }
-        ensures refused { IfErr result (λ fault. RefusesSwitch self.old building.old fault (core_state self.new building.new)) }
-        ensures pages { PutsNoCopy self.old self.new }
+        ensures out { IfErr result (KeepsOut self.old building.old) }
+        ensures looked { IsOnlyLookedAt self.old building.old self.new building.new }
     {
         if !self.is_part(building) {
             return Err(Fault::NoBuild);

@@ -2,6 +2,7 @@
 ghost use Rattle.std.specs.Prelude.{◌≡◌, ◌<◌, None, Some, slice_get, IfSome, IfOk, IfErr, OnOk, OnErr};
 ghost use Rattle.build_work.specs.BuildingValue.{BuildingValue};
 ghost use Rattle.build_halves.specs.Builds.{core_state, cause_of, WorksOn, SideIsLooked, SeesSideAt, HasFed};
+ghost use Rattle.build_halves.specs.Putting.{SendsOn};
 ghost use Rattle.build_scan.specs.TableBuilds.{BuildFollows};
 ghost use Rattle.build_scan.specs.SideFiles.{AreFedEntries, side_refusal};
 ghost use Rattle.build_events.specs.BuildSteps.{Feeds, Applies, AppliesSome};
@@ -62,6 +63,7 @@ impl<T: Table> Live<T> {
         ensures refused { IfErr result (λ fault. cause_of self.old building.old (Event.Feed index most) ≡ Some fault) }
         ensures unchanged { OnErr result (core_state self.new building.new ≡ core_state self.old building.old) }
         ensures works { WorksOn self.new building.new }
+        ensures sends { OnOk result (SendsOn self.old self.new) }
         ensures pages { self.new.pages ≡ self.old.pages }
     {
         self.build_with(index)?;
@@ -105,6 +107,7 @@ impl<T: Table> Live<T> {
         ensures applied { IfOk result (λ count. Applies index most (core_state self.old building.old) count (core_state self.new building.new)) }
         ensures some { OnErr result (AppliesSome index most (core_state self.old building.old) (core_state self.new building.new)) }
         ensures works { WorksOn self.new building.new }
+        ensures sends { SendsOn self.old self.new }
         ensures pages { self.new.pages ≡ self.old.pages }
         ensures memory { IfErr result (λ fault. fault ≡ Fault.Memory) }
     {

@@ -5,7 +5,8 @@ ghost use Rattle.heap_table.specs.HeapState.{HeapState, after_switch, busy_txns}
 ghost use Rattle.keybytes.specs.Keys.{are_key_columns};
 ghost use Rattle.heap_table.specs.Pages.{KeepsRows};
 ghost use Rattle.build_halves.specs.Builds.{core_state, cause_of, WorksOn};
-ghost use Rattle.build_halves.specs.Putting.{PutsNoCopy};
+ghost use Rattle.building.specs.TakeEnd.{PutEndLooked};
+ghost use Rattle.build_halves.specs.Putting.{SendsNext, SendsOn};
 ghost use Rattle.build_halves.specs.Switching.{HaveAll, IsPartOf, RefusesSwitch};
 ghost use Rattle.build_halves.specs.CatchingUp.{MayCatchUp, IndexIsFurther, IsDoneIndex, left_at, ready_of};
 ghost use Rattle.build_work.specs.Verdicts.{its_verdict};
@@ -113,6 +114,7 @@ impl<T: Table> Live<T> {
         ensures all { OnOk result (OnBuild self.new.state.build
             (λ b. all_unapplied b self.new.state.heap.log b.specs (core_state self.new building.new).work.indexes ≡ 0)) }
         ensures works { WorksOn self.new building.new }
+        ensures sends { SendsOn self.old self.new }
         ensures pages { self.new.pages ≡ self.old.pages }
         ensures memory { IfErr result (λ fault. fault ≡ Fault.Memory) }
     {
@@ -138,6 +140,7 @@ impl<T: Table> Live<T> {
         ensures further { IndexIsFurther index (core_state self.old building.old) (core_state self.new building.new) }
         ensures all { OnOk result (left_at index (core_state self.new building.new) ≡ 0) }
         ensures works { WorksOn self.new building.new }
+        ensures sends { SendsOn self.old self.new }
         ensures pages { self.new.pages ≡ self.old.pages }
         ensures memory { IfErr result (λ fault. fault ≡ Fault.Memory) }
     {
@@ -156,7 +159,7 @@ impl<T: Table> Live<T> {
     /// number of the log record, and what became of each index. [`Fault::NoBuild`], also where what stands beside the table is another
     /// build's; the fault of a spoiled build, [`Fault::NotScanned`], [`Fault::NotLoaded`]; [`Fault::NotSealed`] where a copy is left in a
     /// worker's ring, or its run is open; [`Fault::Behind`], [`Fault::Busy`]. Where memory is wanted, entries that were applied stay applied, and
-    /// it can be called again.
+    /// it can be called again, as after Behind and Busy.
     pub fn switch_in<S: Spool>(
         &mut self,
         building: &mut Building<S, T>,
@@ -164,12 +167,13 @@ impl<T: Table> Live<T> {
         ensures switched { IfOk result (λ told. Switches (core_state self.old building.old) told (core_state self.new building.new)) }
         ensures accepted { OnOk result (cause_of self.old building.old Event.Switch ≡ None) }
         ensures all { OnOk result (IsPartOf self.old building.old × HaveAll self.old building.old) }
-        ensures refused { IfErr result (λ fault. RefusesSwitch self.old building.old fault (core_state self.new building.new)) }
+        ensures refused { IfErr result (λ fault. RefusesSwitch self.old building.old fault self.new building.new) }
         ensures own { WorksOn self.old building.old
             → IfErr result (λ fault. IsRefused (core_state self.old building.old) Event.Switch fault (core_state self.new building.new)) }
         ensures works { OnOk result (WorksOn self.new building.new) }
         ensures kept { WorksOn self.old building.old → WorksOn self.new building.new }
-        ensures pages { PutsNoCopy self.old self.new }
+        ensures pages { AllZip PutEndLooked self.old.pages self.new.pages }
+        ensures sides { SendsNext self.old self.new.sides }
     {
         // What both keep is known once it is told.
         building.laws();
@@ -189,6 +193,7 @@ impl<T: Table> Live<T> {
         ensures refused { IfErr result (λ fault. IsRefused (core_state self.old building.old) Event.Switch fault (core_state self.new building.new)) }
         ensures works { WorksOn self.new building.new }
         ensures pages { self.new.pages ≡ self.old.pages }
+        ensures sides { SendsNext self.old self.new.sides }
     {
         self.check_switch(building)?;
         self.catch_up(building)?;

@@ -21,5 +21,5 @@ returns-clause-lent g c =
     let value = spool_value spool.runs spool.open_run spool.stake in
     let workers : List WorkerValue = c.args.workers.now.items in
     ap (λ (ws : List WorkerValue). lent_spools ws ++ map value (into_iter_items c.lend.new.rest)) c.push_reserved.ensures.items
-    ∙ more_lent value workers c.new.result c.lend.new.own.items (into_iter_items c.args.rest.now) (into_iter_items c.lend.new.rest) c.args.indexes
+    ∙ more_lent value workers c.new.result c.lend.new.own.items (into_iter_items c.args.rest.now) (into_iter_items c.lend.new.rest) c.len.result
     (ap (λ (w : WorkerValue). w.spools) c.new.ensures) c.lend.ensures.own c.lend.ensures.rest

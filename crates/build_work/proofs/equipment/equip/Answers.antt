@@ -1,10 +1,11 @@
-use Rattle.std.proofs.Common.{◌≡◌, ◌∙◌, ◌*◌, ◌++◌, ◌∷◌, [], List, All, length, map, ap, sym, subst, arith}
+use Rattle.std.proofs.Common.{◌≡◌, ◌∙◌, ◌*◌, ◌++◌, ◌∷◌, [], List, All, false, length, map, ap, sym, subst, arith}
 use Rattle.std.proofs.lemmas.List.{length_push}
 use Rattle.std.proofs.lemmas.List.Elements.{All-drop, All-push, All-rest}
 use Rattle.std.specs.Vec.Iter.{into_iter_items}
 use Rattle.building.specs.WorkerValue.{WorkerValue}
-use Rattle.build_work.specs.Equipped.{AreNumbered, HasRoomFor, IsEquipped, IsFresh}
-use Rattle.build_work.proofs.Equipping.{enough_left, numbered_more, one_made}
+use Rattle.build_work.specs.Equipped.{HasOwnSpools, HasRoomFor, IsFresh, IsNewMaker}
+use Rattle.build_work.specs.Keeping.{AreWorkers}
+use Rattle.build_work.proofs.Equipping.{enough_left, one_made, workers_more}
 use Rattle.build_work.proofs.equipment.equip.Goals as goal
 
 pub loop-it-preserved : goal.loop-it-preserved
@@ -17,6 +18,8 @@ loop-it-preserved g c =
     let step : c.loop-it.it-iterator.rest.items ≡ it ∷ others = c.in-Some.ensures.steps.0 in
     let workers : List WorkerValue = c.loop-it.workers.items in
     let spools = into_iter_items c.loop-it.rest in
+    let work = c.args.work.now in
+    let indexes = length work.specs in
     record {
       intakes = added.intakes ∙ inv.intakes;
       many = omega (arith, ap length more.last, length_push workers more.worker, ap length step, inv.many);
@@ -25,15 +28,15 @@ loop-it-preserved g c =
           ∙ one_made (λ (w : WorkerValue). w.maker) (λ it. it.maker) workers more.worker it others more.made
           ∙ ap (λ its. map (λ (w : WorkerValue). w.maker) workers ++ map (λ it. it.maker) its) (sym step)
           ∙ inv.makers;
-      kinds = All-rest (λ it. (length it.maker.specs ≡ c.args.indexes) × All (λ begun. begun ≡ []) it.maker.begun) it others _ step inv.kinds;
-      rooms = All-rest (λ it. HasRoomFor c.args.indexes it.spools) it others _ step inv.rooms;
+      kinds = All-rest (λ it. IsNewMaker work.specs it.maker) it others _ step inv.kinds;
+      rooms = All-rest (λ it. HasRoomFor indexes it.spools) it others _ step inv.rooms;
       lent = added.lent ∙ inv.lent;
-      left = ap length added.rest ∙ enough_left c.args.indexes (length others) spools (inv.left ∙ ap (λ its. length its * c.args.indexes) step);
+      left = ap length added.rest ∙ enough_left indexes (length others) spools (inv.left ∙ ap (λ its. length its * indexes) step);
       empty = subst (All (λ spool. (g.S.Spool.runs spool ≡ []) × (g.S.Spool.open_run spool ≡ []))) (sym added.rest)
-          (All-drop (λ spool. (g.S.Spool.runs spool ≡ []) × (g.S.Spool.open_run spool ≡ [])) c.args.indexes spools inv.empty);
-      fresh = subst (All IsFresh) (sym added.idle) (All-drop IsFresh 1 c.loop-it.idle.items inv.fresh);
+          (All-drop (λ spool. (g.S.Spool.runs spool ≡ []) × (g.S.Spool.open_run spool ≡ [])) indexes spools inv.empty);
+      fresh = subst (All (IsFresh work.build)) (sym added.idle) (All-drop (IsFresh work.build) 1 c.loop-it.idle.items inv.fresh);
       idle_room = added.idle_room ∙ inv.idle_room;
       room = added.room ∙ inv.room;
-      equipped = subst (All (IsEquipped c.args.indexes)) (sym more.last) (All-push (IsEquipped c.args.indexes) workers more.worker inv.equipped more.equipped);
-      numbered = subst AreNumbered (sym more.last) (numbered_more workers more.worker inv.numbered more.numbered);
+      own = subst (All (HasOwnSpools work.specs)) (sym more.last) (All-push (HasOwnSpools work.specs) workers more.worker inv.own more.own);
+      workers = subst (AreWorkers work.build work.specs false) (sym more.last) (workers_more work.build work.specs workers more.worker inv.workers more.at);
     }

@@ -1,9 +1,10 @@
-use Rattle.std.proofs.Common.{◌≡◌, ◌+◌, ◌*◌, ◌++◌, [], All, map, length, vec_capacity}
+use Rattle.std.proofs.Common.{◌≡◌, ◌+◌, ◌*◌, ◌++◌, [], All, false, map, length, vec_capacity}
 use Rattle.std.specs.Vec.Iter.{into_iter_items}
 use Rattle.building.specs.SpoolValue.{spool_value}
 use Rattle.building.specs.WorkerValue.{WorkerValue}
 use Rattle.build_work.specs.BuildingValue.{intakes}
-use Rattle.build_work.specs.Equipped.{AreNumbered, HasRoomFor, IsEquipped, IsFresh}
+use Rattle.build_work.specs.Equipped.{HasOwnSpools, HasRoomFor, IsFresh, IsNewMaker}
+use Rattle.build_work.specs.Keeping.{AreWorkers}
 use Rattle.build_work.specs.Holding.{lent_spools}
 use Rattle.build_work.proofs.equipment.equip.Given as goal
 
@@ -12,15 +13,15 @@ invariant-loop-it g l = record {
   intakes : intakes l.workers.items l.idle.items ≡ l.fn.idle.items;
   many : length l.workers.items + length l.it-iterator.rest.items ≡ length l.fn.equipment.items;
   makers : map (λ (worker : WorkerValue). worker.maker) l.workers.items ++ map (λ it. it.maker) l.it-iterator.rest.items ≡ map (λ it. it.maker) l.fn.equipment.items;
-  kinds : All (λ it. (length it.maker.specs ≡ l.indexes) × All (λ begun. begun ≡ []) it.maker.begun) l.it-iterator.rest.items;
-  rooms : All (λ it. HasRoomFor l.indexes it.spools) l.it-iterator.rest.items;
+  kinds : All (λ it. IsNewMaker l.work.specs it.maker) l.it-iterator.rest.items;
+  rooms : All (λ it. HasRoomFor (length l.work.specs) it.spools) l.it-iterator.rest.items;
   lent : lent_spools l.workers.items ++ map (spool_value g.S.Spool.runs g.S.Spool.open_run g.S.Spool.stake) (into_iter_items l.rest)
       ≡ map (spool_value g.S.Spool.runs g.S.Spool.open_run g.S.Spool.stake) l.fn.spools.items;
-  left : length (into_iter_items l.rest) ≡ length l.it-iterator.rest.items * l.indexes;
+  left : length (into_iter_items l.rest) ≡ length l.it-iterator.rest.items * length l.work.specs;
   empty : All (λ spool. (g.S.Spool.runs spool ≡ []) × (g.S.Spool.open_run spool ≡ [])) (into_iter_items l.rest);
-  fresh : All IsFresh l.idle.items;
+  fresh : All (IsFresh l.work.build) l.idle.items;
   idle_room : vec_capacity l.idle ≡ vec_capacity l.fn.idle;
   room : vec_capacity l.workers ≡ vec_capacity l.fn.workers;
-  equipped : All (IsEquipped l.indexes) l.workers.items;
-  numbered : AreNumbered l.workers.items;
+  own : All (HasOwnSpools l.work.specs) l.workers.items;
+  workers : AreWorkers l.work.build l.work.specs false l.workers.items;
 }

@@ -2,18 +2,19 @@ use Rattle.std.proofs.Common.{◌∙◌, refl, arith}
 use Rattle.side_file.specs.Ends.{PutEnd}
 use Rattle.building.specs.declared.copied.Copied.{Copied}
 use Rattle.build_work.specs.Rings.{all_sent, unseen}
-use Rattle.build_work.proofs.Looks.{at_looked, looked_again, first_looked, sealed_more}
+use Rattle.build_work.proofs.Looks.{at_looked, looked_again, first_looked, same_rings, same_sent, sealed_more}
+use Rattle.build_scan.proofs.LookedEnds.{all_unlooked}
 use Rattle.build_scan.proofs.Places.{as_long, below}
 use Rattle.build_work.proofs.rings.first_unsealed.Goals as goal
 
 pub loop-worker-init : goal.loop-worker-init
 loop-worker-init g c = record {
-  looked = record { rings = refl; sent = refl; same = refl };
+  looked = record { puts = all_unlooked c.args.pages.now.items; same = refl };
   sealed = λ k sent worker less there at. absurd (omega (arith, less));
 }
 
 pub is_unsealed-requires-clause-rings : goal.is_unsealed-requires-clause-rings
-is_unsealed-requires-clause-rings g c = c.loop-worker.invariant.looked.rings ∙ c.requires.rings
+is_unsealed-requires-clause-rings g c = same_rings c.args.pages.now.items c.loop-worker.pages.items c.loop-worker.invariant.looked.puts ∙ c.requires.rings
 
 pub is_unsealed-requires-clause-there : goal.is_unsealed-requires-clause-there
 is_unsealed-requires-clause-there g c =
@@ -23,7 +24,8 @@ is_unsealed-requires-clause-there g c =
 pub is_unsealed-requires-clause-few : goal.is_unsealed-requires-clause-few
 is_unsealed-requires-clause-few g c =
     let long = as_long unseen unseen c.loop-worker.workers.items c.args.workers.now.items c.loop-worker.invariant.looked.same in
-    let many = as_long (λ (end : PutEnd Copied). end.ring) (λ (end : PutEnd Copied). end.ring) c.loop-worker.pages.items c.args.pages.now.items c.loop-worker.invariant.looked.rings in
+    let many = as_long (λ (end : PutEnd Copied). end.ring) (λ (end : PutEnd Copied). end.ring) c.loop-worker.pages.items c.args.pages.now.items
+    (same_rings c.args.pages.now.items c.loop-worker.pages.items c.loop-worker.invariant.looked.puts) in
     let few = c.requires.few in
     omega (arith, long, many, few)
 
@@ -41,8 +43,8 @@ returns-then-is_unsealed-clause-unsealed g c =
     let long = as_long unseen unseen c.loop-worker.workers.items c.args.workers.now.items c.loop-worker.invariant.looked.same in
     let longer = as_long unseen unseen c.is_unsealed.new.workers.items c.loop-worker.workers.items looked.same in (
       omega (arith, long, longer),
-      first_looked c.loop-worker.pages.items c.loop-worker.workers.items c.is_unsealed.new.pages.items c.is_unsealed.new.workers.items looked c.loop-worker.worker
-          c.loop-worker.invariant.sealed,
+      first_looked (all_sent c.loop-worker.pages.items) c.loop-worker.workers.items (all_sent c.is_unsealed.new.pages.items) c.is_unsealed.new.workers.items
+          (same_sent c.loop-worker.pages.items c.is_unsealed.new.pages.items looked.puts) looked.same c.loop-worker.worker c.loop-worker.invariant.sealed,
       c.is_unsealed.ensures.unsealed c.if-is_unsealed.true,
     )
 
@@ -51,7 +53,8 @@ loop-worker-preserved g c = record {
   looked = looked_again c.args.pages.now.items c.args.workers.now.items c.loop-worker.pages.items c.loop-worker.workers.items c.is_unsealed.new.pages.items c.is_unsealed.new.workers.items
       c.loop-worker.invariant.looked c.is_unsealed.ensures.looked;
   sealed = sealed_more c.loop-worker.worker (all_sent c.is_unsealed.new.pages.items) c.is_unsealed.new.workers.items
-      (first_looked c.loop-worker.pages.items c.loop-worker.workers.items c.is_unsealed.new.pages.items c.is_unsealed.new.workers.items c.is_unsealed.ensures.looked
+      (first_looked (all_sent c.loop-worker.pages.items) c.loop-worker.workers.items (all_sent c.is_unsealed.new.pages.items) c.is_unsealed.new.workers.items
+      (same_sent c.loop-worker.pages.items c.is_unsealed.new.pages.items c.is_unsealed.ensures.looked.puts) c.is_unsealed.ensures.looked.same
       c.loop-worker.worker c.loop-worker.invariant.sealed)
       (c.is_unsealed.ensures.sealed c.if-is_unsealed.false);
 }

@@ -6,6 +6,7 @@ use Rattle.side_file.specs.Ends.{PutEnd, RingId}
 use Rattle.building.specs.WorkerValue.{WorkerValue}
 use Rattle.building.specs.declared.copied.Copied.{Copied}
 use Rattle.build_work.specs.Rings.{unseen}
+use Rattle.build_scan.proofs.LookedEnds.{all_unlooked, one_looked}
 use Rattle.build_scan.proofs.Places.{at_index, kept, here_set, map_at}
 use Rattle.build_work.proofs.rings.waiting.Goals as goal
 
@@ -31,10 +32,7 @@ returns-clause-looked g c =
     let putter : PutEnd Copied = c.index_mut-2.result.now in
     let worker : WorkerValue = c.index_mut.result.now in
     record {
-      rings = kept (λ (end : PutEnd Copied). end.ring) pages _ c.args.worker c.waiting.new.putter putter refl
-          (c.waiting.ensures.putter.ring ∙ ap (λ (end : PutEnd Copied). end.ring) c.index_mut-2.ensures.value);
-      sent = kept (λ (end : PutEnd Copied). end.sent) pages _ c.args.worker c.waiting.new.putter putter refl
-          (c.waiting.ensures.putter.sent ∙ ap (λ (end : PutEnd Copied). end.sent) c.index_mut-2.ensures.value);
+      puts = one_looked pages pages c.args.worker putter c.waiting.new.putter (all_unlooked pages) c.index_mut-2.ensures.value c.waiting.ensures.putter;
       same = kept unseen workers _ c.args.worker c.waiting.new.self worker refl
           (ap unseen c.waiting.ensures.worker ∙ ap unseen c.index_mut.ensures.value);
     }

@@ -23,7 +23,7 @@ invariant_of-self g c =
     subst (λ (b : BuildingValue). All (λ (end : TakeEnd Entry). told_to c.args.work.build end.received ≡ []) b.sides) (sym c.self.view_is) c.requires.unused in
     let kept = subst (λ (spools : List SpoolValue). KeepsWork workers ends spools (Some c.args.work)) (sym none)
     (subst (λ (o : Option WorkValue). KeepsWork workers ends [] o) (ap Some (sym c.requires.nothing_done))
-    (fresh_kept c.args.work.build c.args.work.specs workers ends unused)) in (
+    (fresh_kept c.args.work.build c.args.work.specs workers ends c.equip.ensures.workers unused)) in (
       search rules,
       search rules,
       search rules,

@@ -27,8 +27,9 @@ invariant_of-self g c =
       λ given. let none = c.self.invariant.4 given in let some = c.in-Some.is in absurd (cc),
       λ given none. absurd (cc),
       digested_kept workers (map take_end c.self.inside.side_ends.items) (map value c.self.inside.spools.items) c.in-Some.work c.note_fault.new.work c.args.worker it after
-          at (subst (λ (o : Option WorkValue). KeepsWork workers (map take_end c.self.inside.side_ends.items) (map value c.self.inside.spools.items) o) c.in-Some.is
-          c.self.invariant.6) c.digest-digested.result c.note_fault.ensures.fine c.note_fault.ensures.spoiled c.digest-digested.ensures.handed,
+          at stays (subst (λ (o : Option WorkValue). KeepsWork workers (map take_end c.self.inside.side_ends.items) (map value c.self.inside.spools.items) o) c.in-Some.is
+          c.self.invariant.6) c.digest-digested.result c.digest-digested.ensures.sound c.note_fault.ensures.fine c.note_fault.ensures.spoiled
+          c.digest-digested.ensures.handed,
     )
 
 pub returns-clause-did : goal.returns-clause-did

@@ -5,6 +5,7 @@ use Rattle.build_halves.specs.Builds.{core_state}
 use Rattle.build_scan.specs.TableBuilds.{BuildFollows}
 use Rattle.build_halves.specs.CatchingUp.{left_at}
 use Rattle.build_events.specs.CoreState.{BuildState}
+use Rattle.build_halves.proofs.SentNext.{sends_nothing, sends_twice}
 use Rattle.build_halves.proofs.CatchingUp.{begins, catches_up, all_further, others_left, may_apply_at, none_left}
 use Rattle.live_table.proofs.live.Live.catch_up.Goals as goal
 
@@ -16,6 +17,7 @@ loop-index-init g c =
           c.in-Some.ensures.sides eight;
       none = λ k less. absurd (omega (arith, less));
       works = c.requires.works;
+      sends = sends_nothing c.args.self.now c.in-Some.build.now c.in-Some.ensures.build;
       pages = refl;
     }
 
@@ -50,6 +52,7 @@ loop-index-preserved g c =
             subst (λ i. left_at i new ≡ 0) same c.in_ok-catch_up_one.ensures.all
       ];
       works = c.catch_up_one.ensures.works;
+      sends = sends_twice c.args.self.now c.loop-index.self c.catch_up_one.new.self c.loop-index.invariant.sends c.catch_up_one.ensures.sends;
       pages = c.catch_up_one.ensures.pages ∙ c.loop-index.invariant.pages;
     }
 
@@ -82,3 +85,10 @@ returns-in_err-catch_up_one-clause-pages g c = c.catch_up_one.ensures.pages ∙ 
 
 pub returns-clause-pages : goal.returns-clause-pages
 returns-clause-pages g c = c.loop-index.invariant.pages
+
+pub returns-in_err-catch_up_one-clause-sends : goal.returns-in_err-catch_up_one-clause-sends
+returns-in_err-catch_up_one-clause-sends g c =
+    sends_twice c.args.self.now c.loop-index.self c.catch_up_one.new.self c.loop-index.invariant.sends c.catch_up_one.ensures.sends
+
+pub returns-clause-sends : goal.returns-clause-sends
+returns-clause-sends g c = c.loop-index.invariant.sends

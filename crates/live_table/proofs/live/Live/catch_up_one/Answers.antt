@@ -6,6 +6,7 @@ use Rattle.build_events.specs.CoreState.{CoreState}
 use Rattle.build_halves.proofs.ApplyCauses.{applies_next}
 use Rattle.build_halves.proofs.IndexFurther.{further_from, applies_on, fed_further, applied_further, some_further, fewer_left, runs_on, index_on}
 use Rattle.build_halves.proofs.Feeding.{state_side_looked, works_side_looked}
+use Rattle.build_halves.proofs.SentNext.{looked_on_side, sends_twice}
 use Rattle.live_table.proofs.live.Live.catch_up_one.Goals as goal
 
 pub loop-self-init : goal.loop-self-init
@@ -20,6 +21,7 @@ loop-self-init g c =
       further = subst (λ (s : CoreState). IndexIsFurther c.args.index s (core_state looked.new.self looked.new.building)) state
           (further_from c.args.index looked.result looked.new.self looked.new.building next);
       works = works_side_looked c.args.index live looked.new.self building looked.new.building looked.ensures.looked c.requires.works;
+      sends = looked_on_side c.args.index live looked.new.self building looked.new.building next.build looked.ensures.looked next.run.build_is;
       pages = ap (λ (l : LiveValue). l.pages) looked.ensures.looked.puts;
     }
 
@@ -60,6 +62,8 @@ loop-self-preserved g c =
     record {
       further = applied_further c.args.index start fed further (core_state c.apply.new.self c.apply.new.building) 256 c.in_ok-apply.field-0 c.in_ok-apply.ensures.applied;
       works = c.in_ok-apply.ensures.works;
+      sends = sends_twice c.args.self.now c.feed_beside.new.self c.apply.new.self
+          (sends_twice c.args.self.now c.loop-self.self c.feed_beside.new.self c.loop-self.invariant.sends c.in-Ok.ensures.sends) c.in_ok-apply.ensures.sends;
       pages = c.in_ok-apply.ensures.pages ∙ c.in-Ok.ensures.pages ∙ c.loop-self.invariant.pages;
     }
 
@@ -81,3 +85,11 @@ returns-in_err-apply-clause-pages g c = c.in_err-apply.ensures.pages ∙ c.in-Ok
 
 pub returns-clause-pages : goal.returns-clause-pages
 returns-clause-pages g c = c.loop-self.invariant.pages
+
+pub returns-in_err-apply-clause-sends : goal.returns-in_err-apply-clause-sends
+returns-in_err-apply-clause-sends g c =
+    sends_twice c.args.self.now c.feed_beside.new.self c.apply.new.self
+    (sends_twice c.args.self.now c.loop-self.self c.feed_beside.new.self c.loop-self.invariant.sends c.in-Ok.ensures.sends) c.in_err-apply.ensures.sends
+
+pub returns-clause-sends : goal.returns-clause-sends
+returns-clause-sends g c = c.loop-self.invariant.sends

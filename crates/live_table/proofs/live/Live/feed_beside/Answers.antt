@@ -2,6 +2,7 @@ use Rattle.std.proofs.Common.{◌∙◌, ap}
 use Rattle.std.specs.Prelude.{min}
 use Rattle.build_halves.proofs.FedBeside.{fed_refused, fed_accepted, fed_unchanged, feeds_beside}
 use Rattle.build_halves.proofs.Feeding.{works_side_looked}
+use Rattle.build_halves.proofs.SentNext.{sent_beside}
 use Rattle.live_table.proofs.live.Live.feed_beside.Goals as goal
 
 pub returns-clause-fed : goal.returns-clause-fed
@@ -31,3 +32,9 @@ returns-clause-works g c =
     let looked = c.look_at_side-waiting in
     c.feed.ensures.works looked.new.building
     (works_side_looked c.args.index c.args.self.now looked.new.self c.args.building.now looked.new.building looked.ensures.looked c.requires)
+
+pub returns-clause-sends : goal.returns-clause-sends
+returns-clause-sends g c =
+    let looked = c.look_at_side-waiting in
+    sent_beside c.args.index c.min.result c.args.self.now looked.new.self c.args.building.now looked.new.building looked.ensures.looked looked.ensures.follows
+    c.feed.new.self c.feed.result c.feed.ensures.accepted c.feed.ensures.fed

@@ -14,7 +14,8 @@ use Rattle.scan_range.specs.Dealings.{dealing_refusal, dealt_ends}
 use Rattle.build_events.specs.CoreState.{BuildState, LiveState, WorkState, SpoolsState, CoreState, all_given}
 use Rattle.building.specs.SpoolValue.{SpoolValue}
 use Rattle.build_work.specs.Holding.{all_spools, fresh_maker, spools_state}
-use Rattle.build_work.specs.Equipped.{HasRoomFor, IsEquipped, IsFresh}
+use Rattle.build_work.specs.Equipped.{HasOwnSpools, HasRoomFor, IsFresh, IsNewMaker}
+use Rattle.build_work.specs.Keeping.{AreWorkers}
 use Rattle.building.specs.WorkerValue.{WorkerValue}
 use Rattle.run_maker.specs.Making.{MakerValue}
 use Rattle.build_work.specs.declared.equipment.Equipment.{Equipment}
@@ -78,8 +79,9 @@ begin-requires-clause-unused g c =
 pub begin-requires-clause-fresh : goal.begin-requires-clause-fresh
 begin-requires-clause-fresh g c =
     let inside = c.self.inside in
-    subst (All IsFresh) (sym c.empty_rings.ensures.intakes)
-    (all_fresh inside.builds c.empty_rings.new.pages.items (subst (AreOfBuilds inside.builds) (sym c.empty_rings.ensures.sent) c.self.invariant.4))
+    subst (λ (n : ℕ). All (IsFresh n) c.empty_rings.new.self.idle) (sym (ap (λ (w : WorkValue). w.build) c.in_ok-work.ensures.ok))
+    (subst (All (IsFresh (inside.builds + 1))) (sym c.empty_rings.ensures.intakes)
+    (all_fresh inside.builds c.empty_rings.new.pages.items (subst (AreOfBuilds inside.builds) (sym c.empty_rings.ensures.sent) c.self.invariant.4)))
 
 pub begin-requires-clause-few : goal.begin-requires-clause-few
 begin-requires-clause-few g c =
@@ -102,8 +104,9 @@ begin-requires-clause-home g c =
 
 pub begin-requires-clause-makers : goal.begin-requires-clause-makers
 begin-requires-clause-makers g c =
-    fresh_makers (λ (it : Equipment g.row.S.Denot). it.maker) c.schema.result.now c.deref-2.result.now (length c.in_ok-work.work.specs) c.in_ok-equipment.equipment.items
-    (ap length c.deref-2.ensures.value ∙ sym (ap (λ (w : WorkValue). length w.specs) c.in_ok-work.ensures.ok)) c.in_ok-equipment.ensures.makers
+    subst (λ (specs : List KeySpecValue). All (λ (it : Equipment g.row.S.Denot). IsNewMaker specs it.maker) c.in_ok-equipment.equipment.items)
+    (c.deref-2.ensures.value ∙ sym (ap (λ (w : WorkValue). w.specs) c.in_ok-work.ensures.ok))
+    (fresh_makers (λ (it : Equipment g.row.S.Denot). it.maker) c.schema.result.now c.deref-2.result.now c.in_ok-equipment.equipment.items c.in_ok-equipment.ensures.makers)
 
 pub begin-requires-clause-rooms : goal.begin-requires-clause-rooms
 begin-requires-clause-rooms g c =
@@ -198,7 +201,8 @@ returns-clause-works g c =
     (ap (λ (b : BuildingValue). b.sides) c.begin.ensures.rest ∙ c.empty_rings.ensures.drained) many
     (their_makers (λ (it : Equipment g.row.S.Denot). it.maker) (fresh_maker heap.schema specs) c.in_ok-equipment.equipment.items new.workers c.begin.ensures.makers
     (subst (λ (m : MakerValue). All (λ (it : Equipment g.row.S.Denot). it.maker ≡ m) c.in_ok-equipment.equipment.items) maker c.in_ok-equipment.ensures.makers))
-    (subst (λ (n : ℕ). All (IsEquipped n) new.workers) of_work c.begin.ensures.equipped) (ap (λ (b : BuildingValue). b.spools) c.begin.ensures.rest)
+    (subst (λ (w : WorkValue). All (HasOwnSpools w.specs) new.workers) work c.begin.ensures.own)
+    (subst (λ (w : WorkValue). AreWorkers w.build w.specs false new.workers) work c.begin.ensures.workers) (ap (λ (b : BuildingValue). b.spools) c.begin.ensures.rest)
 
 pub returns-clause-started : goal.returns-clause-started
 returns-clause-started g c =

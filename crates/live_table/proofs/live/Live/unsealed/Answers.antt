@@ -1,4 +1,4 @@
-use Rattle.build_halves.proofs.OnlyLooked.{lowest_told}
+use Rattle.build_halves.proofs.LowestUnsealed.{lowest_told}
 use Rattle.live_table.proofs.live.Live.unsealed.Goals as goal
 
 pub first_unsealed-requires : goal.first_unsealed-requires
