@@ -21,7 +21,7 @@ use Rattle.build_work.specs.Working.{CanHandOver, HasHandedOver, handed_over}
 use Rattle.build_work.specs.Keeping.{IsClosed}
 use Rattle.build_scan.proofs.Places.{all_at, all_from, at_map, below, map_at, mapped, there_is}
 use Rattle.build_halves.proofs.Refusals.{state_is}
-use Rattle.build_work.proofs.HandedKept.{lent_columns}
+use Rattle.build_work.proofs.HandedKept.{HasItsSpools, lent_columns}
 use Rattle.build_work.proofs.Works.{loading_work_on}
 use Rattle.build_work.proofs.BroughtHome.{none_left}
 use Rattle.build_work.proofs.AtWork.{opened_in}
@@ -66,6 +66,12 @@ module _
 
   is_sealed : (k : ℕ) (worker : WorkerValue) (at : slice_get building.workers k ≡ Some worker) → IsSealed (sent_to k worker at).0 worker
   is_sealed k worker at = let sent = sent_to k worker at in sealed k sent.0 worker sent.1 at
+
+  -- they have their spools
+  all_own : All (HasItsSpools w.specs) building.workers
+  all_own = all_from (HasItsSpools w.specs) building.workers (λ k worker at.
+      let of = of_build k worker at in
+      record { fine = of.fine; specs_are = of.specs_are; spools_are = of.handed ∙ scans })
 
   -- all their runs are closed
   all_closed : All IsClosed building.workers
@@ -117,7 +123,7 @@ module _
             let was = sealed k sent it.0 there it.1 in
             subst (IsSealed sent) it.2 (record { taken = was.taken; closed = was.closed }),
       );
-      columns = λ f e. rw all_lent (lent_columns w.build w.specs building.workers all_closed all_lent_out each_holding (λ index. IsUnloaded index (record w { loading = true })));
+      columns = λ f e. rw all_lent (lent_columns w.specs building.workers all_own all_closed each_holding (λ index. IsUnloaded index (record w { loading = true })));
     };
   }
 

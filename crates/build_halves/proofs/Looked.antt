@@ -8,7 +8,13 @@ use Rattle.build_events.specs.CoreState.{BuildState, LiveState, WorkState, Spool
 use Rattle.build_work.specs.Holding.{all_spools, spools_state}
 use Rattle.build_work.specs.Rings.{all_sent, unseen}
 use Rattle.build_work.proofs.AtWork.{taking_same}
-use Rattle.build_work.proofs.Looks.{same_sent, sealed_looked}
+use Rattle.build_work.proofs.Looks.{same_rings, same_sent, sealed_looked}
+use Rattle.build_halves.specs.Rings.{ArePutEnds}
+use Rattle.building.specs.TakeEnd.{PutEndLooked}
+use Rattle.building.specs.declared.copied.Copied.{Copied}
+use Rattle.side_file.specs.Ends.{PutEnd, RingId}
+use Rattle.side_file.specs.declared.entry.Entry.{Entry}
+use Rattle.std.specs.List.{AllZip}
 use Rattle.build_scan.proofs.Places.{as_long}
 use Rattle.keybytes.specs.declared.kind.Kind.{Kind}
 use Rattle.build_work.proofs.Looked.{columns_looked, lent_looked, states_looked}
@@ -65,3 +71,16 @@ runs_looked live new_live building new b w looked run = record {
   at_work = subst (λ (s : LiveState). AreAtWork s.heap.schema b new_live.pages new_live.sides new w) (sym looked.state)
       (workers_after live.state.heap.schema live new_live building new (Some b) (Some w) looked run.at_work);
 }
+
+-- the ends that put are still those of the table's rings
+pub ends_looked :
+    (page_rings entry_rings : List RingId) (pages new : List (PutEnd Copied)) (sides : List (PutEnd Entry)) → ArePutEnds page_rings entry_rings pages sides
+    → AllZip PutEndLooked pages new → ArePutEnds page_rings entry_rings new sides
+ends_looked page_rings entry_rings pages new sides are looked =
+    let rings = same_rings pages new looked in
+    record {
+      pages_are = rings ∙ are.pages_are;
+      sides_are = are.sides_are;
+      sixteen = as_long (λ (e : PutEnd Copied). e.ring) (λ (e : PutEnd Copied). e.ring) new pages rings ∙ are.sixteen;
+      eight = are.eight;
+    }

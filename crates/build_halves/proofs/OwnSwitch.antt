@@ -1,5 +1,5 @@
 -- A switch of the work that goes with the build: it is the build's, and nothing is left over of what its workers were sent.
-use Rattle.std.proofs.Common.{◌≡◌, ℕ, true, length, Option, Some, None, refl, sym, ap, ◌∙◌, subst, inl, inr, arith}
+use Rattle.std.proofs.Common.{◌≡◌, ℕ, true, length, Option, Some, None, Result, Ok, Err, IfErr, refl, sym, ap, ◌∙◌, subst, inl, inr, arith}
 use Rattle.std.specs.Option.{option_map}
 use Rattle.keybytes.specs.declared.fault.Fault.{Fault}
 use Rattle.keybytes.specs.declared.fault.Fault.TheVariants.{NotScanned}
@@ -17,7 +17,7 @@ use Rattle.build_work.specs.Keeping.{IsKept, KeepsWork}
 use Rattle.build_work.specs.WorkOn.{IsWorkOf}
 use Rattle.build_scan.proofs.Places.{map_at, there_is}
 use Rattle.build_halves.specs.Builds.{IsRunning, LiveValue, WorksOn, core_state}
-use Rattle.build_halves.specs.Switching.{HasLeftCopy, IsForeign, IsPartOf, KeepsOut}
+use Rattle.build_halves.specs.Switching.{HasLeftCopy, HaveAll, IsForeign, IsPartOf, KeepsOut, RefusesSwitch, early_cause}
 use Rattle.build_halves.proofs.EarlyCauses.{early_is, first_unloaded, switch_refused}
 use Rattle.build_halves.proofs.Refusals.{running}
 use Rattle.build_halves.proofs.Reunited.{all_loaded, loading}
@@ -95,3 +95,18 @@ module _
               ∙ ap Some (sym foreign.no_build),
           unchanged,
         )
+
+-- what was taken in, and its switch refused
+pub refused_after :
+    {X : Type 0} (live mid new_live : LiveValue) (building beside new : BuildingValue) (answer : Result X Fault)
+    → core_state mid beside ≡ core_state live building → IsPartOf live building × HaveAll live building → early_cause (core_state live building) ≡ None
+    → IfErr answer (λ fault. IsRefused (core_state mid beside) Switch fault (core_state new_live new)) → WorksOn new_live new
+    → IfErr answer (λ fault. RefusesSwitch live building fault new_live new)
+refused_after live mid new_live building beside new (Ok x) same taken first refused works = tt
+refused_after live mid new_live building beside new (Err fault) same taken first refused works = inr (record {
+  part = taken.0;
+  first = first;
+  all = taken.1;
+  refused = subst (λ (s : CoreState). IsRefused s Switch fault (core_state new_live new)) same refused;
+  works = works;
+})

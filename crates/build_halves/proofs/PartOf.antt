@@ -28,7 +28,7 @@ use Rattle.build_halves.specs.Builds.{LiveValue, SeesSideAt, SideIsLooked, Works
 use Rattle.build_halves.specs.Switching.{IsFedAt, IsOfBuild, IsPartOf, SidesAreLooked, unseen_take}
 
 -- an end that puts entries, but for the places that it has seen free
-unseen_put : PutEnd Entry → PutEnd Entry
+abbrev pub unseen_put : PutEnd Entry → PutEnd Entry
 unseen_put end = record end { free = 0 }
 
 -- both ends of side-files' rings are the same but for what they have seen, and nothing else changed: this can be taken back
@@ -53,6 +53,10 @@ take_unseen :
 take_unseen ends index old end there ring received =
     map-set_same unseen_take ends index end old
     (rw (ring, received) (ap unseen_take (sym (get_or_from_slice_get ends index old old there))))
+
+-- nothing was looked at yet
+pub none_looked : (live : LiveValue) (building : BuildingValue) → SidesAreLooked live building live building
+none_looked live building = record { puts = all_unlooked live.sides; takes = refl; of_live = refl; of_building = refl }
 
 -- a look at one ring
 pub one_looked :

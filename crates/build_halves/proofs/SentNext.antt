@@ -223,7 +223,7 @@ looked_next live sides looked = by_build live.state.build where
   by_build None = looked
   by_build (Some b) = λ k end at.
       let it = looked_on live.sides sides k end looked at in
-      (it.0, it.1.0, 0, only_looked b live.state.heap.log k end it.0 it.1.1)
+      (it.0, it.1, 0, only_looked b live.state.heap.log k end it.0 it.2)
 
 -- nor does a look before it change what is sent
 pub next_after_look :
@@ -242,7 +242,7 @@ next_after_look live mid news same looked sends = by_build live.state.build refl
       let now : AreSentNext b mid.state.heap.log mid.sides news =
       subst (λ (o : Option BuildState). MatchOption o (AllZip PutEndLooked mid.sides news) (λ b. AreSentNext b mid.state.heap.log mid.sides news))
       (ap (λ (s : LiveState). s.build) same ∙ is) sends in
-      let more = now k one.0 one.1.0 in
+      let more = now k one.0 one.1 in
       let its : IsSentNext b live.state.heap.log k more.2 one.0 more.0 =
       subst (λ (s : LiveState). IsSentNext b s.heap.log k more.2 one.0 more.0) same more.3 in
-      (more.0, more.1, more.2, after_look b live.state.heap.log k more.2 end one.0 more.0 one.1.1 its)
+      (more.0, more.1, more.2, after_look b live.state.heap.log k more.2 end one.0 more.0 one.2 its)

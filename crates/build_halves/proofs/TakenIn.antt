@@ -69,7 +69,7 @@ rest_same new old mid idle sides spools given work of_mid =
     let spools_are : new.spools ≡ old.spools = spools ∙ ap (λ (b : BuildingValue). b.spools) of_mid in
     let given_is : new.given ≡ old.given = given ∙ ap (λ (b : BuildingValue). b.given) of_mid in
     let work_is : new.work ≡ old.work = work ∙ ap (λ (b : BuildingValue). b.work) of_mid in
-    cc
+    rw (sym idle_is, sym spools_are, sym given_is, sym work_is) refl
 
 -- it leaves what is part of the build so
 pub part_rings_looked :

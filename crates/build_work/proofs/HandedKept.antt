@@ -22,21 +22,30 @@ use Rattle.build_work.specs.Working.{CanHandOver, handed_over}
 use Rattle.build_work.proofs.Kept.{any_workers}
 use Rattle.build_work.proofs.OneWorker.{the_work}
 use Rattle.build_work.proofs.SpoolPlaces.{column_is, column_there, flat_at, flat_many}
-use Rattle.build_scan.proofs.Places.{all_at, all_mapped, at_map, map_at, mapped_of, no_pair, there_is}
+use Rattle.build_scan.proofs.Places.{all_at, all_from, all_mapped, at_map, map_at, mapped_of, no_pair, there_is}
+
+-- a worker that goes on, and has its spools for these indexes
+pub record HasItsSpools (specs : List KeySpecValue) (worker : WorkerValue) : Type 0 where
+  pub fine : worker.fault ≡ None
+  pub specs_are : worker.maker.specs ≡ specs
+  pub spools_are : worker.handed ≡ false
 
 module _
-    (build : ℕ) (specs : List KeySpecValue) (workers : List WorkerValue) (placed : AreWorkers build specs false workers) (closed : All IsClosed workers)
+    (specs : List KeySpecValue) (workers : List WorkerValue) (own : All (HasItsSpools specs) workers) (closed : All IsClosed workers)
     (holding : All (λ worker. worker.fault ≡ None → worker.handed ≡ false → IsHolding worker.intake worker.maker worker.spools) workers) where
   abbrev n : ℕ
   n = length specs
 
+  its_own : (k : ℕ) (worker : WorkerValue) → slice_get workers k ≡ Some worker → HasItsSpools specs worker
+  its_own k worker at = all_at (HasItsSpools specs) workers k worker own at
+
   holds : (k : ℕ) (worker : WorkerValue) → slice_get workers k ≡ Some worker → IsHolding worker.intake worker.maker worker.spools
   holds k worker at =
       all_at (λ (w : WorkerValue). w.fault ≡ None → w.handed ≡ false → IsHolding w.intake w.maker w.spools) workers k worker holding at
-      (placed k worker at).fine (placed k worker at).spools_are
+      (its_own k worker at).fine (its_own k worker at).spools_are
 
   own_many : (k : ℕ) (worker : WorkerValue) → slice_get workers k ≡ Some worker → length worker.spools ≡ n
-  own_many k worker at = (holds k worker at).many ∙ ap length (placed k worker at).specs_are
+  own_many k worker at = (holds k worker at).many ∙ ap length (its_own k worker at).specs_are
 
   lent_many : length (lent_spools workers) ≡ length workers * n
   lent_many = flat_many (λ (v : WorkerValue). v.spools) n workers own_many
@@ -44,28 +53,28 @@ module _
   -- the spool of an index at a worker's place is the worker's
   module _ (index k : ℕ) (worker : WorkerValue) (spool : SpoolValue) (less : index < n) (at : slice_get workers k ≡ Some worker)
       (here : slice_get (column index n (lent_spools workers)) k ≡ Some spool) where
-    own : (s : SpoolValue) × (slice_get worker.spools index ≡ Some s)
-    own = there_is worker.spools index (let many = own_many k worker at in omega (arith, less, many))
+    mine : (s : SpoolValue) × (slice_get worker.spools index ≡ Some s)
+    mine = there_is worker.spools index (let many = own_many k worker at in omega (arith, less, many))
 
-    same : own.0 ≡ spool
+    same : mine.0 ≡ spool
     same =
-        same_Some own.0 spool (sym (flat_at (λ (v : WorkerValue). v.spools) n workers own_many k worker at index own.0 own.1)
+        same_Some mine.0 spool (sym (flat_at (λ (v : WorkerValue). v.spools) n workers own_many k worker at index mine.0 mine.1)
         ∙ sym (column_is n (length workers) index (lent_spools workers) less lent_many k) ∙ here)
 
     runs_there : get_or (runs_of worker.spools) index [] ≡ spool.runs
     runs_there =
-        get_or_from_slice_get (runs_of worker.spools) index own.0.runs [] (map_at (λ (s : SpoolValue). s.runs) worker.spools index own.0 own.1)
+        get_or_from_slice_get (runs_of worker.spools) index mine.0.runs [] (map_at (λ (s : SpoolValue). s.runs) worker.spools index mine.0 mine.1)
         ∙ ap (λ (s : SpoolValue). s.runs) same
 
     in_order : AreSorted spool.runs
     in_order =
         subst (λ (s : SpoolValue). AreSorted s.runs) same
-        (all_at (λ (s : SpoolValue). AreSorted s.runs) worker.spools index own.0
-        (all_mapped AreSorted (λ (s : SpoolValue). s.runs) worker.spools (holds k worker at).sorted) own.1)
+        (all_at (λ (s : SpoolValue). AreSorted s.runs) worker.spools index mine.0
+        (all_mapped AreSorted (λ (s : SpoolValue). s.runs) worker.spools (holds k worker at).sorted) mine.1)
 
     its_pairs : HoldsPairs (spec_at specs index) (received_images worker.maker.schema worker.intake) spool.runs []
     its_pairs =
-        let is = placed k worker at in
+        let is = its_own k worker at in
         let there : index < length worker.maker.specs = omega (arith, less, ap length is.specs_are) in
         let held = (holds k worker at).holds index there in
         let none : get_or worker.maker.begun index [] ≡ [] = no_pair worker.maker.begun index (all_at IsClosed workers k worker closed at) in
@@ -90,7 +99,7 @@ module _
       All (λ worker. All (λ spec. spec.kinds ≡ worker.maker.schema) worker.maker.specs) workers
       → All (λ worker. worker.fault ≡ None → IsCounting worker.intake worker.maker) workers → All (HasHanded specs) (map handed_over workers)
   all_handed columns counting = mapped_of (HasHanded specs) handed_over workers (λ k worker at.
-      let is = placed k worker at in
+      let is = its_own k worker at in
       record {
         closed = all_at IsClosed workers k worker closed at;
         none = refl;
@@ -100,17 +109,26 @@ module _
             → HoldsOpen (spec_at ss i) (unsealed_images worker.maker.schema worker.intake) (get_or worker.maker.begun i [])) is.specs_are (holds k worker at).opened;
       })
 
-  pub placed_handed : AreWorkers build specs true (map handed_over workers)
-  placed_handed k worker at =
-      let it = at_map handed_over workers k worker at in
-      let is = placed k it.0 it.1 in
-      subst (IsWorkerAt build specs true k) it.2 (record {
-        number = is.number;
-        fine = is.fine;
-        of_build = is.of_build;
-        specs_are = is.specs_are;
-        spools_are = refl;
-      })
+-- workers at their places go on there once they handed their spools over
+placed_handed :
+    (build : ℕ) (specs : List KeySpecValue) (workers : List WorkerValue) → AreWorkers build specs false workers
+    → AreWorkers build specs true (map handed_over workers)
+placed_handed build specs workers placed k worker at =
+    let it = at_map handed_over workers k worker at in
+    let is = placed k it.0 it.1 in
+    subst (IsWorkerAt build specs true k) it.2 (record {
+      number = is.number;
+      fine = is.fine;
+      of_build = is.of_build;
+      specs_are = is.specs_are;
+      spools_are = refl;
+    })
+
+-- and have them before
+own_spools : (build : ℕ) (specs : List KeySpecValue) (workers : List WorkerValue) → AreWorkers build specs false workers → All (HasItsSpools specs) workers
+own_spools build specs workers placed = all_from (HasItsSpools specs) workers (λ k worker at.
+    let is = placed k worker at in
+    record { fine = is.fine; specs_are = is.specs_are; spools_are = is.spools_are })
 
 -- the work goes on, and its indexes are being loaded
 pub handed_kept :
@@ -122,17 +140,18 @@ pub handed_kept :
 handed_kept workers sides spools work scans closed columns counting holding is = λ fine.
     let old = is fine in
     let placed = subst (λ (handed : Bool). AreWorkers work.build work.specs handed workers) scans old.placed in
+    let own = own_spools work.build work.specs workers placed in
     let all : all_spools workers spools ≡ lent_spools workers = ap (λ (home : List SpoolValue). home ++ lent_spools workers) (old.lent scans) in
     record {
       many = old.many;
-      placed = placed_handed work.build work.specs workers placed closed holding;
+      placed = placed_handed work.build work.specs workers placed;
       indexes = λ k spec end index here there at.
           any_workers work.build spec workers (map handed_over workers) end index
           (all_at (λ (i : IndexValue). i.built ≡ None) work.indexes k index (old.unloaded scans) at) (old.indexes k spec end index here there at);
       lent = λ e. absurd (false≢true (sym e));
       unloaded = λ e. absurd (false≢true (sym e));
-      handed = λ e. all_handed work.build work.specs workers placed closed holding columns counting;
-      columns = λ e. rw all (lent_columns work.build work.specs workers placed closed holding (λ index. IsUnloaded index (record work { loading = true })));
+      handed = λ e. all_handed work.specs workers own closed holding columns counting;
+      columns = λ e. rw all (lent_columns work.specs workers own closed holding (λ index. IsUnloaded index (record work { loading = true })));
     }
 
 -- the same of the work that runs, as it was seen

@@ -1,9 +1,12 @@
-use Rattle.std.proofs.Common.{◌≡◌, length, subst, arith}
+use Rattle.std.proofs.Common.{◌≡◌, length, sym, subst, arith}
 use Rattle.std.specs.Prelude.{IfSome}
 use Rattle.side_file.specs.Ends.{PutEnd}
 use Rattle.building.specs.WorkerValue.{WorkerValue}
 use Rattle.building.specs.declared.copied.Copied.{Copied}
-use Rattle.build_work.specs.Rings.{unseen}
+use Rattle.build_work.specs.Rings.{AreOfBuilds, unseen}
+use Rattle.build_work.proofs.Looks.{same_rings, same_sent}
+use Rattle.build_halves.specs.Rings.{PagesFollow}
+use Rattle.build_halves.proofs.Looked.{ends_looked}
 use Rattle.build_scan.proofs.Places.{as_long, there_is}
 use Rattle.live_table.proofs.live.Live.look.Goals as goal
 
@@ -16,7 +19,8 @@ returns-clause-sees g c =
     let new = c.waiting.new.self in
     let workers = as_long unseen unseen new.workers c.args.building.now.workers looked.same in
     let pages =
-    as_long (λ (end : PutEnd Copied). end.ring) (λ (end : PutEnd Copied). end.ring) c.waiting.new.pages.items c.self.inside.pages.items looked.rings in
+    as_long (λ (end : PutEnd Copied). end.ring) (λ (end : PutEnd Copied). end.ring) c.waiting.new.pages.items c.self.inside.pages.items
+    (same_rings c.self.inside.pages.items c.waiting.new.pages.items looked.puts) in
     let it = there_is new.workers c.args.worker (omega (arith, workers, c.requires)) in
     let end = there_is c.waiting.new.pages.items c.args.worker (omega (arith, pages, c.self.invariant.5.sixteen, workers, c.waiting.ensures.few, c.requires)) in
     record {
@@ -28,3 +32,17 @@ returns-clause-sees g c =
       seen = subst (λ o. IfSome o (λ (w : WorkerValue). c.waiting.result ≡ length w.intake.end.known)) it.1 c.waiting.ensures.seen;
       free = c.waiting.ensures.free end.0 end.1;
     }
+
+pub invariant_of-self : goal.invariant_of-self
+invariant_of-self g c =
+    let before = c.self.invariant in
+    let puts = c.waiting.ensures.looked.puts in
+    let sent = sym (same_sent c.self.inside.pages.items c.waiting.new.pages.items puts) in (
+      before.0,
+      before.1,
+      before.2,
+      subst (PagesFollow c.self.inside.heap.state.schema c.self.inside.heap.state.log c.self.inside.builds c.self.inside.build) sent before.3,
+      subst (AreOfBuilds c.self.inside.builds) sent before.4,
+      ends_looked _ _ c.self.inside.pages.items c.waiting.new.pages.items _ before.5 puts,
+      before.6,
+    )

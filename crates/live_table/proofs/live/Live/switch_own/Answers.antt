@@ -21,7 +21,10 @@ use Rattle.build_work.specs.Holding.{all_spools, spools_state}
 use Rattle.build_events.specs.BuildSteps.{Switches, verdicts_on}
 use Rattle.build_events.specs.Verdicts.{outcomes}
 use Rattle.build_work.proofs.OneWorker.{ended_stakes}
+use Rattle.build_scan.proofs.LookedEnds.{all_unlooked}
+use Rattle.build_halves.specs.Putting.{SendsNext}
 use Rattle.build_halves.proofs.Refusals.{running_inside}
+use Rattle.build_halves.proofs.SentNext.{looked_next, sends_next}
 use Rattle.build_halves.proofs.SwitchIn.{all_done, all_keyed, all_may, all_verdicts, switches, switched_from}
 use Rattle.build_halves.proofs.Unloaded.{may_catch_up, may_after, no_busy_cause}
 use Rattle.live_table.proofs.live.Live.switch_own.Goals as goal
@@ -127,3 +130,17 @@ returns-clause-switched g c =
     switched_from (core_state c.args.self.now c.args.building.now) (core_state live building) (Left c.self.inside.builds) c.in_ok-noted.noted c.catch_up.ensures.further
     (subst (λ (n : ℕ). Switches (core_state live building) c.in_ok-noted.noted (Left n))
     (sym (ap (λ (l : LiveValue). l.state.builds) c.self.view_is)) done)
+
+pub returns-in_err-check_switch-clause-sides : goal.returns-in_err-check_switch-clause-sides
+returns-in_err-check_switch-clause-sides g c = looked_next c.args.self.now c.args.self.now.sides (all_unlooked c.args.self.now.sides)
+
+pub returns-in_err-catch_up-clause-sides : goal.returns-in_err-catch_up-clause-sides
+returns-in_err-catch_up-clause-sides g c = sends_next c.args.self.now c.catch_up.new.self c.catch_up.ensures.sends
+
+pub returns-in_err-noted-clause-sides : goal.returns-in_err-noted-clause-sides
+returns-in_err-noted-clause-sides g c =
+    subst (λ (l : LiveValue). SendsNext c.args.self.now l.sides) (sym c.self.view_is) (sends_next c.args.self.now c.catch_up.new.self c.catch_up.ensures.sends)
+
+pub returns-clause-sides : goal.returns-clause-sides
+returns-clause-sides g c =
+    subst (λ (l : LiveValue). SendsNext c.args.self.now l.sides) (sym c.self.view_is) (sends_next c.args.self.now c.catch_up.new.self c.catch_up.ensures.sends)
