@@ -1,5 +1,5 @@
 use Rattle.std.specs.Vec.{vec_capacity}
-use Rattle.std.proofs.Common.{◌≡◌, ◌∙◌, ◌+◌, [], ℕ, List, length, Some, None, refl, ap, ap₂, sym, subst, arith}
+use Rattle.std.proofs.Common.{false, ◌≡◌, ◌∙◌, ◌+◌, [], ℕ, List, length, Some, None, refl, ap, ap₂, sym, subst, arith}
 use Rattle.std.specs.Prelude.{map, ◌*◌}
 use Rattle.std.specs.List.{All, AllZip}
 use Rattle.keybytes.specs.Keys.{KeySpecValue}

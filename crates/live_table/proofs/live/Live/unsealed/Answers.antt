@@ -25,3 +25,11 @@ invariant_of-self g c =
       ends_looked _ _ c.self.inside.pages.items c.first_unsealed.new.pages.items _ before.5 puts,
       before.6,
     )
+
+pub returns-clause-pages : goal.returns-clause-pages
+returns-clause-pages g c = (ends_looked _ _ c.self.inside.pages.items c.first_unsealed.new.pages.items _ c.self.invariant.5 c.first_unsealed.ensures.looked.puts).sixteen
+
+pub returns-clause-put : goal.returns-clause-put
+returns-clause-put g c =
+    subst (PagesFollow c.self.inside.heap.state.schema c.self.inside.heap.state.log c.self.inside.builds c.self.inside.build)
+    (sym (same_sent c.self.inside.pages.items c.first_unsealed.new.pages.items c.first_unsealed.ensures.looked.puts)) c.self.invariant.3
