@@ -18,7 +18,7 @@ use Rattle.build_work.specs.BuildingValue.{BuildingValue, WorkValue, IsUnloaded,
 use Rattle.build_work.specs.Holding.{all_spools, lent_spools, spools_state}
 use Rattle.build_work.specs.Rings.{all_sent, AreSealed, IsSealed, IsWorkerOf}
 use Rattle.build_work.specs.Working.{CanHandOver, HasHandedOver, handed_over}
-use Rattle.build_work.specs.Keeping.{IsClosed}
+use Rattle.build_work.specs.Keeping.{HaveEachOnce, IsClosed}
 use Rattle.build_scan.proofs.Places.{all_at, all_from, at_map, below, map_at, mapped, there_is}
 use Rattle.build_halves.proofs.Refusals.{state_is}
 use Rattle.build_work.proofs.HandedKept.{HasItsSpools, lent_columns}
@@ -48,7 +48,7 @@ module _
   abbrev lent : List SpoolValue
   lent = lent_spools building.workers
 
-  all_lent : all_spools building.workers building.spools ≡ lent
+  pub all_lent : all_spools building.workers building.spools ≡ lent
   all_lent = ap (λ (home : List SpoolValue). home ++ lent) (run.at_work.lent fine scans)
 
   -- what was sent to a worker
@@ -81,9 +81,9 @@ module _
   each_holding = all_from (λ (worker : WorkerValue). worker.fault ≡ None → worker.handed ≡ false → IsHolding worker.intake worker.maker worker.spools) building.workers
       (λ k worker at fault handed. holds k worker at)
 
-  -- so they may
-  pub can_hand_over : CanHandOver building
-  can_hand_over = record { work = w; runs = run.work_is; fine = fine; scans = scans; closed = all_closed }
+  -- so they may, where no pair of an index is there twice
+  pub can_hand_over : HaveEachOnce w (lent_spools building.workers) → CanHandOver building
+  can_hand_over once = record { work = w; runs = run.work_is; fine = fine; scans = scans; closed = all_closed; once = once }
 
   -- of what it took since its last seal
   still_open :

@@ -26,17 +26,19 @@ use Rattle.build_work.specs.Holding.{HaveColumns, all_spools, ended_column, lent
 use Rattle.run_spool.specs.Spools.{AreSorted, all_pairs}
 use Rattle.std.specs.Prelude.{All, map}
 use Rattle.build_events.specs.Ranges.{open_range}
-use Rattle.build_work.specs.Rings.{all_sent}
 use Rattle.build_halves.specs.Rings.{ArePut, PagesFollow}
 use Rattle.build_events.specs.Scanning.{pairs_at_scan, scanned_pairs}
 use Rattle.build_events.specs.BuildSteps.{OnBuild, Loads, pairs_copied, after_load}
 use Rattle.build_scan.specs.SideFiles.{IsFed}
 use Rattle.build_events.specs.Workers.{put_to, fed_to, index_at}
 use Rattle.catch_up.specs.Built.{BuiltValue}
-use Rattle.build_work.specs.Working.{AreEachOnce, CanLoad, HasLoaded, HasSorted, IsSpoiled}
+use Rattle.build_work.specs.Keeping.{AreEachOnce, HaveEachOnce}
+use Rattle.build_work.specs.Working.{CanLoad, HasLoaded, HasSorted, IsSpoiled}
+use Rattle.build_work.specs.Rings.{AreSealed, all_sent}
+use Rattle.building.specs.WorkerValue.{IsHolding}
 use Rattle.build_events.specs.declared.scan.Scan.{Scan}
 use Rattle.build_work.proofs.Columns.{every_elsewhere, kept_changed, length-changed}
-use Rattle.build_halves.proofs.HandedOver.{spec_is}
+use Rattle.build_halves.proofs.HandedOver.{all_lent, handed_run, left as left_over, spec_is}
 use Rattle.build_work.proofs.SpoolPlaces.{column_many}
 use Rattle.build_halves.proofs.Partition.{parts_together}
 use Rattle.build_work.proofs.LoadedKept.{pairs_by_spool}
@@ -126,16 +128,7 @@ module _
 
   -- an index of the build can be loaded
   pub can_load : (index : ℕ) → index < length w.specs → CanLoad index building
-  can_load index less =
-      let it = there_is w.specs index less in
-      record {
-        work = w;
-        runs = run.work_is;
-        there = less;
-        fine = fine;
-        loads = loads;
-        once = λ none. each_once index it.0 it.1 none;
-      }
+  can_load index less = record { work = w; runs = run.work_is; there = less; fine = fine; loads = loads }
 
   abbrev before : WorkState
   before = work_state building.workers building.work
@@ -343,3 +336,15 @@ module _
     wanted_first (Err fault) none =
         let empty : IsUnloaded index w = subst (λ (o : Option WorkValue). IfSome o (IsUnloaded index)) run.work_is none in
         ap (λ (i : IndexState). i.loaded) (seen index its_spec.0 its_spec.1 its_index.0 its_index.1) ∙ ap is_some (empty its_index.0 its_index.1)
+
+-- of what the workers of a build hold no pair of an index is there twice, once all have taken what their rings were sent
+pub lent_once :
+    (live : LiveValue) (building : BuildingValue) (b : BuildState) (w : WorkValue) (run : IsRunning live building b w) (fine : w.spoiled ≡ None)
+    (scans : w.loading ≡ false) (rings : length live.pages ≡ 16) (sealed : AreSealed (all_sent live.pages) building.workers) (all : open_range b ≡ None)
+    (holding : All (λ worker. IsHolding worker.intake worker.maker worker.spools) building.workers)
+    → ArePut live.state.heap.schema live.state.heap.log b (all_sent live.pages) → HaveEachOnce w (lent_spools building.workers)
+lent_once live building b w run fine scans rings sealed all holding put index less none =
+    let after = left_over live building b w run fine scans rings sealed all holding in
+    let spec = there_is w.specs index less in
+    subst (λ (l : List SpoolValue). AreEachOnce (pairs_in (column index (length w.specs) l))) (all_lent live building b w run fine scans rings sealed all holding)
+    (each_once live after b (record w { loading = true }) (handed_run live building b w run fine scans rings sealed all holding) fine put rings refl index spec.0 spec.1 none)

@@ -85,4 +85,5 @@ module _
         handed = kept.handed;
         columns = λ loads. open_fewer (λ i. IsUnloaded i work) (λ i. IsUnloaded i (with_tree work index after count here)) work.specs workers spools
             (unloaded_before work index after count here) (kept.columns loads);
+        once = λ loads i less empty. kept.once loads i less (unloaded_before work index after count here i empty);
       }

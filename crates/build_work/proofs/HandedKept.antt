@@ -17,7 +17,7 @@ use Rattle.building.specs.WorkerValue.{IsCounting, IsHolding, WorkerValue}
 use Rattle.build_work.specs.BuildingValue.{BuildingValue, IndexValue, IsUnloaded, WorkValue}
 use Rattle.build_work.specs.Columns.{column}
 use Rattle.build_work.specs.Holding.{HaveColumns, all_spools, lent_spools}
-use Rattle.build_work.specs.Keeping.{AreWorkers, HasHanded, IsClosed, IsWorkerAt, KeepsWork}
+use Rattle.build_work.specs.Keeping.{AreWorkers, HasHanded, HaveEachOnce, IsClosed, IsWorkerAt, KeepsWork}
 use Rattle.build_work.specs.Working.{CanHandOver, handed_over}
 use Rattle.build_work.proofs.Kept.{any_workers}
 use Rattle.build_work.proofs.OneWorker.{the_work}
@@ -133,11 +133,11 @@ own_spools build specs workers placed = all_from (HasItsSpools specs) workers (�
 -- the work goes on, and its indexes are being loaded
 pub handed_kept :
     (workers : List WorkerValue) (sides : List (TakeEnd Entry)) (spools : List SpoolValue) (work : WorkValue) → work.loading ≡ false
-    → All IsClosed workers → All (λ worker. All (λ spec. spec.kinds ≡ worker.maker.schema) worker.maker.specs) workers
+    → All IsClosed workers → HaveEachOnce work (lent_spools workers) → All (λ worker. All (λ spec. spec.kinds ≡ worker.maker.schema) worker.maker.specs) workers
     → All (λ worker. worker.fault ≡ None → IsCounting worker.intake worker.maker) workers
     → All (λ worker. worker.fault ≡ None → worker.handed ≡ false → IsHolding worker.intake worker.maker worker.spools) workers
     → KeepsWork workers sides spools (Some work) → KeepsWork (map handed_over workers) sides (all_spools workers spools) (Some (record work { loading = true }))
-handed_kept workers sides spools work scans closed columns counting holding is = λ fine.
+handed_kept workers sides spools work scans closed once columns counting holding is = λ fine.
     let old = is fine in
     let placed = subst (λ (handed : Bool). AreWorkers work.build work.specs handed workers) scans old.placed in
     let own = own_spools work.build work.specs workers placed in
@@ -152,6 +152,7 @@ handed_kept workers sides spools work scans closed columns counting holding is =
       unloaded = λ e. absurd (false≢true (sym e));
       handed = λ e. all_handed work.specs workers own closed holding columns counting;
       columns = λ e. rw all (lent_columns work.specs workers own closed holding (λ index. IsUnloaded index (record work { loading = true })));
+      once = λ e. rw all once;
     }
 
 -- the same of the work that runs, as it was seen
@@ -167,6 +168,9 @@ handed_over_kept old seen work held same runs is can columns counting holding ke
     let it : can.work ≡ work = the_work old.work can.work work can.runs (ap (λ (b : BuildingValue). b.work) (sym same) ∙ runs) in
     let scans : work.loading ≡ false = ap (λ (w : WorkValue). w.loading) (sym it) ∙ can.scans in
     let closed : All IsClosed seen.workers = subst (λ (b : BuildingValue). All IsClosed b.workers) (sym same) can.closed in
+    let once : HaveEachOnce work (lent_spools seen.workers) =
+    subst (λ (w : WorkValue). HaveEachOnce w (lent_spools seen.workers)) it
+    (subst (λ (b : BuildingValue). HaveEachOnce can.work (lent_spools b.workers)) (sym same) can.once) in
     rw (workers_are, spools_are, is)
-    (handed_kept seen.workers seen.sides seen.spools work scans closed columns counting holding
+    (handed_kept seen.workers seen.sides seen.spools work scans closed once columns counting holding
     (subst (λ (o : Option WorkValue). KeepsWork seen.workers seen.sides seen.spools o) runs keeps))

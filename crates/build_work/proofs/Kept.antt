@@ -63,6 +63,7 @@ fresh_kept build specs workers sides placed unused = λ fine. record {
       ap (λ (i : IndexValue). i.built) (replicate_at (length specs) fresh_index k index at));
   handed = λ e. absurd (false≢true e);
   columns = λ e. absurd (false≢true e);
+  once = λ e. absurd (false≢true e);
 }
 
 -- an index of which nothing is in order goes with any workers
@@ -90,6 +91,7 @@ scanning_kept old new sides spools work scans placed is = record {
   unloaded = is.unloaded;
   handed = λ e. absurd (false≢true (sym scans ∙ e));
   columns = λ e. absurd (false≢true (sym scans ∙ e));
+  once = λ e. absurd (false≢true (sym scans ∙ e));
 }
 
 -- the pairs of an index go with what the workers received, and with nothing else of them
@@ -133,6 +135,7 @@ workers_kept old new sides spools work same placed handed is = record {
   unloaded = is.unloaded;
   handed = λ loads. handed loads (is.handed loads);
   columns = λ loads. same_columns (λ index. IsUnloaded index work) work.specs old new spools same (is.columns loads);
+  once = is.once;
 }
 
 -- what a worker handed over doesn't depend on what it has seen of its ring
@@ -204,6 +207,7 @@ side_looked_kept workers sides spools (Some work) index was end there same is = 
       unloaded = old.unloaded;
       handed = old.handed;
       columns = old.columns;
+      once = old.once;
     }
   where
     with_end :

@@ -16,7 +16,8 @@ use Rattle.build_work.specs.BuildingValue.{BuildingValue, WorkValue, IndexValue,
 use Rattle.build_work.specs.Columns.{column}
 use Rattle.build_work.specs.Holding.{all_spools, lent_spools, spools_state, ended_column, spools_in}
 use Rattle.build_work.specs.Keeping.{IsKept, KeepsWork}
-use Rattle.build_work.specs.Working.{AreEachOnce, CanLoad, IsSpoiled}
+use Rattle.build_work.specs.Keeping.{AreEachOnce}
+use Rattle.build_work.specs.Working.{CanLoad, IsSpoiled}
 use Rattle.build_work.proofs.Columns.{every_map}
 use Rattle.build_work.proofs.OneWorker.{the_work}
 use Rattle.std.proofs.lemmas.Bool.{and_parts, eqb-true}
@@ -132,8 +133,7 @@ module _ (old seen : BuildingValue) (work held : WorkValue) (same : seen ≡ old
         kept = kept;
         lent = (kept.columns loads).many;
         sorted = λ none. (kept.columns loads).sorted index there none;
-        once = subst (λ (w : WorkValue). IsUnloaded index w → AreEachOnce (pairs_in (column index (length w.specs) seen.spools))) it
-            (subst (λ (b : BuildingValue). IsUnloaded index can.work → AreEachOnce (pairs_in (column index (length can.work.specs) b.spools))) (sym same) can.once);
+        once = kept.once loads index there;
       }
 
 -- pairs that aren't in order are in no tree

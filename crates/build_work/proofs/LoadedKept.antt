@@ -26,7 +26,7 @@ use Rattle.building.proofs.ManyPairs.{have_append}
 use Rattle.build_work.specs.BuildingValue.{IndexValue, IsUnloaded, WorkValue, is_unique}
 use Rattle.build_work.specs.Columns.{column}
 use Rattle.build_work.specs.Holding.{HaveColumns, ended_column}
-use Rattle.build_work.specs.Keeping.{ArePairsOf, IsIndexOf, IsKept, KeepsWork, all_received}
+use Rattle.build_work.specs.Keeping.{AreEachOnce, ArePairsOf, IsIndexOf, IsKept, KeepsWork, all_received}
 use Rattle.build_work.proofs.Columns.{every_elsewhere, length-changed}
 use Rattle.build_work.proofs.Kept.{own_images}
 use Rattle.build_work.proofs.SpoolPlaces.{column_many}
@@ -148,4 +148,7 @@ module _
       unloaded = λ e. absurd (false≢true (sym e ∙ loads));
       handed = λ e. kept.handed loads;
       columns = λ e. columns_left;
+      once = λ e i few empty.
+          subst (λ (l : List SpoolValue). AreEachOnce (pairs_in l)) (sym (elsewhere i few empty))
+          (kept.once loads i few (unloaded_before work index built 0 here i empty));
     }

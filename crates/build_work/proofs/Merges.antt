@@ -10,7 +10,7 @@ use Rattle.run_merge.specs.Merging.{all_runs, Gives, IsLeast, MergedValue}
 use Rattle.build_work.specs.Columns.{column, other_columns}
 use Rattle.building.specs.SpoolValue.{SpoolValue, spool_value, ended_spool}
 use Rattle.build_work.proofs.Columns.{every_map, all_but_map, same_parts}
-use Rattle.build_work.specs.Working.{AreEachOnce}
+use Rattle.build_work.specs.Keeping.{AreEachOnce}
 use Rattle.std.specs.FinMap.{keys}
 use Rattle.std.specs.Prelude.{IsPermutation, MatchOption, ◌||◌, Result, Ok, Err, IfOk, OnErr}
 use Rattle.std.specs.List.{AllByRecursion}

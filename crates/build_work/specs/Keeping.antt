@@ -2,9 +2,10 @@
 -- and what the rings of its side-files gave is applied to these trees.
 use Rattle.std.specs.Prelude.{◌≡◌, ℕ, ◌<◌, true, false, List, [], get_or, flat_map, length, Bool, Option, Some, None}
 use Rattle.std.specs.FinMap.{keys}
-use Rattle.std.specs.List.{All, slice_get}
+use Rattle.std.specs.List.{All, IsDistinct, slice_get}
+use Rattle.std.specs.Ordering.{eq_by_cmp}
 use Rattle.keybytes.specs.Keys.{KeySpecValue}
-use Rattle.keybytes.specs.Pairs.{set_of}
+use Rattle.keybytes.specs.Pairs.{pair_cmp, set_of}
 use Rattle.keybytes.specs.declared.pair.Pair.{Pair}
 use Rattle.side_file.specs.declared.entry.Entry.{Entry}
 use Rattle.heap_table.specs.Images.{ImageValue}
@@ -14,11 +15,12 @@ use Rattle.catch_up.specs.Built.{BuiltValue, told_to}
 use Rattle.run_maker.specs.Making.{spec_at}
 use Rattle.building.specs.Holding.{HoldsOpen}
 use Rattle.building.specs.ImagePairs.{HavePairs}
-use Rattle.building.specs.SpoolValue.{SpoolValue}
+use Rattle.building.specs.SpoolValue.{SpoolValue, pairs_in}
 use Rattle.building.specs.TakeEnd.{TakeEnd}
 use Rattle.building.specs.Taking.{received_images, unsealed_images}
 use Rattle.building.specs.WorkerValue.{IsCounting, WorkerValue}
 use Rattle.build_work.specs.BuildingValue.{IndexValue, IsUnloaded, WorkValue}
+use Rattle.build_work.specs.Columns.{column}
 use Rattle.build_work.specs.Holding.{HaveColumns}
 
 -- the images of its build that each worker received, worker after worker
@@ -65,6 +67,15 @@ pub record HasHanded (specs : List KeySpecValue) (worker : WorkerValue) : Type 0
   pub opened : (i : ℕ) → i < length specs
       → HoldsOpen (spec_at specs i) (unsealed_images worker.maker.schema worker.intake) (get_or worker.maker.begun i [])
 
+-- no pair is there twice
+abbrev pub AreEachOnce : List Pair → Type 0
+AreEachOnce pairs = IsDistinct (eq_by_cmp pair_cmp) pairs
+
+-- so it is of the pairs of each index that isn't in order
+abbrev pub HaveEachOnce : WorkValue → List SpoolValue → Type 0
+HaveEachOnce work spools =
+    (index : ℕ) → index < length work.specs → IsUnloaded index work → AreEachOnce (pairs_in (column index (length work.specs) spools))
+
 -- what the work of a build that goes on keeps, with its workers, the spools that no worker has, and the ends of its side-files' rings
 pub record IsKept (workers : List WorkerValue) (sides : List (TakeEnd Entry)) (spools : List SpoolValue) (work : WorkValue) : Type 0 where
   pub many : length work.indexes ≡ length work.specs
@@ -74,9 +85,10 @@ pub record IsKept (workers : List WorkerValue) (sides : List (TakeEnd Entry)) (s
   -- until the first load each spool is with its worker, and no index is in order
   pub lent : work.loading ≡ false → spools ≡ []
   pub unloaded : work.loading ≡ false → All (λ index. index.built ≡ None) work.indexes
-  -- from then on no worker has one, and those of an index that isn't in order hold its pairs
+  -- from then on no worker has one, and those of an index that isn't in order hold its pairs, each once
   pub handed : work.loading ≡ true → All (HasHanded work.specs) workers
   pub columns : work.loading ≡ true → HaveColumns (λ index. IsUnloaded index work) work.specs workers spools
+  pub once : work.loading ≡ true → HaveEachOnce work spools
 
 -- so it is of the work, if there is any, until it is spoiled
 abbrev pub KeepsWork : List WorkerValue → List (TakeEnd Entry) → List SpoolValue → Option WorkValue → Type 0

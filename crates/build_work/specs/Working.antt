@@ -1,10 +1,9 @@
 -- What the workers of a build do, and the entries that are applied to its indexes, and what that leaves beside the table.
 use Rattle.std.specs.Prelude.{◌≡◌, ℕ, ◌+◌, ◌^◌, ◌<◌, ◌≤◌, List, [], ◌++◌, length, set, map, take, drop, is_some, true, false, Some, None, IsPermutation}
-use Rattle.std.specs.List.{All, slice_get, IsDistinct}
-use Rattle.std.specs.Ordering.{eq_by_cmp}
+use Rattle.std.specs.List.{All, slice_get}
 use Rattle.keybytes.specs.declared.fault.Fault.{Fault}
 use Rattle.keybytes.specs.declared.pair.Pair.{Pair}
-use Rattle.keybytes.specs.Pairs.{AreOrdered, pair_cmp, set_of}
+use Rattle.keybytes.specs.Pairs.{AreOrdered, set_of}
 use Rattle.side_file.specs.Ends.{PutEnd}
 use Rattle.side_file.specs.declared.entry.Entry.{Entry}
 use Rattle.visibility.specs.Applied.{apply_entries}
@@ -16,8 +15,8 @@ use Rattle.building.specs.WorkerValue.{HasSealed, HasTaken, SameWorker, WorkerVa
 use Rattle.build_scan.specs.SideFiles.{HasLookedAtSide, SeesSide}
 use Rattle.build_work.specs.BuildingValue.{BuildingValue, WorkValue, IndexValue, IsUnloaded, is_unique, with_index}
 use Rattle.build_work.specs.Columns.{column}
-use Rattle.build_work.specs.Keeping.{IsClosed}
-use Rattle.build_work.specs.Holding.{all_spools, ended_column}
+use Rattle.build_work.specs.Keeping.{HaveEachOnce, IsClosed}
+use Rattle.build_work.specs.Holding.{all_spools, ended_column, lent_spools}
 
 -- a worker of the build that runs did this, answered with so many images, and nothing else changed
 pub record WorkerDid (worker : ℕ) (Did : ℕ → WorkerValue → WorkerValue → Type 0) (old : BuildingValue) (images : ℕ) (new : BuildingValue) : Type 0 where
@@ -53,13 +52,15 @@ pub record IsSpoiled (fault : Fault) (old new : BuildingValue) : Type 0 where
 abbrev pub handed_over : WorkerValue → WorkerValue
 handed_over worker = record worker { spools = []; handed = true }
 
--- the workers of a build that goes on may hand their spools over: none did, and no run is open
+-- the workers of a build that goes on may hand their spools over: none did, no run is open, and no pair of an index is there twice
 pub record CanHandOver (building : BuildingValue) : Type 0 where
   pub work : WorkValue
   pub runs : building.work ≡ Some work
   pub fine : work.spoiled ≡ None
   pub scans : work.loading ≡ false
   pub closed : All IsClosed building.workers
+  -- no row was read twice
+  pub once : HaveEachOnce work (lent_spools building.workers)
 
 -- the workers of the build handed their spools over, for the loads of its indexes
 pub record HasHandedOver (old new : BuildingValue) : Type 0 where
@@ -79,18 +80,13 @@ pub record HasSorted (index : ℕ) (work : WorkValue) (old : BuildingValue) (cou
   pub counted : count ≡ length pairs
   pub left : new ≡ record old { spools = ended_column index (length work.specs) old.spools; work = Some (with_index work index pairs 0) }
 
--- no pair is there twice
-abbrev pub AreEachOnce : List Pair → Type 0
-AreEachOnce pairs = IsDistinct (eq_by_cmp pair_cmp) pairs
-
--- the pairs of an index can be put in order: its build goes on, the spools were handed over, and no pair is there twice
+-- the pairs of an index can be put in order: its build goes on, and the spools were handed over
 pub record CanLoad (index : ℕ) (building : BuildingValue) : Type 0 where
   pub work : WorkValue
   pub runs : building.work ≡ Some work
   pub there : index < length work.specs
   pub fine : work.spoiled ≡ None
   pub loads : work.loading ≡ true
-  pub once : IsUnloaded index work → AreEachOnce (pairs_in (column index (length work.specs) building.spools))
 
 -- a load of an index: its pairs are put in order, or were so before
 pub record HasLoaded (index : ℕ) (old : BuildingValue) (count : ℕ) (new : BuildingValue) : Type 0 where

@@ -5,7 +5,7 @@ ghost use Rattle.run_merge.specs.Merging.{all_runs};
 ghost use Rattle.build_work.specs.Columns.{column, other_columns};
 ghost use Rattle.building.specs.SpoolValue.{spool_value, ended_spool};
 ghost use Rattle.build_work.specs.Holding.{ended_column};
-ghost use Rattle.build_work.specs.Working.{AreEachOnce};
+ghost use Rattle.build_work.specs.Keeping.{AreEachOnce};
 
 use crate::ending::end_spools;
 use btree::Tree;
@@ -99,7 +99,7 @@ struct Once<S: Spool> {
 impl<S: Spool> Model for Once<S> {
     ghost use Rattle.run_spool.specs.Spools.{all_pairs};
     ghost use Rattle.run_merge.specs.Merging.{MergedValue, all_runs};
-    ghost use Rattle.build_work.specs.Working.{AreEachOnce};
+    ghost use Rattle.build_work.specs.Keeping.{AreEachOnce};
 
     ghost Value = { MergedValue };
 

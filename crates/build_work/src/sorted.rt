@@ -6,7 +6,7 @@ ghost use Rattle.build_work.specs.BuildingValue.{is_unique};
 ghost use Rattle.build_work.specs.Columns.{column};
 ghost use Rattle.building.specs.SpoolValue.{spool_value};
 ghost use Rattle.build_work.specs.Holding.{ended_column};
-ghost use Rattle.build_work.specs.Working.{AreEachOnce};
+ghost use Rattle.build_work.specs.Keeping.{AreEachOnce};
 
 use crate::merging::merged_tree;
 use crate::work::Work;

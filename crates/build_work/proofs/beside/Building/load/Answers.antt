@@ -11,7 +11,7 @@ use Rattle.build_work.specs.Columns.{column}
 use Rattle.build_work.specs.Keeping.{KeepsWork}
 use Rattle.building.specs.SpoolValue.{SpoolValue, spool_value}
 use Rattle.building.specs.TakeEnd.{take_end}
-use Rattle.build_work.specs.Working.{AreEachOnce}
+use Rattle.build_work.specs.Keeping.{AreEachOnce}
 use Rattle.build_work.proofs.LeftBeside.{column_seen, same_seen, spoiled_after, stakes_beside, left_sorted, can_load, is_unloaded}
 use Rattle.build_scan.proofs.Places.{there_is}
 use Rattle.build_work.specs.Holding.{all_spools}

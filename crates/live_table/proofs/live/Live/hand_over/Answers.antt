@@ -2,6 +2,7 @@ use Rattle.std.proofs.Common.{◌≡◌, true, false, length, Option, refl, ap, 
 use Rattle.std.specs.Option.{IfSome}
 use Rattle.build_halves.specs.Builds.{LiveValue, core_state, IsRunning}
 use Rattle.build_work.specs.BuildingValue.{BuildingValue, WorkValue}
+use Rattle.build_halves.proofs.Loaded.{lent_once, put_inside}
 use Rattle.build_halves.proofs.HandedOver.{can_hand_over, handed_is, handed_run, handed_state}
 use Rattle.live_table.proofs.live.Live.hand_over.Goals as goal
 
@@ -11,7 +12,9 @@ hand_over-requires g c =
     let live : LiveValue = c.args.self.now in
     let scans : may.work.loading ≡ false = sym (subst (λ (o : Option WorkValue). IfSome o (λ work. false ≡ work.loading)) may.runs.work_is c.if-not-is_loading.ensures.loading) in
     let rings : length live.pages ≡ 16 = sym (ap (λ (l : LiveValue). length l.pages) c.self.view_is) ∙ c.self.invariant.5.sixteen in
+    let put = put_inside _ live may.build c.self.view_is may.runs.build_is c.self.invariant.3 in
     can_hand_over live c.args.building.now may.build may.work may.runs may.fine scans rings may.sealed may.all (may.holding scans)
+    (lent_once live c.args.building.now may.build may.work may.runs may.fine scans rings may.sealed may.all (may.holding scans) put)
 
 pub returns-then-not-is_loading-clause-state : goal.returns-then-not-is_loading-clause-state
 returns-then-not-is_loading-clause-state g c =
