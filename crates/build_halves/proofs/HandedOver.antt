@@ -77,10 +77,6 @@ module _
   all_closed : All IsClosed building.workers
   all_closed = all_from IsClosed building.workers (λ k worker at. (is_sealed k worker at).closed)
 
-  each_holding : All (λ worker. worker.fault ≡ None → worker.handed ≡ false → IsHolding worker.intake worker.maker worker.spools) building.workers
-  each_holding = all_from (λ (worker : WorkerValue). worker.fault ≡ None → worker.handed ≡ false → IsHolding worker.intake worker.maker worker.spools) building.workers
-      (λ k worker at fault handed. holds k worker at)
-
   -- so they may, where no pair of an index is there twice
   pub can_hand_over : HaveEachOnce w (lent_spools building.workers) → CanHandOver building
   can_hand_over once = record { work = w; runs = run.work_is; fine = fine; scans = scans; closed = all_closed; once = once }
@@ -123,7 +119,7 @@ module _
             let was = sealed k sent it.0 there it.1 in
             subst (IsSealed sent) it.2 (record { taken = was.taken; closed = was.closed }),
       );
-      columns = λ f e. rw all_lent (lent_columns w.specs building.workers all_own all_closed each_holding (λ index. IsUnloaded index (record w { loading = true })));
+      columns = λ f e. rw all_lent (lent_columns w.specs building.workers all_own all_closed holds (λ index. IsUnloaded index (record w { loading = true })));
     };
   }
 

@@ -9,7 +9,8 @@ use Rattle.std.proofs.lemmas.List.{length-map}
 use Rattle.keybytes.specs.Faults.{first_cause}
 use Rattle.keybytes.specs.declared.fault.Fault.{Fault}
 use Rattle.keybytes.specs.declared.fault.Fault.TheVariants.{BadCount, NotScanned, NotSealed}
-use Rattle.side_file.specs.Ends.{PutEnd}
+use Rattle.side_file.specs.Ends.{PutEnd, RingId}
+use Rattle.build_work.specs.Keeping.{KeepsLaws}
 use Rattle.keybytes.specs.Keys.{KeySpecValue}
 use Rattle.keybytes.specs.declared.kind.Kind.{Kind}
 use Rattle.std.proofs.lemmas.Option.{slice_get_within}
@@ -39,12 +40,12 @@ pub record OpenRuns (specs : List KeySpecValue) (worker : WorkerValue) : Type 0 
 -- they are those of a worker of the build, whether it has its spools or not
 pub opened_of :
     {build : ℕ} {kinds : List Kind} {specs : List KeySpecValue} (loading : Bool) {sent : List Copied} (worker : WorkerValue)
-    → IsWorkerOf build kinds specs loading sent worker → All (λ spec. spec.kinds ≡ kinds) specs → length worker.maker.begun ≡ length worker.maker.specs
-    → (worker.fault ≡ None → worker.handed ≡ false → IsHolding worker.intake worker.maker worker.spools) → OpenRuns specs worker
-opened_of true worker its columns begun holding =
-    record { many = begun ∙ ap length its.specs_are; opened = its.opened refl }
-opened_of false worker its columns begun holding =
-    record { many = begun ∙ ap length its.specs_are; opened = opened_in its columns (holding its.fine its.handed) }
+    → IsWorkerOf build kinds specs loading sent worker → All (λ spec. spec.kinds ≡ kinds) specs → {rings : List RingId} → KeepsLaws rings worker
+    → OpenRuns specs worker
+opened_of true worker its columns laws =
+    record { many = laws.begun ∙ ap length its.specs_are; opened = its.opened refl }
+opened_of false worker its columns laws =
+    record { many = laws.begun ∙ ap length its.specs_are; opened = opened_in its columns (laws.holding its.fine its.handed) }
 
 -- the cause, by what comes into it
 abbrev load_with : Bool → Option Fault → Option ℕ → Option ℕ → Option Fault
@@ -77,8 +78,7 @@ module _
         (sym (ap (is_sealed b live.state.heap.log k) (worker_there live building b w run fine put k worker at)) ∙ is) in
         record { taken = done.taken; closed = done.closed }
 
-  module _ (rings : length live.pages ≡ 16) (begun : All (λ x. length x.maker.begun ≡ length x.maker.specs) building.workers)
-      (holding : All (λ x. x.fault ≡ None → x.handed ≡ false → IsHolding x.intake x.maker x.spools) building.workers) where
+  module _ (rings : length live.pages ≡ 16) (page_rings : List RingId) (laws : All (KeepsLaws page_rings) building.workers) where
     its_place : (k : ℕ) (worker : WorkerValue) → slice_get building.workers k ≡ Some worker
         → (sent : List Copied) × IsWorkerOf b.number live.state.heap.schema w.specs w.loading sent worker
     its_place k worker at =
@@ -89,9 +89,7 @@ module _
 
     pub open_runs : (k : ℕ) (worker : WorkerValue) → slice_get building.workers k ≡ Some worker → OpenRuns w.specs worker
     open_runs k worker at =
-        opened_of w.loading worker (its_place k worker at).1 run.on.columns
-        (all_at (λ (x : WorkerValue). length x.maker.begun ≡ length x.maker.specs) building.workers k worker begun at)
-        (all_at (λ (x : WorkerValue). x.fault ≡ None → x.handed ≡ false → IsHolding x.intake x.maker x.spools) building.workers k worker holding at)
+        opened_of w.loading worker (its_place k worker at).1 run.on.columns (all_at (KeepsLaws page_rings) building.workers k worker laws at)
 
     -- before the first load each holds the pairs of what it took
     pub all_holding : w.loading ≡ false → All (λ x. IsHolding x.intake x.maker x.spools) building.workers
@@ -99,8 +97,7 @@ module _
       each : (k : ℕ) (x : WorkerValue) → slice_get building.workers k ≡ Some x → IsHolding x.intake x.maker x.spools
       each k x at =
           let its = (its_place k x at).1 in
-          all_at (λ (y : WorkerValue). y.fault ≡ None → y.handed ≡ false → IsHolding y.intake y.maker y.spools) building.workers k x holding at its.fine
-          (its.handed ∙ loading)
+          (all_at (KeepsLaws page_rings) building.workers k x laws at).holding its.fine (its.handed ∙ loading)
 
   module _ (rings : length live.pages ≡ 16) (open_runs : (k : ℕ) (worker : WorkerValue) → slice_get building.workers k ≡ Some worker → OpenRuns w.specs worker) where
     -- callers see so many workers as the build has

@@ -6,6 +6,7 @@ use Rattle.std.proofs.lemmas.List.{length-map}
 use Rattle.std.proofs.lemmas.Option.{same_Some, get_or_from_slice_get}
 use Rattle.keybytes.specs.Keys.{KeySpecValue}
 use Rattle.keybytes.specs.declared.pair.Pair.{Pair}
+use Rattle.side_file.specs.Ends.{RingId}
 use Rattle.side_file.specs.declared.entry.Entry.{Entry}
 use Rattle.run_spool.specs.Spools.{AreSorted}
 use Rattle.run_maker.specs.Making.{spec_at}
@@ -13,11 +14,11 @@ use Rattle.building.specs.Holding.{HoldsOpen, HoldsPairs}
 use Rattle.building.specs.SpoolValue.{SpoolValue, runs_of}
 use Rattle.building.specs.TakeEnd.{TakeEnd}
 use Rattle.building.specs.Taking.{received_images, unsealed_images}
-use Rattle.building.specs.WorkerValue.{IsCounting, IsHolding, WorkerValue}
+use Rattle.building.specs.WorkerValue.{IsHolding, WorkerValue}
 use Rattle.build_work.specs.BuildingValue.{BuildingValue, IndexValue, IsUnloaded, WorkValue}
 use Rattle.build_work.specs.Columns.{column}
 use Rattle.build_work.specs.Holding.{HaveColumns, all_spools, lent_spools}
-use Rattle.build_work.specs.Keeping.{AreWorkers, HasHanded, HaveEachOnce, IsClosed, IsWorkerAt, KeepsWork}
+use Rattle.build_work.specs.Keeping.{AreWorkers, HasHanded, HaveEachOnce, IsClosed, IsWorkerAt, KeepsLaws, KeepsWork}
 use Rattle.build_work.specs.Working.{CanHandOver, handed_over}
 use Rattle.build_work.proofs.Kept.{any_workers}
 use Rattle.build_work.proofs.OneWorker.{the_work}
@@ -32,7 +33,7 @@ pub record HasItsSpools (specs : List KeySpecValue) (worker : WorkerValue) : Typ
 
 module _
     (specs : List KeySpecValue) (workers : List WorkerValue) (own : All (HasItsSpools specs) workers) (closed : All IsClosed workers)
-    (holding : All (λ worker. worker.fault ≡ None → worker.handed ≡ false → IsHolding worker.intake worker.maker worker.spools) workers) where
+    (holding : (k : ℕ) (worker : WorkerValue) → slice_get workers k ≡ Some worker → IsHolding worker.intake worker.maker worker.spools) where
   abbrev n : ℕ
   n = length specs
 
@@ -40,9 +41,7 @@ module _
   its_own k worker at = all_at (HasItsSpools specs) workers k worker own at
 
   holds : (k : ℕ) (worker : WorkerValue) → slice_get workers k ≡ Some worker → IsHolding worker.intake worker.maker worker.spools
-  holds k worker at =
-      all_at (λ (w : WorkerValue). w.fault ≡ None → w.handed ≡ false → IsHolding w.intake w.maker w.spools) workers k worker holding at
-      (its_own k worker at).fine (its_own k worker at).spools_are
+  holds k worker at = holding k worker at
 
   own_many : (k : ℕ) (worker : WorkerValue) → slice_get workers k ≡ Some worker → length worker.spools ≡ n
   own_many k worker at = (holds k worker at).many ∙ ap length (its_own k worker at).specs_are
@@ -95,16 +94,15 @@ module _
         (its_pairs index k it.0 spool less it.1 here);
   }
 
-  pub all_handed :
-      All (λ worker. All (λ spec. spec.kinds ≡ worker.maker.schema) worker.maker.specs) workers
-      → All (λ worker. worker.fault ≡ None → IsCounting worker.intake worker.maker) workers → All (HasHanded specs) (map handed_over workers)
-  all_handed columns counting = mapped_of (HasHanded specs) handed_over workers (λ k worker at.
+  pub all_handed : (rings : List RingId) → All (KeepsLaws rings) workers → All (HasHanded specs) (map handed_over workers)
+  all_handed rings laws = mapped_of (HasHanded specs) handed_over workers (λ k worker at.
       let is = its_own k worker at in
+      let keeps = all_at (KeepsLaws rings) workers k worker laws at in
       record {
         closed = all_at IsClosed workers k worker closed at;
         none = refl;
-        columns = all_at (λ (w : WorkerValue). All (λ spec. spec.kinds ≡ w.maker.schema) w.maker.specs) workers k worker columns at;
-        counting = all_at (λ (w : WorkerValue). w.fault ≡ None → IsCounting w.intake w.maker) workers k worker counting at is.fine;
+        columns = keeps.columns;
+        counting = keeps.counting is.fine;
         opened = subst (λ (ss : List KeySpecValue). (i : ℕ) → i < length ss
             → HoldsOpen (spec_at ss i) (unsealed_images worker.maker.schema worker.intake) (get_or worker.maker.begun i [])) is.specs_are (holds k worker at).opened;
       })
@@ -130,17 +128,24 @@ own_spools build specs workers placed = all_from (HasItsSpools specs) workers (�
     let is = placed k worker at in
     record { fine = is.fine; specs_are = is.specs_are; spools_are = is.spools_are })
 
+-- what they hold, while they have them
+pub own_held :
+    (specs : List KeySpecValue) (rings : List RingId) (workers : List WorkerValue) → All (HasItsSpools specs) workers → All (KeepsLaws rings) workers
+    → (k : ℕ) (worker : WorkerValue) → slice_get workers k ≡ Some worker → IsHolding worker.intake worker.maker worker.spools
+own_held specs rings workers own laws k worker at =
+    let is = all_at (HasItsSpools specs) workers k worker own at in
+    (all_at (KeepsLaws rings) workers k worker laws at).holding is.fine is.spools_are
+
 -- the work goes on, and its indexes are being loaded
 pub handed_kept :
-    (workers : List WorkerValue) (sides : List (TakeEnd Entry)) (spools : List SpoolValue) (work : WorkValue) → work.loading ≡ false
-    → All IsClosed workers → HaveEachOnce work (lent_spools workers) → All (λ worker. All (λ spec. spec.kinds ≡ worker.maker.schema) worker.maker.specs) workers
-    → All (λ worker. worker.fault ≡ None → IsCounting worker.intake worker.maker) workers
-    → All (λ worker. worker.fault ≡ None → worker.handed ≡ false → IsHolding worker.intake worker.maker worker.spools) workers
+    (workers : List WorkerValue) (sides : List (TakeEnd Entry)) (spools : List SpoolValue) (work : WorkValue) (rings : List RingId) → work.loading ≡ false
+    → All IsClosed workers → HaveEachOnce work (lent_spools workers) → All (KeepsLaws rings) workers
     → KeepsWork workers sides spools (Some work) → KeepsWork (map handed_over workers) sides (all_spools workers spools) (Some (record work { loading = true }))
-handed_kept workers sides spools work scans closed once columns counting holding is = λ fine.
+handed_kept workers sides spools work rings scans closed once laws is = λ fine.
     let old = is fine in
     let placed = subst (λ (handed : Bool). AreWorkers work.build work.specs handed workers) scans old.placed in
     let own = own_spools work.build work.specs workers placed in
+    let holding = own_held work.specs rings workers own laws in
     let all : all_spools workers spools ≡ lent_spools workers = ap (λ (home : List SpoolValue). home ++ lent_spools workers) (old.lent scans) in
     record {
       many = old.many;
@@ -150,21 +155,18 @@ handed_kept workers sides spools work scans closed once columns counting holding
           (all_at (λ (i : IndexValue). i.built ≡ None) work.indexes k index (old.unloaded scans) at) (old.indexes k spec end index here there at);
       lent = λ e. absurd (false≢true (sym e));
       unloaded = λ e. absurd (false≢true (sym e));
-      handed = λ e. all_handed work.specs workers own closed holding columns counting;
+      handed = λ e. all_handed work.specs workers own closed holding rings laws;
       columns = λ e. rw all (lent_columns work.specs workers own closed holding (λ index. IsUnloaded index (record work { loading = true })));
       once = λ e. rw all once;
     }
 
 -- the same of the work that runs, as it was seen
 pub handed_over_kept :
-    (old seen : BuildingValue) (work held : WorkValue) → seen ≡ old → seen.work ≡ Some work → held ≡ work → CanHandOver old
-    → All (λ worker. All (λ spec. spec.kinds ≡ worker.maker.schema) worker.maker.specs) seen.workers
-    → All (λ worker. worker.fault ≡ None → IsCounting worker.intake worker.maker) seen.workers
-    → All (λ worker. worker.fault ≡ None → worker.handed ≡ false → IsHolding worker.intake worker.maker worker.spools) seen.workers
-    → KeepsWork seen.workers seen.sides seen.spools seen.work
+    (old seen : BuildingValue) (work held : WorkValue) → seen ≡ old → seen.work ≡ Some work → held ≡ work → CanHandOver old → {rings : List RingId}
+    → All (KeepsLaws rings) seen.workers → KeepsWork seen.workers seen.sides seen.spools seen.work
     → (workers : List WorkerValue) (spools : List SpoolValue) → workers ≡ map handed_over seen.workers → spools ≡ all_spools seen.workers seen.spools
     → KeepsWork workers seen.sides spools (Some (record held { loading = true }))
-handed_over_kept old seen work held same runs is can columns counting holding keeps workers spools workers_are spools_are =
+handed_over_kept old seen work held same runs is can {rings} laws keeps workers spools workers_are spools_are =
     let it : can.work ≡ work = the_work old.work can.work work can.runs (ap (λ (b : BuildingValue). b.work) (sym same) ∙ runs) in
     let scans : work.loading ≡ false = ap (λ (w : WorkValue). w.loading) (sym it) ∙ can.scans in
     let closed : All IsClosed seen.workers = subst (λ (b : BuildingValue). All IsClosed b.workers) (sym same) can.closed in
@@ -172,5 +174,5 @@ handed_over_kept old seen work held same runs is can columns counting holding ke
     subst (λ (w : WorkValue). HaveEachOnce w (lent_spools seen.workers)) it
     (subst (λ (b : BuildingValue). HaveEachOnce can.work (lent_spools b.workers)) (sym same) can.once) in
     rw (workers_are, spools_are, is)
-    (handed_kept seen.workers seen.sides seen.spools work scans closed once columns counting holding
+    (handed_kept seen.workers seen.sides seen.spools work rings scans closed once laws
     (subst (λ (o : Option WorkValue). KeepsWork seen.workers seen.sides seen.spools o) runs keeps))

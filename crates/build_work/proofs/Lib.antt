@@ -8,6 +8,7 @@ pub mod Equipping
 pub mod HandedKept
 pub mod Kept
 pub mod LeftBeside
+pub mod LentBack
 pub mod LoadedKept
 pub mod Looked
 pub mod Looks

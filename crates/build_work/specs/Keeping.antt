@@ -7,6 +7,7 @@ use Rattle.std.specs.Ordering.{eq_by_cmp}
 use Rattle.keybytes.specs.Keys.{KeySpecValue}
 use Rattle.keybytes.specs.Pairs.{pair_cmp, set_of}
 use Rattle.keybytes.specs.declared.pair.Pair.{Pair}
+use Rattle.side_file.specs.Ends.{RingId}
 use Rattle.side_file.specs.declared.entry.Entry.{Entry}
 use Rattle.heap_table.specs.Images.{ImageValue}
 use Rattle.visibility.specs.Applied.{apply_entries}
@@ -18,7 +19,7 @@ use Rattle.building.specs.ImagePairs.{HavePairs}
 use Rattle.building.specs.SpoolValue.{SpoolValue, pairs_in}
 use Rattle.building.specs.TakeEnd.{TakeEnd}
 use Rattle.building.specs.Taking.{received_images, unsealed_images}
-use Rattle.building.specs.WorkerValue.{IsCounting, WorkerValue}
+use Rattle.building.specs.WorkerValue.{IsCounting, IsHolding, WorkerValue}
 use Rattle.build_work.specs.BuildingValue.{IndexValue, IsUnloaded, WorkValue}
 use Rattle.build_work.specs.Columns.{column}
 use Rattle.build_work.specs.Holding.{HaveColumns}
@@ -40,6 +41,14 @@ pub record IsIndexOf (build : ℕ) (spec : KeySpecValue) (workers : List WorkerV
   pub of_build : (built : BuiltValue) → index.built ≡ Some built → built.build ≡ build
   pub of_spec : (built : BuiltValue) → index.built ≡ Some built → built.unique ≡ spec.unique
   pub loaded : (built : BuiltValue) → index.built ≡ Some built → ArePairsOf spec workers (told_to build end.received) built.pairs
+
+-- what a worker of that table keeps, whatever it was asked
+pub record KeepsLaws (page_rings : List RingId) (worker : WorkerValue) : Type 0 where
+  pub ring : slice_get page_rings worker.number ≡ Some worker.intake.end.ring
+  pub begun : length worker.maker.begun ≡ length worker.maker.specs
+  pub columns : All (λ spec. spec.kinds ≡ worker.maker.schema) worker.maker.specs
+  pub counting : worker.fault ≡ None → IsCounting worker.intake worker.maker
+  pub holding : worker.fault ≡ None → worker.handed ≡ false → IsHolding worker.intake worker.maker worker.spools
 
 -- a worker of that build of these indexes which goes on, with the number of its place; its spools are with it, or were handed over
 pub record IsWorkerAt (build : ℕ) (specs : List KeySpecValue) (handed : Bool) (place : ℕ) (worker : WorkerValue) : Type 0 where

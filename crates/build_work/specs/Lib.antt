@@ -4,6 +4,7 @@ pub mod Equipped
 pub mod FullSpools
 pub mod Holding
 pub mod Keeping
+pub mod Lent
 pub mod Rings
 pub mod Verdicts
 pub mod WorkOn

@@ -45,7 +45,7 @@ pub struct Building<S: Spool, T: Table> {
     /// Whether a build was given the spools; they are then not left for a next one.
     pub(crate) given: bool,
     pub(crate) work: Option<Work>,
-    of: PhantomData<T>,
+    pub(crate) of: PhantomData<T>,
 }
 
 impl<S: Spool, T: Table> Model for Building<S, T> {

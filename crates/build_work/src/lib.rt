@@ -2,7 +2,7 @@
 //!
 //! A [`Building`] has all of it, and no lock keeps it: the workers of the build that runs, each with the end of its ring and its
 //! spools, the ends of the side-files' rings, the spools that no worker has, and the [`Work`], of each index an [`IndexWork`]. Between two builds
-//! the rings' ends are [`Ends`], and what the next build's workers begin with is made by [`prepare`]. What its workers, spools and work have to do with
+//! the rings' ends are [`Ends`], while its workers are in threads it is [`WithoutWorkers`], and what the next build's workers begin with is made by [`prepare`]. What its workers, spools and work have to do with
 //! the build that a table knows is said once, by `AreAtWork` and `IsWorkOn` of `specs/WorkOn.antt`.
 #![tactic(auto)]
 
@@ -11,6 +11,7 @@ mod ending;
 mod ends;
 mod equipment;
 mod index_work;
+mod lending;
 mod looking;
 mod merging;
 mod returning;
@@ -23,4 +24,5 @@ pub use ending::end_spools;
 pub use ends::Ends;
 pub use equipment::{Equipment, prepare};
 pub use index_work::IndexWork;
+pub use lending::WithoutWorkers;
 pub use work::Work;

@@ -4,11 +4,11 @@ ghost use Rattle.std.specs.List.{AllZip};
 ghost use Rattle.side_file.specs.Changes.{Looks};
 ghost use Rattle.side_file.specs.Ends.{PutEnd};
 ghost use Rattle.building.specs.TakeEnd.{PutEndLooked};
-ghost use Rattle.building.specs.WorkerValue.{IsHolding, WorkerValue};
+ghost use Rattle.building.specs.WorkerValue.{WorkerValue};
 ghost use Rattle.building.specs.declared.copied.Copied.{Copied};
 ghost use Rattle.build_scan.specs.SideFiles.{drained_end, put_ends, side_rings};
 ghost use Rattle.build_work.specs.BuildingValue.{intakes};
-ghost use Rattle.build_work.specs.Keeping.{KeepsWork};
+ghost use Rattle.build_work.specs.Keeping.{KeepsLaws, KeepsWork};
 ghost use Rattle.build_work.specs.Rings.{put_rings, all_sent, all_free, begun_on, AreLooked, AreSealed, AreTakeEnds, FirstAreSealed, IsUnsealed};
 ghost use Rattle.build_work.specs.Working.{SideIsSeen};
 
@@ -56,8 +56,7 @@ impl<S: Spool, T: Table> Building<S, T> {
             (AreSealed (all_sent pages.new.items) self.new.workers)
             (λ k. (k < length self.new.workers) × FirstAreSealed k (all_sent pages.new.items) self.new.workers
             × IsUnsealed k (all_sent pages.new.items) self.new.workers) }
-        ensures begun { All (λ w. length w.maker.begun ≡ length w.maker.specs) self.new.workers }
-        ensures holding { All (λ w. w.fault ≡ None → w.handed ≡ false → IsHolding w.intake w.maker w.spools) self.new.workers }
+        ensures laws { All (KeepsLaws T.pages) self.new.workers }
     {
         // That there are few workers is known once their fields are reached.
         let _idle = &self.idle;

@@ -2,9 +2,10 @@
 ghost use Rattle.std.specs.Prelude.{◌≡◌, ◌++◌, ◌<◌, ◌≤◌, ◌+◌, List, map, length, slice_get, All, true, false, None, Some, IfSome, MatchOption, ℕ, vec_capacity};
 ghost use Rattle.side_file.specs.Ends.{PutEnd};
 ghost use Rattle.building.specs.IntakeValue.{IntakeValue};
-ghost use Rattle.building.specs.WorkerValue.{IsCounting, IsHolding, WorkerValue};
+ghost use Rattle.building.specs.WorkerValue.{WorkerValue};
 ghost use Rattle.building.specs.declared.copied.Copied.{Copied};
 ghost use Rattle.build_work.specs.BuildingValue.{intakes};
+ghost use Rattle.build_work.specs.Keeping.{KeepsLaws};
 ghost use Rattle.build_work.specs.Rings.{put_rings, take_rings, all_sent, all_free, begun_on, AreLooked, AreSealed, FirstAreSealed, IsUnsealed, IsSealed};
 
 use building::{Intake, PagePutter, Table, Worker};
@@ -84,12 +85,9 @@ pub(crate) fn first_unsealed<S: Spool, T: Table>(
     None
 }
 
-/// Does nothing: its clauses tell what each worker keeps that goes on and has its spools.
+/// Does nothing: its clause tells what each worker keeps.
 pub(crate) fn laws_of<S: Spool, T: Table>(workers: &[Worker<S, T>])
-    ensures begun { All (λ w. length w.maker.begun ≡ length w.maker.specs) workers.now }
-    ensures columns { All (λ w. All (λ spec. spec.kinds ≡ w.maker.schema) w.maker.specs) workers.now }
-    ensures counting { All (λ w. w.fault ≡ None → IsCounting w.intake w.maker) workers.now }
-    ensures holding { All (λ w. w.fault ≡ None → w.handed ≡ false → IsHolding w.intake w.maker w.spools) workers.now }
+    ensures { All (KeepsLaws T.pages) workers.now }
 {
     for worker in workers {
         worker.laws();

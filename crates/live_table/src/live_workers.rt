@@ -3,7 +3,7 @@ ghost use Rattle.std.specs.Prelude.{◌≡◌, ◌++◌, ◌<◌, ◌≤◌, ◌
 ghost use Rattle.side_file.specs.Ends.{PutEnd};
 ghost use Rattle.run_spool.specs.Spools.{NoPageOnlyIf};
 ghost use Rattle.run_maker.specs.Spooling.{MemoryOnlyIf};
-ghost use Rattle.building.specs.WorkerValue.{IsHolding};
+ghost use Rattle.build_work.specs.Keeping.{KeepsLaws};
 ghost use Rattle.building.specs.declared.copied.Copied.{Copied};
 ghost use Rattle.build_halves.specs.Builds.{core_state, cause_of, put_refusal, HasLooked, SeesRing, IsLoading, MayWork, MayLoad, WorksOn};
 ghost use Rattle.build_halves.specs.Switching.{HaveAll, IsLowestUnsealed};
@@ -37,8 +37,7 @@ impl<T: Table> Live<T> {
     pub fn unsealed<S: Spool>(&mut self, building: &mut Building<S, T>) -> Option<usize>
         ensures looked { HasLooked self.old building.old self.new building.new }
         ensures unsealed { MatchOption result (HaveAll self.new building.new) (IsLowestUnsealed self.new building.new) }
-        ensures begun { All (λ w. length w.maker.begun ≡ length w.maker.specs) building.new.workers }
-        ensures holding { All (λ w. w.fault ≡ None → w.handed ≡ false → IsHolding w.intake w.maker w.spools) building.new.workers }
+        ensures laws { All (KeepsLaws T.pages) building.new.workers }
         ensures put { PagesFollow self.new.state.heap.schema self.new.state.heap.log self.new.state.builds self.new.state.build (all_sent self.new.pages) }
         ensures pages { length self.new.pages ≡ 16 }
     {

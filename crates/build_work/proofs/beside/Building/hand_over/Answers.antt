@@ -1,7 +1,8 @@
 use Rattle.std.proofs.Common.{◌≡◌, false, List, All, None, length, map, ap, subst, arith}
 use Rattle.std.proofs.lemmas.List.{length-map}
 use Rattle.building.specs.SpoolValue.{spool_value}
-use Rattle.building.specs.WorkerValue.{IsCounting, IsHolding, WorkerValue}
+use Rattle.building.specs.WorkerValue.{WorkerValue}
+use Rattle.build_work.specs.Keeping.{KeepsLaws}
 use Rattle.build_work.proofs.BroughtHome.{ends_kept, none_away}
 use Rattle.build_work.proofs.HandedKept.{handed_over_kept}
 use Rattle.build_work.proofs.beside.Building.hand_over.Goals as goal
@@ -17,9 +18,7 @@ invariant_of-self g c =
     let all = none_away old new (map value spools.items) is in
     let seen : c.deref.result.now ≡ old = c.deref.ensures.value in
     let kept = handed_over_kept c.args.self.now _ c.in-Some.work _ c.self.view_is c.in-Some.is c.work.view_is c.requires
-    (subst (All (λ (w : WorkerValue). All (λ spec. spec.kinds ≡ w.maker.schema) w.maker.specs)) seen c.laws_of.ensures.columns)
-    (subst (All (λ (w : WorkerValue). w.fault ≡ None → IsCounting w.intake w.maker)) seen c.laws_of.ensures.counting)
-    (subst (All (λ (w : WorkerValue). w.fault ≡ None → w.handed ≡ false → IsHolding w.intake w.maker w.spools)) seen c.laws_of.ensures.holding)
+    (subst (All (KeepsLaws g.T.Table.pages)) seen c.laws_of.ensures)
     c.self.invariant.6 new (map value spools.items) is c.bring_home.ensures.spools in (
       ends_kept old new _ _ c.self.inside.idle.items _ is c.self.invariant.0,
       c.self.invariant.1,

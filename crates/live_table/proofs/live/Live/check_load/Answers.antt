@@ -28,7 +28,7 @@ returns-in-Some-unsealed-clause-refused g c =
     let unsealed = c.in-Some-unsealed.ensures.unsealed in
     let there : c.args.index < length b.specs = omega (arith, c.if-index-indexes.false, c.indexes.ensures) in
     let cause = load_unsealed live building b w run c.in_ok-check.ensures (put_of live b run.build_is c.unsealed.ensures.put) c.unsealed.ensures.pages
-    (open_runs live building b w run c.in_ok-check.ensures (put_of live b run.build_is c.unsealed.ensures.put) c.unsealed.ensures.pages c.unsealed.ensures.begun c.unsealed.ensures.holding)
+    (open_runs live building b w run c.in_ok-check.ensures (put_of live b run.build_is c.unsealed.ensures.put) c.unsealed.ensures.pages g.T.Table.pages c.unsealed.ensures.laws)
     c.args.index worker there all unsealed.there unsealed.lower unsealed.unsealed in
     subst (λ (s : CoreState). build_cause s.live.build (λ x. load_refusal x s c.args.index) ≡ Some (NotSealed worker)) same cause
 
@@ -53,7 +53,7 @@ returns-in-None-clause-accepted g c =
     let all : open_range b ≡ None = search rules in
     let there : c.args.index < length b.specs = omega (arith, c.if-index-indexes.false, c.indexes.ensures) in
     let cause = load_free live building b w run c.in_ok-check.ensures (put_of live b run.build_is c.unsealed.ensures.put) c.unsealed.ensures.pages
-    (open_runs live building b w run c.in_ok-check.ensures (put_of live b run.build_is c.unsealed.ensures.put) c.unsealed.ensures.pages c.unsealed.ensures.begun c.unsealed.ensures.holding)
+    (open_runs live building b w run c.in_ok-check.ensures (put_of live b run.build_is c.unsealed.ensures.put) c.unsealed.ensures.pages g.T.Table.pages c.unsealed.ensures.laws)
     c.args.index there all c.in-None.ensures.unsealed in
     subst (λ (s : CoreState). build_cause s.live.build (λ x. load_refusal x s c.args.index) ≡ None) same cause
 
@@ -82,6 +82,6 @@ returns-in-None-clause-runs g c =
       there = let specs = ap length was.on.specs in omega (arith, c.if-index-indexes.false, c.indexes.ensures, specs);
       all = search rules;
       sealed = c.in-None.ensures.unsealed;
-      holding = all_holding live building b w run c.in_ok-check.ensures (put_of live b run.build_is c.unsealed.ensures.put) c.unsealed.ensures.pages c.unsealed.ensures.begun
-          c.unsealed.ensures.holding;
+      holding = all_holding live building b w run c.in_ok-check.ensures (put_of live b run.build_is c.unsealed.ensures.put) c.unsealed.ensures.pages g.T.Table.pages
+          c.unsealed.ensures.laws;
     }

@@ -1,0 +1,125 @@
+//! Workers that are lent, to threads.
+ghost use Rattle.std.specs.Prelude.{◌≡◌, [], All, Some, IfSome, vec_capacity};
+ghost use Rattle.build_work.specs.Lent.{AreBack, CanLend, lowest_fault, StaysWithout};
+
+use crate::beside::Building;
+use crate::rings::laws_of;
+use crate::work::Work;
+use building::{Intake, Table, Worker};
+use keybytes::Fault;
+use rtrb::Consumer;
+use run_spool::Spool;
+use side_file::Entry;
+use std::marker::{Model, PhantomData};
+
+/// A [`Building`] whose workers are lent.
+///
+/// It is no `Drop`: the workers come back, also those that were stopped.
+pub struct WithoutWorkers<S: Spool, T: Table> {
+    idle: Vec<Intake>,
+    side_ends: Vec<Consumer<Entry>>,
+    /// Room for the spools of the workers, and none of them.
+    spools: Vec<S>,
+    work: Work,
+    of: PhantomData<T>,
+}
+
+impl<S: Spool, T: Table> Model for WithoutWorkers<S, T> {
+    ghost use Rattle.build_work.specs.BuildingValue.{BuildingValue};
+
+    ghost Value = { BuildingValue };
+
+    ghost use Rattle.std.specs.Prelude.{◌≡◌, ◌-◌, ◌*◌, ◌≤◌, [], length, map, true, Some, vec_capacity};
+    ghost use Rattle.building.specs.SpoolValue.{spool_value};
+    ghost use Rattle.building.specs.TakeEnd.{take_end};
+    ghost use Rattle.build_work.specs.Lent.{StaysWithout};
+
+    ghost view = { λ rest. record {
+      workers = [];
+      idle = rest.idle.items;
+      sides = map take_end rest.side_ends.items;
+      spools = map (spool_value S.runs S.open_run S.stake) rest.spools.items;
+      given = true;
+      work = Some rest.work;
+    } };
+
+    ghost invariant = { λ rest. StaysWithout T.pages T.sides rest.idle.items (map take_end rest.side_ends.items) rest.work
+        × (rest.spools.items ≡ [])
+        × (16 ≤ vec_capacity rest.idle)
+        × ((16 - length rest.idle.items) * length rest.work.specs ≤ vec_capacity rest.spools) };
+}
+
+impl<S: Spool, T: Table> Building<S, T> {
+    /// Lends the workers of the build, each to a thread of its own: there a worker takes what it sees in its ring, and closes its runs, without
+    /// any lock. [`WithoutWorkers::gather`] takes them back. Takes no memory.
+    pub fn lend(self) -> (Vec<Worker<S, T>>, WithoutWorkers<S, T>)
+        requires { CanLend self }
+        ensures workers { result.0.items ≡ self.workers }
+        ensures rest { result.1 ≡ record self { workers = [] } }
+        ensures back { AreBack result.1 result.0.items }
+    {
+        let Building {
+            workers,
+            idle,
+            side_ends,
+            spools,
+            given: _,
+            work,
+            of,
+        } = self;
+        let Some(work) = work else {
+            unreachable!()
+        };
+        laws_of(&workers);
+        let rest = WithoutWorkers {
+            idle,
+            side_ends,
+            spools,
+            work,
+            of,
+        };
+        (workers, rest)
+    }
+}
+
+impl<S: Spool, T: Table> WithoutWorkers<S, T> {
+    /// Takes the workers back, in the order in which they were lent. The fault of the lowest that was stopped spoils the build. Takes no memory.
+    pub fn gather(self, workers: Vec<Worker<S, T>>) -> Building<S, T>
+        requires { AreBack self workers.items }
+        ensures { IfSome self.work (λ work. result ≡ record self {
+          workers = workers.items;
+          work = Some (record work { spoiled = lowest_fault workers.items });
+        }) }
+    {
+        let WithoutWorkers {
+            idle,
+            side_ends,
+            spools,
+            mut work,
+            of,
+        } = self;
+        laws_of(&workers);
+        work.spoiled = first_stopped(&workers);
+        Building {
+            workers,
+            idle,
+            side_ends,
+            spools,
+            given: true,
+            work: Some(work),
+            of,
+        }
+    }
+}
+
+/// The fault of the lowest worker that was stopped.
+fn first_stopped<S: Spool, T: Table>(workers: &[Worker<S, T>]) -> Option<Fault>
+    ensures { result ≡ lowest_fault workers.now }
+{
+    for worker in workers {
+        if let Some(fault) = worker.fault() {
+            return Some(fault);
+        }
+    }
+    None
+}
