@@ -4,7 +4,7 @@ use Rattle.btree.specs.Seen.{Seen}
 use Rattle.btree.specs.Weave.{height_of}
 use Rattle.btree.proofs.Middles.{has-middle}
 use Rattle.btree.proofs.MarkFacts.{mark_before-strict, has-items_of}
-use Rattle.btree.proofs.FanFacts.{at_fan, at_leaf, around_fan, AllAt-get}
+use Rattle.btree.proofs.FanFacts.{at_fan, at_leaf, around_fan, child_height}
 use Rattle.btree.proofs.Removed.{Removed, removed_leaf, removed_fan}
 use Rattle.btree.proofs.node.Node.+remove.Goals as goal
 use Rattle.btree.proofs.node.Node.+remove.Goals.{Joined-self, in-Leaf, in-Fan}
@@ -22,9 +22,7 @@ pub remove-requires-in-Fan : goal.remove-requires-in-Fan
 remove-requires-in-Fan t c =
     let f = at_fan c.self.view_is c.self.invariant c.in-Fan.is in
     let a = around_fan f _ _ c.find-place.ensures in
-    let h : c.child_mut.result.now.height ≡ height_of (children_of c.in-Fan.fan) = ap (λ (s : Seen). s.height) c.child_mut.ensures.child
-    ∙ AllAt-get _ _ _ _ f.level a.within in
-    (omega (arith, f.height, c.decreases), tt)
+    (omega (arith, child_height f a _ c.child_mut.ensures.child, f.height, c.decreases), tt)
 
 -- what is left of a leaf, and of a fan
 left : (t : ℕ) (c : Joined-self t) → Removed (record { key = c.args.key.now; rid = c.args.rid }) c.args.self.now c.match-self.self-inside.kind
