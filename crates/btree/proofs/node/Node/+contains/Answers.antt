@@ -1,7 +1,4 @@
-use Rattle.tree_nodes.specs.Fans.{children_of}
-use Rattle.std.proofs.Common.{◌≡◌, ap, ◌∙◌, arith}
-use Rattle.btree.specs.Seen.{Seen}
-use Rattle.btree.specs.Weave.{height_of}
+use Rattle.std.proofs.Common.{arith}
 use Rattle.btree.proofs.Middles.{has-middle}
 use Rattle.btree.proofs.MarkFacts.{mark_before-strict, has-items_of}
 use Rattle.btree.proofs.FanFacts.{at_fan, at_leaf, around_fan, child_height}

@@ -1,8 +1,5 @@
-use Rattle.tree_nodes.specs.Fans.{children_of}
-use Rattle.std.proofs.Common.{◌≡◌, not, ap, ◌∙◌, arith}
+use Rattle.std.proofs.Common.{not, ap, ◌∙◌, arith}
 use Rattle.std.proofs.Math.ListN.{length-set}
-use Rattle.btree.specs.Seen.{Seen}
-use Rattle.btree.specs.Weave.{height_of}
 use Rattle.btree.proofs.FanFacts.{at_fan, at_leaf, around_fan, child_height}
 use Rattle.btree.proofs.FanInserted.{below_at, stays, takes_in, takes_split, height_is, held, leaf_inserted, leaf_held, used_within, used_both}
 use Rattle.btree.proofs.node.Node.+insert.Goals as goal

@@ -1,9 +1,7 @@
-use Rattle.tree_nodes.specs.Fans.{children_of, separators_of}
+use Rattle.tree_nodes.specs.Fans.{separators_of}
 use Rattle.std.proofs.Common.{◌≡◌, ◌<◌, ◌≤◌, [], ◌∷◌, get_or, Some, None, length, ap, sym, ◌∙◌, arith}
 use Rattle.keybytes.specs.declared.pair.Pair.{Pair}
 use Rattle.btree.specs.Marks.{Between}
-use Rattle.btree.specs.Seen.{Seen}
-use Rattle.btree.specs.Weave.{height_of}
 use Rattle.btree.proofs.FanFacts.{at_fan, at_leaf, around_fan, child_height}
 use Rattle.btree.proofs.Leaving.{leaf_of_leaf, leaf_of_child, leaf_at_end, told}
 use Rattle.btree.proofs.node.Node.+leaf_from.Goals as goal
