@@ -22,7 +22,7 @@ use Rattle.btree.specs.Seen.{Seen}
 use Rattle.btree.specs.Splits.{marks_after, SplitAt, Appended}
 use Rattle.btree.specs.Weave.{weave, height_of, AllAt}
 use Rattle.btree.proofs.Around.{Around}
-use Rattle.btree.proofs.FanFacts.{AtFan, in_weave, around_fan, AllAt-get, AllAt-set}
+use Rattle.btree.proofs.FanFacts.{AtFan, in_weave, around_fan, AllAt-set, child_height}
 use Rattle.btree.proofs.Removed.{fanned_with}
 
 front_all : (test : Pair → Bool) (ps : List Pair) → ((p : Pair) → In p ps → test p ≡ true) → front_count test ps ≡ length ps
@@ -77,9 +77,6 @@ module _ {p : Pair} {seen : Seen} {fan : Fan Seen} {i : ℕ} {more : List Mark} 
   child_rises = (rising_parts mark_before (old.marks ++ more) b.around.r
       (rising_parts mark_before b.around.l ((old.marks ++ more) ++ b.around.r) whole_rises).right).left
 
-  pub child_height : old.height ≡ height_of (children_of fan)
-  child_height = ap (λ (c : Seen). c.height) old_is ∙ AllAt-get _ _ _ _ b.at.level b.around.within
-
 -- the last child, as it was and as it is
 pub record Last (p : Pair) (seen : Seen) (fan : Fan Seen) (i : ℕ) (more : List Mark) (old new : Seen) (split : Option Split) : Type 0 where
   pub end : AtEnd p seen fan i more
@@ -104,7 +101,7 @@ module _ {p : Pair} {seen : Seen} {fan : Fan Seen} {i : ℕ} {more : List Mark} 
   now_rises = let R : List Mark → Type 0 = λ ms. IsRising mark_before ms in subst R (sym now_is) b.end.rising
 
   pub new_height : new.height ≡ height_of (children_of fan)
-  new_height = b.appended.height ∙ child_height b.end old b.old_is
+  new_height = b.appended.height ∙ child_height b.end.at b.end.around old b.old_is
 
 -- nothing was split off the child
 pub record Ends (more : List Mark) (seen : Seen) (new : Kind) : Type 0 where
@@ -142,7 +139,7 @@ pub takes_last :
 takes_last {p} {seen} {fan} {i} {more} {old} {new} {split} b =
     let R : List Mark → Type 0 = λ ms. IsRising mark_before ms in
     let beside : split.node.height ≡ old.height = b.appended.beside in
-    let same : height_of (children_of fan) ≡ split.node.height = sym (beside ∙ child_height b.end old b.old_is) in
+    let same : height_of (children_of fan) ≡ split.node.height = sym (beside ∙ child_height b.end.at b.end.around old b.old_is) in
     let L : ℕ → Type 0 = λ n. AllAt n (set (children_of fan) i new) in
     record {
       rising = subst R (sym (split_is b)) (now_rises b);
@@ -158,7 +155,7 @@ pub ends_split :
     → Appended more seen (seen_kind (kind.Fan after)) result
 ends_split {p} {seen} {fan} {i} {more} {old} {new} {split} b after result marks height side =
     let beside : split.node.height ≡ old.height = b.appended.beside in
-    let same : suc split.node.height ≡ seen.height = ap suc (beside ∙ child_height b.end old b.old_is) ∙ sym b.end.at.height in
+    let same : suc split.node.height ≡ seen.height = ap suc (beside ∙ child_height b.end.at b.end.around old b.old_is) ∙ sym b.end.at.height in
     let S : ℕ → Type 0 = λ n. SplitAt n result in
     record {
       marks = marks ∙ split_is b ∙ now_is b;

@@ -33,7 +33,7 @@ rising_separators (c ∷ cs) (s ∷ ss) e r =
     let j = rising_parts mark_before c.marks (Between s ∷ weave cs ss) r in
     ((λ t i. j.right.0 (Between t) (in_weave t cs ss (omega arith) i)), rising_separators cs ss (omega arith) j.right.1)
 
-pub AllAt-get : (h : ℕ) (cs : List Seen) (i : ℕ) (d : Seen) → AllAt h cs → i < length cs → (get_or cs i d).height ≡ h
+AllAt-get : (h : ℕ) (cs : List Seen) (i : ℕ) (d : Seen) → AllAt h cs → i < length cs → (get_or cs i d).height ≡ h
 AllAt-get h [] i d a e = absurd (omega arith)
 AllAt-get h (c ∷ cs) zero d a e = a.0
 AllAt-get h (c ∷ cs) (suc i) d a e = AllAt-get h cs i d a.1 (omega arith)
@@ -108,6 +108,12 @@ pub around_fan :
     {seen : Seen} {fan : Fan Seen} → AtFan seen fan → (p : Pair) (i : ℕ) → i ≡ front_count (λ s. not (is_before p s)) (separators_of fan)
     → Around p (children_of fan) (separators_of fan) i
 around_fan {seen} {fan} f p i e = rw e (around p (children_of fan) (separators_of fan) f.sound.between f.rising)
+
+-- all children are of one height
+pub child_height :
+    {seen : Seen} {fan : Fan Seen} {p : Pair} {i : ℕ} → AtFan seen fan → Around p (children_of fan) (separators_of fan) i → (child : Seen)
+    → child ≡ get_or (children_of fan) i child → child.height ≡ height_of (children_of fan)
+child_height f a child is = ap (λ (s : Seen). s.height) is ∙ AllAt-get _ _ _ _ f.level a.within
 
 pub rising_kind : (k : Kind) → IsKind k → IsRising mark_before (seen_kind k).marks
 rising_kind (kind.Leaf pairs) h = h

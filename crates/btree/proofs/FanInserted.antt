@@ -21,7 +21,7 @@ use Rattle.btree.proofs.MarksGrown.{grown_inside}
 use Rattle.btree.proofs.Middles.{has-middle}
 use Rattle.btree.proofs.MarkFacts.{mark_before-strict, has-items_of}
 use Rattle.btree.proofs.Around.{Around}
-use Rattle.btree.proofs.FanFacts.{AtLeaf, AtFan, AllAt-get, AllAt-set}
+use Rattle.btree.proofs.FanFacts.{AtLeaf, AtFan, AllAt-set, child_height}
 use Rattle.btree.proofs.Removed.{with_child, fanned_with}
 
 -- the child at that place, as it was and as it is
@@ -36,7 +36,7 @@ module _ {p : Pair} {seen : Seen} {fan : Fan Seen} {i : ℕ} {old new : Seen} {s
   marks_is = b.at.marks ∙ b.around.is old ∙ ap (λ (c : Seen). b.around.l ++ (c.marks ++ b.around.r)) (sym b.old_is)
 
   pub height_is : old.height ≡ height_of (children_of fan)
-  height_is = ap (λ (c : Seen). c.height) b.old_is ∙ AllAt-get _ _ _ _ b.at.level b.around.within
+  height_is = child_height b.at b.around old b.old_is
 
   pub grown : GrownBy p seen.marks (b.around.l ++ (marks_after new.marks split ++ b.around.r))
   grown =

@@ -17,7 +17,7 @@ use Rattle.tree_nodes.proofs.Rising.{rising_without}
 use Rattle.btree.proofs.Middles.{without-middle}
 use Rattle.btree.proofs.MarkFacts.{mark_before-strict, without-items_of}
 use Rattle.btree.proofs.Around.{Around}
-use Rattle.btree.proofs.FanFacts.{AtLeaf, AtFan, AllAt-get, AllAt-set, height_of-all}
+use Rattle.btree.proofs.FanFacts.{AtLeaf, AtFan, AllAt-set, child_height, height_of-all}
 
 -- the fan with another child at that place
 abbrev pub with_child : Fan Seen → ℕ → Seen → Fan Seen
@@ -82,8 +82,7 @@ removed_fan {seen} {fan} {p} {i} f a old child is marks height =
     ap (without mark_before (Item p)) at ∙ without-middle mark_before-strict (Item p) a.l old.marks a.r a.below a.above
     ∙ ap (λ ms. a.l ++ (ms ++ a.r)) (sym marks) in
     let Q : List Mark → Type 0 = λ ms. IsRising mark_before ms in
-    let h : old.height ≡ height_of (children_of fan) = ap (λ (c : Seen). c.height) is ∙ AllAt-get _ _ _ _ f.level a.within in
-    let new = fanned_with f a child (height ∙ h) (subst Q whole (rising_without mark_before (Item p) (weave (children_of fan) (separators_of fan)) f.rising)) in
+    let new = fanned_with f a child (height ∙ child_height f a old is) (subst Q whole (rising_without mark_before (Item p) (weave (children_of fan) (separators_of fan)) f.rising)) in
     record {
       kept = new.kept;
       marks = new.is ∙ sym whole ∙ ap (without mark_before (Item p)) (sym f.marks);

@@ -31,7 +31,8 @@ module _ {P : Type 0} where
 
   -- at most k entries are taken and applied: fewer only for want of memory, or where no more is known to be in the ring
   pub record Applies
-      (k : ℕ) (old : BuiltValue) (before : Consumer Entry Global P) (answer : Result ℕ Fault) (new : BuiltValue) (after : Consumer Entry Global P) : Type 0 where
+      (k : ℕ) (old : BuiltValue) (before : Consumer Entry Global P) (answer : Result ℕ Fault) (new : BuiltValue)
+      (after : Consumer Entry Global P) : Type 0 where
     pub entries : List Entry
     pub taken : Taken entries before after
     pub applied : Applied entries old new

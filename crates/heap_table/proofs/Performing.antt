@@ -6,11 +6,9 @@ use Rattle.std.proofs.lemmas.Bool.{cases_Bool}
 use Rattle.std.proofs.lemmas.Option.{same_Some}
 use Rattle.keybytes.proofs.FirstCause.{both_none}
 use Rattle.keybytes.specs.Cells.{fits}
-use Rattle.keybytes.specs.Faults.{first_cause}
 use Rattle.keybytes.specs.Rows.{IsRow, row_bytes, shape_refusal}
 use Rattle.keybytes.specs.declared.cell.Cell.{Cell}
 use Rattle.keybytes.specs.declared.kind.Kind.{Kind}
-use Rattle.keybytes.specs.declared.fault.Fault.{Fault}
 use Rattle.keybytes.specs.declared.fault.Fault.TheVariants.{PageFull}
 use Rattle.keybytes.specs.declared.rid.Rid.{Rid}
 use Rattle.heap_log.specs.declared.record.LogRec.{LogRec}

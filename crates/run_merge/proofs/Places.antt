@@ -7,19 +7,26 @@ use Rattle.keybytes.specs.declared.pair.Pair.{Pair}
 use Rattle.run_merge.specs.Merging.{all_runs}
 use Rattle.run_merge.specs.Places.{IsPlace, ArePlaces}
 use Rattle.run_merge.specs.declared.place.Place.{Place}
-use Rattle.run_merge.proofs.Numbers.{together}
+use Rattle.run_merge.proofs.Numbers.{together, run_at, run_set}
 
 -- as the spools themselves tell it
 module _ {X : Type 0} (f : X → List (List Pair)) (xs : List X) (run : ℕ) (place : Place) where
   pub in_spool : IsPlace (map f xs) run place → place.spool < length xs
   in_spool at = omega (arith, at.spool, length-map xs f)
 
-  pub own_in : (d : X) → IsPlace (map f xs) run place → place.run < length (f (get_or xs place.spool d))
+  own_in : (d : X) → IsPlace (map f xs) run place → place.run < length (f (get_or xs place.spool d))
   own_in d at = subst (λ (rs : List (List Pair)). place.run < length rs) (get_or-map f xs place.spool d [] (in_spool at)) at.own
 
-  pub before_in : IsPlace (map f xs) run place → length (flat_map f (take place.spool xs)) + place.run ≡ run
+  before_in : IsPlace (map f xs) run place → length (flat_map f (take place.spool xs)) + place.run ≡ run
   before_in at =
       ap (λ (rs : List (List Pair)). length rs + place.run) (sym (ap all_runs (take-map f place.spool xs) ∙ together f (take place.spool xs))) ∙ at.before
+
+  pub run_there : (d : X) → IsPlace (map f xs) run place → get_or (all_runs (map f xs)) run [] ≡ get_or (f (get_or xs place.spool d)) place.run []
+  run_there d at = run_at f xs place.spool place.run run d (in_spool at) (own_in d at) (before_in at)
+
+  pub run_there_set : (d y : X) (r : List Pair) → IsPlace (map f xs) run place → f y ≡ set (f (get_or xs place.spool d)) place.run r
+      → all_runs (map f (set xs place.spool y)) ≡ set (all_runs (map f xs)) run r
+  run_there_set d y r at = run_set f xs place.spool place.run run d y r (in_spool at) (own_in d at) (before_in at)
 
   pub is_place : (d : X) → place.spool < length xs → place.run < length (f (get_or xs place.spool d))
       → length (flat_map f (take place.spool xs)) + place.run ≡ run → IsPlace (map f xs) run place

@@ -258,6 +258,15 @@ second_is : (run : List Pair) → slice_get run 1 ≡ head_of (drop 1 run)
 second_is [] = refl
 second_is (x ∷ run) = refl
 
+-- another lane has another run
+off_lane :
+    {runs : List (List Pair)} {lanes : List ℕ} {heads : List (Option Pair)} → IsMerge runs lanes heads → (lane k run : ℕ) → lane < length lanes
+    → k < length lanes → run ≡ get_or lanes lane 0 → k ≢ lane → get_or lanes k 0 ≢ run
+off_lane m lane k run lt lt' at ne = elim (cases_lt k lane) [
+  | inl before ↦ let gap = m.apart k lane before lt in λ e. omega (arith, gap, at, e)
+  | inr after ↦ let gap = m.apart lane k (omega (arith, after, ne)) lt' in λ e. omega (arith, gap, at, e)
+]
+
 -- what a step leaves
 pub step_leaves : (runs : List (List Pair)) (lanes : List ℕ) (heads : List (Option Pair)) → IsMerge runs lanes heads → (lane run : ℕ) → lane < length lanes
     → run ≡ get_or lanes lane 0
@@ -282,11 +291,7 @@ step_leaves runs lanes heads m lane run lt at next is =
                 ap (λ (n : ℕ). get_or (set heads lane next) n None) e ∙ get_or-set_same heads lane next None (omega (arith, lt, m.long)) in
                 head ∙ (is ∙ (second_is (get_or runs run []) ∙ ap head_of (sym (ap (λ (n : ℕ). get_or (set runs run rest) n []) place ∙ here))))
             | inr ne ↦
-                let off : get_or lanes k 0 ≢ run =
-                elim (cases_lt k lane) [
-                  | inl before ↦ let gap = m.apart k lane before lt in λ e. omega (arith, gap, at, e)
-                  | inr after ↦ let gap = m.apart lane k (omega (arith, after, ne)) lt' in λ e. omega (arith, gap, at, e)
-                ] in
+                let off : get_or lanes k 0 ≢ run = off_lane m lane k run lt lt' at ne in
                 get_or-set_other heads lane k next None ne ∙ (m.at k lt' ∙ ap head_of (sym (other (get_or lanes k 0) off)))
           ];
       cover = λ i lt' some.
@@ -330,11 +335,7 @@ seconds_leave runs lanes heads seconds m are lane run lt at second is =
                 new
                 ∙ (is ∙ (third_is (get_or runs run []) ∙ ap (λ (r : List Pair). slice_get r 1) (sym (ap (λ (n : ℕ). get_or (set runs run rest) n []) place ∙ here))))
             | inr ne ↦
-                let off : get_or lanes k 0 ≢ run =
-                elim (cases_lt k lane) [
-                  | inl before ↦ let gap = m.apart k lane before lt in λ e. omega (arith, gap, at, e)
-                  | inr after ↦ let gap = m.apart lane k (omega (arith, after, ne)) lt' in λ e. omega (arith, gap, at, e)
-                ] in
+                let off : get_or lanes k 0 ≢ run = off_lane m lane k run lt lt' at ne in
                 get_or-set_other seconds lane k second None ne
                 ∙ (are.at k lt' ∙ ap (λ (r : List Pair). slice_get r 1) (sym (get_or-set_other runs run (get_or lanes k 0) rest [] off)))
           ];

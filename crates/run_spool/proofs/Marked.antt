@@ -7,7 +7,7 @@ use Rattle.keybytes.specs.declared.pair.Pair.{Pair}
 use Rattle.run_spool.specs.declared.marks.Marks.{Marks}
 use Rattle.keybytes.specs.Writes.{overwritten}
 use Rattle.run_spool.specs.Bytes.{pair_bytes, pair_size, first_length, first_pair, read_pairs, IsPair, Stored}
-use Rattle.run_spool.specs.Pages.{pairs_at, IsPage, IsPairAt}
+use Rattle.run_spool.specs.Pages.{PageValue, page_value, pairs_at, IsPage, IsPairAt}
 use Rattle.run_spool.proofs.Stores.{length_read, stored_read, stored_size, count_le, push, step_at}
 
 -- so many pairs, read where they stand
@@ -27,6 +27,9 @@ page_of {bytes = bytes} m ps n le stored ahead =
 
 pub pairs_count : (bytes : List ℕ) (m : Marks) → length (pairs_at bytes m) ≡ m.count
 pairs_count bytes m = length_read m.count (drop m.start bytes)
+
+pub counted : (bytes : List ℕ) (m : Marks) {page : PageValue} → page_value bytes m ≡ page → length page.pairs ≡ m.count
+counted bytes m view = sym (ap (λ (p : PageValue). length p.pairs) view) ∙ pairs_count bytes m
 
 -- the pairs from the cursor on, read there
 pub from_cursor : {bytes : List ℕ} {m : Marks} → IsPage bytes m → read_pairs (m.count - m.cursor) (drop m.offset bytes) ≡ drop m.cursor (pairs_at bytes m)

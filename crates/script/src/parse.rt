@@ -1,5 +1,5 @@
 //! From the fields of a record to what it asks for.
-ghost use Rattle.std.specs.Prelude.{◌≡◌, ℕ, List, [], ◌∷◌, Some, None, IfOk, IfErr};
+ghost use Rattle.std.specs.Prelude.{◌≡◌, ◌⊎◌, ℕ, List, [], ◌∷◌, Some, None, IfOk, IfErr};
 ghost use Rattle.std.specs.List.{AllZip};
 ghost use Rattle.csv.specs.Records.{fields_of};
 ghost use Rattle.script.specs.Fields.{texts, SpellEach, SpellsCell, SpellsNumber, SpellsRid, SpellsSpec};
@@ -102,47 +102,77 @@ fn named(alloc: Global, name: CommandName, fields: &[&str]) -> Result<Line, Reco
             spec: only_spec(alloc, fields)?,
         },
         CommandName::Begin | CommandName::Undo | CommandName::Commit => {
-            let label = only_label(alloc, fields)?;
-            match name {
-                CommandName::Undo => Command::Undo { label },
-                CommandName::Commit => Command::Commit { label },
-                _ => Command::Begin { label },
-            }
+            labelled(alloc, name, fields)?
         }
         CommandName::Scan => {
             let (range, worker) = two_counts(fields)?;
             Command::Scan { range, worker }
         }
-        CommandName::Feed | CommandName::Apply => {
-            let (index, most) = two_counts(fields)?;
-            match name {
-                CommandName::Feed => Command::Feed { index, most },
-                _ => Command::Apply { index, most },
-            }
-        }
+        CommandName::Feed | CommandName::Apply => moving(name, fields)?,
         CommandName::Digest
         | CommandName::Seal
         | CommandName::Load
         | CommandName::Side
-        | CommandName::Pairs => {
-            let number = only_count(fields)?;
-            match name {
-                CommandName::Digest => Command::Digest { worker: number },
-                CommandName::Seal => Command::Seal { worker: number },
-                CommandName::Load => Command::Load { index: number },
-                CommandName::Side => Command::Side { index: number },
-                _ => Command::Pairs { number },
-            }
-        }
-        CommandName::Fence | CommandName::Switch | CommandName::Abandon => {
-            none(fields)?;
-            match name {
-                CommandName::Fence => Command::Fence,
-                CommandName::Switch => Command::Switch,
-                _ => Command::Abandon,
-            }
-        }
+        | CommandName::Pairs => numbered(name, fields)?,
+        CommandName::Fence | CommandName::Switch | CommandName::Abandon => bare(name, fields)?,
     }))
+}
+
+/// The command of that name which comes with a label alone.
+fn labelled(alloc: Global, which: CommandName, fields: &[&str]) -> Result<Command, RecordError>
+    requires { (which ≡ name.Begin) ⊎ (which ≡ name.Undo) ⊎ (which ≡ name.Commit) }
+    ensures ok { IfOk result (λ command. (name_of command ≡ which) × SpellParts (texts fields.now) command) }
+    ensures refused { result ≡ Err RecordError.Misspelled → ¬ (Fits which (texts fields.now)) }
+{
+    let label = only_label(alloc, fields)?;
+    Ok(match which {
+        CommandName::Undo => Command::Undo { label },
+        CommandName::Commit => Command::Commit { label },
+        _ => Command::Begin { label },
+    })
+}
+
+/// The command of that name which moves so many entries of an index.
+fn moving(which: CommandName, fields: &[&str]) -> Result<Command, RecordError>
+    requires { (which ≡ name.Feed) ⊎ (which ≡ name.Apply) }
+    ensures ok { IfOk result (λ command. (name_of command ≡ which) × SpellParts (texts fields.now) command) }
+    ensures refused { result ≡ Err RecordError.Misspelled → ¬ (Fits which (texts fields.now)) }
+{
+    let (index, most) = two_counts(fields)?;
+    Ok(match which {
+        CommandName::Feed => Command::Feed { index, most },
+        _ => Command::Apply { index, most },
+    })
+}
+
+/// The command of that name which comes with a number alone.
+fn numbered(which: CommandName, fields: &[&str]) -> Result<Command, RecordError>
+    requires { (which ≡ name.Digest) ⊎ (which ≡ name.Seal) ⊎ (which ≡ name.Load) ⊎ (which ≡ name.Side) ⊎ (which ≡ name.Pairs) }
+    ensures ok { IfOk result (λ command. (name_of command ≡ which) × SpellParts (texts fields.now) command) }
+    ensures refused { result ≡ Err RecordError.Misspelled → ¬ (Fits which (texts fields.now)) }
+{
+    let number = only_count(fields)?;
+    Ok(match which {
+        CommandName::Digest => Command::Digest { worker: number },
+        CommandName::Seal => Command::Seal { worker: number },
+        CommandName::Load => Command::Load { index: number },
+        CommandName::Side => Command::Side { index: number },
+        _ => Command::Pairs { number },
+    })
+}
+
+/// The command of that name which comes with nothing.
+fn bare(which: CommandName, fields: &[&str]) -> Result<Command, RecordError>
+    requires { (which ≡ name.Fence) ⊎ (which ≡ name.Switch) ⊎ (which ≡ name.Abandon) }
+    ensures ok { IfOk result (λ command. (name_of command ≡ which) × SpellParts (texts fields.now) command) }
+    ensures refused { result ≡ Err RecordError.Misspelled → ¬ (Fits which (texts fields.now)) }
+{
+    none(fields)?;
+    Ok(match which {
+        CommandName::Fence => Command::Fence,
+        CommandName::Switch => Command::Switch,
+        _ => Command::Abandon,
+    })
 }
 
 fn none(fields: &[&str]) -> Result<(), RecordError>

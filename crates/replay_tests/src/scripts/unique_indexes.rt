@@ -2,41 +2,7 @@
 
 use crate::case::Case;
 
-pub const CASES: [Case; 6] = [
-    Case {
-        name: "rows share a key while they are scanned, and no more when the switch decides",
-        script: b"table,4,int
-row,7
-row,7
-start,1,4,1,u:0
-scan,0,0
-seal,0
-load,0
-begin,A
-delete,A,0.1
-commit,A
-switch
-pairs,0
-",
-        out: "1,ok
-2,ok,0.0
-3,ok,0.1
-4,ok,1
-5,ok,0
-6,ok,1
-7,ok,2
-8,ok,3
-9,ok,5,0.1
-10,ok,6
-11,ok,7,ready:0
-11,pages,0
-12,ok,1
-12,pair,7,0.0
-",
-        err: "",
-        status: 0,
-        check: "script: 12 records, all good\n",
-    },
+pub const CASES: [Case; 5] = [
     Case {
         name: "an index with a shared key is refused, and the other one is ready",
         script: b"table,4,int,int
@@ -122,7 +88,7 @@ pairs,0
         check: "script: 15 records, all good\n",
     },
     Case {
-        name: "a key that was taken away, and given back by an undo",
+        name: "rows share a key until the switch decides, and then a key is taken away and given back by an undo",
         script: b"table,4,int
 row,7
 row,7

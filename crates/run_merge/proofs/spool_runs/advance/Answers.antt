@@ -1,53 +1,38 @@
-use Rattle.std.proofs.Common.{◌≡◌, ◌<◌, ◌∙◌, ap, sym, subst, List, length, set, drop, map}
+use Rattle.std.proofs.Common.{◌≡◌, ◌<◌, ◌∙◌, ap, sym, subst, List, [], length, get_or, set, drop, map}
 use Rattle.std.specs.Prelude.{IfOk, slice_get}
 use Rattle.run_merge.specs.Merging.{all_runs}
 use Rattle.std.proofs.Math.Seq.{map-set_same}
 use Rattle.std.proofs.lemmas.Result.{on_ok_weaker, on_err_weaker}
 use Rattle.keybytes.specs.declared.pair.Pair.{Pair}
-use Rattle.run_merge.proofs.Numbers.{run_at, run_set}
-use Rattle.run_merge.proofs.Places.{in_spool, own_in, before_in, places_stay}
+use Rattle.run_merge.proofs.Places.{in_spool, run_there, run_there_set, places_stay}
+use Rattle.run_merge.proofs.spool_runs.advance.Given as given
 use Rattle.run_merge.proofs.spool_runs.advance.Goals as goal
+use Rattle.run_merge.proofs.spool_runs.advance.Goals.{After-index-spools-place}
+
+-- the run in the spool where it stands
+own_run :
+    (g : given.Over) (c : After-index-spools-place g)
+    → get_or (all_runs (map g.S.Spool.runs c.args.spools.now)) c.args.run []
+    ≡ get_or (g.S.Spool.runs (get_or c.args.spools.now c.args.place.spool c.index-spools-place.result)) c.args.place.run []
+own_run g c = run_there g.S.Spool.runs c.args.spools.now c.args.run c.args.place c.index-spools-place.result c.requires.place
 
 pub free_first-requires-clause-pair : goal.free_first-requires-clause-pair
-free_first-requires-clause-pair g c =
-    let runs = g.S.Spool.runs in
-    let spools = c.args.spools.now in
-    let d = c.index-spools-place.result in
-    let place = c.args.place in
-    let is = c.requires.place in
-    let there = in_spool runs spools c.args.run place is in
-    let own = own_in runs spools c.args.run place d is in
-    let before = before_in runs spools c.args.run place is in
-    let at = run_at runs spools place.spool place.run c.args.run d there own before in
-    subst (λ (r : List Pair). 0 < length r) at c.requires.pair
+free_first-requires-clause-pair g c = subst (λ (r : List Pair). 0 < length r) (own_run g c) c.requires.pair
 
 pub returns-clause-second : goal.returns-clause-second
 returns-clause-second g c =
-    let runs = g.S.Spool.runs in
-    let spools = c.args.spools.now in
-    let d = c.index-spools-place.result in
-    let place = c.args.place in
-    let is = c.requires.place in
-    let there = in_spool runs spools c.args.run place is in
-    let own = own_in runs spools c.args.run place d is in
-    let before = before_in runs spools c.args.run place is in
-    let at = run_at runs spools place.spool place.run c.args.run d there own before in
-    subst (λ (r : List Pair). IfOk c.free_first.result (λ second. second ≡ slice_get r 2)) (sym at) c.free_first.ensures.second
+    let is = own_run g (goal.at.returns-clause-second g c).After-index-spools-place in
+    subst (λ (r : List Pair). IfOk c.free_first.result (λ second. second ≡ slice_get r 2)) (sym is) c.free_first.ensures.second
 
 pub returns-clause-freed : goal.returns-clause-freed
 returns-clause-freed g c =
     let runs = g.S.Spool.runs in
     let spools = c.args.spools.now in
     let d = c.index-spools-place.result in
-    let place = c.args.place in
-    let is = c.requires.place in
-    let there = in_spool runs spools c.args.run place is in
-    let own = own_in runs spools c.args.run place d is in
-    let before = before_in runs spools c.args.run place is in
-    let at = run_at runs spools place.spool place.run c.args.run d there own before in
+    let is = own_run g (goal.at.returns-clause-freed g c).After-index-spools-place in
     on_ok_weaker c.free_first.result (λ freed.
-    run_set runs spools place.spool place.run c.args.run d c.free_first.new.spool _ there own before freed
-    ∙ ap (λ (r : List Pair). set (all_runs (map g.S.Spool.runs c.args.spools.now)) c.args.run (drop 1 r)) (sym at)) c.free_first.ensures.freed
+    run_there_set runs spools c.args.run c.args.place d c.free_first.new.spool _ c.requires.place freed
+    ∙ ap (λ (r : List Pair). set (all_runs (map runs spools)) c.args.run (drop 1 r)) (sym is)) c.free_first.ensures.freed
 
 pub returns-clause-refused : goal.returns-clause-refused
 returns-clause-refused g c =

@@ -2,21 +2,13 @@ use Rattle.std.proofs.Common.{◌≡◌, sym, subst, List}
 use Rattle.std.specs.Prelude.{IfOk, slice_get}
 use Rattle.std.proofs.Math.Seq.{map-set_same}
 use Rattle.keybytes.specs.declared.pair.Pair.{Pair}
-use Rattle.run_merge.proofs.Numbers.{run_at}
-use Rattle.run_merge.proofs.Places.{in_spool, own_in, before_in}
+use Rattle.run_merge.proofs.Places.{run_there}
 use Rattle.run_merge.proofs.spool_runs.read.Goals as goal
 
 pub returns-clause-pair : goal.returns-clause-pair
 returns-clause-pair g c =
-    let runs = g.S.Spool.runs in
-    let spools = c.args.spools.now in
-    let d = c.index-spools-place.result in
-    let place = c.args.place in
-    let is = c.requires in
-    let at =
-    run_at runs spools place.spool place.run c.args.run d (in_spool runs spools c.args.run place is) (own_in runs spools c.args.run place d is)
-    (before_in runs spools c.args.run place is) in
-    subst (λ (r : List Pair). IfOk c.pair_at.result (λ pair. pair ≡ slice_get r c.args.n)) (sym at) c.pair_at.ensures.pair
+    subst (λ (r : List Pair). IfOk c.pair_at.result (λ pair. pair ≡ slice_get r c.args.n))
+    (sym (run_there g.S.Spool.runs c.args.spools.now c.args.run c.args.place c.index-spools-place.result c.requires)) c.pair_at.ensures.pair
 
 pub returns-clause-runs : goal.returns-clause-runs
 returns-clause-runs g c =

@@ -9,10 +9,11 @@ use Rattle.btree.specs.Loading.{marks_behind, height_behind, leaves_behind, Leve
 use Rattle.btree.specs.Marks.{mark_before, items_of, pairs_in}
 use Rattle.btree.specs.TreeValue.{Level, AreFilledAbove}
 use Rattle.btree.proofs.LeavesIn.{full_after, above_leaves}
-use Rattle.btree.proofs.Loads.{pushed, started}
+use Rattle.btree.proofs.Loads.{Started, pushed, started}
 use Rattle.btree.proofs.Sets.{rises_of}
 use Rattle.btree.proofs.TreeFacts.{deeper_height}
 use Rattle.btree.proofs.loader.Loader.push.Goals as goal
+use Rattle.btree.proofs.loader.Loader.push.Goals.{After-one_if}
 
 -- the pairs so far and the next one rise
 order : (was now : List Pair) (p : Pair) → was ≡ now → AreOrdered (now ++ p ∷ []) → IsRising is_before (was ++ p ∷ [])
@@ -52,44 +53,42 @@ invariant_of-self c =
       tidy = c.self.invariant.tidy;
     }
 
-pub invariant_of-self-2 : goal.invariant_of-self-2
-invariant_of-self-2 c =
-    let ms = marks_behind c.self.inside.full in
-    let ps : List Pair = c.self.inside.leaf in
-    let p = c.args.pair in
-    let is : c.append_under-root.result.root.marks ≡ ms ++ items_of ps =
+-- what goes under the root is what stood behind it and the full leaf
+under : (c : After-one_if) → c.append_under-root.result.root.marks ≡ marks_behind c.self.inside.full ++ items_of c.self.inside.leaf
+under c =
     c.append_under-root.ensures.marks
     ∙ ap (λ (f : Option Full). marks_behind f ++ items_of c.replace-full.result) c.take.ensures.value
-    ∙ ap (λ (qs : List Pair). ms ++ items_of qs) c.replace-full.ensures.value in
-    let alone : c.replace-full.new.dest ≡ p ∷ [] =
-    c.replace-full.ensures.after ∙ c.push-2.ensures ∙ ap (λ (qs : List Pair). qs ++ p ∷ []) c.in_ok-leaf.ensures.empty in
-    let b = started ms c.append_under-root.result.root.marks ps p (record { key = c.in_ok-clone.field-0; rid = p.rid }) c.replace-full.new.dest
-    c.self.invariant.rising c.self.invariant.begun (order _ _ p c.self.view_is c.requires) is (pair_same _ p c.in_ok-clone.ensures.same refl) alone in
-    let all = ap length b.pairs ∙ length-append (pairs_in ms ++ ps) (p ∷ []) in
-    let under = c.append_under-root.ensures in
+    ∙ ap (λ (qs : List Pair). marks_behind c.self.inside.full ++ items_of qs) c.replace-full.ensures.value
+
+-- the leaf that is begun has the pair alone
+begun :
+    (c : After-one_if)
+    → Started (marks_behind c.self.inside.full) c.append_under-root.result.root.marks c.self.inside.leaf c.args.pair
+    (record { key = c.in_ok-clone.field-0; rid = c.args.pair.rid }) c.replace-full.new.dest
+begun c =
+    let alone : c.replace-full.new.dest ≡ c.args.pair ∷ [] =
+    c.replace-full.ensures.after ∙ c.push-2.ensures ∙ ap (λ (qs : List Pair). qs ++ c.args.pair ∷ []) c.in_ok-leaf.ensures.empty in
+    started _ _ c.self.inside.leaf c.args.pair _ _ c.self.invariant.rising c.self.invariant.begun (order _ _ c.args.pair c.self.view_is c.requires) (under c)
+    (pair_same _ c.args.pair c.in_ok-clone.ensures.same refl) alone
+
+pub invariant_of-self-2 : goal.invariant_of-self-2
+invariant_of-self-2 c =
+    let ps : List Pair = c.self.inside.leaf in
+    let is = under (goal.at.invariant_of-self-2 c).After-one_if in
+    let b = begun (goal.at.invariant_of-self-2 c).After-one_if in
+    let all = ap length b.pairs ∙ length-append (pairs_in (marks_behind c.self.inside.full) ++ ps) (c.args.pair ∷ []) in
+    let raised = c.append_under-root.ensures in
     record {
       rising = b.rising;
       begun = inr (omega (arith, b.one));
       full = full_after c.self.inside.full ps _ c.self.invariant.full (omega (arith, c.if-pairs-lt-LEAF_MAX.false, c.pairs.ensures.few, ap length c.pairs.ensures.pairs)) is;
-      levels = above_leaves c.self.inside.full ps _ _ is (above _ _ _ c.take.ensures.value c.self.invariant.levels under.levels);
+      levels = above_leaves c.self.inside.full ps _ _ is (above _ _ _ c.take.ensures.value c.self.invariant.levels raised.levels);
       height_is =
           ap (λ n. n + c.one_if.result) (c.self.invariant.height_is ∙ ap height_behind (sym c.take.ensures.value))
-          ∙ deeper_height _ _ _ _ under.height.is c.one_if.ensures;
+          ∙ deeper_height _ _ _ _ raised.height.is c.one_if.ensures;
       count_is = omega (arith, all, c.self.invariant.count_is, c.in-Some.ensures);
-      tidy = record { leaf = under.used.leaf; blank = under.used.blank };
+      tidy = record { leaf = raised.used.leaf; blank = raised.used.blank };
     }
 
 pub returns-clause-ok : goal.returns-clause-ok
-returns-clause-ok c =
-    let ms = marks_behind c.self.inside.full in
-    let ps : List Pair = c.self.inside.leaf in
-    let p = c.args.pair in
-    let is : c.append_under-root.result.root.marks ≡ ms ++ items_of ps =
-    c.append_under-root.ensures.marks
-    ∙ ap (λ (f : Option Full). marks_behind f ++ items_of c.replace-full.result) c.take.ensures.value
-    ∙ ap (λ (qs : List Pair). ms ++ items_of qs) c.replace-full.ensures.value in
-    let alone : c.replace-full.new.dest ≡ p ∷ [] =
-    c.replace-full.ensures.after ∙ c.push-2.ensures ∙ ap (λ (qs : List Pair). qs ++ p ∷ []) c.in_ok-leaf.ensures.empty in
-    let b = started ms c.append_under-root.result.root.marks ps p (record { key = c.in_ok-clone.field-0; rid = p.rid }) c.replace-full.new.dest
-    c.self.invariant.rising c.self.invariant.begun (order _ _ p c.self.view_is c.requires) is (pair_same _ p c.in_ok-clone.ensures.same refl) alone in
-    b.pairs ∙ ap (λ (qs : List Pair). qs ++ p ∷ []) c.self.view_is
+returns-clause-ok c = (begun (goal.at.returns-clause-ok c).After-one_if).pairs ∙ ap (λ (qs : List Pair). qs ++ c.args.pair ∷ []) c.self.view_is

@@ -1,7 +1,7 @@
 use Rattle.std.proofs.Common.{◌≡◌, ◌+◌, ◌-◌, length, arith, ap, ◌∙◌}
 use Rattle.tree_nodes.specs.Fans.{children_of}
-use Rattle.btree.proofs.Appending.{at_end, child_rises, child_height, last_at, ends, takes_last, ends_split, leaf_ends}
-use Rattle.btree.proofs.FanFacts.{at_fan, at_leaf}
+use Rattle.btree.proofs.Appending.{at_end, child_rises, last_at, ends, takes_last, ends_split, leaf_ends}
+use Rattle.btree.proofs.FanFacts.{at_fan, at_leaf, child_height}
 use Rattle.btree.proofs.LevelsAppended.{at_last, levels_end_with, levels_end_split}
 use Rattle.btree.specs.Seen.{Seen}
 use Rattle.btree.proofs.node.Node.+append.Goals as goal
@@ -11,7 +11,7 @@ pub append-requires : goal.append-requires
 append-requires t c =
     let f = at_fan c.self.view_is c.self.invariant c.in-Fan.is in
     let e = at_end f c.requires.rising (omega (arith, c.len-last.ensures, f.sound.some)) in
-    let h = child_height e c.child_mut.result.now c.child_mut.ensures.child in
+    let h = child_height e.at e.around c.child_mut.result.now c.child_mut.ensures.child in
     let rising = child_rises e c.child_mut.result.now c.child_mut.ensures.child in
     (omega (arith, h, f.height, c.decreases), (rising, (c.requires.blank, (omega (arith, h, f.height, c.requires.enough), c.requires.leaf))))
 

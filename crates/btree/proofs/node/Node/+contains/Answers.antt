@@ -1,10 +1,7 @@
-use Rattle.tree_nodes.specs.Fans.{children_of}
-use Rattle.std.proofs.Common.{◌≡◌, ap, ◌∙◌, arith}
-use Rattle.btree.specs.Seen.{Seen}
-use Rattle.btree.specs.Weave.{height_of}
+use Rattle.std.proofs.Common.{arith}
 use Rattle.btree.proofs.Middles.{has-middle}
 use Rattle.btree.proofs.MarkFacts.{mark_before-strict, has-items_of}
-use Rattle.btree.proofs.FanFacts.{at_fan, at_leaf, around_fan, AllAt-get}
+use Rattle.btree.proofs.FanFacts.{at_fan, at_leaf, around_fan, child_height}
 use Rattle.btree.proofs.node.Node.+contains.Goals as goal
 
 pub find-place-requires : goal.find-place-requires
@@ -20,9 +17,7 @@ pub contains-requires-in-Fan : goal.contains-requires-in-Fan
 contains-requires-in-Fan t c =
     let f = at_fan c.self.view_is c.self.invariant c.in-Fan.is in
     let a = around_fan f _ _ c.find-place.ensures in
-    let h : c.child.result.now.height ≡ height_of (children_of c.in-Fan.fan) = ap (λ (s : Seen). s.height) c.child.ensures
-    ∙ AllAt-get _ _ _ _ f.level a.within in
-    (omega (arith, f.height, c.decreases), tt)
+    (omega (arith, child_height f a _ c.child.ensures, f.height, c.decreases), tt)
 
 pub returns-in-Leaf : goal.returns-in-Leaf
 returns-in-Leaf t c =

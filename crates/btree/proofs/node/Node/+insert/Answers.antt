@@ -1,9 +1,6 @@
-use Rattle.tree_nodes.specs.Fans.{children_of}
-use Rattle.std.proofs.Common.{◌≡◌, not, ap, ◌∙◌, arith}
+use Rattle.std.proofs.Common.{not, ap, ◌∙◌, arith}
 use Rattle.std.proofs.Math.ListN.{length-set}
-use Rattle.btree.specs.Seen.{Seen}
-use Rattle.btree.specs.Weave.{height_of}
-use Rattle.btree.proofs.FanFacts.{at_fan, at_leaf, around_fan, AllAt-get}
+use Rattle.btree.proofs.FanFacts.{at_fan, at_leaf, around_fan, child_height}
 use Rattle.btree.proofs.FanInserted.{below_at, stays, takes_in, takes_split, height_is, held, leaf_inserted, leaf_held, used_within, used_both}
 use Rattle.btree.proofs.node.Node.+insert.Goals as goal
 use Rattle.btree.proofs.node.Node.+insert.Goals.{in-Leaf, in-Fan+in-None, in-Fan+in-Some}
@@ -21,16 +18,9 @@ pub insert-added-requires : goal.insert-added-requires
 insert-added-requires t c =
     let f = at_fan c.self.view_is c.self.invariant c.in-Fan.is in
     let a = around_fan f c.args.pair _ c.find-place.ensures in
-    let h : c.child_mut.result.now.height ≡ height_of (children_of c.in-Fan.fan) = ap (λ (s : Seen). s.height) c.child_mut.ensures.child
-    ∙ AllAt-get _ _ _ _ f.level a.within in (
-      omega (arith, f.height, c.decreases),
-      record {
-        leaf = c.requires.leaf;
-        key = c.requires.key;
-        blank = c.requires.blank;
-        enough = omega
-            (arith, f.height, c.requires.enough);
-      },
+    let h = child_height f a _ c.child_mut.ensures.child in (
+      omega (arith, h, f.height, c.decreases),
+      record { leaf = c.requires.leaf; key = c.requires.key; blank = c.requires.blank; enough = omega (arith, h, f.height, c.requires.enough) },
     )
 
 pub insert_into_fan-requires-clause-within : goal.insert_into_fan-requires-clause-within

@@ -1,10 +1,8 @@
-use Rattle.tree_nodes.specs.Fans.{children_of, separators_of}
+use Rattle.tree_nodes.specs.Fans.{separators_of}
 use Rattle.std.proofs.Common.{◌≡◌, ◌<◌, ◌≤◌, [], ◌∷◌, get_or, Some, None, length, ap, sym, ◌∙◌, arith}
 use Rattle.keybytes.specs.declared.pair.Pair.{Pair}
 use Rattle.btree.specs.Marks.{Between}
-use Rattle.btree.specs.Seen.{Seen}
-use Rattle.btree.specs.Weave.{height_of}
-use Rattle.btree.proofs.FanFacts.{at_fan, at_leaf, around_fan, AllAt-get}
+use Rattle.btree.proofs.FanFacts.{at_fan, at_leaf, around_fan, child_height}
 use Rattle.btree.proofs.Leaving.{leaf_of_leaf, leaf_of_child, leaf_at_end, told}
 use Rattle.btree.proofs.node.Node.+leaf_from.Goals as goal
 
@@ -21,9 +19,7 @@ pub leaf_from-requires : goal.leaf_from-requires
 leaf_from-requires t c =
     let f = at_fan c.self.view_is c.self.invariant c.in-Fan.is in
     let a = around_fan f _ _ c.find-place.ensures in
-    let h : c.child.result.now.height ≡ height_of (children_of c.in-Fan.fan) = ap (λ (s : Seen). s.height) c.child.ensures
-    ∙ AllAt-get _ _ _ _ f.level a.within in
-    (omega (arith, f.height, c.decreases), tt)
+    (omega (arith, child_height f a _ c.child.ensures, f.height, c.decreases), tt)
 
 pub returns-in-Leaf : goal.returns-in-Leaf
 returns-in-Leaf t c = leaf_of_leaf (at_leaf c.self.view_is c.self.invariant c.in-Leaf.is) c.from.ensures.rise _ _ c.from.ensures.pairs

@@ -1,13 +1,10 @@
-use Rattle.tree_nodes.specs.Fans.{children_of}
-use Rattle.std.proofs.Common.{◌≡◌, ap, ◌∙◌, arith}
-use Rattle.btree.specs.Seen.{Seen}
-use Rattle.btree.specs.Weave.{height_of}
+use Rattle.std.proofs.Common.{ℕ, arith}
 use Rattle.btree.proofs.Middles.{has-middle}
 use Rattle.btree.proofs.MarkFacts.{mark_before-strict, has-items_of}
-use Rattle.btree.proofs.FanFacts.{at_fan, at_leaf, around_fan, AllAt-get}
-use Rattle.btree.proofs.Removed.{removed_leaf, removed_fan}
+use Rattle.btree.proofs.FanFacts.{at_fan, at_leaf, around_fan, child_height}
+use Rattle.btree.proofs.Removed.{Removed, removed_leaf, removed_fan}
 use Rattle.btree.proofs.node.Node.+remove.Goals as goal
-use Rattle.btree.proofs.node.Node.+remove.Goals.{in-Leaf, in-Fan}
+use Rattle.btree.proofs.node.Node.+remove.Goals.{Joined-self, in-Leaf, in-Fan}
 
 pub find-place-requires : goal.find-place-requires
 find-place-requires t c = (at_fan c.self.view_is c.self.invariant c.in-Fan.is).ordered
@@ -22,20 +19,20 @@ pub remove-requires-in-Fan : goal.remove-requires-in-Fan
 remove-requires-in-Fan t c =
     let f = at_fan c.self.view_is c.self.invariant c.in-Fan.is in
     let a = around_fan f _ _ c.find-place.ensures in
-    let h : c.child_mut.result.now.height ≡ height_of (children_of c.in-Fan.fan) = ap (λ (s : Seen). s.height) c.child_mut.ensures.child
-    ∙ AllAt-get _ _ _ _ f.level a.within in
-    (omega (arith, f.height, c.decreases), tt)
+    (omega (arith, child_height f a _ c.child_mut.ensures.child, f.height, c.decreases), tt)
 
-pub invariant_of-self : goal.invariant_of-self
-invariant_of-self t c = elim c.match-self.branch [
-  | in-Leaf w ↦
-      let f = at_leaf c.self.view_is c.self.invariant w.in-Leaf.is in
-      rw w.self-inside-is (removed_leaf f (record { key = c.args.key.now; rid = c.args.rid }) _ w.remove.ensures.removed).kept
+-- what is left of a leaf, and of a fan
+left : (t : ℕ) (c : Joined-self t) → Removed (record { key = c.args.key.now; rid = c.args.rid }) c.args.self.now c.match-self.self-inside.kind
+left t c = elim c.match-self.branch [
+  | in-Leaf w ↦ rw w.self-inside-is (removed_leaf (at_leaf c.self.view_is c.self.invariant w.in-Leaf.is) _ _ w.remove.ensures.removed)
   | in-Fan w ↦
       let f = at_fan c.self.view_is c.self.invariant w.in-Fan.is in
       let a = around_fan f _ _ w.find-place.ensures in
-      rw w.self-inside-is (removed_fan f a _ _ w.child_mut.ensures.child w.remove-in-Fan.ensures.removed w.remove-in-Fan.ensures.height).kept
+      rw w.self-inside-is (removed_fan f a _ _ w.child_mut.ensures.child w.remove-in-Fan.ensures.removed w.remove-in-Fan.ensures.height)
 ]
+
+pub invariant_of-self : goal.invariant_of-self
+invariant_of-self t c = (left t c).kept
 
 pub returns-clause-found : goal.returns-clause-found
 returns-clause-found t c = elim c.match-self.branch [
@@ -57,23 +54,7 @@ returns-clause-found t c = elim c.match-self.branch [
 ]
 
 pub returns-clause-removed : goal.returns-clause-removed
-returns-clause-removed t c = elim c.match-self.branch [
-  | in-Leaf w ↦
-      let f = at_leaf c.self.view_is c.self.invariant w.in-Leaf.is in
-      rw w.self-inside-is (removed_leaf f (record { key = c.args.key.now; rid = c.args.rid }) _ w.remove.ensures.removed).marks
-  | in-Fan w ↦
-      let f = at_fan c.self.view_is c.self.invariant w.in-Fan.is in
-      let a = around_fan f _ _ w.find-place.ensures in
-      rw w.self-inside-is (removed_fan f a _ _ w.child_mut.ensures.child w.remove-in-Fan.ensures.removed w.remove-in-Fan.ensures.height).marks
-]
+returns-clause-removed t c = (left t c).marks
 
 pub returns-clause-height : goal.returns-clause-height
-returns-clause-height t c = elim c.match-self.branch [
-  | in-Leaf w ↦
-      let f = at_leaf c.self.view_is c.self.invariant w.in-Leaf.is in
-      rw w.self-inside-is (removed_leaf f (record { key = c.args.key.now; rid = c.args.rid }) _ w.remove.ensures.removed).height
-  | in-Fan w ↦
-      let f = at_fan c.self.view_is c.self.invariant w.in-Fan.is in
-      let a = around_fan f _ _ w.find-place.ensures in
-      rw w.self-inside-is (removed_fan f a _ _ w.child_mut.ensures.child w.remove-in-Fan.ensures.removed w.remove-in-Fan.ensures.height).height
-]
+returns-clause-height t c = (left t c).height

@@ -3,32 +3,33 @@ use Rattle.keybytes.specs.declared.pair.Pair.{Pair}
 use Rattle.keybytes.specs.Writes.{overwritten}
 use Rattle.run_spool.specs.Bytes.{pair_bytes, pair_size}
 use Rattle.run_spool.specs.Pages.{PageValue, pairs_at, with_pair}
-use Rattle.run_spool.proofs.Marked.{pushed, count_small}
+use Rattle.run_spool.proofs.Marked.{Pushed, pushed, count_small}
 use Rattle.run_spool.proofs.page.PairPage.push.Goals as goal
+use Rattle.run_spool.proofs.page.PairPage.push.Goals.{After-write_pair}
 
 pub overflow_add-self-2 : goal.overflow_add-self-2
 overflow_add-self-2 c = let small = count_small c.self.invariant in omega arith
 
-pub invariant_of-self : goal.invariant_of-self
-invariant_of-self c =
+key_is : (c : After-write_pair) → 8 + length c.bytes.result.now ≡ pair_size c.args.pair.now
+key_is c = ap (λ (k : List ℕ). 8 + length k) c.bytes.ensures.bytes
+
+written : (c : After-write_pair) → Pushed c.self.inside.page.bytes.value c.write_pair.new.bytes c.self.inside.marks (8 + length c.bytes.result.now) c.args.pair.now
+written c =
     let m = c.self.inside.marks in
     let within = c.self.invariant.stored.within in
     let room = ap (λ (p : PageValue). p.room) c.self.view_is in
     let fits : m.end + pair_size c.args.pair.now ≤ 4096 = omega (arith, c.requires) in
-    let key = ap (λ (k : List ℕ). 8 + length k) c.bytes.ensures.bytes in
-    let p = pushed c.args.pair.now c.write_pair.new.bytes (8 + length c.bytes.result.now) c.write_pair.ensures.good fits
-    (c.write_pair.ensures.bytes ∙ ap (overwritten m.end (pair_bytes c.args.pair.now)) c.deref_mut.ensures.value) key c.self.invariant in
-    p.page
+    pushed c.args.pair.now c.write_pair.new.bytes (8 + length c.bytes.result.now) c.write_pair.ensures.good fits
+    (c.write_pair.ensures.bytes ∙ ap (overwritten m.end (pair_bytes c.args.pair.now)) c.deref_mut.ensures.value) (key_is c) c.self.invariant
+
+pub invariant_of-self : goal.invariant_of-self
+invariant_of-self c = (written (goal.at.invariant_of-self c).After-write_pair).page
 
 pub returns : goal.returns
 returns c =
     let m = c.self.inside.marks in
-    let within = c.self.invariant.stored.within in
-    let room = ap (λ (p : PageValue). p.room) c.self.view_is in
-    let fits : m.end + pair_size c.args.pair.now ≤ 4096 = omega (arith, c.requires) in
-    let key = ap (λ (k : List ℕ). 8 + length k) c.bytes.ensures.bytes in
-    let p = pushed c.args.pair.now c.write_pair.new.bytes (8 + length c.bytes.result.now) c.write_pair.ensures.good fits
-    (c.write_pair.ensures.bytes ∙ ap (overwritten m.end (pair_bytes c.args.pair.now)) c.deref_mut.ensures.value) key c.self.invariant in
+    let p = written (goal.at.returns c).After-write_pair in
+    let key = key_is (goal.at.returns c).After-write_pair in
     let left : 4096 - (m.end + (8 + length c.bytes.result.now)) ≡ (4096 - m.end) - pair_size c.args.pair.now = omega (arith, key) in
     let make : List Pair → ℕ → PageValue = λ ps n. record { pairs = ps; room = n } in
     ap (λ (ps : List Pair). make ps (4096 - (m.end + (8 + length c.bytes.result.now)))) p.pairs

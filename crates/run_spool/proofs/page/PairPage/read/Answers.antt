@@ -1,36 +1,30 @@
-use Rattle.std.proofs.Common.{ap, length, drop, arith}
+use Rattle.std.proofs.Common.{ap, drop, arith}
 use Rattle.run_spool.specs.Pages.{PageValue, pairs_at}
-use Rattle.run_spool.proofs.Marked.{pairs_count, found, pair_read}
+use Rattle.run_spool.proofs.Marked.{Found, counted, found, pair_read}
 use Rattle.run_spool.proofs.page.PairPage.read.Goals as goal
+use Rattle.run_spool.proofs.page.PairPage.read.Goals.{After-seek-offset}
 
 pub seek-offset-requires-clause-there : goal.seek-offset-requires-clause-there
 seek-offset-requires-clause-there c =
-    let view = ap (λ (p : PageValue). length p.pairs) c.self.view_is in
-    let count = pairs_count c.self.inside.page.bytes.value c.self.inside.marks in
-    omega (arith, c.requires, count, view)
+    let count = counted c.self.inside.page.bytes.value c.self.inside.marks c.self.view_is in
+    omega (arith, c.requires, count)
+
+here :
+    (c : After-seek-offset)
+    → Found c.self.inside.page.bytes.value c.deref-bytes.result.now c.self.inside.marks c.args.n c.seek-offset.result
+here c =
+    let count = counted c.self.inside.page.bytes.value c.self.inside.marks c.self.view_is in
+    found c.self.invariant (omega (arith, c.requires, count)) c.deref-bytes.ensures c.seek-offset.ensures
 
 pub read_pair-requires : goal.read_pair-requires
-read_pair-requires c =
-    let view = ap (λ (p : PageValue). length p.pairs) c.self.view_is in
-    let count = pairs_count c.self.inside.page.bytes.value c.self.inside.marks in
-    let f = found c.self.invariant (omega (arith, c.requires, count, view))
-    c.deref-bytes.ensures c.seek-offset.ensures in
-    (f.within, f.short)
+read_pair-requires c = let f = here (goal.at.read_pair-requires c).After-seek-offset in (f.within, f.short)
 
 pub invariant_of-self : goal.invariant_of-self
-invariant_of-self c =
-    let view = ap (λ (p : PageValue). length p.pairs) c.self.view_is in
-    let count = pairs_count c.self.inside.page.bytes.value c.self.inside.marks in
-    let f = found c.self.invariant (omega (arith, c.requires, count, view))
-    c.deref-bytes.ensures c.seek-offset.ensures in
-    f.page
+invariant_of-self c = (here (goal.at.invariant_of-self c).After-seek-offset).page
 
 pub returns-clause-pair : goal.returns-clause-pair
 returns-clause-pair c =
-    let view = ap (λ (p : PageValue). length p.pairs) c.self.view_is in
-    let count = pairs_count c.self.inside.page.bytes.value c.self.inside.marks in
-    let f = found c.self.invariant (omega (arith, c.requires, count, view))
-    c.deref-bytes.ensures c.seek-offset.ensures in
+    let f = here (goal.at.returns-clause-pair c).After-seek-offset in
     let e = ap (λ (p : PageValue). p.pairs) c.self.view_is in
     let pairs = pairs_at c.self.inside.page.bytes.value c.self.inside.marks in
     let bytes = drop c.seek-offset.result c.deref-bytes.result.now in
