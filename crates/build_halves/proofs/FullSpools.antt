@@ -5,6 +5,7 @@ use Rattle.std.specs.Prelude.{Contains}
 use Rattle.std.specs.List.{slice_get}
 use Rattle.std.proofs.lemmas.Bool.{cases_Bool}
 use Rattle.keybytes.specs.Keys.{KeySpecValue}
+use Rattle.keybytes.specs.declared.fault.Fault.{Fault}
 use Rattle.keybytes.specs.declared.kind.Kind.{Kind}
 use Rattle.keybytes.specs.declared.pair.Pair.{Pair}
 use Rattle.heap_log.specs.declared.record.LogRec.{LogRec}
@@ -12,10 +13,13 @@ use Rattle.heap_table.specs.Images.{ImageValue}
 use Rattle.spool_ledger.specs.Accounts.{Stake}
 use Rattle.side_file.specs.Ends.{PutEnd}
 use Rattle.run_maker.specs.Making.{spec_at}
+use Rattle.run_spool.specs.Spools.{NoPageOnlyIf}
 use Rattle.building.specs.Copies.{images_of}
 use Rattle.building.specs.ImagePairs.{IsOnOneOf}
 use Rattle.building.specs.SpoolValue.{SpoolValue, spool_value, stakes_of}
 use Rattle.building.specs.TakeEnd.{TakeEnd}
+use Rattle.building.specs.declared.turn.Turn.{Turn}
+use Rattle.building.specs.Turns.{IsStopped}
 use Rattle.building.specs.Work.{TakesSome}
 use Rattle.building.specs.WorkerValue.{HasReceived, SameWorker, WorkerValue}
 use Rattle.building.specs.declared.copied.Copied.{Copied}
@@ -27,7 +31,6 @@ use Rattle.build_events.specs.Scanning.{AreCopies}
 use Rattle.build_events.specs.Workers.{put_to}
 use Rattle.build_scan.proofs.Places.{all_at, at_map, below, map_at, there_is}
 use Rattle.build_work.specs.BuildingValue.{BuildingValue, WorkValue}
-use Rattle.build_work.specs.FullSpools.{HadFull}
 use Rattle.build_work.specs.Holding.{all_spools, lent_spools}
 use Rattle.build_work.specs.Rings.{IsWorkerOf, all_sent}
 use Rattle.build_work.proofs.SpoolPlaces.{flat_at}
@@ -113,12 +116,14 @@ module _
       (subst (λ (images : List ImageValue). IsOnOneOf spec images pair) (sym parts.1)
       (on_before spec (images_of b.number kinds received) (images_of b.number kinds parts.0) pair own))
 
-  pub full_in_build : HadFull is_full runs open_run stake it → WorkerWasFull is_full stake (core_state live building) k
-  full_in_build had =
-      let full = had.full in
+  pub full_in_build :
+      (turn : Turn) (fault : Fault) (after : WorkerValue) → IsStopped is_full runs open_run stake turn it fault after
+      → NoPageOnlyIf (WorkerWasFull is_full stake (core_state live building) k) fault
+  full_in_build turn fault after stopped = λ no_page.
+      let full = stopped.full its.fine no_page in
       let seen : slice_get (stakes_of it.spools) full.index ≡ Some (stake full.spool) =
-      ap (λ (l : List (Option Stake)). slice_get l full.index) (sym had.same.stakes)
-      ∙ map_at (λ (s : SpoolValue). s.stake) had.after.spools full.index (spool_value runs open_run stake full.spool) full.there in
+      ap (λ (l : List (Option Stake)). slice_get l full.index) (sym stopped.same.stakes)
+      ∙ map_at (λ (s : SpoolValue). s.stake) after.spools full.index (spool_value runs open_run stake full.spool) full.there in
       elim (cases_Bool w.loading) [
         | inl loading ↦
             let none : slice_get (stakes_of []) full.index ≡ Some (stake full.spool) =
@@ -139,7 +144,7 @@ module _
               spool = full.spool;
               there = ap (λ (specs : List KeySpecValue). slice_get (stakes_of (all_spools building.workers building.spools)) (k * length specs + full.index)) run.on.specs ∙ all;
               pair = full.pair;
-              copied = of_page had.after had.same had.took full.index index.0 index.1 full.pair full.was_given;
+              copied = of_page after stopped.same stopped.took full.index index.0 index.1 full.pair full.was_given;
               full = full.full;
             } in
             subst (λ (o : Option BuildState). OnBuild o (λ x. WasFull is_full stake x log k (stakes_of (all_spools building.workers building.spools))))

@@ -1,10 +1,10 @@
 pub mod BuildingValue
 pub mod Columns
 pub mod Equipped
-pub mod FullSpools
 pub mod Holding
 pub mod Keeping
 pub mod Rings
 pub mod Verdicts
 pub mod WorkOn
 pub mod Working
+pub mod Turns

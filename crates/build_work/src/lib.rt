@@ -16,6 +16,7 @@ mod merging;
 mod returning;
 mod rings;
 mod sorted;
+mod turns;
 mod work;
 
 pub use beside::Building;
