@@ -273,7 +273,7 @@ module _
       -- and the build is spoiled
       pub refused_after :
           (answer : Result ℕ Fault) → IfErr answer Stopped
-          → IfErr answer (λ fault. IsTurnRefused is_full stake turn k (core_state live building) fault (core_state live new))
+          → IfErr answer (λ fault. IsTurnRefused is_full runs open_run stake turn k (core_state live building) fault (core_state live new))
       refused_after (Ok images) stopped = tt
       refused_after (Err fault) stopped =
           let was = stopped_it fault stopped in

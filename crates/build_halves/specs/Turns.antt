@@ -1,5 +1,5 @@
 -- What a worker's turn, a digest or a seal, does as callers see it.
-use Rattle.std.specs.Prelude.{◌≡◌, ℕ, Option}
+use Rattle.std.specs.Prelude.{List, ◌≡◌, ℕ, Option}
 use Rattle.keybytes.specs.declared.fault.Fault.{Fault}
 use Rattle.keybytes.specs.declared.pair.Pair.{Pair}
 use Rattle.spool_ledger.specs.Accounts.{Stake}
@@ -24,9 +24,10 @@ TurnWaits Seal worker s fault = MemoryOnlyIf (Waits worker s) fault
 
 -- the worker was refused at its turn for want of memory or of a page, and the build is spoiled
 pub record IsTurnRefused
-    {S : Type 0} (is_full : S → Pair → Type 0) (stake : S → Option Stake) (turn : Turn) (worker : ℕ) (s : CoreState) (fault : Fault) (new : CoreState)
+    {S : Type 0} (is_full : S → Pair → Type 0) (runs : S → List (List Pair)) (open_run : S → List Pair) (stake : S → Option Stake) (turn : Turn) (worker : ℕ)
+    (s : CoreState) (fault : Fault) (new : CoreState)
     : Type 0 where
   pub want : IsWorkWant fault
   pub waits : TurnWaits turn worker s fault
-  pub full : NoPageOnlyIf (WorkerWasFull is_full stake s worker) fault
+  pub full : NoPageOnlyIf (WorkerWasFull is_full runs open_run stake s worker) fault
   pub spoiled : new ≡ spoiled_by fault s

@@ -12,9 +12,10 @@ use Rattle.run_maker.specs.Making.{AreReady, Holdings}
 use Rattle.run_maker.specs.Spooling.{MemoryOnlyIf}
 use Rattle.building.specs.declared.turn.Turn.{Turn}
 use Rattle.building.specs.declared.turn.Turn.TheVariants.{Digest, Seal}
-use Rattle.building.specs.Holding.{HoldsMore, TakesAll}
+use Rattle.building.specs.Holding.{AreHeldWith, HoldsMore, TakesAll}
 use Rattle.building.specs.IntakeValue.{IntakeValue}
-use Rattle.building.specs.SpoolValue.{HaveFullFor, open_runs_of, runs_of}
+use Rattle.building.specs.SpoolValue.{HaveFullOf, open_runs_of, runs_of}
+use Rattle.building.specs.TakeEnd.{after_taking}
 use Rattle.building.specs.Work.{TakesSome, after_digest, after_seal, next_images}
 use Rattle.building.specs.WorkerValue.{HasReceived, IsShortage, SameWorker, WorkerValue}
 
@@ -40,6 +41,11 @@ after_turn turn kinds worker = marked turn (after_digest (turn_copies turn worke
 abbrev pub TurnHolds : Turn → List KeySpecValue → List ImageValue → Holdings → Holdings → Type 0
 TurnHolds Digest specs images old new = TakesAll specs images old new
 TurnHolds Seal specs images old new = HoldsMore specs images old new
+
+-- the pairs that were held of index i, with those of the images that an end took since
+abbrev pub AreHeldWithTaken : List KeySpecValue → List Kind → IntakeValue → IntakeValue → Holdings → ℕ → List Pair → Type 0
+AreHeldWithTaken specs kinds old new held i pairs =
+    (n : ℕ) × (new.end ≡ after_taking n old.end) × AreHeldWith specs (next_images n kinds old) held i pairs
 
 -- they were taken, so many of them of its build, and a seal closed its runs
 pub record HasTaken (turn : Turn) (images : ℕ) (old new : WorkerValue) : Type 0 where
@@ -70,5 +76,5 @@ module _
     -- it is for the fault that stopped it before, if one did, and then nothing happens
     pub again : (first : Fault) → old.fault ≡ Some first → (fault ≡ first) × (new ≡ old)
     pub copies : old.fault ≡ None → (old.handed ≡ false) × SawCopies turn old.maker.schema old.intake fault
-    pub full : old.fault ≡ None → NoPageOnlyIf (HaveFullFor is_full runs open_run stake (HasReceived new) new.spools) fault
+    pub full : old.fault ≡ None → NoPageOnlyIf (HaveFullOf is_full runs open_run stake (HasReceived new) new.spools) fault
     pub want : old.fault ≡ None → MemoryOnlyIf (AreReady (runs_of new.spools) (open_runs_of new.spools)) fault

@@ -9,7 +9,7 @@ use Rattle.heap_table.specs.Images.{ImageValue}
 use Rattle.run_spool.specs.Spools.{AreSorted}
 use Rattle.run_maker.specs.Making.{MakerValue, AreReady, Holdings, spec_at}
 use Rattle.building.specs.Holding.{HoldsPairs, HoldsOpen}
-use Rattle.building.specs.ImagePairs.{IsOnOneOf}
+use Rattle.building.specs.ImagePairs.{HavePairs}
 use Rattle.building.specs.IntakeValue.{IntakeValue}
 use Rattle.building.specs.SpoolValue.{SpoolValue, runs_of, open_runs_of, stakes_of}
 use Rattle.building.specs.Taking.{received_images, unsealed_images}
@@ -46,9 +46,9 @@ pub record IsHolding (intake : IntakeValue) (maker : MakerValue) (spools : List 
   pub holds : (i : ℕ) → i < length maker.specs → HoldsAt i (spec_at maker.specs i) (received_images maker.schema intake) (holdings maker spools)
   pub opened : (i : ℕ) → i < length maker.specs → HoldsOpen (spec_at maker.specs i) (unsealed_images maker.schema intake) (get_or maker.begun i [])
 
--- a pair of index i that is that of a row on one of the images of its build that the worker received
-abbrev pub HasReceived : WorkerValue → ℕ → Pair → Type 0
-HasReceived worker i pair = IsOnOneOf (spec_at worker.maker.specs i) (received_images worker.maker.schema worker.intake) pair
+-- the pairs of index i of the images of its build that the worker received
+abbrev pub HasReceived : WorkerValue → ℕ → List Pair → Type 0
+HasReceived worker i pairs = HavePairs (spec_at worker.maker.specs i) (received_images worker.maker.schema worker.intake) pairs
 
 -- memory or a page was missing
 abbrev pub IsShortage : Fault → Type 0

@@ -2,13 +2,13 @@ ghost use Rattle.std.specs.Prelude.{◌≡◌, ◌<◌, ◌≤◌, ◌⊎◌, �
 ghost use Rattle.std.specs.Prelude.{IfErr, IfOk, OnOk, OnErr};
 ghost use Rattle.side_file.specs.Ends.{ring_take};
 ghost use Rattle.heap_table.specs.Images.{IsReadable};
-ghost use Rattle.run_spool.specs.Spools.{AreSorted, HasFullFor, NoPageOnlyIf};
+ghost use Rattle.run_spool.specs.Spools.{AreSorted, NoPageOnlyIf};
+ghost use Rattle.run_maker.specs.FullSpools.{HasFullOf};
 ghost use Rattle.run_maker.specs.Making.{AreReady};
 ghost use Rattle.run_maker.specs.Spooling.{MemoryOnlyIf};
-ghost use Rattle.building.specs.Holding.{TakesAll, HoldsMore, IsBegunOrOnOneOf};
+ghost use Rattle.building.specs.Holding.{AreHeldWith, TakesAll, HoldsMore};
 ghost use Rattle.building.specs.TakeEnd.{take_end, after_taking, PutEndLooked};
-ghost use Rattle.building.specs.Taking.{received_images};
-ghost use Rattle.building.specs.Turns.{SawCopies, TurnHolds, after_turn, marked, turn_images};
+ghost use Rattle.building.specs.Turns.{AreHeldWithTaken, SawCopies, TurnHolds, after_turn, marked, turn_images};
 ghost use Rattle.building.specs.Work.{at_start, IsIntake, StopsAfter, TakesSome, knowing, next_images, after_digest, after_seal};
 ghost use Rattle.building.specs.WorkerValue.{IsShortage};
 
@@ -146,7 +146,8 @@ impl Intake {
         ensures unsealed { self.new.sealed ≡ self.old.sealed }
         ensures fault { IfErr result (λ fault. (fault ≡ Fault.NoPage) ⊎ (fault ≡ Fault.Memory)) }
         ensures full { IfErr result (NoPageOnlyIf
-            (HasFullFor S.is_full (IsBegunOrOnOneOf maker.old.specs (next_images 1 maker.old.schema self.old) maker.old.begun) spools.new)) }
+            (HasFullOf S.is_full S.runs S.open_run
+            (AreHeldWith maker.old.specs (next_images 1 maker.old.schema self.old) (record { runs = map S.runs spools.old; begun = maker.old.begun })) spools.new)) }
         ensures want { IfErr result (MemoryOnlyIf (AreReady (map S.runs spools.new) (map S.open_run spools.new))) }
     {
         if self.seen() == 0 {
@@ -188,7 +189,8 @@ impl Intake {
         ensures failed { OnErr result ((n : ℕ) × (n ≤ length self.old.end.known) × StopsAfter n maker.old.schema self.old self.new) }
         ensures fault { IfErr result (λ fault. (fault ≡ Fault.NoPage) ⊎ (fault ≡ Fault.Memory)) }
         ensures full { IfErr result (NoPageOnlyIf
-            (HasFullFor S.is_full (IsBegunOrOnOneOf maker.old.specs (received_images maker.old.schema self.new) maker.old.begun) spools.new)) }
+            (HasFullOf S.is_full S.runs S.open_run
+            (AreHeldWithTaken maker.old.specs maker.old.schema self.old self.new (record { runs = map S.runs spools.old; begun = maker.old.begun })) spools.new)) }
         ensures want { IfErr result (MemoryOnlyIf (AreReady (map S.runs spools.new) (map S.open_run spools.new))) }
     {
         maker.laws();
@@ -228,7 +230,8 @@ impl Intake {
         ensures copies { IfErr result (SawCopies turn maker.old.schema self.old) }
         ensures fault { IfErr result IsShortage }
         ensures full { IfErr result (NoPageOnlyIf
-            (HasFullFor S.is_full (IsBegunOrOnOneOf maker.old.specs (received_images maker.old.schema self.new) maker.old.begun) spools.new)) }
+            (HasFullOf S.is_full S.runs S.open_run
+            (AreHeldWithTaken maker.old.specs maker.old.schema self.old self.new (record { runs = map S.runs spools.old; begun = maker.old.begun })) spools.new)) }
         ensures want { IfErr result (MemoryOnlyIf (AreReady (map S.runs spools.new) (map S.open_run spools.new))) }
     {
         match turn {

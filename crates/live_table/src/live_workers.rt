@@ -108,7 +108,7 @@ impl<T: Table> Live<T> {
         requires runs { MayWork self.old building.old worker }
         ensures done { IfOk result (λ images. HasTurn Turn.Digest worker (core_state self.old building.old) images (core_state self.new building.new)) }
         ensures refused { IfErr result (λ fault.
-            IsTurnRefused S.is_full S.stake Turn.Digest worker (core_state self.old building.old) fault (core_state self.new building.new)) }
+            IsTurnRefused S.is_full S.runs S.open_run S.stake Turn.Digest worker (core_state self.old building.old) fault (core_state self.new building.new)) }
         ensures works { WorksOn self.new building.new }
     {
         self.take(worker, Turn::Digest, building)
@@ -125,7 +125,7 @@ impl<T: Table> Live<T> {
         requires runs { MayWork self.old building.old worker }
         ensures done { IfOk result (λ images. HasTurn Turn.Seal worker (core_state self.old building.old) images (core_state self.new building.new)) }
         ensures refused { IfErr result (λ fault.
-            IsTurnRefused S.is_full S.stake Turn.Seal worker (core_state self.old building.old) fault (core_state self.new building.new)) }
+            IsTurnRefused S.is_full S.runs S.open_run S.stake Turn.Seal worker (core_state self.old building.old) fault (core_state self.new building.new)) }
         ensures works { WorksOn self.new building.new }
     {
         self.take(worker, Turn::Seal, building)
@@ -142,7 +142,7 @@ impl<T: Table> Live<T> {
         requires runs { MayWork self.old building.old worker }
         ensures done { IfOk result (λ images. HasTurn turn worker (core_state self.old building.old) images (core_state self.new building.new)) }
         ensures refused { IfErr result (λ fault.
-            IsTurnRefused S.is_full S.stake turn worker (core_state self.old building.old) fault (core_state self.new building.new)) }
+            IsTurnRefused S.is_full S.runs S.open_run S.stake turn worker (core_state self.old building.old) fault (core_state self.new building.new)) }
         ensures works { WorksOn self.new building.new }
     {
         self.look(worker, building);

@@ -1,31 +1,33 @@
-use Rattle.std.proofs.Common.{sym, subst}
+use Rattle.std.proofs.Common.{ℕ, List, map, sym, subst}
 use Rattle.std.specs.Prelude.{OnOk}
 use Rattle.std.specs.List.{All}
+use Rattle.std.proofs.lemmas.List.Sorted.{IsPermutation-refl}
 use Rattle.std.proofs.lemmas.Result.{IfErr-weaker}
+use Rattle.keybytes.specs.declared.pair.Pair.{Pair}
 use Rattle.heap_table.specs.Images.{IsReadable}
-use Rattle.run_spool.specs.Spools.{HasFullFor, NoPageOnlyIf}
-use Rattle.run_spool.proofs.FullFor.{full_given}
+use Rattle.run_spool.specs.Spools.{NoPageOnlyIf}
+use Rattle.run_maker.specs.FullSpools.{HasFullOf}
+use Rattle.run_maker.specs.Making.{Holdings}
+use Rattle.run_maker.proofs.FullSpools.{all_of, full_given}
 use Rattle.building.specs.declared.turn.Turn.{Turn}
-use Rattle.building.specs.Holding.{IsBegunOrOnOneOf}
-use Rattle.building.specs.Taking.{received_images}
-use Rattle.building.specs.Turns.{turn_images}
+use Rattle.building.specs.Holding.{AreHeldWith}
+use Rattle.building.specs.Turns.{AreHeldWithTaken, turn_images}
 use Rattle.building.specs.Work.{next_images}
-use Rattle.building.proofs.Received.{received_after, received_more}
 use Rattle.building.proofs.intake.Intake.take.Goals as goal
 
 pub returns-in-Digest-clause-full : goal.returns-in-Digest-clause-full
 returns-in-Digest-clause-full g c =
+    let spool = g.S.Spool in
     let worker = c.args.self.now in
     let maker = c.args.maker.now in
-    let after = c.digest.new.self in
     let spools = c.digest.new.spools in
-    let next = next_images 1 maker.schema worker in
-    let all = received_images maker.schema after in
-    IfErr-weaker c.digest.result (NoPageOnlyIf (HasFullFor g.S.Spool.is_full (IsBegunOrOnOneOf maker.specs next maker.begun) spools))
-    (NoPageOnlyIf (HasFullFor g.S.Spool.is_full (IsBegunOrOnOneOf maker.specs all maker.begun) spools))
-    (λ fault full page. full_given g.S.Spool.is_full spools (IsBegunOrOnOneOf maker.specs next maker.begun) (IsBegunOrOnOneOf maker.specs all maker.begun)
-    (λ i pair less is. received_more maker.specs (received_images maker.schema worker) next all maker.begun i pair
-    (received_after 1 maker.schema worker after c.digest.ensures.build c.digest.ensures.end) is) (full page))
+    let held : Holdings = record { runs = map spool.runs c.args.spools.now; begun = maker.begun } in
+    let Next : ℕ → List Pair → Type 0 = AreHeldWith maker.specs (next_images 1 maker.schema worker) held in
+    let Taken : ℕ → List Pair → Type 0 = AreHeldWithTaken maker.specs maker.schema worker c.digest.new.self held in
+    IfErr-weaker c.digest.result (NoPageOnlyIf (HasFullOf spool.is_full spool.runs spool.open_run Next spools))
+    (NoPageOnlyIf (HasFullOf spool.is_full spool.runs spool.open_run Taken spools))
+    (λ fault full page. full_given spool.is_full spool.runs spool.open_run spools Next Taken
+    (λ i pairs less are. (pairs, (1, c.digest.ensures.end, are), all_of pairs pairs (IsPermutation-refl pairs))) (full page))
     c.digest.ensures.full
 
 pub returns-in-Seal-clause-readable : goal.returns-in-Seal-clause-readable

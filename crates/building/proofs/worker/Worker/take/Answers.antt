@@ -1,18 +1,10 @@
-use Rattle.std.proofs.Common.{◌≡◌, ◌∙◌, ◌++◌, ℕ, List, All, drop, length, map, take, Some, refl, subst, sym, ap, arith}
+use Rattle.std.proofs.Common.{◌≡◌, ◌∙◌, ◌++◌, List, All, drop, length, map, take, Some, refl, subst, sym, ap}
 use Rattle.std.proofs.lemmas.Bool.{false≢true}
-use Rattle.std.proofs.lemmas.List.{length-map}
-use Rattle.keybytes.specs.declared.pair.Pair.{Pair}
 use Rattle.run_spool.specs.Spools.{AreSorted}
-use Rattle.run_spool.proofs.FullFor.{full_given}
-use Rattle.run_maker.specs.Making.{AreReady, spec_at}
-use Rattle.building.specs.Holding.{IsBegunOrOnOneOf}
-use Rattle.building.specs.ImagePairs.{IsOnOneOf}
-use Rattle.building.specs.SpoolValue.{spool_value}
-use Rattle.building.specs.Taking.{received_images}
+use Rattle.run_maker.specs.Making.{AreReady}
 use Rattle.building.specs.Turns.{HasDone, IsStopped, TurnHolds, turn_images}
 use Rattle.building.specs.WorkerValue.{WorkerValue}
-use Rattle.building.proofs.Received.{spooled_received}
-use Rattle.building.proofs.SpoolViews.{lent_back, same_after, spools_ready, turn_held, values_full, values_ready, worker_with}
+use Rattle.building.proofs.SpoolViews.{lent_back, received_full, same_after, spools_ready, turn_held, values_ready, worker_with}
 use Rattle.building.proofs.Turns.{turn_counts}
 use Rattle.building.proofs.worker.Worker.take.Goals as goal
 
@@ -79,10 +71,7 @@ returns-in-Err-clause-stopped g c =
     let back = lent_back at.spools.len at.spools.items spools long in
     let stakes : map spool.stake spools ≡ map spool.stake at.spools.items = c.take.ensures.stakes ∙ ap (map spool.stake) c.deref_mut.ensures.value in
     let holds = c.self.invariant.3 c.in_default.is c.if-self.false in
-    let many : length spools ≡ length at.maker.specs =
-    c.take.auto.spools ∙ (ap length c.deref_mut.ensures.value
-    ∙ (sym (length-map at.spools.items (spool_value spool.runs spool.open_run spool.stake)) ∙ holds.many)) in
-    let given : ℕ → Pair → Type 0 = λ i pair. IsOnOneOf (spec_at maker.specs i) (received_images maker.schema after) pair in
+    let many : length spools ≡ length at.spools.items = c.take.auto.spools ∙ ap length c.deref_mut.ensures.value in
     let new = worker_with spool.runs spool.open_run spool.stake at.number after maker (take at.spools.len (spools ++ drop (length spools) at.spools.items)) at.handed
     (Some c.in-Err.fault) in
     subst (λ (w : WorkerValue). IsStopped spool.is_full spool.runs spool.open_run spool.stake c.args.turn w c.in-Err.fault new) c.self.view_is (record {
@@ -94,10 +83,7 @@ returns-in-Err-clause-stopped g c =
       again = λ first was. absurd (let none = c.in_default.is in cc);
       copies = λ sound. (c.if-self.false, it.copies);
       full = λ sound no_page.
-          rw back (values_full spool.runs spool.open_run spool.stake spool.is_full given spools
-          (full_given spool.is_full spools (IsBegunOrOnOneOf at.maker.specs (received_images at.maker.schema after) at.maker.begun) given
-          (λ i pair less is.
-          spooled_received at.intake after at.maker maker _ holds c.take.ensures.specs c.take.ensures.schema c.take.ensures.build it.took i (omega (arith, less, many)) pair is)
-          (it.full no_page)));
+          rw back (received_full spool.runs spool.open_run spool.stake spool.is_full at.intake after at.maker maker at.spools.items c.deref_mut.result.now spools holds
+          c.deref_mut.ensures.value c.take.ensures.specs c.take.ensures.schema c.take.ensures.build many (it.full no_page));
       want = λ sound memory. rw back (values_ready spool.runs spool.open_run spool.stake spools (it.want memory));
     })
