@@ -1,33 +1,37 @@
--- A spool that a worker found full is one of the worker's, and the pair one of a page that was copied for it.
+-- A spool that a worker found full is one of the worker's, and the pairs in it are of pages that were copied for the worker.
 use Rattle.std.proofs.Common.{◌≡◌, ℕ, ◌+◌, ◌*◌, false, List, [], ◌++◌, length, take, drop, Option, None, Some, sym, ap, ◌∙◌, subst, arith, inl, inr}
 use Rattle.std.proofs.Common.{append_assoc, take-append-drop}
-use Rattle.std.specs.Prelude.{Contains}
 use Rattle.std.specs.List.{slice_get}
 use Rattle.std.proofs.lemmas.Bool.{cases_Bool}
 use Rattle.keybytes.specs.Keys.{KeySpecValue}
+use Rattle.keybytes.specs.declared.fault.Fault.{Fault}
 use Rattle.keybytes.specs.declared.kind.Kind.{Kind}
 use Rattle.keybytes.specs.declared.pair.Pair.{Pair}
 use Rattle.heap_log.specs.declared.record.LogRec.{LogRec}
 use Rattle.heap_table.specs.Images.{ImageValue}
 use Rattle.spool_ledger.specs.Accounts.{Stake}
 use Rattle.side_file.specs.Ends.{PutEnd}
+use Rattle.run_maker.specs.FullSpools.{AreSomeOf}
 use Rattle.run_maker.specs.Making.{spec_at}
+use Rattle.run_maker.proofs.FullSpools.{first_of, full_of_more}
+use Rattle.run_spool.specs.Spools.{NoPageOnlyIf}
 use Rattle.building.specs.Copies.{images_of}
-use Rattle.building.specs.ImagePairs.{IsOnOneOf}
+use Rattle.building.specs.ImagePairs.{HavePairs}
 use Rattle.building.specs.SpoolValue.{SpoolValue, spool_value, stakes_of}
 use Rattle.building.specs.TakeEnd.{TakeEnd}
+use Rattle.building.specs.declared.turn.Turn.{Turn}
+use Rattle.building.specs.Turns.{IsStopped}
 use Rattle.building.specs.Work.{TakesSome}
 use Rattle.building.specs.WorkerValue.{HasReceived, SameWorker, WorkerValue}
 use Rattle.building.specs.declared.copied.Copied.{Copied}
-use Rattle.building.proofs.ManyPairs.{images-append}
-use Rattle.building.proofs.Received.{has_one_of, on_before}
+use Rattle.building.proofs.ManyPairs.{have_split, images-append}
+use Rattle.building.proofs.SamePairs.{have_same}
 use Rattle.build_events.specs.BuildSteps.{OnBuild}
 use Rattle.build_events.specs.CoreState.{BuildState, scanning_of}
 use Rattle.build_events.specs.Scanning.{AreCopies}
 use Rattle.build_events.specs.Workers.{put_to}
 use Rattle.build_scan.proofs.Places.{all_at, at_map, below, map_at, there_is}
 use Rattle.build_work.specs.BuildingValue.{BuildingValue, WorkValue}
-use Rattle.build_work.specs.FullSpools.{HadFull}
 use Rattle.build_work.specs.Holding.{all_spools, lent_spools}
 use Rattle.build_work.specs.Rings.{IsWorkerOf, all_sent}
 use Rattle.build_work.proofs.SpoolPlaces.{flat_at}
@@ -92,33 +96,36 @@ module _
       ∙ ap (λ (cs : List Copied). end.received ++ cs) (take-append-drop took.0 end.known) ∙ sees.in_order in
       (rest, ap (images_of b.number kinds) (sym received) ∙ images-append b.number kinds after.intake.end.received rest)
 
-  -- a pair on an image that it received is one of a page that was copied for it
-  of_page :
+  -- the pairs of those are some of the pairs of the pages that were copied for it
+  of_pages :
       (after : WorkerValue) → SameWorker it after → TakesSome it.intake.end after.intake.end → (i : ℕ) (spec : KeySpecValue) → slice_get w.specs i ≡ Some spec
-      → (pair : Pair) → HasReceived after i pair → Contains (pairs_put_to b spec log k) pair
-  of_page after same took i spec is pair got =
+      → (pairs : List Pair) → HasReceived after i pairs → AreSomeOf pairs (pairs_put_to b spec log k)
+  of_pages after same took i spec is pairs got =
       let received = after.intake.end.received in
       let columns = all_at (λ (s : KeySpecValue). s.kinds ≡ kinds) w.specs i spec run.on.columns is in
       let have = copies_pairs (scanning_of b spec) kinds log (put_to b k) (images_of b.number kinds sent) columns copies in
       let parts = received_parts after took in
+      let split = have_split spec (images_of b.number kinds received) (images_of b.number kinds parts.0) (pairs_put_to b spec log k)
+      (subst (λ (images : List ImageValue). HavePairs spec images (pairs_put_to b spec log k)) parts.1 have) in
       let spec_same : spec_at after.maker.specs i ≡ spec =
       ap (λ (specs : List KeySpecValue). spec_at specs i) (same.specs ∙ its.specs_are) ∙ spec_is w.specs i spec is in
-      let by_spec : IsOnOneOf spec (images_of after.intake.build after.maker.schema received) pair =
-      subst (λ (s : KeySpecValue). IsOnOneOf s (images_of after.intake.build after.maker.schema received) pair) spec_same got in
-      let by_build : IsOnOneOf spec (images_of b.number after.maker.schema received) pair =
-      subst (λ (n : ℕ). IsOnOneOf spec (images_of n after.maker.schema received) pair) (same.build ∙ its.taking.of_build) by_spec in
-      let own : IsOnOneOf spec (images_of b.number kinds received) pair =
-      subst (λ (ks : List Kind). IsOnOneOf spec (images_of b.number ks received) pair) (same.schema ∙ its.schema) by_build in
-      has_one_of spec (images_of b.number kinds sent) (pairs_put_to b spec log k) pair have
-      (subst (λ (images : List ImageValue). IsOnOneOf spec images pair) (sym parts.1)
-      (on_before spec (images_of b.number kinds received) (images_of b.number kinds parts.0) pair own))
+      let by_spec : HavePairs spec (images_of after.intake.build after.maker.schema received) pairs =
+      subst (λ (s : KeySpecValue). HavePairs s (images_of after.intake.build after.maker.schema received) pairs) spec_same got in
+      let by_build : HavePairs spec (images_of b.number after.maker.schema received) pairs =
+      subst (λ (n : ℕ). HavePairs spec (images_of n after.maker.schema received) pairs) (same.build ∙ its.taking.of_build) by_spec in
+      let own : HavePairs spec (images_of b.number kinds received) pairs =
+      subst (λ (ks : List Kind). HavePairs spec (images_of b.number ks received) pairs) (same.schema ∙ its.schema) by_build in
+      let first : split.0 ≡ pairs = have_same spec (images_of b.number kinds received) split.0 pairs split.2 own in
+      first_of pairs split.1 (pairs_put_to b spec log k) (split.4 ∙ ap (λ (ps : List Pair). ps ++ split.1) first)
 
-  pub full_in_build : HadFull is_full runs open_run stake it → WorkerWasFull is_full stake (core_state live building) k
-  full_in_build had =
-      let full = had.full in
+  pub full_in_build :
+      (turn : Turn) (fault : Fault) (after : WorkerValue) → IsStopped is_full runs open_run stake turn it fault after
+      → NoPageOnlyIf (WorkerWasFull is_full runs open_run stake (core_state live building) k) fault
+  full_in_build turn fault after stopped = λ no_page.
+      let full = stopped.full its.fine no_page in
       let seen : slice_get (stakes_of it.spools) full.index ≡ Some (stake full.spool) =
-      ap (λ (l : List (Option Stake)). slice_get l full.index) (sym had.same.stakes)
-      ∙ map_at (λ (s : SpoolValue). s.stake) had.after.spools full.index (spool_value runs open_run stake full.spool) full.there in
+      ap (λ (l : List (Option Stake)). slice_get l full.index) (sym stopped.same.stakes)
+      ∙ map_at (λ (s : SpoolValue). s.stake) after.spools full.index (spool_value runs open_run stake full.spool) full.there in
       elim (cases_Bool w.loading) [
         | inl loading ↦
             let none : slice_get (stakes_of []) full.index ≡ Some (stake full.spool) =
@@ -132,16 +139,15 @@ module _
             ap (λ (home : List SpoolValue). slice_get (stakes_of (home ++ lent_spools building.workers)) (k * length w.specs + full.index)) (run.at_work.lent fine scans)
             ∙ map_at (λ (s : SpoolValue). s.stake) (lent_spools building.workers) (k * length w.specs + full.index) own.0 place ∙ ap (λ o. Some o) own.2 in
             let index = there_is w.specs full.index (let within = below it.spools full.index own.0 own.1 in omega (arith, within, many)) in
-            let was : WasFull is_full stake b log k (stakes_of (all_spools building.workers building.spools)) = record {
+            let was : WasFull is_full runs open_run stake b log k (stakes_of (all_spools building.workers building.spools)) = record {
               index = full.index;
               spec = index.0;
               of_build = ap (λ (specs : List KeySpecValue). slice_get specs full.index) run.on.specs ∙ index.1;
               spool = full.spool;
               there = ap (λ (specs : List KeySpecValue). slice_get (stakes_of (all_spools building.workers building.spools)) (k * length specs + full.index)) run.on.specs ∙ all;
-              pair = full.pair;
-              copied = of_page had.after had.same had.took full.index index.0 index.1 full.pair full.was_given;
-              full = full.full;
+              full = full_of_more is_full runs open_run full.pairs (pairs_put_to b index.0 log k) full.spool
+                  (of_pages after stopped.same stopped.took full.index index.0 index.1 full.pairs full.given) full.full;
             } in
-            subst (λ (o : Option BuildState). OnBuild o (λ x. WasFull is_full stake x log k (stakes_of (all_spools building.workers building.spools))))
+            subst (λ (o : Option BuildState). OnBuild o (λ x. WasFull is_full runs open_run stake x log k (stakes_of (all_spools building.workers building.spools))))
             (sym run.build_is) was
       ]

@@ -25,7 +25,6 @@ pub mod Puts
 pub mod Refusals
 pub mod Reunited
 pub mod ScanCauses
-pub mod Sealed
 pub mod SentNext
 pub mod SideEnds
 pub mod Sound
@@ -33,9 +32,9 @@ pub mod Started
 pub mod Starts
 pub mod SwitchIn
 pub mod TableBuilds
-pub mod Taken
 pub mod TakenIn
 pub mod Takes
 pub mod Unloaded
 pub mod Unused
 pub mod Waits
+pub mod Turns

@@ -1,5 +1,5 @@
 -- Which events spool pairs, and the full spool behind one that wants a page.
-use Rattle.std.specs.Prelude.{◌≡◌, ℕ, ◌+◌, ◌*◌, ◌⊎◌, List, Contains, flat_map, length, Option, None, Some}
+use Rattle.std.specs.Prelude.{◌≡◌, ℕ, ◌+◌, ◌*◌, ◌⊎◌, List, flat_map, length, Option, None, Some}
 use Rattle.std.specs.List.{slice_get}
 use Rattle.keybytes.specs.Keys.{KeySpecValue}
 use Rattle.keybytes.specs.declared.fault.Fault.{Fault}
@@ -7,6 +7,7 @@ use Rattle.keybytes.specs.declared.fault.Fault.TheVariants.{NoPage}
 use Rattle.keybytes.specs.declared.pair.Pair.{Pair}
 use Rattle.heap_log.specs.declared.record.LogRec.{LogRec}
 use Rattle.spool_ledger.specs.Accounts.{Stake}
+use Rattle.run_maker.specs.FullSpools.{IsFullOf}
 use Rattle.build_events.specs.CoreState.{BuildState, CoreState, scanning_of}
 use Rattle.build_events.specs.Scanning.{pairs_at_scan}
 use Rattle.build_events.specs.Workers.{put_to}
@@ -38,18 +39,17 @@ IfSpooling Abandon P = Unit {0}
 abbrev pub pairs_put_to : BuildState → KeySpecValue → List LogRec → ℕ → List Pair
 pairs_put_to b spec log worker = flat_map (pairs_at_scan (scanning_of b spec) log) (put_to b worker)
 
-module _ {S : Type 0} (is_full : S → Pair → Type 0) (stake : S → Option Stake) where
-  -- a spool, with the pool and the quota of that worker's spool for one of the build's indexes, had no room left for a pair of a page that was
-  -- copied for the worker
+module _
+    {S : Type 0} (is_full : S → Pair → Type 0) (runs : S → List (List Pair)) (open_run : S → List Pair) (stake : S → Option Stake) where
+  -- a spool, with the pool and the quota of that worker's spool for one of the build's indexes, was full of the pairs of the pages that were
+  -- copied for the worker: it held some of them and nothing else, and had no room left for one more of them
   pub record WasFull (b : BuildState) (log : List LogRec) (worker : ℕ) (stakes : List (Option Stake)) : Type 0 where
     pub index : ℕ
     pub spec : KeySpecValue
     pub of_build : slice_get b.specs index ≡ Some spec
     pub spool : S
     pub there : slice_get stakes (worker * length b.specs + index) ≡ Some (stake spool)
-    pub pair : Pair
-    pub copied : Contains (pairs_put_to b spec log worker) pair
-    pub full : is_full spool pair
+    pub full : IsFullOf is_full runs open_run (pairs_put_to b spec log worker) spool
 
   -- a spool of that worker of the running build was full
   abbrev pub WorkerWasFull : CoreState → ℕ → Type 0

@@ -6,3 +6,4 @@ pub mod Invariant
 pub mod Putting
 pub mod Rings
 pub mod Switching
+pub mod Turns

@@ -2,7 +2,7 @@
 //!
 //! There is no function here: it is the meaning that live_table and the crates above it speak of. `specs/Builds.antt` says what a table keeps and
 //! when the work beside it goes with the build that runs (`WorksOn`), `specs/Switching.antt` what a switch looks at, and `specs/CatchingUp.antt`
-//! how far the indexes are with their side-files. `proofs/` has what follows: that each step of a build keeps both halves together (Takes, Taken,
-//! Sealed, HandedOver, Loaded, IndexApplied), that its causes stand where they are told (LoadCauses, ApplyCauses, Unloaded), and that
+//! how far the indexes are with their side-files. `proofs/` has what follows: that each step of a build keeps both halves together (Takes, Turns,
+//! HandedOver, Loaded, IndexApplied), that its causes stand where they are told (LoadCauses, ApplyCauses, Unloaded), and that
 //! halves that were kept apart are together again once nothing is left over (Reunited).
 #![tactic(auto)]

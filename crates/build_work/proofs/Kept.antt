@@ -5,6 +5,7 @@ use Rattle.std.specs.Prelude.{IfErr, IfOk, OnOk, flat_map}
 use Rattle.std.specs.List.{All, slice_get}
 use Rattle.std.proofs.lemmas.Bool.{cases_Bool, false≢true}
 use Rattle.std.proofs.lemmas.List.{length-map, length-replicate, map-set}
+use Rattle.keybytes.specs.Faults.{first_cause}
 use Rattle.keybytes.specs.Keys.{KeySpecValue}
 use Rattle.keybytes.specs.declared.fault.Fault.{Fault}
 use Rattle.side_file.specs.declared.entry.Entry.{Entry}
@@ -16,12 +17,16 @@ use Rattle.building.specs.ImagePairs.{HavePairs}
 use Rattle.building.specs.SpoolValue.{SpoolValue}
 use Rattle.building.specs.TakeEnd.{TakeEnd}
 use Rattle.building.specs.Taking.{received_images}
+use Rattle.building.specs.declared.turn.Turn.{Turn}
+use Rattle.building.specs.declared.turn.Turn.TheVariants.{Digest, Seal}
+use Rattle.building.specs.Turns.{HasDone, marked}
 use Rattle.building.specs.Work.{after_seal}
 use Rattle.building.specs.WorkerValue.{SameWorker, WorkerValue}
 use Rattle.build_work.specs.BuildingValue.{IndexValue, IsUnloaded, WorkValue, fresh, fresh_index}
 use Rattle.build_work.specs.Holding.{HaveColumns}
 use Rattle.build_work.specs.Keeping.{ArePairsOf, AreWorkers, HasHanded, IsIndexOf, IsKept, KeepsWork}
 use Rattle.build_work.specs.Rings.{unseen}
+use Rattle.build_work.specs.Turns.{spoiled_for}
 use Rattle.build_scan.proofs.Places.{all_at, all_from, at_set, mapped, no_pair, replicate_at, same_at, set_same}
 
 -- the images that a worker received
@@ -239,33 +244,45 @@ sealed_again specs it is =
           });
     }
 
--- the worker of a place, as a digest or a seal leaves it
+-- nor does a digest change anything of it
+turn_again :
+    (turn : Turn) (specs : List KeySpecValue) (it : WorkerValue) → HasHanded specs it
+    → (own_images (record it { intake = marked turn it.intake }) ≡ own_images it) × HasHanded specs (record it { intake = marked turn it.intake })
+turn_again Digest specs it is = (refl, is)
+turn_again Seal specs it is = (refl, sealed_again specs it is)
+
+-- work that is spoiled doesn't go on
+still_spoiled : (spoiled : Option Fault) (fault : Fault) → first_cause spoiled (Some fault) ≡ None → ⊥
+still_spoiled None fault fine = cc
+still_spoiled (Some first) fault fine = cc
+
+-- the worker of a place, as a turn leaves it
 module _
     (workers : List WorkerValue) (sides : List (TakeEnd Entry)) (spools : List SpoolValue) (held new : WorkValue) (k : ℕ) (it after : WorkerValue)
-    (at : slice_get workers k ≡ Some it) (same_worker : SameWorker it after) (is : KeepsWork workers sides spools (Some held)) where
+    (at : slice_get workers k ≡ Some it) (is : KeepsWork workers sides spools (Some held)) where
   -- it goes on at its place, and the others as before
-  placed_set : after.fault ≡ None → AreWorkers held.build held.specs held.loading workers → AreWorkers held.build held.specs held.loading (set workers k after)
-  placed_set sound are j worker there = elim (at_set workers k after j worker there) [
+  placed_set : SameWorker it after → after.fault ≡ None → AreWorkers held.build held.specs held.loading workers → AreWorkers held.build held.specs held.loading (set workers k after)
+  placed_set same sound are j worker there = elim (at_set workers k after j worker there) [
     | inl this ↦
         let was = are k it at in
         rw (this.1, this.0) (record {
-          number = same_worker.number ∙ was.number;
+          number = same.number ∙ was.number;
           fine = sound;
-          of_build = same_worker.build ∙ was.of_build;
-          specs_are = same_worker.specs ∙ was.specs_are;
-          spools_are = same_worker.handed ∙ was.spools_are;
+          of_build = same.build ∙ was.of_build;
+          specs_are = same.specs ∙ was.specs_are;
+          spools_are = same.handed ∙ was.spools_are;
         })
     | inr other ↦ are j worker other.1
   ]
 
   -- while pages are copied it may do anything, and from the first load on it stays as it is
   stepped_kept :
-      new ≡ held → after.fault ≡ None
+      new ≡ held → SameWorker it after → after.fault ≡ None
       → (it.handed ≡ true → HasHanded held.specs it → (own_images after ≡ own_images it) × HasHanded held.specs after)
       → KeepsWork (set workers k after) sides spools (Some new)
-  stepped_kept same sound stays = λ fine.
+  stepped_kept same same_worker sound stays = λ fine.
       let old : IsKept workers sides spools held = is (ap (λ (w : WorkValue). w.spoiled) (sym same) ∙ fine) in
-      let placed = placed_set sound old.placed in
+      let placed = placed_set same_worker sound old.placed in
       subst (IsKept (set workers k after) sides spools) (sym same) (elim (cases_Bool held.loading) [
         | inl loads ↦
             let was = all_at (HasHanded held.specs) workers k it (old.handed loads) at in
@@ -280,22 +297,12 @@ module _
         | inr scans ↦ scanning_kept workers (set workers k after) sides spools held scans placed old
       ])
 
-  spoiled_kept : (fault : Fault) → new ≡ record held { spoiled = Some fault } → KeepsWork (set workers k after) sides spools (Some new)
-  spoiled_kept fault spoiled = λ fine. absurd (let bad : Some fault ≡ None = ap (λ (w : WorkValue). w.spoiled) (sym spoiled) ∙ fine in cc)
-
-  pub digested_kept :
-      (answer : Result ℕ Fault) → OnOk answer ((it.fault ≡ None) × (after.fault ≡ None)) → OnOk answer (new ≡ held) → IfErr answer (λ fault. new ≡ record held { spoiled = Some fault })
-      → IfOk answer (λ images. it.handed ≡ true → (images ≡ 0) × (after ≡ it)) → KeepsWork (set workers k after) sides spools (Some new)
-  digested_kept (Ok images) sound same spoiled nothing = stepped_kept same sound.1 (λ handed was.
-      let stays : after ≡ it = (nothing handed).1 in
-      (ap own_images stays, subst (HasHanded held.specs) (sym stays) was))
-  digested_kept (Err fault) sound same spoiled nothing = spoiled_kept fault spoiled
-
-  pub sealed_kept :
-      (answer : Result ℕ Fault) → OnOk answer ((it.fault ≡ None) × (after.fault ≡ None)) → OnOk answer (new ≡ held) → IfErr answer (λ fault. new ≡ record held { spoiled = Some fault })
-      → IfOk answer (λ images. it.handed ≡ true → (images ≡ 0) × (after ≡ record it { intake = after_seal it.intake }))
-      → KeepsWork (set workers k after) sides spools (Some new)
-  sealed_kept (Ok images) sound same spoiled nothing = stepped_kept same sound.1 (λ handed was.
-      let stays : after ≡ record it { intake = after_seal it.intake } = (nothing handed).1 in
-      (ap own_images stays, subst (HasHanded held.specs) (sym stays) (sealed_again held.specs it was)))
-  sealed_kept (Err fault) sound same spoiled nothing = spoiled_kept fault spoiled
+  pub turn_kept :
+      (turn : Turn) (answer : Result ℕ Fault) → OnOk answer (new ≡ held) → IfErr answer (λ fault. new ≡ spoiled_for fault held)
+      → IfOk answer (λ images. HasDone turn it images after) → KeepsWork (set workers k after) sides spools (Some new)
+  turn_kept turn (Ok images) same spoiled done = stepped_kept same done.same done.sound.1 (λ handed was.
+      let stays : after ≡ record it { intake = marked turn it.intake } = (done.nothing handed).1 in
+      let again = turn_again turn held.specs it was in
+      (ap own_images stays ∙ again.0, subst (HasHanded held.specs) (sym stays) again.1))
+  turn_kept turn (Err fault) same spoiled done = λ fine.
+      absurd (still_spoiled held.spoiled fault (sym (ap (λ (w : WorkValue). w.spoiled) spoiled) ∙ fine))

@@ -1,25 +1,26 @@
 -- What a step of a worker of the build that runs leaves beside a table.
-use Rattle.std.proofs.Common.{◌≡◌, ℕ, ◌+◌, ◌++◌, true, false, List, length, map, set, Option, Some, None, sym, ap, ◌∙◌, subst, length-set, length-append}
-use Rattle.std.specs.Prelude.{Result, Ok, Err, IfErr, IfOk, IfSome, OnErr, OnOk}
+use Rattle.std.proofs.Common.{◌≡◌, ℕ, ◌+◌, ◌++◌, List, length, map, set, Option, Some, None, sym, ap, ◌∙◌, length-set, length-append}
+use Rattle.std.specs.Prelude.{Result, Ok, Err, IfErr, IfOk, OnOk}
 use Rattle.std.specs.List.{slice_get}
 use Rattle.std.proofs.lemmas.List.{length-map, map-append, map-set}
+use Rattle.keybytes.specs.Faults.{first_cause}
 use Rattle.keybytes.specs.declared.fault.Fault.{Fault}
 use Rattle.keybytes.specs.declared.pair.Pair.{Pair}
-use Rattle.run_spool.specs.Spools.{NoPageOnlyIf}
 use Rattle.side_file.specs.Ends.{RingId}
 use Rattle.side_file.specs.declared.entry.Entry.{Entry}
 use Rattle.spool_ledger.specs.Accounts.{Stake}
+use Rattle.building.specs.declared.turn.Turn.{Turn}
 use Rattle.building.specs.IntakeValue.{IntakeValue}
-use Rattle.building.specs.SpoolValue.{HaveFullFor, SpoolValue, stakes_of}
+use Rattle.building.specs.SpoolValue.{SpoolValue, stakes_of}
 use Rattle.building.specs.TakeEnd.{TakeEnd}
-use Rattle.building.specs.Work.{TakesSome, after_seal}
-use Rattle.building.specs.WorkerValue.{HasReceived, HasSealed, HasTaken, SameWorker, WorkerValue}
+use Rattle.building.specs.Turns.{HasDone, IsStopped}
+use Rattle.building.specs.WorkerValue.{SameWorker, WorkerValue}
 use Rattle.build_work.specs.BuildingValue.{BuildingValue, WorkValue, intakes}
-use Rattle.build_work.specs.FullSpools.{HadFull}
 use Rattle.build_work.specs.Holding.{all_spools}
 use Rattle.build_work.specs.Rings.{AreTakeEnds, take_rings}
-use Rattle.build_work.specs.Working.{Digested, IsSpoiled, Sealed, WorkerDid}
-use Rattle.build_work.proofs.LeftBeside.{spoiled_after}
+use Rattle.build_work.specs.Turns.{WorkerDid, WorkerStopped, spoiled_for}
+use Rattle.build_work.specs.Working.{IsSpoiled}
+use Rattle.build_work.proofs.OneWorker.{the_work}
 use Rattle.build_scan.proofs.Places.{mapped, set_same}
 use Rattle.build_work.proofs.Stakes.{all_stakes, as_many}
 
@@ -61,65 +62,71 @@ as_many_after workers spools k it after at same =
 
 -- the worker of the build that runs, as it was seen
 module _
-    (old seen : BuildingValue) (work held : WorkValue) (same : seen ≡ old) (runs : seen.work ≡ Some work) (is : held ≡ work)
-    (k : ℕ) (it after : WorkerValue) (at : slice_get seen.workers k ≡ Some it) (stays : SameWorker it after) where
+    (turn : Turn) (old seen : BuildingValue) (work held : WorkValue) (same : seen ≡ old) (runs : seen.work ≡ Some work) (is : held ≡ work)
+    (k : ℕ) (it after : WorkerValue) (at : slice_get seen.workers k ≡ Some it) where
   -- what is left with that work
-  abbrev pub stepped : WorkValue → BuildingValue
+  abbrev stepped : WorkValue → BuildingValue
   stepped w = record seen { workers = set seen.workers k after; work = Some w }
 
-  did_step :
-      (Did : ℕ → WorkerValue → WorkerValue → Type 0) (images : ℕ) (new : WorkValue) → new ≡ held → after.fault ≡ None → Did images it after
-      → WorkerDid k Did old images (stepped new)
-  did_step Did images new kept sound did = record {
+  there : slice_get old.workers k ≡ Some it
+  there = ap (λ (b : BuildingValue). slice_get b.workers k) (sym same) ∙ at
+
+  -- it had its turn
+  pub done_step :
+      (answer : Result ℕ Fault) (new : WorkValue) → OnOk answer (new ≡ held) → IfOk answer (λ images. HasDone turn it images after)
+      → IfOk answer (λ images. WorkerDid turn k old images (stepped new))
+  done_step (Ok images) new kept done = record {
     it = it;
-    there = ap (λ (b : BuildingValue). slice_get b.workers k) (sym same) ∙ at;
+    there = there;
     after = after;
-    same = stays;
-    sound = sound;
-    did = did;
+    did = done;
     left = ap (λ (o : Option WorkValue). record seen { workers = set seen.workers k after; work = o }) (ap Some (kept ∙ is) ∙ sym runs)
         ∙ ap (λ (b : BuildingValue). record b { workers = set b.workers k after }) same;
   }
+  done_step (Err fault) new kept done = tt
 
-  pub spoiled_step :
-      (answer : Result ℕ Fault) (new : WorkValue) → IfErr answer (λ fault. new ≡ record held { spoiled = Some fault })
-      → IfErr answer (λ fault. IsSpoiled fault old (stepped new))
-  spoiled_step (Ok images) new spoiled = tt
-  spoiled_step (Err fault) new spoiled =
-      subst (λ (w : WorkValue). IsSpoiled fault old (stepped w)) (sym spoiled)
-      (spoiled_after old seen work held same runs is fault (set seen.workers k after) seen.spools (length-set seen.workers k after)
-      (all_stakes seen.workers seen.spools k it after at stays.stakes))
+  -- or was refused
+  pub stopped_step :
+      {S : Type 0} (is_full : S → Pair → Type 0) (runs_of : S → List (List Pair)) (open_run : S → List Pair) (stake : S → Option Stake)
+      (answer : Result ℕ Fault) (new : WorkValue) → IfErr answer (λ fault. new ≡ spoiled_for fault held)
+      → IfErr answer (λ fault. IsStopped is_full runs_of open_run stake turn it fault after)
+      → IfErr answer (λ fault. WorkerStopped is_full runs_of open_run stake turn k old fault (stepped new))
+  stopped_step is_full runs_of open_run stake (Ok images) new spoiled stopped = tt
+  stopped_step is_full runs_of open_run stake (Err fault) new spoiled stopped = record {
+    it = it;
+    there = there;
+    after = after;
+    stopped = stopped;
+    work = work;
+    work_is = ap (λ (b : BuildingValue). b.work) (sym same) ∙ runs;
+    left = ap stepped (spoiled ∙ ap (spoiled_for fault) is)
+        ∙ ap (λ (b : BuildingValue). record b { workers = set b.workers k after; work = Some (spoiled_for fault work) }) same;
+  }
 
-  pub digested_step :
-      (answer : Result ℕ Fault) (new : WorkValue) → OnOk answer (new ≡ held) → OnOk answer ((it.fault ≡ None) × (after.fault ≡ None))
-      → IfOk answer (λ images. it.handed ≡ false → HasTaken 1 images it after) → IfOk answer (λ images. it.handed ≡ true → (images ≡ 0) × (after ≡ it))
-      → IfOk answer (λ images. WorkerDid k Digested old images (stepped new))
-  digested_step (Ok images) new kept sound took nothing = did_step Digested images new kept sound.1 (record { took = took; nothing = nothing })
-  digested_step (Err fault) new kept sound took nothing = tt
+-- a worker is the same, whatever it answered
+pub same_after :
+    {S : Type 0} (is_full : S → Pair → Type 0) (runs : S → List (List Pair)) (open_run : S → List Pair) (stake : S → Option Stake)
+    (turn : Turn) (it after : WorkerValue) (answer : Result ℕ Fault) → IfOk answer (λ images. HasDone turn it images after)
+    → IfErr answer (λ fault. IsStopped is_full runs open_run stake turn it fault after) → SameWorker it after
+same_after is_full runs open_run stake turn it after (Ok images) done stopped = done.same
+same_after is_full runs open_run stake turn it after (Err fault) done stopped = stopped.same
 
-  pub sealed_step :
-      (answer : Result ℕ Fault) (new : WorkValue) → OnOk answer (new ≡ held) → OnOk answer ((it.fault ≡ None) × (after.fault ≡ None))
-      → IfOk answer (λ images. it.handed ≡ false → HasSealed images it after)
-      → IfOk answer (λ images. it.handed ≡ true → (images ≡ 0) × (after ≡ record it { intake = after_seal it.intake }))
-      → IfOk answer (λ images. WorkerDid k Sealed old images (stepped new))
-  sealed_step (Ok images) new kept sound took nothing = did_step Sealed images new kept sound.1 (record { took = took; nothing = nothing })
-  sealed_step (Err fault) new kept sound took nothing = tt
-
-  module _ {S : Type 0} (is_full : S → Pair → Type 0) (runs_of : S → List (List Pair)) (open_run : S → List Pair) (stake : S → Option Stake) where
-    full_with :
-        (answer : Result ℕ Fault) → OnErr answer (TakesSome it.intake.end after.intake.end)
-        → IfErr answer (NoPageOnlyIf (HaveFullFor is_full runs_of open_run stake (HasReceived after) after.spools))
-        → IfErr answer (NoPageOnlyIf (HadFull is_full runs_of open_run stake it))
-    full_with (Ok images) took full = tt
-    full_with (Err fault) took full = λ page. record { after = after; same = stays; took = took; full = full page }
-
-    -- a page was missing only where one of its spools was full
-    pub full_step :
-        (answer : Result ℕ Fault) → IfSome (slice_get old.workers k) (λ w. w.fault ≡ None) → OnErr answer (TakesSome it.intake.end after.intake.end)
-        → (it.fault ≡ None → IfErr answer (NoPageOnlyIf (HaveFullFor is_full runs_of open_run stake (HasReceived after) after.spools)))
-        → IfErr answer (NoPageOnlyIf (IfSome (slice_get old.workers k) (HadFull is_full runs_of open_run stake)))
-    full_step answer fine took full =
-        let here : slice_get old.workers k ≡ Some it = ap (λ (b : BuildingValue). slice_get b.workers k) (sym same) ∙ at in
-        let sound : it.fault ≡ None = subst (λ (o : Option WorkerValue). IfSome o (λ w. w.fault ≡ None)) here fine in
-        subst (λ (o : Option WorkerValue). IfErr answer (NoPageOnlyIf (IfSome o (HadFull is_full runs_of open_run stake)))) (sym here)
-        (full_with answer took (full sound))
+-- so the build is spoiled by the first turn that is refused
+pub stopped_spoils :
+    {S : Type 0} (is_full : S → Pair → Type 0) (runs : S → List (List Pair)) (open_run : S → List Pair) (stake : S → Option Stake)
+    (turn : Turn) (k : ℕ) (old new : BuildingValue) (fault : Fault) (work : WorkValue) → old.work ≡ Some work → work.spoiled ≡ None
+    → WorkerStopped is_full runs open_run stake turn k old fault new → IsSpoiled fault old new
+stopped_spoils is_full runs open_run stake turn k old new fault work is fine s =
+    let none : s.work.spoiled ≡ None = ap (λ (w : WorkValue). w.spoiled) (the_work old.work s.work work s.work_is is) ∙ fine in
+    record {
+      work = s.work;
+      runs = s.work_is;
+      workers = set old.workers k s.after;
+      many = length-set old.workers k s.after;
+      spools = old.spools;
+      stakes = all_stakes old.workers old.spools k s.it s.after s.there s.stopped.same.stakes;
+      left = s.left ∙ ap (λ (o : Option Fault). record old {
+        workers = set old.workers k s.after;
+        work = Some (record s.work { spoiled = first_cause o (Some fault) });
+      }) none;
+    }

@@ -1,7 +1,6 @@
 pub mod BuildingValue
 pub mod Columns
 pub mod Equipped
-pub mod FullSpools
 pub mod Holding
 pub mod Keeping
 pub mod Lent
@@ -9,3 +8,4 @@ pub mod Rings
 pub mod Verdicts
 pub mod WorkOn
 pub mod Working
+pub mod Turns

@@ -10,33 +10,12 @@ use Rattle.visibility.specs.Applied.{apply_entries}
 use Rattle.catch_up.specs.Built.{BuiltValue, told_to}
 use Rattle.building.specs.TakeEnd.{TakeEnd}
 use Rattle.building.specs.SpoolValue.{SpoolValue, pairs_in, stakes_of}
-use Rattle.building.specs.Work.{after_seal}
-use Rattle.building.specs.WorkerValue.{HasSealed, HasTaken, SameWorker, WorkerValue}
+use Rattle.building.specs.WorkerValue.{WorkerValue}
 use Rattle.build_scan.specs.SideFiles.{HasLookedAtSide, SeesSide}
 use Rattle.build_work.specs.BuildingValue.{BuildingValue, WorkValue, IndexValue, IsUnloaded, is_unique, with_index}
 use Rattle.build_work.specs.Columns.{column}
 use Rattle.build_work.specs.Keeping.{HaveEachOnce, IsClosed}
 use Rattle.build_work.specs.Holding.{all_spools, ended_column, lent_spools}
-
--- a worker of the build that runs did this, answered with so many images, and nothing else changed
-pub record WorkerDid (worker : ℕ) (Did : ℕ → WorkerValue → WorkerValue → Type 0) (old : BuildingValue) (images : ℕ) (new : BuildingValue) : Type 0 where
-  pub it : WorkerValue
-  pub there : slice_get old.workers worker ≡ Some it
-  pub after : WorkerValue
-  pub same : SameWorker it after
-  pub sound : after.fault ≡ None
-  pub did : Did images it after
-  pub left : new ≡ record old { workers = set old.workers worker after }
-
--- it took the next copy that it had seen; once its spools are handed over it takes nothing
-pub record Digested (images : ℕ) (it after : WorkerValue) : Type 0 where
-  pub took : it.handed ≡ false → HasTaken 1 images it after
-  pub nothing : it.handed ≡ true → (images ≡ 0) × (after ≡ it)
-
--- it took all copies that it had seen, and closed its runs
-pub record Sealed (images : ℕ) (it after : WorkerValue) : Type 0 where
-  pub took : it.handed ≡ false → HasSealed images it after
-  pub nothing : it.handed ≡ true → (images ≡ 0) × (after ≡ record it { intake = after_seal it.intake })
 
 -- the build can't go on for that fault; its spools keep their stakes
 pub record IsSpoiled (fault : Fault) (old new : BuildingValue) : Type 0 where

@@ -1,17 +1,13 @@
 //! What stands beside a table.
 ghost use Rattle.std.specs.Prelude.{◌≡◌, ℕ, ◌*◌, ◌<◌, ◌≤◌, OnOk, [], All, length, map, slice_get, true, false, None, Some, IsSome, IfSome, IfOk, IfErr, OnErr, MatchOption};
 ghost use Rattle.std.specs.List.{list_all};
-ghost use Rattle.run_spool.specs.Spools.{NoPageOnlyIf};
 ghost use Rattle.building.specs.SpoolValue.{spool_value};
-ghost use Rattle.build_work.specs.FullSpools.{HadFull};
-ghost use Rattle.building.specs.WorkerValue.{IsShortage, SeesCopy, SeesOwnCopy};
-ghost use Rattle.run_maker.specs.Spooling.{MemoryOnlyIf};
 ghost use Rattle.build_work.specs.BuildingValue.{fresh, given_up, intakes, IsUnloaded};
 ghost use Rattle.build_work.specs.Holding.{all_spools, lent_spools, spools_state};
 ghost use Rattle.build_work.specs.Keeping.{AreWorkers, KeepsWork};
 ghost use Rattle.catch_up.specs.Built.{told_to};
 ghost use Rattle.build_work.specs.Equipped.{HasOwnSpools, HasRoomFor, IsFresh, IsNewMaker};
-ghost use Rattle.build_work.specs.Working.{CanApply, CanHandOver, CanLoad, Digested, HasApplied, HasHandedOver, HasLoaded, IsSpoiled, Sealed, WorkerDid};
+ghost use Rattle.build_work.specs.Working.{CanApply, CanHandOver, CanLoad, HasApplied, HasHandedOver, HasLoaded, IsSpoiled};
 
 use crate::ends::Ends;
 use crate::equipment::{Equipment, equip};
@@ -231,44 +227,6 @@ impl<S: Spool, T: Table> Building<S, T> {
         self.work = Some(work);
     }
 
-    /// Lets a worker take the next copy that it has seen. Want of memory or of a page spoils the build.
-    pub fn digest(&mut self, worker: usize) -> Result<usize, Fault>
-        requires there { worker < length self.old.workers }
-        requires runs { IsSome self.old.work }
-        requires fine { IfSome (slice_get self.old.workers worker) (λ w. w.fault ≡ None) }
-        ensures did { IfOk result (λ images. WorkerDid worker Digested self.old images self.new) }
-        ensures spoiled { IfErr result (λ fault. IsSpoiled fault self.old self.new) }
-        ensures short { IfErr result IsShortage }
-        ensures full { IfErr result (NoPageOnlyIf (IfSome (slice_get self.old.workers worker) (HadFull S.is_full S.runs S.open_run S.stake))) }
-        ensures copy { OnErr result (IfSome (slice_get self.old.workers worker) SeesOwnCopy) }
-    {
-        let Some(work) = &mut self.work else {
-            unreachable!()
-        };
-        let digested = self.workers[worker].digest();
-        note_fault(work, &digested);
-        digested
-    }
-
-    /// Lets a worker take all copies that it has seen, and close its runs. Want of memory or of a page spoils the build.
-    pub fn seal(&mut self, worker: usize) -> Result<usize, Fault>
-        requires there { worker < length self.old.workers }
-        requires runs { IsSome self.old.work }
-        requires fine { IfSome (slice_get self.old.workers worker) (λ w. w.fault ≡ None) }
-        ensures did { IfOk result (λ images. WorkerDid worker Sealed self.old images self.new) }
-        ensures spoiled { IfErr result (λ fault. IsSpoiled fault self.old self.new) }
-        ensures short { IfErr result IsShortage }
-        ensures full { IfErr result (NoPageOnlyIf (IfSome (slice_get self.old.workers worker) (HadFull S.is_full S.runs S.open_run S.stake))) }
-        ensures copy { IfErr result (MemoryOnlyIf (IfSome (slice_get self.old.workers worker) SeesCopy)) }
-    {
-        let Some(work) = &mut self.work else {
-            unreachable!()
-        };
-        let sealed = self.workers[worker].seal();
-        note_fault(work, &sealed);
-        sealed
-    }
-
     /// Whether a build runs whose indexes are being loaded.
     pub fn is_loading(&self) -> bool
         ensures loading { IfSome self.now.work (λ work. result ≡ work.loading) }
@@ -376,15 +334,5 @@ impl<S: Spool, T: Table> Building<S, T> {
         ensures { self.new ≡ given_up self.old }
     {
         let _indexes = self.end();
-    }
-}
-
-/// A refused call of a worker spoils the build.
-fn note_fault(work: &mut Work, answer: &Result<usize, Fault>)
-    ensures fine { OnOk answer.now (work.new ≡ work.old) }
-    ensures spoiled { IfErr answer.now (λ fault. work.new ≡ record work.old { spoiled = Some fault }) }
-{
-    if let Err(fault) = answer {
-        work.spoiled = Some(*fault);
     }
 }

@@ -17,6 +17,7 @@ mod merging;
 mod returning;
 mod rings;
 mod sorted;
+mod turns;
 mod work;
 
 pub use beside::Building;

@@ -166,11 +166,11 @@ done_not_refused s Switch fault new does = let is = does.1 in cc
 done_not_refused s Fence fault new does = let is = does.0 in cc
 done_not_refused s Abandon fault new does = let is = does.0 in cc
 
-module _ {S : Type 0} (is_full : S → Pair → Type 0) (stake : S → Option Stake) where
+module _ {S : Type 0} (is_full : S → Pair → Type 0) (runs : S → List (List Pair)) (open_run : S → List Pair) (stake : S → Option Stake) where
   -- a want of a page is one of a digest or a seal whose spool was full
   wanted :
       (s : CoreState) (event : Event) (new : CoreState) → s.work.spoiled ≡ None → IsRefused s event NoPage new
-      → IfSpooling event (λ worker. NoPageOnlyIfFull is_full stake s worker NoPage) → WantedPage is_full stake s event
+      → IfSpooling event (λ worker. NoPageOnlyIfFull is_full runs open_run stake s worker NoPage) → WantedPage is_full runs open_run stake s event
   wanted s event new fine (inl cause) full = absurd (other_cause s fine event cause.0)
   wanted s Begin new fine (inr wants) full = absurd (let is = wants.1 in cc)
   wanted s (Insert txn row) new fine (inr wants) full = absurd (let is = wants.1 in cc)
@@ -192,11 +192,11 @@ module _ {S : Type 0} (is_full : S → Pair → Type 0) (stake : S → Option St
   pub wanted_page :
       (s : CoreState) (event : Event) (answer : Result Reply Fault) (reply : Reply) (new : CoreState) → Answers s event answer new
       → MatchResult answer (λ r. reply ≡ r) (λ fault. reply ≡ Refused fault)
-      → IfSpooling event (λ worker. IfErr answer (NoPageOnlyIfFull is_full stake s worker))
-      → reply ≡ Refused NoPage → s.work.spoiled ≡ None → WantedPage is_full stake s event
+      → IfSpooling event (λ worker. IfErr answer (NoPageOnlyIfFull is_full runs open_run stake s worker))
+      → reply ≡ Refused NoPage → s.work.spoiled ≡ None → WantedPage is_full runs open_run stake s event
   wanted_page s event (Ok told) reply new done same full is fine =
       absurd (done_not_refused s event NoPage new (subst (λ (r : Reply). Does s event r new) (sym same ∙ is) done.1))
   wanted_page s event (Err fault) reply new refused same full is fine =
       let of_page : fault ≡ NoPage = let both : Refused fault ≡ Refused NoPage = sym same ∙ is in cc in
       wanted s event new fine (subst (λ (f : Fault). IsRefused s event f new) of_page refused)
-      (subst (λ (f : Fault). IfSpooling event (λ worker. NoPageOnlyIfFull is_full stake s worker f)) of_page full)
+      (subst (λ (f : Fault). IfSpooling event (λ worker. NoPageOnlyIfFull is_full runs open_run stake s worker f)) of_page full)

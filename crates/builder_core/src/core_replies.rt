@@ -86,7 +86,7 @@ impl<S: Spool, T: Table> Core<S, T> {
 
     pub(crate) fn digest_reply(&mut self, worker: usize) -> Result<Reply, Fault>
         ensures answers { Answers self.old (Event.Digest worker) result self.new }
-        ensures full { IfErr result (NoPageOnlyIfFull S.is_full S.stake self.old worker) }
+        ensures full { IfErr result (NoPageOnlyIfFull S.is_full S.runs S.open_run S.stake self.old worker) }
     {
         let images = self.digest(worker)?;
         Ok(Reply::Digested { images })
@@ -94,7 +94,7 @@ impl<S: Spool, T: Table> Core<S, T> {
 
     pub(crate) fn seal_reply(&mut self, worker: usize) -> Result<Reply, Fault>
         ensures answers { Answers self.old (Event.Seal worker) result self.new }
-        ensures full { IfErr result (NoPageOnlyIfFull S.is_full S.stake self.old worker) }
+        ensures full { IfErr result (NoPageOnlyIfFull S.is_full S.runs S.open_run S.stake self.old worker) }
     {
         let images = self.seal(worker)?;
         Ok(Reply::Sealed { images })

@@ -162,7 +162,7 @@ impl<S: Spool, T: Table> Core<S, T> {
         ensures stakes { self.new.spools.stakes ≡ self.old.spools.stakes }
         ensures keys { (number : ℕ) (verdicts : List Outcome) → result ≡ Reply.Switched number verdicts
             → OnBuild self.old.live.build (λ b. HaveSharedKeys b.specs verdicts) }
-        ensures full { HasPageCause (WantedPage S.is_full S.stake) self.old event result }
+        ensures full { HasPageCause (WantedPage S.is_full S.runs S.open_run S.stake) self.old event result }
         ensures ready { ReadyFollowTable self.new.live }
         ensures sound { IfSome self.new.live.build (λ b. BuildIsSound b self.new.live.heap.log) }
     {
@@ -173,7 +173,7 @@ impl<S: Spool, T: Table> Core<S, T> {
     /// Does one event that it is lent. A row is copied only once nothing refuses it.
     pub(crate) fn answer(&mut self, event: &Event) -> Reply
         ensures step { Step self.old event.now result self.new }
-        ensures full { HasPageCause (WantedPage S.is_full S.stake) self.old event.now result }
+        ensures full { HasPageCause (WantedPage S.is_full S.runs S.open_run S.stake) self.old event.now result }
         ensures ready { ReadyFollowTable self.new.live }
         ensures sound { IfSome self.new.live.build (λ b. BuildIsSound b self.new.live.heap.log) }
     {
@@ -198,7 +198,7 @@ impl<S: Spool, T: Table> Core<S, T> {
     /// Does one event of its own, or tells why not: the row of a write is handed on.
     fn attempt_own(&mut self, event: Event) -> Result<Reply, Fault>
         ensures answers { Answers self.old event result self.new }
-        ensures full { IfSpooling event (λ worker. IfErr result (NoPageOnlyIfFull S.is_full S.stake self.old worker)) }
+        ensures full { IfSpooling event (λ worker. IfErr result (NoPageOnlyIfFull S.is_full S.runs S.open_run S.stake self.old worker)) }
     {
         match event {
             Event::Insert { txn, row } => self.insert_reply(txn, row),
@@ -210,7 +210,7 @@ impl<S: Spool, T: Table> Core<S, T> {
     /// Does one event that it is lent, or tells why not.
     fn attempt(&mut self, event: &Event) -> Result<Reply, Fault>
         ensures answers { Answers self.old event.now result self.new }
-        ensures full { IfSpooling event.now (λ worker. IfErr result (NoPageOnlyIfFull S.is_full S.stake self.old worker)) }
+        ensures full { IfSpooling event.now (λ worker. IfErr result (NoPageOnlyIfFull S.is_full S.runs S.open_run S.stake self.old worker)) }
     {
         match event {
             Event::Begin => self.begin_reply(),

@@ -90,3 +90,7 @@ digest_more n m kinds worker =
 -- n copies have at most n images of a build
 pub next_few : (n : ℕ) (kinds : List Kind) (worker : IntakeValue) → length (next_images n kinds worker) ≤ n
 next_few n kinds worker = omega (arith, images_few worker.build kinds (take n worker.end.known), length-take n worker.end.known)
+
+-- nor more than were seen
+pub next_known : (n : ℕ) (kinds : List Kind) (worker : IntakeValue) → length (next_images n kinds worker) ≤ length worker.end.known
+next_known n kinds worker = omega (arith, images_few worker.build kinds (take n worker.end.known), length-take n worker.end.known)

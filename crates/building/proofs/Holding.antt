@@ -7,9 +7,9 @@ use Rattle.keybytes.specs.Keys.{KeySpecValue}
 use Rattle.keybytes.specs.declared.pair.Pair.{Pair}
 use Rattle.heap_table.specs.Images.{ImageValue}
 use Rattle.run_spool.specs.Spools.{all_pairs, with_closed_run}
-use Rattle.run_maker.specs.Making.{Holdings, AddsAt, Takes, Seals, spec_at}
+use Rattle.run_maker.specs.Making.{Holdings, AddsAt, Takes, Seals, held_at, spec_at}
 use Rattle.run_maker.proofs.Spoolings.{adds_more, adds_none, all_closed}
-use Rattle.building.specs.Holding.{TakesAll, HoldsMore, held_at}
+use Rattle.building.specs.Holding.{TakesAll, HoldsMore}
 use Rattle.building.specs.ImagePairs.{HavePairs}
 use Rattle.building.proofs.ManyPairs.{have_split}
 

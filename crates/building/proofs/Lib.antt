@@ -8,3 +8,4 @@ pub mod Rings
 pub mod SamePairs
 pub mod SpoolViews
 pub mod Taking
+pub mod Turns

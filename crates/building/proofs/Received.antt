@@ -1,29 +1,28 @@
--- A pair that is spooled is on one of the images that the worker received.
-use Rattle.std.proofs.Common.{◌≡◌, ℕ, zero, suc, ◌+◌, ◌<◌, ◌≤◌, List, [], ◌∷◌, ◌++◌, All, length, get_or, take, drop, append-nil, refl, sym, ap, ap₂, ◌∙◌, subst, arith, inl, inr}
-use Rattle.std.specs.Prelude.{Contains}
-use Rattle.std.proofs.lemmas.List.Elements.{All-contains, Contains-append_cases, Contains-append_left, Contains-append_right}
-use Rattle.std.proofs.lemmas.List.Sorted.{Contains-permutation, IsPermutation-sym}
+-- What a worker holds with the copies that it takes is the pairs of the images that it received.
+use Rattle.std.proofs.Common.{◌≡◌, ℕ, ◌+◌, ◌<◌, ◌≤◌, List, [], ◌∷◌, ◌++◌, All, append_assoc, append-nil, length, take, drop, refl, sym, ap, ap₂, ◌∙◌, subst, arith}
+use Rattle.std.specs.Prelude.{IsPermutation}
+use Rattle.std.proofs.lemmas.List.Sorted.{IsPermutation-append_left, IsPermutation-sym}
 use Rattle.keybytes.specs.Keys.{KeySpecValue}
 use Rattle.keybytes.specs.declared.kind.Kind.{Kind}
 use Rattle.keybytes.specs.declared.pair.Pair.{Pair}
 use Rattle.heap_table.specs.Images.{ImageValue, IsReadable}
-use Rattle.run_spool.specs.Spools.{all_pairs}
-use Rattle.run_maker.specs.ImagePairs.{HasPairs, IsOnCopy}
-use Rattle.run_maker.specs.Making.{Holdings, IsBegun, IsBegunOrOnCopy, MakerValue, spec_at}
+use Rattle.run_maker.specs.FullSpools.{AreSomeOf}
+use Rattle.run_maker.specs.Making.{AreHeldWithCopy, Holdings, MakerValue, held_at, spec_at}
+use Rattle.run_maker.proofs.FullSpools.{all_of}
 use Rattle.building.specs.declared.copied.Copied.{Copied}
 use Rattle.building.specs.Copies.{images_of}
-use Rattle.building.specs.Holding.{IsBegunOrOnOneOf, TakesAll}
-use Rattle.building.specs.ImagePairs.{HavePairs, IsOnOneOf}
+use Rattle.building.specs.Holding.{AreHeldWith, TakesAll}
+use Rattle.building.specs.ImagePairs.{HavePairs}
 use Rattle.building.specs.IntakeValue.{IntakeValue}
-use Rattle.building.specs.SpoolValue.{SpoolValue, runs_of}
+use Rattle.building.specs.SpoolValue.{SpoolValue}
 use Rattle.building.specs.Taking.{received_images}
 use Rattle.building.specs.TakeEnd.{TakeEnd, after_taking}
+use Rattle.building.specs.Turns.{AreHeldWithTaken}
 use Rattle.building.specs.Work.{StopsAfter, TakesSome, next_images}
-use Rattle.building.specs.WorkerValue.{IsHolding}
+use Rattle.building.specs.WorkerValue.{IsHolding, holdings}
 use Rattle.building.proofs.Digests.{images_more}
 use Rattle.building.proofs.Keeping.{have_next}
-use Rattle.building.proofs.ManyPairs.{images-append}
-use Rattle.building.proofs.SamePairs.{has_same}
+use Rattle.building.proofs.ManyPairs.{have_append, images-append}
 
 -- no copy is taken
 pub takes_none : (end : TakeEnd Copied) → TakesSome end end
@@ -48,58 +47,6 @@ pub takes_stopped :
     (kinds : List Kind) (old new : IntakeValue) → (n : ℕ) × (n ≤ length old.end.known) × StopsAfter n kinds old new → TakesSome old.end new.end
 takes_stopped kinds old new stops = (stops.0, stops.1, ap (λ (i : IntakeValue). i.end) stops.2.3)
 
--- a pair on the image at that place
-has_at :
-    (spec : KeySpecValue) (images : List ImageValue) (made : List Pair) (pair : Pair) → HavePairs spec images made → (k : ℕ) → k < length images
-    → (image : ImageValue) → get_or images k image ≡ image → IsOnCopy spec image pair → Contains made pair
-has_at spec [] made pair have k less image at on = absurd (omega (arith, less))
-has_at spec (first ∷ images) made pair have zero less image at on =
-    let same : on.pairs ≡ have.0 = has_same spec first on.pairs have.0 (subst (λ (i : ImageValue). HasPairs spec i on.pairs) (sym at) on.has) have.2 in
-    subst (λ (ps : List Pair). Contains ps pair) (sym have.4)
-    (Contains-append_left have.0 have.1 pair (subst (λ (ps : List Pair). Contains ps pair) same on.among))
-has_at spec (first ∷ images) made pair have (suc k) less image at on =
-    let rest = has_at spec images have.1 pair have.3 k (omega (arith, less)) image at on in
-    subst (λ (ps : List Pair). Contains ps pair) (sym have.4) (Contains-append_right have.0 have.1 pair rest)
-
-module _ (spec : KeySpecValue) where
-  -- it is on the first of several
-  on_first : (image : ImageValue) (images : List ImageValue) (pair : Pair) → IsOnCopy spec image pair → IsOnOneOf spec (image ∷ images) pair
-  on_first image images pair on = record { image = image; one_of = (0, omega arith, refl); on = on }
-
-  -- and so it is where there are more images, in front of these
-  pub on_more : (xs ys : List ImageValue) (pair : Pair) → IsOnOneOf spec ys pair → IsOnOneOf spec (xs ++ ys) pair
-  on_more xs ys pair is = record { image = is.image; one_of = Contains-append_right xs ys is.image is.one_of; on = is.on }
-
-  -- or behind these
-  pub on_before : (xs ys : List ImageValue) (pair : Pair) → IsOnOneOf spec xs pair → IsOnOneOf spec (xs ++ ys) pair
-  on_before xs ys pair is = record { image = is.image; one_of = Contains-append_left xs ys is.image is.one_of; on = is.on }
-
-  -- one of the pairs of several images is on one of these
-  pub on_one_of : (images : List ImageValue) (made : List Pair) (pair : Pair) → HavePairs spec images made → Contains made pair → IsOnOneOf spec images pair
-  on_one_of [] made pair have among =
-      let none : Contains [] pair = subst (λ (ps : List Pair). Contains ps pair) have among in
-      absurd (omega (arith, none.1))
-  on_one_of (image ∷ images) made pair have among =
-      let parts : Contains (have.0 ++ have.1) pair = subst (λ (ps : List Pair). Contains ps pair) have.4 among in
-      elim (Contains-append_cases have.0 have.1 pair parts) [
-        | inl here ↦ on_first image images pair (record { pairs = have.0; has = have.2; among = here })
-        | inr there ↦ on_more (image ∷ []) images pair (on_one_of images have.1 pair have.3 there)
-      ]
-
--- the pairs of several images have each pair on one of these
-pub has_one_of :
-    (spec : KeySpecValue) (images : List ImageValue) (made : List Pair) (pair : Pair) → HavePairs spec images made → IsOnOneOf spec images pair → Contains made pair
-has_one_of spec images made pair have is = has_at spec images made pair have is.one_of.0 is.one_of.1 is.image is.one_of.2 is.on
-
--- a copy alone
-pub on_alone :
-    (specs : List KeySpecValue) (image : ImageValue) (images : List ImageValue) (begun : List (List Pair)) (i : ℕ) (pair : Pair) → images ≡ image ∷ []
-    → IsBegunOrOnCopy specs image begun i pair → IsBegunOrOnOneOf specs images begun i pair
-on_alone specs image images begun i pair alone is = elim is [
-  | inl before ↦ inl before
-  | inr on ↦ inr (subst (λ (xs : List ImageValue). IsOnOneOf (spec_at specs i) xs pair) (sym alone) (on_first (spec_at specs i) image [] pair on))
-]
-
 -- with the images of its build that an end received come those that it takes
 pub received_after :
     (n : ℕ) (kinds : List Kind) (old new : IntakeValue) → new.build ≡ old.build → new.end ≡ after_taking n old.end
@@ -107,76 +54,53 @@ pub received_after :
 received_after n kinds old new build end =
     ap₂ (λ (b : ℕ) (e : TakeEnd Copied). images_of b kinds e.received) build end ∙ images-append old.build kinds old.end.received (take n old.end.known)
 
--- what is begun behind images that were taken was so before, or is on them
-pub begun_or_on :
-    (n : ℕ) (specs : List KeySpecValue) (kinds : List Kind) (intake : IntakeValue) (old new : Holdings) → All (λ spec. spec.kinds ≡ kinds) specs
-    → All IsReadable (next_images n kinds intake) → TakesAll specs (next_images n kinds intake) old new → (i : ℕ) → i < length specs
-    → (pair : Pair) → IsBegun new.begun i pair → IsBegunOrOnOneOf specs (next_images n kinds intake) old.begun i pair
-begun_or_on n specs kinds intake old new columns readable takes i lt pair begun =
-    let images = next_images n kinds intake in
-    let made = have_next n intake kinds specs columns readable i lt in
-    let kept = (takes i lt made.0 made.1).kept in
-    let among = All-contains (Contains (get_or old.begun i [] ++ made.0)) (get_or new.begun i []) pair kept begun in
-    elim (Contains-append_cases (get_or old.begun i []) made.0 pair among) [
-      | inl before ↦ inl before
-      | inr on ↦ inr (on_one_of (spec_at specs i) images made.0 pair made.1 on)
-    ]
+-- what is held with a copy alone
+pub with_copy :
+    (specs : List KeySpecValue) (image : ImageValue) (images : List ImageValue) (held : Holdings) (i : ℕ) (pairs : List Pair) → images ≡ image ∷ []
+    → AreHeldWithCopy specs image held i pairs → AreHeldWith specs images held i pairs
+with_copy specs image images held i pairs alone are =
+    let have : HavePairs (spec_at specs i) (image ∷ []) are.0 = (are.0, [], are.1, refl, sym (append-nil are.0)) in
+    (are.0, subst (λ (xs : List ImageValue). HavePairs (spec_at specs i) xs are.0) (sym alone) have, are.2)
 
--- more images that were received
-pub received_more :
-    (specs : List KeySpecValue) (xs ys images : List ImageValue) (begun : List (List Pair)) (i : ℕ) (pair : Pair) → images ≡ xs ++ ys
-    → IsBegunOrOnOneOf specs ys begun i pair → IsBegunOrOnOneOf specs images begun i pair
-received_more specs xs ys images begun i pair are is = elim is [
-  | inl before ↦ inl before
-  | inr on ↦ inr (subst (λ (all : List ImageValue). IsOnOneOf (spec_at specs i) all pair) (sym are) (on_more (spec_at specs i) xs ys pair on))
-]
+-- what is held after n copies, with the m behind them, is what was held before, with all of them
+pub with_more :
+    (n m : ℕ) (specs : List KeySpecValue) (kinds : List Kind) (worker middle : IntakeValue) (start held : Holdings) → All (λ spec. spec.kinds ≡ kinds) specs
+    → All IsReadable (next_images n kinds worker) → TakesAll specs (next_images n kinds worker) start held → middle.build ≡ worker.build
+    → middle.end ≡ after_taking n worker.end → (i : ℕ) → i < length specs → (pairs : List Pair) → AreHeldWith specs (next_images m kinds middle) held i pairs
+    → (more : List Pair) × AreHeldWith specs (next_images (n + m) kinds worker) start i more × AreSomeOf pairs more
+with_more n m specs kinds worker middle start held columns readable takes build end i lt pairs are =
+    let spec = spec_at specs i in
+    let first = have_next n worker kinds specs columns readable i lt in
+    let made = first.0 ++ are.0 in
+    let have : HavePairs spec (next_images (n + m) kinds worker) made =
+    subst (λ (xs : List ImageValue). HavePairs spec xs made) (sym (images_more n m kinds worker middle build end))
+    (have_append spec (next_images n kinds worker) (next_images m kinds middle) first.0 are.0 first.1 are.1) in
+    let same : IsPermutation (held_at i held ++ are.0) (held_at i start ++ made) =
+    subst (IsPermutation (held_at i held ++ are.0)) (append_assoc (held_at i start) first.0 are.0)
+    (IsPermutation-append_left are.0 (held_at i held) (held_at i start ++ first.0)
+    (IsPermutation-sym (held_at i start ++ first.0) (held_at i held) (takes i lt first.0 first.1).all)) in (
+      held_at i start ++ made,
+      (made, have, refl),
+      subst (λ (ps : List Pair). AreSomeOf ps (held_at i start ++ made)) (sym are.2) (all_of (held_at i held ++ are.0) (held_at i start ++ made) same),
+    )
 
--- after n copies one more was taken, and a pair was begun before all of these, or is on an image that was received
-pub next_received :
-    (n : ℕ) (specs : List KeySpecValue) (kinds : List Kind) (worker middle after : IntakeValue) (begun now : List (List Pair)) (i : ℕ) (pair : Pair)
-    → middle.build ≡ worker.build → middle.end ≡ after_taking n worker.end → after.build ≡ worker.build → after.end ≡ after_taking (n + 1) worker.end
-    → (IsBegun now i pair → IsBegunOrOnOneOf specs (next_images n kinds worker) begun i pair)
-    → IsBegunOrOnOneOf specs (next_images 1 kinds middle) now i pair → IsBegunOrOnOneOf specs (received_images kinds after) begun i pair
-next_received n specs kinds worker middle after begun now i pair build end build_after end_after before is =
-    let old = received_images kinds worker in
-    let first = next_images n kinds worker in
-    let last = next_images 1 kinds middle in
-    let all : received_images kinds after ≡ old ++ (first ++ last) =
-    received_after (n + 1) kinds worker after build_after end_after ∙ ap (λ (xs : List ImageValue). old ++ xs) (images_more n 1 kinds worker middle build end) in
-    let on : IsOnOneOf (spec_at specs i) (first ++ last) pair → IsOnOneOf (spec_at specs i) (received_images kinds after) pair =
-    λ its. subst (λ (xs : List ImageValue). IsOnOneOf (spec_at specs i) xs pair) (sym all) (on_more (spec_at specs i) old (first ++ last) pair its) in
-    elim is [
-      | inl then ↦ elim (before then) [ inl begun ↦ inl begun | inr earlier ↦ inr (on (on_before (spec_at specs i) first last pair earlier)) ]
-      | inr its ↦ inr (on (on_more (spec_at specs i) first last pair its))
-    ]
-
--- what a worker has in no run yet is on an image that it received
-pub begun_received :
-    (intake : IntakeValue) (maker : MakerValue) (spools : List SpoolValue) → IsHolding intake maker spools → (i : ℕ) → i < length maker.specs
-    → (pair : Pair) → IsBegun maker.begun i pair → IsOnOneOf (spec_at maker.specs i) (received_images maker.schema intake) pair
-begun_received intake maker spools holds i lt pair begun =
-    let held = holds.holds i lt in
-    let runs = all_pairs (get_or (runs_of spools) i []) in
-    let there : Contains (runs ++ get_or maker.begun i []) pair = Contains-append_right runs (get_or maker.begun i []) pair begun in
-    let made : Contains held.made pair =
-    Contains-permutation (runs ++ get_or maker.begun i []) held.made pair (IsPermutation-sym held.made (runs ++ get_or maker.begun i []) held.all) there in
-    on_one_of (spec_at maker.specs i) (received_images maker.schema intake) held.made pair held.have made
-
--- a pair that a worker spools is on an image that it has received then
-pub spooled_received :
+-- what a worker held, with the images that it took since, is the pairs of all images that it received
+pub with_received :
     (intake after : IntakeValue) (maker new : MakerValue) (spools : List SpoolValue) → IsHolding intake maker spools → new.specs ≡ maker.specs
-    → new.schema ≡ maker.schema → after.build ≡ intake.build → TakesSome intake.end after.end → (i : ℕ) → i < length maker.specs
-    → (pair : Pair) → IsBegunOrOnOneOf maker.specs (received_images maker.schema after) maker.begun i pair
-    → IsOnOneOf (spec_at new.specs i) (received_images new.schema after) pair
-spooled_received intake after maker new spools holds specs schema build took i lt pair is =
-    let old = received_images maker.schema intake in
-    let all : received_images maker.schema after ≡ old ++ next_images took.0 maker.schema intake =
-    received_after took.0 maker.schema intake after build took.2 in
-    let its : IsOnOneOf (spec_at maker.specs i) (received_images maker.schema after) pair = elim is [
-      | inl begun ↦
-          subst (λ (images : List ImageValue). IsOnOneOf (spec_at maker.specs i) images pair) (sym all)
-          (on_before (spec_at maker.specs i) old (next_images took.0 maker.schema intake) pair (begun_received intake maker spools holds i lt pair begun))
-      | inr on ↦ on
-    ] in
-    subst (λ (kinds : List Kind). IsOnOneOf (spec_at new.specs i) (received_images kinds after) pair) (sym schema)
-    (subst (λ (ss : List KeySpecValue). IsOnOneOf (spec_at ss i) (received_images maker.schema after) pair) (sym specs) its)
+    → new.schema ≡ maker.schema → after.build ≡ intake.build → (i : ℕ) → i < length maker.specs → (pairs : List Pair)
+    → AreHeldWithTaken maker.specs maker.schema intake after (holdings maker spools) i pairs
+    → (more : List Pair) × HavePairs (spec_at new.specs i) (received_images new.schema after) more × AreSomeOf pairs more
+with_received intake after maker new spools holds specs schema build i lt pairs are =
+    let spec = spec_at maker.specs i in
+    let held = holds.holds i lt in
+    let taken = are.2 in
+    let made = held.made ++ taken.0 in
+    let have : HavePairs spec (received_images maker.schema after) made =
+    subst (λ (xs : List ImageValue). HavePairs spec xs made) (sym (received_after are.0 maker.schema intake after build are.1))
+    (have_append spec (received_images maker.schema intake) (next_images are.0 maker.schema intake) held.made taken.0 held.have taken.1) in
+    let same : IsPermutation (held_at i (holdings maker spools) ++ taken.0) made =
+    IsPermutation-append_left taken.0 (held_at i (holdings maker spools)) held.made (IsPermutation-sym held.made (held_at i (holdings maker spools)) held.all) in (
+      made,
+      rw (specs, schema) have,
+      subst (λ (ps : List Pair). AreSomeOf ps made) (sym taken.2) (all_of (held_at i (holdings maker spools) ++ taken.0) made same),
+    )

@@ -1,5 +1,5 @@
 -- A worker goes on taking what was put for its build.
-use Rattle.std.proofs.Common.{◌≡◌, ℕ, ◌+◌, ◌%◌, ◌<◌, ◌≤◌, true, List, [], ◌∷◌, ◌++◌, length, take, drop, append_assoc, append-nil, refl, sym}
+use Rattle.std.proofs.Common.{◌≡◌, ℕ, ◌+◌, ◌%◌, ◌<◌, ◌≤◌, true, List, [], ◌∷◌, ◌++◌, length, min, take, drop, append_assoc, append-nil, refl, sym}
 use Rattle.std.proofs.Common.{ap, ◌∙◌, subst, arith, length-append, take-append-drop}
 use Rattle.std.specs.Prelude.{IsPermutation}
 use Rattle.std.specs.List.{All}
@@ -86,14 +86,14 @@ module _ (build : ℕ) (kinds : List Kind) (sent : List Copied) (worker : Intake
 
   module _ (n : ℕ) (in_order : worker.end.received ++ worker.end.known ≡ sent) where
     -- it has an image of its build for each copy that it sees
-    pub next_count : n ≤ length worker.end.known → length (next_images n kinds worker) ≡ n
-    next_count few =
+    pub next_count : length (next_images n kinds worker) ≡ min n (length worker.end.known)
+    next_count =
         let own = All-take (IsFor build kinds) n worker.end.known (sees_own worker.end.known in_order) in
         let count = own_images build kinds (take n worker.end.known) own in
         let taken = length-take n worker.end.known in
         let here : length (next_images n kinds worker) ≡ length (images_of build kinds (take n worker.end.known)) =
         ap (λ b. length (images_of b kinds (take n worker.end.known))) taking.of_build in
-        omega (arith, count, taken, here, few)
+        omega (arith, count, taken, here)
 
     -- it takes the next copies
     pub digested_taking : IsTaking build kinds sent (after_digest n kinds worker)

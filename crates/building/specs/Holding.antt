@@ -1,15 +1,11 @@
 -- What a worker's maker and spools hold of the copies that it took: of each index the pairs in closed runs, and those in no run yet.
-use Rattle.std.specs.Prelude.{◌≡◌, ◌⊎◌, ℕ, ◌<◌, ◌%◌, List, [], ◌++◌, length, get_or, IsPermutation}
+use Rattle.std.specs.Prelude.{◌≡◌, ℕ, ◌<◌, ◌%◌, List, ◌++◌, length, IsPermutation}
 use Rattle.keybytes.specs.Keys.{KeySpecValue}
 use Rattle.keybytes.specs.declared.pair.Pair.{Pair}
 use Rattle.heap_table.specs.Images.{ImageValue}
 use Rattle.run_spool.specs.Spools.{all_pairs}
-use Rattle.run_maker.specs.Making.{Holdings, AddsAt, IsBegun, spec_at}
-use Rattle.building.specs.ImagePairs.{HavePairs, IsOnOneOf}
-
--- the pairs that are held of index i
-abbrev pub held_at : ℕ → Holdings → List Pair
-held_at i holdings = all_pairs (get_or holdings.runs i []) ++ get_or holdings.begun i []
+use Rattle.run_maker.specs.Making.{Holdings, AddsAt, held_at, spec_at}
+use Rattle.building.specs.ImagePairs.{HavePairs}
 
 -- each index is held with the pairs of these images more, and closes a run as soon as 4,096 are in none
 abbrev pub TakesAll : List KeySpecValue → List ImageValue → Holdings → Holdings → Type 0
@@ -32,6 +28,6 @@ pub record HoldsOpen (spec : KeySpecValue) (images : List ImageValue) (begun : L
   pub since_seal : HavePairs spec images last
   pub open_run : length begun ≡ length last % 4096
 
--- a pair of index i that was in no run yet, or is that of a row on one of these images
-abbrev pub IsBegunOrOnOneOf : List KeySpecValue → List ImageValue → List (List Pair) → ℕ → Pair → Type 0
-IsBegunOrOnOneOf specs images begun i pair = IsBegun begun i pair ⊎ IsOnOneOf (spec_at specs i) images pair
+-- the pairs that are held of index i, with those of these images behind them
+abbrev pub AreHeldWith : List KeySpecValue → List ImageValue → Holdings → ℕ → List Pair → Type 0
+AreHeldWith specs images held i pairs = (made : List Pair) × HavePairs (spec_at specs i) images made × (pairs ≡ held_at i held ++ made)

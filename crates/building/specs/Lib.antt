@@ -7,3 +7,4 @@ pub mod Work
 pub mod IntakeValue
 pub mod SpoolValue
 pub mod WorkerValue
+pub mod Turns

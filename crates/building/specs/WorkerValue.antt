@@ -9,11 +9,10 @@ use Rattle.heap_table.specs.Images.{ImageValue}
 use Rattle.run_spool.specs.Spools.{AreSorted}
 use Rattle.run_maker.specs.Making.{MakerValue, AreReady, Holdings, spec_at}
 use Rattle.building.specs.Holding.{HoldsPairs, HoldsOpen}
-use Rattle.building.specs.ImagePairs.{IsOnOneOf}
+use Rattle.building.specs.ImagePairs.{HavePairs}
 use Rattle.building.specs.IntakeValue.{IntakeValue}
 use Rattle.building.specs.SpoolValue.{SpoolValue, runs_of, open_runs_of, stakes_of}
 use Rattle.building.specs.Taking.{received_images, unsealed_images}
-use Rattle.building.specs.Work.{next_images, after_digest, after_seal}
 
 -- its number, how far it is with its ring, its maker, its spools, one for each index, whether these went to the indexes, and the fault
 -- that stopped it
@@ -47,17 +46,9 @@ pub record IsHolding (intake : IntakeValue) (maker : MakerValue) (spools : List 
   pub holds : (i : ℕ) → i < length maker.specs → HoldsAt i (spec_at maker.specs i) (received_images maker.schema intake) (holdings maker spools)
   pub opened : (i : ℕ) → i < length maker.specs → HoldsOpen (spec_at maker.specs i) (unsealed_images maker.schema intake) (get_or maker.begun i [])
 
--- a pair of index i that is that of a row on one of the images of its build that the worker received
-abbrev pub HasReceived : WorkerValue → ℕ → Pair → Type 0
-HasReceived worker i pair = IsOnOneOf (spec_at worker.maker.specs i) (received_images worker.maker.schema worker.intake) pair
-
--- the next copy that the worker has seen is one of its build
-abbrev pub SeesOwnCopy : WorkerValue → Type 0
-SeesOwnCopy worker = length (next_images 1 worker.maker.schema worker.intake) ≡ 1
-
--- the worker has seen a copy that it hasn't taken
-abbrev pub SeesCopy : WorkerValue → Type 0
-SeesCopy worker = 0 < length worker.intake.end.known
+-- the pairs of index i of the images of its build that the worker received
+abbrev pub HasReceived : WorkerValue → ℕ → List Pair → Type 0
+HasReceived worker i pairs = HavePairs (spec_at worker.maker.specs i) (received_images worker.maker.schema worker.intake) pairs
 
 -- memory or a page was missing
 abbrev pub IsShortage : Fault → Type 0
@@ -72,14 +63,3 @@ pub record SameWorker (old new : WorkerValue) : Type 0 where
   pub specs : new.maker.specs ≡ old.maker.specs
   pub stakes : stakes_of new.spools ≡ stakes_of old.spools
   pub handed : new.handed ≡ old.handed
-
--- it took the next n copies that it had seen, so many of them of its build
-pub record HasTaken (n images : ℕ) (old new : WorkerValue) : Type 0 where
-  pub counted : images ≡ length (next_images n old.maker.schema old.intake)
-  pub intake : new.intake ≡ after_digest n old.maker.schema old.intake
-
--- it took all copies that it had seen, and closed its runs
-pub record HasSealed (images : ℕ) (old new : WorkerValue) : Type 0 where
-  pub counted : images ≡ length (next_images (length old.intake.end.known) old.maker.schema old.intake)
-  pub intake : new.intake ≡ after_seal (after_digest (length old.intake.end.known) old.maker.schema old.intake)
-  pub closed : All (λ begun. begun ≡ []) new.maker.begun

@@ -2,15 +2,17 @@ ghost use Rattle.std.specs.Prelude.{◌≡◌, ◌<◌, ◌≤◌, ◌⊎◌, �
 ghost use Rattle.std.specs.Prelude.{IfErr, IfOk, OnOk, OnErr};
 ghost use Rattle.side_file.specs.Ends.{ring_take};
 ghost use Rattle.heap_table.specs.Images.{IsReadable};
-ghost use Rattle.run_spool.specs.Spools.{AreSorted, HasFullFor, NoPageOnlyIf};
+ghost use Rattle.run_spool.specs.Spools.{AreSorted, NoPageOnlyIf};
+ghost use Rattle.run_maker.specs.FullSpools.{HasFullOf};
 ghost use Rattle.run_maker.specs.Making.{AreReady};
 ghost use Rattle.run_maker.specs.Spooling.{MemoryOnlyIf};
-ghost use Rattle.building.specs.Holding.{TakesAll, HoldsMore, IsBegunOrOnOneOf};
+ghost use Rattle.building.specs.Holding.{AreHeldWith, TakesAll, HoldsMore};
 ghost use Rattle.building.specs.TakeEnd.{take_end, after_taking, PutEndLooked};
-ghost use Rattle.building.specs.Taking.{received_images};
-ghost use Rattle.building.specs.Work.{at_start, IsIntake, StopsAfter, knowing, next_images, after_digest, after_seal};
+ghost use Rattle.building.specs.Turns.{AreHeldWithTaken, SawCopies, TurnHolds, after_turn, marked, turn_images};
+ghost use Rattle.building.specs.Work.{at_start, IsIntake, StopsAfter, TakesSome, knowing, next_images, after_digest, after_seal};
+ghost use Rattle.building.specs.WorkerValue.{IsShortage};
 
-use crate::{Copied, PagePutter};
+use crate::{Copied, PagePutter, Turn};
 use keybytes::Fault;
 use rtrb::Consumer;
 use run_maker::Maker;
@@ -144,7 +146,8 @@ impl Intake {
         ensures unsealed { self.new.sealed ≡ self.old.sealed }
         ensures fault { IfErr result (λ fault. (fault ≡ Fault.NoPage) ⊎ (fault ≡ Fault.Memory)) }
         ensures full { IfErr result (NoPageOnlyIf
-            (HasFullFor S.is_full (IsBegunOrOnOneOf maker.old.specs (next_images 1 maker.old.schema self.old) maker.old.begun) spools.new)) }
+            (HasFullOf S.is_full S.runs S.open_run
+            (AreHeldWith maker.old.specs (next_images 1 maker.old.schema self.old) (record { runs = map S.runs spools.old; begun = maker.old.begun })) spools.new)) }
         ensures want { IfErr result (MemoryOnlyIf (AreReady (map S.runs spools.new) (map S.open_run spools.new))) }
     {
         if self.seen() == 0 {
@@ -186,7 +189,8 @@ impl Intake {
         ensures failed { OnErr result ((n : ℕ) × (n ≤ length self.old.end.known) × StopsAfter n maker.old.schema self.old self.new) }
         ensures fault { IfErr result (λ fault. (fault ≡ Fault.NoPage) ⊎ (fault ≡ Fault.Memory)) }
         ensures full { IfErr result (NoPageOnlyIf
-            (HasFullFor S.is_full (IsBegunOrOnOneOf maker.old.specs (received_images maker.old.schema self.new) maker.old.begun) spools.new)) }
+            (HasFullOf S.is_full S.runs S.open_run
+            (AreHeldWithTaken maker.old.specs maker.old.schema self.old self.new (record { runs = map S.runs spools.old; begun = maker.old.begun })) spools.new)) }
         ensures want { IfErr result (MemoryOnlyIf (AreReady (map S.runs spools.new) (map S.open_run spools.new))) }
     {
         maker.laws();
@@ -196,15 +200,54 @@ impl Intake {
         }
         maker.laws();
         maker.seal(spools)?;
-        self.mark_sealed();
+        self.mark(Turn::Seal);
         Ok(images)
     }
 
-    /// All that it took counts as sealed.
-    pub(crate) fn mark_sealed(&mut self)
-        ensures { self.new ≡ after_seal self.old }
+    /// Takes what that turn asks, as [`Intake::digest`] or [`Intake::seal`].
+    pub(crate) fn take<S: Spool>(
+        &mut self,
+        turn: Turn,
+        maker: &mut Maker,
+        spools: &mut [S],
+    ) -> Result<usize, Fault>
+        requires spools { length spools.old ≡ length maker.old.specs }
+        requires ready { AreReady (map S.runs spools.old) (map S.open_run spools.old) }
+        ensures count { IfOk result (λ images. images ≡ length (turn_images turn maker.old.schema self.old)) }
+        ensures taken { OnOk result (self.new ≡ after_turn turn maker.old.schema self.old) }
+        ensures holds { OnOk result (TurnHolds turn maker.old.specs (turn_images turn maker.old.schema self.old)
+            (record { runs = map S.runs spools.old; begun = maker.old.begun }) (record { runs = map S.runs spools.new; begun = maker.new.begun })) }
+        ensures closed { OnOk result (turn ≡ Turn.Seal → All (λ begun. begun ≡ []) maker.new.begun) }
+        ensures ready { OnOk result (AreReady (map S.runs spools.new) (map S.open_run spools.new)) }
+        ensures sorted { All AreSorted (map S.runs spools.old) → All AreSorted (map S.runs spools.new) }
+        ensures stakes { map S.stake spools.new ≡ map S.stake spools.old }
+        ensures schema { maker.new.schema ≡ maker.old.schema }
+        ensures specs { maker.new.specs ≡ maker.old.specs }
+        ensures readable { OnOk result (All IsReadable (turn_images turn maker.old.schema self.old)) }
+        ensures build { self.new.build ≡ self.old.build }
+        ensures ring { self.new.end.ring ≡ self.old.end.ring }
+        ensures took { OnErr result (TakesSome self.old.end self.new.end) }
+        ensures copies { IfErr result (SawCopies turn maker.old.schema self.old) }
+        ensures fault { IfErr result IsShortage }
+        ensures full { IfErr result (NoPageOnlyIf
+            (HasFullOf S.is_full S.runs S.open_run
+            (AreHeldWithTaken maker.old.specs maker.old.schema self.old self.new (record { runs = map S.runs spools.old; begun = maker.old.begun })) spools.new)) }
+        ensures want { IfErr result (MemoryOnlyIf (AreReady (map S.runs spools.new) (map S.open_run spools.new))) }
     {
-        self.sealed = self.taken;
+        match turn {
+            Turn::Digest => self.digest(maker, spools),
+            Turn::Seal => self.seal(maker, spools),
+        }
+    }
+
+    /// At a seal all that it took counts as sealed.
+    pub(crate) fn mark(&mut self, turn: Turn)
+        ensures { self.new ≡ marked turn self.old }
+    {
+        match turn {
+            Turn::Digest => {}
+            Turn::Seal => self.sealed = self.taken,
+        }
     }
 
     // How many copies it has seen.

@@ -1,13 +1,10 @@
-ghost use Rattle.std.specs.Prelude.{◌≡◌, ◌+◌, ◌++◌, ◌<◌, ◌≤◌, [], All, length, map, slice_get, true, false, Some, None, Err, IfOk, IfErr, IfSome, OnOk, OnErr};
-ghost use Rattle.run_spool.specs.Spools.{NoPageOnlyIf};
-ghost use Rattle.run_maker.specs.Making.{AreReady};
-ghost use Rattle.run_maker.specs.Spooling.{MemoryOnlyIf};
-ghost use Rattle.building.specs.SpoolValue.{HaveFullFor, spool_value, runs_of, open_runs_of};
+ghost use Rattle.std.specs.Prelude.{◌≡◌, ◌+◌, ◌++◌, ◌<◌, ◌≤◌, [], All, length, map, slice_get, true, false, Some, None, IfSome};
+ghost use Rattle.building.specs.SpoolValue.{spool_value};
 ghost use Rattle.building.specs.TakeEnd.{PutEndLooked};
-ghost use Rattle.building.specs.Work.{at_start, knowing, TakesSome};
-ghost use Rattle.building.specs.WorkerValue.{HasReceived, HasTaken, IsCounting, IsHolding, IsShortage, SameWorker, SeesOwnCopy};
+ghost use Rattle.building.specs.Work.{at_start, knowing};
+ghost use Rattle.building.specs.WorkerValue.{IsCounting, IsHolding, IsShortage};
 
-mod sealing;
+mod turns;
 
 use crate::{Intake, PagePutter, Table};
 use keybytes::Fault;
@@ -170,41 +167,6 @@ impl<S: Spool, T: Table> Worker<S, T> {
         ensures free { 4 ≤ putter.new.free + result }
     {
         self.intake.waiting(putter)
-    }
-
-    /// Takes the next copy that it has seen, makes its pairs, spools those that fill a run, and answers 1. The answer is 0 where it has seen
-    /// none, and where the copy is of another build or of other columns, and so is dropped; and where its spools went to the indexes, and it takes
-    /// nothing.
-    pub fn digest(&mut self) -> Result<usize, Fault>
-        ensures same { SameWorker self.old self.new }
-        ensures again { (fault : Fault) → self.old.fault ≡ Some fault → (result ≡ Err fault) × (self.new ≡ self.old) }
-        ensures sound { OnOk result ((self.old.fault ≡ None) × (self.new.fault ≡ None)) }
-        ensures taken { IfOk result (λ images. self.old.handed ≡ false → HasTaken 1 images self.old self.new) }
-        ensures handed { IfOk result (λ images. self.old.handed ≡ true → (images ≡ 0) × (self.new ≡ self.old)) }
-        ensures fault { IfErr result (λ fault. self.new.fault ≡ Some fault) }
-        ensures short { IfErr result IsShortage }
-        ensures took { OnErr result (TakesSome self.old.intake.end self.new.intake.end) }
-        ensures copy { self.old.fault ≡ None → OnErr result ((self.old.handed ≡ false) × SeesOwnCopy self.old) }
-        ensures full { self.old.fault ≡ None → IfErr result (NoPageOnlyIf
-            (HaveFullFor S.is_full S.runs S.open_run S.stake (HasReceived self.new) self.new.spools)) }
-        ensures want { self.old.fault ≡ None → IfErr result (MemoryOnlyIf (AreReady (runs_of self.new.spools) (open_runs_of self.new.spools))) }
-    {
-        if let Some(fault) = self.fault {
-            return Err(fault);
-        }
-        if self.handed {
-            return Ok(0);
-        }
-        match self.intake.digest(&mut self.maker, &mut self.spools) {
-            Ok(images) => {
-                self.maker.laws();
-                Ok(images)
-            }
-            Err(fault) => {
-                self.fault = Some(fault);
-                Err(fault)
-            }
-        }
     }
 
     /// Gives its spools away, to the indexes whose pairs they have; from then on it takes no copy.

@@ -1,22 +1,20 @@
 //! The steps of a build in which its workers have a part, with both ends of their rings at hand.
 ghost use Rattle.std.specs.Prelude.{◌≡◌, ◌++◌, ◌<◌, ◌≤◌, ◌+◌, All, length, slice_get, false, Some, None, IsSome, IfSome, IfOk, IfErr, OnOk, OnErr, MatchOption, MatchResult};
 ghost use Rattle.side_file.specs.Ends.{PutEnd};
-ghost use Rattle.run_spool.specs.Spools.{NoPageOnlyIf};
-ghost use Rattle.run_maker.specs.Spooling.{MemoryOnlyIf};
 ghost use Rattle.build_work.specs.Keeping.{KeepsLaws};
 ghost use Rattle.building.specs.declared.copied.Copied.{Copied};
 ghost use Rattle.build_halves.specs.Builds.{core_state, cause_of, put_refusal, HasLooked, SeesRing, IsLoading, MayWork, MayLoad, WorksOn};
 ghost use Rattle.build_halves.specs.Switching.{HaveAll, IsLowestUnsealed};
-ghost use Rattle.build_halves.specs.FullSpools.{WorkerWasFull};
+ghost use Rattle.build_halves.specs.Turns.{HasTurn, IsTurnRefused};
 ghost use Rattle.build_work.specs.Rings.{all_sent, AreSealed, FirstAreSealed, IsUnsealed};
 ghost use Rattle.build_halves.specs.Rings.{PagesFollow};
-ghost use Rattle.build_events.specs.BuildSteps.{Waits, Digests, Seals, Loads};
-ghost use Rattle.build_events.specs.Steps.{spoiled_by, IsWorkWant};
+ghost use Rattle.build_events.specs.BuildSteps.{Loads};
+ghost use Rattle.build_events.specs.Steps.{spoiled_by};
 ghost use Rattle.build_events.specs.Workers.{index_at};
 ghost use Rattle.build_events.specs.declared.event.Event.{Event};
 
 use crate::{Building, Live, Table};
-use building::RING_IMAGES;
+use building::{RING_IMAGES, Turn};
 use keybytes::Fault;
 use run_spool::Spool;
 
@@ -107,17 +105,12 @@ impl<T: Table> Live<T> {
     ) -> Result<usize, Fault>
         requires works { WorksOn self.old building.old }
         requires runs { MayWork self.old building.old worker }
-        ensures waits { OnErr result (Waits worker (core_state self.old building.old)) }
-        ensures digested { IfOk result (λ images. Digests worker (core_state self.old building.old) images (core_state self.new building.new)) }
-        ensures spoiled { IfErr result (λ fault. core_state self.new building.new ≡ spoiled_by fault (core_state self.old building.old)) }
+        ensures done { IfOk result (λ images. HasTurn Turn.Digest worker (core_state self.old building.old) images (core_state self.new building.new)) }
+        ensures refused { IfErr result (λ fault.
+            IsTurnRefused S.is_full S.runs S.open_run S.stake Turn.Digest worker (core_state self.old building.old) fault (core_state self.new building.new)) }
         ensures works { WorksOn self.new building.new }
-        ensures fault { IfErr result IsWorkWant }
-        ensures full { IfErr result (NoPageOnlyIf (WorkerWasFull S.is_full S.stake (core_state self.old building.old) worker)) }
     {
-        if self.look(worker, building) == 0 {
-            return Ok(0);
-        }
-        building.digest(worker)
+        self.take(worker, Turn::Digest, building)
     }
 
     /// Lets the worker take all copies that wait and close its runs, and answers how many it took. Want of
@@ -129,15 +122,30 @@ impl<T: Table> Live<T> {
     ) -> Result<usize, Fault>
         requires works { WorksOn self.old building.old }
         requires runs { MayWork self.old building.old worker }
-        ensures waits { IfErr result (MemoryOnlyIf (Waits worker (core_state self.old building.old))) }
-        ensures sealed { IfOk result (λ images. Seals worker (core_state self.old building.old) images (core_state self.new building.new)) }
-        ensures spoiled { IfErr result (λ fault. core_state self.new building.new ≡ spoiled_by fault (core_state self.old building.old)) }
+        ensures done { IfOk result (λ images. HasTurn Turn.Seal worker (core_state self.old building.old) images (core_state self.new building.new)) }
+        ensures refused { IfErr result (λ fault.
+            IsTurnRefused S.is_full S.runs S.open_run S.stake Turn.Seal worker (core_state self.old building.old) fault (core_state self.new building.new)) }
         ensures works { WorksOn self.new building.new }
-        ensures fault { IfErr result IsWorkWant }
-        ensures full { IfErr result (NoPageOnlyIf (WorkerWasFull S.is_full S.stake (core_state self.old building.old) worker)) }
+    {
+        self.take(worker, Turn::Seal, building)
+    }
+
+    /// Lets the worker do what that turn asks, with both ends of its ring at hand.
+    fn take<S: Spool>(
+        &mut self,
+        worker: usize,
+        turn: Turn,
+        building: &mut Building<S, T>,
+    ) -> Result<usize, Fault>
+        requires works { WorksOn self.old building.old }
+        requires runs { MayWork self.old building.old worker }
+        ensures done { IfOk result (λ images. HasTurn turn worker (core_state self.old building.old) images (core_state self.new building.new)) }
+        ensures refused { IfErr result (λ fault.
+            IsTurnRefused S.is_full S.runs S.open_run S.stake turn worker (core_state self.old building.old) fault (core_state self.new building.new)) }
+        ensures works { WorksOn self.new building.new }
     {
         self.look(worker, building);
-        building.seal(worker)
+        building.take(worker, turn)
     }
 
     /// Why the pairs of the index would not be put in order, with both ends of the rings at hand. Takes no memory.

@@ -1,10 +1,11 @@
 -- The pairs on a copy of a page, slot by slot.
-use Rattle.std.proofs.Common.{◌≡◌, ℕ, zero, suc, zero-add, ◌+◌, ◌-◌, ◌<◌, false, List, [], ◌∷◌, ◌++◌, All, length, get_or, Option, Some, None}
-use Rattle.std.proofs.Common.{refl, sym, ap, ◌∙◌, subst, inl, inr, arith}
-use Rattle.std.specs.Prelude.{Contains, filter_map}
+use Rattle.std.proofs.Common.{◌≡◌, ℕ, zero, suc, zero-add, ◌+◌, ◌-◌, ◌<◌, false, List, [], ◌∷◌, ◌++◌, All, append_assoc, append-nil, length, Option, Some, None}
+use Rattle.std.proofs.Common.{refl, sym, ap, ◌∙◌, subst, arith}
+use Rattle.std.specs.Prelude.{IsPermutation, filter_map}
 use Rattle.std.specs.List.{range_with_len, cons_option}
 use Rattle.std.specs.Option.{option_to_list}
-use Rattle.std.proofs.lemmas.List.Elements.{All-contains, Contains-append_cases, Contains-append_left, Contains-append_right, filter_map-append}
+use Rattle.std.proofs.lemmas.List.Elements.{filter_map-append}
+use Rattle.std.proofs.lemmas.List.Sorted.{IsPermutation-append_left, IsPermutation-sym}
 use Rattle.keybytes.specs.Keys.{KeySpecValue}
 use Rattle.keybytes.specs.Pairs.{pair_with}
 use Rattle.keybytes.specs.declared.cell.Cell.{Cell}
@@ -13,8 +14,10 @@ use Rattle.keybytes.specs.declared.pair.Pair.{Pair}
 use Rattle.heap_table.specs.Images.{ImageValue, HasRows, Shows, image_slot}
 use Rattle.heap_table.specs.Pages.{rid_at}
 use Rattle.heap_table.proofs.KeptFacts.{range_more}
-use Rattle.run_maker.specs.ImagePairs.{HasPairs, IsOnCopy}
-use Rattle.run_maker.specs.Making.{IsBegunOrOfRow, IsBegunOrOnCopy, spec_at}
+use Rattle.run_maker.specs.FullSpools.{AreSomeOf}
+use Rattle.run_maker.specs.ImagePairs.{HasPairs}
+use Rattle.run_maker.specs.Making.{AreHeldWithCopy, AreHeldWithRow, Holdings, held_at, spec_at}
+use Rattle.run_maker.proofs.FullSpools.{all_of, first_of, some_of_some}
 
 -- the pairs of the rows in the first slots of a page
 abbrev pub pairs_before : KeySpecValue → ℕ → (ℕ → Option (List Cell)) → ℕ → List Pair
@@ -38,20 +41,21 @@ slot_more spec page rows slot o is =
     ∙ ap (λ x. pairs_before spec page rows slot ++ cons_option x []) is
     ∙ ap (λ ps. pairs_before spec page rows slot ++ ps) (alone o)
 
--- the pairs up to a slot are among those up to a later one
-pub later_slots :
-    (spec : KeySpecValue) (page : ℕ) (rows : ℕ → Option (List Cell)) (slots more : ℕ) (pair : Pair) → Contains (pairs_before spec page rows slots) pair
-    → Contains (pairs_before spec page rows (slots + more)) pair
-later_slots spec page rows slots zero pair here =
-    let same : slots ≡ slots + 0 = omega arith in
-    subst (λ n. Contains (pairs_before spec page rows n) pair) same here
-later_slots spec page rows slots (suc more) pair here =
+-- the pairs up to a slot are the first of those up to a later one
+later_slots :
+    (spec : KeySpecValue) (page : ℕ) (rows : ℕ → Option (List Cell)) (slots more : ℕ)
+    → (rest : List Pair) × (pairs_before spec page rows (slots + more) ≡ pairs_before spec page rows slots ++ rest)
+later_slots spec page rows slots zero =
+    let same : slots + 0 ≡ slots = omega arith in
+    ([], ap (pairs_before spec page rows) same ∙ sym (append-nil (pairs_before spec page rows slots)))
+later_slots spec page rows slots (suc more) =
     let last = pair_with spec (rid_at page (slots + more)) (rows (slots + more)) in
-    let next : (slots + more) + 1 ≡ slots + suc more = omega arith in
-    let was = later_slots spec page rows slots more pair here in
-    subst (λ n. Contains (pairs_before spec page rows n) pair) next
-    (rw (slot_more spec page rows (slots + more) last refl)
-    (Contains-append_left (pairs_before spec page rows (slots + more)) (option_to_list last) pair was))
+    let next : slots + suc more ≡ (slots + more) + 1 = omega arith in
+    let was = later_slots spec page rows slots more in (
+      was.0 ++ option_to_list last,
+      ap (pairs_before spec page rows) next ∙ slot_more spec page rows (slots + more) last refl ∙ ap (λ (ps : List Pair). ps ++ option_to_list last) was.1
+          ∙ append_assoc (pairs_before spec page rows slots) was.0 (option_to_list last),
+    )
 
 -- on a copy with these rows
 module _
@@ -67,31 +71,30 @@ module _
         pairs_are = refl;
       }
 
-  -- a pair that is spooled for a row was begun before the copy, or is on it
+  -- what is held with the pair of a row on it is some of what was held before the copy, with the copy's pairs
   pub of_copy :
-      (slot : ℕ) → slot < length image.slots → (old now : List (List Pair))
-      → All (Contains (get_or old i [] ++ pairs_before (spec_at specs i) image.page rows slot)) (get_or now i [])
-      → (pair : Pair) → IsBegunOrOfRow specs (rid_at image.page slot) (rows slot) now i pair → IsBegunOrOnCopy specs image old i pair
-  of_copy slot inside old now kept pair is =
+      (slot : ℕ) → slot < length image.slots → (old now : Holdings)
+      → IsPermutation (held_at i old ++ pairs_before (spec_at specs i) image.page rows slot) (held_at i now)
+      → (pairs : List Pair) → AreHeldWithRow specs (rid_at image.page slot) (rows slot) now i pairs
+      → (more : List Pair) × AreHeldWithCopy specs image old i more × AreSomeOf pairs more
+  of_copy slot inside old now held pairs are =
       let spec = spec_at specs i in
-      let last : Option Pair = pair_with spec (rid_at image.page slot) (rows slot) in
-      let more : pairs_before spec image.page rows (slot + 1) ≡ pairs_before spec image.page rows slot ++ option_to_list last =
-      slot_more spec image.page rows slot last refl in
-      let on : Contains (pairs_before spec image.page rows (slot + 1)) pair → IsOnCopy spec image pair =
-      λ here. record {
-        pairs = pairs_before spec image.page rows (length image.slots);
-        has = has_pairs;
-        among =
-            let all : (slot + 1) + (length image.slots - (slot + 1)) ≡ length image.slots = omega (arith, inside) in
-            subst (λ n. Contains (pairs_before spec image.page rows n) pair) all
-            (later_slots spec image.page rows (slot + 1) (length image.slots - (slot + 1)) pair here);
-      } in
-      elim (Contains-append_cases (get_or now i []) (option_to_list last) pair is) [
-        | inl begun ↦
-            let was = All-contains (Contains (get_or old i [] ++ pairs_before spec image.page rows slot)) (get_or now i []) pair kept begun in
-            elim (Contains-append_cases (get_or old i []) (pairs_before spec image.page rows slot) pair was) [
-              | inl before ↦ inl before
-              | inr made ↦ inr (on (rw more (Contains-append_left (pairs_before spec image.page rows slot) (option_to_list last) pair made)))
-            ]
-        | inr its ↦ inr (on (rw more (Contains-append_right (pairs_before spec image.page rows slot) (option_to_list last) pair its)))
-      ]
+      let before = pairs_before spec image.page rows slot in
+      let last : List Pair = option_to_list (pair_with spec (rid_at image.page slot) (rows slot)) in
+      let made = pairs_before spec image.page rows (length image.slots) in
+      let later = later_slots spec image.page rows (slot + 1) (length image.slots - (slot + 1)) in
+      let count : length image.slots ≡ (slot + 1) + (length image.slots - (slot + 1)) = omega (arith, inside) in
+      let whole : made ≡ (before ++ last) ++ later.0 =
+      ap (pairs_before spec image.page rows) count ∙ later.1
+      ∙ ap (λ (ps : List Pair). ps ++ later.0) (slot_more spec image.page rows slot (pair_with spec (rid_at image.page slot) (rows slot)) refl) in
+      let all : held_at i old ++ made ≡ ((held_at i old ++ before) ++ last) ++ later.0 =
+      ap (λ (ps : List Pair). held_at i old ++ ps) (whole ∙ append_assoc before last later.0) ∙ sym (append_assoc (held_at i old) before (last ++ later.0))
+      ∙ sym (append_assoc (held_at i old ++ before) last later.0) in
+      let some : AreSomeOf pairs ((held_at i old ++ before) ++ last) =
+      subst (λ (ps : List Pair). AreSomeOf ps ((held_at i old ++ before) ++ last)) (sym are)
+      (all_of (held_at i now ++ last) ((held_at i old ++ before) ++ last)
+      (IsPermutation-append_left last (held_at i now) (held_at i old ++ before) (IsPermutation-sym (held_at i old ++ before) (held_at i now) held))) in (
+        held_at i old ++ made,
+        (made, has_pairs, refl),
+        some_of_some pairs ((held_at i old ++ before) ++ last) (held_at i old ++ made) some (first_of ((held_at i old ++ before) ++ last) later.0 (held_at i old ++ made) all),
+      )

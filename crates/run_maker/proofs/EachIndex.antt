@@ -1,13 +1,11 @@
 -- Calls that go from index to index.
-use Rattle.std.proofs.Common.{◌≡◌, ◌≢◌, ℕ, ◌+◌, ◌<◌, List, [], All, length, get_or, set, map, Some, refl, sym, ap, ◌∙◌, subst, arith, inl, inr}
-use Rattle.std.specs.Prelude.{Contains}
+use Rattle.std.proofs.Common.{◌≡◌, ◌≢◌, ℕ, ◌+◌, ◌<◌, List, [], All, length, get_or, set, map, refl, sym, ◌∙◌, subst, arith, inl, inr}
 use Rattle.std.proofs.Math.ListN.{get_or-map}
 use Rattle.std.proofs.lemmas.Bool.{cases_eq}
-use Rattle.std.proofs.lemmas.List.{get_or-set_other, get_or-set_same, get_or_default, length-map, length-set, map-set}
+use Rattle.std.proofs.lemmas.List.{get_or-set_other, get_or-set_same, get_or_default, length-map, map-set}
 use Rattle.std.proofs.lemmas.List.Elements.{All-set}
-use Rattle.std.proofs.lemmas.Option.{slice_get-get_or}
 use Rattle.keybytes.specs.declared.pair.Pair.{Pair}
-use Rattle.run_spool.specs.Spools.{NoneEmpty, IsFullForOneOf, HasFullFor}
+use Rattle.run_spool.specs.Spools.{NoneEmpty}
 use Rattle.run_maker.specs.Making.{AreReady, Holdings, Reached}
 
 -- what f reads of one element
@@ -28,19 +26,6 @@ pub ready_after : {X : Type 0} (runs : X → List (List Pair)) (open_run : X →
 ready_after runs open_run xs i x none_empty none ready = record {
   none_empty = holds_after NoneEmpty runs xs i x none_empty ready.none_empty;
   open_none = holds_after (λ (run : List Pair). run ≡ []) open_run xs i x none ready.open_none;
-}
-
--- a spool that is full in place of another
-pub full_after :
-    {X : Type 0} (is_full : X → Pair → Type 0) (given : ℕ → Pair → Type 0) (pairs : List Pair) (xs : List X) (i : ℕ) (x : X) → i < length xs
-    → ((pair : Pair) → Contains pairs pair → given i pair) → IsFullForOneOf is_full pairs x → HasFullFor is_full given (set xs i x)
-full_after is_full given pairs xs i x lt of full = record {
-  index = i;
-  spool = x;
-  there = slice_get-get_or (set xs i x) i x (omega (arith, lt, length-set xs i x)) ∙ ap Some (get_or-set_same xs i x x lt);
-  pair = full.0;
-  was_given = of full.0 full.1;
-  full = full.2;
 }
 
 -- of no index anything yet

@@ -1,3 +1,4 @@
 pub mod CopyPairs
 pub mod EachIndex
+pub mod FullSpools
 pub mod Spoolings

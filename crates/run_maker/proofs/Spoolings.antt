@@ -1,10 +1,10 @@
 -- What a run that is spooled leaves, and pairs that are held one after another.
-use Rattle.std.proofs.Common.{◌≡◌, ℕ, ◌+◌, ◌%◌, ◌<◌, List, [], ◌∷◌, ◌++◌, length, reverse, append_assoc, append-nil, sym, ap, ◌∙◌, subst, arith, inl, inr}
-use Rattle.std.specs.Prelude.{Result, Ok, Err, OnOk, Contains, IsPermutation}
+use Rattle.std.proofs.Common.{◌≡◌, ℕ, ◌+◌, ◌%◌, ◌<◌, List, [], ◌∷◌, ◌++◌, length, reverse, append_assoc, append-nil, sym, ap, ◌∙◌, arith, inl, inr}
+use Rattle.std.specs.Prelude.{Result, Ok, Err, OnOk, Contains}
 use Rattle.std.specs.List.Sorted.{IsSorted}
 use Rattle.std.proofs.lemmas.List.{length_push, length-append, reverse-reverse}
-use Rattle.std.proofs.lemmas.List.Elements.{All-contains, All-contains_itself, All-nil, All-push, All-weaker, Contains-append_cases, Contains-append_left, Contains-append_right, Contains-push}
-use Rattle.std.proofs.lemmas.List.Sorted.{Contains-permutation, IsPermutation-append_left, IsPermutation-append_right, IsPermutation-refl, IsPermutation-reverse, IsPermutation-sym, IsPermutation-trans, length_permutation}
+use Rattle.std.proofs.lemmas.List.Elements.{All-contains, All-contains_itself, All-nil, All-push, All-weaker, Contains-append_cases, Contains-append_left, Contains-append_right}
+use Rattle.std.proofs.lemmas.List.Sorted.{IsPermutation-append_left, IsPermutation-append_right, IsPermutation-refl, IsPermutation-trans, length_permutation}
 use Rattle.std.proofs.lemmas.Grind.{flat_map-append}
 use Rattle.keybytes.specs.Pairs.{pair_cmp}
 use Rattle.keybytes.specs.declared.pair.Pair.{Pair}
@@ -87,17 +87,6 @@ adds_more made more runs0 begun0 runs1 begun1 runs2 begun2 first then =
 pub moved_all : (run sorted turned left : List Pair) → left ≡ [] → turned ≡ reverse sorted → run ++ reverse left ≡ reverse turned → run ≡ sorted
 moved_all run sorted turned left none is moved =
     sym (append-nil run) ∙ (ap (λ (ps : List Pair). run ++ reverse ps) (sym none) ∙ (moved ∙ (ap reverse is ∙ reverse-reverse sorted)))
-
--- a pair that is yet to be moved is one of those that were there
-pub was_there :
-    (pairs sorted turned run left rest : List Pair) (pair : Pair) → IsPermutation pairs sorted → turned ≡ reverse sorted
-    → run ++ reverse left ≡ reverse turned → left ≡ rest ++ pair ∷ [] → Contains pairs pair
-was_there pairs sorted turned run left rest pair same is moved last =
-    let here : Contains left pair = subst (λ (ps : List Pair). Contains ps pair) (sym last) (Contains-push rest pair) in
-    let behind : Contains (run ++ reverse left) pair =
-    Contains-append_right run (reverse left) pair (Contains-permutation left (reverse left) pair (IsPermutation-reverse left) here) in
-    let in_order : Contains sorted pair = subst (λ (ps : List Pair). Contains ps pair) (moved ∙ (ap reverse is ∙ reverse-reverse sorted)) behind in
-    Contains-permutation sorted pairs pair (IsPermutation-sym pairs sorted same) in_order
 
 -- what two clauses on one result say together
 pub both_ok : {T E P Q R : Type 0} (r : Result T E) → (P → Q → R) → OnOk r P → OnOk r Q → OnOk r R

@@ -1,5 +1,5 @@
 -- The pairs of the rows on copies of pages.
-use Rattle.std.specs.Prelude.{◌≡◌, ℕ, List, Contains, length, Option, filter_map}
+use Rattle.std.specs.Prelude.{◌≡◌, ℕ, List, length, Option, filter_map}
 use Rattle.std.specs.List.{range_with_len}
 use Rattle.keybytes.specs.Keys.{KeySpecValue}
 use Rattle.keybytes.specs.Pairs.{pair_with}
@@ -14,9 +14,3 @@ pub record HasPairs (spec : KeySpecValue) (image : ImageValue) (pairs : List Pai
   pub rows : ℕ → Option (List Cell)
   pub shows : (slot : ℕ) → Shows spec.kinds (image_slot image slot) (rows slot)
   pub pairs_are : pairs ≡ filter_map (λ slot. pair_with spec (rid_at image.page slot) (rows slot)) (range_with_len 0 (length image.slots))
-
--- the pair is that of a row on the copy
-pub record IsOnCopy (spec : KeySpecValue) (image : ImageValue) (pair : Pair) : Type 0 where
-  pub pairs : List Pair
-  pub has : HasPairs spec image pairs
-  pub among : Contains pairs pair

@@ -1,3 +1,4 @@
+pub mod FullSpools
 pub mod ImagePairs
 pub mod Making
 pub mod Spooling

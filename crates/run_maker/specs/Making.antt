@@ -1,5 +1,5 @@
 -- What a maker holds of each index, and what its calls make of it.
-use Rattle.std.specs.Prelude.{◌≡◌, ◌⊎◌, ℕ, ◌<◌, ◌≤◌, false, List, [], ◌++◌, All, Contains, length, get_or, Option}
+use Rattle.std.specs.Prelude.{◌≡◌, ℕ, ◌<◌, ◌≤◌, false, List, [], ◌++◌, All, length, get_or, Option}
 use Rattle.std.specs.Option.{option_to_list}
 use Rattle.keybytes.specs.Keys.{KeySpecValue}
 use Rattle.keybytes.specs.Pairs.{pair_with}
@@ -8,8 +8,8 @@ use Rattle.keybytes.specs.declared.kind.Kind.{Kind}
 use Rattle.keybytes.specs.declared.pair.Pair.{Pair}
 use Rattle.keybytes.specs.declared.rid.Rid.{Rid}
 use Rattle.heap_table.specs.Images.{ImageValue}
-use Rattle.run_spool.specs.Spools.{NoneEmpty}
-use Rattle.run_maker.specs.ImagePairs.{HasPairs, IsOnCopy}
+use Rattle.run_spool.specs.Spools.{NoneEmpty, all_pairs}
+use Rattle.run_maker.specs.ImagePairs.{HasPairs}
 use Rattle.run_maker.specs.Spooling.{Spooled, Adds}
 
 -- the table's columns, the specifications of the indexes, and the pairs of each index that are in no run yet
@@ -32,6 +32,10 @@ pub record Holdings : Type 0 where
   pub runs : List (List (List Pair))
   pub begun : List (List Pair)
 
+-- the pairs that are held of index i
+abbrev pub held_at : ℕ → Holdings → List Pair
+held_at i held = all_pairs (get_or held.runs i []) ++ get_or held.begun i []
+
 -- index i is held with these pairs more
 abbrev pub AddsAt : ℕ → List Pair → Holdings → Holdings → Type 0
 AddsAt i made old new = Adds made (get_or old.runs i []) (get_or old.begun i []) (get_or new.runs i []) (get_or new.begun i [])
@@ -48,17 +52,17 @@ Takes specs image old new = (i : ℕ) → i < length specs → (made : List Pair
 abbrev pub Seals : Holdings → List (List (List Pair)) → Type 0
 Seals old runs = (i : ℕ) → i < length old.begun → Spooled (get_or old.begun i []) (get_or old.runs i []) (get_or runs i [])
 
--- a pair of index i that was in no run yet
-abbrev pub IsBegun : List (List Pair) → ℕ → Pair → Type 0
-IsBegun begun i pair = Contains (get_or begun i []) pair
+-- these are held of index i
+abbrev pub AreHeld : Holdings → ℕ → List Pair → Type 0
+AreHeld held i pairs = pairs ≡ held_at i held
 
--- or that of a row, if there is one
-abbrev pub IsBegunOrOfRow : List KeySpecValue → Rid → Option (List Cell) → List (List Pair) → ℕ → Pair → Type 0
-IsBegunOrOfRow specs rid row begun i pair = Contains (get_or begun i [] ++ option_to_list (pair_with (spec_at specs i) rid row)) pair
+-- or are held with the pair of a row behind them, if there is a row
+abbrev pub AreHeldWithRow : List KeySpecValue → Rid → Option (List Cell) → Holdings → ℕ → List Pair → Type 0
+AreHeldWithRow specs rid row held i pairs = pairs ≡ held_at i held ++ option_to_list (pair_with (spec_at specs i) rid row)
 
--- or that of a row on a copy
-abbrev pub IsBegunOrOnCopy : List KeySpecValue → ImageValue → List (List Pair) → ℕ → Pair → Type 0
-IsBegunOrOnCopy specs image begun i pair = IsBegun begun i pair ⊎ IsOnCopy (spec_at specs i) image pair
+-- or with those of a copy's rows
+abbrev pub AreHeldWithCopy : List KeySpecValue → ImageValue → Holdings → ℕ → List Pair → Type 0
+AreHeldWithCopy specs image held i pairs = (made : List Pair) × HasPairs (spec_at specs i) image made × (pairs ≡ held_at i held ++ made)
 
 -- of the first indexes this was made, of the others nothing yet
 pub record Reached (made : ℕ → List (List Pair) → List Pair → List (List Pair) → List Pair → Type 0) (count : ℕ) (old new : Holdings) : Type 0 where

@@ -3,8 +3,9 @@ ghost use Rattle.std.specs.Prelude.{◌≡◌, ◌⊎◌, ℕ, All, Option, List
 ghost use Rattle.keybytes.specs.declared.cell.Cell.{Cell};
 ghost use Rattle.heap_table.specs.Images.{image_slot, HasRows, Shows};
 ghost use Rattle.heap_table.specs.Pages.{rid_at};
-ghost use Rattle.run_spool.specs.Spools.{AreSorted, HasFullFor, NoPageOnlyIf};
-ghost use Rattle.run_maker.specs.Making.{AreReady, TakesRow, Takes, IsBegunOrOfRow, IsBegunOrOnCopy};
+ghost use Rattle.run_spool.specs.Spools.{AreSorted, NoPageOnlyIf};
+ghost use Rattle.run_maker.specs.FullSpools.{HasFullOf};
+ghost use Rattle.run_maker.specs.Making.{AreReady, TakesRow, Takes, AreHeldWithCopy, AreHeldWithRow};
 ghost use Rattle.run_maker.specs.Spooling.{MemoryOnlyIf};
 
 use crate::open_run::OpenRun;
@@ -32,7 +33,8 @@ pub(crate) fn add_image<S: Spool>(
     ensures sorted { All AreSorted (map S.runs spools.old) → All AreSorted (map S.runs spools.new) }
     ensures stakes { map S.stake spools.new ≡ map S.stake spools.old }
     ensures fault { IfErr result (λ fault. (fault ≡ Fault.NoPage) ⊎ (fault ≡ Fault.Memory)) }
-    ensures full { IfErr result (NoPageOnlyIf (HasFullFor S.is_full (IsBegunOrOnCopy specs.now image.now begun.old) spools.new)) }
+    ensures full { IfErr result (NoPageOnlyIf (HasFullOf S.is_full S.runs S.open_run
+        (AreHeldWithCopy specs.now image.now (record { runs = map S.runs spools.old; begun = begun.old })) spools.new)) }
     ensures want { IfErr result (MemoryOnlyIf (AreReady (map S.runs spools.new) (map S.open_run spools.new))) }
 {
     for slot in 0..image.slots() {
@@ -63,7 +65,8 @@ fn add_slot<S: Spool>(
     ensures stakes { map S.stake spools.new ≡ map S.stake spools.old }
     ensures fault { IfErr result (λ fault. (fault ≡ Fault.NoPage) ⊎ (fault ≡ Fault.Memory)) }
     ensures full { IfErr result (NoPageOnlyIf ((row : Option (List Cell)) → Shows schema.now (image_slot image.now slot) row
-        → HasFullFor S.is_full (IsBegunOrOfRow specs.now (rid_at image.now.page slot) row begun.old) spools.new)) }
+        → HasFullOf S.is_full S.runs S.open_run
+        (AreHeldWithRow specs.now (rid_at image.now.page slot) row (record { runs = map S.runs spools.old; begun = begun.old })) spools.new)) }
     ensures want { IfErr result (MemoryOnlyIf (AreReady (map S.runs spools.new) (map S.open_run spools.new))) }
 {
     let Some(row) = image.row(slot, schema)? else {

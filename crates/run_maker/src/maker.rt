@@ -1,6 +1,7 @@
 ghost use Rattle.std.specs.Prelude.{◌≡◌, ◌<◌, ◌⊎◌, [], All, IfOk, IfErr, OnOk, OnErr, map, length, true, false};
-ghost use Rattle.run_spool.specs.Spools.{AreSorted, HasFullFor, NoPageOnlyIf};
-ghost use Rattle.run_maker.specs.Making.{AreReady, Takes, Seals, IsBegun, IsBegunOrOnCopy};
+ghost use Rattle.run_spool.specs.Spools.{AreSorted, NoPageOnlyIf};
+ghost use Rattle.run_maker.specs.FullSpools.{HasFullOf};
+ghost use Rattle.run_maker.specs.Making.{AreHeld, AreHeldWithCopy, AreReady, Takes, Seals};
 ghost use Rattle.run_maker.specs.Spooling.{MemoryOnlyIf};
 
 use crate::images::add_image;
@@ -94,7 +95,8 @@ impl Maker {
         ensures schema { self.new.schema ≡ self.old.schema }
         ensures specs { self.new.specs ≡ self.old.specs }
         ensures fault { IfErr result (λ fault. (fault ≡ Fault.NoPage) ⊎ (fault ≡ Fault.Memory)) }
-        ensures full { IfErr result (NoPageOnlyIf (HasFullFor S.is_full (IsBegunOrOnCopy self.old.specs image self.old.begun) spools.new)) }
+        ensures full { IfErr result (NoPageOnlyIf (HasFullOf S.is_full S.runs S.open_run
+            (AreHeldWithCopy self.old.specs image (record { runs = map S.runs spools.old; begun = self.old.begun })) spools.new)) }
         ensures want { IfErr result (MemoryOnlyIf (AreReady (map S.runs spools.new) (map S.open_run spools.new))) }
     {
         image.laws();
@@ -113,7 +115,8 @@ impl Maker {
         ensures schema { self.new.schema ≡ self.old.schema }
         ensures specs { self.new.specs ≡ self.old.specs }
         ensures no_page { IfErr result (λ fault. fault ≡ Fault.NoPage) }
-        ensures full { OnErr result (HasFullFor S.is_full (IsBegun self.old.begun) spools.new) }
+        ensures full { OnErr result (HasFullOf S.is_full S.runs S.open_run
+            (AreHeld (record { runs = map S.runs spools.old; begun = self.old.begun })) spools.new) }
     {
         close_all(&mut self.begun, spools)
     }

@@ -1,5 +1,6 @@
 ghost use Rattle.std.specs.Prelude.{◌≡◌, ◌<◌, ◌⊎◌, ◌↔◌, [], ◌∷◌, ◌++◌, IfErr, OnOk, OnErr, IsTrue, length};
-ghost use Rattle.run_spool.specs.Spools.{NoneEmpty, AreSorted, IsFullForOneOf, NoPageOnlyIf};
+ghost use Rattle.run_spool.specs.Spools.{NoneEmpty, AreSorted, NoPageOnlyIf, all_pairs};
+ghost use Rattle.run_maker.specs.FullSpools.{IsFullOf};
 ghost use Rattle.run_maker.specs.Spooling.{Spooled, Adds, MemoryOnlyIf};
 
 use crate::spooling::spool_run;
@@ -62,7 +63,8 @@ impl OpenRun {
         ensures short { length self.new < 4096 }
         ensures stake { S.stake spool.new ≡ S.stake spool.old }
         ensures fault { IfErr result (λ fault. (fault ≡ Fault.NoPage) ⊎ (fault ≡ Fault.Memory)) }
-        ensures full { IfErr result (NoPageOnlyIf (IsFullForOneOf S.is_full (self.old ++ pair ∷ []) spool.new)) }
+        ensures full { IfErr result (NoPageOnlyIf
+            (IsFullOf S.is_full S.runs S.open_run ((all_pairs (S.runs spool.old) ++ self.old) ++ pair ∷ []) spool.new)) }
         ensures unchanged { IfErr result (MemoryOnlyIf (self.new ≡ self.old)) }
         ensures untouched { IfErr result (MemoryOnlyIf (spool.new ≡ spool.old)) }
     {
@@ -84,7 +86,7 @@ impl OpenRun {
         ensures open_run { OnOk result (S.open_run spool.new ≡ []) }
         ensures stake { S.stake spool.new ≡ S.stake spool.old }
         ensures no_page { IfErr result (λ fault. fault ≡ Fault.NoPage) }
-        ensures full { OnErr result (IsFullForOneOf S.is_full self.old spool.new) }
+        ensures full { OnErr result (IsFullOf S.is_full S.runs S.open_run (all_pairs (S.runs spool.old) ++ self.old) spool.new) }
     {
         spool_run(&mut self.pairs, spool)
     }

@@ -2,9 +2,10 @@
 ghost use Rattle.std.specs.Prelude.{◌≡◌, ◌⊎◌, [], ◌∷◌, ◌++◌, All, Some, IfErr, OnOk, map, length, true};
 ghost use Rattle.keybytes.specs.Cells.{fits};
 ghost use Rattle.keybytes.specs.Keys.{key_of};
-ghost use Rattle.run_spool.specs.Spools.{NoneEmpty, AreSorted, IsFullForOneOf, HasFullFor, NoPageOnlyIf};
+ghost use Rattle.run_spool.specs.Spools.{NoneEmpty, AreSorted, NoPageOnlyIf, all_pairs};
+ghost use Rattle.run_maker.specs.FullSpools.{HasFullOf, IsFullOf};
 ghost use Rattle.run_maker.specs.Spooling.{Adds, MemoryOnlyIf};
-ghost use Rattle.run_maker.specs.Making.{AreReady, TakesRow, IsBegunOrOfRow};
+ghost use Rattle.run_maker.specs.Making.{AreReady, TakesRow, AreHeldWithRow};
 
 use crate::open_run::OpenRun;
 use keybytes::{Fault, KeySpec, Pair, Rid, Row};
@@ -29,7 +30,7 @@ fn add_key<S: Spool>(
     ensures stake { S.stake spool.new ≡ S.stake spool.old }
     ensures fault { IfErr result (λ fault. (fault ≡ Fault.NoPage) ⊎ (fault ≡ Fault.Memory)) }
     ensures full { IfErr result (NoPageOnlyIf
-        (IsFullForOneOf S.is_full (begun.old ++ record { key = key_of spec.now row.now; rid = rid } ∷ []) spool.new)) }
+        (IsFullOf S.is_full S.runs S.open_run ((all_pairs (S.runs spool.old) ++ begun.old) ++ record { key = key_of spec.now row.now; rid = rid } ∷ []) spool.new)) }
     ensures unchanged { IfErr result (MemoryOnlyIf (begun.new ≡ begun.old)) }
     ensures untouched { IfErr result (MemoryOnlyIf (spool.new ≡ spool.old)) }
 {
@@ -55,7 +56,8 @@ pub(crate) fn add_row<S: Spool>(
     ensures sorted { All AreSorted (map S.runs spools.old) → All AreSorted (map S.runs spools.new) }
     ensures stakes { map S.stake spools.new ≡ map S.stake spools.old }
     ensures fault { IfErr result (λ fault. (fault ≡ Fault.NoPage) ⊎ (fault ≡ Fault.Memory)) }
-    ensures full { IfErr result (NoPageOnlyIf (HasFullFor S.is_full (IsBegunOrOfRow specs.now rid (Some row.now) begun.old) spools.new)) }
+    ensures full { IfErr result (NoPageOnlyIf (HasFullOf S.is_full S.runs S.open_run
+        (AreHeldWithRow specs.now rid (Some row.now) (record { runs = map S.runs spools.old; begun = begun.old })) spools.new)) }
     ensures want { IfErr result (MemoryOnlyIf (AreReady (map S.runs spools.new) (map S.open_run spools.new))) }
 {
     for i in 0..specs.len() {

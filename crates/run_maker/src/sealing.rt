@@ -1,6 +1,7 @@
 ghost use Rattle.std.specs.Prelude.{◌≡◌, [], All, IfErr, OnOk, OnErr, map, length};
-ghost use Rattle.run_spool.specs.Spools.{AreSorted, HasFullFor};
-ghost use Rattle.run_maker.specs.Making.{AreReady, Seals, IsBegun};
+ghost use Rattle.run_spool.specs.Spools.{AreSorted};
+ghost use Rattle.run_maker.specs.FullSpools.{HasFullOf};
+ghost use Rattle.run_maker.specs.Making.{AreHeld, AreReady, Seals};
 
 use crate::open_run::OpenRun;
 use keybytes::Fault;
@@ -16,7 +17,8 @@ pub(crate) fn close_all<S: Spool>(begun: &mut [OpenRun], spools: &mut [S]) -> Re
     ensures sorted { All AreSorted (map S.runs spools.old) → All AreSorted (map S.runs spools.new) }
     ensures stakes { map S.stake spools.new ≡ map S.stake spools.old }
     ensures no_page { IfErr result (λ fault. fault ≡ Fault.NoPage) }
-    ensures full { OnErr result (HasFullFor S.is_full (IsBegun begun.old) spools.new) }
+    ensures full { OnErr result (HasFullOf S.is_full S.runs S.open_run
+        (AreHeld (record { runs = map S.runs spools.old; begun = begun.old })) spools.new) }
 {
     for i in 0..begun.len() {
         begun[i].close(&mut spools[i])?;

@@ -1,5 +1,6 @@
-ghost use Rattle.std.specs.Prelude.{◌≡◌, ◌<◌, ◌⊎◌, [], IfErr, OnOk, OnErr, length};
-ghost use Rattle.run_spool.specs.Spools.{NoneEmpty, AreSorted, IsFullForOneOf};
+ghost use Rattle.std.specs.Prelude.{◌≡◌, ◌<◌, ◌⊎◌, ◌++◌, [], IfErr, OnOk, OnErr, length};
+ghost use Rattle.run_spool.specs.Spools.{NoneEmpty, AreSorted, all_pairs};
+ghost use Rattle.run_maker.specs.FullSpools.{IsFullOf};
 ghost use Rattle.run_maker.specs.Spooling.{Spooled};
 
 use crate::sorting::sort;
@@ -20,7 +21,7 @@ pub(crate) fn spool_run<S: Spool>(pairs: &mut Vec<Pair>, spool: &mut S) -> Resul
     ensures lost { OnErr result (length pairs.new.items < length pairs.old.items) }
     ensures stake { S.stake spool.new ≡ S.stake spool.old }
     ensures no_page { IfErr result (λ fault. fault ≡ Fault.NoPage) }
-    ensures full { OnErr result (IsFullForOneOf S.is_full pairs.old.items spool.new) }
+    ensures full { OnErr result (IsFullOf S.is_full S.runs S.open_run (all_pairs (S.runs spool.old) ++ pairs.old.items) spool.new) }
 {
     sort(pairs);
     // (the first is taken from the end, so that the memory stays here)

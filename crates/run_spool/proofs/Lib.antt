@@ -7,4 +7,3 @@ pub mod RunSteps
 pub mod SpoolSteps
 pub mod PairRuns
 pub mod EachSpool
-pub mod FullFor

@@ -1,6 +1,6 @@
 -- Spools of every kind.
-use Rattle.std.specs.Prelude.{◌≡◌, ℕ, [], ◌∷◌, ◌++◌, ◌<◌, ◌==◌, ◌&&◌, Bool, List, All, Contains, length, Option, Some, option_map, filter_map}
-use Rattle.std.specs.List.{flat_map, slice_get}
+use Rattle.std.specs.Prelude.{◌≡◌, [], ◌∷◌, ◌++◌, ◌<◌, ◌==◌, ◌&&◌, Bool, List, All, length, Option, option_map, filter_map}
+use Rattle.std.specs.List.{flat_map}
 use Rattle.std.specs.List.Sorted.{IsSorted}
 use Rattle.spool_ledger.specs.Accounts.{Stake}
 use Rattle.keybytes.specs.Pairs.{pair_cmp}
@@ -36,20 +36,6 @@ stakes_in stakes = filter_map (λ stake. stake) stakes
 -- the same pool, with no page
 abbrev pub without_pages : Option Stake → Option Stake
 without_pages stake = option_map (λ s. record { pool = s.pool; quota = 0 }) stake
-
--- the spool has no room left for one of these pairs
-abbrev pub IsFullForOneOf : {S : Type 0} → (S → Pair → Type 0) → List Pair → S → Type 0
-IsFullForOneOf is_full pairs spool = (pair : Pair) × Contains pairs pair × is_full spool pair
-
-module _ {S : Type 0} where
-  -- one of these spools has no room left for a pair that is given for its index
-  pub record HasFullFor (is_full : S → Pair → Type 0) (given : ℕ → Pair → Type 0) (spools : List S) : Type 0 where
-    pub index : ℕ
-    pub spool : S
-    pub there : slice_get spools index ≡ Some spool
-    pub pair : Pair
-    pub was_given : given index pair
-    pub full : is_full spool pair
 
 -- if a fault tells that a page is wanted, this holds
 abbrev pub NoPageOnlyIf : Type 0 → Fault → Type 0

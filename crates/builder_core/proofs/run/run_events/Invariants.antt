@@ -8,7 +8,7 @@ use Rattle.builder_core.proofs.run.run_events.Given as goal
 
 abbrev pub invariant-loop-event : goal.invariant-loop-event
 invariant-loop-event g l = record {
-  run : Run (WantedPage g.S.Spool.is_full g.S.Spool.stake) (opening l.fn.live.state (spools_in g.S.Spool.runs g.S.Spool.open_run g.S.Spool.stake l.fn.spools.items)) (take l.event-index l.events) l.replies.items l.core;
+  run : Run (WantedPage g.S.Spool.is_full g.S.Spool.runs g.S.Spool.open_run g.S.Spool.stake) (opening l.fn.live.state (spools_in g.S.Spool.runs g.S.Spool.open_run g.S.Spool.stake l.fn.spools.items)) (take l.event-index l.events) l.replies.items l.core;
   room : length l.events ≤ vec_capacity l.replies;
   count : length l.replies.items ≡ l.event-index;
 }

@@ -1,5 +1,5 @@
-use Rattle.std.proofs.Common.{false, refl, ◌≡◌, ◌<◌, ◌+◌, ◌∙◌, ◌++◌, [], ℕ, List, All, length, get_or, map, sym, ap, subst, arith}
-use Rattle.std.specs.Prelude.{Contains}
+use Rattle.std.proofs.Common.{false, refl, ◌≡◌, ◌<◌, ◌+◌, ◌∙◌, ◌++◌, [], ℕ, List, length, get_or, map, sym, ap, subst, arith}
+use Rattle.std.specs.Prelude.{IsPermutation}
 use Rattle.std.specs.Option.{option_to_list}
 use Rattle.std.proofs.lemmas.Result.{err_from_is_err_and}
 use Rattle.keybytes.specs.Keys.{KeySpecValue}
@@ -8,9 +8,9 @@ use Rattle.keybytes.specs.Pairs.{pair_with}
 use Rattle.keybytes.specs.declared.pair.Pair.{Pair}
 use Rattle.heap_table.specs.Images.{Shows, image_slot}
 use Rattle.heap_table.specs.Pages.{rid_at}
-use Rattle.run_spool.proofs.FullFor.{full_given}
+use Rattle.run_maker.proofs.FullSpools.{full_given}
 use Rattle.run_maker.specs.Spooling.{Adds}
-use Rattle.run_maker.specs.Making.{IsBegunOrOfRow, IsBegunOrOnCopy, spec_at}
+use Rattle.run_maker.specs.Making.{AreHeldWithCopy, AreHeldWithRow, Holdings, held_at, spec_at}
 use Rattle.run_maker.proofs.CopyPairs.{has_pairs, of_copy, pairs_before, slot_more}
 use Rattle.run_maker.proofs.Spoolings.{adds_more, adds_none}
 use Rattle.run_maker.proofs.images.add_image.Goals as goal
@@ -35,18 +35,20 @@ returns-in_err-add_slot-clause-full g c =
     let specs = c.args.specs.now in
     let rows = c.requires.rows in
     let inside : slot < length image.slots = omega (arith, c.loop-slot-test.true, c.loop-slot.auto.slot-end, c.slots-slot-end.ensures) in
-    let kept : (i : ℕ) → i < length specs
-    → All (Contains (get_or c.args.begun.now i [] ++ pairs_before (spec_at specs i) image.page rows.0 slot)) (get_or c.loop-slot.begun i []) =
-    λ i lt. (c.loop-slot.invariant.added i lt _ (has_pairs specs c.args.schema.now image rows.0 rows.1 c.requires.columns i lt)).kept in
+    let runs = g.S.Spool.runs in
+    let start : Holdings = record { runs = map runs c.args.spools.now; begun = c.args.begun.now } in
+    let middle : Holdings = record { runs = map runs c.loop-slot.spools; begun = c.loop-slot.begun } in
+    let held : (i : ℕ) → i < length specs → IsPermutation (held_at i start ++ pairs_before (spec_at specs i) image.page rows.0 slot) (held_at i middle) =
+    λ i lt. (c.loop-slot.invariant.added i lt _ (has_pairs specs c.args.schema.now image rows.0 rows.1 c.requires.columns i lt)).all in
     let long : length c.add_slot.new.spools ≡ length specs =
     omega (arith, c.add_slot.auto.spools, c.loop-slot.invariant.long_spools, c.requires.spools) in
     let p = err_from_is_err_and c.from_residual.result c.from_residual.ensures.1 in
     rw (p.1, p.2) (λ no_page.
-    full_given g.S.Spool.is_full c.add_slot.new.spools (IsBegunOrOfRow specs (rid_at image.page slot) (rows.0 slot) c.loop-slot.begun)
-    (IsBegunOrOnCopy specs image c.args.begun.now)
-    (λ i pair less is.
+    full_given g.S.Spool.is_full runs g.S.Spool.open_run c.add_slot.new.spools (AreHeldWithRow specs (rid_at image.page slot) (rows.0 slot) middle)
+    (AreHeldWithCopy specs image start)
+    (λ i pairs less are.
     let lt : i < length specs = omega (arith, less, long) in
-    of_copy specs c.args.schema.now image rows.0 rows.1 c.requires.columns i lt slot inside c.args.begun.now c.loop-slot.begun (kept i lt) pair is)
+    of_copy specs c.args.schema.now image rows.0 rows.1 c.requires.columns i lt slot inside start middle (held i lt) pairs are)
     (c.in_err-add_slot.ensures.full no_page (rows.0 slot) (rows.1 slot)))
 
 pub loop-slot-preserved : goal.loop-slot-preserved

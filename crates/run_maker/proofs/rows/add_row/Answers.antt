@@ -1,5 +1,4 @@
-use Rattle.std.proofs.Common.{◌≡◌, ◌<◌, ◌∙◌, ◌∷◌, ◌++◌, [], refl, ℕ, List, length, get_or, map, false, sym, subst, arith, Some}
-use Rattle.std.specs.Prelude.{Contains}
+use Rattle.std.proofs.Common.{◌≡◌, ◌<◌, ◌∙◌, ◌∷◌, ◌++◌, [], refl, ℕ, List, length, get_or, map, false, sym, ap, ap₂, subst, arith, Some}
 use Rattle.std.specs.Option.{option_to_list}
 use Rattle.std.proofs.Math.Seq.{map-set_same}
 use Rattle.std.proofs.lemmas.List.{get_or_read, get_or_default, length-map, length-set, map-set}
@@ -7,10 +6,11 @@ use Rattle.std.proofs.lemmas.Result.{err_from_is_err_and}
 use Rattle.keybytes.specs.Keys.{KeySpecValue, key_of}
 use Rattle.keybytes.specs.Pairs.{pair_with}
 use Rattle.keybytes.specs.declared.pair.Pair.{Pair}
-use Rattle.run_spool.specs.Spools.{AreSorted}
+use Rattle.run_spool.specs.Spools.{AreSorted, all_pairs}
 use Rattle.run_maker.specs.Spooling.{Adds}
-use Rattle.run_maker.specs.Making.{IsBegunOrOfRow, spec_at}
-use Rattle.run_maker.proofs.EachIndex.{read_at, holds_at, holds_after, ready_after, reached_none, reached_more, full_after}
+use Rattle.run_maker.specs.Making.{AreHeldWithRow, spec_at}
+use Rattle.run_maker.proofs.EachIndex.{read_at, holds_at, holds_after, ready_after, reached_none, reached_more}
+use Rattle.run_maker.proofs.FullSpools.{full_after}
 use Rattle.run_maker.proofs.rows.add_row.Goals as goal
 
 pub add_key-requires-clause-open_run : goal.add_key-requires-clause-open_run
@@ -41,16 +41,21 @@ returns-in_err-add_key-clause-full g c =
     let spec-at : spec ≡ spec_at c.args.specs.now i = get_or_read c.args.specs.now i spec c.loop-i-test.true c.index-specs-i.is none in
     let begun-at : get_or c.loop-i.begun i b ≡ get_or c.args.begun.now i [] =
     get_or_default c.loop-i.begun i b [] in-begun ∙ was.reached.same_begun i (omega arith) in
-    let its : KeySpecValue → Pair = λ s. record { key = key_of s c.args.row.now; rid = c.args.rid } in
-    let of : (pair : Pair) → Contains (get_or c.loop-i.begun i b ++ its spec ∷ []) pair
-    → IsBegunOrOfRow c.args.specs.now c.args.rid (Some c.args.row.now) c.args.begun.now i pair =
-    λ pair here.
-    subst (λ (s : KeySpecValue). Contains (get_or c.args.begun.now i [] ++ its s ∷ []) pair) spec-at
-    (subst (λ (ps : List Pair). Contains (ps ++ its spec ∷ []) pair) begun-at here) in
+    let runs = g.S.Spool.runs in
+    let d = c.index-spools-i.result in
+    let runs-at : runs (get_or c.loop-i.spools i d) ≡ get_or (map runs c.args.spools.now) i [] =
+    sym (read_at runs c.loop-i.spools i d [] inside) ∙ was.reached.same_runs i (omega arith) in
+    let its : KeySpecValue → List Pair = λ s. record { key = key_of s c.args.row.now; rid = c.args.rid } ∷ [] in
+    let held : (all_pairs (runs (get_or c.loop-i.spools i d)) ++ get_or c.loop-i.begun i b) ++ its spec
+    ≡ (all_pairs (get_or (map runs c.args.spools.now) i []) ++ get_or c.args.begun.now i []) ++ its (spec_at c.args.specs.now i) =
+    ap₂ (λ (rs : List (List Pair)) (ps : List Pair). (all_pairs rs ++ ps) ++ its spec) runs-at begun-at
+    ∙ ap (λ (s : KeySpecValue). (all_pairs (get_or (map runs c.args.spools.now) i []) ++ get_or c.args.begun.now i []) ++ its s) spec-at in
     let p = err_from_is_err_and c.from_residual.result c.from_residual.ensures.1 in
     rw (p.1, p.2) (λ no_page.
-    full_after g.S.Spool.is_full (IsBegunOrOfRow c.args.specs.now c.args.rid (Some c.args.row.now) c.args.begun.now) (get_or c.loop-i.begun i b ++ its spec ∷ [])
-    c.loop-i.spools i c.add_key.new.spool inside of (c.in_err-add_key.ensures.full no_page))
+    full_after g.S.Spool.is_full runs g.S.Spool.open_run
+    (AreHeldWithRow c.args.specs.now c.args.rid (Some c.args.row.now) (record { runs = map runs c.args.spools.now; begun = c.args.begun.now }))
+    ((all_pairs (runs (get_or c.loop-i.spools i d)) ++ get_or c.loop-i.begun i b) ++ its spec) c.loop-i.spools i c.add_key.new.spool inside held
+    (c.in_err-add_key.ensures.full no_page))
 
 pub loop-i-init : goal.loop-i-init
 loop-i-init g c =

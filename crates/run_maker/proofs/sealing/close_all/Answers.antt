@@ -1,13 +1,13 @@
-use Rattle.std.proofs.Common.{◌≡◌, ◌<◌, ◌∙◌, [], ℕ, List, length, get_or, map, sym, subst, arith}
-use Rattle.std.specs.Prelude.{Contains}
+use Rattle.std.proofs.Common.{◌≡◌, ◌<◌, ◌∙◌, ◌++◌, [], ℕ, List, length, get_or, map, sym, ap₂, subst, arith}
 use Rattle.std.proofs.Math.Seq.{map-set_same}
 use Rattle.std.proofs.lemmas.List.{get_or_default, length-map, length-set, map-set}
 use Rattle.std.proofs.lemmas.Result.{err_from_is_err_and}
 use Rattle.keybytes.specs.declared.pair.Pair.{Pair}
-use Rattle.run_spool.specs.Spools.{AreSorted}
+use Rattle.run_spool.specs.Spools.{AreSorted, all_pairs}
 use Rattle.run_maker.specs.Spooling.{Spooled}
-use Rattle.run_maker.specs.Making.{IsBegun}
-use Rattle.run_maker.proofs.EachIndex.{read_at, holds_at, holds_after, ready_after, reached_more, full_after}
+use Rattle.run_maker.specs.Making.{AreHeld}
+use Rattle.run_maker.proofs.EachIndex.{read_at, holds_at, holds_after, ready_after, reached_more}
+use Rattle.run_maker.proofs.FullSpools.{full_after}
 use Rattle.run_maker.proofs.sealing.close_all.Goals as goal
 
 pub close-requires-clause-open_run : goal.close-requires-clause-open_run
@@ -33,11 +33,17 @@ returns-in_err-close-clause-full g c =
     let inside : c.loop-i.i < length c.loop-i.spools =
     omega (arith, c.loop-i-test.true, c.loop-i.invariant.long_spools, c.loop-i.invariant.long_begun, c.requires.spools) in
     let p = err_from_is_err_and c.from_residual.result c.from_residual.ensures.1 in
-    let was : get_or c.loop-i.begun c.loop-i.i c.index-begun-i.result ≡ get_or c.args.begun.now c.loop-i.i [] =
-    get_or_default c.loop-i.begun c.loop-i.i c.index-begun-i.result [] (omega (arith, c.loop-i-test.true, c.loop-i.invariant.long_begun))
-    ∙ c.loop-i.invariant.reached.same_begun c.loop-i.i (omega arith) in
-    rw p.1 (full_after g.S.Spool.is_full (IsBegun c.args.begun.now) (get_or c.loop-i.begun c.loop-i.i c.index-begun-i.result) c.loop-i.spools c.loop-i.i
-    c.close.new.spool inside (λ pair there. subst (λ (ps : List Pair). Contains ps pair) was there) c.in_err-close.ensures.full)
+    let runs = g.S.Spool.runs in
+    let i = c.loop-i.i in
+    let d = c.index-spools-i.result in
+    let b = c.index-begun-i.result in
+    let begun-at : get_or c.loop-i.begun i b ≡ get_or c.args.begun.now i [] =
+    get_or_default c.loop-i.begun i b [] (omega (arith, c.loop-i-test.true, c.loop-i.invariant.long_begun)) ∙ c.loop-i.invariant.reached.same_begun i (omega arith) in
+    let runs-at : runs (get_or c.loop-i.spools i d) ≡ get_or (map runs c.args.spools.now) i [] =
+    sym (read_at runs c.loop-i.spools i d [] inside) ∙ c.loop-i.invariant.reached.same_runs i (omega arith) in
+    rw p.1 (full_after g.S.Spool.is_full runs g.S.Spool.open_run (AreHeld (record { runs = map runs c.args.spools.now; begun = c.args.begun.now }))
+    (all_pairs (runs (get_or c.loop-i.spools i d)) ++ get_or c.loop-i.begun i b) c.loop-i.spools i c.close.new.spool inside
+    (ap₂ (λ (rs : List (List Pair)) (ps : List Pair). all_pairs rs ++ ps) runs-at begun-at) c.in_err-close.ensures.full)
 
 pub loop-i-preserved : goal.loop-i-preserved
 loop-i-preserved g c =

@@ -4,7 +4,8 @@ use Rattle.std.proofs.lemmas.List.{nil_from_length}
 use Rattle.keybytes.specs.Pairs.{pair_cmp}
 use Rattle.keybytes.specs.declared.pair.Pair.{Pair}
 use Rattle.run_spool.specs.Spools.{AreSorted, with_closed_run}
-use Rattle.run_maker.proofs.Spoolings.{closed_sorted, moved_all, was_there}
+use Rattle.run_maker.proofs.FullSpools.{stops_at}
+use Rattle.run_maker.proofs.Spoolings.{closed_sorted, moved_all}
 use Rattle.run_maker.proofs.spooling.spool_run.Goals as goal
 
 pub returns-clause-sorted : goal.returns-clause-sorted
@@ -20,6 +21,13 @@ returns-clause-sorted g c = λ all.
 
 pub returns-in-Err-clause-full : goal.returns-in-Err-clause-full
 returns-in-Err-clause-full g c =
-    let there = was_there c.args.pairs.now.items c.sort.new.pairs.items c.reverse.new.self.items (g.S.Spool.open_run c.loop-pair.spool) c.loop-pair.pairs.items
-    c.pop.new.self.items c.in-Some.pair c.sort.ensures.permutation c.reverse.ensures.items c.loop-pair.invariant.moved c.in-Some.ensures.items in
-    (c.in-Some.pair, there, c.in-Err.ensures.still)
+    let runs = g.S.Spool.runs in
+    let open_run = g.S.Spool.open_run in
+    record {
+      pair = c.in-Some.pair;
+      held = stops_at (runs c.args.spool.now) (runs c.push.new.self) c.args.pairs.now.items c.sort.new.pairs.items c.reverse.new.self.items
+          (open_run c.loop-pair.spool) (open_run c.push.new.self) c.loop-pair.pairs.items c.pop.new.self.items c.in-Some.pair
+          (c.push.ensures.runs ∙ c.loop-pair.invariant.runs) c.in-Err.ensures.err c.sort.ensures.permutation c.reverse.ensures.items
+          c.loop-pair.invariant.moved c.in-Some.ensures.items;
+      full = c.in-Err.ensures.still;
+    }

@@ -2,16 +2,17 @@ use Rattle.std.proofs.Common.{◌≡◌, ◌∷◌, ◌∙◌, [], ℕ, true, fa
 use Rattle.std.proofs.lemmas.Result.{err_from_is_err_and}
 use Rattle.rtrb.specs.Ring.{known_items}
 use Rattle.keybytes.specs.declared.kind.Kind.{Kind}
-use Rattle.run_spool.proofs.FullFor.{full_given}
-use Rattle.run_maker.specs.Making.{Holdings, IsBegunOrOnCopy}
+use Rattle.std.proofs.lemmas.List.Sorted.{IsPermutation-refl}
+use Rattle.run_maker.specs.Making.{AreHeldWithCopy, Holdings}
+use Rattle.run_maker.proofs.FullSpools.{all_of, full_given}
 use Rattle.building.specs.Copies.{is_for}
-use Rattle.building.specs.Holding.{IsBegunOrOnOneOf}
+use Rattle.building.specs.Holding.{AreHeldWith}
 use Rattle.building.specs.Work.{next_images}
 use Rattle.building.specs.IntakeValue.{IntakeValue}
 use Rattle.building.proofs.Digests.{next_missing, next_one, next_other}
 use Rattle.building.proofs.Holding.{takes_nothing, takes_one}
 use Rattle.building.proofs.ManyPairs.{for_decides}
-use Rattle.building.proofs.Received.{on_alone}
+use Rattle.building.proofs.Received.{with_copy}
 use Rattle.building.proofs.intake.Intake.digest.Goals as goal
 
 pub take-requires-clause-schema : goal.take-requires-clause-schema
@@ -54,9 +55,11 @@ returns-in_err-take-clause-full g c =
     (sym (ap (λ (w : IntakeValue). w.end.known) c.self.view_is) ∙ c.pop_known-copied.ensures.received.1) own in
     let p = err_from_is_err_and c.from_residual.result c.from_residual.ensures.1 in
     rw (p.1, p.2) (λ no_page.
-    full_given g.S.Spool.is_full c.take.new.spools (IsBegunOrOnCopy maker.specs copied.image maker.begun)
-    (IsBegunOrOnOneOf maker.specs (next_images 1 maker.schema worker) maker.begun)
-    (λ i pair less is. on_alone maker.specs copied.image (next_images 1 maker.schema worker) maker.begun i pair one is) (c.in_err-take.ensures.full no_page))
+    let held : Holdings = record { runs = map g.S.Spool.runs c.args.spools.now; begun = maker.begun } in
+    full_given g.S.Spool.is_full g.S.Spool.runs g.S.Spool.open_run c.take.new.spools (AreHeldWithCopy maker.specs copied.image held)
+    (AreHeldWith maker.specs (next_images 1 maker.schema worker) held)
+    (λ i pairs less are. (pairs, with_copy maker.specs copied.image (next_images 1 maker.schema worker) held i pairs one are, all_of pairs pairs (IsPermutation-refl pairs)))
+    (c.in_err-take.ensures.full no_page))
 
 pub returns-clause-holds : goal.returns-clause-holds
 returns-clause-holds g c =

@@ -1,19 +1,19 @@
-use Rattle.std.proofs.Common.{rules, ◌≡◌, ◌<◌, ◌+◌, ◌∙◌, [], ℕ, List, All, length, length-append, map, refl, ap, sym, subst, arith}
+use Rattle.std.proofs.Common.{rules, ◌≡◌, ◌+◌, ◌∙◌, [], ℕ, List, All, append-nil, length, length-append, map, refl, ap, sym, subst, arith}
 use Rattle.std.proofs.lemmas.List.Elements.{All-append}
 use Rattle.std.proofs.lemmas.Result.{err_from_is_err_and}
 use Rattle.keybytes.specs.Keys.{KeySpecValue}
 use Rattle.keybytes.specs.declared.kind.Kind.{Kind}
 use Rattle.heap_table.specs.Images.{ImageValue, IsReadable}
-use Rattle.run_spool.proofs.FullFor.{full_given}
-use Rattle.run_maker.specs.Making.{Holdings, IsBegun}
-use Rattle.building.specs.Holding.{IsBegunOrOnOneOf, TakesAll}
+use Rattle.run_maker.specs.Making.{AreHeld, Holdings, held_at}
+use Rattle.run_maker.proofs.FullSpools.{full_given}
+use Rattle.building.specs.Holding.{AreHeldWith, TakesAll}
+use Rattle.building.specs.Turns.{AreHeldWithTaken}
 use Rattle.building.specs.TakeEnd.{after_taking}
-use Rattle.building.specs.Taking.{received_images}
 use Rattle.building.specs.Work.{next_images, after_digest}
 use Rattle.building.specs.IntakeValue.{IntakeValue}
 use Rattle.building.proofs.Digests.{digest_more, images_more, taking_more, next_few, same_worker}
 use Rattle.building.proofs.Holding.{takes_more, takes_nothing, takes_sealed}
-use Rattle.building.proofs.Received.{begun_or_on, next_received, received_after, received_more}
+use Rattle.building.proofs.Received.{with_more}
 use Rattle.building.proofs.intake.Intake.seal.Goals as goal
 
 pub loop-init : goal.loop-init
@@ -68,16 +68,16 @@ returns-in_err-images-clause-full g c =
     let long : length c.digest.new.spools ≡ length maker.specs = omega (arith, c.digest.auto.spools, c.loop.auto.spools, c.requires.spools) in
     let p = err_from_is_err_and c.from_residual.result c.from_residual.ensures.1 in
     rw (p.1, p.2) (λ no_page.
-    full_given g.S.Spool.is_full c.digest.new.spools (IsBegunOrOnOneOf c.loop.maker.specs (next_images 1 c.loop.maker.schema c.loop.self) begun)
-    (IsBegunOrOnOneOf maker.specs (received_images maker.schema c.digest.new.self) maker.begun)
-    (λ i pair less is.
-    let lt : i < length maker.specs = omega (arith, less, long) in
-    let same : IsBegunOrOnOneOf maker.specs (next_images 1 maker.schema c.loop.self) begun i pair =
-    subst (λ (ks : List Kind). IsBegunOrOnOneOf maker.specs (next_images 1 ks c.loop.self) begun i pair) was.schema
-    (subst (λ (ss : List KeySpecValue). IsBegunOrOnOneOf ss (next_images 1 c.loop.maker.schema c.loop.self) begun i pair) was.specs is) in
-    next_received n maker.specs maker.schema worker c.loop.self c.digest.new.self maker.begun begun i pair build end (c.digest.ensures.build ∙ build)
-    (c.digest.ensures.end ∙ (ap (λ end. after_taking 1 end) end ∙ taking_more n 1 worker.end))
-    (λ then. begun_or_on n maker.specs maker.schema worker start middle c.laws.ensures.specs was.readable was.holds i lt pair then) same)
+    full_given g.S.Spool.is_full g.S.Spool.runs g.S.Spool.open_run c.digest.new.spools
+    (AreHeldWith c.loop.maker.specs (next_images 1 c.loop.maker.schema c.loop.self) middle)
+    (AreHeldWithTaken maker.specs maker.schema worker c.digest.new.self start)
+    (λ i pairs less are.
+    let same : AreHeldWith maker.specs (next_images 1 maker.schema c.loop.self) middle i pairs =
+    subst (λ (ks : List Kind). AreHeldWith maker.specs (next_images 1 ks c.loop.self) middle i pairs) was.schema
+    (subst (λ (ss : List KeySpecValue). AreHeldWith ss (next_images 1 c.loop.maker.schema c.loop.self) middle i pairs) was.specs are) in
+    let all = with_more n 1 maker.specs maker.schema worker c.loop.self start middle c.laws.ensures.specs was.readable was.holds build end i
+    (omega (arith, less, long)) pairs same in
+    (all.0, (n + 1, c.digest.ensures.end ∙ (ap (λ end. after_taking 1 end) end ∙ taking_more n 1 worker.end), all.1), all.2))
     (c.in_err-images.ensures.full no_page))
 
 pub returns-in_err-seal-clause-full : goal.returns-in_err-seal-clause-full
@@ -89,15 +89,19 @@ returns-in_err-seal-clause-full g c =
     let begun = c.loop.maker.begun in
     let start : Holdings = record { runs = map g.S.Spool.runs c.args.spools.now; begun = maker.begun } in
     let middle : Holdings = record { runs = map g.S.Spool.runs c.loop.spools; begun = begun } in
-    let all = received_after n maker.schema worker c.loop.self (ap (λ (w : IntakeValue). w.build) was.taken) (ap (λ (w : IntakeValue). w.end) was.taken) in
+    let build = ap (λ (w : IntakeValue). w.build) was.taken in
+    let end = ap (λ (w : IntakeValue). w.end) was.taken in
     let long : length c.seal.new.spools ≡ length maker.specs = omega (arith, c.seal.auto.spools, c.loop.auto.spools, c.requires.spools) in
     let p = err_from_is_err_and c.from_residual-in_err-seal.result c.from_residual-in_err-seal.ensures.1 in
     rw (p.1, p.2) (λ no_page.
-    full_given g.S.Spool.is_full c.seal.new.spools (IsBegun begun) (IsBegunOrOnOneOf maker.specs (received_images maker.schema c.loop.self) maker.begun)
-    (λ i pair less is.
-    let lt : i < length maker.specs = omega (arith, less, long) in
-    received_more maker.specs (received_images maker.schema worker) (next_images n maker.schema worker) (received_images maker.schema c.loop.self) maker.begun i
-    pair all (begun_or_on n maker.specs maker.schema worker start middle c.laws.ensures.specs was.readable was.holds i lt pair is))
+    full_given g.S.Spool.is_full g.S.Spool.runs g.S.Spool.open_run c.seal.new.spools (AreHeld middle)
+    (AreHeldWithTaken maker.specs maker.schema worker c.loop.self start)
+    (λ i pairs less are.
+    let none : AreHeldWith maker.specs (next_images 0 maker.schema c.loop.self) middle i pairs = ([], refl, are ∙ sym (append-nil (held_at i middle))) in
+    let all = with_more n 0 maker.specs maker.schema worker c.loop.self start middle c.laws.ensures.specs was.readable was.holds build end i
+    (omega (arith, less, long)) pairs none in
+    let same : n + 0 ≡ n = omega arith in
+    (all.0, (n, end, subst (λ (j : ℕ). AreHeldWith maker.specs (next_images j maker.schema worker) start i all.0) same all.1), all.2))
     c.in_err-seal.ensures.full)
 
 pub overflow_add-images : goal.overflow_add-images

@@ -1,8 +1,9 @@
-use Rattle.std.proofs.Common.{◌≡◌, ◌∷◌, ◌++◌, ◌∙◌, [], List, arith, length, ap, sym, subst}
+use Rattle.std.proofs.Common.{◌≡◌, ◌∷◌, ◌++◌, ◌∙◌, [], List, append_assoc, arith, length, ap, sym, subst}
 use Rattle.std.proofs.lemmas.List.{length_push}
 use Rattle.std.proofs.lemmas.Result.{IfErr-weaker}
 use Rattle.keybytes.specs.declared.pair.Pair.{Pair}
-use Rattle.run_spool.specs.Spools.{IsFullForOneOf, NoPageOnlyIf}
+use Rattle.run_spool.specs.Spools.{NoPageOnlyIf, all_pairs}
+use Rattle.run_maker.specs.FullSpools.{IsFullOf}
 use Rattle.run_maker.specs.Spooling.{Adds}
 use Rattle.run_maker.proofs.Spoolings.{one_begun, spooled_adds, both_ok}
 use Rattle.run_maker.proofs.open_run.OpenRun.add.Goals as goal
@@ -40,7 +41,10 @@ returns-clause-full g c =
     let begun = c.args.self.now in
     let pairs = c.push.new.self.items in
     let spool = c.spool_run.new.spool in
-    let is_full = g.S.Spool.is_full in
+    let held = all_pairs (g.S.Spool.runs c.args.spool.now) in
+    let Full : List Pair → Type 0 = λ ps. IsFullOf g.S.Spool.is_full g.S.Spool.runs g.S.Spool.open_run ps spool in
     let is : pairs ≡ begun ++ c.args.pair ∷ [] = c.in_ok-push.ensures.items ∙ ap (λ (ps : List Pair). ps ++ c.args.pair ∷ []) c.self.view_is in
-    IfErr-weaker c.spool_run.result (λ _. IsFullForOneOf is_full pairs spool) (NoPageOnlyIf (IsFullForOneOf is_full (begun ++ c.args.pair ∷ []) spool))
-    (λ fault full _. subst (λ (ps : List Pair). IsFullForOneOf is_full ps spool) is full) c.spool_run.ensures.full
+    let all : held ++ pairs ≡ (held ++ begun) ++ c.args.pair ∷ [] =
+    ap (λ (ps : List Pair). held ++ ps) is ∙ sym (append_assoc held begun (c.args.pair ∷ [])) in
+    IfErr-weaker c.spool_run.result (λ _. Full (held ++ pairs)) (NoPageOnlyIf (Full ((held ++ begun) ++ c.args.pair ∷ [])))
+    (λ fault full _. subst Full all full) c.spool_run.ensures.full

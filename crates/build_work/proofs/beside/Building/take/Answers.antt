@@ -5,9 +5,9 @@ use Rattle.building.specs.WorkerValue.{WorkerValue}
 use Rattle.build_work.specs.BuildingValue.{BuildingValue, WorkValue}
 use Rattle.build_work.specs.Keeping.{KeepsWork}
 use Rattle.build_scan.proofs.Places.{at_index}
-use Rattle.build_work.proofs.Kept.{digested_kept}
-use Rattle.build_work.proofs.Stepping.{as_many_after, digested_step, ends_stay, full_step, spoiled_step}
-use Rattle.build_work.proofs.beside.Building.digest.Goals as goal
+use Rattle.build_work.proofs.Kept.{turn_kept}
+use Rattle.build_work.proofs.Stepping.{as_many_after, done_step, ends_stay, same_after, stopped_step}
+use Rattle.build_work.proofs.beside.Building.take.Goals as goal
 
 pub invariant_of-self : goal.invariant_of-self
 invariant_of-self g c =
@@ -15,10 +15,11 @@ invariant_of-self g c =
     let value = spool_value spool.runs spool.open_run spool.stake in
     let workers : List WorkerValue = c.self.inside.workers.items in
     let it : WorkerValue = c.index_mut.result.now in
-    let after : WorkerValue = c.digest-digested.new.self in
+    let after : WorkerValue = c.take-answer.new.self in
     let less : c.args.worker < length workers = omega (arith, c.requires.there, ap (λ (b : BuildingValue). length b.workers) c.self.view_is) in
     let at = at_index workers c.args.worker it c.index_mut.ensures.value less in
-    let stays = c.digest-digested.ensures.same in
+    let stays = same_after spool.is_full spool.runs spool.open_run spool.stake c.args.turn it after c.take-answer.result c.take-answer.ensures.done
+    c.take-answer.ensures.stopped in
     let many = as_many_after workers (map value c.self.inside.spools.items) c.args.worker it after at stays.stakes in (
       ends_stay workers c.args.worker it after at stays.ring _ _ c.self.inside.idle.items _ c.self.invariant.0,
       c.self.invariant.1,
@@ -26,10 +27,9 @@ invariant_of-self g c =
       λ none. absurd (cc),
       λ given. let none = c.self.invariant.4 given in let some = c.in-Some.is in absurd (cc),
       λ given none. absurd (cc),
-      digested_kept workers (map take_end c.self.inside.side_ends.items) (map value c.self.inside.spools.items) c.in-Some.work c.note_fault.new.work c.args.worker it after
-          at stays (subst (λ (o : Option WorkValue). KeepsWork workers (map take_end c.self.inside.side_ends.items) (map value c.self.inside.spools.items) o) c.in-Some.is
-          c.self.invariant.6) c.digest-digested.result c.digest-digested.ensures.sound c.note_fault.ensures.fine c.note_fault.ensures.spoiled
-          c.digest-digested.ensures.handed,
+      turn_kept workers (map take_end c.self.inside.side_ends.items) (map value c.self.inside.spools.items) c.in-Some.work c.note_fault.new.work c.args.worker it after
+          at (subst (λ (o : Option WorkValue). KeepsWork workers (map take_end c.self.inside.side_ends.items) (map value c.self.inside.spools.items) o) c.in-Some.is
+          c.self.invariant.6) c.args.turn c.take-answer.result c.note_fault.ensures.fine c.note_fault.ensures.spoiled c.take-answer.ensures.done,
     )
 
 pub returns-clause-did : goal.returns-clause-did
@@ -38,25 +38,15 @@ returns-clause-did g c =
     let it : WorkerValue = c.index_mut.result.now in
     let less : c.args.worker < length workers = omega (arith, c.requires.there, ap (λ (b : BuildingValue). length b.workers) c.self.view_is) in
     let at = at_index workers c.args.worker it c.index_mut.ensures.value less in
-    let done = c.digest-digested.ensures in
-    digested_step c.args.self.now _ c.in-Some.work c.in-Some.work c.self.view_is c.in-Some.is refl c.args.worker it c.digest-digested.new.self at done.same
-    c.digest-digested.result c.note_fault.new.work c.note_fault.ensures.fine done.sound done.taken done.handed
+    done_step c.args.turn c.args.self.now _ c.in-Some.work c.in-Some.work c.self.view_is c.in-Some.is refl c.args.worker it c.take-answer.new.self at
+    c.take-answer.result c.note_fault.new.work c.note_fault.ensures.fine c.take-answer.ensures.done
 
-pub returns-clause-spoiled : goal.returns-clause-spoiled
-returns-clause-spoiled g c =
-    let workers : List WorkerValue = c.self.inside.workers.items in
-    let it : WorkerValue = c.index_mut.result.now in
-    let less : c.args.worker < length workers = omega (arith, c.requires.there, ap (λ (b : BuildingValue). length b.workers) c.self.view_is) in
-    let at = at_index workers c.args.worker it c.index_mut.ensures.value less in
-    spoiled_step c.args.self.now _ c.in-Some.work c.in-Some.work c.self.view_is c.in-Some.is refl c.args.worker it c.digest-digested.new.self at c.digest-digested.ensures.same
-    c.digest-digested.result c.note_fault.new.work c.note_fault.ensures.spoiled
-
-pub returns-clause-full : goal.returns-clause-full
-returns-clause-full g c =
+pub returns-clause-stopped : goal.returns-clause-stopped
+returns-clause-stopped g c =
     let spool = g.S.Spool in
     let workers : List WorkerValue = c.self.inside.workers.items in
     let it : WorkerValue = c.index_mut.result.now in
     let less : c.args.worker < length workers = omega (arith, c.requires.there, ap (λ (b : BuildingValue). length b.workers) c.self.view_is) in
     let at = at_index workers c.args.worker it c.index_mut.ensures.value less in
-    full_step c.args.self.now _ c.in-Some.work c.in-Some.work c.self.view_is c.in-Some.is refl c.args.worker it c.digest-digested.new.self at c.digest-digested.ensures.same
-    spool.is_full spool.runs spool.open_run spool.stake c.digest-digested.result c.requires.fine c.digest-digested.ensures.took c.digest-digested.ensures.full
+    stopped_step c.args.turn c.args.self.now _ c.in-Some.work c.in-Some.work c.self.view_is c.in-Some.is refl c.args.worker it c.take-answer.new.self at
+    spool.is_full spool.runs spool.open_run spool.stake c.take-answer.result c.note_fault.new.work c.note_fault.ensures.spoiled c.take-answer.ensures.stopped

@@ -1,0 +1,80 @@
+-- What a worker does at its turn, a digest or a seal, and what it answers.
+use Rattle.std.specs.Prelude.{◌≡◌, ◌<◌, ℕ, List, [], length, false, true, Option, Some, None}
+use Rattle.std.specs.List.{All}
+use Rattle.keybytes.specs.Keys.{KeySpecValue}
+use Rattle.keybytes.specs.declared.fault.Fault.{Fault}
+use Rattle.keybytes.specs.declared.kind.Kind.{Kind}
+use Rattle.keybytes.specs.declared.pair.Pair.{Pair}
+use Rattle.heap_table.specs.Images.{ImageValue}
+use Rattle.spool_ledger.specs.Accounts.{Stake}
+use Rattle.run_spool.specs.Spools.{NoPageOnlyIf}
+use Rattle.run_maker.specs.Making.{AreReady, Holdings}
+use Rattle.run_maker.specs.Spooling.{MemoryOnlyIf}
+use Rattle.building.specs.declared.turn.Turn.{Turn}
+use Rattle.building.specs.declared.turn.Turn.TheVariants.{Digest, Seal}
+use Rattle.building.specs.Holding.{AreHeldWith, HoldsMore, TakesAll}
+use Rattle.building.specs.IntakeValue.{IntakeValue}
+use Rattle.building.specs.SpoolValue.{HaveFullOf, open_runs_of, runs_of}
+use Rattle.building.specs.TakeEnd.{after_taking}
+use Rattle.building.specs.Work.{TakesSome, after_digest, after_seal, next_images}
+use Rattle.building.specs.WorkerValue.{HasReceived, IsShortage, SameWorker, WorkerValue}
+
+-- how many of the copies that it has seen a worker takes
+abbrev pub turn_copies : Turn → IntakeValue → ℕ
+turn_copies Digest worker = 1
+turn_copies Seal worker = length worker.end.known
+
+-- the images of its build among them, of a table of these columns
+abbrev pub turn_images : Turn → List Kind → IntakeValue → List ImageValue
+turn_images turn kinds worker = next_images (turn_copies turn worker) kinds worker
+
+-- at a seal all that it took counts as sealed
+abbrev pub marked : Turn → IntakeValue → IntakeValue
+marked Digest worker = worker
+marked Seal worker = after_seal worker
+
+-- they are taken
+abbrev pub after_turn : Turn → List Kind → IntakeValue → IntakeValue
+after_turn turn kinds worker = marked turn (after_digest (turn_copies turn worker) kinds worker)
+
+-- each index is held with the pairs of these images more; a digest closes a run as soon as 4,096 are in none
+abbrev pub TurnHolds : Turn → List KeySpecValue → List ImageValue → Holdings → Holdings → Type 0
+TurnHolds Digest specs images old new = TakesAll specs images old new
+TurnHolds Seal specs images old new = HoldsMore specs images old new
+
+-- the pairs that were held of index i, with those of the images that an end took since
+abbrev pub AreHeldWithTaken : List KeySpecValue → List Kind → IntakeValue → IntakeValue → Holdings → ℕ → List Pair → Type 0
+AreHeldWithTaken specs kinds old new held i pairs =
+    (n : ℕ) × (new.end ≡ after_taking n old.end) × AreHeldWith specs (next_images n kinds old) held i pairs
+
+-- they were taken, so many of them of its build, and a seal closed its runs
+pub record HasTaken (turn : Turn) (images : ℕ) (old new : WorkerValue) : Type 0 where
+  pub counted : images ≡ length (turn_images turn old.maker.schema old.intake)
+  pub intake : new.intake ≡ after_turn turn old.maker.schema old.intake
+  pub closed : turn ≡ Seal → All (λ begun. begun ≡ []) new.maker.begun
+
+-- a worker that no fault had stopped had its turn; once its spools are handed over it takes nothing
+pub record HasDone (turn : Turn) (old : WorkerValue) (images : ℕ) (new : WorkerValue) : Type 0 where
+  pub same : SameWorker old new
+  pub sound : (old.fault ≡ None) × (new.fault ≡ None)
+  pub took : old.handed ≡ false → HasTaken turn images old new
+  pub nothing : old.handed ≡ true → (images ≡ 0) × (new ≡ record old { intake = marked turn old.intake })
+
+-- what a worker has seen that is refused for a fault: at a digest a copy of its build, at a seal that wants memory any copy
+abbrev pub SawCopies : Turn → List Kind → IntakeValue → Fault → Type 0
+SawCopies Digest kinds worker fault = length (next_images 1 kinds worker) ≡ 1
+SawCopies Seal kinds worker fault = MemoryOnlyIf (0 < length worker.end.known) fault
+
+module _
+    {S : Type 0} (is_full : S → Pair → Type 0) (runs : S → List (List Pair)) (open_run : S → List Pair) (stake : S → Option Stake) where
+  -- a worker was refused for that fault at its turn, and stopped
+  pub record IsStopped (turn : Turn) (old : WorkerValue) (fault : Fault) (new : WorkerValue) : Type 0 where
+    pub same : SameWorker old new
+    pub stopped : new.fault ≡ Some fault
+    pub short : IsShortage fault
+    pub took : TakesSome old.intake.end new.intake.end
+    -- it is for the fault that stopped it before, if one did, and then nothing happens
+    pub again : (first : Fault) → old.fault ≡ Some first → (fault ≡ first) × (new ≡ old)
+    pub copies : old.fault ≡ None → (old.handed ≡ false) × SawCopies turn old.maker.schema old.intake fault
+    pub full : old.fault ≡ None → NoPageOnlyIf (HaveFullOf is_full runs open_run stake (HasReceived new) new.spools) fault
+    pub want : old.fault ≡ None → MemoryOnlyIf (AreReady (runs_of new.spools) (open_runs_of new.spools)) fault

@@ -1,0 +1,53 @@
+//! A worker's turns.
+ghost use Rattle.std.specs.Prelude.{IfOk, IfErr};
+ghost use Rattle.building.specs.Turns.{HasDone, IsStopped};
+
+use super::Worker;
+use crate::{Table, Turn};
+use keybytes::Fault;
+use run_spool::Spool;
+
+impl<S: Spool, T: Table> Worker<S, T> {
+    /// Takes the next copy that it has seen, makes its pairs, spools those that fill a run, and answers 1. The answer is 0 where it has seen
+    /// none, and where the copy is of another build or of other columns, and so is dropped; and where its spools went to the indexes, and it takes
+    /// nothing.
+    pub fn digest(&mut self) -> Result<usize, Fault>
+        ensures done { IfOk result (λ images. HasDone Turn.Digest self.old images self.new) }
+        ensures stopped { IfErr result (λ fault. IsStopped S.is_full S.runs S.open_run S.stake Turn.Digest self.old fault self.new) }
+    {
+        self.take(Turn::Digest)
+    }
+
+    /// Takes all copies that it has seen, spools their pairs, closes the run of each index, and answers how many copies of its build
+    /// and of its maker's columns there were. Where its spools went to the indexes, it takes nothing.
+    pub fn seal(&mut self) -> Result<usize, Fault>
+        ensures done { IfOk result (λ images. HasDone Turn.Seal self.old images self.new) }
+        ensures stopped { IfErr result (λ fault. IsStopped S.is_full S.runs S.open_run S.stake Turn.Seal self.old fault self.new) }
+    {
+        self.take(Turn::Seal)
+    }
+
+    /// Does what that turn asks, as [`Worker::digest`] or [`Worker::seal`].
+    pub fn take(&mut self, turn: Turn) -> Result<usize, Fault>
+        ensures done { IfOk result (λ images. HasDone turn self.old images self.new) }
+        ensures stopped { IfErr result (λ fault. IsStopped S.is_full S.runs S.open_run S.stake turn self.old fault self.new) }
+    {
+        if let Some(fault) = self.fault {
+            return Err(fault);
+        }
+        if self.handed {
+            self.intake.mark(turn);
+            return Ok(0);
+        }
+        match self.intake.take(turn, &mut self.maker, &mut self.spools) {
+            Ok(images) => {
+                self.maker.laws();
+                Ok(images)
+            }
+            Err(fault) => {
+                self.fault = Some(fault);
+                Err(fault)
+            }
+        }
+    }
+}

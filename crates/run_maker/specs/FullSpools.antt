@@ -1,0 +1,25 @@
+-- Spools that have no room left.
+use Rattle.std.specs.Prelude.{◌≡◌, ℕ, [], ◌∷◌, ◌++◌, List, IsPermutation, Some}
+use Rattle.std.specs.List.{slice_get}
+use Rattle.keybytes.specs.declared.pair.Pair.{Pair}
+use Rattle.run_spool.specs.Spools.{all_pairs}
+
+-- these pairs are some of all, or all of them, each at most as often as it is there
+abbrev pub AreSomeOf : List Pair → List Pair → Type 0
+AreSomeOf pairs all = (others : List Pair) × IsPermutation (pairs ++ others) all
+
+module _ {S : Type 0} (is_full : S → Pair → Type 0) (runs : S → List (List Pair)) (open_run : S → List Pair) where
+  -- a spool is full of these pairs: it holds some of them and nothing else, and has no room left for one more of them
+  pub record IsFullOf (pairs : List Pair) (spool : S) : Type 0 where
+    pub pair : Pair
+    pub held : AreSomeOf ((all_pairs (runs spool) ++ open_run spool) ++ pair ∷ []) pairs
+    pub full : is_full spool pair
+
+  -- one of these spools is full of the pairs that are given for its index
+  pub record HasFullOf (AreGiven : ℕ → List Pair → Type 0) (spools : List S) : Type 0 where
+    pub index : ℕ
+    pub spool : S
+    pub there : slice_get spools index ≡ Some spool
+    pub pairs : List Pair
+    pub given : AreGiven index pairs
+    pub full : IsFullOf pairs spool
