@@ -12,7 +12,7 @@ use Rattle.building.specs.TakeEnd.{TakeEnd}
 use Rattle.building.specs.SpoolValue.{SpoolValue, pairs_in, stakes_of}
 use Rattle.building.specs.WorkerValue.{WorkerValue}
 use Rattle.build_scan.specs.SideFiles.{HasLookedAtSide, SeesSide}
-use Rattle.build_work.specs.BuildingValue.{BuildingValue, WorkValue, IndexValue, IsUnloaded, is_unique, with_index}
+use Rattle.build_work.specs.BuildingValue.{BuildingValue, WorkValue, IndexValue, is_unique, with_index}
 use Rattle.build_work.specs.Columns.{column}
 use Rattle.build_work.specs.Keeping.{HaveEachOnce, IsClosed}
 use Rattle.build_work.specs.Holding.{all_spools, ended_column, lent_spools}
