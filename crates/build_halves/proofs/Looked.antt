@@ -45,9 +45,11 @@ workers_after kinds live new_live building new (Some b) (Some w) looked follow =
   many = as_long unseen unseen new.workers building.workers looked.rings.same ∙ follow.many;
   taking = λ fine. rw (same_sent live.pages new_live.pages looked.rings.puts) (taking_same b.number kinds w.specs w.loading _ building.workers new.workers looked.rings.same (follow.taking fine));
   lent = λ fine scans. looked.spools ∙ follow.lent fine scans;
-  drained = λ fine loading.
-      ((follow.drained fine loading).0, sealed_looked (all_sent live.pages) building.workers (all_sent new_live.pages) new.workers
-      (same_sent live.pages new_live.pages looked.rings.puts) looked.rings.same (follow.drained fine loading).1);
+  drained = λ fine loading. (
+    (follow.drained fine loading).0,
+    sealed_looked (all_sent live.pages) building.workers (all_sent new_live.pages) new.workers
+        (same_sent live.pages new_live.pages looked.rings.puts) looked.rings.same (follow.drained fine loading).1,
+  );
   columns = λ fine loading. rw looked.spools (columns_looked building.workers new.workers building.spools w looked.rings.same (follow.columns fine loading));
 }
 

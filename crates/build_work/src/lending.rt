@@ -67,9 +67,7 @@ impl<S: Spool, T: Table> Building<S, T> {
             work,
             of,
         } = self;
-        let Some(work) = work else {
-            unreachable!()
-        };
+        let Some(work) = work else { unreachable!() };
         laws_of(&workers);
         let rest = WithoutWorkers {
             idle,
