@@ -1,5 +1,5 @@
 -- Why a switch waits before its workers are asked.
-use Rattle.std.proofs.Common.{◌≡◌, ℕ, List, Option, Some, None, refl, sym, ap, ◌∙◌}
+use Rattle.std.proofs.Common.{◌≡◌, ℕ, Bool, true, false, if◌then◌else◌, List, Option, Some, None, refl, sym, ap, ◌∙◌}
 use Rattle.std.specs.Prelude.{is_some, not}
 use Rattle.std.specs.Option.{option_map}
 use Rattle.std.specs.List.{position}
@@ -29,30 +29,38 @@ abbrev pub first_unloaded : WorkValue → Option ℕ
 first_unloaded w = position (λ (index : IndexValue). not (is_some index.built)) w.indexes
 
 module _
-    (live : LiveValue) (building : BuildingValue) (b : BuildState) (w : WorkValue) (runs : live.state.build ≡ Some b) (there : building.work ≡ Some w) where
+    (in_order : Bool) (live : LiveValue) (building : BuildingValue) (b : BuildState) (w : WorkValue) (runs : live.state.build ≡ Some b)
+    (there : building.work ≡ Some w) where
+  abbrev unloaded : Option ℕ → Option Fault
+  unloaded index = if in_order then option_map NotLoaded index else None
+
   abbrev early : CoreState → BuildState → Option Fault
-  early s x = first_cause s.work.spoiled (first_cause (option_map NotScanned (open_range x)) (option_map NotLoaded (unloaded_index s.work)))
+  early s x = first_cause s.work.spoiled (first_cause (option_map NotScanned (open_range x)) (unloaded (unloaded_index s.work)))
 
   -- the causes, one after another
   pub early_is :
-      early_cause (core_state live building)
-      ≡ first_cause w.spoiled (first_cause (option_map NotScanned (open_range b)) (option_map NotLoaded (first_unloaded w)))
+      early_cause in_order (core_state live building)
+      ≡ first_cause w.spoiled (first_cause (option_map NotScanned (open_range b)) (unloaded (first_unloaded w)))
   early_is =
       ap (λ (o : Option BuildState). build_cause o (early (core_state live building))) runs
       ∙ ap (λ (o : Option WorkValue). first_cause (work_state building.workers o).spoiled (first_cause (option_map NotScanned (open_range b))
-      (option_map NotLoaded (unloaded_index (work_state building.workers o))))) there
+      (unloaded (unloaded_index (work_state building.workers o))))) there
       ∙ ap (λ (o : Option Fault). first_cause o (first_cause (option_map NotScanned (open_range b))
-      (option_map NotLoaded (unloaded_index (state_unless w.spoiled building.workers w))))) (spoiled_seen w.spoiled building.workers w)
-      ∙ ap (λ (o : Option ℕ). first_cause w.spoiled (first_cause (option_map NotScanned (open_range b)) (option_map NotLoaded o)))
+      (unloaded (unloaded_index (state_unless w.spoiled building.workers w))))) (spoiled_seen w.spoiled building.workers w)
+      ∙ ap (λ (o : Option ℕ). first_cause w.spoiled (first_cause (option_map NotScanned (open_range b)) (unloaded o)))
       (ap (position (λ (index : IndexState). not index.loaded)) (indexes_seen w.spoiled building.workers w) ∙ unloaded_seen w.indexes)
 
   -- of a build that isn't spoiled, and whose pages are all copied
   module _ (fine : w.spoiled ≡ None) (all : open_range b ≡ None) where
-    pub not_loaded : (index : ℕ) → Some index ≡ first_unloaded w → early_cause (core_state live building) ≡ Some (NotLoaded index)
-    not_loaded index is = early_is ∙ rw (fine, all, sym is) refl
+    pub not_loaded : (index : ℕ) → in_order ≡ true → Some index ≡ first_unloaded w → early_cause in_order (core_state live building) ≡ Some (NotLoaded index)
+    not_loaded index asked is =
+        early_is ∙ rw (fine, all, sym is) (ap (λ (t : Bool). if t then Some (NotLoaded index) else None) asked)
 
-    pub no_cause : None ≡ first_unloaded w → early_cause (core_state live building) ≡ None
-    no_cause none = early_is ∙ rw (fine, all, sym none) refl
+    pub no_cause : (in_order ≡ true → None ≡ first_unloaded w) → early_cause in_order (core_state live building) ≡ None
+    no_cause none = early_is ∙ rw (fine, all) (by_asked in_order none) where
+      by_asked : (t : Bool) → (t ≡ true → None ≡ first_unloaded w) → (if t then option_map NotLoaded (first_unloaded w) else None) ≡ None
+      by_asked false found = refl
+      by_asked true found = ap (option_map NotLoaded) (sym (found refl))
 
 -- the first cause that a switch has before its workers are asked is the first that it has
 first_of_more :
@@ -62,7 +70,7 @@ first_of_more None (Some x) c d fault is = is
 first_of_more None None (Some x) d fault is = is
 first_of_more None None None d fault is = absurd (cc)
 
-pub switch_refused : (s : CoreState) (fault : Fault) → early_cause s ≡ Some fault → refusal s Switch ≡ Some fault
+pub switch_refused : (s : CoreState) (fault : Fault) → early_cause true s ≡ Some fault → refusal s Switch ≡ Some fault
 switch_refused s fault is = by_build s.live.build refl where
   by_build : (o : Option BuildState) → s.live.build ≡ o → refusal s Switch ≡ Some fault
   by_build None none =

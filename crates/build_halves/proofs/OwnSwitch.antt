@@ -57,13 +57,13 @@ module _
 
   -- and once its indexes are in order its workers have taken all
   module _ (rings : length live.pages ≡ 16) (keeps : KeepsWork building.workers building.sides building.spools building.work) where
-    none_left : (fault : Fault) → HasLeftCopy live building fault → ⊥
+    none_left : (fault : Fault) → HasLeftCopy true live building fault → ⊥
     none_left fault left =
         let of = left.part.of in
         let b = of.build in
         let w = of.work in
         let run : IsRunning live building b w = running live building b w of.runs of.there follows works in
-        let parts = both_none w.spoiled _ (sym (early_is live building b w of.runs of.there) ∙ left.first) in
+        let parts = both_none w.spoiled _ (sym (early_is true live building b w of.runs of.there) ∙ left.first) in
         let fine : w.spoiled ≡ None = parts.0 in
         let later = both_none (option_map NotScanned (open_range b)) _ parts.1 in
         let kept : IsKept building.workers building.sides building.spools w =
@@ -77,7 +77,7 @@ module _
 
     -- so each refusal of its switch is one of the event
     pub own_refused :
-        (fault : Fault) (new_live : LiveValue) (new : BuildingValue) → core_state new_live new ≡ core_state live building → KeepsOut live building fault
+        (fault : Fault) (new_live : LiveValue) (new : BuildingValue) → core_state new_live new ≡ core_state live building → KeepsOut true live building fault
         → IsRefused (core_state live building) Switch fault (core_state new_live new)
     own_refused fault new_live new unchanged cause = elim cause [
       | inl foreign ↦ no_build foreign
@@ -99,7 +99,7 @@ module _
 -- what was taken in, and its switch refused
 pub refused_after :
     {X : Type 0} (live mid new_live : LiveValue) (building beside new : BuildingValue) (answer : Result X Fault)
-    → core_state mid beside ≡ core_state live building → IsPartOf live building × HaveAll live building → early_cause (core_state live building) ≡ None
+    → core_state mid beside ≡ core_state live building → IsPartOf live building × HaveAll live building → early_cause true (core_state live building) ≡ None
     → IfErr answer (λ fault. IsRefused (core_state mid beside) Switch fault (core_state new_live new)) → WorksOn new_live new
     → IfErr answer (λ fault. RefusesSwitch live building fault new_live new)
 refused_after live mid new_live building beside new (Ok x) same taken first refused works = tt

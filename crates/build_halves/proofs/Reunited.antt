@@ -1,6 +1,6 @@
 -- The work of a build that was kept apart from its table: once all was copied, taken and put in order, it is beside the table as if it had
 -- never been away.
-use Rattle.std.proofs.Common.{◌≡◌, ℕ, zero, suc, ◌+◌, ◌-◌, ◌<◌, ◌≤◌, true, List, [], ◌∷◌, ◌++◌, length, map, take, take_all, drop, Some, None}
+use Rattle.std.proofs.Common.{length-take-le, ◌≡◌, ℕ, zero, suc, ◌+◌, ◌-◌, ◌<◌, ◌≤◌, true, List, [], ◌∷◌, ◌++◌, length, map, take, take_all, drop, Some, None}
 use Rattle.std.proofs.Common.{refl, sym, ap, ◌∙◌, subst, inl, inr, arith, get_or, take-take, take-append-drop, drop-drop}
 use Rattle.std.specs.Prelude.{is_some, not, flat_map, IsPermutation}
 use Rattle.std.specs.FinMap.{keys}
@@ -19,7 +19,7 @@ use Rattle.keybytes.specs.declared.pair.Pair.{Pair}
 use Rattle.keybytes.proofs.PairSets.{same_sets}
 use Rattle.heap_log.specs.declared.record.LogRec.{LogRec}
 use Rattle.heap_table.specs.Images.{ImageValue}
-use Rattle.side_file.specs.Ends.{PutEnd}
+use Rattle.side_file.specs.Ends.{PutEnd, RingId}
 use Rattle.side_file.specs.Entries.{entry_of}
 use Rattle.side_file.specs.Kept.{last_ones}
 use Rattle.side_file.specs.declared.entry.Entry.{Entry}
@@ -32,7 +32,7 @@ use Rattle.building.specs.Holding.{HoldsOpen}
 use Rattle.building.specs.ImagePairs.{HavePairs}
 use Rattle.building.specs.TakeEnd.{TakeEnd}
 use Rattle.building.specs.Taking.{received_images, unsealed_images}
-use Rattle.building.specs.WorkerValue.{WorkerValue}
+use Rattle.building.specs.WorkerValue.{IsCounting, WorkerValue}
 use Rattle.building.specs.declared.copied.Copied.{Copied}
 use Rattle.building.proofs.ManyPairs.{have_split}
 use Rattle.building.proofs.SamePairs.{have_same}
@@ -47,7 +47,7 @@ use Rattle.build_scan.specs.TableBuilds.{IsBuildOf}
 use Rattle.build_scan.proofs.OwnEntries.{all_own_entries, own_all}
 use Rattle.build_scan.proofs.Places.{all_at, all_from, below, map_at, there_is}
 use Rattle.build_work.specs.BuildingValue.{BuildingValue, IndexValue, WorkValue}
-use Rattle.build_work.specs.Keeping.{HasHanded, IsIndexOf, IsKept, all_received}
+use Rattle.build_work.specs.Keeping.{HasHanded, IsIndexOf, IsKept, KeepsLaws, all_received}
 use Rattle.build_work.specs.Rings.{AreSealed, IsSealed, IsWorkerOf, all_sent}
 use Rattle.build_work.specs.WorkOn.{AreAtWork, IsCaughtUpTo, IsIndexOn, IsWorkOn}
 use Rattle.build_work.proofs.Positions.{all_fail}
@@ -133,9 +133,7 @@ all_loaded indexes none k index at = not-false (is_some index.built) (all_fail (
 module _
     (live : LiveValue) (building : BuildingValue) (part : IsPartOf live building)
     (kept : IsKept building.workers building.sides building.spools part.of.work)
-    (follows : IsBuildOf live.state.heap.schema live.state.heap.log part.of.build)
-    -- the pairs of each index are in order
-    (loaded : (k : ℕ) (index : IndexValue) → slice_get part.of.work.indexes k ≡ Some index → is_some index.built ≡ true) where
+    (follows : IsBuildOf live.state.heap.schema live.state.heap.log part.of.build) where
   abbrev b : BuildState
   b = part.of.build
 
@@ -152,18 +150,18 @@ module _
   first_index : (index : IndexValue) × (slice_get w.indexes 0 ≡ Some index)
   first_index = there_is w.indexes 0 (omega (arith, follows.some_index, kept.many, ap length part.of.specs))
 
-  -- so the workers have handed their spools over
-  pub loading : w.loading ≡ true
-  loading = elim (cases_Bool w.loading) [
+  -- so where all are in order the workers have handed their spools over
+  pub loading : ((k : ℕ) (index : IndexValue) → slice_get w.indexes k ≡ Some index → is_some index.built ≡ true) → w.loading ≡ true
+  loading loaded = elim (cases_Bool w.loading) [
     | inl loads ↦ loads
     | inr scans ↦
         let none = all_at (λ (i : IndexValue). i.built ≡ None) w.indexes 0 first_index.0 (kept.unloaded scans) first_index.1 in
         absurd (false≢true (sym (ap is_some none) ∙ loaded 0 first_index.0 first_index.1))
   ]
 
-  -- one of the workers
-  handed : (k : ℕ) (worker : WorkerValue) → slice_get building.workers k ≡ Some worker → HasHanded w.specs worker
-  handed k worker at = all_at (HasHanded w.specs) building.workers k worker (kept.handed loading) at
+  -- one of the workers, from the first load on
+  handed : w.loading ≡ true → (k : ℕ) (worker : WorkerValue) → slice_get building.workers k ≡ Some worker → HasHanded w.specs worker
+  handed loads k worker at = all_at (HasHanded w.specs) building.workers k worker (kept.handed loads) at
 
   -- where each worker's specifications are of the columns that it reads, these are the table's
   pub same_columns :
@@ -181,6 +179,7 @@ module _
       (given : building.given ≡ true) (pages : EachPageOnce kinds log b (all_sent live.pages))
       (entries : EachEntryOnce log b live.sides) (page_rings : length live.pages ≡ 16) (entry_rings : length live.sides ≡ 8)
       (taken_rings : length building.sides ≡ 8) (all : open_range b ≡ None) (sealed : AreSealed (all_sent live.pages) building.workers)
+      (rings : List RingId) (laws : All (KeepsLaws rings) building.workers)
       -- the workers read rows of the table's columns
       (schemas : All (λ worker. worker.maker.schema ≡ kinds) building.workers) where
     columns : All (λ spec. spec.kinds ≡ kinds) w.specs
@@ -190,8 +189,11 @@ module _
     module _
         (k : ℕ) (sent : List Copied) (worker : WorkerValue) (there : slice_get (all_sent live.pages) k ≡ Some sent)
         (at : slice_get building.workers k ≡ Some worker) where
-      its : HasHanded w.specs worker
-      its = handed k worker at
+      keeps : KeepsLaws rings worker
+      keeps = all_at (KeepsLaws rings) building.workers k worker laws at
+
+      counting : IsCounting worker.intake worker.maker
+      counting = keeps.counting (kept.placed k worker at).fine
 
       done : IsSealed sent worker
       done = sealed k sent worker there at
@@ -208,20 +210,22 @@ module _
         schema = schema;
         specs_are = (kept.placed k worker at).specs_are;
         handed = (kept.placed k worker at).spools_are;
-        own = λ scans. absurd (false≢true (sym scans ∙ loading));
-        none = λ loads. its.none;
+        own = λ scans.
+            let is = kept.placed k worker at in
+            (keeps.holding is.fine (is.spools_are ∙ scans)).many ∙ ap length is.specs_are;
+        none = λ loads. (handed loads k worker at).none;
         opened = λ loads index spec is.
             let kinds_are : worker.maker.schema ≡ spec.kinds = schema ∙ sym (all_at (λ (s : KeySpecValue). s.kinds ≡ kinds) w.specs index spec columns is) in
             subst (λ (ks : List Kind). HoldsOpen spec (unsealed_images ks worker.intake) (get_or worker.maker.begun index [])) kinds_are
             (subst (λ (s : KeySpecValue). HoldsOpen s (unsealed_images worker.maker.schema worker.intake) (get_or worker.maker.begun index []))
-            (spec_is w.specs index spec is) (its.opened index (below w.specs index spec is)));
+            (spec_is w.specs index spec is) ((handed loads k worker at).opened index (below w.specs index spec is)));
         taking = record {
           of_build = of_build;
           rest = [];
           in_order = append-nil worker.intake.end.received ∙ done.taken;
           own = All-nil (IsFor b.number kinds);
-          taken = its.counting.taken ∙ ap (λ (ks : List Kind). length (received_images ks worker.intake)) schema;
-          sealed_was_taken = its.counting.sealed_was_taken;
+          taken = counting.taken ∙ ap (λ (ks : List Kind). length (received_images ks worker.intake)) schema;
+          sealed_was_taken = counting.sealed_was_taken;
         };
       }
 
@@ -319,7 +323,10 @@ module _
       index_on : IsIndexOn log b spec index
       index_on = record {
         all = λ some. all;
-        none_before = λ none. absurd (false≢true (sym (ap is_some none) ∙ loaded k index there));
+        none_before = λ none.
+            let untold : take index.applied changes ≡ [] = sym told_is ∙ its_index.none_before none in
+            let many = length-take-le index.applied changes (omega (arith, ring.counted, fed.there)) in
+            omega (arith, many, ap length untold);
         there = omega (arith, ring.counted, fed.there);
         loaded = caught_up;
         of_build = λ built is. its_index.of_build built is ∙ part.of.number;
@@ -343,7 +350,7 @@ module _
       given = given;
       many = part.of.workers;
       taking = λ goes_on. is_worker;
-      lent = λ goes_on scans. absurd (false≢true (sym scans ∙ loading));
+      lent = λ goes_on. kept.lent;
       drained = λ goes_on loads. (all, sealed);
       columns = λ goes_on. kept.columns;
     }

@@ -1,14 +1,14 @@
 -- What was kept apart from a table is taken in for a switch, or isn't.
-use Rattle.std.proofs.Common.{◌≡◌, ℕ, ◌<◌, true, false, List, [], length, map, Option, Some, None, refl, sym, ap, ◌∙◌, subst, inl, inr}
-use Rattle.std.specs.Prelude.{IfSome, is_some, not}
-use Rattle.std.specs.List.{All, AllZip, position, slice_get}
+use Rattle.std.proofs.Common.{arith, Bool, ◌≡◌, ℕ, ◌<◌, true, false, List, [], length, map, Option, Some, None, refl, sym, ap, ◌∙◌, subst, inl, inr}
+use Rattle.std.specs.Prelude.{IfSome}
+use Rattle.std.specs.List.{All, AllZip, slice_get}
 use Rattle.std.proofs.lemmas.Bool.{cases_Bool}
 use Rattle.keybytes.specs.declared.fault.Fault.{Fault}
 use Rattle.keybytes.specs.declared.fault.Fault.TheVariants.{NoBuild, NotSealed}
-use Rattle.side_file.specs.Ends.{PutEnd}
+use Rattle.side_file.specs.Ends.{PutEnd, RingId}
 use Rattle.side_file.specs.declared.entry.Entry.{Entry}
 use Rattle.building.specs.TakeEnd.{PutEndLooked}
-use Rattle.building.specs.WorkerValue.{WorkerValue}
+use Rattle.building.specs.WorkerValue.{IsHolding, WorkerValue}
 use Rattle.building.specs.declared.copied.Copied.{Copied}
 use Rattle.build_events.specs.BuildSteps.{OnBuild}
 use Rattle.build_events.specs.CoreState.{BuildState, LiveState}
@@ -16,49 +16,48 @@ use Rattle.build_events.specs.Ranges.{open_range}
 use Rattle.build_scan.specs.SideFiles.{EachEntryOnce}
 use Rattle.build_scan.specs.TableBuilds.{BuildFollows, IsBuildOf}
 use Rattle.build_scan.proofs.Places.{all_at, all_from, as_long, same_at}
-use Rattle.build_work.specs.BuildingValue.{BuildingValue, IndexValue, WorkValue}
-use Rattle.build_work.specs.Keeping.{HasHanded, IsKept, KeepsWork}
+use Rattle.build_work.specs.BuildingValue.{BuildingValue, WorkValue}
+use Rattle.build_work.specs.Keeping.{IsKept, KeepsLaws, KeepsWork}
 use Rattle.build_work.specs.Rings.{AreLooked, FirstAreSealed, IsUnsealed, all_sent, unseen}
 use Rattle.build_work.proofs.Looks.{first_looked, same_sent, sealed_looked}
 use Rattle.build_scan.proofs.LookedEnds.{all_unlooked}
-use Rattle.build_halves.specs.Builds.{HasLooked, LiveValue, WorksOn, core_state}
+use Rattle.build_halves.specs.Builds.{HasLooked, IsRunning, LiveValue, MayLoad, WorksOn, core_state}
 use Rattle.build_halves.specs.Invariant.{EachPageOnce}
-use Rattle.build_halves.specs.Switching.{HaveAll, IsKeptOut, IsLoadedWhole, IsOnlyLookedAt, IsPartOf, IsScannedWhole, SidesAreLooked, early_cause, unseen_take}
+use Rattle.build_halves.specs.Switching.{HaveAll, IsKeptOut, IsOnlyLookedAt, IsPartOf, IsTakenIn, SidesAreLooked, early_cause, unseen_take}
 use Rattle.build_halves.proofs.Looked.{state_looked, works_looked}
 use Rattle.build_halves.proofs.PartOf.{SidesAreSame, looked_back, part_looked, sides_same, state_sides_looked, works_sides_looked}
-use Rattle.build_halves.proofs.Reunited.{all_loaded, loading, reunited, same_columns}
+use Rattle.build_halves.proofs.Refusals.{running}
+use Rattle.build_halves.proofs.Reunited.{reunited, same_columns}
 
--- what is part of the build, and of which nothing is left over, works on it
+-- what is taken in works on the build
 pub works_again :
-    (live : LiveValue) (building : BuildingValue) → IsPartOf live building → IsScannedWhole live → IsLoadedWhole building → HaveAll live building
+    (live : LiveValue) (building : BuildingValue) → IsTakenIn live building
     → BuildFollows live.state.heap.schema live.state.heap.log live.state.build
     → IfSome live.state.build (λ b. EachPageOnce live.state.heap.schema live.state.heap.log b (all_sent live.pages))
     → IfSome live.state.build (λ b. EachEntryOnce live.state.heap.log b live.sides) → length live.pages ≡ 16 → length live.sides ≡ 8 → length building.sides ≡ 8
-    → (building.given ≡ false → building.work ≡ None) → KeepsWork building.workers building.sides building.spools building.work → WorksOn live building
-works_again live building part scanned whole sealed follows pages entries page_rings entry_rings taken_rings given keeps =
+    → (building.given ≡ false → building.work ≡ None) → (rings : List RingId) → All (KeepsLaws rings) building.workers
+    → KeepsWork building.workers building.sides building.spools building.work → WorksOn live building
+works_again live building taken follows pages entries page_rings entry_rings taken_rings given rings laws keeps =
+    let part : IsPartOf live building = taken.part in
     let b : BuildState = part.of.build in
     let w : WorkValue = part.of.work in
     let build_of : IsBuildOf live.state.heap.schema live.state.heap.log b =
     subst (BuildFollows live.state.heap.schema live.state.heap.log) part.of.runs follows in
-    let all : open_range b ≡ None = subst (λ (o : Option BuildState). OnBuild o (λ x. open_range x ≡ None)) part.of.runs scanned in
-    let done : (w.spoiled ≡ None) × (None ≡ position (λ (index : IndexValue). not (is_some index.built)) w.indexes) =
-    subst (λ (o : Option WorkValue). IfSome o (λ x. (x.spoiled ≡ None) × (None ≡ position (λ (index : IndexValue). not (is_some index.built)) x.indexes)))
-    part.of.there whole in
+    let all : open_range b ≡ None = subst (λ (o : Option BuildState). OnBuild o (λ x. open_range x ≡ None)) part.of.runs taken.scanned in
+    let fine : w.spoiled ≡ None = subst (λ (o : Option WorkValue). IfSome o (λ x. x.spoiled ≡ None)) part.of.there taken.fine in
     let kept : IsKept building.workers building.sides building.spools w =
-    (subst (KeepsWork building.workers building.sides building.spools) part.of.there keeps) done.0 in
-    let in_order = all_loaded w.indexes done.1 in
+    (subst (KeepsWork building.workers building.sides building.spools) part.of.there keeps) fine in
     let was_given : building.given ≡ true = elim (cases_Bool building.given) [
       | inl is ↦ is
       | inr isnt ↦ absurd (let bad : None ≡ Some w = sym (given isnt) ∙ part.of.there in cc)
     ] in
-    let loads = loading live building part kept build_of in_order in
     let own : All (λ (worker : WorkerValue). All (λ spec. spec.kinds ≡ worker.maker.schema) worker.maker.specs) building.workers =
     all_from (λ (worker : WorkerValue). All (λ spec. spec.kinds ≡ worker.maker.schema) worker.maker.specs) building.workers
-    (λ k worker at. (all_at (HasHanded w.specs) building.workers k worker (kept.handed loads) at).columns) in
-    reunited live building part kept build_of in_order was_given
+    (λ k worker at. (all_at (KeepsLaws rings) building.workers k worker laws at).columns) in
+    reunited live building part kept build_of was_given
     (subst (λ (o : Option BuildState). IfSome o (λ x. EachPageOnce live.state.heap.schema live.state.heap.log x (all_sent live.pages))) part.of.runs pages)
     (subst (λ (o : Option BuildState). IfSome o (λ x. EachEntryOnce live.state.heap.log x live.sides)) part.of.runs entries)
-    page_rings entry_rings taken_rings all sealed (same_columns live building part kept build_of in_order own)
+    page_rings entry_rings taken_rings all taken.all rings laws (same_columns live building part kept build_of own)
 
 -- two looks leave the rest of what stands beside the table
 rest_same :
@@ -89,7 +88,7 @@ part_rings_looked live new_live building new looked part = record {
 }
 
 -- the side-files' rings were looked at
-module _ (live mid_live : LiveValue) (building mid : BuildingValue) (sides : SidesAreLooked live building mid_live mid) where
+module _ (in_order : Bool) (live mid_live : LiveValue) (building mid : BuildingValue) (sides : SidesAreLooked live building mid_live mid) where
   abbrev same : SidesAreSame live building mid_live mid
   same = sides_same live mid_live building mid sides
 
@@ -114,13 +113,13 @@ module _ (live mid_live : LiveValue) (building mid : BuildingValue) (sides : Sid
     rest = sides.of_building ∙ ap (λ (ws : List WorkerValue). record building { workers = ws; sides = mid.sides }) (sym (ap (λ (b : BuildingValue). b.workers) sides.of_building));
   }
 
-  pub kept_early : (fault : Fault) → IsPartOf mid_live mid → early_cause (core_state mid_live mid) ≡ Some fault → IsKeptOut live building fault mid_live mid
+  pub kept_early : (fault : Fault) → IsPartOf mid_live mid → early_cause in_order (core_state mid_live mid) ≡ Some fault → IsKeptOut in_order live building fault mid_live mid
   kept_early fault part cause = record {
-    cause = inr (inl (record { part = was_part part; cause = ap early_cause (sym same_state) ∙ cause }));
+    cause = inr (inl (record { part = was_part part; cause = ap (early_cause in_order) (sym same_state) ∙ cause }));
     looked = sides_only;
   }
 
-  pub kept_foreign : (IsPartOf live building → ⊥) → IsKeptOut live building NoBuild mid_live mid
+  pub kept_foreign : (IsPartOf live building → ⊥) → IsKeptOut in_order live building NoBuild mid_live mid
   kept_foreign foreign = record { cause = inl (record { foreign = foreign; no_build = refl }); looked = sides_only }
 
   -- and then those of the workers
@@ -170,15 +169,15 @@ module _ (live mid_live : LiveValue) (building mid : BuildingValue) (sides : Sid
         })
 
     pub kept_left :
-        (worker : ℕ) → IsPartOf mid_live mid → early_cause (core_state mid_live mid) ≡ None → worker < length new.workers
+        (worker : ℕ) → IsPartOf mid_live mid → early_cause in_order (core_state mid_live mid) ≡ None → worker < length new.workers
         → FirstAreSealed worker (all_sent new_live.pages) new.workers → IsUnsealed worker (all_sent new_live.pages) new.workers
-        → IsKeptOut live building (NotSealed worker) new_live new
+        → IsKeptOut in_order live building (NotSealed worker) new_live new
     kept_left worker part none less lower unsealed =
         let many = as_long unseen unseen new.workers building.workers both.same in
         record {
           cause = inr (inr (record {
             part = was_part part;
-            first = ap early_cause (sym same_state) ∙ none;
+            first = ap (early_cause in_order) (sym same_state) ∙ none;
             worker = worker;
             lowest = record {
               there = subst (λ (n : ℕ). worker < n) many less;
@@ -191,5 +190,31 @@ module _ (live mid_live : LiveValue) (building mid : BuildingValue) (sides : Sid
         }
 
     -- what was taken in was part of the build, which nothing held back
-    pub first_none : early_cause (core_state mid_live mid) ≡ None → early_cause (core_state live building) ≡ None
-    first_none none = ap early_cause (sym same_state) ∙ none
+    pub first_none : early_cause in_order (core_state mid_live mid) ≡ None → early_cause in_order (core_state live building) ≡ None
+    first_none none = ap (early_cause in_order) (sym same_state) ∙ none
+
+-- and its workers may hand their spools over
+pub may_hand_over :
+    (live : LiveValue) (building : BuildingValue) → IsTakenIn live building
+    → BuildFollows live.state.heap.schema live.state.heap.log live.state.build → WorksOn live building → (rings : List RingId)
+    → All (KeepsLaws rings) building.workers → KeepsWork building.workers building.sides building.spools building.work → MayLoad live building 0
+may_hand_over live building taken follows works rings laws keeps =
+    let of = taken.part.of in
+    let b : BuildState = of.build in
+    let w : WorkValue = of.work in
+    let run : IsRunning live building b w = running live building b w of.runs of.there follows works in
+    let fine : w.spoiled ≡ None = subst (λ (o : Option WorkValue). IfSome o (λ x. x.spoiled ≡ None)) of.there taken.fine in
+    let kept : IsKept building.workers building.sides building.spools w =
+    (subst (KeepsWork building.workers building.sides building.spools) of.there keeps) fine in
+    record {
+      build = b;
+      work = w;
+      runs = run;
+      fine = fine;
+      there = let some = run.follows.some_index in omega (arith, some, ap length of.specs);
+      all = subst (λ (o : Option BuildState). OnBuild o (λ x. open_range x ≡ None)) of.runs taken.scanned;
+      sealed = taken.all;
+      holding = λ scans. all_from (λ (worker : WorkerValue). IsHolding worker.intake worker.maker worker.spools) building.workers (λ k worker at.
+          let is = kept.placed k worker at in
+          (all_at (KeepsLaws rings) building.workers k worker laws at).holding is.fine (is.spools_are ∙ scans));
+    }

@@ -1,7 +1,7 @@
 -- What a switch asks of what stands beside the table, and why it is refused.
-use Rattle.std.specs.Prelude.{◌≡◌, ℕ, ◌<◌, ◌⊎◌, [], is_some, not, length, map, Option, Some, None, IfSome}
+use Rattle.std.specs.Prelude.{◌≡◌, ℕ, ◌<◌, ◌⊎◌, [], length, map, Option, Some, None, IfSome, Bool, true, if◌then◌else◌}
 use Rattle.std.specs.Option.{option_map}
-use Rattle.std.specs.List.{AllZip, position, slice_get}
+use Rattle.std.specs.List.{AllZip, slice_get}
 use Rattle.keybytes.specs.Faults.{first_cause}
 use Rattle.keybytes.specs.declared.fault.Fault.{Fault}
 use Rattle.keybytes.specs.declared.fault.Fault.TheVariants.{NoBuild, NotLoaded, NotScanned, NotSealed}
@@ -66,16 +66,15 @@ pub record IsOnlyLookedAt (live : LiveValue) (building : BuildingValue) (new_liv
 abbrev pub IsScannedWhole : LiveValue → Type 0
 IsScannedWhole live = OnBuild live.state.build (λ b. open_range b ≡ None)
 
--- its work isn't spoiled, and each of its indexes is in order
-abbrev pub IsLoadedWhole : BuildingValue → Type 0
-IsLoadedWhole building =
-    IfSome building.work (λ w. (w.spoiled ≡ None) × (None ≡ position (λ (index : IndexValue). not (is_some index.built)) w.indexes))
+-- its work isn't spoiled
+abbrev pub GoesOn : BuildingValue → Type 0
+GoesOn building = IfSome building.work (λ w. w.spoiled ≡ None)
 
--- what keeps a switch waiting before its workers are asked: the build is spoiled, a page isn't copied, an index isn't in order
-abbrev pub early_cause : CoreState → Option Fault
-early_cause s =
+-- what keeps a build waiting before its workers are asked: it is spoiled, a page isn't copied, or an index isn't in order where all have to be
+abbrev pub early_cause : Bool → CoreState → Option Fault
+early_cause in_order s =
     build_cause s.live.build (λ b.
-    first_cause s.work.spoiled (first_cause (option_map NotScanned (open_range b)) (option_map NotLoaded (unloaded_index s.work))))
+    first_cause s.work.spoiled (first_cause (option_map NotScanned (open_range b)) (if in_order then option_map NotLoaded (unloaded_index s.work) else None)))
 
 -- this is the lowest worker for which a copy waits, or whose run is open
 pub record IsLowestUnsealed (live : LiveValue) (building : BuildingValue) (worker : ℕ) : Type 0 where
@@ -87,33 +86,41 @@ pub record IsLowestUnsealed (live : LiveValue) (building : BuildingValue) (worke
 abbrev pub HaveAll : LiveValue → BuildingValue → Type 0
 HaveAll live building = AreSealed (all_sent live.pages) building.workers
 
+-- what stands beside the table is of the build that runs and goes on, and nothing is left of what was copied for it
+pub record IsTakenIn (live : LiveValue) (building : BuildingValue) : Type 0 where
+  pub part : IsPartOf live building
+  pub fine : GoesOn building
+  pub scanned : IsScannedWhole live
+  pub all : HaveAll live building
+
 -- what stands beside the table isn't of the build that runs
 pub record IsForeign (live : LiveValue) (building : BuildingValue) (fault : Fault) : Type 0 where
   pub foreign : IsPartOf live building → ⊥
   pub no_build : fault ≡ NoBuild
 
 -- a cause stands that comes before the workers are asked
-pub record IsTooEarly (live : LiveValue) (building : BuildingValue) (fault : Fault) : Type 0 where
+pub record IsTooEarly (in_order : Bool) (live : LiveValue) (building : BuildingValue) (fault : Fault) : Type 0 where
   pub part : IsPartOf live building
-  pub cause : early_cause (core_state live building) ≡ Some fault
+  pub cause : early_cause in_order (core_state live building) ≡ Some fault
 
 -- a copy is left in a ring, or a run is open
-pub record HasLeftCopy (live : LiveValue) (building : BuildingValue) (fault : Fault) : Type 0 where
+pub record HasLeftCopy (in_order : Bool) (live : LiveValue) (building : BuildingValue) (fault : Fault) : Type 0 where
   pub part : IsPartOf live building
-  pub first : early_cause (core_state live building) ≡ None
+  pub first : early_cause in_order (core_state live building) ≡ None
   pub worker : ℕ
   pub lowest : IsLowestUnsealed live building worker
   pub not_sealed : fault ≡ NotSealed worker
 
--- why the table doesn't take in what stands beside it
-abbrev pub KeepsOut : LiveValue → BuildingValue → Fault → Type 0
-KeepsOut live building fault = IsForeign live building fault ⊎ IsTooEarly live building fault ⊎ HasLeftCopy live building fault
+-- why the table doesn't take in what stands beside it, where its indexes have to be in order or not
+abbrev pub KeepsOut : Bool → LiveValue → BuildingValue → Fault → Type 0
+KeepsOut in_order live building fault =
+    IsForeign live building fault ⊎ IsTooEarly in_order live building fault ⊎ HasLeftCopy in_order live building fault
 
 -- it was kept out, and looked at only
 pub record IsKeptOut
-    (live : LiveValue) (building : BuildingValue) (fault : Fault) (new_live : LiveValue) (new_building : BuildingValue)
+    (in_order : Bool) (live : LiveValue) (building : BuildingValue) (fault : Fault) (new_live : LiveValue) (new_building : BuildingValue)
     : Type 0 where
-  pub cause : KeepsOut live building fault
+  pub cause : KeepsOut in_order live building fault
   pub looked : IsOnlyLookedAt live building new_live new_building
 
 -- it was taken in, and its switch refused as the event is; the same switch can be tried again
@@ -121,7 +128,7 @@ pub record IsSwitchRefused
     (live : LiveValue) (building : BuildingValue) (fault : Fault) (new_live : LiveValue) (new_building : BuildingValue)
     : Type 0 where
   pub part : IsPartOf live building
-  pub first : early_cause (core_state live building) ≡ None
+  pub first : early_cause true (core_state live building) ≡ None
   pub all : HaveAll live building
   pub refused : IsRefused (core_state live building) Switch fault (core_state new_live new_building)
   pub works : WorksOn new_live new_building
@@ -129,4 +136,4 @@ pub record IsSwitchRefused
 -- why the table doesn't switch in what stands beside it, and what that leaves
 abbrev pub RefusesSwitch : LiveValue → BuildingValue → Fault → LiveValue → BuildingValue → Type 0
 RefusesSwitch live building fault new_live new_building =
-    IsKeptOut live building fault new_live new_building ⊎ IsSwitchRefused live building fault new_live new_building
+    IsKeptOut true live building fault new_live new_building ⊎ IsSwitchRefused live building fault new_live new_building

@@ -26,8 +26,10 @@ impl<S: Spool, T: Table> Building<S, T> {
         ensures workers { self.now.work ≡ None → self.now.workers ≡ [] }
         ensures given { self.now.given ≡ false → self.now.work ≡ None }
         ensures kept { KeepsWork self.now.workers self.now.sides self.now.spools self.now.work }
+        ensures each { All (KeepsLaws T.pages) self.now.workers }
     {
         let _kept = &self.given;
+        laws_of(&self.workers);
     }
 
     /// How many copies wait for a worker of the build that runs. Takes no memory.

@@ -2,7 +2,7 @@
 ghost use Rattle.std.specs.Prelude.{◌≡◌, ◌<◌, ◌↔◌, All, IsTrue, length, true, false, None, Some, IfErr, IfSome, OnOk, MatchResult};
 ghost use Rattle.build_events.specs.BuildSteps.{OnBuild};
 ghost use Rattle.build_halves.specs.Builds.{core_state, SideIsLooked, SeesSideAt, WorksOn};
-ghost use Rattle.build_halves.specs.Switching.{IsFedAt, IsLoadedWhole, IsOfBuild, IsPartOf, IsScannedWhole, SidesAreLooked};
+ghost use Rattle.build_halves.specs.Switching.{GoesOn, IsFedAt, IsOfBuild, IsPartOf, IsScannedWhole, IsTakenIn, SidesAreLooked};
 ghost use Rattle.build_halves.specs.Switching.{early_cause, HaveAll, IsOnlyLookedAt, KeepsOut};
 
 use crate::{Building, Live, Table};
@@ -10,22 +10,27 @@ use keybytes::{Fault, KeySpec, Schema};
 use run_spool::Spool;
 
 impl<T: Table> Live<T> {
-    /// Looks whether a switch can take in what stands beside the table, of which it may have been kept apart: it is of the build that runs,
-    /// all was copied and taken and put in order. [`Fault::NoBuild`], the fault of a spoiled build, [`Fault::NotScanned`],
-    /// [`Fault::NotLoaded`], [`Fault::NotSealed`]. Takes no memory.
-    pub(crate) fn take_in<S: Spool>(&mut self, building: &mut Building<S, T>) -> Result<(), Fault>
+    /// Looks whether what stands beside the table can be taken in, from which it may have been kept apart: it is of the build that runs,
+    /// all was copied and taken, and put in order where that is asked. [`Fault::NoBuild`], the fault of a spoiled build,
+    /// [`Fault::NotScanned`], [`Fault::NotLoaded`], [`Fault::NotSealed`]. Takes no memory.
+    pub(crate) fn take_in<S: Spool>(
+        &mut self,
+        building: &mut Building<S, T>,
+        in_order: bool,
+    ) -> Result<(), Fault>
         ensures works { OnOk result (WorksOn self.new building.new) }
+        ensures taken { OnOk result (IsTakenIn self.new building.new) }
         ensures all { OnOk result (IsPartOf self.old building.old × HaveAll self.old building.old) }
-        ensures first { OnOk result (early_cause (core_state self.old building.old) ≡ None) }
+        ensures first { OnOk result (early_cause in_order (core_state self.old building.old) ≡ None) }
         ensures state { core_state self.new building.new ≡ core_state self.old building.old }
         ensures kept { WorksOn self.old building.old → WorksOn self.new building.new }
-        ensures out { IfErr result (KeepsOut self.old building.old) }
+        ensures out { IfErr result (KeepsOut in_order self.old building.old) }
         ensures looked { IsOnlyLookedAt self.old building.old self.new building.new }
     {
         if !self.is_part(building) {
             return Err(Fault::NoBuild);
         }
-        self.check_early(building)?;
+        self.check_early(building, in_order)?;
         if let Some(worker) = self.unsealed(building) {
             return Err(Fault::NotSealed(worker));
         }
@@ -35,10 +40,7 @@ impl<T: Table> Live<T> {
 
     /// Does nothing: its clause tells that the work of which nothing is left over is beside the table as if it had never been apart.
     fn reunite<S: Spool>(&self, building: &Building<S, T>)
-        requires part { IsPartOf self.now building.now }
-        requires scanned { IsScannedWhole self.now }
-        requires loaded { IsLoadedWhole building.now }
-        requires sealed { HaveAll self.now building.now }
+        requires { IsTakenIn self.now building.now }
         ensures { WorksOn self.now building.now }
     {
         self.laws();
@@ -124,14 +126,18 @@ impl<T: Table> Live<T> {
         applied <= fed && waiting == fed - applied
     }
 
-    /// Why a switch waits before its workers are asked. Takes no memory.
-    pub(crate) fn check_early<S: Spool>(&self, building: &Building<S, T>) -> Result<(), Fault>
+    /// Why a build waits before its workers are asked, whose indexes have to be in order or not. Takes no memory.
+    pub(crate) fn check_early<S: Spool>(
+        &self,
+        building: &Building<S, T>,
+        in_order: bool,
+    ) -> Result<(), Fault>
         requires { IsOfBuild self.now building.now }
         ensures cause { MatchResult result
-            (λ _. early_cause (core_state self.now building.now) ≡ None)
-            (λ fault. early_cause (core_state self.now building.now) ≡ Some fault) }
+            (λ _. early_cause in_order (core_state self.now building.now) ≡ None)
+            (λ fault. early_cause in_order (core_state self.now building.now) ≡ Some fault) }
         ensures scanned { OnOk result (IsScannedWhole self.now) }
-        ensures loaded { OnOk result (IsLoadedWhole building.now) }
+        ensures fine { OnOk result (GoesOn building.now) }
     {
         let (Some(build), Some(work)) = (self.build(), building.work()) else {
             unreachable!()
@@ -139,6 +145,9 @@ impl<T: Table> Live<T> {
         work.check()?;
         if let Some(range) = build.first_open() {
             return Err(Fault::NotScanned(range));
+        }
+        if !in_order {
+            return Ok(());
         }
         if let Some(index) = work.first_unloaded() {
             return Err(Fault::NotLoaded(index));

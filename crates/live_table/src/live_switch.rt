@@ -178,7 +178,7 @@ impl<T: Table> Live<T> {
         // What both keep is known once it is told.
         building.laws();
         let _pages = &self.pages;
-        self.take_in(building)?;
+        self.take_in(building, true)?;
         self.switch_own(building)
     }
 

@@ -1,10 +1,11 @@
 //! The steps of a build in which its workers have a part, with both ends of their rings at hand.
-ghost use Rattle.std.specs.Prelude.{◌≡◌, ◌++◌, ◌<◌, ◌≤◌, ◌+◌, All, length, slice_get, false, Some, None, IsSome, IfSome, IfOk, IfErr, OnOk, OnErr, MatchOption, MatchResult};
+ghost use Rattle.std.specs.Prelude.{ℕ, ◌≡◌, ◌++◌, ◌<◌, ◌≤◌, ◌+◌, All, length, slice_get, false, Some, None, IsSome, IfSome, IfOk, IfErr, OnOk, OnErr, MatchOption, MatchResult};
 ghost use Rattle.side_file.specs.Ends.{PutEnd};
 ghost use Rattle.build_work.specs.Keeping.{KeepsLaws};
 ghost use Rattle.building.specs.declared.copied.Copied.{Copied};
 ghost use Rattle.build_halves.specs.Builds.{core_state, cause_of, put_refusal, HasLooked, SeesRing, IsLoading, MayWork, MayLoad, WorksOn};
-ghost use Rattle.build_halves.specs.Switching.{HaveAll, IsLowestUnsealed};
+ghost use Rattle.build_halves.specs.Switching.{early_cause, HaveAll, IsKeptOut, IsLowestUnsealed, IsPartOf};
+ghost use Rattle.build_work.specs.Working.{CanLoad};
 ghost use Rattle.build_halves.specs.Turns.{HasTurn, IsTurnRefused};
 ghost use Rattle.build_work.specs.Rings.{all_sent, AreSealed, FirstAreSealed, IsUnsealed};
 ghost use Rattle.build_halves.specs.Rings.{PagesFollow};
@@ -175,6 +176,27 @@ impl<T: Table> Live<T> {
             Some(worker) => Err(Fault::NotSealed(worker)),
             None => Ok(()),
         }
+    }
+
+    /// Ends the scans of a build, in one look at what stands beside the table, from which it may have been kept apart: once all pages were
+    /// copied, and the workers took all and closed their runs, they hand their spools over, and each index can be loaded without the table. Nothing
+    /// changes where they did so before. [`Fault::NoBuild`], also where what stands beside the table is another build's; the fault of a spoiled
+    /// build, [`Fault::NotScanned`], [`Fault::NotSealed`]. Takes no memory.
+    pub fn end_scan<S: Spool>(&mut self, building: &mut Building<S, T>) -> Result<(), Fault>
+        ensures loads { OnOk result ((index : ℕ) → IfSome building.new.work (λ w. index < length w.specs) → CanLoad index building.new) }
+        ensures works { OnOk result (WorksOn self.new building.new) }
+        ensures all { OnOk result (IsPartOf self.old building.old × HaveAll self.old building.old) }
+        ensures first { OnOk result (early_cause false (core_state self.old building.old) ≡ None) }
+        ensures out { IfErr result (λ fault. IsKeptOut false self.old building.old fault self.new building.new) }
+        ensures state { core_state self.new building.new ≡ core_state self.old building.old }
+        ensures kept { WorksOn self.old building.old → WorksOn self.new building.new }
+    {
+        self.take_in(building, false)?;
+        building.laws();
+        // What the table keeps is known once one of its fields is reached.
+        let _build = &self.build;
+        self.hand_over(0, building);
+        Ok(())
     }
 
     /// Puts the pairs of the index in order that the workers made, and answers how many there are; 0 where they are in order

@@ -1,0 +1,11 @@
+use Rattle.std.proofs.Common.{subst}
+use Rattle.build_scan.specs.TableBuilds.{BuildFollows}
+use Rattle.build_halves.specs.Builds.{LiveValue}
+use Rattle.build_halves.proofs.TakenIn.{may_hand_over}
+use Rattle.live_table.proofs.live.Live.end_scan.Goals as goal
+
+pub hand_over-requires : goal.hand_over-requires
+hand_over-requires g c =
+    let follows = subst (λ (l : LiveValue). BuildFollows l.state.heap.schema l.state.heap.log l.state.build) c.self.view_is c.self.invariant.1 in
+    may_hand_over c.take_in.new.self c.take_in.new.building c.in_ok-take_in.ensures.taken follows c.in_ok-take_in.ensures.works g.T.Table.pages
+    c.laws.ensures.each c.laws.ensures.kept
