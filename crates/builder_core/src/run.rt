@@ -21,7 +21,8 @@ pub fn run_events<S: Spool, T: Table>(
     events: &[Event],
 ) -> (Live<T>, Ends<T>, Vec<S>, Result<Vec<Reply>, Fault>)
     ensures headline { IfOk result.3 (λ replies.
-        RunsAsAtRest (WantedPage S.is_full S.runs S.open_run S.stake) live.state (spools_in S.runs S.open_run S.stake spools.items) events.now replies.items result.0.state) }
+        RunsAsAtRest (WantedPage S.is_full S.runs S.open_run S.stake) live.state (spools_in S.runs S.open_run S.stake spools.items) events.now replies.items
+        result.0.state) }
     ensures ready { ReadyFollowTable result.0.state }
     ensures ended { All S.ended result.2.items }
     ensures stakes { map S.stake result.2.items ≡ map S.stake spools.items }

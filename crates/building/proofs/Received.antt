@@ -1,5 +1,5 @@
 -- What a worker holds with the copies that it takes is the pairs of the images that it received.
-use Rattle.std.proofs.Common.{◌≡◌, ℕ, ◌+◌, ◌<◌, ◌≤◌, List, [], ◌∷◌, ◌++◌, All, append_assoc, append-nil, length, take, drop, refl, sym, ap, ap₂, ◌∙◌, subst, arith}
+use Rattle.std.proofs.Common.{◌≡◌, ℕ, ◌+◌, ◌<◌, List, [], ◌∷◌, ◌++◌, All, append_assoc, append-nil, length, take, refl, sym, ap₂, ◌∙◌, subst}
 use Rattle.std.specs.Prelude.{IsPermutation}
 use Rattle.std.proofs.lemmas.List.Sorted.{IsPermutation-append_left, IsPermutation-sym}
 use Rattle.keybytes.specs.Keys.{KeySpecValue}
@@ -18,34 +18,11 @@ use Rattle.building.specs.SpoolValue.{SpoolValue}
 use Rattle.building.specs.Taking.{received_images}
 use Rattle.building.specs.TakeEnd.{TakeEnd, after_taking}
 use Rattle.building.specs.Turns.{AreHeldWithTaken}
-use Rattle.building.specs.Work.{StopsAfter, TakesSome, next_images}
+use Rattle.building.specs.Work.{next_images}
 use Rattle.building.specs.WorkerValue.{IsHolding, holdings}
 use Rattle.building.proofs.Digests.{images_more}
 use Rattle.building.proofs.Keeping.{have_next}
 use Rattle.building.proofs.ManyPairs.{have_append, images-append}
-
--- no copy is taken
-pub takes_none : (end : TakeEnd Copied) → TakesSome end end
-takes_none end =
-    let received : end.received ≡ end.received ++ [] = sym (append-nil end.received) in
-    (0, omega arith, ap (λ (copies : List Copied). record end { received = copies }) received)
-
-takes_known : (old new : TakeEnd Copied) (known : List Copied) → old.known ≡ known → new ≡ after_taking 1 old → TakesSome old new
-takes_known old new [] seen is =
-    let none : after_taking 1 old ≡ after_taking 0 old =
-    ap (λ (copies : List Copied). record { ring = old.ring; received = old.received ++ take 1 copies; known = drop 1 copies }) seen
-    ∙ sym (ap (λ (copies : List Copied). record { ring = old.ring; received = old.received ++ take 0 copies; known = drop 0 copies }) seen) in
-    (0, omega arith, is ∙ none)
-takes_known old new (copied ∷ copies) seen is = (1, omega (arith, ap length seen), is)
-
--- or the next one is, if there is one
-pub takes_next : (old new : TakeEnd Copied) → new ≡ after_taking 1 old → TakesSome old new
-takes_next old new is = takes_known old new old.known refl is
-
--- or those are that were taken when it stopped
-pub takes_stopped :
-    (kinds : List Kind) (old new : IntakeValue) → (n : ℕ) × (n ≤ length old.end.known) × StopsAfter n kinds old new → TakesSome old.end new.end
-takes_stopped kinds old new stops = (stops.0, stops.1, ap (λ (i : IntakeValue). i.end) stops.2.3)
 
 -- with the images of its build that an end received come those that it takes
 pub received_after :

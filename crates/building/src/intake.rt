@@ -147,7 +147,8 @@ impl Intake {
         ensures fault { IfErr result (λ fault. (fault ≡ Fault.NoPage) ⊎ (fault ≡ Fault.Memory)) }
         ensures full { IfErr result (NoPageOnlyIf
             (HasFullOf S.is_full S.runs S.open_run
-            (AreHeldWith maker.old.specs (next_images 1 maker.old.schema self.old) (record { runs = map S.runs spools.old; begun = maker.old.begun })) spools.new)) }
+            (AreHeldWith maker.old.specs (next_images 1 maker.old.schema self.old)
+            (record { runs = map S.runs spools.old; begun = maker.old.begun })) spools.new)) }
         ensures want { IfErr result (MemoryOnlyIf (AreReady (map S.runs spools.new) (map S.open_run spools.new))) }
     {
         if self.seen() == 0 {
@@ -190,7 +191,8 @@ impl Intake {
         ensures fault { IfErr result (λ fault. (fault ≡ Fault.NoPage) ⊎ (fault ≡ Fault.Memory)) }
         ensures full { IfErr result (NoPageOnlyIf
             (HasFullOf S.is_full S.runs S.open_run
-            (AreHeldWithTaken maker.old.specs maker.old.schema self.old self.new (record { runs = map S.runs spools.old; begun = maker.old.begun })) spools.new)) }
+            (AreHeldWithTaken maker.old.specs maker.old.schema self.old self.new
+            (record { runs = map S.runs spools.old; begun = maker.old.begun })) spools.new)) }
         ensures want { IfErr result (MemoryOnlyIf (AreReady (map S.runs spools.new) (map S.open_run spools.new))) }
     {
         maker.laws();
@@ -231,7 +233,8 @@ impl Intake {
         ensures fault { IfErr result IsShortage }
         ensures full { IfErr result (NoPageOnlyIf
             (HasFullOf S.is_full S.runs S.open_run
-            (AreHeldWithTaken maker.old.specs maker.old.schema self.old self.new (record { runs = map S.runs spools.old; begun = maker.old.begun })) spools.new)) }
+            (AreHeldWithTaken maker.old.specs maker.old.schema self.old self.new
+            (record { runs = map S.runs spools.old; begun = maker.old.begun })) spools.new)) }
         ensures want { IfErr result (MemoryOnlyIf (AreReady (map S.runs spools.new) (map S.open_run spools.new))) }
     {
         match turn {

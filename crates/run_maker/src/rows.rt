@@ -30,7 +30,8 @@ fn add_key<S: Spool>(
     ensures stake { S.stake spool.new ≡ S.stake spool.old }
     ensures fault { IfErr result (λ fault. (fault ≡ Fault.NoPage) ⊎ (fault ≡ Fault.Memory)) }
     ensures full { IfErr result (NoPageOnlyIf
-        (IsFullOf S.is_full S.runs S.open_run ((all_pairs (S.runs spool.old) ++ begun.old) ++ record { key = key_of spec.now row.now; rid = rid } ∷ []) spool.new)) }
+        (IsFullOf S.is_full S.runs S.open_run
+        ((all_pairs (S.runs spool.old) ++ begun.old) ++ record { key = key_of spec.now row.now; rid = rid } ∷ []) spool.new)) }
     ensures unchanged { IfErr result (MemoryOnlyIf (begun.new ≡ begun.old)) }
     ensures untouched { IfErr result (MemoryOnlyIf (spool.new ≡ spool.old)) }
 {
