@@ -1,17 +1,14 @@
 -- What an event that is not refused is replied.
-use Rattle.std.proofs.Common.{◌≡◌, ℕ, inl, inr, List}
-use Rattle.keybytes.specs.declared.cell.Cell.{Cell}
+use Rattle.std.proofs.Common.{◌≡◌, ℕ, inl, inr}
 use Rattle.keybytes.specs.declared.fault.Fault.{Fault}
 use Rattle.keybytes.specs.declared.rid.Rid.{Rid}
 use Rattle.build_events.specs.CoreState.{CoreState}
 use Rattle.build_events.specs.Steps.{Does, Step}
-use Rattle.heap_log.specs.declared.outcome.Outcome.{Outcome}
 use Rattle.build_events.specs.declared.event.Event.{Event}
 use Rattle.build_events.specs.declared.event.Event.TheVariants.{Begin, Insert, Update, Delete, Undo, Commit, Start, Scan, Digest, Seal, Load, Feed, Apply, Fence, Switch, Abandon}
-use Rattle.build_events.specs.declared.plan.Plan.{Plan}
 use Rattle.build_events.specs.declared.reply.Reply.{Reply}
-use Rattle.build_events.specs.declared.reply.Reply.TheVariants.{FenceSet, Begun, Written, Undone, Committed, Started, Scanned, Digested, Sealed, Loaded, Fed, Applied, Switched}
-use Rattle.build_events.specs.declared.reply.Reply.TheVariants.{Abandoned, Refused}
+use Rattle.build_events.specs.declared.reply.Reply.TheVariants.{FenceSet, Begun, Written, Undone, Committed, Scanned, Digested, Sealed, Loaded, Fed, Applied}
+use Rattle.build_events.specs.declared.reply.Reply.TheVariants.{Refused}
 use Rattle.replay.specs.Leasing.{KeepsBuild}
 
 -- what an event may be replied that neither starts a build nor ends one

@@ -1,5 +1,5 @@
 -- The pages that the spools of a build lease, and how a table stands before a build and behind it.
-use Rattle.std.specs.Prelude.{◌≡◌, ◌⊎◌, ℕ, ◌*◌, ◌≤◌, true, false, is_some, List, [], length, replicate, Option, Some, None}
+use Rattle.std.specs.Prelude.{◌≡◌, ◌⊎◌, ℕ, ◌*◌, ◌≤◌, true, is_some, List, [], length, replicate, Option, Some, None}
 use Rattle.std.specs.List.{All, sum_by}
 use Rattle.spool_ledger.specs.Accounts.{Stake, stake_of}
 use Rattle.spool_ledger.specs.Pools.{PoolValue}

@@ -1,4 +1,4 @@
-use Rattle.std.proofs.Common.{rules, inl, inr, refl}
+use Rattle.std.proofs.Common.{rules, inr}
 use Rattle.replay.proofs.bench.Bench.start.Goals as goal
 
 pub returns-clause-refused : goal.returns-clause-refused
