@@ -1,2 +1,4 @@
 pub mod Columns
+pub mod Dealt
+pub mod Phases
 pub mod SpoolPages

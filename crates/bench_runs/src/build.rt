@@ -1,5 +1,5 @@
 //! What is made for the core: a table to measure on, and the spools and the plan of a build.
-ghost use Rattle.std.specs.Prelude.{◌≡◌, IfOk, All};
+ghost use Rattle.std.specs.Prelude.{◌≡◌, ◌∷◌, [], ◌%◌, length, IfOk, All};
 ghost use Rattle.spool_ledger.specs.Accounts.{IsWhole};
 
 use crate::column::Column;
@@ -61,7 +61,10 @@ fn spools_over(alloc: Global, accounts: Vec<Account>) -> Result<Vec<PlainSpool>,
 }
 
 /// What the build of a table of these columns is to do.
-pub fn plan(alloc: Global, schema: &Schema, options: &Options) -> Result<Plan, Fault> {
+pub fn plan(alloc: Global, schema: &Schema, options: &Options) -> Result<Plan, Fault>
+    ensures workers { IfOk result (λ plan. plan.workers ≡ options.now.workers) }
+    ensures dealing { IfOk result (λ plan. plan.dealing ≡ Dealing.Even options.now.workers) }
+{
     let mut specs = Vec::with_capacity(alloc, options.indexes)?;
     add_specs(alloc, schema, options, &mut specs)?;
     Ok(Plan {
@@ -88,7 +91,9 @@ fn add_specs(
 
 /// What makes the keys of the index of that number, from 0.
 pub fn spec(alloc: Global, schema: &Schema, index: usize, unique: bool) -> Result<KeySpec, Fault>
-    ensures { IfOk result (λ spec. spec.kinds ≡ schema.now) }
+    ensures kinds { IfOk result (λ spec. spec.kinds ≡ schema.now) }
+    ensures columns { IfOk result (λ spec. spec.columns ≡ index % length schema.now ∷ []) }
+    ensures unique { IfOk result (λ spec. spec.unique ≡ unique) }
 {
     let column = index % schema.kinds().len();
     KeySpec::new(alloc, schema, vec![in alloc; column]?, unique)

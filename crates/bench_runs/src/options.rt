@@ -1,4 +1,6 @@
-ghost use Rattle.std.specs.Prelude.{◌≤◌, ◌<◌};
+ghost use Rattle.std.specs.Prelude.{◌≤◌, ◌<◌, ℕ, length, get_or};
+ghost use Rattle.bench_runs.specs.Columns.{key_size};
+ghost use Rattle.bench_runs.specs.declared.column.Column.{Column as ColumnValue};
 
 use crate::column::Column;
 use std::alloc::Global;
@@ -57,7 +59,8 @@ impl Options {
 
     /// The bytes of the longest key of an index: each is on one column.
     pub fn key_size(&self) -> usize
-        ensures { result ≤ 258 }
+        ensures each { (k : ℕ) (d : ColumnValue) → k < length self.now.columns.items → key_size (get_or self.now.columns.items k d) ≤ result }
+        ensures limit { result ≤ 258 }
     {
         let mut longest = 0;
         for column in &self.columns {

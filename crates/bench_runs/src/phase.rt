@@ -1,3 +1,6 @@
+ghost use Rattle.std.specs.Prelude.{◌≡◌};
+ghost use Rattle.bench_runs.specs.Phases.{is_of_build};
+
 /// What is measured of a run, in the order in which it is told.
 #[derive(Clone, Copy)]
 pub enum Phase {
@@ -45,7 +48,9 @@ impl Phase {
     }
 
     /// Whether the time of the build has it in it.
-    pub fn is_of_build(self) -> bool {
+    pub fn is_of_build(self) -> bool
+        ensures { result ≡ is_of_build self }
+    {
         matches!(
             self,
             Phase::Start

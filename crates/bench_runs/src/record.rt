@@ -1,3 +1,5 @@
+ghost use Rattle.std.specs.Prelude.{◌≡◌, None, Some, IsSome, OnOk, IfErr};
+
 use crate::failure::Failure;
 use crate::figure::Figure;
 use crate::peak;
@@ -69,14 +71,20 @@ impl Record {
     }
 
     /// The run has failed; the failure is kept that came first.
-    pub fn fail(&mut self, failure: Failure) {
+    pub fn fail(&mut self, failure: Failure)
+        ensures first { self.old.failure ≡ None → self.new.failure ≡ Some failure }
+        ensures kept { IsSome self.old.failure → self.new.failure ≡ self.old.failure }
+    {
         if self.failure.is_none() {
             self.failure = Some(failure);
         }
     }
 
     /// What was measured, or why nothing is told of it.
-    pub fn told(&self) -> Result<Figures, Failure> {
+    pub fn told(&self) -> Result<Figures, Failure>
+        ensures measured { OnOk result (self.now.failure ≡ None) }
+        ensures failed { IfErr result (λ failure. self.now.failure ≡ Some failure) }
+    {
         match self.failure {
             None => Ok(Figures { lines: self.lines }),
             Some(failure) => Err(failure),

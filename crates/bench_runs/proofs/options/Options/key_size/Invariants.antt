@@ -1,5 +1,10 @@
-use Rattle.std.proofs.Common.{◌≤◌}
+use Rattle.std.proofs.Common.{ℕ, ◌<◌, ◌≤◌, get_or}
+use Rattle.bench_runs.specs.Columns.{key_size}
+use Rattle.bench_runs.specs.declared.column.Column.{Column}
 use Rattle.bench_runs.proofs.options.Options.key_size.Given as goal
 
 abbrev pub invariant-loop-column : goal.invariant-loop-column
-invariant-loop-column l = record { longest : l.longest ≤ 258 }
+invariant-loop-column l = record {
+  longest : l.longest ≤ 258;
+  each : (k : ℕ) (d : Column) → k < l.column-index → key_size (get_or l.column-items k d) ≤ l.longest;
+}
