@@ -37,4 +37,4 @@ loop-preserved c =
     let e : suc c.loop.counter ≡ c.loop.counter + 1 = omega arith in
     subst (λ (n : ℕ). Stored b (c.loop.at + (8 + n)) c.args.end (drop (c.loop.counter + 1) ps)) (sym c.key_length.ensures)
     (subst (λ (n : ℕ). Stored b (c.loop.at + (8 + first_length (drop c.loop.at b))) c.args.end (drop n ps)) e
-        (found (goal.at.loop-preserved c).In-loop).next)
+    (found (goal.at.loop-preserved c).In-loop).next)
