@@ -1,9 +1,7 @@
-use Rattle.std.proofs.Common.{◌≡◌, ◌<◌, get_or, None, arith}
-use Rattle.run_merge.specs.Leading.{compares_of}
+use Rattle.std.proofs.Common.{◌<◌, arith}
 use Rattle.run_merge.proofs.Fronts.{fronts_lead, fronts_compare}
 use Rattle.run_merge.proofs.Games.{left_wins, right_wins, compares_read}
 use Rattle.run_merge.proofs.tournament.winner.Goals as goal
-use Rattle.run_merge.proofs.tournament.winner.Goals.{After-front-against}
 
 pub returns-then-front-against-2-clause-winner : goal.returns-then-front-against-2-clause-winner
 returns-then-front-against-2-clause-winner c =
@@ -28,22 +26,20 @@ returns-else-front-against-2-clause-winner c =
     let behind = fronts_lead left right front against (c.front-front.ensures some) (c.front-against.ensures other_some) above in
     right_wins c.args.heads.now c.args.left c.args.right left right c.requires.left c.requires.right c.index-heads-left.is c.index-heads-right.is behind
 
--- two numbers at the fronts tell who wins, so that the pairs are compared once
-compared :
-    (c : After-front-against) → 0 < c.front-front.result → 0 < c.front-against.result
-    → 1 ≡ compares_of (get_or c.args.heads.now c.args.left None) (get_or c.args.heads.now c.args.right None)
-compared c some other_some =
+pub returns-then-front-against-2-clause-compares : goal.returns-then-front-against-2-clause-compares
+returns-then-front-against-2-clause-compares c =
     let left = c.index-heads-left.result in
     let right = c.index-heads-right.result in
+    let some : 0 < c.front-front.result = omega (arith, c.if-front-eq0.false) in
+    let other_some : 0 < c.front-against.result = omega (arith, c.if-against-eq0.false) in
     compares_read c.args.heads.now c.args.left c.args.right 1 left right c.requires.left c.requires.right c.index-heads-left.is c.index-heads-right.is
     (fronts_compare left right c.front-front.result c.front-against.result (c.front-front.ensures some) (c.front-against.ensures other_some))
 
-pub returns-then-front-against-2-clause-compares : goal.returns-then-front-against-2-clause-compares
-returns-then-front-against-2-clause-compares c =
-    compared (goal.at.returns-then-front-against-2-clause-compares c).After-front-against (omega (arith, c.if-front-eq0.false))
-    (omega (arith, c.if-against-eq0.false))
-
 pub returns-else-front-against-2-clause-compares : goal.returns-else-front-against-2-clause-compares
 returns-else-front-against-2-clause-compares c =
-    compared (goal.at.returns-else-front-against-2-clause-compares c).After-front-against (omega (arith, c.if-front-eq0.false))
-    (omega (arith, c.if-against-eq0.false))
+    let left = c.index-heads-left.result in
+    let right = c.index-heads-right.result in
+    let some : 0 < c.front-front.result = omega (arith, c.if-front-eq0.false) in
+    let other_some : 0 < c.front-against.result = omega (arith, c.if-against-eq0.false) in
+    compares_read c.args.heads.now c.args.left c.args.right 1 left right c.requires.left c.requires.right c.index-heads-left.is c.index-heads-right.is
+    (fronts_compare left right c.front-front.result c.front-against.result (c.front-front.ensures some) (c.front-against.ensures other_some))
