@@ -1,15 +1,16 @@
 -- A table and what stands beside it, where their rings were looked at.
-use Rattle.std.proofs.Common.{◌≡◌, List, ◌++◌, Option, Some, None, sym, ap, ◌∙◌, subst}
+use Rattle.std.proofs.Common.{◌≡◌, ℕ, List, ◌++◌, Option, Some, None, sym, ap, ◌∙◌, subst}
 use Rattle.building.specs.SpoolValue.{SpoolValue}
 use Rattle.build_halves.specs.Builds.{LiveValue, HasLooked, IsRunning, WorksOn, core_state}
 use Rattle.build_work.specs.BuildingValue.{BuildingValue, WorkValue, work_state}
 use Rattle.build_work.specs.WorkOn.{WorkersFollow, AreAtWork}
 use Rattle.build_events.specs.CoreState.{BuildState, LiveState, WorkState, SpoolsState}
 use Rattle.build_work.specs.Holding.{all_spools, spools_state}
-use Rattle.build_work.specs.Rings.{all_sent, unseen}
+use Rattle.build_work.specs.Rings.{all_sent, AreOfBuilds, unseen}
 use Rattle.build_work.proofs.AtWork.{taking_same}
 use Rattle.build_work.proofs.Looks.{same_rings, same_sent, sealed_looked}
-use Rattle.build_halves.specs.Rings.{ArePutEnds}
+use Rattle.build_halves.specs.Rings.{ArePutEnds, PagesFollow}
+use Rattle.heap_log.specs.declared.record.LogRec.{LogRec}
 use Rattle.building.specs.TakeEnd.{PutEndLooked}
 use Rattle.building.specs.declared.copied.Copied.{Copied}
 use Rattle.side_file.specs.Ends.{PutEnd, RingId}
@@ -74,15 +75,21 @@ runs_looked live new_live building new b w looked run = record {
       (workers_after live.state.heap.schema live new_live building new (Some b) (Some w) looked run.at_work);
 }
 
--- the ends that put are still those of the table's rings
-pub ends_looked :
-    (page_rings entry_rings : List RingId) (pages new : List (PutEnd Copied)) (sides : List (PutEnd Entry)) → ArePutEnds page_rings entry_rings pages sides
-    → AllZip PutEndLooked pages new → ArePutEnds page_rings entry_rings new sides
-ends_looked page_rings entry_rings pages new sides are looked =
-    let rings = same_rings pages new looked in
-    record {
-      pages_are = rings ∙ are.pages_are;
-      sides_are = are.sides_are;
-      sixteen = as_long (λ (e : PutEnd Copied). e.ring) (λ (e : PutEnd Copied). e.ring) new pages rings ∙ are.sixteen;
-      eight = are.eight;
-    }
+-- what a table keeps of the ends that put copies is kept where they were looked at
+pub pages_looked :
+    (kinds : List Kind) (log : List LogRec) (builds : ℕ) (build : Option BuildState) (page_rings entry_rings : List RingId)
+    (pages new : List (PutEnd Copied)) (sides : List (PutEnd Entry)) → AllZip PutEndLooked pages new → PagesFollow kinds log builds build (all_sent pages)
+    → AreOfBuilds builds (all_sent pages) → ArePutEnds page_rings entry_rings pages sides
+    → PagesFollow kinds log builds build (all_sent new) × AreOfBuilds builds (all_sent new) × ArePutEnds page_rings entry_rings new sides
+pages_looked kinds log builds build page_rings entry_rings pages new sides looked follow of_builds are =
+    let sent = sym (same_sent pages new looked) in
+    let rings = same_rings pages new looked in (
+      subst (PagesFollow kinds log builds build) sent follow,
+      subst (AreOfBuilds builds) sent of_builds,
+      record {
+        pages_are = rings ∙ are.pages_are;
+        sides_are = are.sides_are;
+        sixteen = as_long (λ (e : PutEnd Copied). e.ring) (λ (e : PutEnd Copied). e.ring) new pages rings ∙ are.sixteen;
+        eight = are.eight;
+      },
+    )

@@ -43,9 +43,9 @@ all_there page_rings entry_rings workers idle sides are =
 -- what every building keeps, and its work goes on, without its workers
 pub stays_without :
     (page_rings entry_rings : List RingId) (workers : List WorkerValue) (idle : List IntakeValue) (sides : List (TakeEnd Entry)) (home : List SpoolValue)
-    (work : WorkValue) → AreTakeEnds page_rings entry_rings (intakes workers idle) sides → IsKept workers sides home work → work.loading ≡ false
+    (work : WorkValue) → AreTakeEnds page_rings entry_rings (intakes workers idle) sides → IsKept workers sides home work → work.spoiled ≡ None → work.loading ≡ false
     → StaysWithout page_rings entry_rings idle sides work
-stays_without page_rings entry_rings workers idle sides home work are kept scans =
+stays_without page_rings entry_rings workers idle sides home work are kept fine scans =
     let ring : IntakeValue → RingId = λ i. i.end.ring in
     let own : WorkerValue → RingId = λ w. w.intake.end.ring in
     let all = all_there page_rings entry_rings workers idle sides are in
@@ -58,6 +58,7 @@ stays_without page_rings entry_rings workers idle sides home work are kept scans
           ∙ ap (drop (16 - length idle)) (sym (rings_of workers idle) ∙ are.intakes_are);
       sides_are = are.sides_are;
       eight = are.eight;
+      fine = fine;
       scans = scans;
       kept = subst (λ (spools : List SpoolValue). IsKept [] sides spools work) (kept.lent scans)
           (scanning_kept workers [] sides home work scans (λ k worker at. absurd (cc)) kept);

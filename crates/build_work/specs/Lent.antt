@@ -51,5 +51,6 @@ pub record StaysWithout
   pub idle_are : take_rings idle ≡ drop (16 - length idle) page_rings
   pub sides_are : taken_rings sides ≡ entry_rings
   pub eight : length sides ≡ 8
+  pub fine : work.spoiled ≡ None
   pub scans : work.loading ≡ false
   pub kept : IsKept [] sides [] work

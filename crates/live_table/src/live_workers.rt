@@ -31,8 +31,8 @@ impl<T: Table> Live<T> {
         building.waiting(&mut self.pages, worker)
     }
 
-    /// The lowest worker of what stands beside the table for which a copy waits in its ring, or whose run is open: it has to seal before
-    /// an index is loaded, and before a switch. Takes no memory.
+    /// The lowest worker of what stands beside the table for which a copy waits in its ring, or whose run is open. No index is loaded before
+    /// none is left, and no build switched in. Takes no memory.
     pub fn unsealed<S: Spool>(&mut self, building: &mut Building<S, T>) -> Option<usize>
         ensures looked { HasLooked self.old building.old self.new building.new }
         ensures unsealed { MatchOption result (HaveAll self.new building.new) (IsLowestUnsealed self.new building.new) }
@@ -179,8 +179,8 @@ impl<T: Table> Live<T> {
     }
 
     /// Ends the scans of a build, in one look at what stands beside the table, from which it may have been kept apart: once all pages were
-    /// copied, and the workers took all and closed their runs, they hand their spools over, and each index can be loaded without the table. Nothing
-    /// changes where they did so before. [`Fault::NoBuild`], also where what stands beside the table is another build's; the fault of a spoiled
+    /// copied, and the workers took all and closed their runs, they hand their spools over, and each index can be loaded without the table.
+    /// [`Fault::NoBuild`], also where what stands beside the table is another build's; the fault of a spoiled
     /// build, [`Fault::NotScanned`], [`Fault::NotSealed`]. Takes no memory.
     pub fn end_scan<S: Spool>(&mut self, building: &mut Building<S, T>) -> Result<(), Fault>
         ensures loads { OnOk result ((index : ℕ) → IfSome building.new.work (λ w. index < length w.specs) → CanLoad index building.new) }
@@ -218,7 +218,7 @@ impl<T: Table> Live<T> {
         building.load(self.alloc, index)
     }
 
-    /// From the first load on the spools of the workers are with the indexes. Nobody sees a difference.
+    /// The workers hand their spools over, unless they did so before. Callers of a core see no difference.
     fn hand_over<S: Spool>(&self, index: usize, building: &mut Building<S, T>)
         requires { MayLoad self.now building.old index }
         ensures state { core_state self.now building.new ≡ core_state self.now building.old }

@@ -1,4 +1,4 @@
-use Rattle.std.proofs.Common.{◌≡◌, ◌∙◌, ◌-◌, ◌*◌, false, [], All, List, Option, Some, length, map, refl, ap, sym, subst, arith}
+use Rattle.std.proofs.Common.{◌≡◌, ◌∙◌, ◌-◌, ◌*◌, false, [], All, List, Option, None, Some, length, map, refl, ap, sym, subst, arith}
 use Rattle.std.proofs.lemmas.List.{length-map, nil_from_length}
 use Rattle.building.specs.IntakeValue.{IntakeValue}
 use Rattle.building.specs.SpoolValue.{SpoolValue, spool_value}
@@ -15,11 +15,14 @@ use Rattle.build_work.proofs.beside.Building.lend.Goals as goal
 -- the work that can be lent, as it was seen
 goes_on :
     (old seen : BuildingValue) (work : WorkValue) → seen ≡ old → seen.work ≡ Some work → CanLend old
-    → KeepsWork seen.workers seen.sides seen.spools seen.work → (work.loading ≡ false) × IsKept seen.workers seen.sides seen.spools work
+    → KeepsWork seen.workers seen.sides seen.spools seen.work
+    → (work.loading ≡ false) × IsKept seen.workers seen.sides seen.spools work × (work.spoiled ≡ None)
 goes_on old seen work same runs can keeps =
-    let it : can.work ≡ work = the_work old.work can.work work can.runs (ap (λ (b : BuildingValue). b.work) (sym same) ∙ runs) in (
+    let it : can.work ≡ work = the_work old.work can.work work can.runs (ap (λ (b : BuildingValue). b.work) (sym same) ∙ runs) in
+    let fine : work.spoiled ≡ None = ap (λ (w : WorkValue). w.spoiled) (sym it) ∙ can.fine in (
       ap (λ (w : WorkValue). w.loading) (sym it) ∙ can.scans,
-      subst (λ (o : Option WorkValue). KeepsWork seen.workers seen.sides seen.spools o) runs keeps (ap (λ (w : WorkValue). w.spoiled) (sym it) ∙ can.fine),
+      subst (λ (o : Option WorkValue). KeepsWork seen.workers seen.sides seen.spools o) runs keeps fine,
+      fine,
     )
 
 pub invariant_of-rest : goal.invariant_of-rest
@@ -39,7 +42,7 @@ invariant_of-rest g c =
     let many = ap (λ (l : List SpoolValue). length (all_spools workers l)) none ∙ spools_many work.specs workers (λ k worker at. (back k worker at).own) in
     let place : 16 - length idle ≡ length workers = omega (arith, all) in
     let room = ap (λ n. n * length work.specs) place in (
-      stays_without _ _ workers idle ends _ work c.self.invariant.0 on.1 on.0,
+      stays_without _ _ workers idle ends _ work c.self.invariant.0 on.1 on.2 on.0,
       nil_from_length c.self.inside.spools.items (let long = length-map c.self.inside.spools.items value in omega (arith, long, ap length none)),
       c.self.invariant.1,
       omega (arith, many, room, c.self.invariant.2),

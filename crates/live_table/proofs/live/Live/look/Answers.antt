@@ -1,12 +1,11 @@
-use Rattle.std.proofs.Common.{◌≡◌, length, sym, subst, arith}
+use Rattle.std.proofs.Common.{◌≡◌, length, subst, arith}
 use Rattle.std.specs.Prelude.{IfSome}
 use Rattle.side_file.specs.Ends.{PutEnd}
 use Rattle.building.specs.WorkerValue.{WorkerValue}
 use Rattle.building.specs.declared.copied.Copied.{Copied}
-use Rattle.build_work.specs.Rings.{AreOfBuilds, unseen}
-use Rattle.build_work.proofs.Looks.{same_rings, same_sent}
-use Rattle.build_halves.specs.Rings.{PagesFollow}
-use Rattle.build_halves.proofs.Looked.{ends_looked}
+use Rattle.build_work.specs.Rings.{unseen}
+use Rattle.build_work.proofs.Looks.{same_rings}
+use Rattle.build_halves.proofs.Looked.{pages_looked}
 use Rattle.build_scan.proofs.Places.{as_long, there_is}
 use Rattle.live_table.proofs.live.Live.look.Goals as goal
 
@@ -36,21 +35,15 @@ returns-clause-sees g c =
 pub invariant_of-self : goal.invariant_of-self
 invariant_of-self g c =
     let before = c.self.invariant in
-    let puts = c.waiting.ensures.looked.puts in
-    let sent = sym (same_sent c.self.inside.pages.items c.waiting.new.pages.items puts) in (
-      before.0,
-      before.1,
-      before.2,
-      subst (PagesFollow c.self.inside.heap.state.schema c.self.inside.heap.state.log c.self.inside.builds c.self.inside.build) sent before.3,
-      subst (AreOfBuilds c.self.inside.builds) sent before.4,
-      ends_looked _ _ c.self.inside.pages.items c.waiting.new.pages.items _ before.5 puts,
-      before.6,
-    )
+    let after = pages_looked _ _ _ _ _ _ c.self.inside.pages.items c.waiting.new.pages.items _ c.waiting.ensures.looked.puts before.3 before.4 before.5 in
+    (before.0, before.1, before.2, after.0, after.1, after.2, before.6)
 
 pub returns-clause-pages : goal.returns-clause-pages
-returns-clause-pages g c = (ends_looked _ _ c.self.inside.pages.items c.waiting.new.pages.items _ c.self.invariant.5 c.waiting.ensures.looked.puts).sixteen
+returns-clause-pages g c =
+    let before = c.self.invariant in
+    (pages_looked _ _ _ _ _ _ c.self.inside.pages.items c.waiting.new.pages.items _ c.waiting.ensures.looked.puts before.3 before.4 before.5).2.sixteen
 
 pub returns-clause-put : goal.returns-clause-put
 returns-clause-put g c =
-    subst (PagesFollow c.self.inside.heap.state.schema c.self.inside.heap.state.log c.self.inside.builds c.self.inside.build)
-    (sym (same_sent c.self.inside.pages.items c.waiting.new.pages.items c.waiting.ensures.looked.puts)) c.self.invariant.3
+    let before = c.self.invariant in
+    (pages_looked _ _ _ _ _ _ c.self.inside.pages.items c.waiting.new.pages.items _ c.waiting.ensures.looked.puts before.3 before.4 before.5).0
