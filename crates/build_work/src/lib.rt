@@ -1,9 +1,10 @@
 //! What stands beside a table while its indexes are built: the workers, their spools and the work on each index.
 //!
 //! A [`Building`] has all of it, and no lock keeps it: the workers of the build that runs, each with the end of its ring and its
-//! spools, the ends of the side-files' rings, the spools that no worker has, and the [`Work`], of each index an [`IndexWork`]. Between two builds
-//! the rings' ends are [`Ends`], while its workers are in threads it is [`WithoutWorkers`], and what the next build's workers begin with is made by [`prepare`]. What its workers, spools and work have to do with
-//! the build that a table knows is said once, by `AreAtWork` and `IsWorkOn` of `specs/WorkOn.antt`.
+//! spools, the ends of the side-files' rings, the spools that no worker has, and the [`Work`], of each index an [`IndexWork`]. While its
+//! workers are lent to threads it is [`WithoutWorkers`]. Between two builds the rings' ends are [`Ends`], and what the next build's workers
+//! begin with is made by [`prepare`]. What its workers, spools and work have to do with the build that a table knows is said once, by
+//! `AreAtWork` and `IsWorkOn` of `specs/WorkOn.antt`.
 #![tactic(auto)]
 
 mod beside;
