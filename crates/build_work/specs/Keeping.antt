@@ -91,7 +91,7 @@ pub record IsKept (workers : List WorkerValue) (sides : List (TakeEnd Entry)) (s
   pub placed : AreWorkers work.build work.specs work.loading workers
   pub indexes : (k : ℕ) (spec : KeySpecValue) (end : TakeEnd Entry) (index : IndexValue) → slice_get work.specs k ≡ Some spec
       → slice_get sides k ≡ Some end → slice_get work.indexes k ≡ Some index → IsIndexOf work.build spec workers end index
-  -- until the first load each spool is with its worker, and no index is in order
+  -- until they hand their spools over each spool is with its worker, and no index is in order
   pub lent : work.loading ≡ false → spools ≡ []
   pub unloaded : work.loading ≡ false → All (λ index. index.built ≡ None) work.indexes
   -- from then on no worker has one, and those of an index that isn't in order hold its pairs, each once

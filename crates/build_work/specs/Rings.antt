@@ -42,7 +42,7 @@ abbrev pub AreOfBuilds : ℕ → List (List Copied) → Type 0
 AreOfBuilds builds all = All (λ sent. All (λ copied. copied.build ≤ builds) sent) all
 
 -- a worker of that build of these indexes, on rows of these columns, which takes what its ring was sent. It has a spool for each index;
--- from the first load on it has none, and of the pairs that it took since its last seal those are in no run that don't fill one
+-- once it handed them over it has none, and of the pairs that it took since its last seal those are in no run that don't fill one
 pub record IsWorkerOf (build : ℕ) (kinds : List Kind) (specs : List KeySpecValue) (loading : Bool) (sent : List Copied) (worker : WorkerValue) : Type 0 where
   pub fine : worker.fault ≡ None
   pub schema : worker.maker.schema ≡ kinds

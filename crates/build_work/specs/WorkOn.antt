@@ -75,7 +75,7 @@ pub record AreAtWork
   pub given : building.given ≡ true
   pub many : length building.workers ≡ b.workers
   pub taking : work.spoiled ≡ None → AreTaking b.number kinds work.specs work.loading (all_sent pages) building.workers
-  -- until the first load each spool is with its worker
+  -- until they hand their spools over each is with its worker
   pub lent : work.spoiled ≡ None → work.loading ≡ false → building.spools ≡ []
   -- from then on nothing is left to scan or to take
   pub drained : work.spoiled ≡ None → work.loading ≡ true → (open_range b ≡ None) × AreSealed (all_sent pages) building.workers

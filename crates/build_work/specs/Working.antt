@@ -38,7 +38,7 @@ pub record CanHandOver (building : BuildingValue) : Type 0 where
   pub fine : work.spoiled ≡ None
   pub scans : work.loading ≡ false
   pub closed : All IsClosed building.workers
-  -- no row was read twice
+  -- no pair is there twice, as no page was read twice
   pub once : HaveEachOnce work (lent_spools building.workers)
 
 -- the workers of the build handed their spools over, for the loads of its indexes

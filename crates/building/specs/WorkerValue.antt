@@ -54,7 +54,7 @@ HasReceived worker i pairs = HavePairs (spec_at worker.maker.specs i) (received_
 abbrev pub IsShortage : Fault → Type 0
 IsShortage fault = (fault ≡ NoPage) ⊎ (fault ≡ Memory)
 
--- the worker is the same but for what it took of its ring
+-- the worker has its number, its ring, its columns and specifications, and the accounts of its spools; what it took and holds may be other
 pub record SameWorker (old new : WorkerValue) : Type 0 where
   pub number : new.number ≡ old.number
   pub build : new.intake.build ≡ old.intake.build
