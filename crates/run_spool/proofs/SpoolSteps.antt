@@ -4,9 +4,9 @@ use Rattle.std.proofs.Common.{Option, Some, None}
 use Rattle.std.specs.List.{All, sum_by, take-map}
 use Rattle.std.proofs.Math.ListN.{get_or-map}
 use Rattle.std.proofs.Math.Seq.{get_or-append_seam}
-use Rattle.std.proofs.lemmas.List.{length-append, length-map, length-take-le, take_at}
-use Rattle.std.proofs.lemmas.List.Elements.{All-head, All-tail, All-push, All-take, All-nil}
-use Rattle.std.proofs.lemmas.List.Sums.{sum_by-cons, sum_by-append}
+use Rattle.std.proofs.lemmas.List.{length-append, length-map, length-set, length-take-le, take_at}
+use Rattle.std.proofs.lemmas.List.Elements.{All-head, All-tail, All-pop, All-push, All-set, All-take, All-nil}
+use Rattle.std.proofs.lemmas.List.Sums.{sum_by-cons, sum_by-append, sum_by-set}
 use Rattle.spool_ledger.specs.Accounts.{AccountValue, with_free}
 use Rattle.keybytes.specs.declared.pair.Pair.{Pair}
 use Rattle.run_spool.specs.Bytes.{pair_size}
@@ -16,7 +16,7 @@ use Rattle.run_spool.specs.Runs.{pairs_of, pages_in, HasPairs, without_pairs}
 use Rattle.run_spool.specs.PlainSpools.{SpoolValue, with_freed, without_runs, IsPacked, IsSpool, run_pages}
 use Rattle.run_spool.specs.Spools.{NoneEmpty}
 use Rattle.run_spool.proofs.Chains.{pages_append, count_append, count_one, count_last}
-use Rattle.run_spool.proofs.RunSteps.{fewer_pages, without_all, given_more}
+use Rattle.run_spool.proofs.RunSteps.{each_without, fewer_pages, without_all, given_more}
 
 count_le_size : (ps : List Pair) → length ps ≤ sum_by pair_size ps
 count_le_size [] = omega arith
@@ -110,6 +110,7 @@ pushed_last {chain = chain} pair new s fits is =
       open_len_is = omega arith;
       each = o.each;
       packed = o.packed;
+      closed = s.closed;
       room = s.room;
       fits = s.fits;
       open_fits = λ (_ : 0 < length new). s.open_fits there;
@@ -151,9 +152,39 @@ pushed_new {account = account} {runs = runs} {chain = chain} {len = len} pair le
       open_len_is = omega arith;
       each = o.each;
       packed = o.packed;
+      closed = s.closed;
       room = omega arith;
       fits = omega arith;
       open_fits = λ (_ : 0 < length new). omega arith;
+    }
+
+-- the fields of a spool of which pairs of a run were let go
+pub run_freed : {account : AccountValue} {spare : ℕ} {runs : List (List PageValue)} {capacity : ℕ} {chain : List (Option PageValue)} {len : ℕ}
+    (given : AccountValue) (left i n : ℕ) (run after : List PageValue) → IsSpool account spare runs capacity chain len → i < length runs
+    → run ≡ get_or runs i [] → after ≡ without_pairs n run → given.free + length after ≡ account.free + length run → given ≡ with_free account given.free
+    → left + length after ≡ spare + length run → IsSpool given left (set runs i after) capacity chain len
+run_freed {account = account} {spare = spare} {runs = runs} {chain = chain} given left i n run after s there is gone counted kept frames =
+    let pages = sum_by-set (λ (r : List PageValue). length r) runs i after [] there in
+    let same = ap (λ (r : List PageValue). length r) is in
+    let long = length-set runs i after in
+    let quota = ap (λ (a : AccountValue). a.quota) kept in
+    let law = s.law in
+    let spare_is = s.spare_is in
+    let small = s.small in
+    let enough = s.room in
+    let fits = s.fits in
+    let each : All HasPairs after = subst (All HasPairs) (sym gone) (each_without run n (subst (All HasPairs) (sym is) (s.closed i [] there))) in
+    record {
+      law = omega arith;
+      spare_is = omega arith;
+      small = omega arith;
+      open_len_is = s.open_len_is;
+      each = s.each;
+      packed = s.packed;
+      closed = All-set (All HasPairs) runs i after each s.closed;
+      room = omega arith;
+      fits = omega arith;
+      open_fits = λ (lt : 0 < length chain). (let few = s.open_fits lt in omega arith);
     }
 
 -- the fields of a spool whose last run has given its pages back
@@ -181,6 +212,7 @@ run_ended {runs = runs} {chain = chain} given left rest run after room n s is sa
       open_len_is = s.open_len_is;
       each = s.each;
       packed = s.packed;
+      closed = (All-pop (All HasPairs) runs rest (Some run) is s.closed).0;
       room = omega arith;
       fits = omega arith;
       open_fits = λ (lt : 0 < length chain). (let few = s.open_fits lt in omega arith);
@@ -231,6 +263,7 @@ open_ended {account = account} {runs = runs} {chain = chain} {len = len} start g
         open_len_is = ap (λ (ps : List PageValue). length (pairs_of ps)) (sym none);
         each = subst (λ (ps : List PageValue). All HasPairs ps) (sym none) (All-nil HasPairs);
         packed = subst (λ (ps : List PageValue). All IsPacked ps) (sym none) (All-nil IsPacked);
+        closed = subst (All (All HasPairs)) (sym no_rest) (All-nil (All HasPairs));
         room = omega arith;
         fits = omega arith;
         open_fits = λ (lt : 0 < length new). absurd (omega arith);

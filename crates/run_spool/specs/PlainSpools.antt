@@ -83,11 +83,18 @@ without_runs spool = new_spool (with_free spool.account spool.account.quota)
 abbrev pub IsPacked : PageValue → Type 0
 IsPacked page = sum_by pair_size page.pairs + page.room ≡ 4096
 
--- what every plain spool keeps: its account's quota is the free pages and those of its runs, and each page of the open run is packed
+-- what every plain spool keeps: its account's quota is the free pages and those of its runs, each of these has a pair that isn't freed,
+-- those of the open run are packed, and no more runs are closed than the quota
 pub record IsPlainSpool (spool : SpoolValue) : Type 0 where
   pub law : spool.account.free + run_pages spool.runs + length spool.open_run ≡ spool.account.quota
   pub each : All HasPairs spool.open_run
   pub packed : All IsPacked spool.open_run
+  pub closed : All (All HasPairs) spool.runs
+  pub fits : length spool.runs ≤ spool.account.quota
+
+-- a plain spool has no page for a pair that needs one
+abbrev pub IsFullSpool : SpoolValue → Pair → Type 0
+IsFullSpool spool pair = IsPlainSpool spool × IsFull spool pair
 
 -- the fields of a plain spool: a frame for each page of its quota and a place for each run, of which no more are closed than that
 pub record IsSpool (account : AccountValue) (spare : ℕ) (runs : List (List PageValue)) (places : ℕ) (chain : List (Option PageValue)) (len : ℕ) : Type 0 where
@@ -97,6 +104,7 @@ pub record IsSpool (account : AccountValue) (spare : ℕ) (runs : List (List Pag
   pub open_len_is : len ≡ length (pairs_of (pages_in chain))
   pub each : All HasPairs (pages_in chain)
   pub packed : All IsPacked (pages_in chain)
+  pub closed : All (All HasPairs) runs
   pub room : account.quota ≤ places
   pub fits : length runs ≤ account.quota
   pub open_fits : 0 < length chain → length runs + 1 ≤ account.quota

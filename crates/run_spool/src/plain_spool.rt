@@ -211,13 +211,13 @@ impl Spool for PlainSpool {
     ghost use Rattle.std.specs.Prelude.{Some, ◌≡◌, []};
     ghost use Rattle.spool_ledger.specs.Accounts.{IsWhole, stake_of};
     ghost use Rattle.run_spool.specs.Runs.{pairs_of};
-    ghost use Rattle.run_spool.specs.PlainSpools.{IsFull, runs_of, leased_pages};
+    ghost use Rattle.run_spool.specs.PlainSpools.{IsFullSpool, runs_of, leased_pages};
 
     ghost runs = { runs_of };
 
     ghost open_run = { λ spool. pairs_of spool.open_run };
 
-    ghost is_full = { IsFull };
+    ghost is_full = { IsFullSpool };
 
     ghost ended = { λ spool. (spool.runs ≡ []) × (spool.open_run ≡ []) × IsWhole spool.account };
 
@@ -230,6 +230,7 @@ impl Spool for PlainSpool {
     }
 
     fn push(&mut self, pair: Pair) -> Result<(), (Pair, Fault)> {
+        self.laws();
         PlainSpool::push(self, pair)
     }
 

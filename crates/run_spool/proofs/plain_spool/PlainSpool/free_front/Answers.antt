@@ -3,8 +3,20 @@ use Rattle.std.proofs.lemmas.List.{get_or_default}
 use Rattle.run_spool.specs.Pages.{PageValue}
 use Rattle.run_spool.specs.Runs.{pages_in}
 use Rattle.run_spool.specs.PlainSpools.{SpoolValue}
-use Rattle.run_spool.proofs.SpoolSteps.{freed_spool}
+use Rattle.run_spool.proofs.SpoolSteps.{freed_spool, run_freed}
 use Rattle.run_spool.proofs.plain_spool.PlainSpool.free_front.Goals as goal
+
+pub invariant_of-self : goal.invariant_of-self
+invariant_of-self c =
+    let i = c.self.inside in
+    let n = c.args.i in
+    let same = ap (λ (s : SpoolValue). s.runs) c.self.view_is in
+    let there : n < length i.runs.items = omega (arith, c.requires.run, ap (λ (runs : List (List PageValue)). length runs) same) in
+    let before : List PageValue = c.index_mut-run.result.now in
+    let run : before ≡ get_or i.runs.items n [] = c.index_mut-run.ensures.value ∙ get_or_default i.runs.items n before [] there in
+    let f = c.free_front.ensures in
+    run_freed c.free_front.new.account (length c.free_front.new.spare) n c.args.n before c.free_front.new.self c.self.invariant there run
+    f.run f.given f.account f.frames
 
 pub returns : goal.returns
 returns c =
