@@ -28,6 +28,12 @@ alone : {X : Type 0} (o : Option X) → cons_option o [] ≡ option_to_list o
 alone None = refl
 alone (Some x) = refl
 
+-- the rows of which these are the pairs stand in the slots of a page with an index's columns
+pub shows_in :
+    (kinds : List Kind) (image : ImageValue) (spec : KeySpecValue) → spec.kinds ≡ kinds → (made : List Pair) (has : HasPairs spec image made) (slot : ℕ)
+    → Shows kinds (image_slot image slot) (has.rows slot)
+shows_in kinds image spec columns made has slot = subst (λ (ks : List Kind). Shows ks (image_slot image slot) (has.rows slot)) columns (has.shows slot)
+
 -- the pairs up to a slot, and those up to the next one
 pub slot_more :
     (spec : KeySpecValue) (page : ℕ) (rows : ℕ → Option (List Cell)) (slot : ℕ) (o : Option Pair) → pair_with spec (rid_at page slot) (rows slot) ≡ o
@@ -57,6 +63,18 @@ later_slots spec page rows slots (suc more) =
           ∙ append_assoc (pairs_before spec page rows slots) was.0 (option_to_list last),
     )
 
+-- the pairs up to a slot, its own, and those of the slots behind it
+pub around_slot :
+    (spec : KeySpecValue) (page : ℕ) (rows : ℕ → Option (List Cell)) (slot slots : ℕ) → slot < slots
+    → (rest : List Pair) × (pairs_before spec page rows slots ≡ (pairs_before spec page rows slot ++ option_to_list (pair_with spec (rid_at page slot) (rows slot))) ++ rest)
+around_slot spec page rows slot slots inside =
+    let own = pair_with spec (rid_at page slot) (rows slot) in
+    let later = later_slots spec page rows (slot + 1) (slots - (slot + 1)) in
+    let count : slots ≡ (slot + 1) + (slots - (slot + 1)) = omega (arith, inside) in (
+      later.0,
+      ap (pairs_before spec page rows) count ∙ later.1 ∙ ap (λ (ps : List Pair). ps ++ later.0) (slot_more spec page rows slot own refl),
+    )
+
 -- on a copy with these rows
 module _
     (specs : List KeySpecValue) (kinds : List Kind) (image : ImageValue) (rows : ℕ → Option (List Cell)) (are : HasRows kinds image rows)
@@ -82,13 +100,9 @@ module _
       let before = pairs_before spec image.page rows slot in
       let last : List Pair = option_to_list (pair_with spec (rid_at image.page slot) (rows slot)) in
       let made = pairs_before spec image.page rows (length image.slots) in
-      let later = later_slots spec image.page rows (slot + 1) (length image.slots - (slot + 1)) in
-      let count : length image.slots ≡ (slot + 1) + (length image.slots - (slot + 1)) = omega (arith, inside) in
-      let whole : made ≡ (before ++ last) ++ later.0 =
-      ap (pairs_before spec image.page rows) count ∙ later.1
-      ∙ ap (λ (ps : List Pair). ps ++ later.0) (slot_more spec image.page rows slot (pair_with spec (rid_at image.page slot) (rows slot)) refl) in
+      let later = around_slot spec image.page rows slot (length image.slots) inside in
       let all : held_at i old ++ made ≡ ((held_at i old ++ before) ++ last) ++ later.0 =
-      ap (λ (ps : List Pair). held_at i old ++ ps) (whole ∙ append_assoc before last later.0) ∙ sym (append_assoc (held_at i old) before (last ++ later.0))
+      ap (λ (ps : List Pair). held_at i old ++ ps) (later.1 ∙ append_assoc before last later.0) ∙ sym (append_assoc (held_at i old) before (last ++ later.0))
       ∙ sym (append_assoc (held_at i old ++ before) last later.0) in
       let some : AreSomeOf pairs ((held_at i old ++ before) ++ last) =
       subst (λ (ps : List Pair). AreSomeOf ps ((held_at i old ++ before) ++ last)) (sym are)

@@ -40,13 +40,25 @@ held_at i held = all_pairs (get_or held.runs i []) ++ get_or held.begun i []
 abbrev pub AddsAt : ℕ → List Pair → Holdings → Holdings → Type 0
 AddsAt i made old new = Adds made (get_or old.runs i []) (get_or old.begun i []) (get_or new.runs i []) (get_or new.begun i [])
 
+-- index i is held with the first of these pairs more, or with all or none of them
+abbrev pub AddsFirst : ℕ → List Pair → Holdings → Holdings → Type 0
+AddsFirst i made old new = (first : List Pair) × (others : List Pair) × (made ≡ first ++ others) × AddsAt i first old new
+
 -- each index is held with the pair of a row more, if there is a row
 abbrev pub TakesRow : List KeySpecValue → Rid → Option (List Cell) → Holdings → Holdings → Type 0
 TakesRow specs rid row old new = (i : ℕ) → i < length specs → AddsAt i (option_to_list (pair_with (spec_at specs i) rid row)) old new
 
+-- some indexes are held with the pair of a row more, if there is a row, and the others as before
+abbrev pub TakesRowPart : List KeySpecValue → Rid → Option (List Cell) → Holdings → Holdings → Type 0
+TakesRowPart specs rid row old new = (i : ℕ) → i < length specs → AddsFirst i (option_to_list (pair_with (spec_at specs i) rid row)) old new
+
 -- each index is held with the pairs of a copy's rows more
 abbrev pub Takes : List KeySpecValue → ImageValue → Holdings → Holdings → Type 0
 Takes specs image old new = (i : ℕ) → i < length specs → (made : List Pair) → HasPairs (spec_at specs i) image made → AddsAt i made old new
+
+-- each index is held with the first pairs of a copy's rows more; no pair is lost, and no run is closed with fewer than 4,096
+abbrev pub TakesPart : List KeySpecValue → ImageValue → Holdings → Holdings → Type 0
+TakesPart specs image old new = (i : ℕ) → i < length specs → (made : List Pair) → HasPairs (spec_at specs i) image made → AddsFirst i made old new
 
 -- what was in no run yet is a run of its own, in order
 abbrev pub Seals : Holdings → List (List (List Pair)) → Type 0

@@ -5,7 +5,7 @@ ghost use Rattle.heap_table.specs.Images.{image_slot, HasRows, Shows};
 ghost use Rattle.heap_table.specs.Pages.{rid_at};
 ghost use Rattle.run_spool.specs.Spools.{AreSorted, NoPageOnlyIf};
 ghost use Rattle.run_maker.specs.FullSpools.{HasFullOf};
-ghost use Rattle.run_maker.specs.Making.{AreReady, TakesRow, Takes, AreHeldWithCopy, AreHeldWithRow};
+ghost use Rattle.run_maker.specs.Making.{AreReady, TakesRow, TakesRowPart, Takes, TakesPart, AreHeldWithCopy, AreHeldWithRow};
 ghost use Rattle.run_maker.specs.Spooling.{MemoryOnlyIf};
 
 use crate::open_run::OpenRun;
@@ -36,6 +36,8 @@ pub(crate) fn add_image<S: Spool>(
     ensures full { IfErr result (NoPageOnlyIf (HasFullOf S.is_full S.runs S.open_run
         (AreHeldWithCopy specs.now image.now (record { runs = map S.runs spools.old; begun = begun.old })) spools.new)) }
     ensures want { IfErr result (MemoryOnlyIf (AreReady (map S.runs spools.new) (map S.open_run spools.new))) }
+    ensures part { IfErr result (MemoryOnlyIf (TakesPart specs.now image.now
+        (record { runs = map S.runs spools.old; begun = begun.old }) (record { runs = map S.runs spools.new; begun = begun.new }))) }
 {
     for slot in 0..image.slots() {
         add_slot(image, slot, schema, specs, begun, spools)?;
@@ -68,6 +70,9 @@ fn add_slot<S: Spool>(
         → HasFullOf S.is_full S.runs S.open_run
         (AreHeldWithRow specs.now (rid_at image.now.page slot) row (record { runs = map S.runs spools.old; begun = begun.old })) spools.new)) }
     ensures want { IfErr result (MemoryOnlyIf (AreReady (map S.runs spools.new) (map S.open_run spools.new))) }
+    ensures part { IfErr result (MemoryOnlyIf ((row : Option (List Cell)) → Shows schema.now (image_slot image.now slot) row
+        → TakesRowPart specs.now (rid_at image.now.page slot) row
+        (record { runs = map S.runs spools.old; begun = begun.old }) (record { runs = map S.runs spools.new; begun = begun.new }))) }
 {
     let Some(row) = image.row(slot, schema)? else {
         return Ok(());

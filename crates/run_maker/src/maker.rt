@@ -1,7 +1,7 @@
 ghost use Rattle.std.specs.Prelude.{◌≡◌, ◌<◌, ◌⊎◌, [], All, IfOk, IfErr, OnOk, OnErr, map, length, true, false};
 ghost use Rattle.run_spool.specs.Spools.{AreSorted, NoPageOnlyIf};
 ghost use Rattle.run_maker.specs.FullSpools.{HasFullOf};
-ghost use Rattle.run_maker.specs.Making.{AreHeld, AreHeldWithCopy, AreReady, Takes, Seals};
+ghost use Rattle.run_maker.specs.Making.{AreHeld, AreHeldWithCopy, AreReady, Takes, TakesPart, Seals};
 ghost use Rattle.run_maker.specs.Spooling.{MemoryOnlyIf};
 
 use crate::images::add_image;
@@ -98,6 +98,8 @@ impl Maker {
         ensures full { IfErr result (NoPageOnlyIf (HasFullOf S.is_full S.runs S.open_run
             (AreHeldWithCopy self.old.specs image (record { runs = map S.runs spools.old; begun = self.old.begun })) spools.new)) }
         ensures want { IfErr result (MemoryOnlyIf (AreReady (map S.runs spools.new) (map S.open_run spools.new))) }
+        ensures part { IfErr result (MemoryOnlyIf (TakesPart self.old.specs image
+            (record { runs = map S.runs spools.old; begun = self.old.begun }) (record { runs = map S.runs spools.new; begun = self.new.begun }))) }
     {
         image.laws();
         add_image(&image, &self.schema, &self.specs, &mut self.begun, spools)

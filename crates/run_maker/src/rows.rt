@@ -5,7 +5,7 @@ ghost use Rattle.keybytes.specs.Keys.{key_of};
 ghost use Rattle.run_spool.specs.Spools.{NoneEmpty, AreSorted, NoPageOnlyIf, all_pairs};
 ghost use Rattle.run_maker.specs.FullSpools.{HasFullOf, IsFullOf};
 ghost use Rattle.run_maker.specs.Spooling.{Adds, MemoryOnlyIf};
-ghost use Rattle.run_maker.specs.Making.{AreReady, TakesRow, AreHeldWithRow};
+ghost use Rattle.run_maker.specs.Making.{AreReady, TakesRow, TakesRowPart, AreHeldWithRow};
 
 use crate::open_run::OpenRun;
 use keybytes::{Fault, KeySpec, Pair, Rid, Row};
@@ -60,6 +60,8 @@ pub(crate) fn add_row<S: Spool>(
     ensures full { IfErr result (NoPageOnlyIf (HasFullOf S.is_full S.runs S.open_run
         (AreHeldWithRow specs.now rid (Some row.now) (record { runs = map S.runs spools.old; begun = begun.old })) spools.new)) }
     ensures want { IfErr result (MemoryOnlyIf (AreReady (map S.runs spools.new) (map S.open_run spools.new))) }
+    ensures part { IfErr result (MemoryOnlyIf (TakesRowPart specs.now rid (Some row.now)
+        (record { runs = map S.runs spools.old; begun = begun.old }) (record { runs = map S.runs spools.new; begun = begun.new }))) }
 {
     for i in 0..specs.len() {
         add_key(&specs[i], row, rid, &mut begun[i], &mut spools[i])?;

@@ -10,8 +10,9 @@ use Rattle.heap_table.specs.Images.{Shows, image_slot}
 use Rattle.heap_table.specs.Pages.{rid_at}
 use Rattle.run_maker.proofs.FullSpools.{full_given}
 use Rattle.run_maker.specs.Spooling.{Adds}
-use Rattle.run_maker.specs.Making.{AreHeldWithCopy, AreHeldWithRow, Holdings, held_at, spec_at}
-use Rattle.run_maker.proofs.CopyPairs.{has_pairs, of_copy, pairs_before, slot_more}
+use Rattle.run_maker.specs.Making.{AddsFirst, AreHeldWithCopy, AreHeldWithRow, Holdings, held_at, spec_at}
+use Rattle.run_maker.proofs.CopyPairs.{around_slot, has_pairs, of_copy, pairs_before, shows_in, slot_more}
+use Rattle.run_maker.proofs.Parts.{first_more}
 use Rattle.run_maker.proofs.Spoolings.{adds_more, adds_none}
 use Rattle.run_maker.proofs.images.add_image.Goals as goal
 
@@ -51,6 +52,24 @@ returns-in_err-add_slot-clause-full g c =
     of_copy specs c.args.schema.now image rows.0 rows.1 c.requires.columns i lt slot inside start middle (held i lt) pairs are)
     (c.in_err-add_slot.ensures.full no_page (rows.0 slot) (rows.1 slot)))
 
+pub returns-in_err-add_slot-clause-part : goal.returns-in_err-add_slot-clause-part
+returns-in_err-add_slot-clause-part g c =
+    let slot = c.loop-slot.slot in
+    let image = c.args.image.now in
+    let runs = g.S.Spool.runs in
+    let start : Holdings = record { runs = map runs c.args.spools.now; begun = c.args.begun.now } in
+    let middle : Holdings = record { runs = map runs c.loop-slot.spools; begun = c.loop-slot.begun } in
+    let end : Holdings = record { runs = map runs c.add_slot.new.spools; begun = c.add_slot.new.begun } in
+    let inside : slot < length image.slots = omega (arith, c.loop-slot-test.true, c.loop-slot.auto.slot-end, c.slots-slot-end.ensures) in
+    let p = err_from_is_err_and c.from_residual.result c.from_residual.ensures.1 in
+    rw (p.1, p.2) (λ memory i lt made has.
+    let spec = spec_at c.args.specs.now i in
+    let shows = shows_in c.args.schema.now image spec (c.requires.columns i (record { kinds = []; columns = []; unique = false }) lt) made has slot in
+    let parts = around_slot spec image.page has.rows slot (length image.slots) inside in
+    subst (λ (ps : List Pair). AddsFirst i ps start end) (sym (has.pairs_are ∙ parts.1))
+    (first_more (pairs_before spec image.page has.rows slot) (option_to_list (pair_with spec (rid_at image.page slot) (has.rows slot))) parts.0 i
+    start middle end (c.loop-slot.invariant.added i lt made has) (c.in_err-add_slot.ensures.part memory (has.rows slot) shows i lt)))
+
 pub loop-slot-preserved : goal.loop-slot-preserved
 loop-slot-preserved g c =
     let slot = c.loop-slot.slot in
@@ -60,9 +79,7 @@ loop-slot-preserved g c =
     record {
       added = λ i lt made has.
           let spec = spec_at c.args.specs.now i in
-          let kinds : spec.kinds ≡ c.args.schema.now = c.requires.columns i none lt in
-          let shows : Shows c.args.schema.now (image_slot image slot) (has.rows slot) =
-          subst (λ (ks : List Kind). Shows ks (image_slot image slot) (has.rows slot)) kinds (has.shows slot) in
+          let shows = shows_in c.args.schema.now image spec (c.requires.columns i none lt) made has slot in
           let pair = option_to_list (pair_with spec (rid_at image.page slot) (has.rows slot)) in
           let more : pairs_before spec image.page has.rows (slot + 1) ≡ pairs_before spec image.page has.rows slot ++ pair =
           slot_more spec image.page has.rows slot (pair_with spec (rid_at image.page slot) (has.rows slot)) refl in

@@ -1,16 +1,17 @@
-use Rattle.std.proofs.Common.{◌≡◌, ◌<◌, ◌∙◌, ◌∷◌, ◌++◌, [], refl, ℕ, List, length, get_or, map, false, sym, ap, ap₂, subst, arith, Some}
+use Rattle.std.proofs.Common.{◌≡◌, ◌<◌, ◌∙◌, ◌∷◌, ◌++◌, [], refl, ℕ, List, length, get_or, map, set, false, sym, ap, ap₂, subst, arith, Some}
 use Rattle.std.specs.Option.{option_to_list}
 use Rattle.std.proofs.Math.Seq.{map-set_same}
-use Rattle.std.proofs.lemmas.List.{get_or_read, get_or_default, length-map, length-set, map-set}
+use Rattle.std.proofs.lemmas.List.{get_or_read, get_or_default, length-map, length-set, map-set, set-get_or}
 use Rattle.std.proofs.lemmas.Result.{err_from_is_err_and}
 use Rattle.keybytes.specs.Keys.{KeySpecValue, key_of}
 use Rattle.keybytes.specs.Pairs.{pair_with}
 use Rattle.keybytes.specs.declared.pair.Pair.{Pair}
 use Rattle.run_spool.specs.Spools.{AreSorted, all_pairs}
 use Rattle.run_maker.specs.Spooling.{Adds}
-use Rattle.run_maker.specs.Making.{AreHeldWithRow, spec_at}
+use Rattle.run_maker.specs.Making.{AreHeldWithRow, Holdings, spec_at}
 use Rattle.run_maker.proofs.EachIndex.{read_at, holds_at, holds_after, ready_after, reached_none, reached_more}
 use Rattle.run_maker.proofs.FullSpools.{full_after}
+use Rattle.run_maker.proofs.Parts.{reached_first}
 use Rattle.run_maker.proofs.rows.add_row.Goals as goal
 
 pub add_key-requires-clause-open_run : goal.add_key-requires-clause-open_run
@@ -56,6 +57,22 @@ returns-in_err-add_key-clause-full g c =
     (AreHeldWithRow c.args.specs.now c.args.rid (Some c.args.row.now) (record { runs = map runs c.args.spools.now; begun = c.args.begun.now }))
     ((all_pairs (runs (get_or c.loop-i.spools i d)) ++ get_or c.loop-i.begun i b) ++ its spec) c.loop-i.spools i c.add_key.new.spool inside held
     (c.in_err-add_key.ensures.full no_page))
+
+pub returns-in_err-add_key-clause-part : goal.returns-in_err-add_key-clause-part
+returns-in_err-add_key-clause-part g c =
+    let i = c.loop-i.i in
+    let runs = g.S.Spool.runs in
+    let e = c.in_err-add_key.ensures in
+    let Its : ℕ → List Pair = λ j. option_to_list (pair_with (spec_at c.args.specs.now j) c.args.rid (Some c.args.row.now)) in
+    let start : Holdings = record { runs = map runs c.args.spools.now; begun = c.args.begun.now } in
+    let middle : Holdings = record { runs = map runs c.loop-i.spools; begun = c.loop-i.begun } in
+    let p = err_from_is_err_and c.from_residual.result c.from_residual.ensures.1 in
+    rw (p.1, p.2) (λ memory.
+    let spools : set c.loop-i.spools i c.add_key.new.spool ≡ c.loop-i.spools =
+    ap (set c.loop-i.spools i) (e.untouched memory) ∙ set-get_or c.loop-i.spools i c.index-spools-i.result in
+    let begun : set c.loop-i.begun i c.add_key.new.begun ≡ c.loop-i.begun =
+    ap (set c.loop-i.begun i) (e.unchanged memory) ∙ set-get_or c.loop-i.begun i c.index-begun-i.result in
+    rw (spools, begun) (λ j less. reached_first Its i start middle c.loop-i.invariant.reached j))
 
 pub loop-i-init : goal.loop-i-init
 loop-i-init g c =

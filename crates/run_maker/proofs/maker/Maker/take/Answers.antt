@@ -20,3 +20,13 @@ returns-clause-taken g c =
     let long : length new ≡ c.self.inside.begun.len = c.add_image.auto.begun ∙ c.deref_mut.ensures.len in
     let whole : take c.self.inside.begun.len (new ++ behind) ≡ new = rw (← long) (take-append_seam new behind) in
     rw (whole, ← specs, ← begun) c.add_image.ensures.taken
+
+pub returns-clause-part : goal.returns-clause-part
+returns-clause-part g c =
+    let new = c.add_image.new.begun in
+    let behind = drop (length new) c.self.inside.begun.items in
+    let specs : c.deref.result.now ≡ c.args.self.now.specs = c.deref.ensures.value ∙ ap (λ (value : MakerValue). value.specs) c.self.view_is in
+    let begun : c.deref_mut.result.now ≡ c.args.self.now.begun = c.deref_mut.ensures.value ∙ ap (λ (value : MakerValue). value.begun) c.self.view_is in
+    let long : length new ≡ c.self.inside.begun.len = c.add_image.auto.begun ∙ c.deref_mut.ensures.len in
+    let whole : take c.self.inside.begun.len (new ++ behind) ≡ new = rw (← long) (take-append_seam new behind) in
+    rw (whole, ← specs, ← begun) c.add_image.ensures.part
