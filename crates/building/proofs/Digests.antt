@@ -1,6 +1,6 @@
 -- Digests of a worker, one after another.
-use Rattle.std.proofs.Common.{◌≡◌, ℕ, ◌+◌, ◌*◌, ◌/◌, ◌%◌, ◌≤◌, true, false, List, [], ◌∷◌, ◌++◌, length, take, drop, append_assoc}
-use Rattle.std.proofs.Common.{refl, sym, ap, ap₂, ◌∙◌, arith, length-append}
+use Rattle.std.proofs.Common.{◌≡◌, ℕ, ◌+◌, ◌*◌, ◌/◌, ◌%◌, ◌≤◌, Bool, true, false, List, [], ◌∷◌, ◌++◌, length, take, drop, append_assoc}
+use Rattle.std.proofs.Common.{refl, sym, ap, ap₂, ◌∙◌, subst, arith, length-append}
 use Rattle.std.proofs.lemmas.List.{length-take, drop-drop}
 use Rattle.std.proofs.Math.Nat.{mod-add-div', add-mul-mod_self_right}
 use Rattle.std.proofs.Math.Seq.{take-add}
@@ -10,7 +10,7 @@ use Rattle.building.specs.declared.copied.Copied.{Copied}
 use Rattle.building.specs.Copies.{is_for, images_of}
 use Rattle.building.specs.TakeEnd.{TakeEnd, after_taking}
 use Rattle.building.specs.IntakeValue.{IntakeValue}
-use Rattle.building.specs.Work.{next_images, after_digest}
+use Rattle.building.specs.Work.{StopsAt, next_images, after_digest}
 use Rattle.building.proofs.ManyPairs.{images-append, images_few}
 
 abbrev ImageList : Type 0
@@ -25,6 +25,15 @@ pub next_one :
     (kinds : List Kind) (worker : IntakeValue) (copied : Copied) (rest : List Copied) → worker.end.known ≡ copied ∷ rest
     → is_for worker.build kinds copied ≡ true → next_images 1 kinds worker ≡ copied.image ∷ []
 next_one kinds worker copied rest known own = rw (known, own) refl
+
+-- it is, by the test of its build and its columns
+pub next_tested :
+    (kinds seen : List Kind) (build : ℕ) (worker : IntakeValue) (copied : Copied) (rest : List Copied) (test : Bool) → worker.end.known ≡ copied ∷ rest
+    → build ≡ worker.build → seen ≡ kinds → test ≡ is_for build seen copied → test ≡ true → next_images 1 kinds worker ≡ copied.image ∷ []
+next_tested kinds seen build worker copied rest test known number columns tested own =
+    let is : is_for worker.build kinds copied ≡ true =
+    ap₂ (λ (b : ℕ) (ks : List Kind). is_for b ks copied) (sym number) (sym columns) ∙ (sym tested ∙ own) in
+    next_one kinds worker copied rest known is
 
 -- the next copy, which is not
 pub next_other :
@@ -94,3 +103,27 @@ next_few n kinds worker = omega (arith, images_few worker.build kinds (take n wo
 -- nor more than were seen
 pub next_known : (n : ℕ) (kinds : List Kind) (worker : IntakeValue) → length (next_images n kinds worker) ≤ length worker.end.known
 next_known n kinds worker = omega (arith, images_few worker.build kinds (take n worker.end.known), length-take n worker.end.known)
+
+-- it stops at the next copy
+pub stops_here :
+    (kinds : List Kind) (worker new : IntakeValue) (image : ImageValue) → next_images 1 kinds worker ≡ image ∷ [] → new.build ≡ worker.build
+    → new.end ≡ after_taking 1 worker.end → new.taken ≡ worker.taken → new.sealed ≡ worker.sealed → StopsAt 0 kinds worker new
+stops_here kinds worker new image one build end taken sealed = record {
+  own = ap (λ (images : ImageList). length images) one;
+  left = same_worker new (record (after_digest 0 kinds worker) { end = after_taking (0 + 1) worker.end }) build end (omega (arith, taken)) sealed;
+}
+
+-- or at the next one behind the first n
+pub stops_behind :
+    (n : ℕ) (kinds seen : List Kind) (worker middle new : IntakeValue) → middle ≡ after_digest n kinds worker → seen ≡ kinds → StopsAt 0 seen middle new
+    → StopsAt n kinds worker new
+stops_behind n kinds seen worker middle new is same stops =
+    let next = after_digest n kinds worker in
+    let here : StopsAt 0 kinds next new = subst (λ (ks : List Kind). StopsAt 0 ks next new) same (subst (λ (w : IntakeValue). StopsAt 0 seen w new) is stops) in
+    let left : new ≡ record (after_digest 0 kinds next) { end = after_taking 1 next.end } = here.left in
+    let taken = ap (λ (w : IntakeValue). w.taken) left in
+    record {
+      own = here.own;
+      left = same_worker new (record next { end = after_taking (n + 1) worker.end }) (ap (λ (w : IntakeValue). w.build) left)
+          (ap (λ (w : IntakeValue). w.end) left ∙ taking_more n 1 worker.end) (omega (arith, taken)) (ap (λ (w : IntakeValue). w.sealed) left);
+    }

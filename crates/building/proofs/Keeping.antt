@@ -23,7 +23,7 @@ use Rattle.building.specs.SpoolValue.{SpoolValue, runs_of, open_runs_of}
 use Rattle.building.specs.Taking.{received_images, unsealed_images}
 use Rattle.building.specs.Work.{at_start, next_images, after_digest, after_seal}
 use Rattle.building.specs.WorkerValue.{IsCounting, IsHolding, holdings}
-use Rattle.building.proofs.Holding.{none_at}
+use Rattle.building.proofs.Holding.{none_at, short_at}
 use Rattle.building.proofs.ManyPairs.{for_decides, images-append, images_none}
 use Rattle.building.proofs.Taking.{digested_holds, digested_open, sealed_holds, sealed_open}
 
@@ -59,12 +59,6 @@ all_at : (P : KeySpecValue → Type 0) (specs : List KeySpecValue) (i : ℕ) →
 all_at P [] i all less = absurd (omega (arith, less))
 all_at P (spec ∷ specs) zero all less = All-head P spec specs all
 all_at P (spec ∷ specs) (suc i) all less = all_at P specs i (All-tail P spec specs all) (omega (arith, less))
-
--- where each has fewer, so has any
-short_at : (begun : List (List Pair)) (i : ℕ) → All (λ pairs. length pairs < 4096) begun → length (get_or begun i []) < 4096
-short_at [] i all = omega arith
-short_at (pairs ∷ begun) zero all = All-head (λ (ps : List Pair). length ps < 4096) pairs begun all
-short_at (pairs ∷ begun) (suc i) all = short_at begun i (All-tail (λ (ps : List Pair). length ps < 4096) pairs begun all)
 
 -- what the maker says of its columns now, it said before
 same_columns :
@@ -162,7 +156,7 @@ module _
           holds = λ i less.
               let lt : i < length maker.specs = omega (arith, less, ap length specs) in
               let own = its i lt in
-              let all = more i lt own.0 own.1 in
+              let all = (more i lt own.0 own.1).all in
               rw (is, schema, same i, none i)
               (sealed_holds (spec_at maker.specs i) n maker.schema intake (get_or (runs_of spools) i []) (get_or maker.begun i []) (get_or (runs_of new_spools) i [])
               own.0 (holds.holds i lt) own.1 (rw (none i) at all));

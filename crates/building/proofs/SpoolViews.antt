@@ -12,7 +12,7 @@ use Rattle.heap_table.specs.Images.{IsReadable}
 use Rattle.run_spool.specs.Spools.{AreSorted}
 use Rattle.run_maker.specs.FullSpools.{HasFullOf}
 use Rattle.run_maker.proofs.FullSpools.{full_given}
-use Rattle.run_maker.specs.Making.{MakerValue, AreReady, spec_at}
+use Rattle.run_maker.specs.Making.{AreReady, Holdings, MakerValue, spec_at}
 use Rattle.building.specs.Holding.{TakesAll, HoldsMore}
 use Rattle.building.specs.ImagePairs.{HavePairs}
 use Rattle.building.specs.IntakeValue.{IntakeValue}
@@ -20,7 +20,7 @@ use Rattle.building.specs.SpoolValue.{SpoolValue, HaveFullOf, spool_value, runs_
 use Rattle.building.specs.declared.turn.Turn.{Turn}
 use Rattle.building.specs.declared.turn.Turn.TheVariants.{Digest, Seal}
 use Rattle.building.specs.Taking.{received_images}
-use Rattle.building.specs.Turns.{AreHeldWithTaken, TurnHolds, after_turn, turn_images}
+use Rattle.building.specs.Turns.{AreHeldWithTaken, HoldsPart, TurnHolds, after_turn, turn_images}
 use Rattle.building.specs.Work.{next_images, after_digest, after_seal}
 use Rattle.building.specs.WorkerValue.{IsCounting, IsHolding, SameWorker, WorkerValue, holdings}
 use Rattle.building.proofs.Keeping.{digest_keeps, seal_keeps, start_keeps}
@@ -78,6 +78,33 @@ module _ {S : Type 0} (runs : S → List (List Pair)) (open_run : S → List Pai
   -- and those that are seen to be ready are so
   pub spools_ready : (spools : List S) → AreReady (runs_of (values spools)) (open_runs_of (values spools)) → AreReady (map runs spools) (map open_run spools)
   spools_ready spools ready = rw (value_runs spools, value_open_runs spools) at ready
+
+  -- what is held in spools that were lent, as it is seen
+  seen_held :
+      (R : Holdings → Holdings → Type 0) (maker new : MakerValue) (spools lent new_spools : List S) → lent ≡ spools
+      → R (record { runs = map runs lent; begun = maker.begun }) (record { runs = map runs new_spools; begun = new.begun })
+      → R (holdings maker (values spools)) (holdings new (values new_spools))
+  seen_held R maker new spools lent new_spools same held =
+      let Held : List (List (List Pair)) → List (List (List Pair)) → Type 0 = λ rs now. R (record { runs = rs; begun = maker.begun }) (record { runs = now; begun = new.begun }) in
+      subst (λ (rs : List (List (List Pair))). Held rs (runs_of (values new_spools))) (ap (map runs) same ∙ sym (value_runs spools))
+      (subst (Held (map runs lent)) (sym (value_runs new_spools)) held)
+
+  -- after a turn
+  pub turn_seen :
+      (turn : Turn) (intake : IntakeValue) (maker new : MakerValue) (spools lent new_spools : List S) → lent ≡ spools
+      → TurnHolds turn maker.specs (turn_images turn maker.schema intake) (record { runs = map runs lent; begun = maker.begun })
+      (record { runs = map runs new_spools; begun = new.begun })
+      → TurnHolds turn maker.specs (turn_images turn maker.schema intake) (holdings maker (values spools)) (holdings new (values new_spools))
+  turn_seen turn intake maker new spools lent new_spools same holds =
+      seen_held (TurnHolds turn maker.specs (turn_images turn maker.schema intake)) maker new spools lent new_spools same holds
+
+  -- or where memory was wanted
+  pub part_held :
+      (intake after : IntakeValue) (maker new : MakerValue) (spools lent new_spools : List S) → lent ≡ spools
+      → HoldsPart maker.specs maker.schema intake after (record { runs = map runs lent; begun = maker.begun }) (record { runs = map runs new_spools; begun = new.begun })
+      → HoldsPart maker.specs maker.schema intake after (holdings maker (values spools)) (holdings new (values new_spools))
+  part_held intake after maker new spools lent new_spools same part =
+      seen_held (HoldsPart maker.specs maker.schema intake after) maker new spools lent new_spools same part
 
   -- a full one is seen
   values_full :
@@ -139,10 +166,7 @@ module _ {S : Type 0} (runs : S → List (List Pair)) (open_run : S → List Pai
         → All (λ begun. length begun < 4096) new.begun → IsHolding after new (values new_spools)
     digest_held is takes short =
         let seen : TakesAll maker.specs (next_images n maker.schema intake) (holdings maker (values spools)) (holdings new (values new_spools)) =
-        subst (λ (rs : List (List (List Pair))). TakesAll maker.specs (next_images n maker.schema intake) (record { runs = rs; begun = maker.begun }) (holdings new (values new_spools)))
-        (sym (value_runs spools))
-        (subst (λ (rs : List (List (List Pair))). TakesAll maker.specs (next_images n maker.schema intake) (record { runs = map runs spools; begun = maker.begun }) (record { runs = rs; begun = new.begun }))
-        (sym (value_runs new_spools)) takes) in
+        seen_held (TakesAll maker.specs (next_images n maker.schema intake)) maker new spools spools new_spools refl takes in
         digest_keeps n intake maker (values spools) counts holds readable after new (values new_spools) specs schema columns many_values (values_ready new_spools ready)
         sorted_values is seen short
 
@@ -154,10 +178,7 @@ module _ {S : Type 0} (runs : S → List (List Pair)) (open_run : S → List Pai
         → All (λ begun. begun ≡ []) new.begun → IsHolding after new (values new_spools)
     seal_held is more closed =
         let seen : HoldsMore maker.specs (next_images n maker.schema intake) (holdings maker (values spools)) (holdings new (values new_spools)) =
-        subst (λ (rs : List (List (List Pair))). HoldsMore maker.specs (next_images n maker.schema intake) (record { runs = rs; begun = maker.begun }) (holdings new (values new_spools)))
-        (sym (value_runs spools))
-        (subst (λ (rs : List (List (List Pair))). HoldsMore maker.specs (next_images n maker.schema intake) (record { runs = map runs spools; begun = maker.begun }) (record { runs = rs; begun = new.begun }))
-        (sym (value_runs new_spools)) more) in
+        seen_held (HoldsMore maker.specs (next_images n maker.schema intake)) maker new spools spools new_spools refl more in
         seal_keeps n intake maker (values spools) counts holds readable after new (values new_spools) specs schema columns many_values (values_ready new_spools ready)
         sorted_values is seen closed
 

@@ -1,5 +1,5 @@
 -- What a worker's maker and spools hold of the copies that it took: of each index the pairs in closed runs, and those in no run yet.
-use Rattle.std.specs.Prelude.{◌≡◌, ℕ, ◌<◌, ◌%◌, List, ◌++◌, length, IsPermutation}
+use Rattle.std.specs.Prelude.{◌≡◌, ℕ, ◌+◌, ◌*◌, ◌<◌, ◌≤◌, ◌%◌, List, [], ◌++◌, length, get_or, IsPermutation}
 use Rattle.keybytes.specs.Keys.{KeySpecValue}
 use Rattle.keybytes.specs.declared.pair.Pair.{Pair}
 use Rattle.heap_table.specs.Images.{ImageValue}
@@ -11,10 +11,22 @@ use Rattle.building.specs.ImagePairs.{HavePairs}
 abbrev pub TakesAll : List KeySpecValue → List ImageValue → Holdings → Holdings → Type 0
 TakesAll specs images old new = (i : ℕ) → i < length specs → (made : List Pair) → HavePairs (spec_at specs i) images made → AddsAt i made old new
 
--- each index is held with the pairs of these images more
+-- each index is held with the pairs of these images more, and with the first of those of the last ones
+abbrev pub TakesUpTo : List KeySpecValue → List ImageValue → List ImageValue → Holdings → Holdings → Type 0
+TakesUpTo specs images last old new =
+    (i : ℕ) → i < length specs → (made next : List Pair) → HavePairs (spec_at specs i) images made → HavePairs (spec_at specs i) last next
+    → (first : List Pair) × (others : List Pair) × (next ≡ first ++ others) × AddsAt i (made ++ first) old new
+
+-- index i is held with these pairs more, and none is left in an open run: each closed run more has 4,096 of them, but perhaps the last
+pub record HoldsMoreAt (i : ℕ) (made : List Pair) (old new : Holdings) : Type 0 where
+  pub all : IsPermutation (held_at i old ++ made) (held_at i new)
+  pub enough : 4096 * length (get_or old.runs i []) + (length (get_or old.begun i []) + length made) ≤ 4096 * length (get_or new.runs i [])
+  pub few : 4096 * length (get_or new.runs i []) < 4096 * length (get_or old.runs i []) + (length (get_or old.begun i []) + length made) + 4096
+
+-- each index is held with the pairs of these images more, in closed runs
 abbrev pub HoldsMore : List KeySpecValue → List ImageValue → Holdings → Holdings → Type 0
 HoldsMore specs images old new =
-    (i : ℕ) → i < length specs → (made : List Pair) → HavePairs (spec_at specs i) images made → IsPermutation (held_at i old ++ made) (held_at i new)
+    (i : ℕ) → i < length specs → (made : List Pair) → HavePairs (spec_at specs i) images made → HoldsMoreAt i made old new
 
 -- an index's pairs of these images are held, each as often as it is there, in the closed runs and in no run yet
 pub record HoldsPairs (spec : KeySpecValue) (images : List ImageValue) (runs : List (List Pair)) (begun : List Pair) : Type 0 where

@@ -1,8 +1,9 @@
 -- What a worker does at its turn, a digest or a seal, and what it answers.
-use Rattle.std.specs.Prelude.{◌≡◌, ◌<◌, ℕ, List, [], length, false, true, Option, Some, None}
+use Rattle.std.specs.Prelude.{◌≡◌, ◌⊎◌, ℕ, List, [], length, false, true, Option, Some, None}
 use Rattle.std.specs.List.{All}
 use Rattle.keybytes.specs.Keys.{KeySpecValue}
 use Rattle.keybytes.specs.declared.fault.Fault.{Fault}
+use Rattle.keybytes.specs.declared.fault.Fault.TheVariants.{NoPage}
 use Rattle.keybytes.specs.declared.kind.Kind.{Kind}
 use Rattle.keybytes.specs.declared.pair.Pair.{Pair}
 use Rattle.heap_table.specs.Images.{ImageValue}
@@ -12,12 +13,12 @@ use Rattle.run_maker.specs.Making.{AreReady, Holdings}
 use Rattle.run_maker.specs.Spooling.{MemoryOnlyIf}
 use Rattle.building.specs.declared.turn.Turn.{Turn}
 use Rattle.building.specs.declared.turn.Turn.TheVariants.{Digest, Seal}
-use Rattle.building.specs.Holding.{AreHeldWith, HoldsMore, TakesAll}
+use Rattle.building.specs.Holding.{AreHeldWith, HoldsMore, TakesAll, TakesUpTo}
 use Rattle.building.specs.IntakeValue.{IntakeValue}
 use Rattle.building.specs.SpoolValue.{HaveFullOf, open_runs_of, runs_of}
 use Rattle.building.specs.TakeEnd.{after_taking}
-use Rattle.building.specs.Work.{TakesSome, after_digest, after_seal, next_images}
-use Rattle.building.specs.WorkerValue.{HasReceived, IsShortage, SameWorker, WorkerValue}
+use Rattle.building.specs.Work.{StopsAt, after_digest, after_seal, image_behind, next_images}
+use Rattle.building.specs.WorkerValue.{HasReceived, IsShortage, SameWorker, WorkerValue, holdings}
 
 -- how many of the copies that it has seen a worker takes
 abbrev pub turn_copies : Turn → IntakeValue → ℕ
@@ -47,10 +48,11 @@ abbrev pub AreHeldWithTaken : List KeySpecValue → List Kind → IntakeValue �
 AreHeldWithTaken specs kinds old new held i pairs =
     (n : ℕ) × (new.end ≡ after_taking n old.end) × AreHeldWith specs (next_images n kinds old) held i pairs
 
--- they were taken, so many of them of its build, and a seal closed its runs
+-- they were taken, so many of them of its build, their pairs are held, and a seal closed its runs
 pub record HasTaken (turn : Turn) (images : ℕ) (old new : WorkerValue) : Type 0 where
   pub counted : images ≡ length (turn_images turn old.maker.schema old.intake)
   pub intake : new.intake ≡ after_turn turn old.maker.schema old.intake
+  pub holds : TurnHolds turn old.maker.specs (turn_images turn old.maker.schema old.intake) (holdings old.maker old.spools) (holdings new.maker new.spools)
   pub closed : turn ≡ Seal → All (λ begun. begun ≡ []) new.maker.begun
 
 -- a worker that no fault had stopped had its turn; once its spools are handed over it takes nothing
@@ -60,10 +62,14 @@ pub record HasDone (turn : Turn) (old : WorkerValue) (images : ℕ) (new : Worke
   pub took : old.handed ≡ false → HasTaken turn images old new
   pub nothing : old.handed ≡ true → (images ≡ 0) × (new ≡ record old { intake = marked turn old.intake })
 
--- what a worker has seen that is refused for a fault: at a digest a copy of its build, at a seal that wants memory any copy
-abbrev pub SawCopies : Turn → List Kind → IntakeValue → Fault → Type 0
-SawCopies Digest kinds worker fault = length (next_images 1 kinds worker) ≡ 1
-SawCopies Seal kinds worker fault = MemoryOnlyIf (0 < length worker.end.known) fault
+-- a turn that is refused stops at a copy of its build, a digest at the next one; or a seal took them all, and wants a page as it closes its runs
+abbrev pub StopsIn : Turn → List Kind → IntakeValue → IntakeValue → Fault → Type 0
+StopsIn Digest kinds old new fault = StopsAt 0 kinds old new
+StopsIn Seal kinds old new fault = ((n : ℕ) × StopsAt n kinds old new) ⊎ ((fault ≡ NoPage) × (new ≡ after_digest (length old.end.known) kinds old))
+
+-- it stopped at a copy, and each index is held with the pairs of those before it more, and with the first of that copy's
+abbrev pub HoldsPart : List KeySpecValue → List Kind → IntakeValue → IntakeValue → Holdings → Holdings → Type 0
+HoldsPart specs kinds old new held now = (n : ℕ) × StopsAt n kinds old new × TakesUpTo specs (next_images n kinds old) (image_behind n kinds old) held now
 
 module _
     {S : Type 0} (is_full : S → Pair → Type 0) (runs : S → List (List Pair)) (open_run : S → List Pair) (stake : S → Option Stake) where
@@ -72,9 +78,12 @@ module _
     pub same : SameWorker old new
     pub stopped : new.fault ≡ Some fault
     pub short : IsShortage fault
-    pub took : TakesSome old.intake.end new.intake.end
     -- it is for the fault that stopped it before, if one did, and then nothing happens
     pub again : (first : Fault) → old.fault ≡ Some first → (fault ≡ first) × (new ≡ old)
-    pub copies : old.fault ≡ None → (old.handed ≡ false) × SawCopies turn old.maker.schema old.intake fault
+    pub has_spools : old.fault ≡ None → old.handed ≡ false
+    pub took : old.fault ≡ None → StopsIn turn old.maker.schema old.intake new.intake fault
     pub full : old.fault ≡ None → NoPageOnlyIf (HaveFullOf is_full runs open_run stake (HasReceived new) new.spools) fault
     pub want : old.fault ≡ None → MemoryOnlyIf (AreReady (runs_of new.spools) (open_runs_of new.spools)) fault
+    -- for want of memory no pair is lost, and no run is closed with fewer than 4,096
+    pub part : old.fault ≡ None → MemoryOnlyIf
+        (HoldsPart old.maker.specs old.maker.schema old.intake new.intake (holdings old.maker old.spools) (holdings new.maker new.spools)) fault

@@ -1,5 +1,5 @@
 -- What the calls of a worker leave.
-use Rattle.std.specs.Prelude.{◌≡◌, ℕ, ◌+◌, ◌≤◌, List, length, take}
+use Rattle.std.specs.Prelude.{◌≡◌, ℕ, ◌+◌, ◌≤◌, List, length, take, drop}
 use Rattle.keybytes.specs.declared.kind.Kind.{Kind}
 use Rattle.heap_table.specs.Images.{ImageValue}
 use Rattle.building.specs.declared.copied.Copied.{Copied}
@@ -27,14 +27,14 @@ next_images n kinds worker = images_of worker.build kinds (take n worker.end.kno
 abbrev pub after_digest : ℕ → List Kind → IntakeValue → IntakeValue
 after_digest n kinds worker = record worker { end = after_taking n worker.end; taken = worker.taken + length (next_images n kinds worker) }
 
--- it stopped: the first n copies that it has seen are taken, and all of them counted but perhaps the last
-abbrev pub StopsAfter : ℕ → List Kind → IntakeValue → IntakeValue → Type 0
-StopsAfter n kinds old new =
-    (counted : ℕ) × (counted ≤ n) × (n ≤ counted + 1) × (new ≡ record (after_digest counted kinds old) { end = after_taking n old.end })
+-- the image of the copy behind these, if that is of its build, of a table of these columns
+abbrev pub image_behind : ℕ → List Kind → IntakeValue → List ImageValue
+image_behind n kinds worker = images_of worker.build kinds (take 1 (drop n worker.end.known))
 
--- an end took the next copies that it has seen, or none
-abbrev pub TakesSome : TakeEnd Copied → TakeEnd Copied → Type 0
-TakesSome old new = (n : ℕ) × (n ≤ length old.known) × (new ≡ after_taking n old)
+-- it stopped at the copy behind the first n, one of its build: those are taken and counted, that one is gone and isn't
+pub record StopsAt (n : ℕ) (kinds : List Kind) (old new : IntakeValue) : Type 0 where
+  pub own : length (image_behind n kinds old) ≡ 1
+  pub left : new ≡ record (after_digest n kinds old) { end = after_taking (n + 1) old.end }
 
 -- all that is taken is sealed
 abbrev pub after_seal : IntakeValue → IntakeValue

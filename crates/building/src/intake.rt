@@ -1,4 +1,4 @@
-ghost use Rattle.std.specs.Prelude.{◌≡◌, ◌<◌, ◌≤◌, ◌⊎◌, ◌+◌, ◌++◌, [], ℕ, All, length, map};
+ghost use Rattle.std.specs.Prelude.{◌≡◌, ◌≤◌, ◌⊎◌, ◌+◌, ◌++◌, [], All, length, map};
 ghost use Rattle.std.specs.Prelude.{IfErr, IfOk, OnOk, OnErr};
 ghost use Rattle.side_file.specs.Ends.{ring_take};
 ghost use Rattle.heap_table.specs.Images.{IsReadable};
@@ -6,10 +6,10 @@ ghost use Rattle.run_spool.specs.Spools.{AreSorted, NoPageOnlyIf};
 ghost use Rattle.run_maker.specs.FullSpools.{HasFullOf};
 ghost use Rattle.run_maker.specs.Making.{AreReady};
 ghost use Rattle.run_maker.specs.Spooling.{MemoryOnlyIf};
-ghost use Rattle.building.specs.Holding.{AreHeldWith, TakesAll, HoldsMore};
-ghost use Rattle.building.specs.TakeEnd.{take_end, after_taking, PutEndLooked};
-ghost use Rattle.building.specs.Turns.{AreHeldWithTaken, SawCopies, TurnHolds, after_turn, marked, turn_images};
-ghost use Rattle.building.specs.Work.{at_start, IsIntake, StopsAfter, TakesSome, knowing, next_images, after_digest, after_seal};
+ghost use Rattle.building.specs.Holding.{AreHeldWith, TakesAll, TakesUpTo, HoldsMore};
+ghost use Rattle.building.specs.TakeEnd.{take_end, PutEndLooked};
+ghost use Rattle.building.specs.Turns.{AreHeldWithTaken, HoldsPart, StopsIn, TurnHolds, after_turn, marked, turn_images};
+ghost use Rattle.building.specs.Work.{at_start, IsIntake, StopsAt, knowing, next_images, after_digest, after_seal};
 ghost use Rattle.building.specs.WorkerValue.{IsShortage};
 
 use crate::{Copied, PagePutter, Turn};
@@ -139,17 +139,15 @@ impl Intake {
         ensures schema { maker.new.schema ≡ maker.old.schema }
         ensures specs { maker.new.specs ≡ maker.old.specs }
         ensures readable { OnOk result (All IsReadable (next_images 1 maker.old.schema self.old)) }
-        ensures copy { OnErr result (length (next_images 1 maker.old.schema self.old) ≡ 1) }
-        ensures build { self.new.build ≡ self.old.build }
-        ensures end { self.new.end ≡ after_taking 1 self.old.end }
-        ensures uncounted { OnErr result (self.new.taken ≡ self.old.taken) }
-        ensures unsealed { self.new.sealed ≡ self.old.sealed }
+        ensures failed { OnErr result (StopsAt 0 maker.old.schema self.old self.new) }
         ensures fault { IfErr result (λ fault. (fault ≡ Fault.NoPage) ⊎ (fault ≡ Fault.Memory)) }
         ensures full { IfErr result (NoPageOnlyIf
             (HasFullOf S.is_full S.runs S.open_run
             (AreHeldWith maker.old.specs (next_images 1 maker.old.schema self.old)
             (record { runs = map S.runs spools.old; begun = maker.old.begun })) spools.new)) }
         ensures want { IfErr result (MemoryOnlyIf (AreReady (map S.runs spools.new) (map S.open_run spools.new))) }
+        ensures part { IfErr result (MemoryOnlyIf (TakesUpTo maker.old.specs [] (next_images 1 maker.old.schema self.old)
+            (record { runs = map S.runs spools.old; begun = maker.old.begun }) (record { runs = map S.runs spools.new; begun = maker.new.begun }))) }
     {
         if self.seen() == 0 {
             return Ok(0);
@@ -186,14 +184,15 @@ impl Intake {
         ensures readable { OnOk result (All IsReadable (next_images (length self.old.end.known) maker.old.schema self.old)) }
         ensures build { self.new.build ≡ self.old.build }
         ensures ring { self.new.end.ring ≡ self.old.end.ring }
-        ensures copy { IfErr result (MemoryOnlyIf (0 < length self.old.end.known)) }
-        ensures failed { OnErr result ((n : ℕ) × (n ≤ length self.old.end.known) × StopsAfter n maker.old.schema self.old self.new) }
+        ensures failed { IfErr result (StopsIn Turn.Seal maker.old.schema self.old self.new) }
         ensures fault { IfErr result (λ fault. (fault ≡ Fault.NoPage) ⊎ (fault ≡ Fault.Memory)) }
         ensures full { IfErr result (NoPageOnlyIf
             (HasFullOf S.is_full S.runs S.open_run
             (AreHeldWithTaken maker.old.specs maker.old.schema self.old self.new
             (record { runs = map S.runs spools.old; begun = maker.old.begun })) spools.new)) }
         ensures want { IfErr result (MemoryOnlyIf (AreReady (map S.runs spools.new) (map S.open_run spools.new))) }
+        ensures part { IfErr result (MemoryOnlyIf (HoldsPart maker.old.specs maker.old.schema self.old self.new
+            (record { runs = map S.runs spools.old; begun = maker.old.begun }) (record { runs = map S.runs spools.new; begun = maker.new.begun }))) }
     {
         maker.laws();
         let mut images = 0;
@@ -228,14 +227,15 @@ impl Intake {
         ensures readable { OnOk result (All IsReadable (turn_images turn maker.old.schema self.old)) }
         ensures build { self.new.build ≡ self.old.build }
         ensures ring { self.new.end.ring ≡ self.old.end.ring }
-        ensures took { OnErr result (TakesSome self.old.end self.new.end) }
-        ensures copies { IfErr result (SawCopies turn maker.old.schema self.old) }
+        ensures took { IfErr result (StopsIn turn maker.old.schema self.old self.new) }
         ensures fault { IfErr result IsShortage }
         ensures full { IfErr result (NoPageOnlyIf
             (HasFullOf S.is_full S.runs S.open_run
             (AreHeldWithTaken maker.old.specs maker.old.schema self.old self.new
             (record { runs = map S.runs spools.old; begun = maker.old.begun })) spools.new)) }
         ensures want { IfErr result (MemoryOnlyIf (AreReady (map S.runs spools.new) (map S.open_run spools.new))) }
+        ensures part { IfErr result (MemoryOnlyIf (HoldsPart maker.old.specs maker.old.schema self.old self.new
+            (record { runs = map S.runs spools.old; begun = maker.old.begun }) (record { runs = map S.runs spools.new; begun = maker.new.begun }))) }
     {
         match turn {
             Turn::Digest => self.digest(maker, spools),

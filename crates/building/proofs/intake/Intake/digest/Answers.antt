@@ -9,8 +9,8 @@ use Rattle.building.specs.Copies.{is_for}
 use Rattle.building.specs.Holding.{AreHeldWith}
 use Rattle.building.specs.Work.{next_images}
 use Rattle.building.specs.IntakeValue.{IntakeValue}
-use Rattle.building.proofs.Digests.{next_missing, next_one, next_other}
-use Rattle.building.proofs.Holding.{takes_nothing, takes_one}
+use Rattle.building.proofs.Digests.{next_missing, next_other, next_tested}
+use Rattle.building.proofs.Holding.{takes_first, takes_none, takes_nothing, takes_one}
 use Rattle.building.proofs.ManyPairs.{for_decides}
 use Rattle.building.proofs.Received.{with_copy}
 use Rattle.building.proofs.intake.Intake.digest.Goals as goal
@@ -47,12 +47,10 @@ returns-in_err-take-clause-full g c =
     let worker = c.args.self.now in
     let maker = c.args.maker.now in
     let copied = c.pop_known-copied.result in
-    let build = ap (λ (w : IntakeValue). w.build) c.self.view_is in
-    let own : is_for worker.build maker.schema copied ≡ true =
-    ap₂ (λ (b : ℕ) (ks : List Kind). is_for b ks copied) (sym build) (sym c.schema.ensures) ∙ (sym c.is_for.ensures ∙ c.if-not-is_for.false) in
     let one : next_images 1 maker.schema worker ≡ copied.image ∷ [] =
-    next_one maker.schema worker copied (known_items c.pop_known-copied.new.self)
-    (sym (ap (λ (w : IntakeValue). w.end.known) c.self.view_is) ∙ c.pop_known-copied.ensures.received.1) own in
+    next_tested maker.schema c.schema.result.now c.self.inside.build worker copied (known_items c.pop_known-copied.new.self) c.is_for.result
+    (sym (ap (λ (w : IntakeValue). w.end.known) c.self.view_is) ∙ c.pop_known-copied.ensures.received.1)
+    (ap (λ (w : IntakeValue). w.build) c.self.view_is) c.schema.ensures c.is_for.ensures c.if-not-is_for.false in
     let p = err_from_is_err_and c.from_residual.result c.from_residual.ensures.1 in
     rw (p.1, p.2) (λ no_page.
     let held : Holdings = record { runs = map g.S.Spool.runs c.args.spools.now; begun = maker.begun } in
@@ -61,17 +59,36 @@ returns-in_err-take-clause-full g c =
     (λ i pairs less are. (pairs, with_copy maker.specs copied.image (next_images 1 maker.schema worker) held i pairs one are, all_of pairs pairs (IsPermutation-refl pairs)))
     (c.in_err-take.ensures.full no_page))
 
+pub returns-then-self-clause-part : goal.returns-then-self-clause-part
+returns-then-self-clause-part g c =
+    let maker = c.args.maker.now in
+    let held : Holdings = record { runs = map g.S.Spool.runs c.args.spools.now; begun = maker.begun } in
+    λ memory. takes_none maker.specs (next_images 1 maker.schema c.args.self.now) held
+
+pub returns-in_err-take-clause-part : goal.returns-in_err-take-clause-part
+returns-in_err-take-clause-part g c =
+    let worker = c.args.self.now in
+    let maker = c.args.maker.now in
+    let copied = c.pop_known-copied.result in
+    let one : next_images 1 maker.schema worker ≡ copied.image ∷ [] =
+    next_tested maker.schema c.schema.result.now c.self.inside.build worker copied (known_items c.pop_known-copied.new.self) c.is_for.result
+    (sym (ap (λ (w : IntakeValue). w.end.known) c.self.view_is) ∙ c.pop_known-copied.ensures.received.1)
+    (ap (λ (w : IntakeValue). w.build) c.self.view_is) c.schema.ensures c.is_for.ensures c.if-not-is_for.false in
+    let old : Holdings = record { runs = map g.S.Spool.runs c.args.spools.now; begun = maker.begun } in
+    let new : Holdings = record { runs = map g.S.Spool.runs c.take.new.spools; begun = c.take.new.self.begun } in
+    let p = err_from_is_err_and c.from_residual.result c.from_residual.ensures.1 in
+    rw (p.1, p.2) (λ memory.
+    takes_first maker.specs copied.image (next_images 1 maker.schema worker) old new one (c.in_err-take.ensures.part memory))
+
 pub returns-clause-holds : goal.returns-clause-holds
 returns-clause-holds g c =
     let worker = c.args.self.now in
-    let kinds = c.args.maker.now.schema in
-    let old : Holdings = record { runs = map g.S.Spool.runs c.args.spools.now; begun = c.args.maker.now.begun } in
+    let maker = c.args.maker.now in
+    let old : Holdings = record { runs = map g.S.Spool.runs c.args.spools.now; begun = maker.begun } in
     let new : Holdings = record { runs = map g.S.Spool.runs c.take.new.spools; begun = c.take.new.self.begun } in
     let copied = c.pop_known-copied.result in
-    let build = ap (λ (w : IntakeValue). w.build) c.self.view_is in
-    let own : is_for worker.build kinds copied ≡ true =
-    ap₂ (λ (b : ℕ) (ks : List Kind). is_for b ks copied) (sym build) (sym c.schema.ensures) ∙ (sym c.is_for.ensures ∙ c.if-not-is_for.false) in
-    let one : next_images 1 kinds worker ≡ copied.image ∷ [] =
-    next_one kinds worker copied (known_items c.pop_known-copied.new.self)
-    (sym (ap (λ (w : IntakeValue). w.end.known) c.self.view_is) ∙ c.pop_known-copied.ensures.received.1) own in
-    takes_one c.args.maker.now.specs copied.image (next_images 1 kinds worker) old new one c.in_ok-take.ensures.taken
+    let one : next_images 1 maker.schema worker ≡ copied.image ∷ [] =
+    next_tested maker.schema c.schema.result.now c.self.inside.build worker copied (known_items c.pop_known-copied.new.self) c.is_for.result
+    (sym (ap (λ (w : IntakeValue). w.end.known) c.self.view_is) ∙ c.pop_known-copied.ensures.received.1)
+    (ap (λ (w : IntakeValue). w.build) c.self.view_is) c.schema.ensures c.is_for.ensures c.if-not-is_for.false in
+    takes_one maker.specs copied.image (next_images 1 maker.schema worker) old new one c.in_ok-take.ensures.taken

@@ -1,4 +1,4 @@
-use Rattle.std.proofs.Common.{rules, ◌≡◌, ◌+◌, ◌∙◌, [], ℕ, List, All, append-nil, length, length-append, map, refl, ap, sym, subst, arith}
+use Rattle.std.proofs.Common.{rules, ◌≡◌, ◌+◌, ◌∙◌, [], ℕ, List, All, append-nil, length, length-append, map, refl, ap, sym, subst, arith, inl, inr}
 use Rattle.std.proofs.lemmas.List.Elements.{All-append}
 use Rattle.std.proofs.lemmas.Result.{err_from_is_err_and}
 use Rattle.keybytes.specs.Keys.{KeySpecValue}
@@ -6,13 +6,12 @@ use Rattle.keybytes.specs.declared.kind.Kind.{Kind}
 use Rattle.heap_table.specs.Images.{ImageValue, IsReadable}
 use Rattle.run_maker.specs.Making.{AreHeld, Holdings, held_at}
 use Rattle.run_maker.proofs.FullSpools.{full_given}
-use Rattle.building.specs.Holding.{AreHeldWith, TakesAll}
+use Rattle.building.specs.Holding.{AreHeldWith, TakesAll, TakesUpTo}
 use Rattle.building.specs.Turns.{AreHeldWithTaken}
-use Rattle.building.specs.TakeEnd.{after_taking}
-use Rattle.building.specs.Work.{next_images, after_digest}
+use Rattle.building.specs.Work.{after_digest, image_behind, next_images}
 use Rattle.building.specs.IntakeValue.{IntakeValue}
-use Rattle.building.proofs.Digests.{digest_more, images_more, taking_more, next_few, same_worker}
-use Rattle.building.proofs.Holding.{takes_more, takes_nothing, takes_sealed}
+use Rattle.building.proofs.Digests.{digest_more, images_more, next_few, stops_behind}
+use Rattle.building.proofs.Holding.{takes_more, takes_nothing, takes_sealed, takes_then}
 use Rattle.building.proofs.Received.{with_more}
 use Rattle.building.proofs.intake.Intake.seal.Goals as goal
 
@@ -31,28 +30,43 @@ loop-init g c = record {
 
 pub returns-in_err-images-clause-failed : goal.returns-in_err-images-clause-failed
 returns-in_err-images-clause-failed g c =
-    let worker = c.args.self.now in
+    let was = c.loop.invariant in
+    let n = c.loop.counter in
     let p = err_from_is_err_and c.from_residual.result c.from_residual.ensures.1 in
+    rw p.1 (inl (
+      n,
+      stops_behind n c.args.maker.now.schema c.loop.maker.schema c.args.self.now c.loop.self c.digest.new.self was.taken was.schema c.in_err-images.ensures.failed,
+    ))
+
+pub returns-in_err-seal-clause-failed : goal.returns-in_err-seal-clause-failed
+returns-in_err-seal-clause-failed g c =
+    let worker = c.args.self.now in
     let kinds = c.args.maker.now.schema in
-    let counted = c.loop.counter in
-    let build = ap (λ (w : IntakeValue). w.build) c.loop.invariant.taken in
-    let end = ap (λ (w : IntakeValue). w.end) c.loop.invariant.taken in
-    let taken = ap (λ (w : IntakeValue). w.taken) c.loop.invariant.taken in
-    let sealed = ap (λ (w : IntakeValue). w.sealed) c.loop.invariant.taken in
-    rw p.1 (
-      counted + 1,
-      omega arith,
-      (
-        counted,
-        omega arith,
-        omega arith,
-        same_worker c.digest.new.self (record (after_digest counted kinds worker) { end = after_taking (counted + 1) worker.end })
-            (c.digest.ensures.build ∙ build)
-            (c.digest.ensures.end ∙ (ap (λ end. after_taking 1 end) end ∙ taking_more counted 1 worker.end))
-            (c.in_err-images.ensures.uncounted ∙ taken)
-            (c.digest.ensures.unsealed ∙ sealed),
-      ),
-    )
+    let all : c.loop.counter ≡ length worker.end.known = omega (arith, c.loop-test.false, c.loop.auto.counter-end, c.seen-end.ensures) in
+    let p = err_from_is_err_and c.from_residual-in_err-seal.result c.from_residual-in_err-seal.ensures.1 in
+    rw (p.1, p.2) (inr (c.in_err-seal.ensures.no_page, subst (λ (n : ℕ). c.loop.self ≡ after_digest n kinds worker) all c.loop.invariant.taken))
+
+pub returns-in_err-images-clause-part : goal.returns-in_err-images-clause-part
+returns-in_err-images-clause-part g c =
+    let worker = c.args.self.now in
+    let kinds = c.args.maker.now.schema in
+    let specs = c.args.maker.now.specs in
+    let was = c.loop.invariant in
+    let n = c.loop.counter in
+    let start : Holdings = record { runs = map g.S.Spool.runs c.args.spools.now; begun = c.args.maker.now.begun } in
+    let middle : Holdings = record { runs = map g.S.Spool.runs c.loop.spools; begun = c.loop.maker.begun } in
+    let end : Holdings = record { runs = map g.S.Spool.runs c.digest.new.spools; begun = c.digest.new.maker.begun } in
+    let Part : List KeySpecValue → List Kind → IntakeValue → Type 0 = λ ss ks w. TakesUpTo ss [] (next_images 1 ks w) middle end in
+    let p = err_from_is_err_and c.from_residual.result c.from_residual.ensures.1 in
+    rw (p.1, p.2) (λ memory.
+    let here : Part specs kinds (after_digest n kinds worker) =
+    subst (λ (w : IntakeValue). Part specs kinds w) was.taken
+    (subst (λ (ks : List Kind). Part specs ks c.loop.self) was.schema
+    (subst (λ (ss : List KeySpecValue). Part ss c.loop.maker.schema c.loop.self) was.specs (c.in_err-images.ensures.part memory))) in (
+      n,
+      stops_behind n kinds c.loop.maker.schema worker c.loop.self c.digest.new.self was.taken was.schema c.in_err-images.ensures.failed,
+      takes_then specs (next_images n kinds worker) (image_behind n kinds worker) start middle end was.holds here,
+    ))
 
 pub returns-in_err-images-clause-full : goal.returns-in_err-images-clause-full
 returns-in_err-images-clause-full g c =
@@ -65,6 +79,7 @@ returns-in_err-images-clause-full g c =
     let middle : Holdings = record { runs = map g.S.Spool.runs c.loop.spools; begun = begun } in
     let build = ap (λ (w : IntakeValue). w.build) was.taken in
     let end = ap (λ (w : IntakeValue). w.end) was.taken in
+    let stops = stops_behind n maker.schema c.loop.maker.schema worker c.loop.self c.digest.new.self was.taken was.schema c.in_err-images.ensures.failed in
     let long : length c.digest.new.spools ≡ length maker.specs = omega (arith, c.digest.auto.spools, c.loop.auto.spools, c.requires.spools) in
     let p = err_from_is_err_and c.from_residual.result c.from_residual.ensures.1 in
     rw (p.1, p.2) (λ no_page.
@@ -77,7 +92,7 @@ returns-in_err-images-clause-full g c =
     (subst (λ (ss : List KeySpecValue). AreHeldWith ss (next_images 1 c.loop.maker.schema c.loop.self) middle i pairs) was.specs are) in
     let all = with_more n 1 maker.specs maker.schema worker c.loop.self start middle c.laws.ensures.specs was.readable was.holds build end i
     (omega (arith, less, long)) pairs same in
-    (all.0, (n + 1, c.digest.ensures.end ∙ (ap (λ end. after_taking 1 end) end ∙ taking_more n 1 worker.end), all.1), all.2))
+    (all.0, (n + 1, ap (λ (w : IntakeValue). w.end) stops.left, all.1), all.2))
     (c.in_err-images.ensures.full no_page))
 
 pub returns-in_err-seal-clause-full : goal.returns-in_err-seal-clause-full
@@ -156,7 +171,7 @@ returns-clause-holds g c =
     let all : c.loop.counter ≡ length worker.end.known = omega (arith, c.loop-test.false, c.loop.auto.counter-end, c.seen-end.ensures) in
     let takes = subst (λ (n : ℕ). TakesAll specs (next_images n kinds worker) start middle) all was.holds in
     takes_sealed specs (next_images (length worker.end.known) kinds worker) start middle (map g.S.Spool.runs c.seal.new.spools) c.seal.new.self.begun takes
-    (c.laws-2.ensures.begun ∙ ap length was.specs) c.in_ok-seal.ensures.sealed c.in_ok-seal.ensures.none_open
+    (c.laws-2.ensures.begun ∙ ap length was.specs) c.laws-2.ensures.short c.in_ok-seal.ensures.sealed c.in_ok-seal.ensures.none_open
 
 pub returns-clause-readable : goal.returns-clause-readable
 returns-clause-readable g c =

@@ -4,7 +4,7 @@ use Rattle.run_spool.specs.Spools.{AreSorted}
 use Rattle.run_maker.specs.Making.{AreReady}
 use Rattle.building.specs.Turns.{HasDone, IsStopped, TurnHolds, turn_images}
 use Rattle.building.specs.WorkerValue.{WorkerValue}
-use Rattle.building.proofs.SpoolViews.{lent_back, received_full, same_after, spools_ready, turn_held, values_ready, worker_with}
+use Rattle.building.proofs.SpoolViews.{lent_back, part_held, received_full, same_after, spools_ready, turn_held, turn_seen, values_ready, worker_with}
 use Rattle.building.proofs.Turns.{turn_counts}
 use Rattle.building.proofs.worker.Worker.take.Goals as goal
 
@@ -55,7 +55,14 @@ returns-in-Ok-clause-done g c =
       same = same_after spool.runs spool.open_run spool.stake at.number at.spools.len at.intake c.take.new.self at.maker c.take.new.maker at.spools.items spools
           at.handed at.fault at.fault c.take.ensures.build c.take.ensures.ring c.take.ensures.schema c.take.ensures.specs long stakes;
       sound = (c.in_default.is, c.in_default.is);
-      took = λ kept. record { counted = c.in-Ok.ensures.count; intake = c.in-Ok.ensures.taken; closed = c.in-Ok.ensures.closed };
+      took = λ kept. record {
+        counted = c.in-Ok.ensures.count;
+        intake = c.in-Ok.ensures.taken;
+        holds = rw (lent_back at.spools.len at.spools.items spools long)
+            (turn_seen spool.runs spool.open_run spool.stake c.args.turn at.intake at.maker c.take.new.maker at.spools.items c.deref_mut.result.now spools
+            c.deref_mut.ensures.value c.in-Ok.ensures.holds);
+        closed = c.in-Ok.ensures.closed;
+      };
       nothing = λ handed. absurd (false≢true (sym c.if-self.false ∙ handed));
     })
 
@@ -79,11 +86,14 @@ returns-in-Err-clause-stopped g c =
           (Some c.in-Err.fault) c.take.ensures.build c.take.ensures.ring c.take.ensures.schema c.take.ensures.specs long stakes;
       stopped = refl;
       short = it.fault;
-      took = it.took;
       again = λ first was. absurd (let none = c.in_default.is in cc);
-      copies = λ sound. (c.if-self.false, it.copies);
+      has_spools = λ sound. c.if-self.false;
+      took = λ sound. it.took;
       full = λ sound no_page.
           rw back (received_full spool.runs spool.open_run spool.stake spool.is_full at.intake after at.maker maker at.spools.items c.deref_mut.result.now spools holds
           c.deref_mut.ensures.value c.take.ensures.specs c.take.ensures.schema c.take.ensures.build many (it.full no_page));
       want = λ sound memory. rw back (values_ready spool.runs spool.open_run spool.stake spools (it.want memory));
+      part = λ sound memory. rw back
+          (part_held spool.runs spool.open_run spool.stake at.intake after at.maker maker at.spools.items c.deref_mut.result.now spools c.deref_mut.ensures.value
+          (it.part memory));
     })
