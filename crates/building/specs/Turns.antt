@@ -1,5 +1,5 @@
 -- What a worker does at its turn, a digest or a seal, and what it answers.
-use Rattle.std.specs.Prelude.{◌≡◌, ◌⊎◌, ℕ, List, [], length, false, true, Option, Some, None}
+use Rattle.std.specs.Prelude.{◌≡◌, ◌⊎◌, ℕ, List, [], length, false, true, Option, Some, None, Result, IfOk, IfErr}
 use Rattle.std.specs.List.{All}
 use Rattle.keybytes.specs.Keys.{KeySpecValue}
 use Rattle.keybytes.specs.declared.fault.Fault.{Fault}
@@ -87,3 +87,7 @@ module _
     -- for want of memory no pair is lost, and no run is closed with fewer than 4,096
     pub part : old.fault ≡ None → MemoryOnlyIf
         (HoldsPart old.maker.specs old.maker.schema old.intake new.intake (holdings old.maker old.spools) (holdings new.maker new.spools)) fault
+
+  -- a worker had its turn, or was refused
+  abbrev pub AnswersTurn : Turn → WorkerValue → Result ℕ Fault → WorkerValue → Type 0
+  AnswersTurn turn old answer new = IfOk answer (λ images. HasDone turn old images new) × IfErr answer (λ fault. IsStopped turn old fault new)

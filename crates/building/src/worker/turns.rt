@@ -1,6 +1,6 @@
 //! A worker's turns.
 ghost use Rattle.std.specs.Prelude.{IfOk, IfErr};
-ghost use Rattle.building.specs.Turns.{HasDone, IsStopped};
+ghost use Rattle.building.specs.Turns.{AnswersTurn, HasDone, IsStopped};
 
 use super::Worker;
 use crate::{Table, Turn};
@@ -12,8 +12,7 @@ impl<S: Spool, T: Table> Worker<S, T> {
     /// none, and where the copy is of another build or of other columns, and so is dropped; and where its spools went to the indexes, and it takes
     /// nothing.
     pub fn digest(&mut self) -> Result<usize, Fault>
-        ensures done { IfOk result (λ images. HasDone Turn.Digest self.old images self.new) }
-        ensures stopped { IfErr result (λ fault. IsStopped S.is_full S.runs S.open_run S.stake Turn.Digest self.old fault self.new) }
+        ensures { AnswersTurn S.is_full S.runs S.open_run S.stake Turn.Digest self.old result self.new }
     {
         self.take(Turn::Digest)
     }
@@ -21,8 +20,7 @@ impl<S: Spool, T: Table> Worker<S, T> {
     /// Takes all copies that it has seen, spools their pairs, closes the run of each index, and answers how many copies of its build
     /// and of its maker's columns there were. Where its spools went to the indexes, it takes nothing.
     pub fn seal(&mut self) -> Result<usize, Fault>
-        ensures done { IfOk result (λ images. HasDone Turn.Seal self.old images self.new) }
-        ensures stopped { IfErr result (λ fault. IsStopped S.is_full S.runs S.open_run S.stake Turn.Seal self.old fault self.new) }
+        ensures { AnswersTurn S.is_full S.runs S.open_run S.stake Turn.Seal self.old result self.new }
     {
         self.take(Turn::Seal)
     }
