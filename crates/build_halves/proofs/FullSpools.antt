@@ -18,14 +18,14 @@ use Rattle.run_spool.specs.Spools.{NoPageOnlyIf}
 use Rattle.building.specs.Copies.{images_of}
 use Rattle.building.specs.ImagePairs.{HavePairs}
 use Rattle.building.specs.SpoolValue.{SpoolValue, spool_value, stakes_of}
-use Rattle.building.specs.TakeEnd.{TakeEnd}
+use Rattle.building.specs.TakeEnd.{TakeEnd, after_taking}
 use Rattle.building.specs.declared.turn.Turn.{Turn}
 use Rattle.building.specs.Turns.{IsStopped}
-use Rattle.building.specs.Work.{TakesSome}
 use Rattle.building.specs.WorkerValue.{HasReceived, SameWorker, WorkerValue}
 use Rattle.building.specs.declared.copied.Copied.{Copied}
 use Rattle.building.proofs.ManyPairs.{have_split, images-append}
 use Rattle.building.proofs.SamePairs.{have_same}
+use Rattle.building.proofs.Turns.{taken_till}
 use Rattle.build_events.specs.BuildSteps.{OnBuild}
 use Rattle.build_events.specs.CoreState.{BuildState, scanning_of}
 use Rattle.build_events.specs.Scanning.{AreCopies}
@@ -86,25 +86,25 @@ module _
 
   -- what it received when it stopped is of these
   received_parts :
-      (after : WorkerValue) → TakesSome it.intake.end after.intake.end
+      (after : WorkerValue) (n : ℕ) → after.intake.end ≡ after_taking n it.intake.end
       → (rest : List Copied) × (images_of b.number kinds sent ≡ images_of b.number kinds after.intake.end.received ++ images_of b.number kinds rest)
-  received_parts after took =
+  received_parts after n took =
       let end = it.intake.end in
-      let rest = drop took.0 end.known in
+      let rest = drop n end.known in
       let received : after.intake.end.received ++ rest ≡ sent =
-      ap (λ (e : TakeEnd Copied). e.received ++ rest) took.2 ∙ append_assoc end.received (take took.0 end.known) rest
-      ∙ ap (λ (cs : List Copied). end.received ++ cs) (take-append-drop took.0 end.known) ∙ sees.in_order in
+      ap (λ (e : TakeEnd Copied). e.received ++ rest) took ∙ append_assoc end.received (take n end.known) rest
+      ∙ ap (λ (cs : List Copied). end.received ++ cs) (take-append-drop n end.known) ∙ sees.in_order in
       (rest, ap (images_of b.number kinds) (sym received) ∙ images-append b.number kinds after.intake.end.received rest)
 
   -- the pairs of those are some of the pairs of the pages that were copied for it
   of_pages :
-      (after : WorkerValue) → SameWorker it after → TakesSome it.intake.end after.intake.end → (i : ℕ) (spec : KeySpecValue) → slice_get w.specs i ≡ Some spec
+      (after : WorkerValue) → SameWorker it after → (n : ℕ) → after.intake.end ≡ after_taking n it.intake.end → (i : ℕ) (spec : KeySpecValue) → slice_get w.specs i ≡ Some spec
       → (pairs : List Pair) → HasReceived after i pairs → AreSomeOf pairs (pairs_put_to b spec log k)
-  of_pages after same took i spec is pairs got =
+  of_pages after same n took i spec is pairs got =
       let received = after.intake.end.received in
       let columns = all_at (λ (s : KeySpecValue). s.kinds ≡ kinds) w.specs i spec run.on.columns is in
       let have = copies_pairs (scanning_of b spec) kinds log (put_to b k) (images_of b.number kinds sent) columns copies in
-      let parts = received_parts after took in
+      let parts = received_parts after n took in
       let split = have_split spec (images_of b.number kinds received) (images_of b.number kinds parts.0) (pairs_put_to b spec log k)
       (subst (λ (images : List ImageValue). HavePairs spec images (pairs_put_to b spec log k)) parts.1 have) in
       let spec_same : spec_at after.maker.specs i ≡ spec =
@@ -123,6 +123,7 @@ module _
       → NoPageOnlyIf (WorkerWasFull is_full runs open_run stake (core_state live building) k) fault
   full_in_build turn fault after stopped = λ no_page.
       let full = stopped.full its.fine no_page in
+      let took = taken_till turn it.maker.schema it.intake after.intake fault (stopped.took its.fine) in
       let seen : slice_get (stakes_of it.spools) full.index ≡ Some (stake full.spool) =
       ap (λ (l : List (Option Stake)). slice_get l full.index) (sym stopped.same.stakes)
       ∙ map_at (λ (s : SpoolValue). s.stake) after.spools full.index (spool_value runs open_run stake full.spool) full.there in
@@ -146,7 +147,7 @@ module _
               spool = full.spool;
               there = ap (λ (specs : List KeySpecValue). slice_get (stakes_of (all_spools building.workers building.spools)) (k * length specs + full.index)) run.on.specs ∙ all;
               full = full_of_more is_full runs open_run full.pairs (pairs_put_to b index.0 log k) full.spool
-                  (of_pages after stopped.same stopped.took full.index index.0 index.1 full.pairs full.given) full.full;
+                  (of_pages after stopped.same took.0 took.1 full.index index.0 index.1 full.pairs full.given) full.full;
             } in
             subst (λ (o : Option BuildState). OnBuild o (λ x. WasFull is_full runs open_run stake x log k (stakes_of (all_spools building.workers building.spools))))
             (sym run.build_is) was

@@ -21,7 +21,7 @@ use Rattle.building.specs.Turns.{HasDone, IsStopped, after_turn, marked, turn_im
 use Rattle.building.specs.Work.{after_digest}
 use Rattle.building.specs.WorkerValue.{WorkerValue}
 use Rattle.building.specs.declared.copied.Copied.{Copied}
-use Rattle.building.proofs.Digests.{next_known}
+use Rattle.building.proofs.Turns.{behind_known, seal_saw}
 use Rattle.building.proofs.Taking.{digested_taking, next_count, sealed_open, sealed_taking, sent_count}
 use Rattle.build_halves.specs.Builds.{LiveValue, IsRunning, SeesRing, WorksOn, core_state}
 use Rattle.build_work.specs.BuildingValue.{BuildingValue, WorkValue, worker_state, work_state, index_state}
@@ -253,9 +253,8 @@ module _
       waits_for :
           (t : Turn) (fault : Fault) (after : WorkerValue) → IsStopped is_full runs open_run stake t it fault after → TurnWaits t k (core_state live building) fault
       waits_for Digest fault after stopped =
-          let one = (stopped.copies its.fine).1 in
-          waits_some (omega (arith, one, next_known 1 it.maker.schema it.intake))
-      waits_for Seal fault after stopped = λ memory. waits_some ((stopped.copies its.fine).1 memory)
+          waits_some (behind_known 0 it.maker.schema it.intake (stopped.took its.fine).own)
+      waits_for Seal fault after stopped = λ memory. waits_some (seal_saw it.maker.schema it.intake after.intake fault (stopped.took its.fine) memory)
 
       stopped_it : (fault : Fault) (s : WorkerStopped is_full runs open_run stake turn k building fault new) → IsStopped is_full runs open_run stake turn it fault s.after
       stopped_it fault s =
