@@ -34,7 +34,6 @@ use Rattle.build_events.specs.SideEntries.{side_entries}
 use Rattle.build_scan.specs.SideFiles.{IsFed, AreFedEntries, SeesSide}
 use Rattle.build_events.specs.BuildSteps.{after_apply}
 use Rattle.build_events.specs.Workers.{fed_to, in_ring, index_at}
-use Rattle.build_events.proofs.Verdicts.{set_ordered}
 use Rattle.build_work.specs.Working.{IsTakingEntries, CanApply, HasApplied}
 use Rattle.build_scan.proofs.Feeding.{waiting_in_ring}
 use Rattle.build_halves.proofs.Refusals.{state_of, state_is, works_with}
@@ -108,8 +107,6 @@ module _ (index waiting : ℕ) (live : LiveValue) (building : BuildingValue) (t 
     there = t.it_at;
     built = t.built;
     loaded = t.loaded;
-    of_build = on.of_build t.built t.loaded ∙ sym t.run.on.number;
-    of_spec = on.of_spec t.built t.loaded ∙ sym its_spec;
     end = t.end;
     at = t.end_at;
   }
@@ -129,7 +126,7 @@ module _ (index waiting : ℕ) (live : LiveValue) (building : BuildingValue) (t 
   unfolding taking
   can_apply count few = record {
     taking = taking;
-    ordered = set_ordered (apply_entries (take t.it.applied entries) scanned) t.built.pairs (on.loaded t.built t.loaded);
+    fine = t.fine;
     seen = omega (arith, few, t.sees.counted);
     countable = omega (arith, few, seen_is.1, ring.counted, ring.countable);
   }

@@ -33,7 +33,8 @@ use Rattle.build_scan.specs.SideFiles.{IsFed}
 use Rattle.build_events.specs.Workers.{put_to, fed_to, index_at}
 use Rattle.catch_up.specs.Built.{BuiltValue}
 use Rattle.build_work.specs.Keeping.{AreEachOnce, HaveEachOnce}
-use Rattle.build_work.specs.Working.{CanLoad, HasLoaded, HasSorted, IsSpoiled}
+use Rattle.build_work.specs.Working.{CanLoad, HasLoaded, HasSorted}
+use Rattle.build_work.proofs.Spoiled.{IsSpoiled}
 use Rattle.build_work.specs.Rings.{AreSealed, all_sent}
 use Rattle.building.specs.WorkerValue.{IsHolding}
 use Rattle.build_events.specs.declared.scan.Scan.{Scan}

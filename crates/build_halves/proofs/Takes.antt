@@ -23,7 +23,7 @@ use Rattle.build_work.specs.Holding.{HaveColumns, all_spools, spools_state}
 use Rattle.build_work.specs.Rings.{all_sent, AreSealed, IsSealed, IsWorkerOf}
 use Rattle.build_halves.specs.Rings.{ArePut, HasPut, PagesFollow}
 use Rattle.build_events.specs.Steps.{spoiled_by}
-use Rattle.build_work.specs.Working.{IsSpoiled}
+use Rattle.build_work.proofs.Spoiled.{IsSpoiled}
 use Rattle.build_work.proofs.AtWork.{taking_set}
 use Rattle.build_scan.proofs.Places.{at_set}
 use Rattle.build_halves.proofs.Refusals.{works_with}

@@ -66,18 +66,19 @@ index_with work index pairs applied = record { built = Some (with_pairs work ind
 -- so many entries were applied
 pub has_applied :
     {P : Type 0} (index : ℕ) (old new : BuildingValue) (taking : IsTakingEntries index old) (ring ring_new : Consumer Entry Global P) (entries : List Entry)
-    (count : ℕ) (after : BuiltValue) → taking.end ≡ take_end ring → Taken entries ring ring_new → Applied entries taking.built after → AreOrdered after.pairs
+    (count : ℕ) (after : BuiltValue) → taking.built ≡ with_pairs taking.work index taking.built.pairs → taking.end ≡ take_end ring → Taken entries ring ring_new → Applied entries taking.built after → AreOrdered after.pairs
     → count ≡ length entries → count ≤ length (take_end ring).known
     → new ≡ record old {
       sides = set old.sides index (take_end ring_new);
       work = Some (record taking.work { indexes = set taking.work.indexes index (record { built = Some after; applied = taking.it.applied + count }) });
     } → HasApplied index old count new
-has_applied index old new taking ring ring_new entries count after side taken applied ordered many few is =
+has_applied index old new taking ring ring_new entries count after own side taken applied ordered many few is =
     let prefix = taken.known in
     let first = first_taken entries (take_end ring).known (take_end ring_new).known prefix.0 prefix.1 (omega (arith, many, few)) in
     let entries_are : entries ≡ take count (take_end ring).known = first.0 ∙ ap (λ n. take n (take_end ring).known) (sym many) in
     record {
       taking = taking;
+      own = own;
       pairs = after.pairs;
       applied = applied.pairs
           ∙ ap (λ es. apply_entries (told_to taking.built.build es) (set_of taking.built.pairs)) (entries_are ∙ ap (λ (e : TakeEnd Entry). take count e.known) (sym side));
@@ -95,7 +96,7 @@ has_applied index old new taking ring ring_new entries count after side taken ap
           indexes = set taking.work.indexes index
               (record { built = Some (record { build = n; unique = tallied; pairs = after.pairs }); applied = taking.it.applied + count });
         });
-      }) (applied.build ∙ taking.of_build) (applied.unique ∙ taking.of_spec);
+      }) (applied.build ∙ ap (λ (b : BuiltValue). b.build) own) (applied.unique ∙ ap (λ (b : BuiltValue). b.unique) own);
     }
 
 -- the same, where the index and the end of its ring were found in their places
@@ -131,14 +132,14 @@ module _
   applied_is = ap (λ (i : IndexValue). i.applied) (index_is ∙ sym it_is)
 
   pub applied_next :
-      (ring_new : Consumer Entry Global P) (entries : List Entry) (count sum : ℕ) (after : BuiltValue) → Taken entries ring ring_new → Applied entries built after
+      taking.built ≡ with_pairs taking.work index taking.built.pairs → (ring_new : Consumer Entry Global P) (entries : List Entry) (count sum : ℕ) (after : BuiltValue) → Taken entries ring ring_new → Applied entries built after
       → AreOrdered after.pairs → count ≡ length entries → count ≤ length (take_end ring).known → sum ≡ applied + count
       → HasApplied index old count (record seen {
         sides = map take_end (set ends index ring_new);
         work = Some (record held { indexes = set held.indexes index (record { built = Some after; applied = sum }) });
       })
-  applied_next ring_new entries count sum after taken done ordered many few total =
-      has_applied index old _ taking ring ring_new entries count after end_is taken (subst (λ (b : BuiltValue). Applied entries b after) (sym built_is) done) ordered many few
+  applied_next own ring_new entries count sum after taken done ordered many few total =
+      has_applied index old _ taking ring ring_new entries count after own end_is taken (subst (λ (b : BuiltValue). Applied entries b after) (sym built_is) done) ordered many few
       (ap (λ (b : BuildingValue). with_both b (map take_end (set ends index ring_new)) held sum) same
       ∙ ap (λ (es : List (TakeEnd Entry)). with_both old es held sum)
       (map-set take_end ends index ring_new ∙ ap (λ (es : List (TakeEnd Entry)). set es index (take_end ring_new)) (sym its_sides))
@@ -197,8 +198,6 @@ module _ (index : ℕ) (old mid : BuildingValue) (m : ℕ) (first : HasApplied i
     there = its_index;
     built = its_built;
     loaded = refl;
-    of_build = refl;
-    of_spec = refl;
     end = first.end;
     at = its_end;
   }
@@ -217,9 +216,10 @@ module _ (index : ℕ) (old mid : BuildingValue) (m : ℕ) (first : HasApplied i
       ∙ take-append-le n (drop m first.taking.end.known) first.more (omega (arith, rest, few)) in
       let both : take (m + n) first.taking.end.known ≡ take m first.taking.end.known ++ take n next.taking.end.known =
       take-add m n first.taking.end.known ∙ ap (λ es. take m first.taking.end.known ++ es) (sym known) in
-      let number : its_built.build ≡ first.taking.built.build = sym first.taking.of_build in
+      let number : its_built.build ≡ first.taking.built.build = sym (ap (λ (b : BuiltValue). b.build) first.own) in
       record {
         taking = first.taking;
+        own = first.own;
         pairs = next.pairs;
         applied = next.applied
             ∙ ap (λ (b : BuiltValue). apply_entries (told_to b.build (take n next.taking.end.known)) (set_of b.pairs)) built_is
@@ -265,11 +265,11 @@ module _ (index : ℕ) (old mid : BuildingValue) (m : ℕ) (first : HasApplied i
             (index_with first.taking.work index next.pairs ((first.taking.it.applied + m) + n)))
 
   -- and the next can be applied
-  pub can_go_on : (count : ℕ) → count ≤ length first.taking.end.known → first.taking.it.applied + count < 2 ^ 64 → m < count → CanApply index 1 mid
+  pub can_go_on : (count : ℕ) → first.taking.work.spoiled ≡ None → count ≤ length first.taking.end.known → first.taking.it.applied + count < 2 ^ 64 → m < count → CanApply index 1 mid
   unfolding taking_more
-  can_go_on count seen countable less = record {
+  can_go_on count fine seen countable less = record {
     taking = taking_more;
-    ordered = first.ordered;
+    fine = fine;
     seen =
         let longer = length-append (drop m first.taking.end.known) first.more in
         let rest = length-drop m first.taking.end.known in
@@ -278,9 +278,10 @@ module _ (index : ℕ) (old mid : BuildingValue) (m : ℕ) (first : HasApplied i
   }
 
 -- before any was taken
-pub applied_none : (index : ℕ) (building : BuildingValue) (taking : IsTakingEntries index building) → AreOrdered taking.built.pairs → HasApplied index building 0 building
-applied_none index building taking ordered = record {
+pub applied_none : (index : ℕ) (building : BuildingValue) (taking : IsTakingEntries index building) → taking.built ≡ with_pairs taking.work index taking.built.pairs → AreOrdered taking.built.pairs → HasApplied index building 0 building
+applied_none index building taking own ordered = record {
   taking = taking;
+  own = own;
   pairs = taking.built.pairs;
   applied = refl;
   ordered = ordered;
@@ -302,8 +303,7 @@ applied_none index building taking ordered = record {
   same_index : taking.it ≡ index_with taking.work index taking.built.pairs (taking.it.applied + 0)
   same_index =
       ap (λ (o : Option BuiltValue). record { built = o; applied = taking.it.applied }) taking.loaded
-      ∙ ap₂ (λ (n : ℕ) (tallied : Bool). record { built = Some (record { build = n; unique = tallied; pairs = taking.built.pairs }); applied = taking.it.applied })
-      taking.of_build taking.of_spec
+      ∙ ap (λ (b : BuiltValue). record { built = Some b; applied = taking.it.applied }) own
       ∙ ap (λ (k : ℕ). record { built = Some (with_pairs taking.work index taking.built.pairs); applied = k }) zero_more
 
 -- an index whose pairs are in order has them

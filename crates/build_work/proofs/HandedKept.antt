@@ -21,7 +21,7 @@ use Rattle.build_work.specs.Holding.{HaveColumns, all_spools, lent_spools}
 use Rattle.build_work.specs.Keeping.{AreWorkers, HasHanded, HaveEachOnce, IsClosed, IsWorkerAt, KeepsLaws, KeepsWork}
 use Rattle.build_work.specs.Working.{CanHandOver, handed_over}
 use Rattle.build_work.proofs.Kept.{any_workers}
-use Rattle.build_work.proofs.OneWorker.{the_work}
+use Rattle.build_work.proofs.OneWorker.{its_work, still_scans}
 use Rattle.build_work.proofs.SpoolPlaces.{column_is, column_there, flat_at, flat_many}
 use Rattle.build_scan.proofs.Places.{all_at, all_from, all_mapped, at_map, map_at, mapped_of, no_pair, there_is}
 
@@ -167,8 +167,8 @@ pub handed_over_kept :
     → (workers : List WorkerValue) (spools : List SpoolValue) → workers ≡ map handed_over seen.workers → spools ≡ all_spools seen.workers seen.spools
     → KeepsWork workers seen.sides spools (Some (record held { loading = true }))
 handed_over_kept old seen work held same runs is can {rings} laws keeps workers spools workers_are spools_are =
-    let it : can.work ≡ work = the_work old.work can.work work can.runs (ap (λ (b : BuildingValue). b.work) (sym same) ∙ runs) in
-    let scans : work.loading ≡ false = ap (λ (w : WorkValue). w.loading) (sym it) ∙ can.scans in
+    let it : can.work ≡ work = its_work old seen work can.work same runs can.runs can.fine can.scans keeps in
+    let scans : work.loading ≡ false = still_scans old seen work can.work same runs can.runs can.fine can.scans keeps in
     let closed : All IsClosed seen.workers = subst (λ (b : BuildingValue). All IsClosed b.workers) (sym same) can.closed in
     let once : HaveEachOnce work (lent_spools seen.workers) =
     subst (λ (w : WorkValue). HaveEachOnce w (lent_spools seen.workers)) it

@@ -13,12 +13,12 @@ use Rattle.building.specs.WorkerValue.{WorkerValue}
 use Rattle.side_file.specs.declared.entry.Entry.{Entry}
 use Rattle.catch_up.specs.Built.{BuiltValue}
 use Rattle.build_work.specs.BuildingValue.{BuildingValue, WorkValue, IndexValue, IsUnloaded, with_index, is_unique}
-use Rattle.build_work.specs.Columns.{column}
+use Rattle.build_work.specs.Columns.{column, other_columns}
 use Rattle.build_work.specs.Holding.{all_spools, lent_spools, spools_state, ended_column, spools_in}
 use Rattle.build_work.specs.Keeping.{IsKept, KeepsWork}
 use Rattle.build_work.specs.Keeping.{AreEachOnce}
-use Rattle.build_work.specs.Working.{CanLoad, IsSpoiled}
-use Rattle.build_work.proofs.Columns.{every_map}
+use Rattle.build_work.specs.Working.{CanLoad, LoadStopped}
+use Rattle.build_work.proofs.Columns.{all_but_map, every_map}
 use Rattle.build_work.proofs.OneWorker.{the_work}
 use Rattle.std.proofs.lemmas.Bool.{and_parts, eqb-true}
 use Rattle.std.proofs.lemmas.List.{map-append, nil_from_length}
@@ -38,6 +38,14 @@ module _ {S : Type 0} (runs : S → List (List Pair)) (open_run : S → List Pai
 
   pub runs_seen : (spools : List S) → map runs spools ≡ map (λ (s : SpoolValue). s.runs) (map (spool_value runs open_run stake) spools)
   runs_seen spools = sym (mapped (spool_value runs open_run stake) (λ (s : SpoolValue). s.runs) spools)
+
+  -- spools of which only those of an index may be other
+  pub others_seen :
+      (index indexes : ℕ) (a b : List S) → other_columns index indexes a ≡ other_columns index indexes b
+      → other_columns index indexes (map (spool_value runs open_run stake) a) ≡ other_columns index indexes (map (spool_value runs open_run stake) b)
+  others_seen index indexes a b same =
+      let value = spool_value runs open_run stake in
+      all_but_map value (indexes - 1) index a ∙ ap (map value) same ∙ sym (all_but_map value (indexes - 1) index b)
 
   -- the runs of the spools of an index
   pub column_seen : (index indexes : ℕ) (spools : List S) → runs_of (column index indexes (map (spool_value runs open_run stake) spools)) ≡ map runs (column index indexes spools)
@@ -86,18 +94,17 @@ module _ (old seen : BuildingValue) (work held : WorkValue) (same : seen ≡ old
   its_work : old.work ≡ Some work
   its_work = ap (λ (b : BuildingValue). b.work) (sym same) ∙ runs
 
-  -- a fault ends it
-  pub spoiled_after :
-      (fault : Fault) (workers : List WorkerValue) (spools : List SpoolValue) → length workers ≡ length seen.workers
-      → stakes_of (all_spools workers spools) ≡ stakes_of (all_spools seen.workers seen.spools)
-      → IsSpoiled fault old (record seen { workers = workers; spools = spools; work = Some (record held { spoiled = Some fault }) })
-  spoiled_after fault workers spools many stakes = record {
+  -- a load that is refused spoils it
+  pub load_stopped :
+      (index : ℕ) (fault : Fault) (spools : List SpoolValue) → stakes_of spools ≡ stakes_of seen.spools
+      → other_columns index (length work.specs) spools ≡ other_columns index (length work.specs) seen.spools
+      → LoadStopped index old fault (record seen { spools = spools; work = Some (record held { spoiled = Some fault }) })
+  load_stopped index fault spools stakes others = record {
     work = work;
     runs = its_work;
-    workers = workers;
-    many = many ∙ ap (λ (b : BuildingValue). length b.workers) same;
     spools = spools;
-    stakes = stakes ∙ ap (λ (b : BuildingValue). stakes_of (all_spools b.workers b.spools)) same;
+    stakes = stakes ∙ ap (λ (b : BuildingValue). stakes_of b.spools) same;
+    others = others ∙ ap (λ (b : BuildingValue). other_columns index (length work.specs) b.spools) same;
     left = rw (same, is) refl;
   }
 

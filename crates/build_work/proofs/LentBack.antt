@@ -1,5 +1,5 @@
 -- What is kept while the workers of a build are lent, and as they come back.
-use Rattle.std.proofs.Common.{◌≡◌, ℕ, zero, suc, ◌+◌, ◌-◌, ◌*◌, false, List, [], ◌∷◌, ◌++◌, length, map, take, drop, Some, None, refl, sym, ap, ap₂, ◌∙◌, subst, arith}
+use Rattle.std.proofs.Common.{◌≡◌, ℕ, zero, suc, ◌+◌, ◌-◌, ◌*◌, false, List, [], ◌∷◌, ◌++◌, length, map, take, drop, Some, None, refl, sym, ap, ap₂, ◌∙◌, subst, arith, Bool}
 use Rattle.std.proofs.Common.{take-append-drop, length-append}
 use Rattle.std.specs.List.{All, slice_get}
 use Rattle.std.proofs.Math.Seq.{drop-append_seam}
@@ -13,13 +13,14 @@ use Rattle.building.specs.IntakeValue.{IntakeValue}
 use Rattle.building.specs.SpoolValue.{SpoolValue}
 use Rattle.building.specs.TakeEnd.{TakeEnd}
 use Rattle.building.specs.WorkerValue.{SameWorker, WorkerValue}
-use Rattle.build_work.specs.BuildingValue.{WorkValue, intakes}
+use Rattle.build_work.specs.BuildingValue.{BuildingValue, WorkValue, intakes}
 use Rattle.build_work.specs.Equipped.{HasOwnSpools}
-use Rattle.build_work.specs.Holding.{lent_spools}
+use Rattle.build_work.specs.Holding.{all_spools, lent_spools}
 use Rattle.build_work.specs.Keeping.{AreWorkers, IsKept, KeepsLaws, KeepsWork}
-use Rattle.build_work.specs.Lent.{IsBack, StaysWithout, lowest_fault}
+use Rattle.build_work.specs.Lent.{CanLend, IsBack, StaysWithout, lowest_fault}
 use Rattle.build_work.specs.Rings.{AreTakeEnds, take_rings}
 use Rattle.build_work.proofs.Kept.{scanning_kept}
+use Rattle.build_work.proofs.OneWorker.{still_fine, still_scans, work_kept}
 use Rattle.build_work.proofs.SpoolPlaces.{flat_many}
 use Rattle.build_scan.proofs.Places.{all_at, as_long, mapped}
 
@@ -82,6 +83,36 @@ each_back build specs workers rings placed laws k worker at =
       specs_are = is.specs_are;
       has_them = is.spools_are;
       own = ((all_at (KeepsLaws rings) workers k worker laws at).holding is.fine is.spools_are).many ∙ ap length is.specs_are;
+    }
+
+-- what is known where the workers of a build are lent
+pub record IsLent (page_rings entry_rings : List RingId) (seen : BuildingValue) (work : WorkValue) : Type 0 where
+  pub none : seen.spools ≡ []
+  pub all : length seen.workers + length seen.idle ≡ 16
+  pub back : (k : ℕ) (worker : WorkerValue) → slice_get seen.workers k ≡ Some worker → IsBack work.build work.specs k worker
+  pub stays : StaysWithout page_rings entry_rings seen.idle seen.sides work
+  -- there is room for their spools where there was room for all
+  pub many : length (all_spools seen.workers seen.spools) ≡ (16 - length seen.idle) * length work.specs
+
+pub is_lent :
+    (page_rings entry_rings : List RingId) (old seen : BuildingValue) (work : WorkValue) → seen ≡ old → seen.work ≡ Some work → CanLend old
+    → KeepsWork seen.workers seen.sides seen.spools seen.work → AreTakeEnds page_rings entry_rings (intakes seen.workers seen.idle) seen.sides
+    → All (KeepsLaws page_rings) seen.workers → IsLent page_rings entry_rings seen work
+is_lent page_rings entry_rings old seen work same runs can keeps are laws =
+    let fine = still_fine old seen work can.work same runs can.runs can.fine can.scans keeps in
+    let scans = still_scans old seen work can.work same runs can.runs can.fine can.scans keeps in
+    let kept = work_kept old seen work can.work same runs can.runs can.fine can.scans keeps in
+    let placed = subst (λ (handed : Bool). AreWorkers work.build work.specs handed seen.workers) scans kept.placed in
+    let each = each_back work.build work.specs seen.workers page_rings placed laws in
+    let there = all_there page_rings entry_rings seen.workers seen.idle seen.sides are in
+    record {
+      none = kept.lent scans;
+      all = there;
+      back = each;
+      stays = stays_without page_rings entry_rings seen.workers seen.idle seen.sides seen.spools work are kept fine scans;
+      many = ap (λ (l : List SpoolValue). length (all_spools seen.workers l)) (kept.lent scans)
+          ∙ spools_many work.specs seen.workers (λ k worker at. (each k worker at).own)
+          ∙ ap (λ n. n * length work.specs) (let place : length seen.workers ≡ 16 - length seen.idle = omega (arith, there) in place);
     }
 
 -- what gives each element at its place

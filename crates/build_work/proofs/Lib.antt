@@ -17,8 +17,10 @@ pub mod OneWorker
 pub mod Positions
 pub mod SideEnds
 pub mod SpoolPlaces
+pub mod Spoiled
 pub mod Stakes
 pub mod Stepping
 pub mod TakenOut
+pub mod TakingEntries
 pub mod Unloaded
 pub mod Works

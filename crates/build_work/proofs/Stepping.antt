@@ -19,7 +19,7 @@ use Rattle.build_work.specs.BuildingValue.{BuildingValue, WorkValue, intakes}
 use Rattle.build_work.specs.Holding.{all_spools}
 use Rattle.build_work.specs.Rings.{AreTakeEnds, take_rings}
 use Rattle.build_work.specs.Turns.{WorkerDid, WorkerStopped, spoiled_for}
-use Rattle.build_work.specs.Working.{IsSpoiled}
+use Rattle.build_work.proofs.Spoiled.{IsSpoiled}
 use Rattle.build_work.proofs.OneWorker.{the_work}
 use Rattle.build_scan.proofs.Places.{mapped, set_same}
 use Rattle.build_work.proofs.Stakes.{all_stakes, as_many}

@@ -1,5 +1,5 @@
 -- The workers of a build are lent, to threads, and come back.
-use Rattle.std.specs.Prelude.{◌≡◌, ℕ, ◌+◌, ◌-◌, ◌≤◌, false, List, [], ◌∷◌, length, drop, Option, Some, None}
+use Rattle.std.specs.Prelude.{◌≡◌, ℕ, ◌+◌, ◌-◌, ◌*◌, ◌≤◌, false, List, [], ◌∷◌, length, drop, Option, Some, None}
 use Rattle.std.specs.List.{slice_get}
 use Rattle.keybytes.specs.Faults.{first_cause}
 use Rattle.keybytes.specs.Keys.{KeySpecValue}
@@ -12,6 +12,7 @@ use Rattle.building.specs.WorkerValue.{WorkerValue}
 use Rattle.build_scan.specs.SideFiles.{taken_rings}
 use Rattle.build_work.specs.BuildingValue.{BuildingValue, WorkValue}
 use Rattle.build_work.specs.Equipped.{HasOwnSpools}
+use Rattle.build_work.specs.Holding.{lent_spools}
 use Rattle.build_work.specs.Keeping.{IsKept}
 use Rattle.build_work.specs.Rings.{take_rings}
 
@@ -36,6 +37,13 @@ pub record AreBack (building : BuildingValue) (workers : List WorkerValue) : Typ
   pub runs : building.work ≡ Some work
   pub all : length workers + length building.idle ≡ 16
   pub each : (place : ℕ) (worker : WorkerValue) → slice_get workers place ≡ Some worker → IsBack work.build work.specs place worker
+
+-- no more came back than were lent: not more workers, and not more spools
+pub record AreNoMore (building : BuildingValue) (workers : List WorkerValue) : Type 0 where
+  pub work : WorkValue
+  pub runs : building.work ≡ Some work
+  pub few : length workers + length building.idle ≤ 16
+  pub spools : length (lent_spools workers) ≤ (16 - length building.idle) * length work.specs
 
 -- of those that were stopped the lowest one's fault
 abbrev pub lowest_fault : List WorkerValue → Option Fault

@@ -12,20 +12,10 @@ use Rattle.building.specs.TakeEnd.{TakeEnd}
 use Rattle.building.specs.SpoolValue.{SpoolValue, pairs_in, stakes_of}
 use Rattle.building.specs.WorkerValue.{WorkerValue}
 use Rattle.build_scan.specs.SideFiles.{HasLookedAtSide, SeesSide}
-use Rattle.build_work.specs.BuildingValue.{BuildingValue, WorkValue, IndexValue, is_unique, with_index}
-use Rattle.build_work.specs.Columns.{column}
+use Rattle.build_work.specs.BuildingValue.{BuildingValue, WorkValue, IndexValue, with_index, with_pairs}
+use Rattle.build_work.specs.Columns.{column, other_columns}
 use Rattle.build_work.specs.Keeping.{HaveEachOnce, IsClosed}
 use Rattle.build_work.specs.Holding.{all_spools, ended_column, lent_spools}
-
--- the build can't go on for that fault; its spools keep their stakes
-pub record IsSpoiled (fault : Fault) (old new : BuildingValue) : Type 0 where
-  pub work : WorkValue
-  pub runs : old.work ≡ Some work
-  pub workers : List WorkerValue
-  pub many : length workers ≡ length old.workers
-  pub spools : List SpoolValue
-  pub stakes : stakes_of (all_spools workers spools) ≡ stakes_of (all_spools old.workers old.spools)
-  pub left : new ≡ record old { workers = workers; spools = spools; work = Some (record work { spoiled = Some fault }) }
 
 -- a worker without its spools
 abbrev pub handed_over : WorkerValue → WorkerValue
@@ -67,6 +57,15 @@ pub record CanLoad (index : ℕ) (building : BuildingValue) : Type 0 where
   pub fine : work.spoiled ≡ None
   pub loads : work.loading ≡ true
 
+-- a load of an index was refused: the work is spoiled, the spools of the index may be other but for their stakes, and nothing else changed
+pub record LoadStopped (index : ℕ) (old : BuildingValue) (fault : Fault) (new : BuildingValue) : Type 0 where
+  pub work : WorkValue
+  pub runs : old.work ≡ Some work
+  pub spools : List SpoolValue
+  pub stakes : stakes_of spools ≡ stakes_of old.spools
+  pub others : other_columns index (length work.specs) spools ≡ other_columns index (length work.specs) old.spools
+  pub left : new ≡ record old { spools = spools; work = Some (record work { spoiled = Some fault }) }
+
 -- a load of an index: its pairs are put in order, or were so before
 pub record HasLoaded (index : ℕ) (old : BuildingValue) (count : ℕ) (new : BuildingValue) : Type 0 where
   pub work : WorkValue
@@ -84,21 +83,21 @@ pub record IsTakingEntries (index : ℕ) (building : BuildingValue) : Type 0 whe
   pub there : slice_get work.indexes index ≡ Some it
   pub built : BuiltValue
   pub loaded : it.built ≡ Some built
-  pub of_build : built.build ≡ work.build
-  pub of_spec : built.unique ≡ is_unique (slice_get work.specs index)
   pub end : TakeEnd Entry
   pub at : slice_get building.sides index ≡ Some end
 
--- the next entries that the index's ring is seen to have can be applied, so many of them
+-- the next entries that the index's ring is seen to have can be applied, so many of them: its build goes on
 pub record CanApply (index count : ℕ) (building : BuildingValue) : Type 0 where
   pub taking : IsTakingEntries index building
-  pub ordered : AreOrdered taking.built.pairs
+  pub fine : taking.work.spoiled ≡ None
   pub seen : count ≤ length taking.end.known
   pub countable : taking.it.applied + count < 2 ^ 64
 
 -- the first so many of them were taken from the ring, and those of its build were applied to the index
 pub record HasApplied (index : ℕ) (old : BuildingValue) (count : ℕ) (new : BuildingValue) : Type 0 where
   pub taking : IsTakingEntries index old
+  -- it is the build's, and keeps a tally where the index is unique
+  pub own : taking.built ≡ with_pairs taking.work index taking.built.pairs
   pub pairs : List Pair
   pub applied : set_of pairs ≡ apply_entries (told_to taking.built.build (take count taking.end.known)) (set_of taking.built.pairs)
   pub ordered : AreOrdered pairs

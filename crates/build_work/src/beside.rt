@@ -7,7 +7,7 @@ ghost use Rattle.build_work.specs.Holding.{all_spools, lent_spools, spools_state
 ghost use Rattle.build_work.specs.Keeping.{AreWorkers, KeepsWork};
 ghost use Rattle.catch_up.specs.Built.{told_to};
 ghost use Rattle.build_work.specs.Equipped.{HasOwnSpools, HasRoomFor, IsFresh, IsNewMaker};
-ghost use Rattle.build_work.specs.Working.{CanApply, CanHandOver, CanLoad, HasApplied, HasHandedOver, HasLoaded, IsSpoiled};
+ghost use Rattle.build_work.specs.Working.{CanApply, CanHandOver, CanLoad, HasApplied, HasHandedOver, HasLoaded, LoadStopped};
 
 use crate::ends::Ends;
 use crate::equipment::{Equipment, equip};
@@ -252,12 +252,12 @@ impl<S: Spool, T: Table> Building<S, T> {
     }
 
     /// Puts the pairs of an index in order, and answers how many there are; 0 where they are in order already. Want of memory
-    /// spoils the build.
+    /// spoils the build, and may lose some of the pairs of the index; the other spools stay as they are.
     pub fn load(&mut self, alloc: Global, index: usize) -> Result<usize, Fault>
         requires { CanLoad index self.old }
         ensures loaded { IfOk result (λ count. HasLoaded index self.old count self.new) }
         ensures first { OnErr result (IfSome self.old.work (IsUnloaded index)) }
-        ensures spoiled { IfErr result (λ fault. IsSpoiled fault self.old self.new) }
+        ensures spoiled { IfErr result (λ fault. LoadStopped index self.old fault self.new) }
         ensures memory { IfErr result (λ fault. fault ≡ Fault.Memory) }
     {
         let Some(work) = &mut self.work else {
@@ -290,6 +290,8 @@ impl<S: Spool, T: Table> Building<S, T> {
         ensures some { OnErr result ((entries : ℕ) × (entries < count) × HasApplied index self.old entries self.new) }
         ensures memory { IfErr result (λ fault. fault ≡ Fault.Memory) }
     {
+        // What the build keeps of the index is known once its fields are reached.
+        let _given = &self.given;
         for _ in 0..count {
             self.apply_next(index)?;
         }

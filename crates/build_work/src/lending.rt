@@ -1,8 +1,14 @@
 //! Workers that are lent, to threads.
-ghost use Rattle.std.specs.Prelude.{◌≡◌, [], All, Some, IfSome, vec_capacity};
-ghost use Rattle.build_work.specs.Lent.{AreBack, CanLend, lowest_fault, StaysWithout};
+ghost use Rattle.std.specs.Prelude.{◌≡◌, ◌-◌, ◌*◌, ◌≤◌, [], All, length, map, Some, IfSome, vec_capacity};
+ghost use Rattle.building.specs.SpoolValue.{spool_value, stakes_of};
+ghost use Rattle.building.specs.TakeEnd.{take_end};
+ghost use Rattle.build_work.specs.BuildingValue.{intakes};
+ghost use Rattle.build_work.specs.Equipped.{HasRoomFor};
+ghost use Rattle.build_work.specs.Holding.{lent_spools};
+ghost use Rattle.build_work.specs.Lent.{AreBack, AreNoMore, CanLend, lowest_fault, StaysWithout};
 
 use crate::beside::Building;
+use crate::returning::take_back;
 use crate::rings::laws_of;
 use crate::work::Work;
 use building::{Intake, Table, Worker};
@@ -14,7 +20,10 @@ use std::marker::{Model, PhantomData};
 
 /// A [`Building`] whose workers are lent.
 ///
-/// It is no `Drop`: the workers come back, also those that were stopped.
+/// It is no `Drop`, so it can't be let go. Where all workers are back at their places, each with its spools, also those that were stopped,
+/// [`WithoutWorkers::gather`] makes a [`Building`] of it again. Where a thread let its worker go, or called [`Worker::hand_over`] or
+/// [`Worker::into_parts`], the build can only be given up: [`WithoutWorkers::give_up`] ends the spools that came back. Lost are then the
+/// ends of the rings that did not come back, and the spools that their thread neither ended nor handed out.
 pub struct WithoutWorkers<S: Spool, T: Table> {
     idle: Vec<Intake>,
     side_ends: Vec<Consumer<Entry>>,
@@ -107,6 +116,40 @@ impl<S: Spool, T: Table> WithoutWorkers<S, T> {
             work: Some(work),
             of,
         }
+    }
+
+    /// Gives the work of the build up, with the workers that came back, whatever threads did with them: answered with the intakes that are
+    /// left, theirs first, with the ends of the side-files' rings, and with the spools that came back, ended. Takes no memory.
+    pub fn give_up(self, workers: Vec<Worker<S, T>>) -> (Vec<Intake>, Vec<Consumer<Entry>>, Vec<S>)
+        requires { AreNoMore self workers.items }
+        ensures intakes { result.0.items ≡ intakes workers.items self.idle }
+        ensures sides { map take_end result.1.items ≡ self.sides }
+        ensures ended { All S.ended result.2.items }
+        ensures stakes { map S.stake result.2.items ≡ stakes_of (lent_spools workers.items) }
+    {
+        let mut workers = workers;
+        let (mut intakes, side_ends, mut spools) = self.into_parts();
+        take_back(&mut workers, &mut spools, &mut intakes);
+        (intakes, side_ends, spools)
+    }
+
+    /// Gives the work of the build up without its workers: answered with the intakes that no worker had, with the ends of the side-files'
+    /// rings, and with an empty list that has room for the spools of all workers. Of a worker that came back [`Worker::into_parts`] takes the
+    /// spools out, which [`crate::end_spools`] ends. Takes no memory.
+    pub fn into_parts(self) -> (Vec<Intake>, Vec<Consumer<Entry>>, Vec<S>)
+        ensures idle { result.0.items ≡ self.idle }
+        ensures rings { 16 ≤ vec_capacity result.0 }
+        ensures sides { map take_end result.1.items ≡ self.sides }
+        ensures room { IfSome self.work (λ work. HasRoomFor ((16 - length self.idle) * length work.specs) result.2) }
+    {
+        let WithoutWorkers {
+            idle,
+            side_ends,
+            spools,
+            work: _,
+            of: _,
+        } = self;
+        (idle, side_ends, spools)
     }
 }
 

@@ -32,6 +32,7 @@ pub fn merged_tree<S: Spool>(
     ensures all { IfOk result (λ tree. IsPermutation (all_pairs (all_runs (map S.runs (column index indexes spools.old.items)))) tree.pairs) }
     ensures ended { OnOk result (map (spool_value S.runs S.open_run S.stake) spools.new.items
         ≡ ended_column index indexes (map (spool_value S.runs S.open_run S.stake) spools.old.items)) }
+    ensures others { other_columns index indexes spools.new.items ≡ other_columns index indexes spools.old.items }
     ensures stakes { map S.stake spools.new.items ≡ map S.stake spools.old.items }
     ensures capacity { vec_capacity spools.old ≤ vec_capacity spools.new }
     ensures memory { IfErr result (λ fault. fault ≡ Fault.Memory) }

@@ -3,7 +3,7 @@ ghost use Rattle.keybytes.specs.Pairs.{AreOrdered};
 ghost use Rattle.run_spool.specs.Spools.{AreSorted, all_pairs};
 ghost use Rattle.run_merge.specs.Merging.{all_runs};
 ghost use Rattle.build_work.specs.BuildingValue.{is_unique};
-ghost use Rattle.build_work.specs.Columns.{column};
+ghost use Rattle.build_work.specs.Columns.{column, other_columns};
 ghost use Rattle.building.specs.SpoolValue.{spool_value};
 ghost use Rattle.build_work.specs.Holding.{ended_column};
 ghost use Rattle.build_work.specs.Keeping.{AreEachOnce};
@@ -34,6 +34,7 @@ pub fn sorted_index<S: Spool>(
     ensures unique { IfOk result (λ built. built.unique ≡ is_unique (slice_get work.now.specs index)) }
     ensures ended { OnOk result (map (spool_value S.runs S.open_run S.stake) spools.new.items
         ≡ ended_column index (length work.now.specs) (map (spool_value S.runs S.open_run S.stake) spools.old.items)) }
+    ensures others { other_columns index (length work.now.specs) spools.new.items ≡ other_columns index (length work.now.specs) spools.old.items }
     ensures stakes { map S.stake spools.new.items ≡ map S.stake spools.old.items }
     ensures capacity { vec_capacity spools.old ≤ vec_capacity spools.new }
     ensures memory { IfErr result (λ fault. fault ≡ Fault.Memory) }

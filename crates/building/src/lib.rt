@@ -8,7 +8,7 @@
 //! for another build. A worker whose memory or pages run out spoils its build; [`Intake::restart`] begins the next one.
 //!
 //! A [`Worker`] is one place of a build: such an end, with the maker and the spools of its own. Its type keeps what they hold, so a
-//! thread that is lent one need only promise that its spools keep their accounts.
+//! thread that is lent one need only promise that it is the same worker that comes back, with its own spools.
 //!
 //! A contract sees of an end all that it ever put or took, so that a caller with both ends at hand can show that what was
 //! taken is what was put.

@@ -16,9 +16,14 @@ use std::mem::replace;
 
 /// A worker of a build: its end of its ring, the maker of its pairs, and a spool for each index.
 ///
-/// A thread that is lent one can do with it what it likes: its ring stays the table's at its number, and while no call was refused,
-/// and until it hands its spools over, maker and spools hold, for each index, exactly the pairs of the copies of its build that it took. A
-/// refused digest or seal stops it: each further one is refused for the same fault.
+/// Whatever a thread that is lent one calls, its ring stays the table's at its number, and while no digest or seal was refused, and until it
+/// hands its spools over, maker and spools hold, for each index, exactly the pairs of the copies of its build that it took. A refused
+/// digest or seal stops it: each further one is refused for the same fault. After digests and seals, refused ones too, it is still
+/// the worker of its place, with its own spools, and goes back to its build.
+///
+/// [`Worker::hand_over`] and [`Worker::into_parts`] are for the build, once it has it back. A thread that calls one of them gives that up: the
+/// build can't take the worker back, and can only be given up. The spools are then the caller's, who has to end them: until then they keep
+/// their pages. To let a worker go loses them: a drop ends no spool, and gives no account back to its pool.
 pub struct Worker<S: Spool, T: Table> {
     number: usize,
     intake: Intake,

@@ -1,15 +1,19 @@
 use Rattle.std.proofs.Common.{◌≡◌, ◌+◌, OnErr, refl, subst, arith}
 use Rattle.build_work.specs.Working.{HasApplied}
 use Rattle.build_work.proofs.Applying.{applied_more, applied_none, can_go_on, same_taking, on_err}
+use Rattle.build_work.proofs.TakingEntries.{its_order, its_own}
 use Rattle.build_work.proofs.beside.Building.apply.Goals as goal
 
 pub loop-init : goal.loop-init
-loop-init g c = applied_none c.args.index c.args.self.now c.requires.taking c.requires.ordered
+loop-init g c =
+    let own = its_own c.args.index c.args.self.now _ c.self.view_is c.self.invariant.6 c.requires.taking c.requires.fine in
+    let ordered = its_order c.args.index c.args.self.now _ c.self.view_is c.self.invariant.6 c.requires.taking c.requires.fine in
+    applied_none c.args.index c.args.self.now c.requires.taking own ordered
 
 pub apply_next-requires : goal.apply_next-requires
 apply_next-requires g c =
     let same = same_taking c.args.index c.args.self.now c.loop.invariant.taking c.requires.taking in
-    can_go_on c.args.index c.args.self.now c.loop.self c.loop.counter c.loop.invariant c.args.count (rw same.3 c.requires.seen) (rw same.1 c.requires.countable) c.loop-test.true
+    can_go_on c.args.index c.args.self.now c.loop.self c.loop.counter c.loop.invariant c.args.count (rw same.0 c.requires.fine) (rw same.3 c.requires.seen) (rw same.1 c.requires.countable) c.loop-test.true
 
 pub returns-in_err-apply_next-clause-some : goal.returns-in_err-apply_next-clause-some
 returns-in_err-apply_next-clause-some g c =

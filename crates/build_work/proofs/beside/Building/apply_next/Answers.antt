@@ -6,6 +6,7 @@ use Rattle.side_file.specs.declared.entry.Entry.{Entry}
 use Rattle.building.specs.SpoolValue.{spool_value}
 use Rattle.build_work.proofs.Applying.{applied_is, applied_next, end_is, kept_next, one_taken, on_err}
 use Rattle.build_work.proofs.SideEnds.{take_ends_stay}
+use Rattle.build_work.proofs.TakingEntries.{its_own}
 use Rattle.build_work.proofs.beside.Building.apply_next.Goals as goal
 
 pub returns-in_err-taken-clause-unchanged : goal.returns-in_err-taken-clause-unchanged
@@ -15,7 +16,7 @@ returns-in_err-taken-clause-unchanged g c =
     on_err c.from_residual.result _
     (applied_next c.args.index c.args.self.now _ c.in-Some.work _ c.index_mut-it.result.now c.in-Some-built.built c.it.inside.applied c.self.inside.side_ends.items
     c.index_mut.result.now c.self.view_is c.in-Some.is c.work.view_is c.index_mut-it.ensures.value (ap (λ (o : Option BuiltValue). record { built = o; applied = c.it.inside.applied }) (sym c.in-Some-built.is) ∙ c.it.view_is) refl c.index_mut.ensures.value c.requires.taking
-    c.apply-taken.new.ring done.entries 0 c.it.inside.applied c.apply-taken.new.built done.taken done.applied c.laws.ensures (omega (arith, short)) (omega arith) (omega arith))
+    (its_own c.args.index c.args.self.now _ c.self.view_is c.self.invariant.6 c.requires.taking c.requires.fine) c.apply-taken.new.ring done.entries 0 c.it.inside.applied c.apply-taken.new.built done.taken done.applied c.laws.ensures (omega (arith, short)) (omega arith) (omega arith))
 
 pub returns-clause-applied : goal.returns-clause-applied
 returns-clause-applied g c =
@@ -28,7 +29,7 @@ returns-clause-applied g c =
     let one = one_taken done.entries (known_items c.index_mut.result.now) (known_items c.apply-taken.new.ring) done.taken.known.0 done.taken.known.1 done.most seen all in
     applied_next c.args.index c.args.self.now _ c.in-Some.work _ c.index_mut-it.result.now c.in-Some-built.built c.it.inside.applied c.self.inside.side_ends.items
     c.index_mut.result.now c.self.view_is c.in-Some.is c.work.view_is c.index_mut-it.ensures.value (ap (λ (o : Option BuiltValue). record { built = o; applied = c.it.inside.applied }) (sym c.in-Some-built.is) ∙ c.it.view_is) refl c.index_mut.ensures.value c.requires.taking
-    c.apply-taken.new.ring done.entries 1 (c.it.inside.applied + 1) c.apply-taken.new.built done.taken done.applied c.laws.ensures one seen refl
+    (its_own c.args.index c.args.self.now _ c.self.view_is c.self.invariant.6 c.requires.taking c.requires.fine) c.apply-taken.new.ring done.entries 1 (c.it.inside.applied + 1) c.apply-taken.new.built done.taken done.applied c.laws.ensures one seen refl
 
 pub invariant_of-self-in-Break-1 : goal.invariant_of-self-in-Break-1
 invariant_of-self-in-Break-1 g c = (

@@ -12,7 +12,7 @@ use Rattle.build_work.specs.Keeping.{KeepsWork}
 use Rattle.building.specs.SpoolValue.{SpoolValue, spool_value}
 use Rattle.building.specs.TakeEnd.{take_end}
 use Rattle.build_work.specs.Keeping.{AreEachOnce}
-use Rattle.build_work.proofs.LeftBeside.{column_seen, same_seen, spoiled_after, stakes_beside, left_sorted, can_load, is_unloaded}
+use Rattle.build_work.proofs.LeftBeside.{column_seen, same_seen, load_stopped, others_seen, stakes_beside, left_sorted, can_load, is_unloaded}
 use Rattle.build_scan.proofs.Places.{there_is}
 use Rattle.build_work.specs.Holding.{all_spools}
 use Rattle.build_work.proofs.LoadedKept.{loaded_kept}
@@ -54,10 +54,10 @@ returns-in-Err-clause-spoiled g c =
     let spool = g.S.Spool in
     let value = spool_value spool.runs spool.open_run spool.stake in
     let merged = c.sorted_index in
-    spoiled_after c.args.self.now _ c.in-Some.work _ c.self.view_is c.in-Some.is c.work.view_is c.in-Err.fault c.self.inside.workers.items
-    (map value merged.new.spools.items) refl
-    (stakes_beside c.self.inside.workers.items (map value merged.new.spools.items) (map value c.self.inside.spools.items)
-    (same_seen spool.runs spool.open_run spool.stake merged.new.spools.items c.self.inside.spools.items merged.ensures.stakes))
+    let items = c.self.inside.spools.items in
+    load_stopped c.args.self.now _ c.in-Some.work _ c.self.view_is c.in-Some.is c.work.view_is c.args.index c.in-Err.fault (map value merged.new.spools.items)
+    (same_seen spool.runs spool.open_run spool.stake merged.new.spools.items items merged.ensures.stakes)
+    (others_seen spool.runs spool.open_run spool.stake c.args.index (length c.in-Some.work.specs) merged.new.spools.items items merged.ensures.others)
 
 pub returns-clause-loaded : goal.returns-clause-loaded
 returns-clause-loaded g c =
