@@ -1,5 +1,5 @@
 -- A spool that keeps its runs in lists.
-use Rattle.std.specs.Prelude.{◌≡◌, ℕ, ◌+◌, ◌≤◌, ◌<◌, List, [], All, length, Vec, vec_capacity}
+use Rattle.std.specs.Prelude.{◌≡◌, ◌⊎◌, ℕ, ◌+◌, ◌≤◌, ◌<◌, List, [], All, length, Vec, vec_capacity}
 use Rattle.std.specs.declared.alloc.Global.{Global}
 use Rattle.keybytes.specs.declared.pair.Pair.{Pair}
 
@@ -12,6 +12,10 @@ pub record ListSpoolValue : Type 0 where
 
 abbrev pub new_list : ℕ → ℕ → ListSpoolValue
 new_list runs limit = record { runs = []; open_run = []; limit = limit; spare = runs }
+
+-- behind an open run with a pair there is a list for the next, and it has no room for one more: it has as many as it may, or there is no list
+abbrev pub IsFullList : ListSpoolValue → Type 0
+IsFullList spool = (0 < length spool.open_run → 0 < spool.spare) × ((spool.limit ≤ length spool.open_run) ⊎ (spool.spare ≡ 0))
 
 -- a list for a run that is still to come
 abbrev pub IsSpare : ℕ → Vec Pair Global → Type 0

@@ -67,13 +67,14 @@ impl ListSpool {
 }
 
 impl Spool for ListSpool {
-    ghost use Rattle.std.specs.Prelude.{◌≡◌, ◌≤◌, ◌⊎◌, [], None, length};
+    ghost use Rattle.std.specs.Prelude.{◌≡◌, [], None};
+    ghost use Rattle.build_tests.specs.ListSpools.{IsFullList};
 
     ghost runs = { λ spool. spool.runs };
 
     ghost open_run = { λ spool. spool.open_run };
 
-    ghost is_full = { λ spool pair. (spool.limit ≤ length spool.open_run) ⊎ (spool.spare ≡ 0) };
+    ghost is_full = { λ spool pair. IsFullList spool };
 
     ghost ended = { λ spool. (spool.runs ≡ []) × (spool.open_run ≡ []) };
 
