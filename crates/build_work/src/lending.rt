@@ -20,10 +20,10 @@ use std::marker::{Model, PhantomData};
 
 /// A [`Building`] whose workers are lent.
 ///
-/// It is no `Drop`, so it can't be let go. Where all workers are back at their places, each with its spools, also those that were stopped,
-/// [`WithoutWorkers::gather`] makes a [`Building`] of it again. Where a thread let its worker go, or called [`Worker::hand_over`] or
-/// [`Worker::into_parts`], the build can only be given up: [`WithoutWorkers::give_up`] ends the spools that came back. Lost are then the
-/// ends of the rings that did not come back, and the spools that their thread neither ended nor handed out.
+/// It is no `Drop`, so nobody lets it go unless he forgets it, with the ends of rings that it has. Where all workers are back at their places,
+/// each with its spools, also those that were stopped, [`WithoutWorkers::gather`] makes a [`Building`] of it again. Where a thread let its
+/// worker go, or called [`Worker::hand_over`] or [`Worker::into_parts`], the build can only be given up: [`WithoutWorkers::give_up`] ends
+/// the spools that came back. Lost are then the ends of the rings that did not come back, and spools that their thread didn't hand out.
 pub struct WithoutWorkers<S: Spool, T: Table> {
     idle: Vec<Intake>,
     side_ends: Vec<Consumer<Entry>>,
