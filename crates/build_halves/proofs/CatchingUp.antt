@@ -1,5 +1,5 @@
 -- All indexes of a build that catch up: how far they are, as callers see it.
-use Rattle.std.proofs.Common.{◌≡◌, ℕ, suc, ◌-◌, ◌<◌, List, [], ◌∷◌, length, map, set, get_or, Option, Some, None, refl, sym, ap, ap₂, ◌∙◌, subst, arith}
+use Rattle.std.proofs.Common.{◌≡◌, ℕ, suc, ◌-◌, ◌<◌, ◌≤◌, List, [], ◌∷◌, length, map, set, get_or, Option, Some, None, refl, sym, ap, ap₂, ◌∙◌, subst, arith}
 use Rattle.std.proofs.Common.{inl, inr}
 use Rattle.std.specs.Prelude.{◌==◌, not, IfSome}
 use Rattle.std.specs.List.{slice_get}
@@ -160,6 +160,13 @@ none_left s new all none =
     subst (λ (o : Option BuildState). OnBuild o (λ x. all_unapplied x new.live.heap.log x.specs new.work.indexes ≡ 0)) (sym runs)
     (sum_none b new.live.heap.log all.build.specs new.work.indexes (λ k spec at.
     sym (ap (λ (o : Option BuildState). left_of o new k) runs ∙ ap (unapplied_at b new k) at) ∙ none k (below all.build.specs k spec at)))
+
+-- none of each is left once none is of those before the last
+pub none_of_each :
+    (s new : CoreState) (all : AllAreFurther s new) (b : BuildState) → s.live.build ≡ Some b → (count : ℕ) → length b.specs ≤ count
+    → ((k : ℕ) → k < count → left_at k new ≡ 0) → (k : ℕ) → k < length all.build.specs → left_at k new ≡ 0
+none_of_each s new all b runs count far none k less =
+    let same = ap (λ (x : BuildState). length x.specs) (same_Some all.build b (sym all.runs ∙ runs)) in none k (omega (arith, less, far, same))
 
 -- all of them, as far as they are
 pub all_begin :

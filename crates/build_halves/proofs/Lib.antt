@@ -12,6 +12,7 @@ pub mod IndexApplied
 pub mod IndexFurther
 pub mod LeftOver
 pub mod LoadCauses
+pub mod LoadLooked
 pub mod Loaded
 pub mod Looked
 pub mod MadeReady
@@ -25,6 +26,7 @@ pub mod Puts
 pub mod Refusals
 pub mod Reunited
 pub mod ScanCauses
+pub mod SentAll
 pub mod SentNext
 pub mod SideEnds
 pub mod Sound

@@ -1,5 +1,5 @@
 -- A table and what stands beside it, where their rings were looked at.
-use Rattle.std.proofs.Common.{◌≡◌, ℕ, List, ◌++◌, Option, Some, None, sym, ap, ◌∙◌, subst}
+use Rattle.std.proofs.Common.{◌≡◌, ℕ, List, ◌++◌, Option, Some, None, refl, sym, ap, ◌∙◌, subst}
 use Rattle.building.specs.SpoolValue.{SpoolValue}
 use Rattle.build_halves.specs.Builds.{LiveValue, HasLooked, IsRunning, WorksOn, core_state}
 use Rattle.build_work.specs.BuildingValue.{BuildingValue, WorkValue, work_state}
@@ -9,6 +9,7 @@ use Rattle.build_work.specs.Holding.{all_spools, spools_state}
 use Rattle.build_work.specs.Rings.{all_sent, AreOfBuilds, unseen}
 use Rattle.build_work.proofs.AtWork.{taking_same}
 use Rattle.build_work.proofs.Looks.{same_rings, same_sent, sealed_looked}
+use Rattle.build_halves.specs.Putting.{PagesAreLooked}
 use Rattle.build_halves.specs.Rings.{ArePutEnds, PagesFollow}
 use Rattle.heap_log.specs.declared.record.LogRec.{LogRec}
 use Rattle.building.specs.TakeEnd.{PutEndLooked}
@@ -16,9 +17,27 @@ use Rattle.building.specs.declared.copied.Copied.{Copied}
 use Rattle.side_file.specs.Ends.{PutEnd, RingId}
 use Rattle.side_file.specs.declared.entry.Entry.{Entry}
 use Rattle.std.specs.List.{AllZip}
+use Rattle.build_scan.proofs.LookedEnds.{all_unlooked}
 use Rattle.build_scan.proofs.Places.{as_long}
 use Rattle.keybytes.specs.declared.kind.Kind.{Kind}
 use Rattle.build_work.proofs.Looked.{columns_looked, lent_looked, states_looked}
+
+-- nothing was looked at
+pub not_looked : (live : LiveValue) (building : BuildingValue) → HasLooked live building live building
+not_looked live building = record {
+  state = refl;
+  sides = refl;
+  rings = record { puts = all_unlooked live.pages; same = refl };
+  idle = refl;
+  other_sides = refl;
+  spools = refl;
+  given = refl;
+  work = refl;
+}
+
+-- of a table's ends a look at the page rings reaches those that put copies
+pub ends_looked : (live new_live : LiveValue) (building new : BuildingValue) → HasLooked live building new_live new → PagesAreLooked live new_live
+ends_looked live new_live building new looked = record { pages = looked.rings.puts; sides = looked.sides }
 
 -- callers see no difference
 pub state_looked : (live new_live : LiveValue) (building new : BuildingValue) → HasLooked live building new_live new → core_state new_live new ≡ core_state live building
@@ -76,20 +95,23 @@ runs_looked live new_live building new b w looked run = record {
 }
 
 -- what a table keeps of the ends that put copies is kept where they were looked at
-pub pages_looked :
-    (kinds : List Kind) (log : List LogRec) (builds : ℕ) (build : Option BuildState) (page_rings entry_rings : List RingId)
-    (pages new : List (PutEnd Copied)) (sides : List (PutEnd Entry)) → AllZip PutEndLooked pages new → PagesFollow kinds log builds build (all_sent pages)
-    → AreOfBuilds builds (all_sent pages) → ArePutEnds page_rings entry_rings pages sides
-    → PagesFollow kinds log builds build (all_sent new) × AreOfBuilds builds (all_sent new) × ArePutEnds page_rings entry_rings new sides
-pages_looked kinds log builds build page_rings entry_rings pages new sides looked follow of_builds are =
-    let sent = sym (same_sent pages new looked) in
-    let rings = same_rings pages new looked in (
-      subst (PagesFollow kinds log builds build) sent follow,
-      subst (AreOfBuilds builds) sent of_builds,
+module _ (pages new : List (PutEnd Copied)) (looked : AllZip PutEndLooked pages new) where
+  pub follow_looked :
+      (kinds : List Kind) (log : List LogRec) (builds : ℕ) (build : Option BuildState) → PagesFollow kinds log builds build (all_sent pages)
+      → PagesFollow kinds log builds build (all_sent new)
+  follow_looked kinds log builds build = subst (PagesFollow kinds log builds build) (sym (same_sent pages new looked))
+
+  pub of_builds_looked : (builds : ℕ) → AreOfBuilds builds (all_sent pages) → AreOfBuilds builds (all_sent new)
+  of_builds_looked builds = subst (AreOfBuilds builds) (sym (same_sent pages new looked))
+
+  pub put_ends_looked :
+      (page_rings entry_rings : List RingId) (sides : List (PutEnd Entry)) → ArePutEnds page_rings entry_rings pages sides
+      → ArePutEnds page_rings entry_rings new sides
+  put_ends_looked page_rings entry_rings sides are =
+      let rings = same_rings pages new looked in
       record {
         pages_are = rings ∙ are.pages_are;
         sides_are = are.sides_are;
         sixteen = as_long (λ (e : PutEnd Copied). e.ring) (λ (e : PutEnd Copied). e.ring) new pages rings ∙ are.sixteen;
         eight = are.eight;
-      },
-    )
+      }

@@ -23,7 +23,7 @@ use Rattle.build_scan.proofs.Feeding.{waiting_in_ring}
 use Rattle.build_scan.proofs.LookedEnds.{all_looked_twice, all_unlooked, same_looked, one_looked as end_looked}
 use Rattle.build_scan.proofs.Places.{at_index, below, map_at, same_at, there_is}
 use Rattle.build_work.specs.BuildingValue.{BuildingValue, IndexValue, WorkValue}
-use Rattle.build_work.specs.WorkOn.{AreFed, WorkersFollow}
+use Rattle.build_work.specs.WorkOn.{AreFed, IsIndexFed, WorkersFollow}
 use Rattle.build_halves.specs.Builds.{LiveValue, SeesSideAt, SideIsLooked, WorksOn, core_state}
 use Rattle.build_halves.specs.Switching.{IsFedAt, IsOfBuild, IsPartOf, SidesAreLooked, unseen_take}
 
@@ -110,15 +110,18 @@ fed_unseen fed applied put new_put end new_end puts takes is =
       countable = is.countable;
     }
 
--- the same of each index
-all_unseen :
+-- the same of an index, and of each
+module _
     (b : BuildState) (indexes : List IndexValue) (puts new_puts : List (PutEnd Entry)) (ends new_ends : List (TakeEnd Entry))
-    → map unseen_put new_puts ≡ map unseen_put puts → map unseen_take new_ends ≡ map unseen_take ends → AreFed b indexes puts ends
-    → AreFed b indexes new_puts new_ends
-all_unseen b indexes puts new_puts ends new_ends same_puts same_takes fed k index new_put new_end at put_at end_at =
-    let put = same_at unseen_put puts new_puts k new_put (sym same_puts) put_at in
-    let end = same_at unseen_take ends new_ends k new_end (sym same_takes) end_at in
-    fed_unseen (fed_to b k) index.applied put.0 new_put end.0 new_end put.2 end.2 (fed k index put.0 end.0 at put.1 end.1)
+    (same_puts : map unseen_put new_puts ≡ map unseen_put puts) (same_takes : map unseen_take new_ends ≡ map unseen_take ends) where
+  index_unseen : (k : ℕ) → IsIndexFed b indexes puts ends k → IsIndexFed b indexes new_puts new_ends k
+  index_unseen k fed index new_put new_end at put_at end_at =
+      let put = same_at unseen_put puts new_puts k new_put (sym same_puts) put_at in
+      let end = same_at unseen_take ends new_ends k new_end (sym same_takes) end_at in
+      fed_unseen (fed_to b k) index.applied put.0 new_put end.0 new_end put.2 end.2 (fed index put.0 end.0 at put.1 end.1)
+
+  all_unseen : AreFed b indexes puts ends → AreFed b indexes new_puts new_ends
+  all_unseen fed k = index_unseen k (fed k)
 
 module _ (live new_live : LiveValue) (building new : BuildingValue) (looked : SidesAreSame live building new_live new) where
   same_state : new_live.state ≡ live.state
@@ -159,14 +162,7 @@ module _ (live new_live : LiveValue) (building new : BuildingValue) (looked : Si
   pub fed_at_looked : (k : ℕ) → IsFedAt k live building → IsFedAt k new_live new
   fed_at_looked k fed = by_build live.state.build building.work refl refl fed where
     Fed : LiveValue → BuildingValue → BuildState → WorkValue → Type 0
-    Fed l beside b w = (index : IndexValue) (put : PutEnd Entry) (end : TakeEnd Entry) → slice_get w.indexes k ≡ Some index → slice_get l.sides k ≡ Some put
-        → slice_get beside.sides k ≡ Some end → IsFed (fed_to b k) index.applied put end
-
-    moved : (b : BuildState) (w : WorkValue) → Fed live building b w → Fed new_live new b w
-    moved b w was index new_put new_end at put_at end_at =
-        let put = same_at unseen_put live.sides new_live.sides k new_put (sym looked.puts) put_at in
-        let end = same_at unseen_take building.sides new.sides k new_end (sym looked.takes) end_at in
-        fed_unseen (fed_to b k) index.applied put.0 new_put end.0 new_end put.2 end.2 (was index put.0 end.0 at put.1 end.1)
+    Fed l beside b w = IsIndexFed b w.indexes l.sides beside.sides k
 
     by_build :
         (o : Option BuildState) (work : Option WorkValue) → live.state.build ≡ o → building.work ≡ work → OnBuild o (λ b. IfSome work (Fed live building b))
@@ -177,7 +173,7 @@ module _ (live new_live : LiveValue) (building new : BuildingValue) (looked : Si
         (subst (λ (o : Option WorkValue). IfSome o (Fed new_live new b)) (sym (same_work ∙ work_is)) tt)
     by_build (Some b) (Some w) build_is work_is is =
         subst (λ (o : Option BuildState). OnBuild o (λ x. IfSome new.work (Fed new_live new x))) (sym (ap (λ (s : LiveState). s.build) same_state ∙ build_is))
-        (subst (λ (o : Option WorkValue). IfSome o (Fed new_live new b)) (sym (same_work ∙ work_is)) (moved b w is))
+        (subst (λ (o : Option WorkValue). IfSome o (Fed new_live new b)) (sym (same_work ∙ work_is)) (index_unseen b w.indexes live.sides new_live.sides building.sides new.sides looked.puts looked.takes k is))
 
 -- what works goes on
 follow_sides :
@@ -210,8 +206,7 @@ works_sides_looked live new_live building new looked works =
 -- what holds of each entry of an index of the build
 module _ (live : LiveValue) (building : BuildingValue) (of : IsOfBuild live building) (k : ℕ) where
   abbrev Waits : BuildState → WorkValue → Type 0
-  Waits b w = (index : IndexValue) (put : PutEnd Entry) (end : TakeEnd Entry) → slice_get w.indexes k ≡ Some index → slice_get live.sides k ≡ Some put
-      → slice_get building.sides k ≡ Some end → IsFed (fed_to b k) index.applied put end
+  Waits b w = IsIndexFed b w.indexes live.sides building.sides k
 
   pub at_from : Waits of.build of.work → IsFedAt k live building
   at_from waits =
@@ -323,10 +318,10 @@ module _
       (omega (arith, counted, applied_same, now.counted), omega (arith, counted, applied_same, many))
 
   -- what a test of both tells
-  pub then_waits : applied ≤ fed → IsTrue (nat_eq waiting (fed - applied)) ↔ IsFedAt index live building
-  then_waits few =
-      (λ yes. waiting_fed few (eqb-true waiting (fed - applied) yes), λ is. eq-eqb waiting (fed - applied) (fed_waiting is).1)
-
-  pub else_waits : fed < applied → IsTrue (nat_le applied fed) ↔ IsFedAt index live building
-  else_waits more =
-      (λ yes. absurd (let few = leb-true applied fed yes in omega (arith, few, more)), λ is. absurd (let few = (fed_waiting is).0 in omega (arith, few, more)))
+  pub tests_tell :
+      (applied ≤ fed → IsTrue (nat_eq waiting (fed - applied)) ↔ IsFedAt index live building)
+      × (fed < applied → IsTrue (nat_le applied fed) ↔ IsFedAt index live building)
+  tests_tell = (
+    λ few. (λ yes. waiting_fed few (eqb-true waiting (fed - applied) yes), λ is. eq-eqb waiting (fed - applied) (fed_waiting is).1),
+    λ more. (λ yes. absurd (let few = leb-true applied fed yes in omega (arith, few, more)), λ is. absurd (let few = (fed_waiting is).0 in omega (arith, few, more))),
+  )

@@ -62,7 +62,7 @@ only_looked b log index old new looked = record {
 }
 
 -- one that was looked at before it was sent something
-after_look :
+pub after_look :
     (b : BuildState) (log : List LogRec) (index count : ℕ) (old mid new : PutEnd Entry) → PutEndLooked old mid → IsSentNext b log index count mid new
     → IsSentNext b log index count old new
 after_look b log index count old mid new looked more = record {

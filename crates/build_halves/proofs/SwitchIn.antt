@@ -13,7 +13,7 @@ use Rattle.heap_table.specs.TablePairs.{index_pairs, pairs_at_rest}
 use Rattle.keybytes.proofs.ColumnOrder.{column_order}
 use Rattle.keybytes.specs.Pairs.{HaveKeysOf, AreInColumnOrder}
 use Rattle.catch_up.specs.Built.{BuiltValue}
-use Rattle.build_halves.specs.Builds.{LiveValue, IsRunning, core_state}
+use Rattle.build_halves.specs.Builds.{LiveValue, IsRunning, WorksOn, cause_of, core_state}
 use Rattle.build_work.specs.BuildingValue.{BuildingValue, WorkValue, IndexValue, state_unless, work_state, index_state}
 use Rattle.build_halves.specs.CatchingUp.{IsDoneIndex, MayCatchUp, built_pairs, ready_of}
 use Rattle.build_work.specs.Verdicts.{built_verdict, its_verdict}
@@ -35,6 +35,10 @@ use Rattle.unique_verdict.specs.Shared.{shared_pairs}
 use Rattle.unique_verdict.specs.Verdicts.{accepts, first_shared}
 use Rattle.unique_verdict.specs.declared.verdict.Verdict.{Verdict}
 use Rattle.unique_verdict.specs.declared.verdict.Verdict.TheVariants.{Unique}
+use Rattle.build_events.specs.declared.event.Event.TheVariants.{Switch}
+use Rattle.build_scan.specs.TableBuilds.{BuildFollows}
+use Rattle.build_halves.proofs.Refusals.{running_inside}
+use Rattle.build_halves.proofs.Unloaded.{may_after, may_catch_up}
 use Rattle.build_halves.proofs.MadeReady.{may_follow, no_writers, ready_more, ready_same}
 use Rattle.build_events.proofs.Verdicts.{accepted_more, accepted_same}
 use Rattle.build_halves.proofs.FedBeside.{indexes_seen}
@@ -130,10 +134,30 @@ ready_are log (spec ∷ specs) (index ∷ indexes) many each =
           ready_same (spec ∷ specs) specs (index ∷ indexes) indexes spec index refl refl (told ∙ drops) ∙ rest
           ∙ sym (ap (map (index_now log)) (accepted_same log spec specs drops))
 
+-- a build runs whose indexes caught up for its switch
+pub record HasCaughtUp (live : LiveValue) (building : BuildingValue) (b : BuildState) (w : WorkValue) : Type 0 where
+  pub run : IsRunning live building b w
+  pub may : MayCatchUp (core_state live building)
+  pub all : OnBuild live.state.build (λ b. all_unapplied b live.state.heap.log b.specs (work_state building.workers building.work).indexes ≡ 0)
+
+-- told of a table from within
+pub caught_up :
+    (inside old live : LiveValue) (before building : BuildingValue) (b : BuildState) (w : WorkValue) → inside ≡ live → inside.state.build ≡ Some b
+    → building.work ≡ Some w → BuildFollows inside.state.heap.schema inside.state.heap.log inside.state.build → WorksOn old before → WorksOn live building
+    → cause_of old before Switch ≡ None → CatchesUp (core_state old before) (core_state live building)
+    → OnBuild live.state.build (λ b. all_unapplied b live.state.heap.log b.specs (work_state building.workers building.work).indexes ≡ 0)
+    → HasCaughtUp live building b w
+caught_up inside old live before building b w view_is build_is work_is follows worked works free further all = record {
+  run = running_inside inside live building b w view_is build_is work_is follows works;
+  may = may_after (core_state old before) (core_state live building) further (may_catch_up old before worked free);
+  all = all;
+}
+
 module _
-    (live : LiveValue) (building : BuildingValue) (b : BuildState) (w : WorkValue) (run : IsRunning live building b w)
-    (may : MayCatchUp (core_state live building))
-    (all : OnBuild live.state.build (λ b. all_unapplied b live.state.heap.log b.specs (work_state building.workers building.work).indexes ≡ 0)) where
+    (live : LiveValue) (building : BuildingValue) (b : BuildState) (w : WorkValue) (caught : HasCaughtUp live building b w) where
+  abbrev run : IsRunning live building b w
+  run = caught.run
+
   indexes_are : (work_state building.workers building.work).indexes ≡ map index_state w.indexes
   indexes_are = ap (λ (o : Option WorkValue). (work_state building.workers o).indexes) run.work_is ∙ indexes_seen w.spoiled building.workers w
 
@@ -145,14 +169,14 @@ module _
       let on = run.on.indexes k spec index at there in
       let seen = map_at index_state w.indexes k index there in
       let free : apply_refusal b (work_state building.workers building.work) k ≡ None =
-      subst (λ (o : Option BuildState). OnBuild o (λ x. (i : ℕ) → i < length x.specs → apply_refusal x (work_state building.workers building.work) i ≡ None)) run.build_is may k
+      subst (λ (o : Option BuildState). OnBuild o (λ x. (i : ℕ) → i < length x.specs → apply_refusal x (work_state building.workers building.work) i ≡ None)) run.build_is caught.may k
       (below b.specs k spec at) in
       let free_now : apply_refusal b (state_unless w.spoiled building.workers w) k ≡ None =
       ap (λ (o : Option WorkValue). apply_refusal b (work_state building.workers o) k) (sym run.work_is) ∙ free in
       let loaded = (fine_by b w building.workers k index there w.spoiled free_now).1 in
       let none : all_unapplied b live.state.heap.log b.specs (map index_state w.indexes) ≡ 0 =
       ap (all_unapplied b live.state.heap.log b.specs) (sym indexes_are)
-      ∙ subst (λ (o : Option BuildState). OnBuild o (λ x. all_unapplied x live.state.heap.log x.specs (work_state building.workers building.work).indexes ≡ 0)) run.build_is all in
+      ∙ subst (λ (o : Option BuildState). OnBuild o (λ x. all_unapplied x live.state.heap.log x.specs (work_state building.workers building.work).indexes ≡ 0)) run.build_is caught.all in
       let left = none_of_each b live.state.heap.log b.specs (map index_state w.indexes) k spec (index_state index) none at seen in
       let built = stays_built index loaded in
       record {

@@ -3,6 +3,7 @@ use Rattle.std.proofs.Common.{arith, Bool, ◌≡◌, ℕ, ◌<◌, true, false,
 use Rattle.std.specs.Prelude.{IfSome}
 use Rattle.std.specs.List.{All, AllZip, slice_get}
 use Rattle.std.proofs.lemmas.Bool.{cases_Bool}
+use Rattle.std.proofs.lemmas.Option.{IfSome_then}
 use Rattle.keybytes.specs.declared.fault.Fault.{Fault}
 use Rattle.keybytes.specs.declared.fault.Fault.TheVariants.{NoBuild, NotSealed}
 use Rattle.side_file.specs.Ends.{PutEnd, RingId}
@@ -18,12 +19,13 @@ use Rattle.build_scan.specs.TableBuilds.{BuildFollows, IsBuildOf}
 use Rattle.build_scan.proofs.Places.{all_at, all_from, as_long, same_at}
 use Rattle.build_work.specs.BuildingValue.{BuildingValue, WorkValue}
 use Rattle.build_work.specs.Keeping.{IsKept, KeepsLaws, KeepsWork}
+use Rattle.build_work.specs.Working.{HasHandedOver}
 use Rattle.build_work.specs.Rings.{AreLooked, FirstAreSealed, IsUnsealed, all_sent, unseen}
 use Rattle.build_work.proofs.Looks.{first_looked, same_sent, sealed_looked}
 use Rattle.build_scan.proofs.LookedEnds.{all_unlooked}
 use Rattle.build_halves.specs.Builds.{HasLooked, IsRunning, LiveValue, MayLoad, WorksOn, core_state}
 use Rattle.build_halves.specs.Invariant.{EachPageOnce}
-use Rattle.build_halves.specs.Switching.{HaveAll, IsKeptOut, IsOnlyLookedAt, IsPartOf, IsTakenIn, SidesAreLooked, early_cause, unseen_take}
+use Rattle.build_halves.specs.Switching.{GoesOn, HandsOver, HaveAll, IsKeptOut, IsOnlyLookedAt, IsPartOf, IsScannedWhole, IsTakenIn, SidesAreLooked, early_cause, unseen_take}
 use Rattle.build_halves.proofs.Looked.{state_looked, works_looked}
 use Rattle.build_halves.proofs.PartOf.{SidesAreSame, looked_back, part_looked, sides_same, state_sides_looked, works_sides_looked}
 use Rattle.build_halves.proofs.Refusals.{running}
@@ -85,6 +87,17 @@ part_rings_looked live new_live building new looked part = record {
     workers = as_long unseen unseen new.workers building.workers looked.rings.same ∙ part.of.workers;
   };
   fed = rw (looked.sides, looked.other_sides) part.fed;
+}
+
+-- where nothing is left over then, it is taken in
+pub now_taken :
+    (live new_live : LiveValue) (building new : BuildingValue) → HasLooked live building new_live new → IsPartOf live building → GoesOn building
+    → IsScannedWhole live → HaveAll new_live new → IsTakenIn new_live new
+now_taken live new_live building new looked part fine scanned all = record {
+  part = part_rings_looked live new_live building new looked part;
+  fine = subst (λ (o : Option WorkValue). IfSome o (λ w. w.spoiled ≡ None)) (sym looked.work) fine;
+  scanned = subst (λ (s : LiveState). OnBuild s.build (λ b. open_range b ≡ None)) (sym looked.state) scanned;
+  all = all;
 }
 
 -- the side-files' rings were looked at
@@ -218,3 +231,23 @@ may_hand_over live building taken follows works rings laws keeps =
           let is = kept.placed k worker at in
           (all_at (KeepsLaws rings) building.workers k worker laws at).holding is.fine (is.spools_are ∙ scans));
     }
+
+-- a look leaves the work, and with it whether they did so before
+module _
+    (live new_live : LiveValue) (building seen new : BuildingValue) (looked : IsOnlyLookedAt live building new_live seen) where
+  work_seen : seen.work ≡ building.work
+  work_seen = ap (λ (b : BuildingValue). b.work) looked.rest
+
+  -- they do it now
+  pub hands_over :
+      IfSome seen.work (λ w. w.loading ≡ false → HasHandedOver seen new) → IfSome building.work (λ w. w.loading ≡ false → HandsOver live building new_live new)
+  hands_over handed =
+      IfSome_then building.work (subst (λ (o : Option WorkValue). IfSome o (λ w. w.loading ≡ false → HasHandedOver seen new)) work_seen handed)
+      (λ w now scans. record { seen = seen; looked = looked; handed = now scans })
+
+  -- or nothing is left to do
+  pub looks_again :
+      IfSome seen.work (λ w. w.loading ≡ true → new ≡ seen) → IfSome building.work (λ w. w.loading ≡ true → IsOnlyLookedAt live building new_live new)
+  looks_again same =
+      IfSome_then building.work (subst (λ (o : Option WorkValue). IfSome o (λ w. w.loading ≡ true → new ≡ seen)) work_seen same)
+      (λ w now loads. subst (IsOnlyLookedAt live building new_live) (sym (now loads)) looked)

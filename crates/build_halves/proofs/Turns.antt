@@ -1,7 +1,8 @@
 -- What a worker's turn leaves, as callers see it.
-use Rattle.std.proofs.Common.{◌≡◌, ℕ, ◌+◌, ◌<◌, true, List, [], ◌++◌, length, map, min, set, get_or, Option, Some, None, Result, Ok, Err, IfOk, IfErr}
+use Rattle.std.proofs.Common.{◌≡◌, ℕ, ◌+◌, ◌<◌, true, List, [], ◌++◌, length, map, min, take, drop, set, get_or, Option, Some, None, Result, Ok, Err, IfOk, IfErr}
 use Rattle.std.proofs.Common.{refl, sym, ap, ap₂, ◌∙◌, subst, arith, inl, inr, append-nil}
 use Rattle.std.specs.List.{slice_get}
+use Rattle.std.proofs.Math.Seq.{drop-nil, take-nil}
 use Rattle.std.proofs.lemmas.Bool.{cases_Bool}
 use Rattle.std.proofs.lemmas.List.{append_cancel_left}
 use Rattle.std.proofs.lemmas.Option.{same_Some}
@@ -17,11 +18,13 @@ use Rattle.building.specs.declared.turn.Turn.TheVariants.{Digest, Seal}
 use Rattle.building.specs.Holding.{HoldsOpen}
 use Rattle.building.specs.IntakeValue.{IntakeValue}
 use Rattle.building.specs.Taking.{IsTaking, received_images, unsealed_images}
-use Rattle.building.specs.Turns.{HasDone, IsStopped, after_turn, marked, turn_images}
-use Rattle.building.specs.Work.{after_digest}
+use Rattle.building.specs.Turns.{HasDone, IsStopped, after_turn, marked, turn_copies, turn_images}
+use Rattle.building.specs.Work.{next_images}
+use Rattle.building.specs.Work.{after_digest as digests}
 use Rattle.building.specs.WorkerValue.{WorkerValue}
 use Rattle.building.specs.declared.copied.Copied.{Copied}
 use Rattle.building.proofs.Turns.{behind_known, seal_saw}
+use Rattle.building.proofs.Digests.{next_known, same_worker}
 use Rattle.building.proofs.Taking.{digested_taking, next_count, sealed_open, sealed_taking, sent_count}
 use Rattle.build_halves.specs.Builds.{LiveValue, IsRunning, SeesRing, WorksOn, core_state}
 use Rattle.build_work.specs.BuildingValue.{BuildingValue, WorkValue, worker_state, work_state, index_state}
@@ -44,27 +47,23 @@ use Rattle.build_scan.proofs.Places.{map_at, no_pair, all_at}
 use Rattle.build_halves.proofs.AllImages.{all_own}
 
 -- where it sees no copy, it takes none
+next_none : (n : ℕ) (kinds : List Kind) (intake : IntakeValue) → intake.end.known ≡ [] → length (next_images n kinds intake) ≡ 0
+next_none n kinds intake none = let few = next_known n kinds intake in let no_copy = ap length none in omega (arith, few, no_copy)
+
+digest_none : (n : ℕ) (kinds : List Kind) (intake : IntakeValue) → intake.end.known ≡ [] → digests n kinds intake ≡ intake
+digest_none n kinds intake none =
+    let taken : take n intake.end.known ≡ [] = ap (take n) none ∙ take-nil n in
+    let left : drop n intake.end.known ≡ intake.end.known = ap (drop n) none ∙ drop-nil n ∙ sym none in
+    let received = ap (λ (copies : List Copied). intake.end.received ++ copies) taken ∙ append-nil intake.end.received in
+    same_worker (digests n kinds intake) intake refl
+    (ap₂ (λ (received known : List Copied). record intake.end { received = received; known = known }) received left)
+    (let counted = next_none n kinds intake none in omega (arith, counted)) refl
+
 turn_none : (turn : Turn) (kinds : List Kind) (intake : IntakeValue) → intake.end.known ≡ [] → after_turn turn kinds intake ≡ marked turn intake
-turn_none Digest kinds intake none =
-    let same : intake.taken + 0 ≡ intake.taken = omega arith in
-    rw none (ap₂ (λ (received : List Copied) (n : ℕ). record {
-      build = intake.build;
-      end = record { ring = intake.end.ring; received = received; known = [] };
-      taken = n;
-      sealed = intake.sealed;
-    }) (append-nil intake.end.received) same)
-turn_none Seal kinds intake none =
-    let same : intake.taken + 0 ≡ intake.taken = omega arith in
-    rw none (ap₂ (λ (received : List Copied) (n : ℕ). record {
-      build = intake.build;
-      end = record { ring = intake.end.ring; received = received; known = [] };
-      taken = n;
-      sealed = n;
-    }) (append-nil intake.end.received) same)
+turn_none turn kinds intake none = ap (marked turn) (digest_none (turn_copies turn intake) kinds intake none)
 
 no_images : (turn : Turn) (kinds : List Kind) (intake : IntakeValue) → intake.end.known ≡ [] → length (turn_images turn kinds intake) ≡ 0
-no_images Digest kinds intake none = rw none refl
-no_images Seal kinds intake none = rw none refl
+no_images turn kinds intake = next_none (turn_copies turn intake) kinds intake
 
 -- to mark what is sealed takes nothing
 marked_end : (turn : Turn) (intake : IntakeValue) → ((marked turn intake).end ≡ intake.end) × ((marked turn intake).build ≡ intake.build)
@@ -85,7 +84,7 @@ turn_taking :
     → intake.end.received ++ intake.end.known ≡ sent → IsTaking build kinds sent (after_turn turn kinds intake)
 turn_taking Digest build kinds sent intake taking in_order = digested_taking build kinds sent intake taking 1 in_order
 turn_taking Seal build kinds sent intake taking in_order =
-    sealed_taking build kinds sent (after_digest (length intake.end.known) kinds intake)
+    sealed_taking build kinds sent (digests (length intake.end.known) kinds intake)
     (digested_taking build kinds sent intake taking (length intake.end.known) in_order)
 
 -- how many copies callers see it take, and what they see of it then and of the work

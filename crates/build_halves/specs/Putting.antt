@@ -7,13 +7,19 @@ use Rattle.side_file.specs.Ends.{PutEnd}
 use Rattle.side_file.specs.declared.entry.Entry.{Entry}
 use Rattle.building.specs.TakeEnd.{PutEndLooked}
 use Rattle.building.specs.declared.copied.Copied.{Copied}
+use Rattle.build_events.specs.BuildSteps.{OnBuild}
 use Rattle.build_events.specs.CoreState.{BuildState}
-use Rattle.build_events.specs.Workers.{fed_to}
+use Rattle.build_events.specs.Workers.{fed_to, unfed}
 use Rattle.build_halves.specs.Builds.{LiveValue, next_entries}
 
 -- the ends of its rings are as they were: nothing was put, and none was looked at
 pub record KeepsRings (old new : LiveValue) : Type 0 where
   pub pages : new.pages ≡ old.pages
+  pub sides : new.sides ≡ old.sides
+
+-- the ends that put copies of pages were looked at only, and those that put entries are as they were
+pub record PagesAreLooked (old new : LiveValue) : Type 0 where
+  pub pages : AllZip PutEndLooked old.pages new.pages
   pub sides : new.sides ≡ old.sides
 
 -- the entries of an index that come next after those that were fed, so many; none where the build has no such index
@@ -36,6 +42,16 @@ AreSentNext b log olds news =
 -- the rings of side-files were sent what comes next of the build that runs, and nothing where none runs
 abbrev pub SendsNext : LiveValue → List (PutEnd Entry) → Type 0
 SendsNext live news = MatchOption live.state.build (AllZip PutEndLooked live.sides news) (λ b. AreSentNext b live.state.heap.log live.sides news)
+
+-- the end of each side-file's ring was sent all that was left of its index of the build
+abbrev pub AreSentAll : BuildState → List LogRec → List (PutEnd Entry) → List (PutEnd Entry) → Type 0
+AreSentAll b log olds news =
+    (index : ℕ) (old : PutEnd Entry) → slice_get olds index ≡ Some old
+    → (new : PutEnd Entry) × (slice_get news index ≡ Some new) × IsSentNext b log index (unfed b log index (slice_get b.specs index)) old new
+
+-- so it is of the build that runs
+abbrev pub SendsAll : LiveValue → List (PutEnd Entry) → Type 0
+SendsAll live news = OnBuild live.state.build (λ b. AreSentAll b live.state.heap.log live.sides news)
 
 -- a build goes on, and the rings of its side-files were sent what comes next
 pub record SendsOn (old new : LiveValue) : Type 0 where

@@ -1,23 +1,22 @@
 -- What a switch asks of what stands beside the table, and why it is refused.
 use Rattle.std.specs.Prelude.{◌≡◌, ℕ, ◌<◌, ◌⊎◌, [], length, map, Option, Some, None, IfSome, Bool, true, if◌then◌else◌}
 use Rattle.std.specs.Option.{option_map}
-use Rattle.std.specs.List.{AllZip, slice_get}
+use Rattle.std.specs.List.{AllZip}
 use Rattle.keybytes.specs.Faults.{first_cause}
 use Rattle.keybytes.specs.declared.fault.Fault.{Fault}
 use Rattle.keybytes.specs.declared.fault.Fault.TheVariants.{NoBuild, NotLoaded, NotScanned, NotSealed}
-use Rattle.side_file.specs.Ends.{PutEnd}
 use Rattle.side_file.specs.declared.entry.Entry.{Entry}
 use Rattle.building.specs.TakeEnd.{PutEndLooked, TakeEnd}
 use Rattle.build_events.specs.BuildSteps.{OnBuild, build_cause}
 use Rattle.build_events.specs.CoreState.{BuildState, CoreState}
 use Rattle.build_events.specs.Ranges.{open_range}
 use Rattle.build_events.specs.Steps.{IsRefused}
-use Rattle.build_events.specs.Workers.{fed_to, unloaded_index}
+use Rattle.build_events.specs.Workers.{unloaded_index}
 use Rattle.build_events.specs.declared.event.Event.TheVariants.{Switch}
-use Rattle.build_scan.specs.SideFiles.{IsFed}
-use Rattle.build_work.specs.BuildingValue.{BuildingValue, IndexValue, WorkValue}
+use Rattle.build_work.specs.BuildingValue.{BuildingValue, WorkValue}
 use Rattle.build_work.specs.Rings.{all_sent, AreLooked, AreSealed, FirstAreSealed, IsUnsealed}
-use Rattle.build_work.specs.WorkOn.{AreFed}
+use Rattle.build_work.specs.WorkOn.{AreFed, IsIndexFed}
+use Rattle.build_work.specs.Working.{HasHandedOver}
 use Rattle.build_halves.specs.Builds.{LiveValue, WorksOn, core_state}
 
 -- what stands beside the table is of the build that runs: it has its number and its indexes, work on each of these, and as many workers
@@ -38,10 +37,7 @@ pub record IsPartOf (live : LiveValue) (building : BuildingValue) : Type 0 where
 
 -- so it is of that index of the build
 abbrev pub IsFedAt : ℕ → LiveValue → BuildingValue → Type 0
-IsFedAt k live building =
-    OnBuild live.state.build (λ b. IfSome building.work (λ w.
-    (index : IndexValue) (put : PutEnd Entry) (end : TakeEnd Entry) → slice_get w.indexes k ≡ Some index → slice_get live.sides k ≡ Some put
-    → slice_get building.sides k ≡ Some end → IsFed (fed_to b k) index.applied put end))
+IsFedAt k live building = OnBuild live.state.build (λ b. IfSome building.work (λ w. IsIndexFed b w.indexes live.sides building.sides k))
 
 -- an end that takes entries, but for what it has seen in its ring
 abbrev pub unseen_take : TakeEnd Entry → TakeEnd Entry
@@ -61,6 +57,12 @@ pub record IsOnlyLookedAt (live : LiveValue) (building : BuildingValue) (new_liv
   pub puts : AllZip PutEndLooked live.sides new_live.sides
   pub takes : map unseen_take new_building.sides ≡ map unseen_take building.sides
   pub rest : new_building ≡ record building { workers = new_building.workers; sides = new_building.sides }
+
+-- both ends of all rings were looked at, and then the workers handed their spools over
+pub record HandsOver (live : LiveValue) (building : BuildingValue) (new_live : LiveValue) (new_building : BuildingValue) : Type 0 where
+  pub seen : BuildingValue
+  pub looked : IsOnlyLookedAt live building new_live seen
+  pub handed : HasHandedOver seen new_building
 
 -- all pages of the build are copied
 abbrev pub IsScannedWhole : LiveValue → Type 0

@@ -1,4 +1,4 @@
--- The ring of a side-file: it is looked at, and entries go into it.
+-- The ring of a side-file: what waits in it, and what goes into it.
 use Rattle.std.proofs.Common.{◌≡◌, ℕ, ◌+◌, ◌-◌, ◌<◌, ◌≤◌, ◌==◌, ◌^◌, List, ◌++◌, length, map, set, take, drop, Option, Some, None, refl, inl, inr, ap₂, sym, ap, ◌∙◌}
 use Rattle.std.proofs.Common.{subst, arith, length-append, length-drop, length-take, append_assoc}
 use Rattle.std.specs.List.{All, slice_get}
@@ -20,23 +20,11 @@ use Rattle.side_file.specs.declared.entry.Entry.{Entry}
 use Rattle.building.specs.TakeEnd.{TakeEnd}
 use Rattle.build_scan.specs.TableBuilds.{IsBuildOf}
 use Rattle.build_events.specs.CoreState.{BuildState, scanning_of}
-use Rattle.build_scan.specs.SideFiles.{IsFed, EachEntryOnce, HasEntries, HaveEntries, SidesFollow, AreFedEntries, HasLookedAtSide, SeesSide, own_entries, put_ends}
+use Rattle.build_scan.specs.SideFiles.{IsFed, EachEntryOnce, HasEntries, HaveEntries, SidesFollow, AreFedEntries, SeesSide, own_entries, put_ends}
 use Rattle.build_scan.proofs.OwnEntries.{next_are_own, own_all}
 use Rattle.build_scan.proofs.Places.{at_set, at_map}
 use Rattle.build_events.specs.BuildSteps.{after_feed}
 use Rattle.build_events.specs.Workers.{fed_to, unfed}
-
--- a look at both ends of a ring changes nothing of what waits in it
-pub fed_looked :
-    (fed applied : ℕ) (put new_put : PutEnd Entry) (end new_end : TakeEnd Entry) → HasLookedAtSide put end new_put new_end → IsFed fed applied put end
-    → IsFed fed applied new_put new_end
-fed_looked fed applied put new_put end new_end looked is = record {
-  same_ring = looked.put_end.ring ∙ is.same_ring ∙ sym looked.ring;
-  waiting = rw (looked.received, looked.put_end.sent) is.waiting;
-  counted = is.counted;
-  were_sent = rw looked.put_end.sent is.were_sent;
-  countable = is.countable;
-}
 
 -- what waits is what was fed and not applied
 pub waiting_in_ring :

@@ -60,11 +60,15 @@ IsWorkOf kinds log None (Some work) = ⊥
 IsWorkOf kinds log (Some b) None = ⊥
 IsWorkOf kinds log (Some b) (Some work) = IsWorkOn kinds log b work
 
--- of each index the entries that were fed and not applied wait in the ring between these ends
-abbrev pub AreFed : BuildState → List IndexValue → List (PutEnd Entry) → List (TakeEnd Entry) → Type 0
-AreFed b indexes puts ends =
-    (k : ℕ) (index : IndexValue) (put : PutEnd Entry) (end : TakeEnd Entry) → slice_get indexes k ≡ Some index → slice_get puts k ≡ Some put
+-- of that index the entries that were fed and not applied wait in the ring between these ends
+abbrev pub IsIndexFed : BuildState → List IndexValue → List (PutEnd Entry) → List (TakeEnd Entry) → ℕ → Type 0
+IsIndexFed b indexes puts ends k =
+    (index : IndexValue) (put : PutEnd Entry) (end : TakeEnd Entry) → slice_get indexes k ≡ Some index → slice_get puts k ≡ Some put
     → slice_get ends k ≡ Some end → IsFed (fed_to b k) index.applied put end
+
+-- so it is of each
+abbrev pub AreFed : BuildState → List IndexValue → List (PutEnd Entry) → List (TakeEnd Entry) → Type 0
+AreFed b indexes puts ends = (k : ℕ) → IsIndexFed b indexes puts ends k
 
 -- the entries that were fed and not applied wait in the side-files' rings, the build has the spools, and its workers are at work on what
 -- their rings were sent; of a spoiled build only the first two are known

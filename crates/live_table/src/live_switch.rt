@@ -6,7 +6,7 @@ ghost use Rattle.keybytes.specs.Keys.{are_key_columns};
 ghost use Rattle.heap_table.specs.Pages.{KeepsRows};
 ghost use Rattle.build_halves.specs.Builds.{core_state, cause_of, WorksOn};
 ghost use Rattle.building.specs.TakeEnd.{PutEndLooked};
-ghost use Rattle.build_halves.specs.Putting.{SendsNext, SendsOn};
+ghost use Rattle.build_halves.specs.Putting.{SendsAll, SendsNext, SendsOn};
 ghost use Rattle.build_halves.specs.Switching.{HaveAll, IsPartOf, RefusesSwitch};
 ghost use Rattle.build_halves.specs.CatchingUp.{MayCatchUp, IndexIsFurther, IsDoneIndex, left_at, ready_of};
 ghost use Rattle.build_work.specs.Verdicts.{its_verdict};
@@ -115,6 +115,7 @@ impl<T: Table> Live<T> {
             (λ b. all_unapplied b self.new.state.heap.log b.specs (core_state self.new building.new).work.indexes ≡ 0)) }
         ensures works { WorksOn self.new building.new }
         ensures sends { SendsOn self.old self.new }
+        ensures fed { OnOk result (SendsAll self.old self.new.sides) }
         ensures pages { self.new.pages ≡ self.old.pages }
         ensures memory { IfErr result (λ fault. fault ≡ Fault.Memory) }
     {
@@ -174,6 +175,7 @@ impl<T: Table> Live<T> {
         ensures kept { WorksOn self.old building.old → WorksOn self.new building.new }
         ensures pages { AllZip PutEndLooked self.old.pages self.new.pages }
         ensures sides { SendsNext self.old self.new.sides }
+        ensures fed { OnOk result (SendsAll self.old self.new.sides) }
     {
         // What both keep is known once it is told.
         building.laws();
@@ -194,6 +196,7 @@ impl<T: Table> Live<T> {
         ensures works { WorksOn self.new building.new }
         ensures pages { self.new.pages ≡ self.old.pages }
         ensures sides { SendsNext self.old self.new.sides }
+        ensures fed { OnOk result (SendsAll self.old self.new.sides) }
     {
         self.check_switch(building)?;
         self.catch_up(building)?;

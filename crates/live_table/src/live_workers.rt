@@ -1,11 +1,12 @@
 //! The steps of a build in which its workers have a part, with both ends of their rings at hand.
-ghost use Rattle.std.specs.Prelude.{ℕ, ◌≡◌, ◌++◌, ◌<◌, ◌≤◌, ◌+◌, All, length, slice_get, false, Some, None, IsSome, IfSome, IfOk, IfErr, OnOk, OnErr, MatchOption, MatchResult};
+ghost use Rattle.std.specs.Prelude.{ℕ, ◌≡◌, ◌++◌, ◌<◌, ◌≤◌, ◌+◌, All, length, slice_get, true, false, Some, None, IsSome, IfSome, IfOk, IfErr, OnOk, OnErr, MatchOption, MatchResult};
 ghost use Rattle.side_file.specs.Ends.{PutEnd};
 ghost use Rattle.build_work.specs.Keeping.{KeepsLaws};
 ghost use Rattle.building.specs.declared.copied.Copied.{Copied};
 ghost use Rattle.build_halves.specs.Builds.{core_state, cause_of, put_refusal, HasLooked, SeesRing, IsLoading, MayWork, MayLoad, WorksOn};
-ghost use Rattle.build_halves.specs.Switching.{early_cause, HaveAll, IsKeptOut, IsLowestUnsealed, IsPartOf};
-ghost use Rattle.build_work.specs.Working.{CanLoad};
+ghost use Rattle.build_halves.specs.Switching.{early_cause, HandsOver, HaveAll, IsKeptOut, IsLowestUnsealed, IsOnlyLookedAt, IsPartOf};
+ghost use Rattle.build_halves.specs.Putting.{PagesAreLooked};
+ghost use Rattle.build_work.specs.Working.{CanLoad, HasHandedOver};
 ghost use Rattle.build_halves.specs.Turns.{HasTurn, IsTurnRefused};
 ghost use Rattle.build_work.specs.Rings.{all_sent, AreSealed, FirstAreSealed, IsUnsealed};
 ghost use Rattle.build_halves.specs.Rings.{PagesFollow};
@@ -55,6 +56,7 @@ impl<T: Table> Live<T> {
         ensures refused { IfErr result (λ fault. cause_of self.old building.old (Event.Scan range worker) ≡ Some fault) }
         ensures state { core_state self.new building.new ≡ core_state self.old building.old }
         ensures works { WorksOn self.new building.new }
+        ensures looked { HasLooked self.old building.old self.new building.new }
         ensures room { OnOk result (put_refusal self.new range worker ≡ None) }
     {
         let (Some(build), Some(work)) = (self.build(), building.work()) else {
@@ -110,6 +112,7 @@ impl<T: Table> Live<T> {
         ensures refused { IfErr result (λ fault.
             IsTurnRefused S.is_full S.runs S.open_run S.stake Turn.Digest worker (core_state self.old building.old) fault (core_state self.new building.new)) }
         ensures works { WorksOn self.new building.new }
+        ensures ends { PagesAreLooked self.old self.new }
     {
         self.take(worker, Turn::Digest, building)
     }
@@ -127,6 +130,7 @@ impl<T: Table> Live<T> {
         ensures refused { IfErr result (λ fault.
             IsTurnRefused S.is_full S.runs S.open_run S.stake Turn.Seal worker (core_state self.old building.old) fault (core_state self.new building.new)) }
         ensures works { WorksOn self.new building.new }
+        ensures ends { PagesAreLooked self.old self.new }
     {
         self.take(worker, Turn::Seal, building)
     }
@@ -144,6 +148,7 @@ impl<T: Table> Live<T> {
         ensures refused { IfErr result (λ fault.
             IsTurnRefused S.is_full S.runs S.open_run S.stake turn worker (core_state self.old building.old) fault (core_state self.new building.new)) }
         ensures works { WorksOn self.new building.new }
+        ensures ends { PagesAreLooked self.old self.new }
     {
         self.look(worker, building);
         building.take(worker, turn)
@@ -160,6 +165,7 @@ impl<T: Table> Live<T> {
         ensures refused { IfErr result (λ fault. cause_of self.old building.old (Event.Load index) ≡ Some fault) }
         ensures state { core_state self.new building.new ≡ core_state self.old building.old }
         ensures works { WorksOn self.new building.new }
+        ensures looked { HasLooked self.old building.old self.new building.new }
         ensures runs { OnOk result (MayLoad self.new building.new index) }
     {
         let (Some(build), Some(work)) = (self.build(), building.work()) else {
@@ -180,11 +186,15 @@ impl<T: Table> Live<T> {
 
     /// Ends the scans of a build, in one look at what stands beside the table, from which it may have been kept apart: once all pages were
     /// copied, and the workers took all and closed their runs, they hand their spools over, and each index can be loaded without the table.
+    /// After such loads another call tells that what stands beside the table goes with its build again, as `feed_beside`, `check_apply` and
+    /// `apply` want it; that call only looks at the rings.
     /// [`Fault::NoBuild`], also where what stands beside the table is another build's; the fault of a spoiled
     /// build, [`Fault::NotScanned`], [`Fault::NotSealed`]. Takes no memory.
     pub fn end_scan<S: Spool>(&mut self, building: &mut Building<S, T>) -> Result<(), Fault>
         ensures loads { OnOk result ((index : ℕ) → IfSome building.new.work (λ w. index < length w.specs) → CanLoad index building.new) }
         ensures works { OnOk result (WorksOn self.new building.new) }
+        ensures hands_over { OnOk result (IfSome building.old.work (λ w. w.loading ≡ false → HandsOver self.old building.old self.new building.new)) }
+        ensures again { OnOk result (IfSome building.old.work (λ w. w.loading ≡ true → IsOnlyLookedAt self.old building.old self.new building.new)) }
         ensures all { OnOk result (IsPartOf self.old building.old × HaveAll self.old building.old) }
         ensures first { OnOk result (early_cause false (core_state self.old building.old) ≡ None) }
         ensures out { IfErr result (λ fault. IsKeptOut false self.old building.old fault self.new building.new) }
@@ -223,6 +233,8 @@ impl<T: Table> Live<T> {
         requires { MayLoad self.now building.old index }
         ensures state { core_state self.now building.new ≡ core_state self.now building.old }
         ensures loads { IsLoading self.now building.new index }
+        ensures first { IfSome building.old.work (λ w. w.loading ≡ false → HasHandedOver building.old building.new) }
+        ensures again { IfSome building.old.work (λ w. w.loading ≡ true → building.new ≡ building.old) }
     {
         // That there are sixteen rings is known once their fields are reached.
         let _pages = &self.pages;

@@ -1,12 +1,11 @@
-use Rattle.std.proofs.Common.{◌≡◌, ◌<◌, ◌∙◌, length, refl, sym, subst, arith, inl, inr}
+use Rattle.std.proofs.Common.{◌≡◌, ◌<◌, ◌≤◌, ◌∙◌, length, refl, sym, subst, arith, inl, inr}
 use Rattle.std.proofs.lemmas.Bool.{cases_lt}
-use Rattle.std.proofs.lemmas.Option.{same_Some}
 use Rattle.build_halves.specs.Builds.{core_state}
 use Rattle.build_scan.specs.TableBuilds.{BuildFollows}
 use Rattle.build_halves.specs.CatchingUp.{left_at}
-use Rattle.build_events.specs.CoreState.{BuildState}
+use Rattle.build_halves.proofs.SentAll.{sends_all}
 use Rattle.build_halves.proofs.SentNext.{sends_nothing, sends_twice}
-use Rattle.build_halves.proofs.CatchingUp.{begins, catches_up, all_further, others_left, may_apply_at, none_left}
+use Rattle.build_halves.proofs.CatchingUp.{begins, catches_up, all_further, others_left, may_apply_at, none_left, none_of_each}
 use Rattle.live_table.proofs.live.Live.catch_up.Goals as goal
 
 pub loop-index-init : goal.loop-index-init
@@ -71,11 +70,17 @@ pub returns-clause-all : goal.returns-clause-all
 returns-clause-all g c =
     let start = core_state c.args.self.now c.args.building.now in
     let now = core_state c.loop-index.self c.loop-index.building in
-    let all = c.loop-index.invariant.further in
-    let same : all.build ≡ c.in-Some.build.now = same_Some all.build c.in-Some.build.now (sym all.runs ∙ c.in-Some.ensures.build) in
-    none_left start now all (λ k less.
-    c.loop-index.invariant.none k (let there : k < length c.in-Some.build.now.specs = subst (λ (b : BuildState). k < length b.specs) same less in
-    omega (arith, there, c.indexes-index-end.ensures, c.loop-index-test.false)))
+    let end : length c.in-Some.build.now.specs ≤ c.loop-index.index = omega (arith, c.indexes-index-end.ensures, c.loop-index-test.false) in
+    none_left start now c.loop-index.invariant.further
+    (none_of_each start now c.loop-index.invariant.further c.in-Some.build.now c.in-Some.ensures.build c.loop-index.index end c.loop-index.invariant.none)
+
+pub returns-clause-fed : goal.returns-clause-fed
+returns-clause-fed g c =
+    let start = core_state c.args.self.now c.args.building.now in
+    let now = core_state c.loop-index.self c.loop-index.building in
+    let end : length c.in-Some.build.now.specs ≤ c.loop-index.index = omega (arith, c.indexes-index-end.ensures, c.loop-index-test.false) in
+    sends_all c.args.self.now c.loop-index.self c.args.building.now c.loop-index.building c.loop-index.invariant.sends c.loop-index.invariant.further
+    (none_of_each start now c.loop-index.invariant.further c.in-Some.build.now c.in-Some.ensures.build c.loop-index.index end c.loop-index.invariant.none)
 
 pub returns-clause-works : goal.returns-clause-works
 returns-clause-works g c = c.loop-index.invariant.works

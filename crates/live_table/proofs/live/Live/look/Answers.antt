@@ -5,7 +5,7 @@ use Rattle.building.specs.WorkerValue.{WorkerValue}
 use Rattle.building.specs.declared.copied.Copied.{Copied}
 use Rattle.build_work.specs.Rings.{unseen}
 use Rattle.build_work.proofs.Looks.{same_rings}
-use Rattle.build_halves.proofs.Looked.{pages_looked}
+use Rattle.build_halves.proofs.Looked.{follow_looked, of_builds_looked, put_ends_looked}
 use Rattle.build_scan.proofs.Places.{as_long, there_is}
 use Rattle.live_table.proofs.live.Live.look.Goals as goal
 
@@ -35,15 +35,18 @@ returns-clause-sees g c =
 pub invariant_of-self : goal.invariant_of-self
 invariant_of-self g c =
     let before = c.self.invariant in
-    let after = pages_looked _ _ _ _ _ _ c.self.inside.pages.items c.waiting.new.pages.items _ c.waiting.ensures.looked.puts before.3 before.4 before.5 in
-    (before.0, before.1, before.2, after.0, after.1, after.2, before.6)
+    let looked = c.waiting.ensures.looked.puts in (
+      before.0,
+      before.1,
+      before.2,
+      follow_looked _ _ looked _ _ _ _ before.3,
+      of_builds_looked _ _ looked _ before.4,
+      put_ends_looked _ _ looked _ _ _ before.5,
+      before.6,
+    )
 
 pub returns-clause-pages : goal.returns-clause-pages
-returns-clause-pages g c =
-    let before = c.self.invariant in
-    (pages_looked _ _ _ _ _ _ c.self.inside.pages.items c.waiting.new.pages.items _ c.waiting.ensures.looked.puts before.3 before.4 before.5).2.sixteen
+returns-clause-pages g c = (put_ends_looked _ _ c.waiting.ensures.looked.puts _ _ _ c.self.invariant.5).sixteen
 
 pub returns-clause-put : goal.returns-clause-put
-returns-clause-put g c =
-    let before = c.self.invariant in
-    (pages_looked _ _ _ _ _ _ c.self.inside.pages.items c.waiting.new.pages.items _ c.waiting.ensures.looked.puts before.3 before.4 before.5).0
+returns-clause-put g c = follow_looked _ _ c.waiting.ensures.looked.puts _ _ _ _ c.self.invariant.3

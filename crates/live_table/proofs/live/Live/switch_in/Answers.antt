@@ -1,8 +1,9 @@
 use Rattle.std.proofs.Common.{◌≡◌, ◌∙◌, length, ap, sym, subst, inl}
-use Rattle.std.proofs.lemmas.Result.{err_from_is_err_and}
+use Rattle.std.proofs.lemmas.Result.{err_from_is_err_and, on_ok_weaker}
 use Rattle.build_scan.specs.TableBuilds.{BuildFollows}
 use Rattle.build_halves.specs.Builds.{LiveValue}
 use Rattle.build_halves.proofs.OwnSwitch.{own_refused, refused_after}
+use Rattle.build_halves.proofs.SentAll.{all_after_look}
 use Rattle.build_halves.proofs.SentNext.{looked_next, next_after_look}
 use Rattle.live_table.proofs.live.Live.switch_in.Goals as goal
 
@@ -30,3 +31,9 @@ returns-clause-refused g c =
 pub returns-clause-sides : goal.returns-clause-sides
 returns-clause-sides g c =
     next_after_look c.args.self.now c.take_in.new.self c.switch_own.new.self.sides c.take_in.ensures.looked.state c.take_in.ensures.looked.puts c.switch_own.ensures.sides
+
+pub returns-clause-fed : goal.returns-clause-fed
+returns-clause-fed g c =
+    on_ok_weaker c.switch_own.result
+    (all_after_look c.args.self.now c.take_in.new.self c.switch_own.new.self.sides c.take_in.ensures.looked.state c.take_in.ensures.looked.puts)
+    c.switch_own.ensures.fed

@@ -4,7 +4,7 @@ use Rattle.build_events.specs.CoreState.{CoreState}
 use Rattle.build_halves.specs.Builds.{LiveValue, core_state}
 use Rattle.build_halves.specs.Turns.{HasTurn, IsTurnRefused}
 use Rattle.build_work.specs.BuildingValue.{BuildingValue}
-use Rattle.build_halves.proofs.Looked.{state_looked, runs_looked}
+use Rattle.build_halves.proofs.Looked.{ends_looked, state_looked, runs_looked}
 use Rattle.build_halves.proofs.Takes.{put_of}
 use Rattle.build_halves.proofs.Turns.{refused_after, turn_after, works_after_turn}
 use Rattle.build_scan.proofs.Places.{below}
@@ -48,3 +48,6 @@ returns-clause-works g c =
     let run = runs_looked c.args.self.now live c.args.building.now building may.build may.work c.look.ensures.looked may.runs in
     works_after_turn live building c.take.new.self may.build may.work run may.fine (put_of live may.build run.build_is c.look.ensures.put) c.args.worker c.look.result
     c.look.ensures.sees c.args.turn spool.is_full spool.runs spool.open_run spool.stake c.look.ensures.pages c.take.result c.take.ensures.did c.take.ensures.stopped
+
+pub returns-clause-ends : goal.returns-clause-ends
+returns-clause-ends g c = ends_looked _ _ _ _ c.look.ensures.looked

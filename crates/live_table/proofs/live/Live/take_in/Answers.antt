@@ -1,11 +1,5 @@
-use Rattle.std.proofs.Common.{◌≡◌, None, Option, sym, subst}
-use Rattle.std.specs.Prelude.{IfSome}
-use Rattle.build_events.specs.BuildSteps.{OnBuild}
-use Rattle.build_events.specs.CoreState.{LiveState}
-use Rattle.build_events.specs.Ranges.{open_range}
-use Rattle.build_work.specs.BuildingValue.{WorkValue}
 use Rattle.std.proofs.lemmas.Result.{err_from_is_err_and}
-use Rattle.build_halves.proofs.TakenIn.{all_only, first_none, kept_early, kept_foreign, kept_left, part_rings_looked, same_state, sides_only, state_taken, was_taken, works_same, works_taken}
+use Rattle.build_halves.proofs.TakenIn.{all_only, first_none, kept_early, kept_foreign, kept_left, now_taken, same_state, sides_only, state_taken, was_taken, works_same, works_taken}
 use Rattle.live_table.proofs.live.Live.take_in.Goals as goal
 
 pub returns-then-not-is_part-clause-state : goal.returns-then-not-is_part-clause-state
@@ -51,23 +45,13 @@ returns-in-Some-clause-looked g c = all_only c.args.in_order _ _ _ _ c.is_part.e
 
 pub reunite-requires : goal.reunite-requires
 reunite-requires g c =
-    let looked = c.unsealed.ensures.looked in
-    record {
-      part = part_rings_looked _ _ _ _ looked (c.is_part.ensures.part c.if-not-is_part.false);
-      fine = subst (λ (o : Option WorkValue). IfSome o (λ w. w.spoiled ≡ None)) (sym looked.work) c.in_ok-check_early.ensures.fine;
-      scanned = subst (λ (s : LiveState). OnBuild s.build (λ b. open_range b ≡ None)) (sym looked.state) c.in_ok-check_early.ensures.scanned;
-      all = c.in_default.ensures.unsealed;
-    }
+    now_taken _ _ _ _ c.unsealed.ensures.looked (c.is_part.ensures.part c.if-not-is_part.false) c.in_ok-check_early.ensures.fine c.in_ok-check_early.ensures.scanned
+    c.in_default.ensures.unsealed
 
 pub returns-clause-taken : goal.returns-clause-taken
 returns-clause-taken g c =
-    let looked = c.unsealed.ensures.looked in
-    record {
-      part = part_rings_looked _ _ _ _ looked (c.is_part.ensures.part c.if-not-is_part.false);
-      fine = subst (λ (o : Option WorkValue). IfSome o (λ w. w.spoiled ≡ None)) (sym looked.work) c.in_ok-check_early.ensures.fine;
-      scanned = subst (λ (s : LiveState). OnBuild s.build (λ b. open_range b ≡ None)) (sym looked.state) c.in_ok-check_early.ensures.scanned;
-      all = c.in_default.ensures.unsealed;
-    }
+    now_taken _ _ _ _ c.unsealed.ensures.looked (c.is_part.ensures.part c.if-not-is_part.false) c.in_ok-check_early.ensures.fine c.in_ok-check_early.ensures.scanned
+    c.in_default.ensures.unsealed
 
 pub returns-clause-all : goal.returns-clause-all
 returns-clause-all g c =

@@ -1,4 +1,4 @@
-use Rattle.build_halves.proofs.Looked.{pages_looked}
+use Rattle.build_halves.proofs.Looked.{follow_looked, of_builds_looked, put_ends_looked}
 use Rattle.build_halves.proofs.LowestUnsealed.{lowest_told}
 use Rattle.live_table.proofs.live.Live.unsealed.Goals as goal
 
@@ -11,15 +11,18 @@ returns-clause-unsealed g c = lowest_told _ _ c.first_unsealed.result c.first_un
 pub invariant_of-self : goal.invariant_of-self
 invariant_of-self g c =
     let before = c.self.invariant in
-    let after = pages_looked _ _ _ _ _ _ c.self.inside.pages.items c.first_unsealed.new.pages.items _ c.first_unsealed.ensures.looked.puts before.3 before.4 before.5 in
-    (before.0, before.1, before.2, after.0, after.1, after.2, before.6)
+    let looked = c.first_unsealed.ensures.looked.puts in (
+      before.0,
+      before.1,
+      before.2,
+      follow_looked _ _ looked _ _ _ _ before.3,
+      of_builds_looked _ _ looked _ before.4,
+      put_ends_looked _ _ looked _ _ _ before.5,
+      before.6,
+    )
 
 pub returns-clause-pages : goal.returns-clause-pages
-returns-clause-pages g c =
-    let before = c.self.invariant in
-    (pages_looked _ _ _ _ _ _ c.self.inside.pages.items c.first_unsealed.new.pages.items _ c.first_unsealed.ensures.looked.puts before.3 before.4 before.5).2.sixteen
+returns-clause-pages g c = (put_ends_looked _ _ c.first_unsealed.ensures.looked.puts _ _ _ c.self.invariant.5).sixteen
 
 pub returns-clause-put : goal.returns-clause-put
-returns-clause-put g c =
-    let before = c.self.invariant in
-    (pages_looked _ _ _ _ _ _ c.self.inside.pages.items c.first_unsealed.new.pages.items _ c.first_unsealed.ensures.looked.puts before.3 before.4 before.5).0
+returns-clause-put g c = follow_looked _ _ c.first_unsealed.ensures.looked.puts _ _ _ _ c.self.invariant.3
