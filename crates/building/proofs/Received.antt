@@ -1,5 +1,5 @@
 -- What a worker holds with the copies that it takes is the pairs of the images that it received.
-use Rattle.std.proofs.Common.{◌≡◌, ℕ, ◌+◌, ◌<◌, List, [], ◌∷◌, ◌++◌, All, append_assoc, append-nil, length, take, refl, sym, ap₂, ◌∙◌, subst}
+use Rattle.std.proofs.Common.{◌≡◌, ℕ, ◌+◌, ◌<◌, List, [], ◌∷◌, ◌++◌, All, append_assoc, append-nil, get_or, length, take, refl, sym, ap₂, ◌∙◌, subst}
 use Rattle.std.specs.Prelude.{IsPermutation}
 use Rattle.std.proofs.lemmas.List.Sorted.{IsPermutation-append_left, IsPermutation-sym}
 use Rattle.keybytes.specs.Keys.{KeySpecValue}
@@ -7,6 +7,7 @@ use Rattle.keybytes.specs.declared.kind.Kind.{Kind}
 use Rattle.keybytes.specs.declared.pair.Pair.{Pair}
 use Rattle.heap_table.specs.Images.{ImageValue, IsReadable}
 use Rattle.run_maker.specs.FullSpools.{AreSomeOf}
+use Rattle.run_maker.specs.Spooling.{HasFullRunsMore}
 use Rattle.run_maker.specs.Making.{AreHeldWithCopy, Holdings, MakerValue, held_at, spec_at}
 use Rattle.run_maker.proofs.FullSpools.{all_of}
 use Rattle.building.specs.declared.copied.Copied.{Copied}
@@ -60,6 +61,15 @@ with_more n m specs kinds worker middle start held columns readable takes build 
       (made, have, refl),
       subst (λ (ps : List Pair). AreSomeOf ps (held_at i start ++ made)) (sym are.2) (all_of (held_at i held ++ are.0) (held_at i start ++ made) same),
     )
+
+-- each closed full runs alone
+pub full_till :
+    (n : ℕ) (specs : List KeySpecValue) (kinds : List Kind) (worker : IntakeValue) (start held : Holdings) → All (λ spec. spec.kinds ≡ kinds) specs
+    → All IsReadable (next_images n kinds worker) → TakesAll specs (next_images n kinds worker) start held → (i : ℕ) → i < length specs
+    → HasFullRunsMore (get_or start.runs i []) (get_or held.runs i [])
+full_till n specs kinds worker start held columns readable takes i lt =
+    let first = have_next n worker kinds specs columns readable i lt in
+    (takes i lt first.0 first.1).full_runs
 
 -- what a worker held, with the images that it took since, is the pairs of all images that it received
 pub with_received :

@@ -1,5 +1,5 @@
 -- Spools of any kind as callers of a build see them, and what a worker's maker and these hold.
-use Rattle.std.proofs.Common.{◌≡◌, ℕ, ◌<◌, Bool, List, [], ◌++◌, All, length, map, take, drop, Option, refl, sym, ap, ◌∙◌, subst, arith}
+use Rattle.std.proofs.Common.{◌≡◌, ℕ, ◌<◌, Bool, get_or, List, [], ◌++◌, All, length, map, take, drop, Option, refl, sym, ap, ◌∙◌, subst, arith}
 use Rattle.std.specs.Option.{option_map}
 use Rattle.std.proofs.lemmas.List.{length-map, take_at}
 use Rattle.std.proofs.lemmas.List.Elements.{All-map}
@@ -12,6 +12,7 @@ use Rattle.heap_table.specs.Images.{IsReadable}
 use Rattle.run_spool.specs.Spools.{AreSorted}
 use Rattle.run_maker.specs.FullSpools.{HasFullOf}
 use Rattle.run_maker.proofs.FullSpools.{full_given}
+use Rattle.run_maker.proofs.Spoolings.{no_runs}
 use Rattle.run_maker.specs.Making.{AreReady, Holdings, MakerValue, spec_at}
 use Rattle.building.specs.Holding.{TakesAll, HoldsMore}
 use Rattle.building.specs.ImagePairs.{HavePairs}
@@ -108,30 +109,34 @@ module _ {S : Type 0} (runs : S → List (List Pair)) (open_run : S → List Pai
 
   -- a full one is seen
   values_full :
-      (is_full : S → Pair → Type 0) (given : ℕ → List Pair → Type 0) (spools : List S) → HasFullOf is_full runs open_run given spools
-      → HaveFullOf is_full runs open_run stake given (values spools)
-  values_full is_full given spools has = record {
+      (is_full : S → Pair → Type 0) (least : ℕ) (old : List (List (List Pair))) (given : ℕ → List Pair → Type 0) (spools : List S)
+      → HasFullOf is_full runs open_run least old given spools → HaveFullOf is_full runs open_run stake least old given (values spools)
+  values_full is_full least old given spools has = record {
     index = has.index;
     spool = has.spool;
     there = slice_get-map (spool_value runs open_run stake) spools has.index ∙ ap (λ (found : Option S). option_map (spool_value runs open_run stake) found) has.there;
     pairs = has.pairs;
     given = has.given;
     full = has.full;
+    wants = has.wants;
   }
 
   -- one that was full when a worker took some of its copies is full of the pairs of all that it received
   pub received_full :
-      (is_full : S → Pair → Type 0) (intake after : IntakeValue) (maker new : MakerValue) (spools lent new_spools : List S)
+      (is_full : S → Pair → Type 0) (least : ℕ) (intake after : IntakeValue) (maker new : MakerValue) (spools lent new_spools : List S)
       → IsHolding intake maker (values spools) → lent ≡ spools → new.specs ≡ maker.specs → new.schema ≡ maker.schema → after.build ≡ intake.build
       → length new_spools ≡ length spools
-      → HasFullOf is_full runs open_run (AreHeldWithTaken maker.specs maker.schema intake after (record { runs = map runs lent; begun = maker.begun })) new_spools
-      → HaveFullOf is_full runs open_run stake (λ i pairs. HavePairs (spec_at new.specs i) (received_images new.schema after) pairs) (values new_spools)
-  received_full is_full intake after maker new spools lent new_spools holds same specs schema build many has =
+      → HasFullOf is_full runs open_run least (map runs lent) (AreHeldWithTaken maker.specs maker.schema intake after (record { runs = map runs lent; begun = maker.begun }))
+      new_spools
+      → HaveFullOf is_full runs open_run stake least (runs_of (values spools)) (λ i pairs. HavePairs (spec_at new.specs i) (received_images new.schema after) pairs) (values new_spools)
+  received_full is_full least intake after maker new spools lent new_spools holds same specs schema build many has =
       let Given : List (List (List Pair)) → ℕ → List Pair → Type 0 = λ rs. AreHeldWithTaken maker.specs maker.schema intake after (record { runs = rs; begun = maker.begun }) in
       let seen : map runs lent ≡ runs_of (values spools) = ap (map runs) same ∙ sym (value_runs spools) in
       let long : length spools ≡ length maker.specs = sym (length-map spools (spool_value runs open_run stake)) ∙ holds.many in
-      values_full is_full (λ i pairs. HavePairs (spec_at new.specs i) (received_images new.schema after) pairs) new_spools
-      (full_given is_full runs open_run new_spools (Given (map runs lent)) (λ i pairs. HavePairs (spec_at new.specs i) (received_images new.schema after) pairs)
+      values_full is_full least (runs_of (values spools)) (λ i pairs. HavePairs (spec_at new.specs i) (received_images new.schema after) pairs) new_spools
+      (full_given is_full runs open_run least least (runs_of (values spools)) (map runs lent) new_spools (Given (map runs lent))
+      (λ i pairs. HavePairs (spec_at new.specs i) (received_images new.schema after) pairs) (omega arith)
+      (λ i less. no_runs (get_or (runs_of (values spools)) i []) (get_or (map runs lent) i []) (ap (λ (rs : List (List (List Pair))). get_or rs i []) seen))
       (λ i pairs less are. with_received intake after maker new (values spools) holds specs schema build i (omega (arith, less, many, long)) pairs
       (subst (λ (rs : List (List (List Pair))). Given rs i pairs) seen are)) has)
 

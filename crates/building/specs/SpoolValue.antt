@@ -1,10 +1,10 @@
 -- Spools of any kind, as callers of a build see them.
-use Rattle.std.specs.Prelude.{◌≡◌, ℕ, List, [], map, Option, Some}
+use Rattle.std.specs.Prelude.{◌≡◌, ℕ, List, [], get_or, map, Option, Some}
 use Rattle.std.specs.List.{slice_get}
 use Rattle.keybytes.specs.declared.pair.Pair.{Pair}
 use Rattle.spool_ledger.specs.Accounts.{Stake}
 use Rattle.run_spool.specs.Spools.{all_pairs}
-use Rattle.run_maker.specs.FullSpools.{IsFullOf}
+use Rattle.run_maker.specs.FullSpools.{IsFullOf, WantsRun}
 use Rattle.run_merge.specs.Merging.{all_runs}
 
 -- a spool: its closed runs, its open run, and pool and quota of the account behind it, if there is one
@@ -38,11 +38,12 @@ stakes_of spools = map (λ spool. spool.stake) spools
 
 module _
     {S : Type 0} (is_full : S → Pair → Type 0) (runs : S → List (List Pair)) (open_run : S → List Pair) (stake : S → Option Stake) where
-  -- one of them is full of the pairs that are given for its index
-  pub record HaveFullOf (AreGiven : ℕ → List Pair → Type 0) (spools : List SpoolValue) : Type 0 where
+  -- one of them, which had the old runs, is full of the pairs that are given for its index, and another run of so many was to be closed
+  pub record HaveFullOf (least : ℕ) (old : List (List (List Pair))) (AreGiven : ℕ → List Pair → Type 0) (spools : List SpoolValue) : Type 0 where
     pub index : ℕ
     pub spool : S
     pub there : slice_get spools index ≡ Some (spool_value runs open_run stake spool)
     pub pairs : List Pair
     pub given : AreGiven index pairs
     pub full : IsFullOf is_full runs open_run pairs spool
+    pub wants : WantsRun least (get_or old index []) pairs (runs spool)

@@ -38,6 +38,11 @@ marked Seal worker = after_seal worker
 abbrev pub after_turn : Turn → List Kind → IntakeValue → IntakeValue
 after_turn turn kinds worker = marked turn (after_digest (turn_copies turn worker) kinds worker)
 
+-- how many pairs a run has at least that it closes; a digest closes full ones alone
+abbrev pub least_pairs : Turn → ℕ
+least_pairs Digest = 4096
+least_pairs Seal = 1
+
 -- each index is held with the pairs of these images more; a digest closes a run as soon as 4,096 are in none
 abbrev pub TurnHolds : Turn → List KeySpecValue → List ImageValue → Holdings → Holdings → Type 0
 TurnHolds Digest specs images old new = TakesAll specs images old new
@@ -82,7 +87,7 @@ module _
     pub again : (first : Fault) → old.fault ≡ Some first → (fault ≡ first) × (new ≡ old)
     pub has_spools : old.fault ≡ None → old.handed ≡ false
     pub took : old.fault ≡ None → StopsIn turn old.maker.schema old.intake new.intake fault
-    pub full : old.fault ≡ None → NoPageOnlyIf (HaveFullOf is_full runs open_run stake (HasReceived new) new.spools) fault
+    pub full : old.fault ≡ None → NoPageOnlyIf (HaveFullOf is_full runs open_run stake (least_pairs turn) (runs_of old.spools) (HasReceived new) new.spools) fault
     pub want : old.fault ≡ None → MemoryOnlyIf (AreReady (runs_of new.spools) (open_runs_of new.spools)) fault
     -- for want of memory no pair is lost, and no run is closed with fewer than 4,096
     pub part : old.fault ≡ None → MemoryOnlyIf

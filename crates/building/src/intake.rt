@@ -8,7 +8,7 @@ ghost use Rattle.run_maker.specs.Making.{AreReady};
 ghost use Rattle.run_maker.specs.Spooling.{MemoryOnlyIf};
 ghost use Rattle.building.specs.Holding.{AreHeldWith, TakesAll, TakesUpTo, HoldsMore};
 ghost use Rattle.building.specs.TakeEnd.{take_end, PutEndLooked};
-ghost use Rattle.building.specs.Turns.{AreHeldWithTaken, HoldsPart, StopsIn, TurnHolds, after_turn, marked, turn_images};
+ghost use Rattle.building.specs.Turns.{AreHeldWithTaken, HoldsPart, StopsIn, TurnHolds, least_pairs, after_turn, marked, turn_images};
 ghost use Rattle.building.specs.Work.{at_start, IsIntake, StopsAt, knowing, next_images, after_digest, after_seal};
 ghost use Rattle.building.specs.WorkerValue.{IsShortage};
 
@@ -142,7 +142,7 @@ impl Intake {
         ensures failed { OnErr result (StopsAt 0 maker.old.schema self.old self.new) }
         ensures fault { IfErr result (λ fault. (fault ≡ Fault.NoPage) ⊎ (fault ≡ Fault.Memory)) }
         ensures full { IfErr result (NoPageOnlyIf
-            (HasFullOf S.is_full S.runs S.open_run
+            (HasFullOf S.is_full S.runs S.open_run 4096 (map S.runs spools.old)
             (AreHeldWith maker.old.specs (next_images 1 maker.old.schema self.old)
             (record { runs = map S.runs spools.old; begun = maker.old.begun })) spools.new)) }
         ensures want { IfErr result (MemoryOnlyIf (AreReady (map S.runs spools.new) (map S.open_run spools.new))) }
@@ -187,7 +187,7 @@ impl Intake {
         ensures failed { IfErr result (StopsIn Turn.Seal maker.old.schema self.old self.new) }
         ensures fault { IfErr result (λ fault. (fault ≡ Fault.NoPage) ⊎ (fault ≡ Fault.Memory)) }
         ensures full { IfErr result (NoPageOnlyIf
-            (HasFullOf S.is_full S.runs S.open_run
+            (HasFullOf S.is_full S.runs S.open_run 1 (map S.runs spools.old)
             (AreHeldWithTaken maker.old.specs maker.old.schema self.old self.new
             (record { runs = map S.runs spools.old; begun = maker.old.begun })) spools.new)) }
         ensures want { IfErr result (MemoryOnlyIf (AreReady (map S.runs spools.new) (map S.open_run spools.new))) }
@@ -230,7 +230,7 @@ impl Intake {
         ensures took { IfErr result (StopsIn turn maker.old.schema self.old self.new) }
         ensures fault { IfErr result IsShortage }
         ensures full { IfErr result (NoPageOnlyIf
-            (HasFullOf S.is_full S.runs S.open_run
+            (HasFullOf S.is_full S.runs S.open_run (least_pairs turn) (map S.runs spools.old)
             (AreHeldWithTaken maker.old.specs maker.old.schema self.old self.new
             (record { runs = map S.runs spools.old; begun = maker.old.begun })) spools.new)) }
         ensures want { IfErr result (MemoryOnlyIf (AreReady (map S.runs spools.new) (map S.open_run spools.new))) }

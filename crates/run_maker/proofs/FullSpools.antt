@@ -1,12 +1,14 @@
 -- A spool that is full of pairs that were given for it.
-use Rattle.std.proofs.Common.{◌≡◌, ◌<◌, ℕ, List, [], ◌∷◌, ◌++◌, append_assoc, append-nil, length, reverse, set, Some, sym, ap, ◌∙◌, subst, arith}
+use Rattle.std.proofs.Common.{◌≡◌, ◌<◌, ◌≤◌, ◌+◌, get_or, ℕ, List, [], ◌∷◌, ◌++◌, append_assoc, append-nil, length, length-append, reverse, set, Some, sym, ap, ◌∙◌, subst, arith}
 use Rattle.std.specs.Prelude.{IsPermutation}
 use Rattle.std.proofs.lemmas.List.{get_or-set_same, length-set, reverse-append, reverse-reverse}
-use Rattle.std.proofs.lemmas.List.Sorted.{IsPermutation-append_left, IsPermutation-append_right, IsPermutation-refl, IsPermutation-sym, IsPermutation-trans}
+use Rattle.std.proofs.lemmas.List.Sorted.{IsPermutation-append_left, IsPermutation-append_right, IsPermutation-refl, IsPermutation-sym, IsPermutation-trans, length_permutation}
 use Rattle.std.proofs.lemmas.Option.{slice_get-get_or, slice_get_within}
 use Rattle.keybytes.specs.declared.pair.Pair.{Pair}
 use Rattle.run_spool.specs.Spools.{all_pairs}
-use Rattle.run_maker.specs.FullSpools.{AreSomeOf, HasFullOf, IsFullOf}
+use Rattle.run_maker.specs.FullSpools.{AreSomeOf, HasFullOf, IsFullOf, WantsRun}
+use Rattle.run_maker.specs.Spooling.{HasFullRunsMore}
+use Rattle.run_maker.proofs.Spoolings.{no_runs, runs_more}
 
 -- all of the pairs, in any order
 pub all_of : (pairs all : List Pair) → IsPermutation pairs all → AreSomeOf pairs all
@@ -40,18 +42,49 @@ stops_at old now pairs sorted turned run begun left rest pair same_runs same_run
       subst (λ (ps : List Pair). IsPermutation ps (held ++ pairs)) (sym all) (IsPermutation-append_right held sorted pairs (IsPermutation-sym pairs sorted same)),
     )
 
+-- so many of the pairs of a spool that closed no run are in none
+pub wants_run :
+    (least : ℕ) (old now : List (List Pair)) (begun made : List Pair) → now ≡ old → least ≤ length begun + length made → WantsRun least old ((all_pairs old ++ begun) ++ made) now
+wants_run least old now begun made same some = record {
+  closed = no_runs old now same;
+  left = omega (
+    arith,
+    some,
+    ap (λ (rs : List (List Pair)). length (all_pairs rs)) same,
+    length-append (all_pairs old ++ begun) made,
+    length-append (all_pairs old) begun,
+  );
+}
+
+-- no pair more was made
+pub wants_begun :
+    (least : ℕ) (old now : List (List Pair)) (begun : List Pair) → now ≡ old → least ≤ length begun → WantsRun least old (all_pairs old ++ begun) now
+wants_begun least old now begun same some =
+    let wants = wants_run least old now begun [] same (omega (arith, some)) in
+    subst (λ (ps : List Pair). WantsRun least old ps now) (append-nil (all_pairs old ++ begun)) wants
+
+-- of more pairs at least as many are, also counted from earlier runs
+pub wants_of_more :
+    (least lower : ℕ) (start middle : List (List Pair)) (pairs more : List Pair) (now : List (List Pair)) → lower ≤ least → HasFullRunsMore start middle
+    → AreSomeOf pairs more → WantsRun least middle pairs now → WantsRun lower start more now
+wants_of_more least lower start middle pairs more now less before some wants = record {
+  closed = runs_more start middle now before wants.closed;
+  left = omega (arith, less, wants.left, length-append pairs some.0, length_permutation (pairs ++ some.0) more some.1);
+}
+
 module _ {S : Type 0} (is_full : S → Pair → Type 0) (runs : S → List (List Pair)) (open_run : S → List Pair) where
   -- the pairs are some of more
   pub full_of_more : (pairs more : List Pair) (spool : S) → AreSomeOf pairs more → IsFullOf is_full runs open_run pairs spool → IsFullOf is_full runs open_run more spool
   full_of_more pairs more spool some is = record { pair = is.pair; held = some_of_some _ pairs more is.held some; full = is.full }
 
-  -- so it is where what is given for an index is a part of what is given in another way
+  -- so it is where what is given for an index is a part of what is given in another way, and only full runs were closed before
   pub full_given :
-      (spools : List S) (given other : ℕ → List Pair → Type 0)
-      → ((i : ℕ) (pairs : List Pair) → i < length spools → given i pairs → (more : List Pair) × other i more × AreSomeOf pairs more)
-      → HasFullOf is_full runs open_run given spools → HasFullOf is_full runs open_run other spools
-  full_given spools given other also has =
-      let more = also has.index has.pairs (slice_get_within spools has.index has.spool has.there) has.given in
+      (least lower : ℕ) (start middle : List (List (List Pair))) (spools : List S) (given other : ℕ → List Pair → Type 0) → lower ≤ least
+      → ((i : ℕ) → i < length spools → HasFullRunsMore (get_or start i []) (get_or middle i [])) → ((i : ℕ) (pairs : List Pair) → i < length spools → given i pairs → (more : List Pair) × other i more × AreSomeOf pairs more)
+      → HasFullOf is_full runs open_run least middle given spools → HasFullOf is_full runs open_run lower start other spools
+  full_given least lower start middle spools given other less before also has =
+      let within = slice_get_within spools has.index has.spool has.there in
+      let more = also has.index has.pairs within has.given in
       record {
         index = has.index;
         spool = has.spool;
@@ -59,17 +92,21 @@ module _ {S : Type 0} (is_full : S → Pair → Type 0) (runs : S → List (List
         pairs = more.0;
         given = more.1;
         full = full_of_more has.pairs more.0 has.spool more.2 has.full;
+        wants = wants_of_more least lower (get_or start has.index []) (get_or middle has.index []) has.pairs more.0 (runs has.spool) less (before has.index within)
+            more.2 has.wants;
       }
 
   -- a spool that is full in place of another
   pub full_after :
-      (given : ℕ → List Pair → Type 0) (pairs : List Pair) (spools : List S) (i : ℕ) (spool : S) → i < length spools → given i pairs
-      → IsFullOf is_full runs open_run pairs spool → HasFullOf is_full runs open_run given (set spools i spool)
-  full_after given pairs spools i spool lt are full = record {
+      (least : ℕ) (old : List (List (List Pair))) (given : ℕ → List Pair → Type 0) (pairs : List Pair) (spools : List S) (i : ℕ) (spool : S) → i < length spools → given i pairs
+      → IsFullOf is_full runs open_run pairs spool → WantsRun least (get_or old i []) pairs (runs spool)
+      → HasFullOf is_full runs open_run least old given (set spools i spool)
+  full_after least old given pairs spools i spool lt are full wants = record {
     index = i;
     spool = spool;
     there = slice_get-get_or (set spools i spool) i spool (omega (arith, lt, length-set spools i spool)) ∙ ap Some (get_or-set_same spools i spool spool lt);
     pairs = pairs;
     given = are;
     full = full;
+    wants = wants;
   }

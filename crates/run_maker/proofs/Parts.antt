@@ -1,5 +1,5 @@
 -- What was made of a copy where memory is wanted: the first pairs of each index.
-use Rattle.std.proofs.Common.{◌≡◌, ℕ, List, [], ◌++◌, append_assoc, append-nil, get_or, refl, sym, ap, ◌∙◌, inl, inr}
+use Rattle.std.proofs.Common.{ℕ, List, [], ◌++◌, append_assoc, append-nil, get_or, refl, sym, ap, ◌∙◌, inl, inr}
 use Rattle.std.proofs.lemmas.Bool.{cases_lt}
 use Rattle.keybytes.specs.declared.pair.Pair.{Pair}
 use Rattle.run_maker.specs.Making.{AddsAt, AddsFirst, Holdings, Reached}

@@ -1,15 +1,15 @@
 -- What a run that is spooled leaves, and pairs that are held one after another.
-use Rattle.std.proofs.Common.{◌≡◌, ℕ, ◌+◌, ◌%◌, ◌<◌, List, [], ◌∷◌, ◌++◌, length, reverse, append_assoc, append-nil, sym, ap, ◌∙◌, arith, inl, inr}
+use Rattle.std.proofs.Common.{◌≡◌, ℕ, ◌+◌, ◌%◌, ◌<◌, List, [], ◌∷◌, ◌++◌, length, reverse, append_assoc, append-nil, refl, sym, ap, ◌∙◌, arith, inl, inr}
 use Rattle.std.specs.Prelude.{Result, Ok, Err, OnOk, Contains}
 use Rattle.std.specs.List.Sorted.{IsSorted}
 use Rattle.std.proofs.lemmas.List.{length_push, length-append, reverse-reverse}
-use Rattle.std.proofs.lemmas.List.Elements.{All-contains, All-contains_itself, All-nil, All-push, All-weaker, Contains-append_cases, Contains-append_left, Contains-append_right}
+use Rattle.std.proofs.lemmas.List.Elements.{All-append, All-contains, All-contains_itself, All-nil, All-push, All-weaker, Contains-append_cases, Contains-append_left, Contains-append_right}
 use Rattle.std.proofs.lemmas.List.Sorted.{IsPermutation-append_left, IsPermutation-append_right, IsPermutation-refl, IsPermutation-trans, length_permutation}
 use Rattle.std.proofs.lemmas.Grind.{flat_map-append}
 use Rattle.keybytes.specs.Pairs.{pair_cmp}
 use Rattle.keybytes.specs.declared.pair.Pair.{Pair}
 use Rattle.run_spool.specs.Spools.{AreSorted, all_pairs, with_closed_run}
-use Rattle.run_maker.specs.Spooling.{Spooled, Adds}
+use Rattle.run_maker.specs.Spooling.{HasFullRunsMore, Spooled, Adds}
 
 -- a run in order more
 pub closed_sorted : (runs : List (List Pair)) (run : List Pair) → IsSorted pair_cmp run → AreSorted runs → AreSorted (with_closed_run runs run)
@@ -27,6 +27,27 @@ pub one_closed : (runs : List (List Pair)) (run : List Pair) → 0 < length run 
 one_closed runs [] some = absurd (omega arith)
 one_closed runs (first ∷ run) some = length_push runs (first ∷ run)
 
+-- it stands behind the runs that were there
+closed_behind : (runs : List (List Pair)) (run : List Pair) → 0 < length run → with_closed_run runs run ≡ runs ++ run ∷ []
+closed_behind runs [] some = absurd (omega arith)
+closed_behind runs (first ∷ run) some = refl
+
+-- no run more
+pub no_runs : (old now : List (List Pair)) → now ≡ old → HasFullRunsMore old now
+no_runs old now same = ([], same ∙ sym (append-nil old), All-nil (λ run. length run ≡ 4096))
+
+-- a full run more
+one_run : (old now : List (List Pair)) (run : List Pair) → now ≡ with_closed_run old run → length run ≡ 4096 → HasFullRunsMore old now
+one_run old now run closed full = (run ∷ [], closed ∙ closed_behind old run (omega (arith, full)), All-push (λ r. length r ≡ 4096) [] run (All-nil (λ r. length r ≡ 4096)) full)
+
+-- full runs, and then more of them
+pub runs_more : (first middle last : List (List Pair)) → HasFullRunsMore first middle → HasFullRunsMore middle last → HasFullRunsMore first last
+runs_more first middle last was then = (
+  was.0 ++ then.0,
+  then.1 ∙ ap (λ (rs : List (List Pair)). rs ++ then.0) was.1 ∙ append_assoc first was.0 then.0,
+  All-append (λ run. length run ≡ 4096) was.0 then.0 was.2 then.2,
+)
+
 -- the pair that makes a run full
 pub spooled_adds : (old new : List (List Pair)) (begun : List Pair) (pair : Pair) (pairs : List Pair) → pairs ≡ begun ++ pair ∷ [] → length pairs ≡ 4096
     → Spooled pairs old new
@@ -41,6 +62,7 @@ spooled_adds old new begun pair pairs is full s =
       all = rw (held, whole) (IsPermutation-append_right (all_pairs old) pairs s.run s.same);
       kept = All-nil (Contains (begun ++ pair ∷ []));
       count = sym (ap (λ (n : ℕ). n % 4096) long);
+      full_runs = one_run old new s.run s.closed (length_permutation pairs s.run s.same ∙ full);
       runs_many = omega (arith, long, ap length s.closed, one_closed old s.run some);
     }
 
@@ -50,6 +72,7 @@ adds_none runs begun = record {
   all = rw (append-nil (all_pairs runs ++ begun)) (IsPermutation-refl (all_pairs runs ++ begun));
   kept = rw (append-nil begun) (All-contains_itself begun);
   count = omega arith;
+  full_runs = no_runs runs runs refl;
   runs_many = omega arith;
 }
 
@@ -59,6 +82,7 @@ one_begun runs begun pair = record {
   all = rw (append_assoc (all_pairs runs) begun (pair ∷ [])) (IsPermutation-refl (all_pairs runs ++ (begun ++ pair ∷ [])));
   kept = All-contains_itself (begun ++ pair ∷ []);
   count = ap (λ (n : ℕ). n % 4096) (length_push begun pair);
+  full_runs = no_runs runs runs refl;
   runs_many = omega (arith, length_push begun pair);
 }
 
@@ -80,6 +104,7 @@ adds_more made more runs0 begun0 runs1 begun1 runs2 begun2 first then =
           (IsPermutation-trans _ _ _ (IsPermutation-append_left more (start ++ made) middle first.all) then.all);
       kept = rw (← append_assoc begun0 made more) (All-weaker (Contains (begun1 ++ more)) (Contains ((begun0 ++ made) ++ more)) was begun2 then.kept);
       count = omega (arith, first.count, then.count, length-append made more);
+      full_runs = runs_more runs0 runs1 runs2 first.full_runs then.full_runs;
       runs_many = omega (arith, first.runs_many, then.runs_many, length-append made more);
     }
 

@@ -33,7 +33,7 @@ pub(crate) fn add_image<S: Spool>(
     ensures sorted { All AreSorted (map S.runs spools.old) → All AreSorted (map S.runs spools.new) }
     ensures stakes { map S.stake spools.new ≡ map S.stake spools.old }
     ensures fault { IfErr result (λ fault. (fault ≡ Fault.NoPage) ⊎ (fault ≡ Fault.Memory)) }
-    ensures full { IfErr result (NoPageOnlyIf (HasFullOf S.is_full S.runs S.open_run
+    ensures full { IfErr result (NoPageOnlyIf (HasFullOf S.is_full S.runs S.open_run 4096 (map S.runs spools.old)
         (AreHeldWithCopy specs.now image.now (record { runs = map S.runs spools.old; begun = begun.old })) spools.new)) }
     ensures want { IfErr result (MemoryOnlyIf (AreReady (map S.runs spools.new) (map S.open_run spools.new))) }
     ensures part { IfErr result (MemoryOnlyIf (TakesPart specs.now image.now
@@ -67,7 +67,7 @@ fn add_slot<S: Spool>(
     ensures stakes { map S.stake spools.new ≡ map S.stake spools.old }
     ensures fault { IfErr result (λ fault. (fault ≡ Fault.NoPage) ⊎ (fault ≡ Fault.Memory)) }
     ensures full { IfErr result (NoPageOnlyIf ((row : Option (List Cell)) → Shows schema.now (image_slot image.now slot) row
-        → HasFullOf S.is_full S.runs S.open_run
+        → HasFullOf S.is_full S.runs S.open_run 4096 (map S.runs spools.old)
         (AreHeldWithRow specs.now (rid_at image.now.page slot) row (record { runs = map S.runs spools.old; begun = begun.old })) spools.new)) }
     ensures want { IfErr result (MemoryOnlyIf (AreReady (map S.runs spools.new) (map S.open_run spools.new))) }
     ensures part { IfErr result (MemoryOnlyIf ((row : Option (List Cell)) → Shows schema.now (image_slot image.now slot) row

@@ -95,7 +95,7 @@ impl Maker {
         ensures schema { self.new.schema ≡ self.old.schema }
         ensures specs { self.new.specs ≡ self.old.specs }
         ensures fault { IfErr result (λ fault. (fault ≡ Fault.NoPage) ⊎ (fault ≡ Fault.Memory)) }
-        ensures full { IfErr result (NoPageOnlyIf (HasFullOf S.is_full S.runs S.open_run
+        ensures full { IfErr result (NoPageOnlyIf (HasFullOf S.is_full S.runs S.open_run 4096 (map S.runs spools.old)
             (AreHeldWithCopy self.old.specs image (record { runs = map S.runs spools.old; begun = self.old.begun })) spools.new)) }
         ensures want { IfErr result (MemoryOnlyIf (AreReady (map S.runs spools.new) (map S.open_run spools.new))) }
         ensures part { IfErr result (MemoryOnlyIf (TakesPart self.old.specs image
@@ -117,7 +117,7 @@ impl Maker {
         ensures schema { self.new.schema ≡ self.old.schema }
         ensures specs { self.new.specs ≡ self.old.specs }
         ensures no_page { IfErr result (λ fault. fault ≡ Fault.NoPage) }
-        ensures full { OnErr result (HasFullOf S.is_full S.runs S.open_run
+        ensures full { OnErr result (HasFullOf S.is_full S.runs S.open_run 1 (map S.runs spools.old)
             (AreHeld (record { runs = map S.runs spools.old; begun = self.old.begun })) spools.new) }
     {
         close_all(&mut self.begun, spools)

@@ -1,4 +1,4 @@
-ghost use Rattle.std.specs.Prelude.{◌≡◌, ◌<◌, ◌⊎◌, ◌↔◌, [], ◌∷◌, ◌++◌, IfErr, OnOk, OnErr, IsTrue, length};
+ghost use Rattle.std.specs.Prelude.{◌≡◌, ◌<◌, ◌≤◌, ◌+◌, ◌⊎◌, ◌↔◌, [], ◌∷◌, ◌++◌, IfErr, OnOk, OnErr, IsTrue, length};
 ghost use Rattle.run_spool.specs.Spools.{NoneEmpty, AreSorted, NoPageOnlyIf, all_pairs};
 ghost use Rattle.run_maker.specs.FullSpools.{IsFullOf};
 ghost use Rattle.run_maker.specs.Spooling.{Spooled, Adds, MemoryOnlyIf};
@@ -65,6 +65,8 @@ impl OpenRun {
         ensures fault { IfErr result (λ fault. (fault ≡ Fault.NoPage) ⊎ (fault ≡ Fault.Memory)) }
         ensures full { IfErr result (NoPageOnlyIf
             (IsFullOf S.is_full S.runs S.open_run ((all_pairs (S.runs spool.old) ++ self.old) ++ pair ∷ []) spool.new)) }
+        ensures runs { OnErr result (S.runs spool.new ≡ S.runs spool.old) }
+        ensures many { IfErr result (NoPageOnlyIf (4096 ≤ length self.old + 1)) }
         ensures unchanged { IfErr result (MemoryOnlyIf (self.new ≡ self.old)) }
         ensures untouched { IfErr result (MemoryOnlyIf (spool.new ≡ spool.old)) }
     {
@@ -87,6 +89,8 @@ impl OpenRun {
         ensures stake { S.stake spool.new ≡ S.stake spool.old }
         ensures no_page { IfErr result (λ fault. fault ≡ Fault.NoPage) }
         ensures full { OnErr result (IsFullOf S.is_full S.runs S.open_run (all_pairs (S.runs spool.old) ++ self.old) spool.new) }
+        ensures runs { OnErr result (S.runs spool.new ≡ S.runs spool.old) }
+        ensures some { OnErr result (0 < length self.old) }
     {
         spool_run(&mut self.pairs, spool)
     }

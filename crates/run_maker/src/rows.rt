@@ -1,5 +1,5 @@
 //! The pairs of a row, one for each index.
-ghost use Rattle.std.specs.Prelude.{◌≡◌, ◌⊎◌, [], ◌∷◌, ◌++◌, All, Some, IfErr, OnOk, map, length, true};
+ghost use Rattle.std.specs.Prelude.{◌≡◌, ◌≤◌, ◌+◌, ◌⊎◌, [], ◌∷◌, ◌++◌, All, Some, IfErr, OnOk, OnErr, map, length, true};
 ghost use Rattle.keybytes.specs.Cells.{fits};
 ghost use Rattle.keybytes.specs.Keys.{key_of};
 ghost use Rattle.run_spool.specs.Spools.{NoneEmpty, AreSorted, NoPageOnlyIf, all_pairs};
@@ -32,6 +32,8 @@ fn add_key<S: Spool>(
     ensures full { IfErr result (NoPageOnlyIf
         (IsFullOf S.is_full S.runs S.open_run
         ((all_pairs (S.runs spool.old) ++ begun.old) ++ record { key = key_of spec.now row.now; rid = rid } ∷ []) spool.new)) }
+    ensures runs { OnErr result (S.runs spool.new ≡ S.runs spool.old) }
+    ensures many { IfErr result (NoPageOnlyIf (4096 ≤ length begun.old + 1)) }
     ensures unchanged { IfErr result (MemoryOnlyIf (begun.new ≡ begun.old)) }
     ensures untouched { IfErr result (MemoryOnlyIf (spool.new ≡ spool.old)) }
 {
@@ -57,7 +59,7 @@ pub(crate) fn add_row<S: Spool>(
     ensures sorted { All AreSorted (map S.runs spools.old) → All AreSorted (map S.runs spools.new) }
     ensures stakes { map S.stake spools.new ≡ map S.stake spools.old }
     ensures fault { IfErr result (λ fault. (fault ≡ Fault.NoPage) ⊎ (fault ≡ Fault.Memory)) }
-    ensures full { IfErr result (NoPageOnlyIf (HasFullOf S.is_full S.runs S.open_run
+    ensures full { IfErr result (NoPageOnlyIf (HasFullOf S.is_full S.runs S.open_run 4096 (map S.runs spools.old)
         (AreHeldWithRow specs.now rid (Some row.now) (record { runs = map S.runs spools.old; begun = begun.old })) spools.new)) }
     ensures want { IfErr result (MemoryOnlyIf (AreReady (map S.runs spools.new) (map S.open_run spools.new))) }
     ensures part { IfErr result (MemoryOnlyIf (TakesRowPart specs.now rid (Some row.now)

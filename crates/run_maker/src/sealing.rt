@@ -17,7 +17,7 @@ pub(crate) fn close_all<S: Spool>(begun: &mut [OpenRun], spools: &mut [S]) -> Re
     ensures sorted { All AreSorted (map S.runs spools.old) → All AreSorted (map S.runs spools.new) }
     ensures stakes { map S.stake spools.new ≡ map S.stake spools.old }
     ensures no_page { IfErr result (λ fault. fault ≡ Fault.NoPage) }
-    ensures full { OnErr result (HasFullOf S.is_full S.runs S.open_run
+    ensures full { OnErr result (HasFullOf S.is_full S.runs S.open_run 1 (map S.runs spools.old)
         (AreHeld (record { runs = map S.runs spools.old; begun = begun.old })) spools.new) }
 {
     for i in 0..begun.len() {

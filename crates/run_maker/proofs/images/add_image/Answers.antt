@@ -1,16 +1,13 @@
 use Rattle.std.proofs.Common.{false, refl, ◌≡◌, ◌<◌, ◌+◌, ◌∙◌, ◌++◌, [], ℕ, List, length, get_or, map, sym, ap, subst, arith}
-use Rattle.std.specs.Prelude.{IsPermutation}
 use Rattle.std.specs.Option.{option_to_list}
 use Rattle.std.proofs.lemmas.Result.{err_from_is_err_and}
 use Rattle.keybytes.specs.Keys.{KeySpecValue}
-use Rattle.keybytes.specs.declared.kind.Kind.{Kind}
 use Rattle.keybytes.specs.Pairs.{pair_with}
 use Rattle.keybytes.specs.declared.pair.Pair.{Pair}
-use Rattle.heap_table.specs.Images.{Shows, image_slot}
 use Rattle.heap_table.specs.Pages.{rid_at}
 use Rattle.run_maker.proofs.FullSpools.{full_given}
 use Rattle.run_maker.specs.Spooling.{Adds}
-use Rattle.run_maker.specs.Making.{AddsFirst, AreHeldWithCopy, AreHeldWithRow, Holdings, held_at, spec_at}
+use Rattle.run_maker.specs.Making.{AddsAt, AddsFirst, AreHeldWithCopy, AreHeldWithRow, Holdings, spec_at}
 use Rattle.run_maker.proofs.CopyPairs.{around_slot, has_pairs, of_copy, pairs_before, shows_in, slot_more}
 use Rattle.run_maker.proofs.Parts.{first_more}
 use Rattle.run_maker.proofs.Spoolings.{adds_more, adds_none}
@@ -39,17 +36,18 @@ returns-in_err-add_slot-clause-full g c =
     let runs = g.S.Spool.runs in
     let start : Holdings = record { runs = map runs c.args.spools.now; begun = c.args.begun.now } in
     let middle : Holdings = record { runs = map runs c.loop-slot.spools; begun = c.loop-slot.begun } in
-    let held : (i : ℕ) → i < length specs → IsPermutation (held_at i start ++ pairs_before (spec_at specs i) image.page rows.0 slot) (held_at i middle) =
-    λ i lt. (c.loop-slot.invariant.added i lt _ (has_pairs specs c.args.schema.now image rows.0 rows.1 c.requires.columns i lt)).all in
+    let added : (i : ℕ) → i < length specs → AddsAt i (pairs_before (spec_at specs i) image.page rows.0 slot) start middle =
+    λ i lt. c.loop-slot.invariant.added i lt _ (has_pairs specs c.args.schema.now image rows.0 rows.1 c.requires.columns i lt) in
     let long : length c.add_slot.new.spools ≡ length specs =
     omega (arith, c.add_slot.auto.spools, c.loop-slot.invariant.long_spools, c.requires.spools) in
     let p = err_from_is_err_and c.from_residual.result c.from_residual.ensures.1 in
     rw (p.1, p.2) (λ no_page.
-    full_given g.S.Spool.is_full runs g.S.Spool.open_run c.add_slot.new.spools (AreHeldWithRow specs (rid_at image.page slot) (rows.0 slot) middle)
-    (AreHeldWithCopy specs image start)
+    full_given g.S.Spool.is_full runs g.S.Spool.open_run 4096 4096 start.runs middle.runs c.add_slot.new.spools
+    (AreHeldWithRow specs (rid_at image.page slot) (rows.0 slot) middle) (AreHeldWithCopy specs image start) (omega arith)
+    (λ i less. (added i (omega (arith, less, long))).full_runs)
     (λ i pairs less are.
     let lt : i < length specs = omega (arith, less, long) in
-    of_copy specs c.args.schema.now image rows.0 rows.1 c.requires.columns i lt slot inside start middle (held i lt) pairs are)
+    of_copy specs c.args.schema.now image rows.0 rows.1 c.requires.columns i lt slot inside start middle (added i lt).all pairs are)
     (c.in_err-add_slot.ensures.full no_page (rows.0 slot) (rows.1 slot)))
 
 pub returns-in_err-add_slot-clause-part : goal.returns-in_err-add_slot-clause-part

@@ -10,7 +10,8 @@ use Rattle.run_spool.specs.Spools.{AreSorted, all_pairs}
 use Rattle.run_maker.specs.Spooling.{Adds}
 use Rattle.run_maker.specs.Making.{AreHeldWithRow, Holdings, spec_at}
 use Rattle.run_maker.proofs.EachIndex.{read_at, holds_at, holds_after, ready_after, reached_none, reached_more}
-use Rattle.run_maker.proofs.FullSpools.{full_after}
+use Rattle.run_maker.specs.FullSpools.{WantsRun}
+use Rattle.run_maker.proofs.FullSpools.{full_after, wants_run}
 use Rattle.run_maker.proofs.Parts.{reached_first}
 use Rattle.run_maker.proofs.rows.add_row.Goals as goal
 
@@ -52,11 +53,16 @@ returns-in_err-add_key-clause-full g c =
     ap₂ (λ (rs : List (List Pair)) (ps : List Pair). (all_pairs rs ++ ps) ++ its spec) runs-at begun-at
     ∙ ap (λ (s : KeySpecValue). (all_pairs (get_or (map runs c.args.spools.now) i []) ++ get_or c.args.begun.now i []) ++ its s) spec-at in
     let p = err_from_is_err_and c.from_residual.result c.from_residual.ensures.1 in
+    let before = get_or c.loop-i.begun i b in
+    let held_runs = runs (get_or c.loop-i.spools i d) in
     rw (p.1, p.2) (λ no_page.
-    full_after g.S.Spool.is_full runs g.S.Spool.open_run
+    let wants : WantsRun 4096 (get_or (map runs c.args.spools.now) i []) ((all_pairs held_runs ++ before) ++ its spec) (runs c.add_key.new.spool) =
+    subst (λ (rs : List (List Pair)). WantsRun 4096 rs ((all_pairs held_runs ++ before) ++ its spec) (runs c.add_key.new.spool)) runs-at
+    (wants_run 4096 held_runs (runs c.add_key.new.spool) before (its spec) c.in_err-add_key.ensures.runs (c.in_err-add_key.ensures.many no_page)) in
+    full_after g.S.Spool.is_full runs g.S.Spool.open_run 4096 (map runs c.args.spools.now)
     (AreHeldWithRow c.args.specs.now c.args.rid (Some c.args.row.now) (record { runs = map runs c.args.spools.now; begun = c.args.begun.now }))
     ((all_pairs (runs (get_or c.loop-i.spools i d)) ++ get_or c.loop-i.begun i b) ++ its spec) c.loop-i.spools i c.add_key.new.spool inside held
-    (c.in_err-add_key.ensures.full no_page))
+    (c.in_err-add_key.ensures.full no_page) wants)
 
 pub returns-in_err-add_key-clause-part : goal.returns-in_err-add_key-clause-part
 returns-in_err-add_key-clause-part g c =

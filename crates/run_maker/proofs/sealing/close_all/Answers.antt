@@ -7,7 +7,8 @@ use Rattle.run_spool.specs.Spools.{AreSorted, all_pairs}
 use Rattle.run_maker.specs.Spooling.{Spooled}
 use Rattle.run_maker.specs.Making.{AreHeld}
 use Rattle.run_maker.proofs.EachIndex.{read_at, holds_at, holds_after, ready_after, reached_more}
-use Rattle.run_maker.proofs.FullSpools.{full_after}
+use Rattle.run_maker.specs.FullSpools.{WantsRun}
+use Rattle.run_maker.proofs.FullSpools.{full_after, wants_begun}
 use Rattle.run_maker.proofs.sealing.close_all.Goals as goal
 
 pub close-requires-clause-open_run : goal.close-requires-clause-open_run
@@ -41,9 +42,12 @@ returns-in_err-close-clause-full g c =
     get_or_default c.loop-i.begun i b [] (omega (arith, c.loop-i-test.true, c.loop-i.invariant.long_begun)) ∙ c.loop-i.invariant.reached.same_begun i (omega arith) in
     let runs-at : runs (get_or c.loop-i.spools i d) ≡ get_or (map runs c.args.spools.now) i [] =
     sym (read_at runs c.loop-i.spools i d [] inside) ∙ c.loop-i.invariant.reached.same_runs i (omega arith) in
-    rw p.1 (full_after g.S.Spool.is_full runs g.S.Spool.open_run (AreHeld (record { runs = map runs c.args.spools.now; begun = c.args.begun.now }))
+    let wants : WantsRun 1 (get_or (map runs c.args.spools.now) i []) (all_pairs (runs (get_or c.loop-i.spools i d)) ++ get_or c.loop-i.begun i b) (runs c.close.new.spool) =
+    subst (λ (rs : List (List Pair)). WantsRun 1 rs (all_pairs (runs (get_or c.loop-i.spools i d)) ++ get_or c.loop-i.begun i b) (runs c.close.new.spool)) runs-at
+    (wants_begun 1 (runs (get_or c.loop-i.spools i d)) (runs c.close.new.spool) (get_or c.loop-i.begun i b) c.in_err-close.ensures.runs c.in_err-close.ensures.some) in
+    rw p.1 (full_after g.S.Spool.is_full runs g.S.Spool.open_run 1 (map runs c.args.spools.now) (AreHeld (record { runs = map runs c.args.spools.now; begun = c.args.begun.now }))
     (all_pairs (runs (get_or c.loop-i.spools i d)) ++ get_or c.loop-i.begun i b) c.loop-i.spools i c.close.new.spool inside
-    (ap₂ (λ (rs : List (List Pair)) (ps : List Pair). all_pairs rs ++ ps) runs-at begun-at) c.in_err-close.ensures.full)
+    (ap₂ (λ (rs : List (List Pair)) (ps : List Pair). all_pairs rs ++ ps) runs-at begun-at) c.in_err-close.ensures.full wants)
 
 pub loop-i-preserved : goal.loop-i-preserved
 loop-i-preserved g c =

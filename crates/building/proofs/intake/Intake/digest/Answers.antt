@@ -1,10 +1,11 @@
-use Rattle.std.proofs.Common.{◌≡◌, ◌∷◌, ◌∙◌, [], ℕ, true, false, List, length, map, sym, ap, ap₂, arith}
+use Rattle.std.proofs.Common.{◌≡◌, ◌∷◌, ◌∙◌, [], ℕ, true, false, List, get_or, length, map, refl, sym, ap, ap₂, arith}
 use Rattle.std.proofs.lemmas.Result.{err_from_is_err_and}
 use Rattle.rtrb.specs.Ring.{known_items}
 use Rattle.keybytes.specs.declared.kind.Kind.{Kind}
 use Rattle.std.proofs.lemmas.List.Sorted.{IsPermutation-refl}
 use Rattle.run_maker.specs.Making.{AreHeldWithCopy, Holdings}
 use Rattle.run_maker.proofs.FullSpools.{all_of, full_given}
+use Rattle.run_maker.proofs.Spoolings.{no_runs}
 use Rattle.building.specs.Copies.{is_for}
 use Rattle.building.specs.Holding.{AreHeldWith}
 use Rattle.building.specs.Work.{next_images}
@@ -54,8 +55,8 @@ returns-in_err-take-clause-full g c =
     let p = err_from_is_err_and c.from_residual.result c.from_residual.ensures.1 in
     rw (p.1, p.2) (λ no_page.
     let held : Holdings = record { runs = map g.S.Spool.runs c.args.spools.now; begun = maker.begun } in
-    full_given g.S.Spool.is_full g.S.Spool.runs g.S.Spool.open_run c.take.new.spools (AreHeldWithCopy maker.specs copied.image held)
-    (AreHeldWith maker.specs (next_images 1 maker.schema worker) held)
+    full_given g.S.Spool.is_full g.S.Spool.runs g.S.Spool.open_run 4096 4096 held.runs held.runs c.take.new.spools (AreHeldWithCopy maker.specs copied.image held)
+    (AreHeldWith maker.specs (next_images 1 maker.schema worker) held) (omega arith) (λ i less. no_runs (get_or held.runs i []) (get_or held.runs i []) refl)
     (λ i pairs less are. (pairs, with_copy maker.specs copied.image (next_images 1 maker.schema worker) held i pairs one are, all_of pairs pairs (IsPermutation-refl pairs)))
     (c.in_err-take.ensures.full no_page))
 

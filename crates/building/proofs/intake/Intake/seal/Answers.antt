@@ -12,7 +12,7 @@ use Rattle.building.specs.Work.{after_digest, image_behind, next_images}
 use Rattle.building.specs.IntakeValue.{IntakeValue}
 use Rattle.building.proofs.Digests.{digest_more, images_more, next_few, stops_behind}
 use Rattle.building.proofs.Holding.{takes_more, takes_nothing, takes_sealed, takes_then}
-use Rattle.building.proofs.Received.{with_more}
+use Rattle.building.proofs.Received.{full_till, with_more}
 use Rattle.building.proofs.intake.Intake.seal.Goals as goal
 
 pub loop-init : goal.loop-init
@@ -83,9 +83,10 @@ returns-in_err-images-clause-full g c =
     let long : length c.digest.new.spools ≡ length maker.specs = omega (arith, c.digest.auto.spools, c.loop.auto.spools, c.requires.spools) in
     let p = err_from_is_err_and c.from_residual.result c.from_residual.ensures.1 in
     rw (p.1, p.2) (λ no_page.
-    full_given g.S.Spool.is_full g.S.Spool.runs g.S.Spool.open_run c.digest.new.spools
+    full_given g.S.Spool.is_full g.S.Spool.runs g.S.Spool.open_run 4096 1 start.runs middle.runs c.digest.new.spools
     (AreHeldWith c.loop.maker.specs (next_images 1 c.loop.maker.schema c.loop.self) middle)
-    (AreHeldWithTaken maker.specs maker.schema worker c.digest.new.self start)
+    (AreHeldWithTaken maker.specs maker.schema worker c.digest.new.self start) (omega arith)
+    (λ i less. full_till n maker.specs maker.schema worker start middle c.laws.ensures.specs was.readable was.holds i (omega (arith, less, long)))
     (λ i pairs less are.
     let same : AreHeldWith maker.specs (next_images 1 maker.schema c.loop.self) middle i pairs =
     subst (λ (ks : List Kind). AreHeldWith maker.specs (next_images 1 ks c.loop.self) middle i pairs) was.schema
@@ -109,8 +110,9 @@ returns-in_err-seal-clause-full g c =
     let long : length c.seal.new.spools ≡ length maker.specs = omega (arith, c.seal.auto.spools, c.loop.auto.spools, c.requires.spools) in
     let p = err_from_is_err_and c.from_residual-in_err-seal.result c.from_residual-in_err-seal.ensures.1 in
     rw (p.1, p.2) (λ no_page.
-    full_given g.S.Spool.is_full g.S.Spool.runs g.S.Spool.open_run c.seal.new.spools (AreHeld middle)
-    (AreHeldWithTaken maker.specs maker.schema worker c.loop.self start)
+    full_given g.S.Spool.is_full g.S.Spool.runs g.S.Spool.open_run 1 1 start.runs middle.runs c.seal.new.spools (AreHeld middle)
+    (AreHeldWithTaken maker.specs maker.schema worker c.loop.self start) (omega arith)
+    (λ i less. full_till n maker.specs maker.schema worker start middle c.laws.ensures.specs was.readable was.holds i (omega (arith, less, long)))
     (λ i pairs less are.
     let none : AreHeldWith maker.specs (next_images 0 maker.schema c.loop.self) middle i pairs = ([], refl, are ∙ sym (append-nil (held_at i middle))) in
     let all = with_more n 0 maker.specs maker.schema worker c.loop.self start middle c.laws.ensures.specs was.readable was.holds build end i

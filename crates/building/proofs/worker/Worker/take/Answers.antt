@@ -2,7 +2,7 @@ use Rattle.std.proofs.Common.{◌≡◌, ◌∙◌, ◌++◌, List, All, drop, l
 use Rattle.std.proofs.lemmas.Bool.{false≢true}
 use Rattle.run_spool.specs.Spools.{AreSorted}
 use Rattle.run_maker.specs.Making.{AreReady}
-use Rattle.building.specs.Turns.{HasDone, IsStopped, TurnHolds, turn_images}
+use Rattle.building.specs.Turns.{HasDone, IsStopped, TurnHolds, least_pairs, turn_images}
 use Rattle.building.specs.WorkerValue.{WorkerValue}
 use Rattle.building.proofs.SpoolViews.{lent_back, part_held, received_full, same_after, spools_ready, turn_held, turn_seen, values_ready, worker_with}
 use Rattle.building.proofs.Turns.{turn_counts}
@@ -90,7 +90,7 @@ returns-in-Err-clause-stopped g c =
       has_spools = λ sound. c.if-self.false;
       took = λ sound. it.took;
       full = λ sound no_page.
-          rw back (received_full spool.runs spool.open_run spool.stake spool.is_full at.intake after at.maker maker at.spools.items c.deref_mut.result.now spools holds
+          rw back (received_full spool.runs spool.open_run spool.stake spool.is_full (least_pairs c.args.turn) at.intake after at.maker maker at.spools.items c.deref_mut.result.now spools holds
           c.deref_mut.ensures.value c.take.ensures.specs c.take.ensures.schema c.take.ensures.build many (it.full no_page));
       want = λ sound memory. rw back (values_ready spool.runs spool.open_run spool.stake spools (it.want memory));
       part = λ sound memory. rw back
