@@ -1,5 +1,5 @@
 -- What stands beside a table, where the rings of its workers were looked at.
-use Rattle.std.proofs.Common.{◌≡◌, ℕ, ◌*◌, ◌≤◌, Bool, false, List, [], ◌∷◌, ◌++◌, length, map, arith, Option, Some, None, refl, sym, ap, ◌∙◌, subst}
+use Rattle.std.proofs.Common.{◌≡◌, ℕ, ◌*◌, ◌≤◌, Bool, false, List, [], ◌∷◌, ◌++◌, length, map, set, slice_get, arith, Option, Some, None, refl, sym, ap, ◌∙◌, subst}
 use Rattle.building.specs.SpoolValue.{SpoolValue}
 use Rattle.building.specs.WorkerValue.{WorkerValue}
 use Rattle.build_work.specs.BuildingValue.{WorkValue, IsUnloaded, work_state, intakes, state_unless, index_state}
@@ -9,12 +9,13 @@ use Rattle.build_work.proofs.AtWork.{states_same}
 use Rattle.build_work.specs.Keeping.{KeepsWork}
 use Rattle.build_work.proofs.Kept.{looked_kept}
 use Rattle.build_work.proofs.Looks.{ends_same, rings_looked}
-use Rattle.std.proofs.lemmas.List.{nil_from_length}
+use Rattle.std.proofs.lemmas.List.{map-set, nil_from_length}
+use Rattle.building.specs.Turns.{HasLooked}
 use Rattle.side_file.specs.Ends.{RingId}
 use Rattle.side_file.specs.declared.entry.Entry.{Entry}
 use Rattle.building.specs.IntakeValue.{IntakeValue}
 use Rattle.building.specs.TakeEnd.{TakeEnd}
-use Rattle.build_scan.proofs.Places.{as_long, same_at}
+use Rattle.build_scan.proofs.Places.{as_long, same_at, set_same}
 use Rattle.std.specs.Prelude.{flat_map}
 use Rattle.building.specs.Holding.{HoldsPairs}
 use Rattle.building.specs.Taking.{received_images}
@@ -70,3 +71,11 @@ beside_looked pages sides old new idle ends home idle_room room work given Ended
       ended,
       looked_kept old new ends home work same kept,
     )
+
+-- a worker that looked into its ring alone is as it was but for what it has seen
+pub unseen_after :
+    (workers : List WorkerValue) (k : ℕ) (it after : WorkerValue) (seen : ℕ) → slice_get workers k ≡ Some it → HasLooked it seen after
+    → map unseen (set workers k after) ≡ map unseen workers
+unseen_after workers k it after seen at looked =
+    let same : unseen after ≡ unseen it = ap unseen looked.left ∙ ap (λ (i : IntakeValue). unseen (record it { intake = i })) looked.sees.left in
+    map-set unseen workers k after ∙ ap (set (map unseen workers) k) same ∙ sym (map-set unseen workers k it) ∙ ap (map unseen) (set_same workers k it at)

@@ -13,12 +13,12 @@ use Rattle.building.specs.declared.turn.Turn.{Turn}
 use Rattle.building.specs.IntakeValue.{IntakeValue}
 use Rattle.building.specs.SpoolValue.{SpoolValue, stakes_of}
 use Rattle.building.specs.TakeEnd.{TakeEnd}
-use Rattle.building.specs.Turns.{HasDone, IsStopped}
+use Rattle.building.specs.Turns.{HasDone, HasLooked, IsStopped}
 use Rattle.building.specs.WorkerValue.{SameWorker, WorkerValue}
 use Rattle.build_work.specs.BuildingValue.{BuildingValue, WorkValue, intakes}
 use Rattle.build_work.specs.Holding.{all_spools}
 use Rattle.build_work.specs.Rings.{AreTakeEnds, take_rings}
-use Rattle.build_work.specs.Turns.{WorkerDid, WorkerStopped, spoiled_for}
+use Rattle.build_work.specs.Turns.{WorkerDid, WorkerLooked, WorkerStopped, spoiled_for}
 use Rattle.build_work.proofs.Spoiled.{IsSpoiled}
 use Rattle.build_work.proofs.OneWorker.{the_work}
 use Rattle.build_scan.proofs.Places.{mapped, set_same}
@@ -59,6 +59,18 @@ pub as_many_after :
     → length (all_spools (set workers k after) spools) ≡ length (all_spools workers spools)
 as_many_after workers spools k it after at same =
     as_many (all_spools (set workers k after) spools) (all_spools workers spools) (all_stakes workers spools k it after at same)
+
+-- a worker of the build that runs looked into its ring, as it was seen
+pub looked_step :
+    (old seen : BuildingValue) → seen ≡ old → (k : ℕ) (it after : WorkerValue) (count : ℕ) → slice_get seen.workers k ≡ Some it → HasLooked it count after
+    → WorkerLooked k old count (record seen { workers = set seen.workers k after })
+looked_step old seen same k it after count at looked = record {
+  it = it;
+  there = ap (λ (b : BuildingValue). slice_get b.workers k) (sym same) ∙ at;
+  after = after;
+  looked = looked;
+  left = ap (λ (b : BuildingValue). record b { workers = set b.workers k after }) same;
+}
 
 -- the worker of the build that runs, as it was seen
 module _

@@ -1,4 +1,4 @@
--- What a worker's turn, a digest or a seal, leaves of what stands beside a table.
+-- What a worker's turn, a digest or a seal, and its look into its ring leave of what stands beside a table.
 use Rattle.std.specs.Prelude.{◌≡◌, ℕ, List, Option, Some, set}
 use Rattle.std.specs.List.{slice_get}
 use Rattle.keybytes.specs.Faults.{first_cause}
@@ -6,9 +6,17 @@ use Rattle.keybytes.specs.declared.fault.Fault.{Fault}
 use Rattle.keybytes.specs.declared.pair.Pair.{Pair}
 use Rattle.spool_ledger.specs.Accounts.{Stake}
 use Rattle.building.specs.declared.turn.Turn.{Turn}
-use Rattle.building.specs.Turns.{HasDone, IsStopped}
+use Rattle.building.specs.Turns.{HasDone, HasLooked, IsStopped}
 use Rattle.building.specs.WorkerValue.{WorkerValue}
 use Rattle.build_work.specs.BuildingValue.{BuildingValue, WorkValue}
+
+-- a worker of the build that runs looked into its ring, where it has now seen so many copies, and nothing else changed
+pub record WorkerLooked (worker : ℕ) (old : BuildingValue) (seen : ℕ) (new : BuildingValue) : Type 0 where
+  pub it : WorkerValue
+  pub there : slice_get old.workers worker ≡ Some it
+  pub after : WorkerValue
+  pub looked : HasLooked it seen after
+  pub left : new ≡ record old { workers = set old.workers worker after }
 
 -- a worker of the build that runs had its turn, answered with so many images, and nothing else changed
 pub record WorkerDid (turn : Turn) (worker : ℕ) (old : BuildingValue) (images : ℕ) (new : BuildingValue) : Type 0 where

@@ -1,6 +1,6 @@
-//! The turns of the workers of the build that runs.
+//! The turns of the workers of the build that runs, and their looks into their rings.
 ghost use Rattle.std.specs.Prelude.{◌≡◌, ◌<◌, length, IfOk, IfErr, IsSome, OnOk};
-ghost use Rattle.build_work.specs.Turns.{WorkerDid, WorkerStopped, spoiled_for};
+ghost use Rattle.build_work.specs.Turns.{WorkerDid, WorkerLooked, WorkerStopped, spoiled_for};
 
 use crate::Building;
 use crate::work::Work;
@@ -9,6 +9,15 @@ use keybytes::Fault;
 use run_spool::Spool;
 
 impl<S: Spool, T: Table> Building<S, T> {
+    /// Lets a worker look into its ring, and answers how many copies it has seen there: a digest or a seal takes what was seen. It needs no
+    /// lock; the table may put more at any time.
+    pub fn look(&mut self, worker: usize) -> usize
+        requires { worker < length self.old.workers }
+        ensures { WorkerLooked worker self.old result self.new }
+    {
+        self.workers[worker].look()
+    }
+
     /// Lets a worker take the next copy that it has seen. Want of memory or of a page spoils the build.
     pub fn digest(&mut self, worker: usize) -> Result<usize, Fault>
         requires there { worker < length self.old.workers }

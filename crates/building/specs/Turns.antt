@@ -17,8 +17,15 @@ use Rattle.building.specs.Holding.{AreHeldWith, HoldsMore, TakesAll, TakesUpTo}
 use Rattle.building.specs.IntakeValue.{IntakeValue}
 use Rattle.building.specs.SpoolValue.{HaveFullOf, open_runs_of, runs_of}
 use Rattle.building.specs.TakeEnd.{after_taking}
-use Rattle.building.specs.Work.{StopsAt, after_digest, after_seal, image_behind, next_images}
+use Rattle.building.specs.Work.{SeesMore, StopsAt, after_digest, after_seal, image_behind, next_images}
 use Rattle.building.specs.WorkerValue.{HasReceived, IsShortage, SameWorker, WorkerValue, holdings}
+
+-- a worker looked into its ring, where it has now seen so many copies, and nothing else of it changed
+pub record HasLooked (old : WorkerValue) (seen : ℕ) (new : WorkerValue) : Type 0 where
+  pub same : SameWorker old new
+  pub sees : SeesMore old.intake new.intake
+  pub counted : seen ≡ length new.intake.end.known
+  pub left : new ≡ record old { intake = new.intake }
 
 -- how many of the copies that it has seen a worker takes
 abbrev pub turn_copies : Turn → IntakeValue → ℕ

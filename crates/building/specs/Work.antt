@@ -1,5 +1,5 @@
 -- What the calls of a worker leave.
-use Rattle.std.specs.Prelude.{◌≡◌, ℕ, ◌+◌, ◌≤◌, List, length, take, drop}
+use Rattle.std.specs.Prelude.{◌≡◌, ℕ, ◌+◌, ◌++◌, ◌≤◌, List, length, take, drop}
 use Rattle.keybytes.specs.declared.kind.Kind.{Kind}
 use Rattle.heap_table.specs.Images.{ImageValue}
 use Rattle.building.specs.declared.copied.Copied.{Copied}
@@ -18,6 +18,11 @@ pub record IsIntake (worker : IntakeValue) : Type 0 where
 -- its end of the ring has seen these
 abbrev pub knowing : List Copied → IntakeValue → IntakeValue
 knowing copies worker = record worker { end = record worker.end { known = copies } }
+
+-- it looked into its ring, and took nothing: behind the copies that it had seen more may be seen
+pub record SeesMore (old new : IntakeValue) : Type 0 where
+  pub more : List Copied
+  pub left : new ≡ knowing (old.end.known ++ more) old
 
 -- the images of its build, of a table of these columns, among the first n copies that it has seen
 abbrev pub next_images : ℕ → List Kind → IntakeValue → List ImageValue

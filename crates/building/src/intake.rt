@@ -9,7 +9,7 @@ ghost use Rattle.run_maker.specs.Spooling.{MemoryOnlyIf};
 ghost use Rattle.building.specs.Holding.{AreHeldWith, TakesAll, TakesUpTo, HoldsMore};
 ghost use Rattle.building.specs.TakeEnd.{take_end, PutEndLooked};
 ghost use Rattle.building.specs.Turns.{AreHeldWithTaken, HoldsPart, StopsIn, TurnHolds, least_pairs, after_turn, marked, turn_images};
-ghost use Rattle.building.specs.Work.{at_start, IsIntake, StopsAt, knowing, next_images, after_digest, after_seal};
+ghost use Rattle.building.specs.Work.{at_start, IsIntake, SeesMore, StopsAt, knowing, next_images, after_digest, after_seal};
 ghost use Rattle.building.specs.WorkerValue.{IsShortage};
 
 use crate::{Copied, PagePutter, Turn};
@@ -120,6 +120,15 @@ impl Intake {
         ensures free { 4 ≤ putter.new.free + result }
     {
         putter.beside(&mut self.ring)
+    }
+
+    /// Looks into its ring, and answers how many copies it has seen there. It needs no other end, so that it serves in a thread of its own: a
+    /// digest or a seal takes what was seen. The other end may put more at any time.
+    pub fn look(&mut self) -> usize
+        ensures sees { SeesMore self.old self.new }
+        ensures value { result ≡ length self.new.end.known }
+    {
+        self.ring.slots()
     }
 
     /// Takes the next copy that it has seen, makes its pairs, spools those that fill a run, and answers 1. The answer is 0 where it has seen

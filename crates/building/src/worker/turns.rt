@@ -1,6 +1,6 @@
 //! A worker's turns.
 ghost use Rattle.std.specs.Prelude.{IfOk, IfErr};
-ghost use Rattle.building.specs.Turns.{AnswersTurn, HasDone, IsStopped};
+ghost use Rattle.building.specs.Turns.{AnswersTurn, HasDone, HasLooked, IsStopped};
 
 use super::Worker;
 use crate::{Table, Turn};
@@ -8,6 +8,14 @@ use keybytes::Fault;
 use run_spool::Spool;
 
 impl<S: Spool, T: Table> Worker<S, T> {
+    /// Looks into its ring, and answers how many copies it has seen there. It needs no lock: a worker in a thread of its own looks before its
+    /// digests and seals, which take what was seen.
+    pub fn look(&mut self) -> usize
+        ensures { HasLooked self.old result self.new }
+    {
+        self.intake.look()
+    }
+
     /// Takes the next copy that it has seen, makes its pairs, spools those that fill a run, and answers 1. The answer is 0 where it has seen
     /// none, and where the copy is of another build or of other columns, and so is dropped; and where its spools went to the indexes, and it takes
     /// nothing.
