@@ -69,10 +69,14 @@ module _
   fed_accepted (Err fault) free = tt
   fed_accepted (Ok n) free = side_cause live.state.build index ∙ ap (λ (s : LiveState). side_refusal s.build index) (sym state_is) ∙ free
 
+  -- once there is such a side-file, its feed isn't refused
   pub fed_unchanged :
-      (new : LiveValue) (answer : Result ℕ Fault) → OnErr answer (new ≡ new_live) → OnErr answer (core_state new mid ≡ core_state live building)
-  fed_unchanged new (Ok n) same = tt
-  fed_unchanged new (Err fault) same = ap (λ (l : LiveValue). core_state l mid) same ∙ state_side_looked index live new_live building mid looked
+      (new : LiveValue) (new_building : BuildingValue) (answer : Result ℕ Fault) → side_refusal live.state.build index ≡ None
+      → IfErr answer (λ fault. side_refusal new_live.state.build index ≡ Some fault) → OnErr answer ((new ≡ live) × (new_building ≡ building))
+  fed_unchanged new new_building (Ok n) there refused = tt
+  fed_unchanged new new_building (Err fault) there refused =
+      let same = ap (λ (s : LiveState). side_refusal s.build index) state_is in
+      absurd (cc (same, there, refused))
 
   module _
       (works : WorksOn live building) (follows : BuildFollows new_live.state.heap.schema new_live.state.heap.log new_live.state.build) (waiting : ℕ)

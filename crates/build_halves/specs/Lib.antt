@@ -7,3 +7,4 @@ pub mod Putting
 pub mod Rings
 pub mod Switching
 pub mod Turns
+pub mod Visits

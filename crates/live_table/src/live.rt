@@ -9,6 +9,7 @@ ghost use Rattle.heap_table.specs.TablePairs.{pairs_at_rest};
 ghost use Rattle.keybytes.specs.Pairs.{HaveKeysOf, AreInColumnOrder};
 ghost use Rattle.build_scan.specs.TableBuilds.{BuildFollows};
 ghost use Rattle.build_halves.specs.Builds.{value_with_heap};
+ghost use Rattle.build_halves.specs.Visits.{IsVisited};
 ghost use Rattle.build_work.specs.Rings.{all_sent, AreOfBuilds};
 ghost use Rattle.build_halves.specs.Rings.{ArePutEnds};
 ghost use Rattle.build_halves.specs.Invariant.{EachPageOnce};
@@ -243,6 +244,7 @@ impl<T: Table> Live<T> {
         ensures order { IfOk result (λ pairs. AreInColumnOrder spec.now pairs.items) }
         ensures visits { OnOk result (self.new ≡ value_with_heap self.old (after_visits self.old.state.heap (pages_written self.old.state.heap.log))) }
         ensures rows { self.new ≡ value_with_heap self.old (record self.old.state.heap { visits = self.new.state.heap.visits }) }
+        ensures read { IsVisited (pages_written self.old.state.heap.log) self.old.state.heap self.new.state.heap }
         ensures memory { IfErr result (λ fault. fault ≡ Fault.Memory) }
     {
         at_rest(&mut self.heap, spec)

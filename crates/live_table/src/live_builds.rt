@@ -12,6 +12,7 @@ ghost use Rattle.build_halves.specs.Putting.{IsPutTo};
 ghost use Rattle.build_events.specs.CoreState.{abandoned};
 ghost use Rattle.build_events.specs.Ranges.{next_page};
 ghost use Rattle.scan_range.specs.Dealings.{dealing_refusal, dealt_ends};
+ghost use Rattle.build_work.specs.Lent.{CanLend};
 ghost use Rattle.build_work.specs.Rings.{all_free, begun_on};
 ghost use Rattle.build_events.specs.BuildSteps.{Starts, Scans, OnBuild, start_refusal, counts_fit, fenced};
 ghost use Rattle.keybytes.specs.Schemas.{same_kinds};
@@ -52,6 +53,7 @@ impl<T: Table> Live<T> {
         ensures started { Answered (start_refusal self.old.state (core_state self.old building.old).spools plan.now) (Starts plan.now)
             (core_state self.old building.old) result (core_state self.new building.new) }
         ensures works { OnOk result (WorksOn self.new building.new) }
+        ensures lendable { OnOk result (CanLend building.new) }
         ensures emptied { OnOk result (intakes building.new.workers building.new.idle ≡ map (begun_on self.new.state.builds) self.new.pages) }
         ensures pages { OnOk result (self.new.pages ≡ map all_free self.old.pages) }
         ensures sides { OnOk result (AllZip PutEndLooked self.old.sides self.new.sides) }

@@ -61,12 +61,12 @@ impl<T: Table> Live<T> {
         ensures fed { IfOk result (λ count. Feeds index most (core_state self.old building.old) count (core_state self.new building.new)) }
         ensures accepted { OnOk result (cause_of self.old building.old (Event.Feed index most) ≡ None) }
         ensures refused { IfErr result (λ fault. cause_of self.old building.old (Event.Feed index most) ≡ Some fault) }
-        ensures unchanged { OnErr result (core_state self.new building.new ≡ core_state self.old building.old) }
+        ensures unchanged { OnErr result ((self.new ≡ self.old) × (building.new ≡ building.old)) }
         ensures works { WorksOn self.new building.new }
         ensures sends { OnOk result (SendsOn self.old self.new) }
         ensures pages { self.new.pages ≡ self.old.pages }
     {
-        self.build_with(index)?;
+        let _build = self.build_with(index)?;
         let waiting = self.look_at_side(index, building);
         self.feed(index, most.min(RING_ENTRIES.saturating_sub(waiting)))
     }

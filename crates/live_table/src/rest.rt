@@ -4,6 +4,7 @@ ghost use Rattle.heap_table.specs.Pages.{pages_written};
 ghost use Rattle.keybytes.specs.Pairs.{HaveKeysOf, AreInColumnOrder};
 ghost use Rattle.heap_table.specs.TablePairs.{pair_of, pairs_at_rest};
 ghost use Rattle.build_events.specs.CoreState.{after_visits};
+ghost use Rattle.build_halves.specs.Visits.{IsVisited};
 
 use crate::Pair;
 use heap_table::Heap;
@@ -31,6 +32,7 @@ pub fn at_rest(heap: &mut Heap, spec: &KeySpec) -> Result<Vec<Pair>, Fault>
     ensures order { IfOk result (λ pairs. AreInColumnOrder spec.now pairs.items) }
     ensures visits { OnOk result (heap.new.state ≡ after_visits heap.old.state (pages_written heap.old.state.log)) }
     ensures rows { heap.new.state ≡ record heap.old.state { visits = heap.new.state.visits } }
+    ensures read { IsVisited (pages_written heap.old.state.log) heap.old.state heap.new.state }
     ensures memory { IfErr result (λ fault. fault ≡ Fault.Memory) }
 {
     heap.laws();

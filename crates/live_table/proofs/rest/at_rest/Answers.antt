@@ -67,6 +67,27 @@ returns-clause-ok c =
     in_order c.args.spec.now log c.loop-page.pairs.items c.sort_unstable.new.self.items
     (c.loop-page.invariant.made ∙ ap (pairs_from c.args.spec.now log 0) all) c.sort_unstable.ensures.permutation c.sort_unstable.ensures.sorted
 
+pub returns-in_err-rows-clause-read : goal.returns-in_err-rows-clause-read
+returns-in_err-rows-clause-read c = record {
+  times = c.loop-page.page;
+  few = omega (arith, c.loop-page-test.true, c.pages-page-end.ensures.pages);
+  after = ap (λ (h : HeapValue). h.state) c.in_err-rows.ensures.unchanged ∙ c.loop-page.invariant.visits;
+}
+
+pub returns-in_err-add_rows-clause-read : goal.returns-in_err-add_rows-clause-read
+returns-in_err-add_rows-clause-read c = record {
+  times = c.loop-page.page + 1;
+  few = omega (arith, c.loop-page-test.true, c.pages-page-end.ensures.pages);
+  after = c.in_ok-rows.ensures.visited ∙ ap after_visit c.loop-page.invariant.visits ∙ sym (visit_more c.args.heap.now.state c.loop-page.page);
+}
+
+pub returns-clause-read : goal.returns-clause-read
+returns-clause-read c = record {
+  times = c.loop-page.page;
+  few = omega (arith, c.loop-page.auto.page-end, c.pages-page-end.ensures.pages);
+  after = c.loop-page.invariant.visits;
+}
+
 pub returns-clause-rows : goal.returns-clause-rows
 returns-clause-rows c = visits_changed c.args.heap.now.state c.loop-page.heap.state c.loop-page.page c.loop-page.invariant.visits
 

@@ -15,7 +15,8 @@ returns-clause-fed g c =
 pub returns-clause-unchanged : goal.returns-clause-unchanged
 returns-clause-unchanged g c =
     let looked = c.look_at_side-waiting in
-    fed_unchanged c.args.index c.args.self.now looked.new.self c.args.building.now looked.new.building looked.ensures.looked c.feed.new.self c.feed.result c.feed.ensures.unchanged
+    fed_unchanged c.args.index c.args.self.now looked.new.self c.args.building.now looked.new.building looked.ensures.looked c.feed.new.self looked.new.building c.feed.result
+    c.in_ok-_build.ensures.accepted c.feed.ensures.refused
 
 pub returns-clause-refused : goal.returns-clause-refused
 returns-clause-refused g c =

@@ -251,6 +251,14 @@ returns-clause-started g c =
       ),
     )
 
+pub returns-clause-lendable : goal.returns-clause-lendable
+returns-clause-lendable g c = record {
+  work = c.in_ok-work.work;
+  runs = ap (λ (b : BuildingValue). b.work) c.begin.ensures.rest;
+  fine = ap (λ (w : WorkValue). w.spoiled) c.in_ok-work.ensures.ok;
+  scans = ap (λ (w : WorkValue). w.loading) c.in_ok-work.ensures.ok;
+}
+
 pub returns-clause-kept : goal.returns-clause-kept
 returns-clause-kept g c = λ works. returns-clause-works g c
 
