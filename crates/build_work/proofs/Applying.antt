@@ -4,7 +4,7 @@ use Rattle.std.proofs.Common.{set, set-set, append_assoc, Option, Some, None, re
 use Rattle.std.proofs.lemmas.Option.{same_Some}
 use Rattle.build_work.specs.BuildingValue.{BuildingValue, WorkValue, IndexValue, with_index, with_pairs}
 use Rattle.std.specs.List.{slice_get}
-use Rattle.build_work.specs.Working.{IsTakingEntries, CanApply, HasApplied}
+use Rattle.build_work.specs.Working.{IsTakingEntries, CanApply, HasApplied, HasSeenEntries}
 use Rattle.std.proofs.lemmas.List.{append-nil, take-append-le, drop-append-le, length-map, map-set}
 use Rattle.std.proofs.Math.Seq.{take-append_seam, drop-append_seam}
 use Rattle.std.specs.declared.alloc.Global.{Global}
@@ -312,3 +312,31 @@ stays_built index some = by_built index.built some refl where
   by_built : (o : Option BuiltValue) → is_some o ≡ true → index.built ≡ o → (built : BuiltValue) × (index.built ≡ Some built)
   by_built None some is = absurd (false≢true some)
   by_built (Some built) some is = (built, is)
+
+built_of : (o : Option BuiltValue) → is_some o ≡ true → (built : BuiltValue) × (o ≡ Some built)
+built_of (Some built) is = (built, refl)
+built_of None is = absurd (false≢true is)
+
+-- entries that the ring's end has seen by itself can be applied, where the index is in order and its build goes on
+pub can_apply_seen :
+    (index count seen : ℕ) (old new : BuildingValue) (work : WorkValue) (it : IndexValue) → HasSeenEntries index old seen new → new.work ≡ Some work
+    → work.spoiled ≡ None → slice_get work.indexes index ≡ Some it → is_some it.built ≡ true → count ≤ seen → it.applied + count < 2 ^ 64
+    → CanApply index count new
+can_apply_seen index count seen old new work it sees runs fine there loaded few countable =
+    let built = built_of it.built loaded in
+    let end : TakeEnd Entry = record sees.end { known = sees.end.known ++ sees.more } in
+    record {
+      taking = record {
+        work = work;
+        runs = runs;
+        it = it;
+        there = there;
+        built = built.0;
+        loaded = built.1;
+        end = end;
+        at = ap (λ (b : BuildingValue). slice_get b.sides index) sees.left ∙ here_set old.sides index end (below old.sides index sees.end sees.there);
+      };
+      fine = fine;
+      seen = omega (arith, few, sees.counted);
+      countable = countable;
+    }

@@ -1,6 +1,6 @@
 -- What is kept while the workers of a build are lent, and as they come back.
 use Rattle.std.proofs.Common.{◌≡◌, ℕ, zero, suc, ◌+◌, ◌-◌, ◌*◌, false, List, [], ◌∷◌, ◌++◌, length, map, take, drop, Some, None, refl, sym, ap, ap₂, ◌∙◌, subst, arith, Bool}
-use Rattle.std.proofs.Common.{take-append-drop, length-append}
+use Rattle.std.proofs.Common.{take-append-drop, length-append, length-set, set, inl, inr}
 use Rattle.std.specs.List.{All, slice_get}
 use Rattle.std.proofs.Math.Seq.{drop-append_seam}
 use Rattle.std.proofs.lemmas.List.{length-map, map-append}
@@ -17,12 +17,12 @@ use Rattle.build_work.specs.BuildingValue.{BuildingValue, WorkValue, intakes}
 use Rattle.build_work.specs.Equipped.{HasOwnSpools}
 use Rattle.build_work.specs.Holding.{all_spools, lent_spools}
 use Rattle.build_work.specs.Keeping.{AreWorkers, IsKept, KeepsLaws, KeepsWork}
-use Rattle.build_work.specs.Lent.{CanLend, IsBack, StaysWithout, lowest_fault}
+use Rattle.build_work.specs.Lent.{AreBack, CanLend, IsBack, StaysWithout, lowest_fault}
 use Rattle.build_work.specs.Rings.{AreTakeEnds, take_rings}
 use Rattle.build_work.proofs.Kept.{scanning_kept}
 use Rattle.build_work.proofs.OneWorker.{still_fine, still_scans, work_kept}
 use Rattle.build_work.proofs.SpoolPlaces.{flat_many}
-use Rattle.build_scan.proofs.Places.{all_at, as_long, mapped}
+use Rattle.build_scan.proofs.Places.{all_at, as_long, at_set, mapped}
 
 -- the rings of workers and of idle intakes
 rings_of :
@@ -191,3 +191,17 @@ same_back build specs place old new same is =
       has_them = same.handed ∙ is.has_them;
       own = as_long stake stake new.spools old.spools same.stakes ∙ is.own;
     }
+
+-- so all are back, where one of them did something by itself
+pub all_back :
+    (rest : BuildingValue) (workers : List WorkerValue) (k : ℕ) (it after : WorkerValue) → slice_get workers k ≡ Some it → SameWorker it after → AreBack rest workers
+    → AreBack rest (set workers k after)
+all_back rest workers k it after at same back = record {
+  work = back.work;
+  runs = back.runs;
+  all = ap (λ n. n + length rest.idle) (length-set workers k after) ∙ back.all;
+  each = λ place worker there. elim (at_set workers k after place worker there) [
+    | inl this ↦ rw (this.1, this.0) (same_back back.work.build back.work.specs k it after same (back.each k it at))
+    | inr other ↦ back.each place worker other.1
+  ];
+}

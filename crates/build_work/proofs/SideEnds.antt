@@ -1,10 +1,11 @@
 -- The ends of the side-files' rings that take, where one of them changes.
-use Rattle.std.proofs.Common.{◌≡◌, ℕ, ◌<◌, List, length, map, set, get_or, Option, Some, sym, ap, ◌∙◌, subst, arith}
+use Rattle.std.proofs.Common.{◌≡◌, ℕ, ◌<◌, ◌++◌, List, length, map, set, get_or, Option, Some, sym, ap, ◌∙◌, subst, arith}
 use Rattle.std.specs.List.{slice_get}
 use Rattle.std.specs.declared.alloc.Global.{Global}
 use Rattle.std.proofs.lemmas.List.{length-map, length-set, map-set}
 use Rattle.std.proofs.lemmas.Option.{same_Some}
 use Rattle.rtrb.specs.declared.consumer.Consumer.{Consumer}
+use Rattle.rtrb.specs.Ring.{ConsumerLooked, known_items, received}
 use Rattle.side_file.specs.Ends.{PutEnd, RingId, ring_take}
 use Rattle.side_file.specs.declared.entry.Entry.{Entry}
 use Rattle.building.specs.TakeEnd.{TakeEnd, take_end}
@@ -16,8 +17,11 @@ use Rattle.build_work.specs.BuildingValue.{BuildingValue, WorkValue}
 use Rattle.build_work.specs.Keeping.{KeepsWork}
 use Rattle.build_work.proofs.Kept.{side_looked_kept}
 use Rattle.build_work.specs.Rings.{AreTakeEnds}
-use Rattle.build_work.specs.Working.{SideIsSeen}
+use Rattle.build_work.specs.Working.{HasSeenEntries, SideIsSeen}
 use Rattle.build_scan.proofs.Places.{at_index, kept, map_at, mapped}
+
+abbrev end_with : RingId → List Entry → List Entry → TakeEnd Entry
+end_with ring taken seen = record { ring = ring; received = taken; known = seen }
 
 module _ {P : Type 0} where
   -- the ends that take stay those of the table's rings
@@ -70,6 +74,31 @@ module _ {P : Type 0} where
         left = ap (λ (es : List (TakeEnd Entry)). record seen { sides = es })
             (map-set take_end ends index after ∙ ap (λ (es : List (TakeEnd Entry)). set es index (take_end after)) (sym are))
             ∙ ap (λ (b : BuildingValue). record b { sides = set b.sides index (take_end after) }) same;
+      }
+
+  -- an end that looked by itself
+  seen_more : (end after : Consumer Entry Global P) → (looked : ConsumerLooked end after) → take_end after ≡ record (take_end end) { known = known_items end ++ looked.2.0 }
+  seen_more end after looked =
+      let ring : ring_take after ≡ ring_take end = cc in
+      ap (λ (r : RingId). end_with r (received after) (known_items after)) ring ∙ ap (λ (es : List Entry). end_with (ring_take end) es (known_items after)) looked.1
+      ∙ ap (end_with (ring_take end) (received end)) (sym looked.2.1)
+
+  -- its side-file's ring was looked into
+  pub has_seen_entries :
+      (index seen : ℕ) (old was : BuildingValue) (ends : List (Consumer Entry Global P)) (end after : Consumer Entry Global P) → was ≡ old
+      → was.sides ≡ map take_end ends → end ≡ get_or ends index end → index < length ends → ConsumerLooked end after → seen ≡ length (known_items after)
+      → HasSeenEntries index old seen (record was { sides = map take_end (set ends index after) })
+  has_seen_entries index seen old was ends end after same are at less looked counted =
+      let here : old.sides ≡ map take_end ends = ap (λ (b : BuildingValue). b.sides) (sym same) ∙ are in
+      record {
+        end = take_end end;
+        there = ap (λ (es : List (TakeEnd Entry)). slice_get es index) here ∙ map_at take_end ends index end (at_index ends index end at less);
+        more = looked.2.0;
+        counted = counted ∙ ap length (sym looked.2.1);
+        left = ap (λ (es : List (TakeEnd Entry)). record was { sides = es })
+            (map-set take_end ends index after ∙ ap (set (map take_end ends) index) (seen_more end after looked)
+            ∙ ap (λ (es : List (TakeEnd Entry)). set es index (record (take_end end) { known = known_items end ++ looked.2.0 })) (sym are))
+            ∙ ap (λ (b : BuildingValue). record b { sides = set b.sides index (record (take_end end) { known = known_items end ++ looked.2.0 }) }) same;
       }
 
   -- what the work keeps doesn't depend on what the end has seen

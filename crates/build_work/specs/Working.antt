@@ -120,3 +120,12 @@ pub record SideIsSeen (index waiting : ℕ) (put new_put : PutEnd Entry) (old ne
   pub looked : HasLookedAtSide put end new_put after
   pub sees : SeesSide waiting new_put after
   pub left : new ≡ record old { sides = set old.sides index after }
+
+-- that side-file's ring was looked into, where so many entries are now seen, and nothing else changed
+pub record HasSeenEntries (index : ℕ) (old : BuildingValue) (seen : ℕ) (new : BuildingValue) : Type 0 where
+  pub end : TakeEnd Entry
+  pub there : slice_get old.sides index ≡ Some end
+  -- behind those that were seen before
+  pub more : List Entry
+  pub counted : seen ≡ length (end.known ++ more)
+  pub left : new ≡ record old { sides = set old.sides index (record end { known = end.known ++ more }) }

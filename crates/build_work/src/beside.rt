@@ -7,7 +7,7 @@ ghost use Rattle.build_work.specs.Holding.{all_spools, lent_spools, spools_state
 ghost use Rattle.build_work.specs.Keeping.{AreWorkers, KeepsWork};
 ghost use Rattle.catch_up.specs.Built.{told_to};
 ghost use Rattle.build_work.specs.Equipped.{HasOwnSpools, HasRoomFor, IsFresh, IsNewMaker};
-ghost use Rattle.build_work.specs.Working.{CanApply, CanHandOver, CanLoad, HasApplied, HasHandedOver, HasLoaded, LoadStopped};
+ghost use Rattle.build_work.specs.Working.{CanApply, CanHandOver, CanLoad, HasApplied, HasHandedOver, HasLoaded, HasSeenEntries, LoadStopped};
 
 use crate::ends::Ends;
 use crate::equipment::{Equipment, equip};
@@ -280,6 +280,15 @@ impl<S: Spool, T: Table> Building<S, T> {
             applied: 0,
         };
         Ok(count)
+    }
+
+    /// Looks into the ring of an index's side-file, and answers how many entries it has seen there. It needs no lock: [`Building::apply`]
+    /// applies what was seen. The table may feed more at any time.
+    pub fn look_for_entries(&mut self, index: usize) -> usize
+        requires { index < 8 }
+        ensures { HasSeenEntries index self.old result self.new }
+    {
+        self.side_ends[index].slots()
     }
 
     /// Applies the next entries that the index's ring is seen to have, and answers how many. Those that were applied before
