@@ -1,7 +1,8 @@
 -- A spool that a worker found full is one of the worker's, and the pairs in it are of pages that were copied for the worker.
 use Rattle.std.proofs.Common.{◌≡◌, ℕ, ◌+◌, ◌*◌, false, List, [], ◌++◌, length, take, drop, Option, None, Some, sym, ap, ◌∙◌, subst, arith, inl, inr}
-use Rattle.std.proofs.Common.{append_assoc, take-append-drop}
+use Rattle.std.proofs.Common.{append_assoc, append-nil, take-append-drop}
 use Rattle.std.specs.List.{slice_get}
+use Rattle.std.proofs.lemmas.List.{append_cancel_left}
 use Rattle.std.proofs.lemmas.Bool.{cases_Bool}
 use Rattle.keybytes.specs.Keys.{KeySpecValue}
 use Rattle.keybytes.specs.declared.fault.Fault.{Fault}
@@ -29,7 +30,12 @@ use Rattle.building.proofs.Turns.{taken_till}
 use Rattle.build_events.specs.BuildSteps.{OnBuild}
 use Rattle.build_events.specs.CoreState.{BuildState, scanning_of}
 use Rattle.build_events.specs.Scanning.{AreCopies}
-use Rattle.build_events.specs.Workers.{put_to}
+use Rattle.build_events.specs.Workers.{is_sealed, put_to, worker_at}
+use Rattle.keybytes.specs.declared.fault.Fault.TheVariants.{NoPage}
+use Rattle.side_file.specs.Ends.{RingId}
+use Rattle.build_work.specs.Keeping.{KeepsLaws}
+use Rattle.build_halves.proofs.LoadCauses.{opened_of, sealed_there}
+use Rattle.build_halves.proofs.NothingLeft.{nothing_left}
 use Rattle.build_scan.proofs.Places.{all_at, at_map, below, map_at, there_is}
 use Rattle.build_work.specs.BuildingValue.{BuildingValue, WorkValue}
 use Rattle.build_work.specs.Holding.{all_spools, lent_spools}
@@ -118,10 +124,26 @@ module _
       let first : split.0 ≡ pairs = have_same spec (images_of b.number kinds received) split.0 pairs split.2 own in
       first_of pairs split.1 (pairs_put_to b spec log k) (split.4 ∙ ap (λ (ps : List Pair). ps ++ split.1) first)
 
+  -- a worker that is sealed has no run to close
+  unsealed_it :
+      (turn : Turn) (fault : Fault) (after : WorkerValue) (stopped : IsStopped is_full runs open_run stake turn it fault after) (no_page : fault ≡ NoPage) (page_rings : List RingId)
+      → KeepsLaws page_rings it → w.loading ≡ false → is_sealed b log k (worker_at (core_state live building).work k) ≡ false
+  unsealed_it turn fault after stopped no_page page_rings laws scans = elim (cases_Bool (is_sealed b log k (worker_at (core_state live building).work k))) [
+    | inl sealed ↦
+        let took = taken_till turn it.maker.schema it.intake after.intake fault (stopped.took its.fine) in
+        let open_runs = opened_of w.loading it its run.on.columns laws in
+        let done = sealed_there live building b w run fine put k sent it sent_there sees.there open_runs sealed in
+        let none : it.intake.end.known ≡ [] =
+        append_cancel_left it.intake.end.received it.intake.end.known [] (sees.in_order ∙ sym done.taken ∙ sym (append-nil it.intake.end.received)) in
+        absurd (nothing_left it after stopped.same is_full runs open_run stake turn (laws.holding its.fine (its.handed ∙ scans)) took.0 took.1 none done.closed
+        (stopped.full its.fine no_page))
+    | inr not_sealed ↦ not_sealed
+  ]
+
   pub full_in_build :
       (turn : Turn) (fault : Fault) (after : WorkerValue) → IsStopped is_full runs open_run stake turn it fault after
-      → NoPageOnlyIf (WorkerWasFull is_full runs open_run stake (core_state live building) k) fault
-  full_in_build turn fault after stopped = λ no_page.
+      → (page_rings : List RingId) → KeepsLaws page_rings it → NoPageOnlyIf (WorkerWasFull is_full runs open_run stake (core_state live building) k) fault
+  full_in_build turn fault after stopped page_rings laws = λ no_page.
       let full = stopped.full its.fine no_page in
       let took = taken_till turn it.maker.schema it.intake after.intake fault (stopped.took its.fine) in
       let seen : slice_get (stakes_of it.spools) full.index ≡ Some (stake full.spool) =
@@ -149,6 +171,8 @@ module _
               full = full_of_more is_full runs open_run full.pairs (pairs_put_to b index.0 log k) full.spool
                   (of_pages after stopped.same took.0 took.1 full.index index.0 index.1 full.pairs full.given) full.full;
             } in
-            subst (λ (o : Option BuildState). OnBuild o (λ x. WasFull is_full runs open_run stake x log k (stakes_of (all_spools building.workers building.spools))))
-            (sym run.build_is) was
+            subst (λ (o : Option BuildState). OnBuild o (λ x.
+            WasFull is_full runs open_run stake x log k (stakes_of (all_spools building.workers building.spools))
+            × (is_sealed x log k (worker_at (core_state live building).work k) ≡ false)))
+            (sym run.build_is) (was, unsealed_it turn fault after stopped no_page page_rings laws scans)
       ]

@@ -16,6 +16,7 @@ pub mod LoadLooked
 pub mod Loaded
 pub mod Looked
 pub mod MadeReady
+pub mod NothingLeft
 pub mod OneRing
 pub mod LowestUnsealed
 pub mod OwnSwitch

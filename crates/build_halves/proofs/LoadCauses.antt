@@ -70,7 +70,7 @@ module _
         ∙ sealed_is live.state.heap.schema live.state.heap.log b k sent worker.intake (put k sent there) its.taking w.specs
         run.on.columns worker.maker open_runs.many open_runs.opened run.on.specs (record { taken = sealed.taken; closed = sealed.closed })
 
-    sealed_there : is_sealed b live.state.heap.log k (worker_at work k) ≡ true → IsSealed sent worker
+    pub sealed_there : is_sealed b live.state.heap.log k (worker_at work k) ≡ true → IsSealed sent worker
     sealed_there is =
         let done =
         from_is_sealed live.state.heap.schema live.state.heap.log b k sent worker.intake (put k sent there) its.taking w.specs

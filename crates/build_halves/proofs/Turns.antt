@@ -1,5 +1,5 @@
 -- What a worker's turn leaves, as callers see it.
-use Rattle.std.proofs.Common.{◌≡◌, ℕ, ◌+◌, ◌<◌, true, List, [], ◌++◌, length, map, min, take, drop, set, get_or, Option, Some, None, Result, Ok, Err, IfOk, IfErr}
+use Rattle.std.proofs.Common.{◌≡◌, ℕ, ◌+◌, ◌<◌, true, All, List, [], ◌++◌, length, map, min, take, drop, set, get_or, Option, Some, None, Result, Ok, Err, IfOk, IfErr}
 use Rattle.std.proofs.Common.{refl, sym, ap, ap₂, ◌∙◌, subst, arith, inl, inr, append-nil}
 use Rattle.std.specs.List.{slice_get}
 use Rattle.std.proofs.Math.Seq.{drop-nil, take-nil}
@@ -39,6 +39,8 @@ use Rattle.build_halves.specs.Turns.{HasTurn, IsTurnRefused, TurnWaits}
 use Rattle.build_work.specs.Turns.{WorkerDid, WorkerStopped}
 use Rattle.build_events.proofs.Copies.{copies_count}
 use Rattle.build_halves.proofs.FullSpools.{full_in_build}
+use Rattle.build_work.specs.Keeping.{KeepsLaws}
+use Rattle.side_file.specs.Ends.{RingId}
 use Rattle.build_halves.proofs.Refusals.{state_is, waiting_is, worker_there}
 use Rattle.build_work.proofs.Stakes.{as_many}
 use Rattle.build_work.proofs.Stepping.{stopped_spoils}
@@ -248,7 +250,7 @@ module _
 
     module _
         {S : Type 0} (is_full : S → Pair → Type 0) (runs : S → List (List Pair)) (open_run : S → List Pair) (stake : S → Option Stake)
-        (rings : length live.pages ≡ 16) where
+        (rings : length live.pages ≡ 16) (page_rings : List RingId) (laws : All (KeepsLaws page_rings) building.workers) where
       waits_for :
           (t : Turn) (fault : Fault) (after : WorkerValue) → IsStopped is_full runs open_run stake t it fault after → TurnWaits t k (core_state live building) fault
       waits_for Digest fault after stopped =
@@ -278,7 +280,8 @@ module _
           record {
             want = was.short;
             waits = waits_for turn fault stopped.after was;
-            full = full_in_build is_full runs open_run stake live building b w run fine rings put k count sees turn fault stopped.after was;
+            full = full_in_build is_full runs open_run stake live building b w run fine rings put k count sees turn fault stopped.after was page_rings
+                (all_at (KeepsLaws page_rings) building.workers k it laws sees.there);
             spoiled = spoiled_state live fault building new b w run
                 (stopped_spoils is_full runs open_run stake turn k building new fault w run.work_is fine stopped);
           }

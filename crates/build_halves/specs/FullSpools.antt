@@ -1,5 +1,5 @@
 -- Which events spool pairs, and the full spool behind one that wants a page.
-use Rattle.std.specs.Prelude.{◌≡◌, ℕ, ◌+◌, ◌*◌, ◌⊎◌, List, flat_map, length, Option, None, Some}
+use Rattle.std.specs.Prelude.{◌≡◌, false, ℕ, ◌+◌, ◌*◌, ◌⊎◌, List, flat_map, length, Option, None, Some}
 use Rattle.std.specs.List.{slice_get}
 use Rattle.keybytes.specs.Keys.{KeySpecValue}
 use Rattle.keybytes.specs.declared.fault.Fault.{Fault}
@@ -10,7 +10,7 @@ use Rattle.spool_ledger.specs.Accounts.{Stake}
 use Rattle.run_maker.specs.FullSpools.{IsFullOf}
 use Rattle.build_events.specs.CoreState.{BuildState, CoreState, scanning_of}
 use Rattle.build_events.specs.Scanning.{pairs_at_scan}
-use Rattle.build_events.specs.Workers.{put_to}
+use Rattle.build_events.specs.Workers.{is_sealed, put_to, worker_at}
 use Rattle.build_events.specs.BuildSteps.{OnBuild}
 use Rattle.build_events.specs.declared.event.Event.{Event}
 use Rattle.build_events.specs.declared.event.Event.TheVariants.{Begin, Insert, Update, Delete, Undo, Commit, Start, Scan, Digest, Seal, Load, Feed, Apply}
@@ -51,9 +51,10 @@ module _
     pub there : slice_get stakes (worker * length b.specs + index) ≡ Some (stake spool)
     pub full : IsFullOf is_full runs open_run (pairs_put_to b spec log worker) spool
 
-  -- a spool of that worker of the running build was full
+  -- a spool of that worker of the running build was full, and the worker wasn't sealed: a copy waited for it, or a run was open
   abbrev pub WorkerWasFull : CoreState → ℕ → Type 0
-  WorkerWasFull s worker = OnBuild s.live.build (λ b. WasFull b s.live.heap.log worker s.spools.stakes)
+  WorkerWasFull s worker = OnBuild s.live.build (λ b.
+      WasFull b s.live.heap.log worker s.spools.stakes × (is_sealed b s.live.heap.log worker (worker_at s.work worker) ≡ false))
 
   -- a fault that doesn't repeat what the build was spoiled for tells of a page only if a spool of that worker was full
   abbrev pub NoPageOnlyIfFull : CoreState → ℕ → Fault → Type 0

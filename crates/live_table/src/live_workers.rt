@@ -151,6 +151,7 @@ impl<T: Table> Live<T> {
         ensures ends { PagesAreLooked self.old self.new }
     {
         self.look(worker, building);
+        building.laws();
         building.take(worker, turn)
     }
 
