@@ -22,6 +22,8 @@ mod following;
 #[cfg(test)]
 mod kinds;
 #[cfg(test)]
+mod lent;
+#[cfg(test)]
 mod list_run;
 #[cfg(test)]
 mod list_spool;
