@@ -11,10 +11,12 @@ use keybytes::{Rid, Row};
 pub enum Event {
     /// A transaction begins. [`Fault::Fenced`], [`Fault::TooManyTxns`].
     Begin,
-    /// The transaction inserts a row. [`Fault::NoSuchTxn`], [`Fault::TxnEnding`], [`Fault::RowShape`], [`Fault::TableFull`].
+    /// The transaction inserts a row. [`Fault::NoSuchTxn`], [`Fault::TxnEnding`], [`Fault::RowShape`], [`Fault::TableFull`]; then, of the
+    /// lowest unique ready index that refuses the row's key, [`Fault::Duplicate`] or [`Fault::KeyHeld`].
     Insert { txn: u64, row: Row },
     /// The transaction gives a RID another row. [`Fault::NoSuchTxn`], [`Fault::TxnEnding`], [`Fault::RowShape`], [`Fault::RowHeld`],
-    /// [`Fault::NoSuchRow`], [`Fault::PageFull`].
+    /// [`Fault::NoSuchRow`], [`Fault::PageFull`]; then, of the lowest unique ready index that refuses a key that the RID hadn't,
+    /// [`Fault::Duplicate`] or [`Fault::KeyHeld`].
     Update { txn: u64, rid: Rid, row: Row },
     /// The transaction takes the row at a RID away. [`Fault::NoSuchTxn`], [`Fault::TxnEnding`], [`Fault::RowHeld`],
     /// [`Fault::NoSuchRow`].
