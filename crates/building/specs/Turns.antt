@@ -94,7 +94,8 @@ module _
     pub again : (first : Fault) → old.fault ≡ Some first → (fault ≡ first) × (new ≡ old)
     pub has_spools : old.fault ≡ None → old.handed ≡ false
     pub took : old.fault ≡ None → StopsIn turn old.maker.schema old.intake new.intake fault
-    pub full : old.fault ≡ None → NoPageOnlyIf (HaveFullOf is_full runs open_run stake (least_pairs turn) (runs_of old.spools) (HasReceived new) new.spools) fault
+    pub full : old.fault ≡ None → NoPageOnlyIf
+        (HaveFullOf is_full runs open_run stake (least_pairs turn) (runs_of old.spools) (HasReceived new) new.spools) fault
     pub want : old.fault ≡ None → MemoryOnlyIf (AreReady (runs_of new.spools) (open_runs_of new.spools)) fault
     -- for want of memory no pair is lost, and no run is closed with fewer than 4,096
     pub part : old.fault ≡ None → MemoryOnlyIf

@@ -14,7 +14,17 @@ use Rattle.building.proofs.Digests.{next_missing, next_other, next_tested}
 use Rattle.building.proofs.Holding.{takes_first, takes_none, takes_nothing, takes_one}
 use Rattle.building.proofs.ManyPairs.{for_decides}
 use Rattle.building.proofs.Received.{with_copy}
+use Rattle.building.proofs.intake.Intake.digest.Given as given
 use Rattle.building.proofs.intake.Intake.digest.Goals as goal
+use Rattle.building.proofs.intake.Intake.digest.Goals.{After-take}
+
+-- the copy that it took is the image of its turn
+one_image : (g : given.Over) (c : After-take g) → next_images 1 c.args.maker.now.schema c.args.self.now ≡ c.pop_known-copied.result.image ∷ []
+one_image g c =
+    next_tested c.args.maker.now.schema c.schema.result.now c.self.inside.build c.args.self.now c.pop_known-copied.result
+    (known_items c.pop_known-copied.new.self) c.is_for.result
+    (sym (ap (λ (w : IntakeValue). w.end.known) c.self.view_is) ∙ c.pop_known-copied.ensures.received.1)
+    (ap (λ (w : IntakeValue). w.build) c.self.view_is) c.schema.ensures c.is_for.ensures c.if-not-is_for.false
 
 pub take-requires-clause-schema : goal.take-requires-clause-schema
 take-requires-clause-schema g c =
@@ -48,10 +58,7 @@ returns-in_err-take-clause-full g c =
     let worker = c.args.self.now in
     let maker = c.args.maker.now in
     let copied = c.pop_known-copied.result in
-    let one : next_images 1 maker.schema worker ≡ copied.image ∷ [] =
-    next_tested maker.schema c.schema.result.now c.self.inside.build worker copied (known_items c.pop_known-copied.new.self) c.is_for.result
-    (sym (ap (λ (w : IntakeValue). w.end.known) c.self.view_is) ∙ c.pop_known-copied.ensures.received.1)
-    (ap (λ (w : IntakeValue). w.build) c.self.view_is) c.schema.ensures c.is_for.ensures c.if-not-is_for.false in
+    let one = one_image g (goal.at.returns-in_err-take-clause-full g c).After-take in
     let p = err_from_is_err_and c.from_residual.result c.from_residual.ensures.1 in
     rw (p.1, p.2) (λ no_page.
     let held : Holdings = record { runs = map g.S.Spool.runs c.args.spools.now; begun = maker.begun } in
@@ -71,10 +78,7 @@ returns-in_err-take-clause-part g c =
     let worker = c.args.self.now in
     let maker = c.args.maker.now in
     let copied = c.pop_known-copied.result in
-    let one : next_images 1 maker.schema worker ≡ copied.image ∷ [] =
-    next_tested maker.schema c.schema.result.now c.self.inside.build worker copied (known_items c.pop_known-copied.new.self) c.is_for.result
-    (sym (ap (λ (w : IntakeValue). w.end.known) c.self.view_is) ∙ c.pop_known-copied.ensures.received.1)
-    (ap (λ (w : IntakeValue). w.build) c.self.view_is) c.schema.ensures c.is_for.ensures c.if-not-is_for.false in
+    let one = one_image g (goal.at.returns-in_err-take-clause-part g c).After-take in
     let old : Holdings = record { runs = map g.S.Spool.runs c.args.spools.now; begun = maker.begun } in
     let new : Holdings = record { runs = map g.S.Spool.runs c.take.new.spools; begun = c.take.new.self.begun } in
     let p = err_from_is_err_and c.from_residual.result c.from_residual.ensures.1 in
@@ -88,8 +92,5 @@ returns-clause-holds g c =
     let old : Holdings = record { runs = map g.S.Spool.runs c.args.spools.now; begun = maker.begun } in
     let new : Holdings = record { runs = map g.S.Spool.runs c.take.new.spools; begun = c.take.new.self.begun } in
     let copied = c.pop_known-copied.result in
-    let one : next_images 1 maker.schema worker ≡ copied.image ∷ [] =
-    next_tested maker.schema c.schema.result.now c.self.inside.build worker copied (known_items c.pop_known-copied.new.self) c.is_for.result
-    (sym (ap (λ (w : IntakeValue). w.end.known) c.self.view_is) ∙ c.pop_known-copied.ensures.received.1)
-    (ap (λ (w : IntakeValue). w.build) c.self.view_is) c.schema.ensures c.is_for.ensures c.if-not-is_for.false in
+    let one = one_image g (goal.at.returns-clause-holds g c).After-take in
     takes_one maker.specs copied.image (next_images 1 maker.schema worker) old new one c.in_ok-take.ensures.taken
