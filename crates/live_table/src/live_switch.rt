@@ -261,12 +261,14 @@ fn note_ready(
     let told = verdicts_from(alloc, first, indexes)?;
     let copied = verdicts_from(alloc, first, indexes)?;
     let number = heap.note(noted)?;
+    let verdicts = Verdicts::new(told);
+    let record = LogRec::Switch {
+        verdicts: Verdicts::new(copied),
+    };
     Ok(Switched {
         number,
-        verdicts: Verdicts::new(told),
-        record: LogRec::Switch {
-            verdicts: Verdicts::new(copied),
-        },
+        verdicts,
+        record,
     })
 }
 
