@@ -1,5 +1,5 @@
 -- What the events of a build do, and why they are refused.
-use Rattle.std.specs.Prelude.{◌≡◌, ℕ, ◌+◌, ◌-◌, ◌<◌, ◌≤◌, Bool, true, false, ◌&&◌, ◌||◌, not, ◌==◌, nat_lt, nat_le, min, if◌then◌else◌, is_some, is_none, List, [], ◌∷◌, ◌++◌, ◌*◌, length, map, replicate, get_or, set, Option, Some, None}
+use Rattle.std.specs.Prelude.{◌≡◌, ◌⊎◌, ℕ, ◌+◌, ◌-◌, ◌<◌, ◌≤◌, Bool, true, false, ◌&&◌, ◌||◌, not, ◌==◌, nat_lt, nat_le, min, if◌then◌else◌, is_some, is_none, List, [], ◌∷◌, ◌++◌, ◌*◌, length, map, replicate, get_or, set, Option, Some, None}
 use Rattle.std.specs.List.{All, list_any, list_all, slice_get}
 use Rattle.std.specs.Option.{option_map}
 use Rattle.keybytes.specs.Faults.{first_cause}
@@ -7,6 +7,7 @@ use Rattle.keybytes.specs.Keys.{KeySpecValue}
 use Rattle.keybytes.specs.Schemas.{same_kinds}
 use Rattle.keybytes.specs.declared.fault.Fault.{Fault}
 use Rattle.keybytes.specs.declared.fault.Fault.TheVariants.{BuildRunning, NoBuild, BadCount, BadColumn, RangeDone, RingFull, NotScanned, NotSealed, NotLoaded, Behind, Busy, SpoolNotEmpty}
+use Rattle.keybytes.specs.declared.pair.Pair.{Pair}
 use Rattle.heap_log.specs.declared.outcome.Outcome.{Outcome}
 use Rattle.heap_log.specs.declared.record.LogRec.{LogRec}
 use Rattle.heap_table.specs.HeapState.{HeapState, after_switch, after_visit, after_fence, busy_txns}
@@ -19,6 +20,8 @@ use Rattle.build_events.specs.Verdicts.{accepted, outcomes, verdict_on}
 use Rattle.build_events.specs.Ranges.{next_page, open_range}
 use Rattle.scan_range.specs.Dealings.{dealt_ends, dealing_refusal}
 use Rattle.build_events.specs.Scanning.{scanned_pairs}
+use Rattle.build_events.specs.SideEntries.{side_entries}
+use Rattle.visibility.specs.SideEntries.{SideEntry, insert}
 use Rattle.build_events.specs.Workers.{put_to, worker_at, waiting, unsealed_worker, index_at, unloaded_index, all_entries, all_unapplied, fed_to, unfed, in_ring}
 
 -- the cause where the test holds
@@ -227,10 +230,24 @@ abbrev pub Applies : ℕ → ℕ → CoreState → ℕ → CoreState → Type 0
 Applies index most s count new =
     OnBuild s.live.build (λ b. (count ≡ next_applied b s.work index most) × (new ≡ record s { work = after_apply s.work index count }))
 
--- where memory was wanted, the entries before were applied
+-- an entry puts a pair in
+abbrev pub PutsIn : SideEntry → Type 0
+PutsIn entry = (pair : Pair) × (entry ≡ insert pair)
+
+-- to apply the entry of an index behind so many may take memory: it puts a pair in, or the index is unique
+pub record MayTakeMemory (b : BuildState) (log : List LogRec) (index applied : ℕ) : Type 0 where
+  pub spec : KeySpecValue
+  pub of_build : slice_get b.specs index ≡ Some spec
+  pub entry : SideEntry
+  pub next : slice_get (side_entries (scanning_of b spec) log) applied ≡ Some entry
+  pub needs : PutsIn entry ⊎ (spec.unique ≡ true)
+
+-- where memory was wanted for an entry, those before it were applied
 abbrev pub AppliesSome : ℕ → ℕ → CoreState → CoreState → Type 0
 AppliesSome index most s new =
-    OnBuild s.live.build (λ b. (count : ℕ) × (count < next_applied b s.work index most) × (new ≡ record s { work = after_apply s.work index count }))
+    OnBuild s.live.build (λ b.
+    (count : ℕ) × (count < next_applied b s.work index most) × (new ≡ record s { work = after_apply s.work index count })
+    × MayTakeMemory b s.live.heap.log index ((index_at s.work.indexes index).applied + count))
 
 -- the most entries that a switch applies, over all indexes
 abbrev pub switch_most : ℕ

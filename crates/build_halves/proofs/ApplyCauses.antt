@@ -1,6 +1,6 @@
 -- Why no entries are applied to an index of a build, and what is known where nothing is in the way.
-use Rattle.std.proofs.Common.{◌≡◌, ℕ, ◌<◌, ◌≤◌, Bool, true, false, List, length, map, min, Option, Some, None, Result, Ok, Err, IfOk, OnErr, refl, sym, ap}
-use Rattle.std.proofs.Common.{◌∙◌, subst, arith}
+use Rattle.std.proofs.Common.{◌≡◌, ℕ, ◌+◌, ◌<◌, ◌≤◌, Bool, true, false, List, length, map, min, Option, Some, None, Result, Ok, Err, IfOk, OnErr, refl, sym, ap}
+use Rattle.std.proofs.Common.{◌∙◌, subst, arith, inl, inr}
 use Rattle.std.specs.Prelude.{is_some, not, nat_le, IfSome}
 use Rattle.std.proofs.Math.Nat.{min-le_right}
 use Rattle.std.proofs.lemmas.Bool.{false_from_ne_true, leb-true}
@@ -23,12 +23,12 @@ use Rattle.std.specs.List.{slice_get}
 use Rattle.std.proofs.lemmas.Option.{get_or_from_slice_get}
 use Rattle.build_scan.proofs.Places.{below, there_is, map_at}
 use Rattle.build_work.proofs.Applying.{stays_built}
-use Rattle.build_events.specs.BuildSteps.{OnBuild, Applies, AppliesSome, build_cause, cause_if, apply_refusal, index_refusal, next_applied, after_apply}
+use Rattle.build_events.specs.BuildSteps.{OnBuild, Applies, AppliesSome, MayTakeMemory, build_cause, cause_if, apply_refusal, index_refusal, next_applied, after_apply}
 use Rattle.build_events.specs.Steps.{refusal}
-use Rattle.build_work.specs.Working.{CanApply, HasApplied}
+use Rattle.build_work.specs.Working.{CanApply, HasApplied, StopsApplying}
 use Rattle.build_events.specs.declared.event.Event.TheVariants.{Apply}
 use Rattle.build_halves.proofs.Feeding.{works_side_looked, state_side_looked}
-use Rattle.build_halves.proofs.IndexApplied.{AppliesNext, ring_is, can_apply, works_applied, state_applied}
+use Rattle.build_halves.proofs.IndexApplied.{AppliesNext, ring_is, can_apply, counts_more, may_take, works_applied, state_applied}
 use Rattle.build_halves.proofs.Refusals.{running, state_is}
 use Rattle.build_scan.proofs.SideEnds.{index_below}
 
@@ -143,19 +143,27 @@ module _
 
   pub applies_some :
       (old : CoreState) → before ≡ old → (new : BuildingValue) (answer : Result ℕ Fault)
-      → OnErr answer ((n : ℕ) × (n < count) × HasApplied index building n new) → OnErr answer (AppliesSome index most old (core_state live new))
+      → OnErr answer (StopsApplying index count building new) → OnErr answer (AppliesSome index most old (core_state live new))
   applies_some old same new (Ok n) done = tt
   applies_some old same new (Err fault) done =
       subst (λ (s : CoreState). AppliesSome index most s (core_state live new)) same
       (subst (λ (o : Option BuildState). OnBuild o (λ b. (n : ℕ) × (n < next_applied b before.work index most)
-      × (core_state live new ≡ record before { work = after_apply before.work index n }))) (sym next.run.build_is)
-      (done.0, subst (λ k. done.0 < k) least_is done.1, done_some new done.0 (omega (arith, done.1)) done.2))
+      × (core_state live new ≡ record before { work = after_apply before.work index n })
+      × MayTakeMemory b live.state.heap.log index ((index_at before.work.indexes index).applied + n))) (sym next.run.build_is) (
+        done.entries,
+        subst (λ k. done.entries < k) least_is done.fewer,
+        done_some new done.entries (omega (arith, done.fewer)) done.applied,
+        elim done.needed [
+          | inl needed ↦ may_take index waiting live building next done.entries (omega (arith, done.fewer, few)) needed
+          | inr none ↦ absurd (counts_more index waiting live building next done.entries (omega (arith, done.fewer, few)) none)
+        ],
+      ))
 
   pub works_after_apply :
       (new : BuildingValue) (answer : Result ℕ Fault) → IfOk answer (λ n. (n ≡ count) × HasApplied index building count new)
-      → OnErr answer ((n : ℕ) × (n < count) × HasApplied index building n new) → WorksOn live new
+      → OnErr answer (StopsApplying index count building new) → WorksOn live new
   works_after_apply new (Ok n) done some = works_some new count (omega arith) done.1
-  works_after_apply new (Err fault) done some = works_some new some.0 (omega (arith, some.1)) some.2
+  works_after_apply new (Err fault) done some = works_some new some.entries (omega (arith, some.fewer)) some.applied
 
 -- an index of the build isn't refused for its number
 pub inside_of : (b : BuildState) (index : ℕ) → index < length b.specs → nat_le (length b.specs) index ≡ false

@@ -1,8 +1,9 @@
 -- A spool that a worker found full is one of the worker's, and the pairs in it are of pages that were copied for the worker.
-use Rattle.std.proofs.Common.{◌≡◌, ℕ, ◌+◌, ◌*◌, false, List, [], ◌++◌, length, take, drop, Option, None, Some, sym, ap, ◌∙◌, subst, arith, inl, inr}
-use Rattle.std.proofs.Common.{append_assoc, append-nil, take-append-drop}
+use Rattle.std.proofs.Common.{◌≡◌, ℕ, ◌+◌, ◌*◌, false, List, [], ◌++◌, get_or, length, take, take_all, drop, Option, None, Some, sym, ap, ◌∙◌, subst, arith, inl, inr}
+use Rattle.std.proofs.Common.{append_assoc, take-append-drop}
+use Rattle.std.specs.Prelude.{flat_map}
 use Rattle.std.specs.List.{slice_get}
-use Rattle.std.proofs.lemmas.List.{append_cancel_left}
+use Rattle.std.proofs.lemmas.List.{length-drop}
 use Rattle.std.proofs.lemmas.Bool.{cases_Bool}
 use Rattle.keybytes.specs.Keys.{KeySpecValue}
 use Rattle.keybytes.specs.declared.fault.Fault.{Fault}
@@ -21,28 +22,32 @@ use Rattle.building.specs.ImagePairs.{HavePairs}
 use Rattle.building.specs.SpoolValue.{SpoolValue, spool_value, stakes_of}
 use Rattle.building.specs.TakeEnd.{TakeEnd, after_taking}
 use Rattle.building.specs.declared.turn.Turn.{Turn}
-use Rattle.building.specs.Turns.{IsStopped}
+use Rattle.building.specs.declared.turn.Turn.TheVariants.{Digest, Seal}
+use Rattle.building.specs.Turns.{IsStopped, turn_images}
 use Rattle.building.specs.WorkerValue.{HasReceived, SameWorker, WorkerValue}
 use Rattle.building.specs.declared.copied.Copied.{Copied}
 use Rattle.building.proofs.ManyPairs.{have_split, images-append}
 use Rattle.building.proofs.SamePairs.{have_same}
 use Rattle.building.proofs.Turns.{taken_till}
 use Rattle.build_events.specs.BuildSteps.{OnBuild}
-use Rattle.build_events.specs.CoreState.{BuildState, scanning_of}
-use Rattle.build_events.specs.Scanning.{AreCopies}
-use Rattle.build_events.specs.Workers.{is_sealed, put_to, worker_at}
+use Rattle.build_events.specs.CoreState.{BuildState, WorkerState, scanning_of}
+use Rattle.build_events.specs.Scanning.{AreCopies, pairs_at_scan}
+use Rattle.build_events.specs.Workers.{put_to, worker_at}
+use Rattle.build_events.specs.declared.scan.Scan.{Scan}
 use Rattle.keybytes.specs.declared.fault.Fault.TheVariants.{NoPage}
 use Rattle.side_file.specs.Ends.{RingId}
 use Rattle.build_work.specs.Keeping.{KeepsLaws}
-use Rattle.build_halves.proofs.LoadCauses.{opened_of, sealed_there}
-use Rattle.build_halves.proofs.NothingLeft.{nothing_left}
+use Rattle.build_halves.proofs.LoadCauses.{opened_of}
+use Rattle.build_halves.proofs.Refusals.{worker_there}
+use Rattle.build_halves.proofs.RunsToClose.{run_to_close}
+use Rattle.build_halves.proofs.Waits.{begun_is, next_copied, waits}
 use Rattle.build_scan.proofs.Places.{all_at, at_map, below, map_at, there_is}
-use Rattle.build_work.specs.BuildingValue.{BuildingValue, WorkValue}
+use Rattle.build_work.specs.BuildingValue.{BuildingValue, WorkValue, worker_state}
 use Rattle.build_work.specs.Holding.{all_spools, lent_spools}
 use Rattle.build_work.specs.Rings.{IsWorkerOf, all_sent}
 use Rattle.build_work.proofs.SpoolPlaces.{flat_at}
 use Rattle.build_halves.specs.Builds.{IsRunning, LiveValue, SeesRing, core_state}
-use Rattle.build_halves.specs.FullSpools.{WasFull, WorkerWasFull, pairs_put_to}
+use Rattle.build_halves.specs.FullSpools.{HasRunToClose, WasFull, WorkerWasFull, pairs_put_to, turn_scans}
 use Rattle.build_halves.specs.Rings.{ArePut}
 use Rattle.build_halves.proofs.AllImages.{all_own}
 use Rattle.build_halves.proofs.CopyPairs.{copies_pairs}
@@ -124,25 +129,42 @@ module _
       let first : split.0 ≡ pairs = have_same spec (images_of b.number kinds received) split.0 pairs split.2 own in
       first_of pairs split.1 (pairs_put_to b spec log k) (split.4 ∙ ap (λ (ps : List Pair). ps ++ split.1) first)
 
-  -- a worker that is sealed has no run to close
-  unsealed_it :
+  -- the copies that its turn takes are of the scans that come next
+  turn_copied : (turn : Turn) → AreCopies kinds log (turn_scans turn b k (worker_state it.intake)) (turn_images turn kinds it.intake)
+  turn_copied Digest = next_copied kinds log b k sent it.intake (put k sent sent_there) its.taking 1 sees.in_order
+  turn_copied Seal =
+      let later = drop it.intake.taken (put_to b k) in
+      let known = length it.intake.end.known in
+      let few = waits kinds log b k sent it.intake (put k sent sent_there) its.taking it.intake.end.known sees.in_order in
+      let all : take known later ≡ later = take_all known later (omega (arith, few, length-drop it.intake.taken (put_to b k))) in
+      subst (λ (scans : List Scan). AreCopies kinds log scans (turn_images Seal kinds it.intake)) all
+      (next_copied kinds log b k sent it.intake (put k sent sent_there) its.taking known sees.in_order)
+
+  -- it has another run to close
+  has_run :
       (turn : Turn) (fault : Fault) (after : WorkerValue) (stopped : IsStopped is_full runs open_run stake turn it fault after) (no_page : fault ≡ NoPage) (page_rings : List RingId)
-      → KeepsLaws page_rings it → w.loading ≡ false → is_sealed b log k (worker_at (core_state live building).work k) ≡ false
-  unsealed_it turn fault after stopped no_page page_rings laws scans = elim (cases_Bool (is_sealed b log k (worker_at (core_state live building).work k))) [
-    | inl sealed ↦
-        let took = taken_till turn it.maker.schema it.intake after.intake fault (stopped.took its.fine) in
-        let open_runs = opened_of w.loading it its run.on.columns laws in
-        let done = sealed_there live building b w run fine put k sent it sent_there sees.there open_runs sealed in
-        let none : it.intake.end.known ≡ [] =
-        append_cancel_left it.intake.end.received it.intake.end.known [] (sees.in_order ∙ sym done.taken ∙ sym (append-nil it.intake.end.received)) in
-        absurd (nothing_left it after stopped.same is_full runs open_run stake turn (laws.holding its.fine (its.handed ∙ scans)) took.0 took.1 none done.closed
-        (stopped.full its.fine no_page))
-    | inr not_sealed ↦ not_sealed
-  ]
+      → KeepsLaws page_rings it → w.loading ≡ false → (spec : KeySpecValue) → slice_get w.specs (stopped.full its.fine no_page).index ≡ Some spec
+      → HasRunToClose turn b log k (worker_at (core_state live building).work k) spec
+  has_run turn fault after stopped no_page page_rings laws scans spec is =
+      let full = stopped.full its.fine no_page in
+      let columns = all_at (λ (s : KeySpecValue). s.kinds ≡ kinds) w.specs full.index spec run.on.columns is in
+      let opened = (opened_of w.loading it its run.on.columns laws).opened full.index spec is in
+      let begun = begun_is kinds log b k sent it.intake (put k sent sent_there) its.taking spec columns (get_or it.maker.begun full.index []) opened in
+      let next = flat_map (pairs_at_scan (scanning_of b spec) log) (turn_scans turn b k (worker_state it.intake)) in
+      let have = copies_pairs (scanning_of b spec) kinds log (turn_scans turn b k (worker_state it.intake)) (turn_images turn kinds it.intake) columns (turn_copied turn) in
+      let spec_same : spec_at it.maker.specs full.index ≡ spec =
+      ap (λ (specs : List KeySpecValue). spec_at specs full.index) its.specs_are ∙ spec_is w.specs full.index spec is in
+      let by_schema : HavePairs spec (turn_images turn it.maker.schema it.intake) next =
+      subst (λ (ks : List Kind). HavePairs spec (turn_images turn ks it.intake) next) (sym its.schema) have in
+      let own : HavePairs (spec_at it.maker.specs full.index) (turn_images turn it.maker.schema it.intake) next =
+      subst (λ (s : KeySpecValue). HavePairs s (turn_images turn it.maker.schema it.intake) next) (sym spec_same) by_schema in
+      let enough = run_to_close it after stopped.same is_full runs open_run stake turn fault (laws.holding its.fine (its.handed ∙ scans)) (stopped.took its.fine) full next own in
+      subst (λ (state : WorkerState). HasRunToClose turn b log k state spec) (sym (worker_there live building b w run fine put k it sees.there))
+      (omega (arith, enough, begun))
 
   pub full_in_build :
       (turn : Turn) (fault : Fault) (after : WorkerValue) → IsStopped is_full runs open_run stake turn it fault after
-      → (page_rings : List RingId) → KeepsLaws page_rings it → NoPageOnlyIf (WorkerWasFull is_full runs open_run stake (core_state live building) k) fault
+      → (page_rings : List RingId) → KeepsLaws page_rings it → NoPageOnlyIf (WorkerWasFull is_full runs open_run stake turn (core_state live building) k) fault
   full_in_build turn fault after stopped page_rings laws = λ no_page.
       let full = stopped.full its.fine no_page in
       let took = taken_till turn it.maker.schema it.intake after.intake fault (stopped.took its.fine) in
@@ -162,7 +184,8 @@ module _
             ap (λ (home : List SpoolValue). slice_get (stakes_of (home ++ lent_spools building.workers)) (k * length w.specs + full.index)) (run.at_work.lent fine scans)
             ∙ map_at (λ (s : SpoolValue). s.stake) (lent_spools building.workers) (k * length w.specs + full.index) own.0 place ∙ ap (λ o. Some o) own.2 in
             let index = there_is w.specs full.index (let within = below it.spools full.index own.0 own.1 in omega (arith, within, many)) in
-            let was : WasFull is_full runs open_run stake b log k (stakes_of (all_spools building.workers building.spools)) = record {
+            let state = worker_at (core_state live building).work k in
+            let was : WasFull is_full runs open_run stake turn b log k state (stakes_of (all_spools building.workers building.spools)) = record {
               index = full.index;
               spec = index.0;
               of_build = ap (λ (specs : List KeySpecValue). slice_get specs full.index) run.on.specs ∙ index.1;
@@ -170,9 +193,8 @@ module _
               there = ap (λ (specs : List KeySpecValue). slice_get (stakes_of (all_spools building.workers building.spools)) (k * length specs + full.index)) run.on.specs ∙ all;
               full = full_of_more is_full runs open_run full.pairs (pairs_put_to b index.0 log k) full.spool
                   (of_pages after stopped.same took.0 took.1 full.index index.0 index.1 full.pairs full.given) full.full;
+              wants = has_run turn fault after stopped no_page page_rings laws scans index.0 index.1;
             } in
-            subst (λ (o : Option BuildState). OnBuild o (λ x.
-            WasFull is_full runs open_run stake x log k (stakes_of (all_spools building.workers building.spools))
-            × (is_sealed x log k (worker_at (core_state live building).work k) ≡ false)))
-            (sym run.build_is) (was, unsealed_it turn fault after stopped no_page page_rings laws scans)
+            subst (λ (o : Option BuildState). OnBuild o (λ x. WasFull is_full runs open_run stake turn x log k state (stakes_of (all_spools building.workers building.spools))))
+            (sym run.build_is) was
       ]

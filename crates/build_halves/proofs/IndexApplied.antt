@@ -1,5 +1,5 @@
 -- What entries that are applied leave of the index of a build, and of its work.
-use Rattle.std.proofs.Common.{◌≡◌, ℕ, ◌+◌, ◌-◌, ◌≤◌, List, ◌++◌, length, map, set, take, drop, append_assoc, Some, None, refl, sym, ap, ap₂, ◌∙◌, inl}
+use Rattle.std.proofs.Common.{◌≡◌, ℕ, zero, suc, zero-add, ◌+◌, ◌-◌, ◌<◌, ◌≤◌, List, [], ◌∷◌, ◌++◌, length, map, set, take, drop, append_assoc, Some, None, refl, sym, ap, ap₂, ◌∙◌, inl}
 use Rattle.std.proofs.Common.{inr}
 use Rattle.std.proofs.Common.{subst, arith, take-add, take-take, take-append-drop, drop-drop}
 use Rattle.std.specs.Prelude.{is_some}
@@ -11,8 +11,9 @@ use Rattle.keybytes.specs.Pairs.{pair_cmp, set_of}
 use Rattle.side_file.specs.Entries.{entry_of}
 use Rattle.side_file.specs.Kept.{last_ones}
 use Rattle.side_file.specs.declared.entry.Entry.{Entry}
+use Rattle.side_file.specs.declared.op.Op.TheVariants.{Insert}
 use Rattle.visibility.specs.Applied.{apply_entries}
-use Rattle.visibility.specs.SideEntries.{SideEntry}
+use Rattle.visibility.specs.SideEntries.{SideEntry, delete, insert}
 use Rattle.visibility.proofs.Changes.{apply-append}
 use Rattle.catch_up.specs.Built.{told_to}
 use Rattle.catch_up.proofs.Telling.{told_entries}
@@ -25,16 +26,16 @@ use Rattle.catch_up.specs.Built.{BuiltValue}
 use Rattle.keybytes.specs.Keys.{KeySpecValue}
 use Rattle.side_file.specs.Ends.{PutEnd}
 use Rattle.std.specs.List.{slice_get}
-use Rattle.build_scan.proofs.Places.{at_set, set_there, set_elsewhere, below, map_at}
+use Rattle.build_scan.proofs.Places.{at_map, at_set, set_there, set_elsewhere, below, map_at}
 use Rattle.build_work.proofs.Unloaded.{open_fewer, unloaded_before}
 use Rattle.build_work.proofs.Works.{set_work_on}
 use Rattle.build_events.specs.CoreState.{BuildState, IndexState, WorkState, scanning_of}
 use Rattle.build_events.specs.Scanning.{Scanning, scanned_pairs}
 use Rattle.build_events.specs.SideEntries.{side_entries}
 use Rattle.build_scan.specs.SideFiles.{IsFed, AreFedEntries, SeesSide}
-use Rattle.build_events.specs.BuildSteps.{after_apply}
+use Rattle.build_events.specs.BuildSteps.{MayTakeMemory, PutsIn, after_apply}
 use Rattle.build_events.specs.Workers.{fed_to, in_ring, index_at}
-use Rattle.build_work.specs.Working.{IsTakingEntries, CanApply, HasApplied}
+use Rattle.build_work.specs.Working.{IsTakingEntries, CanApply, CountsNoMore, HasApplied, MayTakeMemoryFor}
 use Rattle.build_scan.proofs.Feeding.{waiting_in_ring}
 use Rattle.build_halves.proofs.Refusals.{state_of, state_is, works_with}
 use Rattle.keybytes.proofs.PairSets.{set_of-keys}
@@ -51,6 +52,24 @@ next_of_first a c n xs few =
 last_dropped : {X : Type 0} (n k : ℕ) (xs : List X) → k ≤ n → n ≤ length xs → drop k (last_ones n xs) ≡ last_ones (n - k) xs
 last_dropped n k xs few there =
     drop-drop k (length xs - n) xs ∙ ap (λ i. drop i xs) (let sum : (length xs - n) + k ≡ length xs - (n - k) = omega (arith, few, there) in sum)
+
+-- what is behind the first n is so of all
+behind : {X : Type 0} (n : ℕ) (xs : List X) (k : ℕ) (x : X) → slice_get (drop n xs) k ≡ Some x → slice_get xs (n + k) ≡ Some x
+behind zero xs k x at = ap (slice_get xs) (zero-add k) ∙ at
+behind (suc n) [] k x at = absurd (cc)
+behind (suc n) (y ∷ ys) k x at = let next : suc n + k ≡ suc (n + k) = omega arith in ap (slice_get (y ∷ ys)) next ∙ behind n ys k x at
+
+-- what is among the first m is so of all
+among_first : {X : Type 0} (m : ℕ) (xs : List X) (k : ℕ) (x : X) → slice_get (take m xs) k ≡ Some x → slice_get xs k ≡ Some x
+among_first zero xs k x at = absurd (cc)
+among_first (suc m) [] k x at = absurd (cc)
+among_first (suc m) (y ∷ ys) zero x at = at
+among_first (suc m) (y ∷ ys) (suc k) x at = among_first m ys k x at
+
+-- an entry that is put in a ring as an insert puts a pair in
+puts_in : (build : ℕ) (entry : SideEntry) → (entry_of build entry).op ≡ Insert → PutsIn entry
+puts_in build (delete pair) is = absurd (cc)
+puts_in build (insert pair) is = (pair, refl)
 
 -- a running build that isn't spoiled, with one of its indexes: its pairs are in order, and both ends of its ring were looked at
 pub record AppliesNext (index waiting : ℕ) (live : LiveValue) (building : BuildingValue) : Type 0 where
@@ -128,8 +147,45 @@ module _ (index waiting : ℕ) (live : LiveValue) (building : BuildingValue) (t 
     taking = taking;
     fine = t.fine;
     seen = omega (arith, few, t.sees.counted);
-    countable = omega (arith, few, seen_is.1, ring.counted, ring.countable);
   }
+
+  -- the next that waits may take memory for what it is in the side-file
+  pub may_take :
+      (count : ℕ) → count < waiting → MayTakeMemoryFor index count building
+      → MayTakeMemory t.build live.state.heap.log index ((index_at (work_state building.workers building.work).indexes index).applied + count)
+  unfolding taking
+  may_take count less needed =
+      let same = same_taking index building needed.taking taking in
+      let known_is : t.end.known ≡ map as_put (drop t.it.applied (take fed_now entries)) =
+      seen_is.0
+      ∙ sym (last_dropped fed_now t.it.applied t.put.sent ring.counted ring.were_sent)
+      ∙ ap (drop t.it.applied) t.fed.entries
+      ∙ drop-map as_put t.it.applied (take fed_now entries) in
+      let at : slice_get (map as_put (drop t.it.applied (take fed_now entries))) count ≡ Some needed.next =
+      ap (λ (es : List Entry). slice_get es count) (sym known_is) ∙ ap (λ (e : TakeEnd Entry). slice_get e.known count) (sym same.3) ∙ needed.there in
+      let it = at_map as_put (drop t.it.applied (take fed_now entries)) count needed.next at in
+      let its_place : slice_get entries (t.it.applied + count) ≡ Some it.0 =
+      among_first fed_now entries (t.it.applied + count) it.0 (behind t.it.applied (take fed_now entries) count it.0 it.1) in
+      let seen_applied : (index_at (work_state building.workers building.work).indexes index).applied ≡ t.it.applied =
+      ap (λ (i : IndexState). i.applied) index_seen in
+      let unique : t.built.unique ≡ t.spec.unique = on.of_spec t.built t.loaded in
+      record {
+        spec = t.spec;
+        of_build = t.spec_at;
+        entry = it.0;
+        next = ap (λ (n : ℕ). slice_get entries (n + count)) seen_applied ∙ its_place;
+        needs = elim needed.needs.1 [
+          | inl puts ↦ inl (puts_in t.build.number it.0 (ap (λ (e : Entry). e.op) it.2 ∙ puts))
+          | inr tallied ↦ inr (sym unique ∙ ap (λ (x : BuiltValue). x.unique) (sym same.2) ∙ tallied)
+        ];
+      }
+
+  -- and it can be counted
+  pub counts_more : (count : ℕ) → count < waiting → CountsNoMore index count building → ⊥
+  unfolding taking
+  counts_more count less none =
+      let its = ap (λ (i : IndexValue). i.applied) (same_taking index building none.taking taking).1 in
+      omega (arith, less, its, none.past, seen_is.1, ring.counted, ring.countable)
 
   module _ (new : BuildingValue) (count : ℕ) (few : count ≤ waiting) (done : HasApplied index building count new) where
     same : (done.taking.work ≡ t.work) × (done.taking.it ≡ t.it) × (done.taking.built ≡ t.built) × (done.taking.end ≡ t.end)

@@ -12,7 +12,7 @@ use Rattle.build_halves.specs.Builds.{LiveValue, core_state}
 use Rattle.build_work.specs.BuildingValue.{BuildingValue, WorkValue, work_state, index_state}
 use Rattle.build_halves.specs.CatchingUp.{IndexIsFurther, left_at, unapplied_at, further_by}
 use Rattle.build_events.specs.CoreState.{BuildState, IndexState, CoreState}
-use Rattle.build_events.specs.BuildSteps.{OnBuild, Feeds, Applies, AppliesSome, build_cause, cause_if, apply_refusal, index_refusal}
+use Rattle.build_events.specs.BuildSteps.{OnBuild, Feeds, Applies, AppliesSome, MayTakeMemory, build_cause, cause_if, apply_refusal, index_refusal}
 use Rattle.build_events.specs.Steps.{refusal}
 use Rattle.build_events.specs.Workers.{all_entries, fed_to, in_ring, index_at, unfed}
 use Rattle.build_events.specs.declared.event.Event.TheVariants.{Apply}
@@ -143,7 +143,8 @@ module _ (index : ℕ) (s mid : CoreState) (it : IndexIsFurther index s mid) whe
             indexes =
                 set m.work.indexes index (record (index_at m.work.indexes index) { applied = (index_at m.work.indexes index).applied + n });
           };
-        }) in
+        })
+        × MayTakeMemory b m.live.heap.log index ((index_at m.work.indexes index).applied + n) in
         let runs : mid.live.build ≡ Some its_build = ap (λ (m : CoreState). m.live.build) it.new_is in
         let done : Done mid its_build = subst (λ (o : Option BuildState). OnBuild o (Done mid)) runs some in
         let waiting : in_ring its_build mid.work index ≡ it.fed - it.applied = ap (λ (m : CoreState). in_ring its_build m.work index) it.new_is ∙ waiting_now in

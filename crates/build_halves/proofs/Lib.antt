@@ -16,7 +16,6 @@ pub mod LoadLooked
 pub mod Loaded
 pub mod Looked
 pub mod MadeReady
-pub mod NothingLeft
 pub mod OneRing
 pub mod LowestUnsealed
 pub mod OwnSwitch
@@ -26,6 +25,7 @@ pub mod Performed
 pub mod Puts
 pub mod Refusals
 pub mod Reunited
+pub mod RunsToClose
 pub mod ScanCauses
 pub mod SentAll
 pub mod SentNext

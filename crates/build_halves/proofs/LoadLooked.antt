@@ -1,5 +1,5 @@
 -- Why the pairs of an index are not put in order, told by a look at the page rings.
-use Rattle.std.proofs.Common.{◌≡◌, ℕ, ◌<◌, ◌≤◌, List, length, All, Option, None, Some, ap, subst, arith}
+use Rattle.std.proofs.Common.{◌≡◌, ℕ, ◌<◌, List, length, All, Option, None, Some, ap, subst, arith}
 use Rattle.std.specs.List.{slice_get}
 use Rattle.keybytes.specs.declared.fault.Fault.{Fault}
 use Rattle.keybytes.specs.declared.fault.Fault.TheVariants.{NotSealed}
@@ -12,7 +12,7 @@ use Rattle.build_events.specs.declared.event.Event.TheVariants.{Load}
 use Rattle.build_work.specs.BuildingValue.{BuildingValue, WorkValue}
 use Rattle.build_work.specs.Keeping.{KeepsLaws}
 use Rattle.build_work.specs.Rings.{all_sent}
-use Rattle.build_halves.specs.Builds.{HasLooked, IsRunning, LiveValue, MayLoad, cause_of, core_state}
+use Rattle.build_halves.specs.Builds.{HasLooked, IsRunning, LiveValue, MayLoad, cause_of}
 use Rattle.build_halves.specs.Rings.{ArePut, PagesFollow}
 use Rattle.build_halves.specs.Switching.{HaveAll, IsLowestUnsealed}
 use Rattle.build_halves.proofs.LoadCauses.{OpenRuns, all_holding, load_free, load_unsealed, open_runs}

@@ -1,7 +1,6 @@
 -- The rings were sent each page of a build once.
-use Rattle.std.proofs.Common.{◌≡◌, ℕ, ◌<◌, List, length, Option, Some, None, arith}
+use Rattle.std.proofs.Common.{◌≡◌, ℕ, List, length, Option, Some, None, arith}
 use Rattle.std.specs.Prelude.{IfSome}
-use Rattle.std.proofs.lemmas.List.Elements.{All-weaker}
 use Rattle.keybytes.specs.declared.kind.Kind.{Kind}
 use Rattle.heap_log.specs.declared.record.LogRec.{LogRec}
 use Rattle.building.specs.declared.copied.Copied.{Copied}
@@ -18,7 +17,7 @@ pub runs_once :
 runs_once kinds log builds None all follows put sixteen = tt
 runs_once kinds log builds (Some b) all follows put sixteen = record {
   once = (follows.scanned no_spec).once;
-  ringed = All-weaker (λ scan. scan.worker < b.workers) (λ scan. scan.worker < length all)
-      (λ scan less. omega (arith, less, follows.few_workers, sixteen)) b.scans follows.for_workers;
+  for_workers = follows.for_workers;
+  ringed = omega (arith, follows.few_workers, sixteen);
   sent = put.put;
 }

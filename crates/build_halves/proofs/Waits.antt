@@ -7,21 +7,24 @@ use Rattle.run_spool.specs.Spools.{all_pairs}
 use Rattle.run_maker.specs.Making.{MakerValue}
 use Rattle.std.specs.List.{All, slice_get, list_all}
 use Rattle.std.proofs.lemmas.Bool.{and_parts, and_from, eq-eqb, eqb-true}
-use Rattle.std.proofs.lemmas.List.{append_cancel_left, take-append-le, nil_from_length, append-nil}
+use Rattle.std.proofs.lemmas.List.{append_cancel_left, drop-append-le, take-append-le, nil_from_length, append-nil}
+use Rattle.std.proofs.lemmas.List.Elements.{All-head, All-tail}
+use Rattle.std.proofs.Math.ListN.{drop_of_length-le}
 use Rattle.std.proofs.lemmas.Option.{same_Some}
 use Rattle.keybytes.specs.Keys.{KeySpecValue}
 use Rattle.keybytes.specs.declared.kind.Kind.{Kind}
 use Rattle.keybytes.specs.declared.pair.Pair.{Pair}
 use Rattle.heap_log.specs.declared.record.LogRec.{LogRec}
 use Rattle.heap_table.specs.Images.{ImageValue}
-use Rattle.building.specs.Copies.{images_of}
+use Rattle.building.specs.Copies.{IsFor, is_for, images_of}
 use Rattle.building.specs.Holding.{HoldsPairs, HoldsOpen}
 use Rattle.building.specs.Taking.{IsTaking, received_images, unsealed_images}
 use Rattle.building.specs.IntakeValue.{IntakeValue}
+use Rattle.building.specs.Work.{next_images}
 use Rattle.building.specs.declared.copied.Copied.{Copied}
-use Rattle.building.proofs.ManyPairs.{images-append}
+use Rattle.building.proofs.ManyPairs.{for_decides, images-append}
 use Rattle.building.proofs.SamePairs.{have_same}
-use Rattle.building.proofs.Taking.{own_images, sent_count}
+use Rattle.building.proofs.Taking.{own_images, sees_rest, sent_count}
 use Rattle.build_work.specs.BuildingValue.{worker_state}
 use Rattle.build_events.specs.CoreState.{BuildState, scanning_of}
 use Rattle.build_halves.specs.Rings.{all_images}
@@ -52,6 +55,17 @@ copies_drop kinds log (suc n) [] [] copies = tt
 copies_drop kinds log (suc n) [] (i ∷ is) copies = absurd copies
 copies_drop kinds log (suc n) (s ∷ ss) [] copies = absurd copies
 copies_drop kinds log (suc n) (s ∷ ss) (i ∷ is) copies = copies_drop kinds log n ss is copies.1
+
+-- the first of the copies of one build and of its columns have the first images
+own_take :
+    (build : ℕ) (kinds : List Kind) (n : ℕ) (copies : List Copied) → All (IsFor build kinds) copies
+    → take n (images_of build kinds copies) ≡ images_of build kinds (take n copies)
+own_take build kinds zero copies own = refl
+own_take build kinds (suc n) [] own = refl
+own_take build kinds (suc n) (copied ∷ copies) own =
+    let is : is_for build kinds copied ≡ true = (for_decides build kinds copied).1 (All-head (IsFor build kinds) copied copies own) in
+    let rest = own_take build kinds n copies (All-tail (IsFor build kinds) copied copies own) in
+    rw is (ap (λ images. copied.image ∷ images) rest)
 
 -- what passes of all, and of each
 all_pass : {X : Type 0} (test : X → Bool) (xs : List X) → ((k : ℕ) (x : X) → slice_get xs k ≡ Some x → test x ≡ true) → list_all test xs ≡ true
@@ -94,6 +108,26 @@ module _
       subst (AreCopies kinds log (take worker.taken (put_to b k))) first_images
       (copies_take kinds log worker.taken (put_to b k) (images_of b.number kinds sent) copies)
 
+  -- the images behind these are copies of the scans behind those
+  later_images : drop worker.taken (images_of b.number kinds sent) ≡ images_of b.number kinds taking.rest
+  later_images =
+      let received = received_images kinds worker in
+      let rest = images_of b.number kinds taking.rest in
+      ap (drop worker.taken) parts ∙ drop-append-le worker.taken received rest (omega (arith, taking.taken))
+      ∙ ap (λ images. images ++ rest) (drop_of_length-le received (omega (arith, taking.taken)))
+
+  pub next_copied : (n : ℕ) → worker.end.received ++ worker.end.known ≡ sent → AreCopies kinds log (take n (drop worker.taken (put_to b k))) (next_images n kinds worker)
+  next_copied n in_order =
+      let rest = images_of b.number kinds taking.rest in
+      let all : AreCopies kinds log (drop worker.taken (put_to b k)) rest =
+      subst (AreCopies kinds log (drop worker.taken (put_to b k))) later_images
+      (copies_drop kinds log worker.taken (put_to b k) (images_of b.number kinds sent) copies) in
+      let same : take n rest ≡ next_images n kinds worker =
+      own_take b.number kinds n taking.rest taking.own
+      ∙ ap (λ (cs : List Copied). images_of b.number kinds (take n cs)) (sym (sees_rest b.number kinds sent worker taking worker.end.known in_order))
+      ∙ ap (λ (build : ℕ). images_of build kinds (take n worker.end.known)) (sym taking.of_build) in
+      subst (AreCopies kinds log (take n (drop worker.taken (put_to b k)))) same (copies_take kinds log n (drop worker.taken (put_to b k)) rest all)
+
   -- what waits is what it sees in its ring
   pub waits : (known : List Copied) → worker.end.received ++ known ≡ sent → length (put_to b k) - worker.taken ≡ length known
   waits known in_order =
@@ -113,7 +147,7 @@ module _
         IsPermutation-sym _ (all_pairs runs ++ begun) (subst (λ (ps : List Pair). IsPermutation ps (all_pairs runs ++ begun)) same held.all)
 
     -- how many of them are in no run yet
-    begun_is :
+    pub begun_is :
         (begun : List Pair) → HoldsOpen spec (unsealed_images spec.kinds worker) begun
         → length begun ≡ length (unsealed_pairs b log k (worker_state worker) spec) % 4096
     begun_is begun its =

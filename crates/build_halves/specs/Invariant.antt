@@ -1,5 +1,5 @@
 -- What the rings were sent for a running build.
-use Rattle.std.specs.Prelude.{List, length}
+use Rattle.std.specs.Prelude.{◌≤◌, List, length}
 use Rattle.keybytes.specs.declared.kind.Kind.{Kind}
 use Rattle.heap_log.specs.declared.record.LogRec.{LogRec}
 use Rattle.building.specs.declared.copied.Copied.{Copied}
@@ -10,8 +10,10 @@ use Rattle.build_halves.specs.Rings.{ArePut}
 
 -- the copies that the rings were sent for the build are those of the scanned pages, each once
 pub record EachPageOnce (kinds : List Kind) (log : List LogRec) (b : BuildState) (all : List (List Copied)) : Type 0 where
-  -- no page is scanned twice, and each is scanned for a worker that has a ring
+  -- no page is scanned twice, and each is scanned for a worker of the build
   pub once : ReadOnce b.scans
-  pub ringed : AreForWorkers (length all) b.scans
+  pub for_workers : AreForWorkers b.workers b.scans
+  -- each of which has a ring
+  pub ringed : b.workers ≤ length all
   -- a worker's ring was sent one copy for each page scanned for it, as the page was then, in order, and no other
   pub sent : ArePut kinds log b all

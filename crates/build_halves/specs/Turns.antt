@@ -29,5 +29,5 @@ pub record IsTurnRefused
     : Type 0 where
   pub want : IsWorkWant fault
   pub waits : TurnWaits turn worker s fault
-  pub full : NoPageOnlyIf (WorkerWasFull is_full runs open_run stake s worker) fault
+  pub full : NoPageOnlyIf (WorkerWasFull is_full runs open_run stake turn s worker) fault
   pub spoiled : new ≡ spoiled_by fault s

@@ -188,8 +188,7 @@ fn applied_alone<T: Table>(
     if work.indexes().is_empty() || !work.is_loaded(0) {
         return Err(Fault::NotLoaded(0));
     }
-    let count = most.min(seen).min(usize::MAX - work.applied(0));
-    building.apply(0, count)
+    building.apply(0, most.min(seen))
 }
 
 fn fed<T: Table>(
@@ -223,8 +222,7 @@ fn switched<T: Table>(
     live: &mut Live<T>,
     building: &mut Building<ListSpool, T>,
 ) -> Result<usize, Fault> {
-    let (number, _) = live.switch_in(building)?;
-    Ok(number)
+    Ok(live.switch_in(building)?.number)
 }
 
 /// How many pairs these are, if the ready index has them.

@@ -1,20 +1,21 @@
 -- Entries that are taken from the side-file's ring and applied to the index, one after another.
-use Rattle.std.proofs.Common.{Result, Ok, Err, OnErr, ◌≡◌, ℕ, sym, ap, ◌∙◌, ◌+◌, ◌<◌, ◌≤◌, ◌^◌, true, List, [], ◌∷◌, ◌++◌, length, map, get_or, take, drop}
-use Rattle.std.proofs.Common.{set, set-set, append_assoc, Option, Some, None, refl, ap₂, subst, arith, Bool, length-append, length-drop, take-add, drop-drop}
+use Rattle.std.proofs.Common.{Result, Ok, Err, OnErr, ◌≡◌, ◌⊎◌, ℕ, zero, suc, sym, ap, ◌∙◌, ◌+◌, ◌<◌, ◌≤◌, true, List, [], ◌∷◌, ◌++◌, length, map, get_or, take, drop}
+use Rattle.std.proofs.Common.{set, set-set, append_assoc, Option, Some, None, refl, ap₂, subst, arith, inl, inr, Bool, length-append, length-drop, take-add, drop-drop}
 use Rattle.std.proofs.lemmas.Option.{same_Some}
 use Rattle.build_work.specs.BuildingValue.{BuildingValue, WorkValue, IndexValue, with_index, with_pairs}
 use Rattle.std.specs.List.{slice_get}
-use Rattle.build_work.specs.Working.{IsTakingEntries, CanApply, HasApplied, HasSeenEntries}
-use Rattle.std.proofs.lemmas.List.{append-nil, take-append-le, drop-append-le, length-map, map-set}
+use Rattle.build_work.specs.Working.{IsTakingEntries, CanApply, HasApplied, CountsNoMore, HasSeenEntries, MayTakeMemoryFor, StopsApplying}
+use Rattle.std.proofs.lemmas.List.{append-nil, nil_from_length, take-append-le, drop-append-le, length-map, map-set}
 use Rattle.std.proofs.Math.Seq.{take-append_seam, drop-append_seam}
 use Rattle.std.specs.declared.alloc.Global.{Global}
 use Rattle.rtrb.specs.declared.consumer.Consumer.{Consumer}
+use Rattle.rtrb.specs.Ring.{known_items}
 use Rattle.keybytes.specs.Pairs.{AreOrdered, set_of}
 use Rattle.side_file.specs.declared.entry.Entry.{Entry}
 use Rattle.visibility.specs.Applied.{apply_entries}
 use Rattle.visibility.proofs.Changes.{apply-append}
-use Rattle.catch_up.specs.Applying.{Applied, Taken}
-use Rattle.catch_up.specs.Built.{BuiltValue, told_to}
+use Rattle.catch_up.specs.Applying.{Applied, NextMayWant, Taken}
+use Rattle.catch_up.specs.Built.{BuiltValue, MayWant, told_to}
 use Rattle.catch_up.proofs.Telling.{told_to-append}
 use Rattle.building.specs.TakeEnd.{TakeEnd, take_end}
 use Rattle.keybytes.specs.declared.pair.Pair.{Pair}
@@ -39,6 +40,14 @@ same_taking index building x y =
     let it : x.it ≡ y.it = same_Some x.it y.it (sym x.there ∙ ap (λ (w : WorkValue). slice_get w.indexes index) work ∙ y.there) in
     (work, it, same_Some x.built y.built (sym x.loaded ∙ ap (λ (i : IndexValue). i.built) it ∙ y.loaded), same_Some x.end y.end (sym x.at ∙ y.at))
 
+-- the index that takes entries is in its place
+pub its_place :
+    (index : ℕ) (building seen : BuildingValue) (work : WorkValue) → seen ≡ building → seen.work ≡ Some work → (taking : IsTakingEntries index building)
+    → slice_get work.indexes index ≡ Some taking.it
+its_place index building seen work same runs taking =
+    let its : taking.work ≡ work = same_Some taking.work work (sym taking.runs ∙ ap (λ (b : BuildingValue). b.work) (sym same) ∙ runs) in
+    subst (λ (w : WorkValue). slice_get w.indexes index ≡ Some taking.it) its taking.there
+
 -- the first n that were seen were taken
 first_taken :
     (entries known new : List Entry) (more : List Entry) → known ++ more ≡ entries ++ new → length entries ≤ length known
@@ -58,6 +67,33 @@ one_taken [] known new more same few seen empty =
     absurd (omega (arith, whole, nothing, seen))
 one_taken (x ∷ []) known new more same few seen empty = refl
 one_taken (x ∷ y ∷ entries) known new more same few seen empty = absurd (omega (arith, few))
+
+-- what comes first behind the first n
+first_behind : {X : Type 0} (n : ℕ) (xs more : List X) (x : X) → n < length xs → slice_get (drop n xs ++ more) 0 ≡ Some x → slice_get xs n ≡ Some x
+first_behind n [] more x less at = absurd (omega (arith, less))
+first_behind zero (y ∷ ys) more x less at = at
+first_behind (suc n) (y ∷ ys) more x less at = first_behind n ys more x (omega (arith, less)) at
+
+-- the entry that the ring has next is the first that was seen in it
+pub next_seen :
+    {P : Type 0} (built after : BuiltValue) (ring ring_new : Consumer Entry Global P) (entries : List Entry) → Taken entries ring ring_new → Applied entries built after
+    → length entries < 1 → 1 ≤ length (known_items ring) → NextMayWant after ring_new
+    → (next : Entry) × (slice_get (take_end ring).known 0 ≡ Some next) × MayWant built next
+next_seen built after ring ring_new entries taken applied few seen next =
+    by_known (known_items ring) refl seen where
+      none : entries ≡ []
+      none = nil_from_length entries (omega (arith, few))
+
+      its : MayWant built next.0
+      its = (next.2.0 ∙ applied.build, elim next.2.1 [ inl puts ↦ inl puts | inr unique ↦ inr (sym applied.unique ∙ unique) ])
+
+      by_known : (known : List Entry) → known_items ring ≡ known → 1 ≤ length known → (e : Entry) × (slice_get (known_items ring) 0 ≡ Some e) × MayWant built e
+      by_known [] is some = absurd (omega (arith, some))
+      by_known (e ∷ es) is some =
+          let same : e ∷ (es ++ taken.known.0) ≡ next.0 ∷ next.1.0 =
+          ap (λ (ks : List Entry). ks ++ taken.known.0) (sym is) ∙ taken.known.1 ∙ ap (λ (xs : List Entry). xs ++ known_items ring_new) none ∙ sym next.1.1 in
+          let first : e ≡ next.0 = cc in
+          (e, ap (λ (ks : List Entry). slice_get ks 0) is, subst (MayWant built) (sym first) its)
 
 -- the index of a build with other pairs, and other entries applied
 abbrev index_with : WorkValue → ℕ → List Pair → ℕ → IndexValue
@@ -147,6 +183,19 @@ module _
       ∙ ap (with_both old (set old.sides index (take_end ring_new)) taking.work) (total ∙ ap (λ n. n + count) (sym applied_is))) where
         with_both : BuildingValue → List (TakeEnd Entry) → WorkValue → ℕ → BuildingValue
         with_both b es v n = record b { sides = es; work = Some (record v { indexes = set v.indexes index (record { built = Some after; applied = n }) }) }
+
+  -- where it wanted memory, the next that is seen may take some
+  pub needed_next :
+      (ring_new : Consumer Entry Global P) (entries : List Entry) (after : BuiltValue) → Taken entries ring ring_new → Applied entries built after
+      → length entries < 1 → 1 ≤ length taking.end.known → NextMayWant after ring_new → MayTakeMemoryFor index 0 old
+  needed_next ring_new entries after taken done few seen wants =
+      let next = next_seen built after ring ring_new entries taken done few (subst (λ (e : TakeEnd Entry). 1 ≤ length e.known) end_is seen) wants in
+      record {
+        taking = taking;
+        next = next.0;
+        there = ap (λ (e : TakeEnd Entry). slice_get e.known 0) end_is ∙ next.1;
+        needs = subst (λ (b : BuiltValue). MayWant b next.0) (sym built_is) next.2;
+      }
 
   -- and the work keeps what it keeps
   pub kept_next :
@@ -265,16 +314,52 @@ module _ (index : ℕ) (old mid : BuildingValue) (m : ℕ) (first : HasApplied i
             (index_with first.taking.work index next.pairs ((first.taking.it.applied + m) + n)))
 
   -- and the next can be applied
-  pub can_go_on : (count : ℕ) → first.taking.work.spoiled ≡ None → count ≤ length first.taking.end.known → first.taking.it.applied + count < 2 ^ 64 → m < count → CanApply index 1 mid
+  pub can_go_on : (count : ℕ) → first.taking.work.spoiled ≡ None → count ≤ length first.taking.end.known → m < count → CanApply index 1 mid
   unfolding taking_more
-  can_go_on count fine seen countable less = record {
+  can_go_on count fine seen less = record {
     taking = taking_more;
     fine = fine;
     seen =
         let longer = length-append (drop m first.taking.end.known) first.more in
         let rest = length-drop m first.taking.end.known in
         rw first.known (omega (arith, longer, rest, seen, less));
-    countable = omega (arith, countable, less);
+  }
+
+  -- what may take memory for the next may take it for the one behind those that were applied
+  pub needed_behind : m < length first.taking.end.known → MayTakeMemoryFor index 0 mid → MayTakeMemoryFor index m old
+  unfolding taking_more
+  needed_behind seen next =
+      let same = same_taking index mid next.taking taking_more in
+      let at_first : slice_get (drop m first.taking.end.known ++ first.more) 0 ≡ Some next.next =
+      ap (λ (es : List Entry). slice_get es 0) (sym first.known) ∙ ap (λ (e : TakeEnd Entry). slice_get e.known 0) (sym same.3) ∙ next.there in
+      let of_built : MayWant its_built next.next = subst (λ (b : BuiltValue). MayWant b next.next) same.2 next.needs in
+      let of_own : MayWant (with_pairs first.taking.work index first.taking.built.pairs) next.next = of_built in
+      record {
+        taking = first.taking;
+        next = next.next;
+        there = first_behind m first.taking.end.known first.more next.next seen at_first;
+        needs = subst (λ (b : BuiltValue). MayWant b next.next) (sym first.own) of_own;
+      }
+
+  -- and what can't be counted with those
+  uncounted_behind : CountsNoMore index 0 mid → CountsNoMore index m old
+  unfolding taking_more
+  uncounted_behind next =
+      let its : next.taking.it.applied ≡ first.taking.it.applied + m = ap (λ (i : IndexValue). i.applied) (same_taking index mid next.taking taking_more).1 in
+      record { taking = first.taking; past = omega (arith, its, next.past) }
+
+  -- so applying stops
+  pub stops_behind :
+      (count : ℕ) (new : BuildingValue) → m < count → count ≤ length first.taking.end.known → HasApplied index mid 0 new
+      → MayTakeMemoryFor index 0 mid ⊎ CountsNoMore index 0 mid → StopsApplying index count old new
+  stops_behind count new less seen next needed = record {
+    entries = m;
+    fewer = less;
+    applied = subst (λ (n : ℕ). HasApplied index old n new) (let same : m + 0 ≡ m = omega arith in same) (applied_more new 0 (omega (arith, less, seen)) next);
+    needed = elim needed [
+      | inl wanted ↦ inl (needed_behind (omega (arith, less, seen)) wanted)
+      | inr uncounted ↦ inr (uncounted_behind uncounted)
+    ];
   }
 
 -- before any was taken
@@ -320,9 +405,9 @@ built_of None is = absurd (false≢true is)
 -- entries that the ring's end has seen by itself can be applied, where the index is in order and its build goes on
 pub can_apply_seen :
     (index count seen : ℕ) (old new : BuildingValue) (work : WorkValue) (it : IndexValue) → HasSeenEntries index old seen new → new.work ≡ Some work
-    → work.spoiled ≡ None → slice_get work.indexes index ≡ Some it → is_some it.built ≡ true → count ≤ seen → it.applied + count < 2 ^ 64
+    → work.spoiled ≡ None → slice_get work.indexes index ≡ Some it → is_some it.built ≡ true → count ≤ seen
     → CanApply index count new
-can_apply_seen index count seen old new work it sees runs fine there loaded few countable =
+can_apply_seen index count seen old new work it sees runs fine there loaded few =
     let built = built_of it.built loaded in
     let end : TakeEnd Entry = record sees.end { known = sees.end.known ++ sees.more } in
     record {
@@ -338,5 +423,4 @@ can_apply_seen index count seen old new work it sees runs fine there loaded few 
       };
       fine = fine;
       seen = omega (arith, few, sees.counted);
-      countable = countable;
     }

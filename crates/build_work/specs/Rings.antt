@@ -1,5 +1,5 @@
 -- The rings between a table and the workers of its build: what each worker has of its ring.
-use Rattle.std.specs.Prelude.{◌≡◌, ℕ, ◌<◌, ◌≤◌, Bool, true, false, List, [], get_or, length, map, Some, None}
+use Rattle.std.specs.Prelude.{◌≡◌, ℕ, ◌<◌, ◌≤◌, Bool, true, false, List, [], ◌++◌, get_or, length, map, Some, None}
 use Rattle.std.specs.List.{All, AllZip, slice_get}
 use Rattle.keybytes.specs.declared.kind.Kind.{Kind}
 use Rattle.keybytes.specs.Keys.{KeySpecValue}
@@ -95,3 +95,9 @@ AreSealed all workers =
 abbrev pub IsUnsealed : ℕ → List (List Copied) → List WorkerValue → Type 0
 IsUnsealed k all workers =
     (sent : List Copied) (worker : WorkerValue) → slice_get all k ≡ Some sent → slice_get workers k ≡ Some worker → IsSealed sent worker → ⊥
+
+-- the worker of that number has seen all that its ring was sent and it hasn't taken
+abbrev pub HasSeenAll : ℕ → List (List Copied) → List WorkerValue → Type 0
+HasSeenAll k all workers =
+    (sent : List Copied) (worker : WorkerValue) → slice_get all k ≡ Some sent → slice_get workers k ≡ Some worker
+    → worker.intake.end.received ++ worker.intake.end.known ≡ sent

@@ -1,5 +1,5 @@
 -- What the workers of a build do, and the entries that are applied to its indexes, and what that leaves beside the table.
-use Rattle.std.specs.Prelude.{◌≡◌, ℕ, ◌+◌, ◌^◌, ◌<◌, ◌≤◌, List, [], ◌++◌, length, set, map, take, drop, is_some, true, false, Some, None, IsPermutation}
+use Rattle.std.specs.Prelude.{◌≡◌, ◌⊎◌, ℕ, ◌+◌, ◌^◌, ◌<◌, ◌≤◌, List, [], ◌++◌, length, set, map, take, drop, is_some, true, false, Some, None, IsPermutation}
 use Rattle.std.specs.List.{All, slice_get}
 use Rattle.keybytes.specs.declared.fault.Fault.{Fault}
 use Rattle.keybytes.specs.declared.pair.Pair.{Pair}
@@ -7,7 +7,7 @@ use Rattle.keybytes.specs.Pairs.{AreOrdered, set_of}
 use Rattle.side_file.specs.Ends.{PutEnd}
 use Rattle.side_file.specs.declared.entry.Entry.{Entry}
 use Rattle.visibility.specs.Applied.{apply_entries}
-use Rattle.catch_up.specs.Built.{BuiltValue, told_to}
+use Rattle.catch_up.specs.Built.{BuiltValue, MayWant, told_to}
 use Rattle.building.specs.TakeEnd.{TakeEnd}
 use Rattle.building.specs.SpoolValue.{SpoolValue, pairs_in, stakes_of}
 use Rattle.building.specs.WorkerValue.{WorkerValue}
@@ -91,7 +91,6 @@ pub record CanApply (index count : ℕ) (building : BuildingValue) : Type 0 wher
   pub taking : IsTakingEntries index building
   pub fine : taking.work.spoiled ≡ None
   pub seen : count ≤ length taking.end.known
-  pub countable : taking.it.applied + count < 2 ^ 64
 
 -- the first so many of them were taken from the ring, and those of its build were applied to the index
 pub record HasApplied (index : ℕ) (old : BuildingValue) (count : ℕ) (new : BuildingValue) : Type 0 where
@@ -111,6 +110,25 @@ pub record HasApplied (index : ℕ) (old : BuildingValue) (count : ℕ) (new : B
     sides = set old.sides index end;
     work = Some (with_index taking.work index pairs (taking.it.applied + count));
   }
+
+-- to apply the entry that the index's ring is seen to have behind so many may take memory: it puts a pair in, or a tally is told of it
+pub record MayTakeMemoryFor (index count : ℕ) (building : BuildingValue) : Type 0 where
+  pub taking : IsTakingEntries index building
+  pub next : Entry
+  pub there : slice_get taking.end.known count ≡ Some next
+  pub needs : MayWant taking.built next
+
+-- with the entry behind so many more would be applied to the index than a number counts
+pub record CountsNoMore (index count : ℕ) (building : BuildingValue) : Type 0 where
+  pub taking : IsTakingEntries index building
+  pub past : 2 ^ 64 ≤ taking.it.applied + (count + 1)
+
+-- memory was wanted for one of the next so many entries, or it couldn't be counted; those before it were applied
+pub record StopsApplying (index count : ℕ) (old new : BuildingValue) : Type 0 where
+  pub entries : ℕ
+  pub fewer : entries < count
+  pub applied : HasApplied index old entries new
+  pub needed : MayTakeMemoryFor index entries old ⊎ CountsNoMore index entries old
 
 -- both ends of the ring of that side-file were looked at, so many entries wait in it, and nothing else changed
 pub record SideIsSeen (index waiting : ℕ) (put new_put : PutEnd Entry) (old new : BuildingValue) : Type 0 where

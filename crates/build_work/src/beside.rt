@@ -1,5 +1,5 @@
 //! What stands beside a table.
-ghost use Rattle.std.specs.Prelude.{◌≡◌, ℕ, ◌*◌, ◌<◌, ◌≤◌, OnOk, [], All, length, map, slice_get, true, false, None, Some, IsSome, IfSome, IfOk, IfErr, OnErr, MatchOption};
+ghost use Rattle.std.specs.Prelude.{◌≡◌, ◌⊎◌, ℕ, ◌+◌, ◌*◌, ◌^◌, ◌<◌, ◌≤◌, OnOk, [], All, length, map, slice_get, true, false, None, Some, IsSome, IfSome, IfOk, IfErr, OnErr, MatchOption};
 ghost use Rattle.std.specs.List.{list_all};
 ghost use Rattle.building.specs.SpoolValue.{spool_value};
 ghost use Rattle.build_work.specs.BuildingValue.{fresh, given_up, intakes, IsUnloaded};
@@ -7,7 +7,7 @@ ghost use Rattle.build_work.specs.Holding.{all_spools, lent_spools, spools_state
 ghost use Rattle.build_work.specs.Keeping.{AreWorkers, KeepsWork};
 ghost use Rattle.catch_up.specs.Built.{told_to};
 ghost use Rattle.build_work.specs.Equipped.{HasOwnSpools, HasRoomFor, IsFresh, IsNewMaker};
-ghost use Rattle.build_work.specs.Working.{CanApply, CanHandOver, CanLoad, HasApplied, HasHandedOver, HasLoaded, HasSeenEntries, LoadStopped};
+ghost use Rattle.build_work.specs.Working.{CanApply, CanHandOver, CanLoad, CountsNoMore, HasApplied, HasHandedOver, HasLoaded, HasSeenEntries, IsTakingEntries, LoadStopped, MayTakeMemoryFor, StopsApplying};
 
 use crate::ends::Ends;
 use crate::equipment::{Equipment, equip};
@@ -292,11 +292,12 @@ impl<S: Spool, T: Table> Building<S, T> {
     }
 
     /// Applies the next entries that the index's ring is seen to have, and answers how many. Those that were applied before
-    /// memory was wanted stay applied.
+    /// memory was wanted stay applied; to take a pair out of an index that isn't unique wants none. [`Fault::Memory`] is also the answer where
+    /// more would be applied than `usize` counts.
     pub fn apply(&mut self, index: usize, count: usize) -> Result<usize, Fault>
         requires { CanApply index count self.old }
         ensures applied { IfOk result (λ entries. (entries ≡ count) × HasApplied index self.old count self.new) }
-        ensures some { OnErr result ((entries : ℕ) × (entries < count) × HasApplied index self.old entries self.new) }
+        ensures some { OnErr result (StopsApplying index count self.old self.new) }
         ensures memory { IfErr result (λ fault. fault ≡ Fault.Memory) }
     {
         // What the build keeps of the index is known once its fields are reached.
@@ -307,11 +308,30 @@ impl<S: Spool, T: Table> Building<S, T> {
         Ok(count)
     }
 
-    /// Applies the next entry.
+    /// Applies the next entry, if it can be counted.
     fn apply_next(&mut self, index: usize) -> Result<(), Fault>
         requires { CanApply index 1 self.old }
         ensures applied { OnOk result (HasApplied index self.old 1 self.new) }
         ensures unchanged { OnErr result (HasApplied index self.old 0 self.new) }
+        ensures needed { OnErr result (MayTakeMemoryFor index 0 self.old ⊎ CountsNoMore index 0 self.old) }
+        ensures memory { IfErr result (λ fault. fault ≡ Fault.Memory) }
+    {
+        let Some(work) = &self.work else {
+            unreachable!()
+        };
+        if work.applied(index) == usize::MAX {
+            return Err(Fault::Memory);
+        }
+        self.apply_counted(index)
+    }
+
+    /// Applies the next entry, which can be counted.
+    fn apply_counted(&mut self, index: usize) -> Result<(), Fault>
+        requires can { CanApply index 1 self.old }
+        requires countable { (taking : IsTakingEntries index self.old) → taking.it.applied + 1 < 2 ^ 64 }
+        ensures applied { OnOk result (HasApplied index self.old 1 self.new) }
+        ensures unchanged { OnErr result (HasApplied index self.old 0 self.new) }
+        ensures needed { OnErr result (MayTakeMemoryFor index 0 self.old) }
         ensures memory { IfErr result (λ fault. fault ≡ Fault.Memory) }
     {
         let Some(work) = &mut self.work else {

@@ -9,7 +9,7 @@ ghost use Rattle.building.specs.declared.copied.Copied.{Copied};
 ghost use Rattle.build_scan.specs.SideFiles.{drained_end, put_ends, side_rings};
 ghost use Rattle.build_work.specs.BuildingValue.{intakes};
 ghost use Rattle.build_work.specs.Keeping.{KeepsLaws, KeepsWork};
-ghost use Rattle.build_work.specs.Rings.{put_rings, all_sent, all_free, begun_on, AreLooked, AreSealed, AreTakeEnds, FirstAreSealed, IsUnsealed};
+ghost use Rattle.build_work.specs.Rings.{put_rings, all_sent, all_free, begun_on, AreLooked, AreSealed, AreTakeEnds, FirstAreSealed, HasSeenAll, IsUnsealed};
 ghost use Rattle.build_work.specs.Working.{SideIsSeen};
 
 use crate::beside::Building;
@@ -49,7 +49,7 @@ impl<S: Spool, T: Table> Building<S, T> {
         waiting(pages, &mut self.workers, worker)
     }
 
-    /// The lowest worker of the build that runs that has a copy in its ring, or a run open. Takes no memory.
+    /// The lowest worker of the build that runs that has a copy in its ring, or a run open. It has then seen all that it hasn't taken. Takes no memory.
     pub fn first_unsealed(&mut self, pages: &mut Vec<PagePutter>) -> Option<usize>
         requires { put_rings pages.old.items ≡ T.pages }
         ensures looked { AreLooked pages.old.items self.old.workers pages.new.items self.new.workers }
@@ -58,6 +58,7 @@ impl<S: Spool, T: Table> Building<S, T> {
             (AreSealed (all_sent pages.new.items) self.new.workers)
             (λ k. (k < length self.new.workers) × FirstAreSealed k (all_sent pages.new.items) self.new.workers
             × IsUnsealed k (all_sent pages.new.items) self.new.workers) }
+        ensures seen { IfSome result (λ k. HasSeenAll k (all_sent pages.new.items) self.new.workers) }
         ensures laws { All (KeepsLaws T.pages) self.new.workers }
     {
         // That there are few workers is known once their fields are reached.

@@ -6,7 +6,7 @@ ghost use Rattle.building.specs.WorkerValue.{WorkerValue};
 ghost use Rattle.building.specs.declared.copied.Copied.{Copied};
 ghost use Rattle.build_work.specs.BuildingValue.{intakes};
 ghost use Rattle.build_work.specs.Keeping.{KeepsLaws};
-ghost use Rattle.build_work.specs.Rings.{put_rings, take_rings, all_sent, all_free, begun_on, AreLooked, AreSealed, FirstAreSealed, IsUnsealed, IsSealed};
+ghost use Rattle.build_work.specs.Rings.{put_rings, take_rings, all_sent, all_free, begun_on, AreLooked, AreSealed, FirstAreSealed, HasSeenAll, IsUnsealed, IsSealed};
 
 use building::{Intake, PagePutter, Table, Worker};
 use run_spool::Spool;
@@ -57,6 +57,7 @@ fn is_unsealed<S: Spool, T: Table>(
     requires at { (k : ℕ) (w : WorkerValue) → slice_get workers.old.items k ≡ Some w → slice_get T.pages k ≡ Some w.intake.end.ring }
     ensures looked { AreLooked pages.old.items workers.old.items pages.new.items workers.new.items }
     ensures unsealed { result ≡ true → IsUnsealed worker (all_sent pages.new.items) workers.new.items }
+    ensures seen { HasSeenAll worker (all_sent pages.new.items) workers.new.items }
     ensures sealed { result ≡ false → (sent : List Copied) (w : WorkerValue) → slice_get (all_sent pages.new.items) worker ≡ Some sent
         → slice_get workers.new.items worker ≡ Some w → IsSealed sent w }
 {
@@ -76,6 +77,7 @@ pub(crate) fn first_unsealed<S: Spool, T: Table>(
         (AreSealed (all_sent pages.new.items) workers.new.items)
         (λ k. (k < length workers.new.items) × FirstAreSealed k (all_sent pages.new.items) workers.new.items
         × IsUnsealed k (all_sent pages.new.items) workers.new.items) }
+    ensures seen { IfSome result (λ k. HasSeenAll k (all_sent pages.new.items) workers.new.items) }
 {
     for worker in 0..workers.len() {
         if is_unsealed(pages, workers, worker) {

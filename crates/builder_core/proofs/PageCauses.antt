@@ -15,6 +15,7 @@ use Rattle.heap_table.specs.HeapState.{HeapState, txn_refusal, new_row_refusal, 
 use Rattle.key_guards.specs.KeyRefusals.{key_refusal, duplicate_refusal, guarded_refusal}
 use Rattle.build_events.specs.CoreState.{CoreState, BuildState}
 use Rattle.ready_indexes.specs.Indexes.{ReadyValue}
+use Rattle.building.specs.declared.turn.Turn.TheVariants.{Digest as TurnDigest, Seal as TurnSeal}
 use Rattle.build_halves.specs.FullSpools.{IfSpooling, NoPageOnlyIfFull, WantedPage}
 use Rattle.ready_indexes.specs.KeyCauses.{keys_refusal}
 use Rattle.scan_range.specs.Dealings.{dealing_refusal}
@@ -170,7 +171,7 @@ module _ {S : Type 0} (is_full : S → Pair → Type 0) (runs : S → List (List
   -- a want of a page is one of a digest or a seal whose spool was full
   wanted :
       (s : CoreState) (event : Event) (new : CoreState) → s.work.spoiled ≡ None → IsRefused s event NoPage new
-      → IfSpooling event (λ worker. NoPageOnlyIfFull is_full runs open_run stake s worker NoPage) → WantedPage is_full runs open_run stake s event
+      → IfSpooling event (λ turn worker. NoPageOnlyIfFull is_full runs open_run stake turn s worker NoPage) → WantedPage is_full runs open_run stake s event
   wanted s event new fine (inl cause) full = absurd (other_cause s fine event cause.0)
   wanted s Begin new fine (inr wants) full = absurd (let is = wants.1 in cc)
   wanted s (Insert txn row) new fine (inr wants) full = absurd (let is = wants.1 in cc)
@@ -180,8 +181,8 @@ module _ {S : Type 0} (is_full : S → Pair → Type 0) (runs : S → List (List
   wanted s (Commit txn) new fine (inr wants) full = absurd (let is = wants.1 in cc)
   wanted s (Start plan) new fine (inr wants) full = absurd (let is = wants.1 in cc)
   wanted s (Scan range worker) new fine (inr wants) full = absurd (let is = wants.1 in cc)
-  wanted s (Digest worker) new fine (inr wants) full = record { worker = worker; spools = inl refl; full = full refl fine }
-  wanted s (Seal worker) new fine (inr wants) full = record { worker = worker; spools = inr refl; full = full refl fine }
+  wanted s (Digest worker) new fine (inr wants) full = record { turn = TurnDigest; worker = worker; spools = refl; full = full refl fine }
+  wanted s (Seal worker) new fine (inr wants) full = record { turn = TurnSeal; worker = worker; spools = refl; full = full refl fine }
   wanted s (Load index) new fine (inr wants) full = absurd (let is = wants.1 in cc)
   wanted s (Feed index most) new fine (inr wants) full = absurd wants.1
   wanted s (Apply index most) new fine (inr wants) full = absurd (let is = wants.1 in cc)
@@ -192,11 +193,11 @@ module _ {S : Type 0} (is_full : S → Pair → Type 0) (runs : S → List (List
   pub wanted_page :
       (s : CoreState) (event : Event) (answer : Result Reply Fault) (reply : Reply) (new : CoreState) → Answers s event answer new
       → MatchResult answer (λ r. reply ≡ r) (λ fault. reply ≡ Refused fault)
-      → IfSpooling event (λ worker. IfErr answer (NoPageOnlyIfFull is_full runs open_run stake s worker))
+      → IfSpooling event (λ turn worker. IfErr answer (NoPageOnlyIfFull is_full runs open_run stake turn s worker))
       → reply ≡ Refused NoPage → s.work.spoiled ≡ None → WantedPage is_full runs open_run stake s event
   wanted_page s event (Ok told) reply new done same full is fine =
       absurd (done_not_refused s event NoPage new (subst (λ (r : Reply). Does s event r new) (sym same ∙ is) done.1))
   wanted_page s event (Err fault) reply new refused same full is fine =
       let of_page : fault ≡ NoPage = let both : Refused fault ≡ Refused NoPage = sym same ∙ is in cc in
       wanted s event new fine (subst (λ (f : Fault). IsRefused s event f new) of_page refused)
-      (subst (λ (f : Fault). IfSpooling event (λ worker. NoPageOnlyIfFull is_full runs open_run stake s worker f)) of_page full)
+      (subst (λ (f : Fault). IfSpooling event (λ turn worker. NoPageOnlyIfFull is_full runs open_run stake turn s worker f)) of_page full)

@@ -6,6 +6,7 @@ ghost use Rattle.build_events.specs.Verdicts.{HaveSharedKeys};
 ghost use Rattle.build_events.specs.declared.event.Event.{Event};
 ghost use Rattle.build_events.specs.declared.reply.Reply.{Reply};
 ghost use Rattle.build_halves.specs.FullSpools.{NoPageOnlyIfFull};
+ghost use Rattle.building.specs.declared.turn.Turn.{Turn};
 
 use crate::{Core, Plan, Table};
 use heap_log::Verdicts;
@@ -110,7 +111,7 @@ impl<S: Spool, T: Table> Core<S, T> {
     /// of a page spoils the build. [`Fault::NoBuild`], [`Fault::BadCount`], the fault of a spoiled build, [`Fault::NoPage`].
     pub fn digest(&mut self, worker: usize) -> Result<usize, Fault>
         ensures answers { AnswersBy Reply.Digested self.old (Event.Digest worker) result self.new }
-        ensures full { IfErr result (NoPageOnlyIfFull S.is_full S.runs S.open_run S.stake self.old worker) }
+        ensures full { IfErr result (NoPageOnlyIfFull S.is_full S.runs S.open_run S.stake Turn.Digest self.old worker) }
     {
         self.live.check_worker(worker, &self.building)?;
         let images = self.live.digest(worker, &mut self.building)?;
@@ -120,7 +121,7 @@ impl<S: Spool, T: Table> Core<S, T> {
     /// The worker takes all copies that wait, and closes its runs; answered with their number. Refused as [`Core::digest`].
     pub fn seal(&mut self, worker: usize) -> Result<usize, Fault>
         ensures answers { AnswersBy Reply.Sealed self.old (Event.Seal worker) result self.new }
-        ensures full { IfErr result (NoPageOnlyIfFull S.is_full S.runs S.open_run S.stake self.old worker) }
+        ensures full { IfErr result (NoPageOnlyIfFull S.is_full S.runs S.open_run S.stake Turn.Seal self.old worker) }
     {
         self.live.check_worker(worker, &self.building)?;
         let images = self.live.seal(worker, &mut self.building)?;
@@ -170,8 +171,8 @@ impl<S: Spool, T: Table> Core<S, T> {
         ensures answers { AnswersBy (λ told. Reply.Switched told.0 told.1) self.old Event.Switch result self.new }
         ensures keys { IfOk result (λ told. OnBuild self.old.live.build (λ b. HaveSharedKeys b.specs told.1)) }
     {
-        let (number, verdicts) = self.live.switch_in(&mut self.building)?;
-        Ok((number, verdicts))
+        let switched = self.live.switch_in(&mut self.building)?;
+        Ok((switched.number, switched.verdicts))
     }
 
     /// Gives the build up, and ends its spools. [`Fault::NoBuild`]. Takes no memory.

@@ -2,6 +2,7 @@
 ghost use Rattle.std.specs.Prelude.{IfErr};
 ghost use Rattle.build_events.specs.Steps.{Answers};
 ghost use Rattle.build_halves.specs.FullSpools.{NoPageOnlyIfFull};
+ghost use Rattle.building.specs.declared.turn.Turn.{Turn};
 
 use crate::{Core, Event, Plan, Reply, Table};
 use heap_table::Undone;
@@ -86,7 +87,7 @@ impl<S: Spool, T: Table> Core<S, T> {
 
     pub(crate) fn digest_reply(&mut self, worker: usize) -> Result<Reply, Fault>
         ensures answers { Answers self.old (Event.Digest worker) result self.new }
-        ensures full { IfErr result (NoPageOnlyIfFull S.is_full S.runs S.open_run S.stake self.old worker) }
+        ensures full { IfErr result (NoPageOnlyIfFull S.is_full S.runs S.open_run S.stake Turn.Digest self.old worker) }
     {
         let images = self.digest(worker)?;
         Ok(Reply::Digested { images })
@@ -94,7 +95,7 @@ impl<S: Spool, T: Table> Core<S, T> {
 
     pub(crate) fn seal_reply(&mut self, worker: usize) -> Result<Reply, Fault>
         ensures answers { Answers self.old (Event.Seal worker) result self.new }
-        ensures full { IfErr result (NoPageOnlyIfFull S.is_full S.runs S.open_run S.stake self.old worker) }
+        ensures full { IfErr result (NoPageOnlyIfFull S.is_full S.runs S.open_run S.stake Turn.Seal self.old worker) }
     {
         let images = self.seal(worker)?;
         Ok(Reply::Sealed { images })

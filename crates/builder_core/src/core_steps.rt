@@ -198,7 +198,7 @@ impl<S: Spool, T: Table> Core<S, T> {
     /// Does one event of its own, or tells why not: the row of a write is handed on.
     fn attempt_own(&mut self, event: Event) -> Result<Reply, Fault>
         ensures answers { Answers self.old event result self.new }
-        ensures full { IfSpooling event (λ worker. IfErr result (NoPageOnlyIfFull S.is_full S.runs S.open_run S.stake self.old worker)) }
+        ensures full { IfSpooling event (λ turn worker. IfErr result (NoPageOnlyIfFull S.is_full S.runs S.open_run S.stake turn self.old worker)) }
     {
         match event {
             Event::Insert { txn, row } => self.insert_reply(txn, row),
@@ -210,7 +210,7 @@ impl<S: Spool, T: Table> Core<S, T> {
     /// Does one event that it is lent, or tells why not.
     fn attempt(&mut self, event: &Event) -> Result<Reply, Fault>
         ensures answers { Answers self.old event.now result self.new }
-        ensures full { IfSpooling event.now (λ worker. IfErr result (NoPageOnlyIfFull S.is_full S.runs S.open_run S.stake self.old worker)) }
+        ensures full { IfSpooling event.now (λ turn worker. IfErr result (NoPageOnlyIfFull S.is_full S.runs S.open_run S.stake turn self.old worker)) }
     {
         match event {
             Event::Begin => self.begin_reply(),

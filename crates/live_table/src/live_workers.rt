@@ -8,7 +8,7 @@ ghost use Rattle.build_halves.specs.Switching.{early_cause, HandsOver, HaveAll, 
 ghost use Rattle.build_halves.specs.Putting.{PagesAreLooked};
 ghost use Rattle.build_work.specs.Working.{CanLoad, HasHandedOver};
 ghost use Rattle.build_halves.specs.Turns.{HasTurn, IsTurnRefused};
-ghost use Rattle.build_work.specs.Rings.{all_sent, AreSealed, FirstAreSealed, IsUnsealed};
+ghost use Rattle.build_work.specs.Rings.{all_sent, AreSealed, FirstAreSealed, HasSeenAll, IsUnsealed};
 ghost use Rattle.build_halves.specs.Rings.{PagesFollow};
 ghost use Rattle.build_events.specs.BuildSteps.{Loads};
 ghost use Rattle.build_events.specs.Steps.{spoiled_by};
@@ -33,10 +33,11 @@ impl<T: Table> Live<T> {
     }
 
     /// The lowest worker of what stands beside the table for which a copy waits in its ring, or whose run is open. No index is loaded before
-    /// none is left, and no build switched in. Takes no memory.
+    /// none is left, and no build switched in. That worker has then seen all that its ring was sent, so that it can seal it without the table. Takes no memory.
     pub fn unsealed<S: Spool>(&mut self, building: &mut Building<S, T>) -> Option<usize>
         ensures looked { HasLooked self.old building.old self.new building.new }
         ensures unsealed { MatchOption result (HaveAll self.new building.new) (IsLowestUnsealed self.new building.new) }
+        ensures seen { IfSome result (λ worker. HasSeenAll worker (all_sent self.new.pages) building.new.workers) }
         ensures laws { All (KeepsLaws T.pages) building.new.workers }
         ensures put { PagesFollow self.new.state.heap.schema self.new.state.heap.log self.new.state.builds self.new.state.build (all_sent self.new.pages) }
         ensures pages { length self.new.pages ≡ 16 }

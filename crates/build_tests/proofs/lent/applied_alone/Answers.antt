@@ -1,5 +1,5 @@
-use Rattle.std.proofs.Common.{◌≡◌, ◌≤◌, ◌<◌, ◌-◌, arith, rules, sym, subst, length}
-use Rattle.std.proofs.Math.Nat.{min-le_left, min-le_right}
+use Rattle.std.proofs.Common.{◌≡◌, ◌≤◌, ◌<◌, rules, sym, subst, length}
+use Rattle.std.proofs.Math.Nat.{min-le_right}
 use Rattle.build_scan.proofs.Places.{there_is}
 use Rattle.build_work.specs.BuildingValue.{WorkValue}
 use Rattle.build_work.proofs.Applying.{can_apply_seen}
@@ -11,10 +11,6 @@ apply-requires g c =
     let seen = c.look_for_entries-seen in
     let less : 0 < length work.indexes = search rules in
     let it = there_is work.indexes 0 less in
-    let first : c.min.result ≤ seen.result = subst (λ n. n ≤ seen.result) (sym c.min.ensures) (min-le_right c.args.most seen.result) in
-    let both : c.min-count.result ≤ c.min.result = subst (λ n. n ≤ c.min.result) (sym c.min-count.ensures) (min-le_left c.min.result _) in
-    let room : c.min-count.result ≤ 18446744073709551615 - c.applied.result =
-    subst (λ n. n ≤ 18446744073709551615 - c.applied.result) (sym c.min-count.ensures) (min-le_right c.min.result _) in
-    let number = c.applied.ensures it.0 it.1 in
-    can_apply_seen 0 c.min-count.result seen.result c.args.building.now seen.new.self work it.0 seen.ensures c.in-Some.ensures c.in_ok-check.ensures it.1
-    (sym (c.if-not-is_loaded.ensures it.0 it.1)) (omega (arith, first, both)) (omega (arith, room, number, c.applied.type_inv))
+    let few : c.min.result ≤ seen.result = subst (λ n. n ≤ seen.result) (sym c.min.ensures) (min-le_right c.args.most seen.result) in
+    can_apply_seen 0 c.min.result seen.result c.args.building.now seen.new.self work it.0 seen.ensures c.in-Some.ensures c.in_ok-check.ensures it.1
+    (sym (c.if-not-is_loaded.ensures it.0 it.1)) few

@@ -8,6 +8,16 @@ use Rattle.building.specs.declared.copied.Copied.{Copied}
 use Rattle.build_scan.proofs.Places.{at_map}
 use Rattle.build_work.proofs.rings.is_unsealed.Goals as goal
 
+pub returns-then-waiting-gt0-clause-seen : goal.returns-then-waiting-gt0-clause-seen
+returns-then-waiting-gt0-clause-seen g c = λ sent w there at.
+    let end = at_map (λ (e : PutEnd Copied). e.sent) c.waiting.new.pages.items c.args.worker sent there in
+    c.waiting.ensures.in_order end.0 w end.1 at ∙ end.2
+
+pub returns-else-waiting-gt0-clause-seen : goal.returns-else-waiting-gt0-clause-seen
+returns-else-waiting-gt0-clause-seen g c = λ sent w there at.
+    let end = at_map (λ (e : PutEnd Copied). e.sent) c.waiting.new.pages.items c.args.worker sent there in
+    c.waiting.ensures.in_order end.0 w end.1 at ∙ end.2
+
 pub returns-then-waiting-gt0-clause-unsealed : goal.returns-then-waiting-gt0-clause-unsealed
 returns-then-waiting-gt0-clause-unsealed g c = λ is sent w there at sealed.
     let end = at_map (λ (e : PutEnd Copied). e.sent) c.waiting.new.pages.items c.args.worker sent there in

@@ -1,6 +1,6 @@
-use Rattle.std.proofs.Common.{◌≡◌, ◌+◌, OnErr, refl, subst, arith}
-use Rattle.build_work.specs.Working.{HasApplied}
-use Rattle.build_work.proofs.Applying.{applied_more, applied_none, can_go_on, same_taking, on_err}
+use Rattle.std.proofs.Common.{◌≡◌, ◌⊎◌, OnErr, refl, subst, arith}
+use Rattle.build_work.specs.Working.{CountsNoMore, HasApplied, MayTakeMemoryFor}
+use Rattle.build_work.proofs.Applying.{applied_more, applied_none, can_go_on, on_err, same_taking, stops_behind}
 use Rattle.build_work.proofs.TakingEntries.{its_order, its_own}
 use Rattle.build_work.proofs.beside.Building.apply.Goals as goal
 
@@ -13,19 +13,16 @@ loop-init g c =
 pub apply_next-requires : goal.apply_next-requires
 apply_next-requires g c =
     let same = same_taking c.args.index c.args.self.now c.loop.invariant.taking c.requires.taking in
-    can_go_on c.args.index c.args.self.now c.loop.self c.loop.counter c.loop.invariant c.args.count (rw same.0 c.requires.fine) (rw same.3 c.requires.seen) (rw same.1 c.requires.countable) c.loop-test.true
+    can_go_on c.args.index c.args.self.now c.loop.self c.loop.counter c.loop.invariant c.args.count (rw same.0 c.requires.fine) (rw same.3 c.requires.seen) c.loop-test.true
 
 pub returns-in_err-apply_next-clause-some : goal.returns-in_err-apply_next-clause-some
 returns-in_err-apply_next-clause-some g c =
     let same = same_taking c.args.index c.args.self.now c.loop.invariant.taking c.requires.taking in
-    on_err c.from_residual.result _ (
-      c.loop.counter,
-      c.loop-test.true,
-      subst (λ n. HasApplied c.args.index c.args.self.now n c.apply_next.new.self) (let same : c.loop.counter + 0 ≡ c.loop.counter = omega arith in same)
-          (applied_more c.args.index c.args.self.now c.loop.self c.loop.counter c.loop.invariant c.apply_next.new.self 0
-          (rw same.3 (omega (arith, c.requires.seen, c.loop-test.true)))
-          (subst (λ r. OnErr r (HasApplied c.args.index c.loop.self 0 c.apply_next.new.self)) c.in_err-apply_next.was c.apply_next.ensures.unchanged)),
-    )
+    on_err c.from_residual.result _
+    (stops_behind c.args.index c.args.self.now c.loop.self c.loop.counter c.loop.invariant c.args.count c.apply_next.new.self c.loop-test.true
+    (rw same.3 c.requires.seen)
+    (subst (λ r. OnErr r (HasApplied c.args.index c.loop.self 0 c.apply_next.new.self)) c.in_err-apply_next.was c.apply_next.ensures.unchanged)
+    (subst (λ r. OnErr r (MayTakeMemoryFor c.args.index 0 c.loop.self ⊎ CountsNoMore c.args.index 0 c.loop.self)) c.in_err-apply_next.was c.apply_next.ensures.needed))
 
 pub loop-preserved : goal.loop-preserved
 loop-preserved g c =

@@ -16,15 +16,15 @@ returns-in-Delete-clause-answers g c = subst (λ (event : Event). Answers c.args
 
 pub returns-in-Insert-clause-full : goal.returns-in-Insert-clause-full
 returns-in-Insert-clause-full g c =
-    subst (λ (event : Event). IfSpooling event (λ worker. IfErr c.insert_lent_reply.result (NoPageOnlyIfFull g.S.Spool.is_full g.S.Spool.runs g.S.Spool.open_run g.S.Spool.stake c.args.self.now worker)))
+    subst (λ (event : Event). IfSpooling event (λ turn worker. IfErr c.insert_lent_reply.result (NoPageOnlyIfFull g.S.Spool.is_full g.S.Spool.runs g.S.Spool.open_run g.S.Spool.stake turn c.args.self.now worker)))
     (sym c.in-Insert.is) tt
 
 pub returns-in-Update-clause-full : goal.returns-in-Update-clause-full
 returns-in-Update-clause-full g c =
-    subst (λ (event : Event). IfSpooling event (λ worker. IfErr c.update_lent_reply.result (NoPageOnlyIfFull g.S.Spool.is_full g.S.Spool.runs g.S.Spool.open_run g.S.Spool.stake c.args.self.now worker)))
+    subst (λ (event : Event). IfSpooling event (λ turn worker. IfErr c.update_lent_reply.result (NoPageOnlyIfFull g.S.Spool.is_full g.S.Spool.runs g.S.Spool.open_run g.S.Spool.stake turn c.args.self.now worker)))
     (sym c.in-Update.is) tt
 
 pub returns-in-Delete-clause-full : goal.returns-in-Delete-clause-full
 returns-in-Delete-clause-full g c =
-    subst (λ (event : Event). IfSpooling event (λ worker. IfErr c.delete_reply.result (NoPageOnlyIfFull g.S.Spool.is_full g.S.Spool.runs g.S.Spool.open_run g.S.Spool.stake c.args.self.now worker)))
+    subst (λ (event : Event). IfSpooling event (λ turn worker. IfErr c.delete_reply.result (NoPageOnlyIfFull g.S.Spool.is_full g.S.Spool.runs g.S.Spool.open_run g.S.Spool.stake turn c.args.self.now worker)))
     (sym c.in-Delete.is) tt
