@@ -6,7 +6,7 @@ use Rattle.keybytes.specs.declared.fault.Fault.TheVariants.{NoBuild}
 use Rattle.heap_log.specs.declared.outcome.Outcome.{Outcome}
 use Rattle.build_events.specs.CoreState.{CoreState, LiveState, BuildState, IndexState, WorkState, SpoolsState, idle, opening, with_live, without}
 use Rattle.build_events.proofs.Abandoned.{abandoned_none}
-use Rattle.build_events.specs.BuildSteps.{AreFurther, AreKeyed, CatchesUp, OnBuild, after_apply, after_digest, after_feed, after_load, after_scan, after_seal, after_switch_in}
+use Rattle.build_events.specs.BuildSteps.{AreFurther, AreKeyed, CatchesUp, MayTakeMemory, OnBuild, after_apply, after_digest, after_feed, after_load, after_scan, after_seal, after_switch_in}
 use Rattle.build_events.specs.Steps.{AfterWant, Does, Step, AnswersBy}
 use Rattle.build_events.specs.BuildSteps.{build_cause, fenced, load_refusal, next_applied, next_copies, next_fed, pairs_copied, verdicts_on, worker_refusal}
 use Rattle.build_events.specs.Steps.{refusal, spoiled_by}
@@ -67,10 +67,10 @@ on_work old new None Told work is on = absurd on
 on_work old new (Some b) Told work is on = at_work old new b (work b) is on.1
 
 -- so many entries were applied before memory was wanted
-on_some : (old new : CoreState) (build : Option BuildState) (Few : BuildState → ℕ → Type 0) (work : ℕ → WorkState) → old.live.build ≡ build
-    → OnBuild build (λ b. (count : ℕ) × Few b count × (new ≡ record old { work = work count })) → IsKept old new
-on_some old new None Few work is on = absurd on
-on_some old new (Some b) Few work is (count, few, same) = at_work old new b (work count) is same
+on_some : (old new : CoreState) (build : Option BuildState) (Few Next : BuildState → ℕ → Type 0) (work : ℕ → WorkState) → old.live.build ≡ build
+    → OnBuild build (λ b. (count : ℕ) × Few b count × (new ≡ record old { work = work count }) × Next b count) → IsKept old new
+on_some old new None Few Next work is on = absurd on
+on_some old new (Some b) Few Next work is (count, few, same, next) = at_work old new b (work count) is same
 
 -- the build has fed more entries
 on_feed : (old new : CoreState) (build : Option BuildState) (Told : BuildState → Type 0) (fed : BuildState → BuildState) → old.live.build ≡ build
@@ -159,7 +159,8 @@ want_keeps (Load index) old new fault keeps none after =
     on_want old new old.live.build (λ b. load_refusal b old index) fault refl none after.1
 want_keeps (Feed index most) old new fault keeps none after = absurd after
 want_keeps (Apply index most) old new fault keeps none after =
-    on_some old new old.live.build (λ b count. count < next_applied b old.work index most) (λ count. after_apply old.work index count) refl after
+    on_some old new old.live.build (λ b count. count < next_applied b old.work index most)
+    (λ b count. MayTakeMemory b old.live.heap.log index ((index_at old.work.indexes index).applied + count)) (λ count. after_apply old.work index count) refl after
 want_keeps Fence old new fault keeps none after = absurd after
 want_keeps Switch old new fault keeps none after = absurd keeps
 want_keeps Abandon old new fault keeps none after = absurd keeps
