@@ -1,5 +1,5 @@
 -- What is wrong with a bad record.
-use Rattle.std.specs.Prelude.{◌≡◌, ℕ, ◌+◌, ◌<◌, List, [], ◌∷◌, length, slice_get, string_bytes, Some, None, ⊤}
+use Rattle.std.specs.Prelude.{◌≡◌, ℕ, ◌+◌, ◌<◌, List, [], ◌∷◌, length, slice_get, string_bytes, Option, Some, None, ⊤}
 use Rattle.script.specs.Records.{BeginsWithBytes}
 use Rattle.script.specs.Scripts.{IsBadBehind, NoTable, StandsBehind}
 use Rattle.script.specs.Shapes.{IsRemark, IsSpelled, part_at, parts_of, repeated_of, written}
@@ -13,6 +13,8 @@ use Rattle.script.specs.declared.line.Line.{Line}
 use Rattle.script.specs.declared.misfit.Misfit.{Misfit}
 use Rattle.script.specs.declared.misfit.Misfit.TheVariants.{Misspelled, TooFewFields, TooManyFields, UnknownCommand}
 use Rattle.script.specs.declared.part.Part.{Part}
+use Rattle.script.specs.declared.unfit.Unfit.{Unfit}
+use Rattle.script.specs.declared.unfit.Unfit.TheVariants.{TooFew, TooMany, Misspelled as MisspelledAt}
 use Rattle.script.specs.declared.cause.Cause.{Cause}
 use Rattle.script.specs.declared.cause.Cause.TheVariants as causes
 use Rattle.script.specs.declared.stop.Stop.{Stop}
@@ -31,6 +33,13 @@ abbrev pub IsMisspelledField : CommandName → List (List ℕ) → ℕ → List 
 IsMisspelledField name fields number text part =
     (place : ℕ) × (number ≡ place + 2) × (slice_get fields place ≡ Some text)
     × (part_at (parts_of name) (repeated_of name) place ≡ Some part) × ¬ (IsSpelled part text)
+
+-- in which way the fields do not fit the parts
+abbrev pub TellsUnfit : List Part → Option Part → List (List ℕ) → Unfit → Type 0
+TellsUnfit parts repeated fields TooFew = length fields < length parts
+TellsUnfit parts repeated fields TooMany = (repeated ≡ None) × (length parts < length fields)
+TellsUnfit parts repeated fields (MisspelledAt place text part) =
+    (slice_get fields place ≡ Some (string_bytes text)) × (part_at parts repeated place ≡ Some part) × ¬ (IsSpelled part (string_bytes text))
 
 -- what is wrong with the fields behind a name
 abbrev pub TellsMisfitBehind : CommandName → List (List ℕ) → Misfit → Type 0
