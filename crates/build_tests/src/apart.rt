@@ -84,7 +84,7 @@ fn switched<T: Table>(
     building: &mut Building<ListSpool, T>,
 ) -> Result<usize, Fault> {
     match live.switch_in(building) {
-        Ok((number, _)) => Ok(number),
+        Ok(switched) => Ok(switched.number),
         Err(fault) => Err(fault),
     }
 }

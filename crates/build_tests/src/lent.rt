@@ -223,8 +223,7 @@ fn switched<T: Table>(
     live: &mut Live<T>,
     building: &mut Building<ListSpool, T>,
 ) -> Result<usize, Fault> {
-    let (number, _) = live.switch_in(building)?;
-    Ok(number)
+    Ok(live.switch_in(building)?.number)
 }
 
 /// How many pairs these are, if the ready index has them.

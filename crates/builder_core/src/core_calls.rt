@@ -170,8 +170,8 @@ impl<S: Spool, T: Table> Core<S, T> {
         ensures answers { AnswersBy (λ told. Reply.Switched told.0 told.1) self.old Event.Switch result self.new }
         ensures keys { IfOk result (λ told. OnBuild self.old.live.build (λ b. HaveSharedKeys b.specs told.1)) }
     {
-        let (number, verdicts) = self.live.switch_in(&mut self.building)?;
-        Ok((number, verdicts))
+        let switched = self.live.switch_in(&mut self.building)?;
+        Ok((switched.number, switched.verdicts))
     }
 
     /// Gives the build up, and ends its spools. [`Fault::NoBuild`]. Takes no memory.

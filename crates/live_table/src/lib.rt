@@ -16,6 +16,7 @@ mod live_workers;
 mod live_writes;
 mod parts;
 mod rest;
+mod switched;
 
 pub use build_events::Plan;
 pub use build_work::{Building, Ends};
@@ -26,3 +27,4 @@ pub use parts::{INDEXES_MAX, Parts, WORKERS_MAX};
 pub use ready_indexes::{ReadyIndex, ReadyIndexes};
 pub use rest::at_rest;
 pub use side_file::{Entry, Op};
+pub use switched::Switched;

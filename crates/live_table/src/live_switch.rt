@@ -1,6 +1,7 @@
 //! The switch of a build: the entries that are left are applied to its indexes, of which the accepted are then ready.
 ghost use Rattle.std.specs.Prelude.{◌≡◌, ◌+◌, ◌++◌, ◌^◌, ◌<◌, ◌≤◌, length, None, Some, IsSome, IfSome, IfOk, IfErr, OnOk, OnErr, MatchResult, vec_len, vec_capacity, All, map, true};
 ghost use Rattle.std.specs.List.{AllZip};
+ghost use Rattle.heap_log.specs.declared.record.LogRec.{LogRec};
 ghost use Rattle.heap_table.specs.HeapState.{HeapState, after_switch, busy_txns};
 ghost use Rattle.keybytes.specs.Keys.{are_key_columns};
 ghost use Rattle.heap_table.specs.Pages.{KeepsRows};
@@ -17,10 +18,10 @@ ghost use Rattle.build_events.specs.Verdicts.{outcome, outcomes};
 ghost use Rattle.build_events.specs.Workers.{all_unapplied};
 ghost use Rattle.build_events.specs.declared.event.Event.{Event};
 
-use crate::{Building, Live, Table};
+use crate::{Building, Live, Switched, Table};
 use build_scan::TableScan;
 use build_work::IndexWork;
-use heap_log::{Outcome, Verdicts};
+use heap_log::{LogRec, Outcome, Verdicts};
 use heap_table::Heap;
 use keybytes::{Fault, KeySpec};
 use ready_indexes::ReadyIndexes;
@@ -157,15 +158,16 @@ impl<T: Table> Live<T> {
     }
 
     /// Applies the entries that are left, makes the indexes of the build ready, and ends it and its spools; answered with the
-    /// number of the log record, and what became of each index. [`Fault::NoBuild`], also where what stands beside the table is another
+    /// log record and its number, and what became of each index. [`Fault::NoBuild`], also where what stands beside the table is another
     /// build's; the fault of a spoiled build, [`Fault::NotScanned`], [`Fault::NotLoaded`]; [`Fault::NotSealed`] where a copy is left in a
     /// worker's ring, or its run is open; [`Fault::Behind`], [`Fault::Busy`]. Where memory is wanted, entries that were applied stay applied, and
     /// it can be called again, as after Behind and Busy.
     pub fn switch_in<S: Spool>(
         &mut self,
         building: &mut Building<S, T>,
-    ) -> Result<(usize, Verdicts), Fault>
-        ensures switched { IfOk result (λ told. Switches (core_state self.old building.old) told (core_state self.new building.new)) }
+    ) -> Result<Switched, Fault>
+        ensures switched { IfOk result (λ done. Switches (core_state self.old building.old) (done.number, done.verdicts) (core_state self.new building.new)) }
+        ensures record { IfOk result (λ done. done.record ≡ LogRec.Switch done.verdicts) }
         ensures accepted { OnOk result (cause_of self.old building.old Event.Switch ≡ None) }
         ensures all { OnOk result (IsPartOf self.old building.old × HaveAll self.old building.old) }
         ensures refused { IfErr result (λ fault. RefusesSwitch self.old building.old fault self.new building.new) }
@@ -188,9 +190,10 @@ impl<T: Table> Live<T> {
     fn switch_own<S: Spool>(
         &mut self,
         building: &mut Building<S, T>,
-    ) -> Result<(usize, Verdicts), Fault>
+    ) -> Result<Switched, Fault>
         requires { WorksOn self.old building.old }
-        ensures switched { IfOk result (λ told. Switches (core_state self.old building.old) told (core_state self.new building.new)) }
+        ensures switched { IfOk result (λ done. Switches (core_state self.old building.old) (done.number, done.verdicts) (core_state self.new building.new)) }
+        ensures record { IfOk result (λ done. done.record ≡ LogRec.Switch done.verdicts) }
         ensures accepted { OnOk result (cause_of self.old building.old Event.Switch ≡ None) }
         ensures refused { IfErr result (λ fault. IsRefused (core_state self.old building.old) Event.Switch fault (core_state self.new building.new)) }
         ensures works { WorksOn self.new building.new }
@@ -239,16 +242,17 @@ fn make_ready(alloc: Global, ready: &mut ReadyIndexes, specs: Vec<KeySpec>, inde
     }
 }
 
-/// Notes in the log what becomes of the indexes, and makes room for them.
+/// Notes in the log what becomes of the indexes, and makes room for them. All memory is taken before the note, behind which nothing may fail.
 fn note_ready(
     alloc: Global,
     heap: &mut Heap,
     ready: &mut ReadyIndexes,
     indexes: &[IndexWork],
-) -> Result<(usize, Verdicts), Fault>
+) -> Result<Switched, Fault>
     requires { length indexes.now ≤ 8 }
-    ensures number { IfOk result (λ done. done.0 ≡ length heap.old.state.log + 1) }
-    ensures verdicts { IfOk result (λ done. done.1 ≡ outcomes (length (indexes_of ready.old.indexes)) (map its_verdict indexes.now)) }
+    ensures number { IfOk result (λ done. done.number ≡ length heap.old.state.log + 1) }
+    ensures verdicts { IfOk result (λ done. done.verdicts ≡ outcomes (length (indexes_of ready.old.indexes)) (map its_verdict indexes.now)) }
+    ensures record { IfOk result (λ done. done.record ≡ LogRec.Switch done.verdicts) }
     ensures noted { OnOk result (heap.new.state
         ≡ after_switch heap.old.state (outcomes (length (indexes_of ready.old.indexes)) (map its_verdict indexes.now))) }
     ensures rows { KeepsRows heap.old.state.log heap.new.state.log }
@@ -261,8 +265,15 @@ fn note_ready(
     ready.make_room(indexes.len())?;
     let noted = verdicts_from(alloc, first, indexes)?;
     let told = verdicts_from(alloc, first, indexes)?;
+    let copied = verdicts_from(alloc, first, indexes)?;
     let number = heap.note(noted)?;
-    Ok((number, Verdicts::new(told)))
+    Ok(Switched {
+        number,
+        verdicts: Verdicts::new(told),
+        record: LogRec::Switch {
+            verdicts: Verdicts::new(copied),
+        },
+    })
 }
 
 /// What becomes of the indexes: the accepted are ready, numbered from the first on.

@@ -90,7 +90,7 @@ fn that_ask_for_the_version(rt: HostRuntime) -> Result<(), Fail> {
     let version = answered(rt.alloc(), words.as_slice(), ErrorKind::DisplayVersion)?;
     assert_eq!(rt;
         version.as_str(),
-        "sfbuild 0.1.0 (rattle-kit-13f logic dac8208d650f15bf)\n"
+        "sfbuild 0.1.0 (Rattle, logic dac8208d650f15bf)\n"
     );
     Ok(())
 }

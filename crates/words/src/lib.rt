@@ -7,7 +7,7 @@ use std::alloc::{AllocError, Global};
 use std::convert::AsStr;
 
 /// The program's own version, and what it is proved and built by.
-const VERSION: &str = "0.1.0 (rattle-kit-13f logic dac8208d650f15bf)";
+const VERSION: &str = "0.1.0 (Rattle, logic dac8208d650f15bf)";
 
 /// What follows the options in the help of the program.
 const EXAMPLE: &str = "\

@@ -8,17 +8,17 @@ use Rattle.heap_log.specs.declared.outcome.Outcome.{Outcome}
 
 pub returns-clause-answers : goal.returns-clause-answers
 returns-clause-answers g c = (
-  subst (λ (s : CoreState). build_cause s.live.build (λ b. switch_refusal b s.live.heap s.work) ≡ None) c.self.view_is c.in_ok-number.ensures.accepted,
+  subst (λ (s : CoreState). build_cause s.live.build (λ b. switch_refusal b s.live.heap s.work) ≡ None) c.self.view_is c.in_ok-switched.ensures.accepted,
   (
-    (c.in_ok-number.number, c.in_ok-number.verdicts),
+    (c.in_ok-switched.switched.number, c.in_ok-switched.switched.verdicts),
     refl,
-    subst (λ (s : CoreState). Switches s (c.in_ok-number.number, c.in_ok-number.verdicts) (core_state c.switch_in.new.self c.switch_in.new.building)) c.self.view_is
-        c.in_ok-number.ensures.switched,
+    subst (λ (s : CoreState). Switches s (c.in_ok-switched.switched.number, c.in_ok-switched.switched.verdicts) (core_state c.switch_in.new.self c.switch_in.new.building)) c.self.view_is
+        c.in_ok-switched.ensures.switched,
   ),
 )
 
 pub returns-clause-keys : goal.returns-clause-keys
 returns-clause-keys g c =
-    let told : ℕ × List Outcome = (c.in_ok-number.number, c.in_ok-number.verdicts) in
+    let told : ℕ × List Outcome = (c.in_ok-switched.switched.number, c.in_ok-switched.switched.verdicts) in
     let new : CoreState = core_state c.switch_in.new.self c.switch_in.new.building in
-    shared_told c.args.self.now told new (subst (λ (s : CoreState). Switches s told new) c.self.view_is c.in_ok-number.ensures.switched)
+    shared_told c.args.self.now told new (subst (λ (s : CoreState). Switches s told new) c.self.view_is c.in_ok-switched.ensures.switched)

@@ -118,15 +118,16 @@ returns-clause-switched g c =
     subst (λ (l : LiveValue). RowsFit l.state.heap.schema l.state.heap.log) c.self.view_is c.laws.ensures.rows in
     let keyed = all_keyed live building b w caught rows
     (subst (λ (specs : List KeySpecValue). All (λ spec. are_key_columns spec.kinds spec.columns ≡ true) specs) (sym c.into_specs-specs.ensures) c.make_ready.ensures.keys) in
-    let done = switches live building b w caught c.in_ok-noted.noted
+    let told : ℕ × List Outcome = (c.in_ok-noted.noted.number, c.in_ok-noted.noted.verdicts) in
+    let done = switches live building b w caught told
     c.set_fence.new.self.state (indexes_of c.make_ready.new.ready.indexes) c.take.new.self left number verdicts noted grown c.take.ensures.after (ap (λ (x : BuildingValue). x.work) c.end.ensures.left) stakes keyed in
     let Left : ℕ → CoreState = λ n. record {
       live = record { heap = c.set_fence.new.self.state; ready = indexes_of c.make_ready.new.ready.indexes; builds = n; build = c.take.new.self };
       work = work_state left.workers left.work;
       spools = spools_state left.given (all_spools left.workers left.spools);
     } in
-    switched_from (core_state c.args.self.now c.args.building.now) (core_state live building) (Left c.self.inside.builds) c.in_ok-noted.noted c.catch_up.ensures.further
-    (subst (λ (n : ℕ). Switches (core_state live building) c.in_ok-noted.noted (Left n))
+    switched_from (core_state c.args.self.now c.args.building.now) (core_state live building) (Left c.self.inside.builds) told c.catch_up.ensures.further
+    (subst (λ (n : ℕ). Switches (core_state live building) told (Left n))
     (sym (ap (λ (l : LiveValue). l.state.builds) c.self.view_is)) done)
 
 pub returns-in_err-check_switch-clause-sides : goal.returns-in_err-check_switch-clause-sides
