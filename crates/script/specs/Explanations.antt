@@ -1,5 +1,6 @@
 -- What is wrong with a bad record.
-use Rattle.std.specs.Prelude.{◌≡◌, ℕ, ◌+◌, ◌<◌, List, [], ◌∷◌, length, slice_get, string_bytes, Option, Some, None, ⊤}
+use Rattle.std.specs.Prelude.{◌≡◌, ℕ, ◌+◌, ◌<◌, List, [], ◌∷◌, length, slice_get, string_bytes, codes, Bool, ◌||◌, false, Option, Some, None, ⊤}
+use Rattle.std.specs.Str.{bytes_eq}
 use Rattle.script.specs.Records.{BeginsWithBytes}
 use Rattle.script.specs.Scripts.{IsBadBehind, NoTable, StandsBehind}
 use Rattle.script.specs.Shapes.{IsRemark, IsSpelled, part_at, parts_of, repeated_of, written}
@@ -92,3 +93,27 @@ abbrev pub ExplainsStop : Stop → List (List ℕ) → CheckError → Type 0
 ExplainsStop stop fields CannotRead = ⊤
 ExplainsStop stop fields NoMemory = ⊤
 ExplainsStop stop fields (Bad number explanation) = (number ≡ stop.number) × IsOfCause stop.cause fields explanation
+
+-- the text is the name of a record that only a race has
+abbrev pub names_race : List ℕ → Bool
+names_race text = bytes_eq text (codes "build") || bytes_eq text (codes "go")
+
+-- the same of a misfit
+abbrev pub misfit_names_race : Misfit → Bool
+misfit_names_race (UnknownCommand text) = names_race (string_bytes text)
+misfit_names_race (TooFewFields name) = false
+misfit_names_race (TooManyFields name) = false
+misfit_names_race (Misspelled number text part) = false
+
+-- the same of what is wrong with a record
+abbrev pub explanation_names_race : Explanation → Bool
+explanation_names_race NotText = false
+explanation_names_race (IsMisfit misfit) = misfit_names_race misfit
+explanation_names_race LateTable = false
+explanation_names_race TableMissing = false
+
+-- the first bad record of a script that is replayed is one that only a race has
+abbrev pub stops_at_race : CheckError → Bool
+stops_at_race CannotRead = false
+stops_at_race NoMemory = false
+stops_at_race (Bad number explanation) = explanation_names_race explanation
