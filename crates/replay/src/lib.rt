@@ -22,6 +22,14 @@ mod shared_line;
 mod status;
 mod txn;
 
+pub use labels::Labels;
+pub use leases::Leases;
+pub use listing::shared_lines;
+pub use output::Output;
+pub use output_failed::OutputFailed;
+pub use parts::table_heap;
+pub use plan::{is_in_limits, key_specs};
 pub use report::{check, check_race, refuse};
-pub use run::replay;
+pub use run::{refuse_table, replay};
+pub use shared_line::SharedLine;
 pub use status::Status;
