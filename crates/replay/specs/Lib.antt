@@ -1,4 +1,5 @@
 pub mod Answers
+pub mod Checks
 pub mod Labels
 pub mod Leasing
 pub mod Limits

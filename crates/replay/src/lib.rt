@@ -1,7 +1,7 @@
 //! Scripts, run on a table of their own.
 //!
 //! [`replay`] reads a script, runs its commands one after the other in one thread and prints an answer for each. A script
-//! that can't be run is named on another stream, and then nothing runs. [`check`] only looks at a script.
+//! that can't be run is named on another stream, and then nothing runs. [`check`] and [`check_race`] only look at a script.
 #![tactic(auto)]
 
 mod answer;
@@ -22,6 +22,15 @@ mod shared_line;
 mod status;
 mod txn;
 
-pub use report::{check, refuse};
-pub use run::replay;
+pub use labels::Labels;
+pub use leases::Leases;
+pub use listing::shared_lines;
+pub use output::Output;
+pub use output_failed::OutputFailed;
+pub use parts::table_heap;
+pub use plan::{is_in_limits, key_specs};
+pub use report::{check, check_race, refuse};
+pub use run::{refuse_table, replay};
+pub use session::has_refused;
+pub use shared_line::SharedLine;
 pub use status::Status;

@@ -178,7 +178,8 @@ impl<W: io::Write + Drop> Output<W> {
         self.end()
     }
 
-    fn cells(&mut self, cells: &[Cell]) -> Result<(), OutputFailed> {
+    /// A field for each cell.
+    pub fn cells(&mut self, cells: &[Cell]) -> Result<(), OutputFailed> {
         for cell in cells {
             self.cell(cell)?;
         }
@@ -199,6 +200,11 @@ impl<W: io::Write + Drop> Output<W> {
 
     fn refusal(&mut self, fault: Fault) -> Result<(), OutputFailed> {
         self.text("refused")?;
+        self.fault(fault)
+    }
+
+    /// The number and the name of a refusal, and what it comes with.
+    pub fn fault(&mut self, fault: Fault) -> Result<(), OutputFailed> {
         self.fields(fault.number(), fault.name())?;
         self.details(fault)
     }
@@ -220,14 +226,14 @@ impl<W: io::Write + Drop> Output<W> {
         }
     }
 
-    /// A field that is made on the stack.
-    fn field<D: fmt::Display + Drop>(&mut self, value: D) -> Result<(), OutputFailed> {
+    /// A field that is made on the stack, of 101 bytes at most.
+    pub fn field<D: fmt::Display + Drop>(&mut self, value: D) -> Result<(), OutputFailed> {
         let mut text: ArrayString<FIELD_MAX> = ArrayString::new();
         write!(text, "{value}")?;
         self.text(text.as_str())
     }
 
-    fn fields<D: fmt::Display + Drop, E: fmt::Display + Drop>(
+    pub fn fields<D: fmt::Display + Drop, E: fmt::Display + Drop>(
         &mut self,
         first: D,
         second: E,
@@ -236,12 +242,13 @@ impl<W: io::Write + Drop> Output<W> {
         self.field(second)
     }
 
-    fn text(&mut self, text: &str) -> Result<(), OutputFailed> {
+    pub fn text(&mut self, text: &str) -> Result<(), OutputFailed> {
         self.writer.write_field(text.as_bytes())?;
         Ok(())
     }
 
-    fn end(&mut self) -> Result<(), OutputFailed>
+    /// Ends a record.
+    pub fn end(&mut self) -> Result<(), OutputFailed>
         ensures { OnOk result (fields_written self.new.writer ≡ 0) }
     {
         self.writer.end_record()?;

@@ -1,15 +1,16 @@
 //! What is said of a script as a whole.
 ghost use Rattle.std.specs.Prelude.{◌≡◌, ◌⊎◌, ℕ, IfSome};
-ghost use Rattle.script.specs.Scripts.{AreGood};
+ghost use Rattle.script.specs.RaceScripts.{AreGoodOfRace};
+ghost use Rattle.replay.specs.Checks.{IsGood};
 
 use crate::status::Status;
-use script::{Script, read_text};
+use script::{RaceScript, Script, read_text};
 use std::alloc::Global;
 use std::fmt;
 use std::io::{Read, Write};
 
-/// Looks at the script that the reader gives, and runs nothing. Says on `out` how many records it has where all are good,
-/// or on `err` what is wrong with the first bad one. Answers the exit status.
+/// Looks at the script that the reader gives, and runs nothing: a script to be replayed, or a race where it has a record `build` or `go`.
+/// Says on `out` how many records it has where all are good, or on `err` what is wrong with the first bad one. Answers the exit status.
 pub fn check<R: Read + Drop, W: Write + Drop, E: Write + Drop>(
     alloc: Global,
     mut reader: R,
@@ -17,7 +18,7 @@ pub fn check<R: Read + Drop, W: Write + Drop, E: Write + Drop>(
     err: E,
 ) -> u8
     ensures status { (result ≡ 0) ⊎ (result ≡ 2) }
-    ensures good { IfSome (R.remaining reader) (λ text. result ≡ 0 → (count : ℕ) × AreGood text count) }
+    ensures good { IfSome (R.remaining reader) (λ text. result ≡ 0 → IsGood text) }
 {
     match read_text(alloc, &mut reader) {
         Ok(text) => check_text(alloc, text.as_slice(), out, err),
@@ -25,11 +26,43 @@ pub fn check<R: Read + Drop, W: Write + Drop, E: Write + Drop>(
     }
 }
 
+/// The same of the script of a race.
+pub fn check_race<R: Read + Drop, W: Write + Drop, E: Write + Drop>(
+    alloc: Global,
+    mut reader: R,
+    out: W,
+    err: E,
+) -> u8
+    ensures status { (result ≡ 0) ⊎ (result ≡ 2) }
+    ensures good { IfSome (R.remaining reader) (λ text. result ≡ 0 → (count : ℕ) × AreGoodOfRace text count) }
+{
+    match read_text(alloc, &mut reader) {
+        Ok(text) => check_race_text(alloc, text.as_slice(), out, err),
+        Err(error) => refuse(error, err),
+    }
+}
+
 fn check_text<W: Write + Drop, E: Write + Drop>(alloc: Global, text: &[u8], out: W, err: E) -> u8
     ensures status { (result ≡ 0) ⊎ (result ≡ 2) }
-    ensures good { result ≡ 0 → (count : ℕ) × AreGood text.now count }
+    ensures good { result ≡ 0 → IsGood text.now }
 {
     match Script::check(alloc, text) {
+        Ok(count) => approve(count, out),
+        Err(error) if error.is_of_race() => check_race_text(alloc, text, out, err),
+        Err(error) => refuse(error, err),
+    }
+}
+
+fn check_race_text<W: Write + Drop, E: Write + Drop>(
+    alloc: Global,
+    text: &[u8],
+    out: W,
+    err: E,
+) -> u8
+    ensures status { (result ≡ 0) ⊎ (result ≡ 2) }
+    ensures good { result ≡ 0 → (count : ℕ) × AreGoodOfRace text.now count }
+{
+    match RaceScript::check(alloc, text) {
         Ok(count) => approve(count, out),
         Err(error) => refuse(error, err),
     }

@@ -68,7 +68,7 @@ fn answer<W: Write + Drop>(
 }
 
 /// Answers that the table is refused.
-fn refuse_table<W: Write + Drop>(
+pub fn refuse_table<W: Write + Drop>(
     number: usize,
     fault: Fault,
     output: &mut Output<W>,

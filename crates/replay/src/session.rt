@@ -17,7 +17,7 @@ use crate::bench::Bench;
 use crate::entry_line::EntryLine;
 use crate::labels::Labels;
 use crate::listing::{build_specs, entry_lines, pair_lines, shared_lines, tree_lines};
-use crate::plan::is_in_limits;
+use crate::plan::{is_in_limits, key_spec, key_specs};
 use crate::status::Status;
 use crate::txn::{begin, put, take_back};
 use builder_core::{Core, Event, Plan, Reply, Table};
@@ -193,7 +193,7 @@ impl Session {
         if bench.core().is_building() {
             return Err(Fault::BuildRunning);
         }
-        if !is_in_limits(&start) {
+        if !is_in_limits(start.workers, start.specs.len(), start.quota) {
             return Err(Fault::BadCount);
         }
         let plan = Plan {
@@ -217,11 +217,8 @@ impl Session {
         ensures ok { IfOk result (λ made. made.items ≡ map (key_spec_of core.now.live.heap.schema) specs.items) }
         ensures refused { IfErr result (λ fault. fault ≢ Fault.Memory → specs_refusal core.now.live.heap.schema specs.items ≡ Some fault) }
     {
-        let mut made = Vec::with_capacity(self.alloc, specs.len())?;
-        for spec in specs {
-            made.push(self.key_spec(core, spec)?)?;
-        }
-        Ok(made)
+        let schema = core.live().heap().schema();
+        key_specs(self.alloc, schema, specs)
     }
 
     /// Tries to bring the build's indexes into use, and notes whether one was refused.
@@ -303,7 +300,7 @@ impl Session {
         ensures refused { IfErr result (RefusedFor (key_columns_refusal core.now.live.heap.schema spec.columns.items)) }
     {
         let schema = core.live().heap().schema();
-        KeySpec::new(self.alloc, schema, spec.columns, spec.unique)
+        key_spec(self.alloc, schema, spec)
     }
 }
 
@@ -333,7 +330,8 @@ fn step<T: Table>(bench: &mut Bench<T>, event: Event) -> Result<Answer, Fault>
     })
 }
 
-fn has_refused(verdicts: &Verdicts) -> bool
+/// Whether an index was refused.
+pub fn has_refused(verdicts: &Verdicts) -> bool
     ensures { result ≡ list_any is_refusal verdicts.now }
 {
     verdicts

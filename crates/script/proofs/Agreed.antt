@@ -1,5 +1,5 @@
 -- A text spells one script or has one first bad record, and not both.
-use Rattle.std.proofs.Common.{◌≡◌, ℕ, ◌<◌, List, [], ◌∷◌, ◌++◌, length, Result, Ok, Err, IfOk, OnOk, arith, refl, subst, sym, ap, ◌∙◌}
+use Rattle.std.proofs.Common.{◌≡◌, ℕ, ◌<◌, List, [], ◌∷◌, ◌++◌, length, Result, Ok, Err, IfOk, OnOk, arith, refl, subst, sym, ◌∙◌}
 use Rattle.std.specs.List.{AllZip}
 use Rattle.std.proofs.lemmas.List.{append-nil, append_assoc}
 use Rattle.std.proofs.lemmas.Slice.Zip.{AllZip-long}
@@ -11,7 +11,7 @@ use Rattle.script.specs.declared.line.Line.TheVariants.{PassedOver, Table as Tab
 use Rattle.script.specs.declared.script.Script.{Script}
 use Rattle.script.proofs.Ordered.{tables_none}
 use Rattle.script.proofs.Shaped.{no_remark, not_table, same_name}
-use Rattle.script.proofs.Zips.{zip_push}
+use Rattle.script.proofs.Zips.{zip_push, zip_split}
 
 -- both are passed over, or tables, or commands
 abbrev AreAlike : Line → Line → Type 0
@@ -89,15 +89,6 @@ in_order_before (PassedOver ∷ xs) more ordered = in_order_before xs more order
 in_order_before (TableLine table ∷ xs) more ordered = no_table_before xs more ordered
 in_order_before (CommandLine command ∷ xs) more ordered = no_table_before xs more ordered
 
--- the lines of records, and of those behind them
-split_lines : (records more : List (List (List ℕ))) (all : List Line) → AllZip RecordSpells (records ++ more) all
-    → (some : List Line) × (others : List Line) × (all ≡ some ++ others) × AllZip RecordSpells records some × AllZip RecordSpells more others
-split_lines [] more all spelled = ([], all, refl, tt, spelled)
-split_lines (r ∷ rs) more [] spelled = absurd spelled
-split_lines (r ∷ rs) more (x ∷ xs) spelled =
-    let rest = split_lines rs more xs spelled.1 in
-    (x ∷ rest.0, rest.1, ap (λ (lines : List Line). x ∷ lines) rest.2, (spelled.0, rest.3), rest.4)
-
 -- a record among good ones is good behind any lines that those before it spell
 behind_first : (before : List (List (List ℕ))) (fields : List (List ℕ)) (rest : List (List (List ℕ))) (lines some others : List Line)
     → AllZip RecordSpells before lines → AllZip RecordSpells before some → AllZip RecordSpells (fields ∷ rest) others → InOrder (some ++ others)
@@ -112,7 +103,7 @@ behind_first before fields rest lines some (x ∷ xs) spelled first more ordered
 good_behind : (before : List (List (List ℕ))) (fields : List (List ℕ)) (rest : List (List (List ℕ))) (lines all : List Line)
     → AllZip RecordSpells before lines → SpellLines (before ++ fields ∷ rest) all → (line : Line) × RecordSpells fields line × InOrder (lines ++ line ∷ [])
 good_behind before fields rest lines all spelled each =
-    let parts = split_lines before (fields ∷ rest) all each.0 in
+    let parts = zip_split RecordSpells before (fields ∷ rest) all each.0 in
     behind_first before fields rest lines parts.0 parts.1 spelled parts.3 parts.4 (subst InOrder parts.2 each.1)
 
 -- a text that spells a script has no bad record
@@ -138,7 +129,7 @@ none_bad text (Ok script) spells = λ number bad. script_or_bad text script numb
 none_bad text (Err error) spells = tt
 
 -- of two ways to part one list, the longer first part has what stands first behind the shorter one
-parted : (some more others rest : List (List (List ℕ))) → some ++ more ≡ others ++ rest → length some < length others
+pub parted : (some more others rest : List (List (List ℕ))) → some ++ more ≡ others ++ rest → length some < length others
     → (fields : List (List ℕ)) × (left : List (List (List ℕ))) × (others ≡ some ++ fields ∷ left) × (more ≡ fields ∷ (left ++ rest))
 parted some more [] rest same shorter = absurd (omega arith)
 parted [] more (f ∷ fs) rest same shorter = (f, fs, refl, same)

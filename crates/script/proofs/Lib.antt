@@ -3,6 +3,11 @@ mod Drafted
 mod FieldLemmas
 mod Misfits
 mod Ordered
+mod RaceAgreed
+mod RaceDrafted
+mod RaceGathered
+mod RaceShaped
+mod RaceStopped
 mod RecordsLeft
 mod RidPoints
 mod Shaped

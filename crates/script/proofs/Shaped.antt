@@ -17,7 +17,7 @@ use Rattle.script.specs.declared.part.Part.TheVariants as part
 use Rattle.script.specs.declared.table.Table.{Table}
 
 -- a relation of texts to values spells the part
-abbrev SpellsPart : {A : Type 0} → (List ℕ → A → Type 0) → Part → Type 0
+abbrev pub SpellsPart : {A : Type 0} → (List ℕ → A → Type 0) → Part → Type 0
 SpellsPart {A} Spells one = (text : List ℕ) (value : A) → Spells text value → IsSpelled one text
 
 label_part : SpellsPart SpellsLabel part.Label
@@ -29,13 +29,13 @@ rid_part text rid spelled = (rid, spelled)
 number_part : SpellsPart SpellsNumber part.Number
 number_part text number spelled = (number, spelled)
 
-cell_part : SpellsPart SpellsCell part.Cell
+pub cell_part : SpellsPart SpellsCell part.Cell
 cell_part text cell spelled = (cell, spelled)
 
 kind_part : SpellsPart SpellsKind part.Kind
 kind_part text kind spelled = (kind, spelled)
 
-spec_part : SpellsPart SpellsSpec part.Spec
+pub spec_part : SpellsPart SpellsSpec part.Spec
 spec_part text spec spelled = (spec, spelled)
 
 -- one text for one value, two for two, and one or more
@@ -56,19 +56,19 @@ more_fit Spells one part_is [] values spelled = tt
 more_fit Spells one part_is (f ∷ fs) [] spelled = absurd spelled
 more_fit Spells one part_is (f ∷ fs) (v ∷ vs) spelled = (part_is f v spelled.0, more_fit Spells one part_is fs vs spelled.1)
 
-each_fits : {A : Type 0} (Spells : List ℕ → A → Type 0) (one : Part) → SpellsPart Spells one → (fields : List (List ℕ)) (values : List A)
+pub each_fits : {A : Type 0} (Spells : List ℕ → A → Type 0) (one : Part) → SpellsPart Spells one → (fields : List (List ℕ)) (values : List A)
     → SpellEach Spells fields values → Fit (one ∷ []) (Some one) fields
 each_fits Spells one part_is [] values spelled = omega (arith, spelled.0)
 each_fits Spells one part_is (f ∷ fs) [] spelled = absurd spelled.1
 each_fits Spells one part_is (f ∷ fs) (v ∷ vs) spelled = (part_is f v spelled.1.0, more_fit Spells one part_is fs vs spelled.1.1)
 
 -- the fields of a table and those of a start
-table_fits : (fields : List (List ℕ)) (table : Table) → SpellTable fields table → Fit (parts_of name.Table) (repeated_of name.Table) fields
+pub table_fits : (fields : List (List ℕ)) (table : Table) → SpellTable fields table → Fit (parts_of name.Table) (repeated_of name.Table) fields
 table_fits [] table spelled = spelled
 table_fits (f ∷ fs) table spelled = ((table.slot_limit, spelled.0), each_fits SpellsKind part.Kind kind_part fs table.kinds.items spelled.1)
 
 -- the fields of a command
-command_fits : (fields : List (List ℕ)) (command : Command) → SpellParts fields command
+pub command_fits : (fields : List (List ℕ)) (command : Command) → SpellParts fields command
     → Fit (parts_of (name_of command)) (repeated_of (name_of command)) fields
 command_fits fields (Row cells) spelled = each_fits SpellsCell part.Cell cell_part fields cells.items spelled
 command_fits fields (Begin label) spelled = one_fits SpellsLabel part.Label label_part fields label spelled

@@ -1,5 +1,6 @@
 -- What is wrong with a bad record.
-use Rattle.std.specs.Prelude.{◌≡◌, ℕ, ◌+◌, ◌<◌, List, [], ◌∷◌, length, slice_get, string_bytes, Some, None, ⊤}
+use Rattle.std.specs.Prelude.{◌≡◌, ℕ, ◌+◌, ◌<◌, List, [], ◌∷◌, length, slice_get, string_bytes, codes, Bool, ◌||◌, false, Option, Some, None, ⊤}
+use Rattle.std.specs.Str.{bytes_eq}
 use Rattle.script.specs.Records.{BeginsWithBytes}
 use Rattle.script.specs.Scripts.{IsBadBehind, NoTable, StandsBehind}
 use Rattle.script.specs.Shapes.{IsRemark, IsSpelled, part_at, parts_of, repeated_of, written}
@@ -13,6 +14,8 @@ use Rattle.script.specs.declared.line.Line.{Line}
 use Rattle.script.specs.declared.misfit.Misfit.{Misfit}
 use Rattle.script.specs.declared.misfit.Misfit.TheVariants.{Misspelled, TooFewFields, TooManyFields, UnknownCommand}
 use Rattle.script.specs.declared.part.Part.{Part}
+use Rattle.script.specs.declared.unfit.Unfit.{Unfit}
+use Rattle.script.specs.declared.unfit.Unfit.TheVariants.{TooFew, TooMany, Misspelled as MisspelledAt}
 use Rattle.script.specs.declared.cause.Cause.{Cause}
 use Rattle.script.specs.declared.cause.Cause.TheVariants as causes
 use Rattle.script.specs.declared.stop.Stop.{Stop}
@@ -31,6 +34,13 @@ abbrev pub IsMisspelledField : CommandName → List (List ℕ) → ℕ → List 
 IsMisspelledField name fields number text part =
     (place : ℕ) × (number ≡ place + 2) × (slice_get fields place ≡ Some text)
     × (part_at (parts_of name) (repeated_of name) place ≡ Some part) × ¬ (IsSpelled part text)
+
+-- in which way the fields do not fit the parts
+abbrev pub TellsUnfit : List Part → Option Part → List (List ℕ) → Unfit → Type 0
+TellsUnfit parts repeated fields TooFew = length fields < length parts
+TellsUnfit parts repeated fields TooMany = (repeated ≡ None) × (length parts < length fields)
+TellsUnfit parts repeated fields (MisspelledAt place text part) =
+    (slice_get fields place ≡ Some (string_bytes text)) × (part_at parts repeated place ≡ Some part) × ¬ (IsSpelled part (string_bytes text))
 
 -- what is wrong with the fields behind a name
 abbrev pub TellsMisfitBehind : CommandName → List (List ℕ) → Misfit → Type 0
@@ -83,3 +93,27 @@ abbrev pub ExplainsStop : Stop → List (List ℕ) → CheckError → Type 0
 ExplainsStop stop fields CannotRead = ⊤
 ExplainsStop stop fields NoMemory = ⊤
 ExplainsStop stop fields (Bad number explanation) = (number ≡ stop.number) × IsOfCause stop.cause fields explanation
+
+-- the text is the name of a record that only a race has
+abbrev pub names_race : List ℕ → Bool
+names_race text = bytes_eq text (codes "build") || bytes_eq text (codes "go")
+
+-- the same of a misfit
+abbrev pub misfit_names_race : Misfit → Bool
+misfit_names_race (UnknownCommand text) = names_race (string_bytes text)
+misfit_names_race (TooFewFields name) = false
+misfit_names_race (TooManyFields name) = false
+misfit_names_race (Misspelled number text part) = false
+
+-- the same of what is wrong with a record
+abbrev pub explanation_names_race : Explanation → Bool
+explanation_names_race NotText = false
+explanation_names_race (IsMisfit misfit) = misfit_names_race misfit
+explanation_names_race LateTable = false
+explanation_names_race TableMissing = false
+
+-- the first bad record of a script that is replayed is one that only a race has
+abbrev pub stops_at_race : CheckError → Bool
+stops_at_race CannotRead = false
+stops_at_race NoMemory = false
+stops_at_race (Bad number explanation) = explanation_names_race explanation

@@ -1,6 +1,6 @@
 -- How the fields of a record are spelled.
 use denote.Ref.{Bor}
-use Rattle.std.specs.Prelude.{◌≡◌, ◌==◌, ℕ, ◌+◌, ◌^◌, ◌<◌, map, ℤ, pos, neg_ℤ, nat_lt, nat_le, slice_index, Bool, ◌&&◌, List, ◌∷◌, ◌++◌, length, drop, codes}
+use Rattle.std.specs.Prelude.{◌≡◌, ◌==◌, ℕ, ◌+◌, ◌^◌, ◌<◌, ◌≤◌, map, ℤ, pos, neg_ℤ, nat_lt, nat_le, slice_index, Bool, ◌&&◌, List, ◌∷◌, ◌++◌, length, drop, codes}
 use Rattle.std.specs.Prelude.{Option, option_map, Some, None, if◌then◌else◌}
 use Rattle.std.specs.Char.{is_ascii_alphanumeric, is_ascii_digit}
 use Rattle.std.specs.List.{list_all, slice_split, AllZip}
@@ -65,6 +65,10 @@ SpellEach Spells texts values = (0 < length texts) × AllZip Spells texts values
 -- the text spells the number
 abbrev pub SpellsNumber : List ℕ → ℕ → Type 0
 SpellsNumber text number = number_of text ≡ Some number
+
+-- the text spells the number of a session, 1 to 8
+abbrev pub SpellsSession : List ℕ → ℕ → Type 0
+SpellsSession text session = SpellsNumber text session × (1 ≤ session) × (session ≤ 8)
 
 -- the text spells the RID: its page and its slot, joined by a point, which is 46
 abbrev pub SpellsRid : List ℕ → Rid → Type 0

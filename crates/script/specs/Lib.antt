@@ -3,6 +3,13 @@ pub mod Drafts
 pub mod Explanations
 pub mod Fields
 pub mod Lines
+pub mod RaceDrafts
+pub mod RaceExplanations
+pub mod RaceLines
+pub mod RaceOrder
+pub mod RaceScripts
+pub mod RaceShapes
+pub mod RaceStops
 pub mod Readers
 pub mod Records
 pub mod Scripts

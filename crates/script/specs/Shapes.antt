@@ -1,10 +1,10 @@
 -- Which fields the record of a command has.
-use Rattle.std.specs.Prelude.{◌≡◌, ℕ, true, List, [], ◌∷◌, ◌++◌, slice_get, codes, Option, Some, None, ⊤, ◌⊎◌}
+use Rattle.std.specs.Prelude.{◌≡◌, ℕ, Bool, true, false, List, [], ◌∷◌, ◌++◌, slice_get, codes, Option, Some, None, ⊤, ◌⊎◌}
 use Rattle.std.specs.Option.{option_or}
 use Rattle.keybytes.specs.declared.cell.Cell.{Cell}
 use Rattle.keybytes.specs.declared.kind.Kind.{Kind}
 use Rattle.keybytes.specs.declared.rid.Rid.{Rid}
-use Rattle.script.specs.Fields.{is_label, SpellsCell, SpellsDealing, SpellsKind, SpellsNumber, SpellsRid, SpellsSpec}
+use Rattle.script.specs.Fields.{is_label, SpellsCell, SpellsDealing, SpellsKind, SpellsNumber, SpellsRid, SpellsSession, SpellsSpec}
 use Rattle.script.specs.declared.command_name.CommandName.{CommandName}
 use Rattle.script.specs.declared.command_name.CommandName.TheVariants.{Table, Row, Begin, Insert, Update, Delete, Undo, Commit, Get, Start, Scan, Digest, Seal}
 use Rattle.script.specs.declared.command_name.CommandName.TheVariants.{Load, Feed, Apply, Fence, Switch, Abandon, Side, Pairs, Rest}
@@ -37,6 +37,31 @@ written Abandon = codes "abandon"
 written Side = codes "side"
 written Pairs = codes "pairs"
 written Rest = codes "rest"
+
+-- a session may have commands of that name
+abbrev pub is_of_session : CommandName → Bool
+is_of_session Table = false
+is_of_session Row = false
+is_of_session Begin = true
+is_of_session Insert = true
+is_of_session Update = true
+is_of_session Delete = true
+is_of_session Undo = true
+is_of_session Commit = true
+is_of_session Get = false
+is_of_session Start = false
+is_of_session Scan = false
+is_of_session Digest = false
+is_of_session Seal = false
+is_of_session Load = false
+is_of_session Feed = false
+is_of_session Apply = false
+is_of_session Switch = false
+is_of_session Fence = false
+is_of_session Abandon = false
+is_of_session Side = false
+is_of_session Pairs = false
+is_of_session Rest = false
 
 -- what the fields behind a name spell, one part each
 abbrev pub parts_of : CommandName → List Part
@@ -97,6 +122,8 @@ IsSpelled part.Cell text = (cell : Cell) × SpellsCell text cell
 IsSpelled part.Kind text = (kind : Kind) × SpellsKind text kind
 IsSpelled part.Dealing text = (dealing : Dealing) × SpellsDealing text dealing
 IsSpelled part.Spec text = (spec : Spec) × SpellsSpec text spec
+IsSpelled part.Session text = (session : ℕ) × SpellsSession text session
+IsSpelled part.SessionCommand text = (name : CommandName) × (is_of_session name ≡ true) × (text ≡ written name)
 
 -- the part that the field at a place spells: one of its own, or the repeated one
 abbrev pub part_at : List Part → Option Part → ℕ → Option Part

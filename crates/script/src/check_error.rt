@@ -1,4 +1,7 @@
-use crate::Explanation;
+ghost use Rattle.std.specs.Prelude.{◌≡◌};
+ghost use Rattle.script.specs.Explanations.{stops_at_race};
+
+use crate::{Explanation, Misfit};
 use std::fmt;
 
 /// Why a script can't be run, and what is wrong with its first bad record.
@@ -10,6 +13,21 @@ pub enum CheckError {
         number: usize,
         explanation: Explanation,
     },
+}
+
+impl CheckError {
+    /// Whether the first bad record is one that only a race has, `build` or `go`.
+    pub fn is_of_race(&self) -> bool
+        ensures { result ≡ stops_at_race self.now }
+    {
+        match self {
+            CheckError::Bad {
+                explanation: Explanation::Misfit(Misfit::UnknownCommand { text }),
+                ..
+            } => matches!(text.as_str(), "build" | "go"),
+            _ => false,
+        }
+    }
 }
 
 impl fmt::Display for CheckError {

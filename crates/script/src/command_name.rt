@@ -1,5 +1,5 @@
-ghost use Rattle.std.specs.Prelude.{◌≡◌, IfSome, IfNone};
-ghost use Rattle.script.specs.Shapes.{part_at, parts_of, repeated_of, written};
+ghost use Rattle.std.specs.Prelude.{◌≡◌, IfSome, IfNone, true};
+ghost use Rattle.script.specs.Shapes.{is_of_session, parts_of, repeated_of, written};
 ghost use Rattle.script.specs.declared.command_name.CommandName.{CommandName as Name};
 
 use crate::Part;
@@ -70,6 +70,30 @@ impl CommandName {
         None
     }
 
+    /// The same, of a name that a session's command may have.
+    pub fn read_of_session(text: &str) -> Option<CommandName>
+        ensures known { IfSome result (λ name. (is_of_session name ≡ true) × (text.now ≡ written name)) }
+        ensures unknown { IfNone result ((name : Name) → is_of_session name ≡ true → text.now ≡ written name → ⊥) }
+    {
+        let name = CommandName::read(text)?;
+        name.is_of_session().then_some(name)
+    }
+
+    /// Whether it is the name of a command that a session may have.
+    pub fn is_of_session(self) -> bool
+        ensures { result ≡ is_of_session self }
+    {
+        matches!(
+            self,
+            CommandName::Begin
+                | CommandName::Insert
+                | CommandName::Update
+                | CommandName::Delete
+                | CommandName::Undo
+                | CommandName::Commit
+        )
+    }
+
     /// What the fields behind the name spell, one part each.
     pub fn parts(self) -> &'static [Part]
         ensures { result.now ≡ parts_of self }
@@ -106,16 +130,6 @@ impl CommandName {
             CommandName::Row | CommandName::Insert | CommandName::Update => Some(Part::Cell),
             CommandName::Start => Some(Part::Spec),
             _ => None,
-        }
-    }
-
-    /// What the field at that place behind the name spells, if there may be one; places begin with 0.
-    pub fn part(self, place: usize) -> Option<Part>
-        ensures { result ≡ part_at (parts_of self) (repeated_of self) place }
-    {
-        match self.parts().get(place) {
-            Some(part) => Some(*part),
-            None => self.repeated(),
         }
     }
 

@@ -8,13 +8,16 @@ ghost use Rattle.script.specs.declared.spec.Spec.{Spec as SpecValue};
 ghost use Rattle.script.specs.declared.part.Part.TheVariants as part;
 ghost use Rattle.script.specs.Shapes.{Fit};
 ghost use Rattle.script.specs.Fields.{number_of, int_of, slot_of, texts, SpellEach, SpellsCell, SpellsDealing, SpellsKind, SpellsNumbers, SpellsRid};
-ghost use Rattle.script.specs.Fields.{SpellsSpec};
+ghost use Rattle.script.specs.Fields.{SpellsSession, SpellsSpec};
 
 use crate::Spec;
 use crate::record_error::RecordError;
 use keybytes::{Cell, Kind, Rid, Text};
 use scan_range::Dealing;
 use std::alloc::Global;
+
+/// How many sessions a race may have.
+const SESSIONS_MAX: u32 = 8;
 
 /// A number: decimal digits, at most 4,294,967,295.
 pub fn number(text: &str) -> Option<u32>
@@ -34,6 +37,17 @@ pub fn count(text: &str) -> Result<usize, RecordError>
     match number(text) {
         Some(number) => Ok(number as usize),
         None => Err(RecordError::Misspelled),
+    }
+}
+
+/// The number of a session, 1 to 8.
+pub fn session(text: &str) -> Option<usize>
+    ensures some { IfSome result (λ session. SpellsSession text.now session) }
+    ensures none { IfNone result ((session : ℕ) → SpellsSession text.now session → ⊥) }
+{
+    match number(text) {
+        Some(session) if (1..=SESSIONS_MAX).contains(&session) => Some(session as usize),
+        _ => None,
     }
 }
 

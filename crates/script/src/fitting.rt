@@ -1,13 +1,13 @@
 //! Whether the fields of a record fit its command.
 ghost use Rattle.std.specs.Prelude.{◌≡◌, IfOk, MatchOption};
 ghost use Rattle.csv.specs.Records.{fields_of};
-ghost use Rattle.script.specs.Explanations.{TellsMisfit, TellsMisfitBehind};
+ghost use Rattle.script.specs.Explanations.{TellsMisfit, TellsMisfitBehind, TellsUnfit};
 ghost use Rattle.script.specs.Fields.{texts};
-ghost use Rattle.script.specs.Shapes.{Fits, HasShape};
+ghost use Rattle.script.specs.Shapes.{Fit, Fits, HasShape, part_at};
 
 use crate::parse::fields;
 use crate::record_error::RecordError;
-use crate::{CommandName, Misfit};
+use crate::{CommandName, Misfit, Part, Unfit};
 use csv::StringRecord;
 use std::alloc::Global;
 
@@ -46,21 +46,49 @@ fn misfit_behind(
 ) -> Result<Option<Misfit>, RecordError>
     ensures { IfOk result (λ found. MatchOption found (Fits name (texts fields.now)) (TellsMisfitBehind name (texts fields.now))) }
 {
+    let found = unfit(alloc, name.parts(), name.repeated(), fields)?;
+    Ok(match found {
+        None => None,
+        Some(Unfit::TooFew) => Some(Misfit::TooFewFields { name }),
+        Some(Unfit::TooMany) => Some(Misfit::TooManyFields { name }),
+        Some(Unfit::Misspelled { place, text, part }) => Some(Misfit::Misspelled {
+            field: place + 2,
+            text,
+            part,
+        }),
+    })
+}
+
+/// In which way the fields don't fit the parts, if they don't. Fields behind the last part are to spell the repeated one.
+pub fn unfit(
+    alloc: Global,
+    parts: &[Part],
+    repeated: Option<Part>,
+    fields: &[&str],
+) -> Result<Option<Unfit>, RecordError>
+    ensures { IfOk result (λ found. MatchOption found (Fit parts.now repeated (texts fields.now)) (TellsUnfit parts.now repeated (texts fields.now))) }
+{
     for (place, field) in fields.iter().enumerate() {
-        let Some(part) = name.part(place) else {
-            return Ok(Some(Misfit::TooManyFields { name }));
+        let Some(part) = part_at(parts, repeated, place) else {
+            return Ok(Some(Unfit::TooMany));
         };
         if !part.accepts(alloc, field)? {
             let text = String::from_str(alloc, field)?;
-            return Ok(Some(Misfit::Misspelled {
-                field: place + 2,
-                text,
-                part,
-            }));
+            return Ok(Some(Unfit::Misspelled { place, text, part }));
         }
     }
-    if fields.len() < name.parts().len() {
-        return Ok(Some(Misfit::TooFewFields { name }));
+    if fields.len() < parts.len() {
+        return Ok(Some(Unfit::TooFew));
     }
     Ok(None)
+}
+
+/// What the field at that place is to spell, if there may be one; places begin with 0.
+fn part_at(parts: &[Part], repeated: Option<Part>, place: usize) -> Option<Part>
+    ensures { result ≡ part_at parts.now repeated place }
+{
+    match parts.get(place) {
+        Some(part) => Some(*part),
+        None => repeated,
+    }
 }

@@ -21,6 +21,7 @@ mod misfit;
 mod numbered_command;
 mod parse;
 mod part;
+mod race;
 mod reading;
 mod record_error;
 mod records;
@@ -30,6 +31,7 @@ mod spec;
 mod start;
 mod stop;
 mod table;
+mod unfit;
 
 pub use check_error::CheckError;
 pub use command::Command;
@@ -39,8 +41,13 @@ pub use label::Label;
 pub use misfit::Misfit;
 pub use numbered_command::NumberedCommand;
 pub use part::Part;
+pub use race::{
+    Build, RaceCheckError, RaceExplanation, RaceMisfit, RaceName, RaceScript, SessionCommand,
+    SessionStep,
+};
 pub use script::{Script, read_text};
 pub use script_error::ScriptError;
 pub use spec::Spec;
 pub use start::Start;
 pub use table::Table;
+pub use unfit::Unfit;

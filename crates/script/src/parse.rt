@@ -50,7 +50,7 @@ fn line_of(alloc: Global, fields: &[&str]) -> Result<Line, RecordError>
 }
 
 /// The first field, and those behind it.
-fn first<'a, 'b>(fields: &'b [&'a str]) -> Result<(&'a str, &'b [&'a str]), RecordError>
+pub fn first<'a, 'b>(fields: &'b [&'a str]) -> Result<(&'a str, &'b [&'a str]), RecordError>
     ensures ok { IfOk result (λ found. texts fields.now ≡ found.0.now ∷ texts found.1.now) }
     ensures refused { IfErr result (λ error. (error ≡ RecordError.Misspelled) × (texts fields.now ≡ [])) }
 {
@@ -70,7 +70,7 @@ fn only<'a>(fields: &[&'a str]) -> Result<&'a str, RecordError>
     Ok(field)
 }
 
-fn table(alloc: Global, fields: &[&str]) -> Result<Table, RecordError>
+pub fn table(alloc: Global, fields: &[&str]) -> Result<Table, RecordError>
     ensures ok { IfOk result (λ table. SpellTable (texts fields.now) table) }
     ensures refused { result ≡ Err RecordError.Misspelled → ¬ (Fits name.Table (texts fields.now)) }
 {
@@ -82,7 +82,7 @@ fn table(alloc: Global, fields: &[&str]) -> Result<Table, RecordError>
 }
 
 /// The line of that name with those fields behind it.
-fn named(alloc: Global, name: CommandName, fields: &[&str]) -> Result<Line, RecordError>
+pub fn named(alloc: Global, name: CommandName, fields: &[&str]) -> Result<Line, RecordError>
     ensures ok { IfOk result (λ line. SpellLine (written name ∷ texts fields.now) line) }
     ensures refused { result ≡ Err RecordError.Misspelled → ¬ (Fits name (texts fields.now)) }
 {
@@ -175,7 +175,7 @@ fn bare(which: CommandName, fields: &[&str]) -> Result<Command, RecordError>
     })
 }
 
-fn none(fields: &[&str]) -> Result<(), RecordError>
+pub fn none(fields: &[&str]) -> Result<(), RecordError>
     ensures ok { IfOk result (λ _. texts fields.now ≡ []) }
     ensures refused { IfErr result (λ error. (error ≡ RecordError.Misspelled) × ¬ (Fit [] None (texts fields.now))) }
 {

@@ -60,5 +60,6 @@ fn run_on<R: Read + Drop>(rt: &HostRuntime, task: Task, script: R) -> u8 {
     match task {
         Task::Replay => replay::replay(rt.alloc(), script, rt.stdout(), rt.stderr()),
         Task::Check => replay::check(rt.alloc(), script, rt.stdout(), rt.stderr()),
+        Task::CheckRace => replay::check_race(rt.alloc(), script, rt.stdout(), rt.stderr()),
     }
 }

@@ -39,6 +39,8 @@ pub struct Choice<'a> {
 pub enum Task {
     Replay,
     Check,
+    /// Looks at a script as that of a race.
+    CheckRace,
 }
 
 /// Reads the words, the first of which is the program's name. The error is what to print, and where: a refusal, or
@@ -55,6 +57,7 @@ fn chosen<'a>(matches: &ArgMatches<'a>) -> Option<Choice<'a>> {
     let (name, arguments) = matches.subcommand()?;
     let task = match name {
         "replay" => Task::Replay,
+        "check" if arguments.get_flag("race") => Task::CheckRace,
         "check" => Task::Check,
         _ => return None,
     };
@@ -72,11 +75,16 @@ fn command<'a>(alloc: Global) -> Result<Command<'a>, AllocError> {
         "replay",
         "Runs the records of a script one after the other, and prints an answer for each",
     )?;
+    let race = Arg::new(alloc, "race")
+        .long("race")
+        .help("Looks at the script as that of a race, also where it has neither a build nor go")
+        .action(ArgAction::SetTrue);
     let check = task_command(
         alloc,
         "check",
         "Runs nothing, and says whether all records of a script are good, or what is wrong with the first bad one",
-    )?;
+    )?
+    .arg(race)?;
     Command::new(alloc, "sfbuild")
         .version(VERSION)
         .about("Builds the index of a table, as a script tells it to")

@@ -1,12 +1,12 @@
 use Rattle.std.proofs.Common.{◌≡◌, ◌++◌, map}
 use Rattle.replay.specs.Plans.{specs_refusal}
 use Rattle.replay.specs.Listings.{key_spec_of}
-use Rattle.replay.proofs.session.Session.key_specs.Given as goal
+use Rattle.replay.proofs.plan.key_specs.Given as goal
 
 abbrev pub invariant-loop-spec : goal.invariant-loop-spec
-invariant-loop-spec g l =
-    let schema = l.core.live.heap.schema in
+invariant-loop-spec l =
+    let schema = l.fn.schema in
     let rest = l.spec-iterator.rest.items in
-    (goal.iterator-loop-spec g).can_next l.spec-iterator × (goal.iterator-loop-spec g).is_finite l.spec-iterator
+    goal.iterator-loop-spec.can_next l.spec-iterator × goal.iterator-loop-spec.is_finite l.spec-iterator
     × (map (key_spec_of schema) l.fn.specs.items ≡ l.made.items ++ map (key_spec_of schema) rest)
     × (specs_refusal schema l.fn.specs.items ≡ specs_refusal schema rest)

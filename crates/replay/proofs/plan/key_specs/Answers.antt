@@ -2,14 +2,14 @@ use Rattle.std.proofs.Common.{◌≡◌, ◌≢◌, Some, rules, ◌∙◌}
 use Rattle.keybytes.specs.declared.fault.Fault.TheVariants.{Memory}
 use Rattle.replay.specs.Plans.{specs_refusal}
 use Rattle.replay.proofs.SpecLists.{accepted_first, is_named, made_more, refused_first}
-use Rattle.replay.proofs.session.Session.key_specs.Goals as goal
+use Rattle.replay.proofs.plan.key_specs.Goals as goal
 
 pub loop-spec-init : goal.loop-spec-init
-loop-spec-init g c = search rules
+loop-spec-init c = search rules
 
 pub loop-spec-preserved : goal.loop-spec-preserved
-loop-spec-preserved g c =
-    let schema = c.args.core.now.live.heap.schema in
+loop-spec-preserved c =
+    let schema = c.args.schema.now in
     let (kept, finite, same, refusal) = c.loop-spec.invariant in
     let first = c.in-Some.ensures.steps.0 in
     let made = rw first at same in
@@ -25,8 +25,8 @@ loop-spec-preserved g c =
     )
 
 pub returns-in_err-key_spec-clause-refused : goal.returns-in_err-key_spec-clause-refused
-returns-in_err-key_spec-clause-refused g c =
-    let schema = c.args.core.now.live.heap.schema in
+returns-in_err-key_spec-clause-refused c =
+    let schema = c.args.schema.now in
     let left = rw c.in-Some.ensures.steps.0 at c.loop-spec.invariant.3 in
     let refused : c.in_err-key_spec.field-0.0 ≢ Memory → specs_refusal schema c.args.specs.items ≡ Some c.in_err-key_spec.field-0.0 =
     λ other. left ∙ refused_first schema c.in-Some.spec c.next.new.self.rest.items _ c.in_err-key_spec.ensures.refused other in

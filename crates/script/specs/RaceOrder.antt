@@ -1,0 +1,64 @@
+-- In which order the records of a race script come.
+use Rattle.std.specs.Prelude.{◌≡◌, ◌==◌, ℕ, ◌+◌, Bool, true, false, List, [], ◌∷◌, ◌++◌, Option, Some, None, ⊤}
+use Rattle.std.specs.List.{list_any}
+use Rattle.std.specs.Option.{option_to_list}
+use Rattle.script.specs.declared.race.line.RaceLine.{RaceLine}
+use Rattle.script.specs.declared.race.line.RaceLine.TheVariants.{PassedOver, Table, Row, Build, Go, In}
+use Rattle.script.specs.declared.race.name.RaceName.{RaceName}
+use Rattle.script.specs.declared.race.name.RaceName.TheVariants as name
+
+-- the name of a line's record; one that is passed over has none
+abbrev pub name_of_line : RaceLine → Option RaceName
+name_of_line PassedOver = None
+name_of_line (Table table) = Some name.Table
+name_of_line (Row cells) = Some name.Row
+name_of_line (Build build) = Some name.Build
+name_of_line Go = Some name.Go
+name_of_line (In session command) = Some name.In
+
+-- what the lines give one after the other, each with its number, where the first line has that number
+abbrev pub gathered : {A : Type 0} → (ℕ → RaceLine → List A) → ℕ → List RaceLine → List A
+gathered given number [] = []
+gathered given number (line ∷ lines) = given number line ++ gathered given (number + 1) lines
+
+-- the name that a line gives, if it has one
+abbrev pub name_at : ℕ → RaceLine → List RaceName
+name_at number line = option_to_list (name_of_line line)
+
+-- the names of the lines' records
+abbrev pub names : List RaceLine → List RaceName
+names lines = gathered name_at 1 lines
+
+-- names as numbers, by which they are told apart
+abbrev pub rank : RaceName → ℕ
+rank name.Table = 0
+rank name.Row = 1
+rank name.Build = 2
+rank name.Go = 3
+rank name.In = 4
+
+-- one of the names is this one
+abbrev pub has : RaceName → List RaceName → Bool
+has one some = list_any (λ other. rank other == rank one) some
+
+-- a record of that name may come behind records of these names
+abbrev pub MayCome : List RaceName → RaceName → Type 0
+MayCome before name.Table = before ≡ []
+MayCome before name.Row = has name.Go before ≡ false
+MayCome before name.Build = (has name.Go before ≡ false) × (has name.Build before ≡ false)
+MayCome before name.Go = has name.Go before ≡ false
+MayCome before name.In = has name.Go before ≡ true
+
+-- the same of a line behind lines; one that is passed over may stand anywhere
+abbrev pub MayStand : List RaceLine → Option RaceName → Type 0
+MayStand before None = ⊤
+MayStand before (Some one) = MayCome (names before) one
+
+-- each line may stand behind these and those before it
+abbrev pub AreInOrder : List RaceLine → List RaceLine → Type 0
+AreInOrder before [] = ⊤
+AreInOrder before (line ∷ lines) = MayStand before (name_of_line line) × AreInOrder (before ++ line ∷ []) lines
+
+-- a table, a build and `go` are there
+abbrev pub AreWhole : List RaceName → Type 0
+AreWhole some = (has name.Table some ≡ true) × (has name.Build some ≡ true) × (has name.Go some ≡ true)

@@ -1,0 +1,93 @@
+-- Which race script a text is, and which of its records is the first bad one.
+use Rattle.std.specs.Prelude.{◌≡◌, ℕ, ◌+◌, List, [], ◌∷◌, ◌++◌, length}
+use Rattle.std.specs.Global.{Vec}
+use Rattle.std.specs.List.{AllZip}
+use Rattle.csv.specs.Records.{AllText}
+use Rattle.keybytes.specs.declared.cell.Cell.{Cell}
+use Rattle.script.specs.RaceLines.{SpellRaceLine}
+use Rattle.script.specs.RaceOrder.{AreInOrder, AreWhole, MayStand, gathered, name_of_line, names}
+use Rattle.script.specs.Records.{records_of}
+use Rattle.script.specs.declared.race.build.Build.{Build}
+use Rattle.script.specs.declared.race.line.RaceLine.{RaceLine}
+use Rattle.script.specs.declared.race.line.RaceLine.TheVariants.{PassedOver, Table as TableLine, Row, Build as BuildLine, Go, In}
+use Rattle.script.specs.declared.race.script.RaceScript.{RaceScript}
+use Rattle.script.specs.declared.race.session_step.SessionStep.{SessionStep}
+use Rattle.script.specs.declared.table.Table.{Table}
+
+-- a record spells a line where its fields are text and ask for that line
+abbrev pub RecordSpellsRace : List (List ℕ) → RaceLine → Type 0
+RecordSpellsRace fields line = AllText fields × SpellRaceLine fields line
+
+-- the records spell the lines, one each, and these are in order
+abbrev pub SpellRaceLines : List (List (List ℕ)) → List RaceLine → Type 0
+SpellRaceLines records lines = AllZip RecordSpellsRace records lines × AreInOrder [] lines
+
+-- the table that a line is, with its number
+abbrev pub table_at : ℕ → RaceLine → List (ℕ × Table)
+table_at number (TableLine table) = (number, table) ∷ []
+table_at number PassedOver = []
+table_at number (Row cells) = []
+table_at number (BuildLine build) = []
+table_at number Go = []
+table_at number (In session command) = []
+
+-- the row that a line is
+abbrev pub row_at : ℕ → RaceLine → List (Vec Cell)
+row_at number (Row cells) = cells ∷ []
+row_at number PassedOver = []
+row_at number (TableLine table) = []
+row_at number (BuildLine build) = []
+row_at number Go = []
+row_at number (In session command) = []
+
+-- the build that a line is
+abbrev pub build_at : ℕ → RaceLine → List Build
+build_at number (BuildLine build) = build ∷ []
+build_at number PassedOver = []
+build_at number (TableLine table) = []
+build_at number (Row cells) = []
+build_at number Go = []
+build_at number (In session command) = []
+
+-- the step of a session that a line is, with its number
+abbrev pub step_at : ℕ → RaceLine → List SessionStep
+step_at number (In session command) = record { number = number; session = session; command = command } ∷ []
+step_at number PassedOver = []
+step_at number (TableLine table) = []
+step_at number (Row cells) = []
+step_at number (BuildLine build) = []
+step_at number Go = []
+
+-- the script has the one table of the lines, their rows, their one build and what sessions do
+pub record IsRaceScript (lines : List RaceLine) (script : RaceScript) : Type 0 where
+  pub table : gathered table_at 1 lines ≡ (script.table_number, script.table) ∷ []
+  pub rows : gathered row_at 1 lines ≡ script.rows.items
+  pub build : gathered build_at 1 lines ≡ script.build ∷ []
+  pub steps : gathered step_at 1 lines ≡ script.steps.items
+
+-- every record of the text is good, and together they are the script
+abbrev pub SpellsRaceScript : List ℕ → RaceScript → Type 0
+SpellsRaceScript text script =
+    (lines : List RaceLine) × SpellRaceLines (records_of text) lines × AreWhole (names lines) × IsRaceScript lines script
+
+-- the first records of the text spell these lines, and the others stand behind them, the first of those with that number
+pub record StandsBehindRace (text : List ℕ) (lines : List RaceLine) (behind : List (List (List ℕ))) (number : ℕ) : Type 0 where
+  pub before : List (List (List ℕ))
+  pub split : records_of text ≡ before ++ behind
+  pub spelled : SpellRaceLines before lines
+  pub numbered : number ≡ length lines + 1
+
+-- the first of the records is bad behind these lines: it spells no line that may stand there, or there is none and something is missing
+abbrev pub IsBadBehindRace : List RaceLine → List (List (List ℕ)) → Type 0
+IsBadBehindRace lines [] = ¬ (AreWhole (names lines))
+IsBadBehindRace lines (fields ∷ rest) = (line : RaceLine) → RecordSpellsRace fields line → ¬ (MayStand lines (name_of_line line))
+
+-- the records before the one of that number are good, and it is bad
+abbrev pub IsFirstBadOfRace : List ℕ → ℕ → Type 0
+IsFirstBadOfRace text number =
+    (lines : List RaceLine) × (behind : List (List (List ℕ))) × StandsBehindRace text lines behind number × IsBadBehindRace lines behind
+
+-- so many records are all of the text, and all are good
+abbrev pub AreGoodOfRace : List ℕ → ℕ → Type 0
+AreGoodOfRace text count =
+    (lines : List RaceLine) × SpellRaceLines (records_of text) lines × AreWhole (names lines) × (count ≡ length (records_of text))
