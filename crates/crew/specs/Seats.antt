@@ -1,5 +1,5 @@
 -- Who a worker is, whatever it took, and what stands beside a table while a build goes on.
-use Rattle.std.specs.Prelude.{◌≡◌, ℕ, ◌<◌, ◌≤◌, Bool, true, false, List, length, map, is_some, Option, Some, IfSome}
+use Rattle.std.specs.Prelude.{◌≡◌, ℕ, ◌<◌, ◌≤◌, Bool, true, false, List, length, map, is_some, None, Option, Some, IfSome}
 use Rattle.std.specs.List.{list_all, slice_get}
 use Rattle.keybytes.specs.Keys.{KeySpecValue}
 use Rattle.spool_ledger.specs.Accounts.{Stake}

@@ -106,10 +106,18 @@ fn join_all<S: Spool, T: Opened, R: Threads>(
     if !rest.is_empty() {
         lowest = first_of(lowest, Some(Fault::Memory));
     }
+    put_behind(&mut back, rest);
+    (back, lowest)
+}
+
+/// Puts the workers that had no thread behind the others. There is room for them.
+fn put_behind<S: Spool, T: Opened>(back: &mut Vec<Worker<S, T>>, rest: Vec<Worker<S, T>>)
+    requires { vec_len back.old + vec_len rest ≤ vec_capacity back.old }
+    ensures { back.new.items ≡ back.old.items ++ rest.items }
+{
     for worker in rest {
         back.push_reserved(worker);
     }
-    (back, lowest)
 }
 
 /// The fault that was there, or else this one.
