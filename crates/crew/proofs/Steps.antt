@@ -39,7 +39,7 @@ use Rattle.crew.specs.Seats.{GoesOnWith, stakes_beside}
 use Rattle.crew.proofs.Others.{Holds, ends_all, ends_behind, ends_busy, ends_other, holds_build, holds_first, holds_map, holds_none, other_early, other_memory, other_no_build, other_not_loaded, other_not_scanned, other_not_sealed}
 
 -- what holds of the build that runs, and which that is
-on_build : (o : Option BuildState) (P : BuildState → Type 0) → OnBuild o P → (b : BuildState) × P b × (o ≡ Some b)
+pub on_build : (o : Option BuildState) (P : BuildState → Type 0) → OnBuild o P → (b : BuildState) × P b × (o ≡ Some b)
 on_build None P holds = absurd holds
 on_build (Some b) P holds = (b, holds, refl)
 

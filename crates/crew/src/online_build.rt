@@ -52,7 +52,10 @@ where
     let building = Building::new(ends, spools);
     let (building, told) = build_beside(rt, alloc, table, plan, gate, building);
     let (ends, spools) = building.into_parts();
-    (ends, spools, told.map_err(BuildFault))
+    match told {
+        Ok(report) => (ends, spools, Ok(report)),
+        Err(fault) => (ends, spools, Err(BuildFault(fault))),
+    }
 }
 
 /// The same with what stands beside the table. A build that has started and ends with a fault is abandoned.

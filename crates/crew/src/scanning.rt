@@ -3,11 +3,11 @@ ghost use Rattle.std.specs.Prelude.{◌≡◌, All, None, IfErr, OnOk};
 ghost use Rattle.crew.specs.Reports.{IsOther};
 ghost use Rattle.crew.specs.Seats.{seats_of};
 
+use crate::range_queue::RangeQueue;
 use crate::threads::run_all;
 use crate::working::{scan_range, seal};
 use crate::{Gate, Opened, Table};
 use builder_core::{Dealing, Plan, Worker};
-use crossbeam_queue::ArrayQueue;
 use keybytes::Fault;
 use run_spool::Spool;
 use std::alloc::Global;
@@ -20,15 +20,6 @@ fn ranges_of(plan: &Plan) -> usize {
         Dealing::Ends(ends) => ends.len(),
         Dealing::Even(ranges) => *ranges,
     }
-}
-
-/// A queue with the numbers of the ranges. One that it doesn't take is left to the worker that scans what is left.
-fn dealt<R: Wait>(rt: &R, alloc: Global, ranges: usize) -> Result<ArrayQueue<usize>, Fault> {
-    let queue = ArrayQueue::new(alloc, ranges.max(1))?;
-    for range in 0..ranges {
-        let _taken = queue.push(rt, range);
-    }
-    Ok(queue)
 }
 
 /// Copies all pages and makes their pairs: by a thread for each worker, and what these leave by the first worker. All runs are closed then.
@@ -49,7 +40,7 @@ where
     ensures fine { OnOk result.1 (All (λ worker. worker.fault ≡ None) result.0.items) }
     ensures other { IfErr result.1 IsOther }
 {
-    match dealt(rt, alloc, ranges_of(plan)) {
+    match RangeQueue::new(rt, alloc, ranges_of(plan)) {
         Ok(queue) => scan_dealt(rt, alloc, table, plan, &queue, gate, workers),
         Err(fault) => (workers, Err(fault)),
     }
@@ -61,7 +52,7 @@ pub(crate) fn scan_dealt<S, T, G, R>(
     alloc: Global,
     table: &Table<T>,
     plan: &Plan,
-    queue: &ArrayQueue<usize>,
+    queue: &RangeQueue,
     gate: &G,
     workers: Vec<Worker<S, T>>,
 ) -> (Vec<Worker<S, T>>, Result<(), Fault>)

@@ -4,11 +4,11 @@ ghost use Rattle.crew.specs.Reports.{IsOther};
 ghost use Rattle.crew.specs.Seats.{seat_of, seats_of};
 
 use crate::comes_back::ComesBack;
+use crate::range_queue::RangeQueue;
 use crate::returned::Returned;
 use crate::working::work;
 use crate::{Gate, Opened, Table};
 use builder_core::Worker;
-use crossbeam_queue::ArrayQueue;
 use keybytes::Fault;
 use run_spool::Spool;
 use std::alloc::Global;
@@ -22,7 +22,7 @@ fn run<S: Spool, T: Opened, G: Gate, R: Wait>(
     rt: &R,
     alloc: Global,
     table: &Table<T>,
-    queue: &ArrayQueue<usize>,
+    queue: &RangeQueue,
     gate: &G,
     mut worker: Worker<S, T>,
 ) -> Returned<S, T>
@@ -31,15 +31,6 @@ fn run<S: Spool, T: Opened, G: Gate, R: Wait>(
 {
     let fault = work(rt, alloc, table, queue, gate, &mut worker).err();
     Returned { worker, fault }
-}
-
-/// Takes all ranges from the queue, so that the threads that run find none any more.
-fn drain<R: Wait>(rt: &R, queue: &ArrayQueue<usize>) {
-    for _ in rt.forever() {
-        if queue.pop(rt).is_none() {
-            return;
-        }
-    }
 }
 
 /// Starts a thread for each worker. Where one can't be started, the workers that have no thread come back.
@@ -55,7 +46,7 @@ fn start<
     rt: &'e R,
     alloc: Global,
     table: &'e Table<T>,
-    queue: &'e ArrayQueue<usize>,
+    queue: &'e RangeQueue,
     gate: &'e G,
     mut workers: Vec<Worker<S, T>>,
     mut handles: Vec<PromisedHandle<Returned<S, T>, ComesBack<S, T>>>,
@@ -73,7 +64,7 @@ fn start<
         match scope.spawn_with(promise, move || run(rt, alloc, table, queue, gate, worker)) {
             Ok(handle) => handles.push_reserved(handle),
             Err(refused) => {
-                drain(rt, queue);
+                queue.drain(rt);
                 let Returned { worker, fault: _ } = (refused.value)();
                 let Ok(()) = workers.insert(0, worker) else {
                     unreachable!()
@@ -143,7 +134,7 @@ pub(crate) fn run_all<
     rt: &'e R,
     alloc: Global,
     table: &'e Table<T>,
-    queue: &'e ArrayQueue<usize>,
+    queue: &'e RangeQueue,
     gate: &'e G,
     workers: Vec<Worker<S, T>>,
 ) -> (Vec<Worker<S, T>>, Result<(), Fault>)
@@ -170,7 +161,7 @@ fn run_reserved<
     rt: &'e R,
     alloc: Global,
     table: &'e Table<T>,
-    queue: &'e ArrayQueue<usize>,
+    queue: &'e RangeQueue,
     gate: &'e G,
     workers: Vec<Worker<S, T>>,
     handles: Vec<PromisedHandle<Returned<S, T>, ComesBack<S, T>>>,

@@ -3,9 +3,9 @@ ghost use Rattle.std.specs.Prelude.{◌≡◌, None, Some, IfErr, IfSome, OnOk};
 ghost use Rattle.crew.specs.Reports.{IsOther};
 ghost use Rattle.crew.specs.Seats.{seat_of};
 
+use crate::range_queue::RangeQueue;
 use crate::{Gate, Opened, Point, Table};
 use builder_core::Worker;
-use crossbeam_queue::ArrayQueue;
 use heap_table::PageImage;
 use keybytes::Fault;
 use run_spool::Spool;
@@ -86,7 +86,7 @@ pub(crate) fn work<S: Spool, T: Opened, G: Gate, R: Wait>(
     rt: &R,
     alloc: Global,
     table: &Table<T>,
-    queue: &ArrayQueue<usize>,
+    queue: &RangeQueue,
     gate: &G,
     worker: &mut Worker<S, T>,
 ) -> Result<(), Fault>
@@ -94,7 +94,7 @@ pub(crate) fn work<S: Spool, T: Opened, G: Gate, R: Wait>(
     ensures other { IfErr result IsOther }
 {
     for _ in rt.forever() {
-        let Some(range) = queue.pop(rt) else {
+        let Some(range) = queue.next(rt) else {
             seal(worker)?;
             gate.at(Point::Sealed {
                 worker: worker.number(),

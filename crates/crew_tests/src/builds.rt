@@ -1,11 +1,11 @@
 //! Builds by workers in threads, of tables to which nobody writes meanwhile.
-ghost use Rattle.std.specs.Prelude.{◌≡◌};
+ghost use Rattle.std.specs.Prelude.{◌≡◌, [], IfOk};
 
 use crate::tables::{Rows, table_of};
-use builder_core::{Dealing, Plan};
+use builder_core::{Dealing, Live, Plan};
 use crew::{BuildFault, Gate, Opened, Point, Report, Table, TableParts, build};
 use heap_log::Outcome;
-use keybytes::{Fault, Kind, KeySpec, Pair, Rid, Schema};
+use keybytes::{Fault, Key, KeySpec, Kind, Pair, Rid, Schema};
 use run_spool::{PlainSpool, Spool};
 use spool_ledger::Pool;
 use std::alloc::Global;
@@ -15,19 +15,26 @@ use std::thread::Threads;
 
 /// What is built, of how many rows.
 #[derive(Clone, Copy)]
-struct Asked {
-    rows: Rows,
+pub struct Asked {
+    pub rows: Rows,
     /// For each index whether it is unique.
-    unique: &'static [bool],
-    workers: usize,
-    ranges: usize,
+    pub unique: &'static [bool],
+    pub workers: usize,
+    pub ranges: usize,
     /// The pages of each spool.
-    quota: u32,
+    pub quota: u32,
     /// Whether the first spool has a pair.
-    is_used: bool,
+    pub is_used: bool,
 }
 
-const WHOLE: Asked = Asked {
+impl Asked {
+    /// How many spools are handed in.
+    fn spools(&self) -> usize {
+        self.workers.saturating_mul(self.unique.len())
+    }
+}
+
+pub const WHOLE: Asked = Asked {
     rows: Rows {
         slots: 2,
         count: 7,
@@ -48,7 +55,7 @@ enum Told {
 }
 
 /// Is not interested.
-struct Silent;
+pub struct Silent;
 
 impl Gate for Silent {
     fn at(&self, _point: Point) {}
@@ -59,7 +66,7 @@ fn spec(alloc: Global, unique: bool) -> Result<KeySpec, Fault> {
     KeySpec::new(alloc, &schema, vec![in alloc; 0]?, unique)
 }
 
-fn plan(alloc: Global, asked: Asked) -> Result<Plan, Fault> {
+pub fn plan(alloc: Global, asked: Asked) -> Result<Plan, Fault> {
     let mut specs = Vec::new(alloc);
     for unique in asked.unique {
         specs.push(spec(alloc, *unique)?)?;
@@ -73,7 +80,9 @@ fn plan(alloc: Global, asked: Asked) -> Result<Plan, Fault> {
     })
 }
 
-fn spool(alloc: Global, pool: &mut Pool, quota: u32) -> Result<PlainSpool, Fault> {
+fn new_spool(alloc: Global, pool: &mut Pool, quota: u32) -> Result<PlainSpool, Fault>
+    ensures { IfOk result (λ spool. spool.runs ≡ []) }
+{
     let Some(account) = pool.split(alloc, &[quota])?.pop() else {
         return Err(Fault::Memory);
     };
@@ -83,78 +92,83 @@ fn spool(alloc: Global, pool: &mut Pool, quota: u32) -> Result<PlainSpool, Fault
     }
 }
 
-fn spools(alloc: Global, asked: Asked) -> Result<Vec<PlainSpool>, Fault> {
-    let mut pool = Pool::new(alloc, 1, 64)?;
-    let mut spools = Vec::new(alloc);
-    for _ in 0..asked.workers {
-        for _ in asked.unique {
-            spools.push(spool(alloc, &mut pool, asked.quota)?)?;
-        }
+/// A spool, with a pair where that is asked for.
+fn spool(alloc: Global, pool: &mut Pool, quota: u32, is_used: bool) -> Result<PlainSpool, Fault> {
+    let mut spool = new_spool(alloc, pool, quota)?;
+    if !is_used {
+        return Ok(spool);
     }
-    if asked.is_used {
-        use_first(alloc, &mut spools)?;
-    }
-    Ok(spools)
-}
-
-/// Puts a pair into the first spool.
-fn use_first(alloc: Global, spools: &mut Vec<PlainSpool>) -> Result<(), Fault> {
     let pair = Pair {
-        key: keybytes::Key::new(alloc),
+        key: Key::new(alloc),
         rid: Rid { page: 0, slot: 0 },
     };
-    let Some(first) = spools.first_mut() else {
-        return Err(Fault::BadCount);
-    };
-    match Spool::push(first, pair) {
-        Ok(()) => Ok(()),
+    match Spool::push(&mut spool, pair) {
+        Ok(()) => Ok(spool),
         Err((_, fault)) => Err(fault),
     }
 }
 
-/// How many pairs these are, if they are the pairs of the table's ready indexes.
-fn told_by<T: Opened>(alloc: Global, table: Table<T>, report: Report<T>) -> Result<Told, Fault> {
-    let Report {
-        receipt,
-        verdicts,
-        pairs,
-    } = report;
-    let mut ready = 0;
-    for verdict in verdicts.as_slice() {
-        match verdict {
-            Outcome::Ready(number) if *number == ready => ready += 1,
-            Outcome::Ready(_) => return Err(Fault::BadCount),
-            Outcome::Shared { .. } => {}
-        }
+pub fn spools(alloc: Global, asked: Asked) -> Result<Vec<PlainSpool>, Fault> {
+    let mut pool = Pool::new(alloc, 1, 64)?;
+    let mut spools = Vec::new(alloc);
+    for _ in 0..asked.spools() {
+        let is_used = asked.is_used && spools.is_empty();
+        spools.push(spool(alloc, &mut pool, asked.quota, is_used)?)?;
     }
-    let closed = table.close(vec![in alloc; receipt]?);
-    let Some(pairs) = pairs else {
+    Ok(spools)
+}
+
+/// What the report of a build tells, if its only record is the switch and its pairs are those of the table's rows.
+fn told_by<T: Opened>(alloc: Global, table: Table<T>, report: Report<T>) -> Result<Told, Fault> {
+    let ready = ready_in(report.verdicts.as_slice())?;
+    let Some(pairs) = report.pairs else {
         return Err(Fault::Memory);
     };
+    let closed = table.close(vec![in alloc; report.receipt]?);
     if closed.missing != 0 || closed.live.ready().len() != ready || pairs.len() != ready {
         return Err(Fault::BadCount);
     }
     let mut live = closed.live;
-    let mut count = 0;
+    let rest = rest_of(alloc, &mut live)?;
     for own in &pairs {
-        let rest = live.rest(&spec(alloc, false)?)?;
         if *own != rest {
             return Err(Fault::BadColumn);
         }
-        count += own.len();
     }
     Ok(Told::Decided {
         ready,
-        pairs: count,
+        pairs: ready.saturating_mul(rest.len()),
     })
+}
+
+/// How many of the indexes are ready, if these are numbered from 0.
+fn ready_in(verdicts: &[Outcome]) -> Result<usize, Fault> {
+    let mut ready: usize = 0;
+    for verdict in verdicts {
+        match verdict {
+            Outcome::Ready(number) if *number == ready => ready = ready.saturating_add(1),
+            Outcome::Ready(_) => return Err(Fault::BadCount),
+            Outcome::Shared { .. } => {}
+        }
+    }
+    Ok(ready)
+}
+
+/// The pairs of the table's rows.
+fn rest_of<T: Opened>(alloc: Global, live: &mut Live<T>) -> Result<Vec<Pair>, Fault> {
+    let spec = spec(alloc, false)?;
+    if !spec.is_of(live.heap().schema()) {
+        return Err(Fault::BadColumn);
+    }
+    live.rest(&spec)
 }
 
 /// Whether each spool is back, with no page leased.
 fn are_back(spools: &[PlainSpool], asked: Asked) -> bool {
-    spools.len() == asked.workers * asked.unique.len() && spools.iter().all(|spool| spool.leased() == 0)
+    spools.len() == asked.spools() && spools.iter().all(|spool| spool.leased() == 0)
 }
 
-fn told_of<T: Opened + Send + Sync, R: Threads + Wait + Sync>(
+fn answered<T: Opened + Send + Sync, R: Threads + Wait + Sync>(
     rt: &R,
     alloc: Global,
     asked: Asked,
@@ -178,10 +192,10 @@ fn told_of<T: Opened + Send + Sync, R: Threads + Wait + Sync>(
     }
 }
 
-fn told<R: Threads + Wait + Sync>(rt: &R, alloc: Global, asked: Asked) -> Result<Told, Fault> {
+fn answer<R: Threads + Wait + Sync>(rt: &R, alloc: Global, asked: Asked) -> Result<Told, Fault> {
     let parts = table_of(alloc, asked.rows)?;
     let (plan, spools) = (plan(alloc, asked)?, spools(alloc, asked)?);
-    told_of::<Brand, R>(rt, alloc, asked, parts, plan, spools)
+    answered::<Brand, R>(rt, alloc, asked, parts, plan, spools)
 }
 
 const DECIDED: [(Asked, Told); 7] = [
@@ -293,7 +307,7 @@ const GIVEN_UP: [(Asked, Fault); 4] = [
 fn other_decided<R: Threads + Wait + Sync>(rt: &R, alloc: Global) -> Option<usize> {
     for number in 0..DECIDED.len() {
         let (asked, wanted) = DECIDED[number];
-        if told(rt, alloc, asked) != Ok(wanted) {
+        if answer(rt, alloc, asked) != Ok(wanted) {
             return Some(number);
         }
     }
@@ -303,7 +317,7 @@ fn other_decided<R: Threads + Wait + Sync>(rt: &R, alloc: Global) -> Option<usiz
 fn other_given_up<R: Threads + Wait + Sync>(rt: &R, alloc: Global) -> Option<usize> {
     for number in 0..GIVEN_UP.len() {
         let (asked, fault) = GIVEN_UP[number];
-        if told(rt, alloc, asked) != Ok(Told::GivenUp(fault)) {
+        if answer(rt, alloc, asked) != Ok(Told::GivenUp(fault)) {
             return Some(number);
         }
     }

@@ -10,6 +10,8 @@ mod contending;
 #[cfg(test)]
 mod one_session;
 #[cfg(test)]
+mod reading;
+#[cfg(test)]
 mod stories;
 #[cfg(test)]
 mod tables;
