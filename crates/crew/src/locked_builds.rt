@@ -133,11 +133,7 @@ impl<T: Opened> Locked<T> {
 }
 
 /// Copies of the pairs of these indexes, from that number on.
-fn copies_from(
-    alloc: Global,
-    ready: &ReadyIndexes,
-    first: usize,
-) -> Result<Vec<Vec<Pair>>, Fault>
+fn copies_from(alloc: Global, ready: &ReadyIndexes, first: usize) -> Result<Vec<Vec<Pair>>, Fault>
     ensures { IfOk result (λ pairs. map (λ it. it.items) pairs.items ≡ map (λ it. it.pairs) (drop first (indexes_of ready.now.indexes))) }
 {
     let mut pairs = Vec::new(alloc);

@@ -50,7 +50,10 @@ fn start<
     gate: &'e G,
     mut workers: Vec<Worker<S, T>>,
     mut handles: Vec<PromisedHandle<Returned<S, T>, ComesBack<S, T>>>,
-) -> (Vec<PromisedHandle<Returned<S, T>, ComesBack<S, T>>>, Vec<Worker<S, T>>)
+) -> (
+    Vec<PromisedHandle<Returned<S, T>, ComesBack<S, T>>>,
+    Vec<Worker<S, T>>,
+)
     requires none { handles.items ≡ [] }
     requires room { vec_len workers ≤ vec_capacity handles }
     ensures all { map (λ handle. seat_of handle.promise.worker.value) result.0.items ++ seats_of result.1.items ≡ seats_of workers.items }

@@ -222,7 +222,10 @@ const DECIDED: [(Asked, Told); 7] = [
             workers: 2,
             ..WHOLE
         },
-        Told::Decided { ready: 2, pairs: 14 },
+        Told::Decided {
+            ready: 2,
+            pairs: 14,
+        },
     ),
     (
         Asked {
@@ -249,7 +252,10 @@ const DECIDED: [(Asked, Told); 7] = [
             quota: 15,
             ..WHOLE
         },
-        Told::Decided { ready: 1, pairs: 3000 },
+        Told::Decided {
+            ready: 1,
+            pairs: 3000,
+        },
     ),
     (
         Asked {
@@ -261,7 +267,10 @@ const DECIDED: [(Asked, Told); 7] = [
             quota: 1,
             ..WHOLE
         },
-        Told::Decided { ready: 1, pairs: 240 },
+        Told::Decided {
+            ready: 1,
+            pairs: 240,
+        },
     ),
 ];
 
@@ -274,13 +283,7 @@ const GIVEN_UP: [(Asked, Fault); 4] = [
         },
         Fault::SpoolNotEmpty,
     ),
-    (
-        Asked {
-            ranges: 0,
-            ..WHOLE
-        },
-        Fault::BadRanges,
-    ),
+    (Asked { ranges: 0, ..WHOLE }, Fault::BadRanges),
     (
         Asked {
             workers: 17,

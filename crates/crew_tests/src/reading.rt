@@ -40,12 +40,9 @@ fn insert<T: Opened, R: Wait>(
 /// Whether these are pairs in the order of their keys, of rows in these slots of the first page, as that many columns make them.
 fn are_in_slots(index: &(KeySpec, Vec<Pair>), slots: &[u16]) -> bool {
     let (spec, pairs) = index;
-    spec.columns() == [0]
+    spec.columns() == [0].as_slice()
         && pairs.len() == slots.len()
-        && pairs
-            .iter()
-            .zip(slots)
-            .all(|(pair, slot)| pair.rid.page == 0 && pair.rid.slot == *slot)
+        && pairs.iter().zip(slots).all(|(pair, slot)| pair.rid.page == 0 && pair.rid.slot == *slot)
 }
 
 /// Builds beside the rows 5 and 3, and inserts 4 then: whether both are reported, and the session reads all three.
