@@ -1,7 +1,12 @@
 -- Threads may share a table, and a session may go to another thread.
 use denote.RattleType.{RattleType}
 use denote.Ref.{NamedLft}
-use denote.Param.Send.{IsSend, IsSync, sendable}
+use mathlib.Core.List.{List, [], ◌∷◌}
+use mir.Syntax.{Sym}
+use denote.Param.Send.{AllSend, IsSend, IsSync, sendable}
+use denote.Param.SendFields.{FieldsHave, as_row_send, declared_send}
+use denote.Struct.Field.{row_field}
+use denote.Struct.Tuple.{TupleAt, parts, type_at}
 use Rattle.std.proofs.Crossing.{crosses}
 use Rattle.known_log.proofs.known.Known.TheSendSync as known
 use Rattle.known_log.proofs.keeper.Keeper.TheSendSync as keeper
@@ -22,3 +27,11 @@ module _ (T : RattleType) (o : opened.Ghosts T.Denot) (n : named.Ghosts T.Denot)
 
   pub session_send : (κ : NamedLft) → IsSend (Session.the_row κ T o n t)
   session_send κ = search (table_sync, known.the_send, sendable) depth 20
+
+parts_have : (Ts : List RattleType) → AllSend Ts → FieldsHave IsSend (parts Ts)
+parts_have [] s = tt
+parts_have (T ∷ Ts) s = (as_row_send (row_field T) s.0, parts_have Ts s.1)
+
+-- What a closure has taken may cross threads with it.
+pub captured_send : (ν : Sym) (Ts : List RattleType) → AllSend Ts → IsSend (TupleAt ν Ts)
+captured_send ν Ts s = declared_send (type_at ν Ts) (parts_have Ts s)

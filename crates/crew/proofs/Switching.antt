@@ -1,0 +1,53 @@
+-- What a switch under the lock reports.
+use Rattle.std.proofs.Common.{◌≡◌, ℕ, List, [], ◌∷◌, ◌++◌, length, map, drop, Option, Some, None, refl, sym, ap, subst, ◌∙◌}
+use Rattle.std.specs.Prelude.{IfSome}
+use Rattle.keybytes.specs.declared.fault.Fault.{Fault}
+use Rattle.keybytes.specs.declared.pair.Pair.{Pair}
+use Rattle.heap_log.specs.declared.outcome.Outcome.{Outcome}
+use Rattle.heap_log.specs.declared.record.LogRec.{LogRec}
+use Rattle.heap_log.specs.declared.record.LogRec.TheVariants.{Switch}
+use Rattle.build_events.specs.BuildSteps.{Switches}
+use Rattle.build_halves.specs.Builds.{LiveValue, core_state}
+use Rattle.build_halves.specs.Switching.{IsPartOf, RefusesSwitch}
+use Rattle.build_work.specs.BuildingValue.{BuildingValue, WorkValue}
+use Rattle.ready_indexes.specs.Indexes.{ReadyValue}
+use Rattle.crew.specs.Reports.{ArePairsAtRest, EndsFor, IsReport}
+use Rattle.crew.proofs.Reported.{at_rest_are, is_report}
+use Rattle.crew.proofs.Steps.{has_switched, switch_ends}
+
+-- what is so of work that there is
+of_work : (o : Option WorkValue) (P : WorkValue → Type 0) → ((w : WorkValue) → o ≡ Some w → P w) → IfSome o P
+of_work None P each = tt
+of_work (Some w) P each = each w refl
+
+module _
+    (live new_live : LiveValue) (building new : BuildingValue) (number : ℕ) (verdicts : List Outcome) (rec : LogRec) (known receipt : List LogRec)
+    (part : IsPartOf live building) (does : Switches (core_state live building) (number, verdicts) (core_state new_live new)) (its : rec ≡ Switch verdicts)
+    (knows : known ≡ live.state.heap.log) (told : receipt ≡ known ++ rec ∷ []) where
+  receipt_is : receipt ≡ live.state.heap.log ++ Switch verdicts ∷ []
+  receipt_is =
+      told ∙ ap (λ (log : List LogRec). log ++ rec ∷ []) knows ∙ ap (λ (r : LogRec). live.state.heap.log ++ r ∷ []) its
+
+  pub switched_report : IfSome building.work (λ w. IsReport w.specs receipt verdicts)
+  switched_report = of_work building.work (λ w. IsReport w.specs receipt verdicts) (λ w runs.
+      let switched = has_switched live new_live building new w (number, verdicts) runs part does in
+      subst (λ (log : List LogRec). IsReport w.specs log verdicts) (sym receipt_is)
+      (is_report live.state.heap.log verdicts (length live.state.ready) w.specs switched.right))
+
+  pub switched_pairs :
+      {X : Type 0} (lists : X → List (List Pair)) (first : ℕ) (pairs : Option X) → first ≡ length live.state.ready
+      → IfSome pairs (λ them. lists them ≡ map (λ (it : ReadyValue). it.pairs) (drop first new_live.state.ready))
+      → IfSome building.work (λ w. IfSome pairs (λ them. ArePairsAtRest w.specs receipt (lists them)))
+  switched_pairs {X} lists first None from copies = of_work building.work _ (λ w runs. tt)
+  switched_pairs {X} lists first (Some them) from copies = of_work building.work (λ w. ArePairsAtRest w.specs receipt (lists them)) (λ w runs.
+      let switched = has_switched live new_live building new w (number, verdicts) runs part does in
+      copies ∙ ap (λ n. map (λ (it : ReadyValue). it.pairs) (drop n new_live.state.ready)) from
+      ∙ subst (λ (log : List LogRec). ArePairsAtRest w.specs log (map (λ (it : ReadyValue). it.pairs) (drop (length live.state.ready) new_live.state.ready))) (sym receipt_is)
+      (at_rest_are live.state.heap.log verdicts live.state.ready new_live.state.ready w.specs switched.ready))
+
+-- why it is refused
+pub switch_ends_for :
+    (live new_live : LiveValue) (building new : BuildingValue) (fault : Fault) → RefusesSwitch live building fault new_live new
+    → IfSome building.work (λ w. w.spoiled ≡ None → EndsFor w.specs fault)
+switch_ends_for live new_live building new fault refused =
+    of_work building.work (λ w. w.spoiled ≡ None → EndsFor w.specs fault) (λ w runs fine. switch_ends live new_live building new fault w runs fine refused)
