@@ -2,11 +2,15 @@
 #![tactic(auto)]
 
 #[cfg(test)]
+mod builds;
+#[cfg(test)]
 mod calling;
 #[cfg(test)]
 mod contending;
 #[cfg(test)]
 mod one_session;
+#[cfg(test)]
+mod reading;
 #[cfg(test)]
 mod stories;
 #[cfg(test)]
