@@ -20,8 +20,8 @@ mod run;
 pub use build_events::{Event, Plan, Reply, Scan};
 pub use core_steps::Core;
 pub use live_table::{
-    Building, Ends, Entry, INDEXES_MAX, Live, Op, Pair, Parts, ReadyIndex, ReadyIndexes,
-    Switched, Table, WORKERS_MAX, Worker, at_rest,
+    Building, Ends, Entry, INDEXES_MAX, Live, Op, Pair, Parts, ReadyIndex, ReadyIndexes, Switched,
+    Table, WORKERS_MAX, Worker, at_rest,
 };
 pub use run::run_events;
 pub use scan_range::Dealing;

@@ -162,10 +162,7 @@ impl<T: Table> Live<T> {
     /// build's; the fault of a spoiled build, [`Fault::NotScanned`], [`Fault::NotLoaded`]; [`Fault::NotSealed`] where a copy is left in a
     /// worker's ring, or its run is open; [`Fault::Behind`], [`Fault::Busy`]. Where memory is wanted, entries that were applied stay applied, and
     /// it can be called again, as after Behind and Busy.
-    pub fn switch_in<S: Spool>(
-        &mut self,
-        building: &mut Building<S, T>,
-    ) -> Result<Switched, Fault>
+    pub fn switch_in<S: Spool>(&mut self, building: &mut Building<S, T>) -> Result<Switched, Fault>
         ensures switched { IfOk result (λ done. Switches (core_state self.old building.old) (done.number, done.verdicts) (core_state self.new building.new)) }
         ensures record { IfOk result (λ done. done.record ≡ LogRec.Switch done.verdicts) }
         ensures accepted { OnOk result (cause_of self.old building.old Event.Switch ≡ None) }
@@ -187,10 +184,7 @@ impl<T: Table> Live<T> {
     }
 
     /// The same of work that goes with the build, once its workers have taken all.
-    fn switch_own<S: Spool>(
-        &mut self,
-        building: &mut Building<S, T>,
-    ) -> Result<Switched, Fault>
+    fn switch_own<S: Spool>(&mut self, building: &mut Building<S, T>) -> Result<Switched, Fault>
         requires { WorksOn self.old building.old }
         ensures switched { IfOk result (λ done. Switches (core_state self.old building.old) (done.number, done.verdicts) (core_state self.new building.new)) }
         ensures record { IfOk result (λ done. done.record ≡ LogRec.Switch done.verdicts) }
