@@ -1,6 +1,7 @@
 //! The words that the program `sfbuild` understands.
 #![tactic(auto)]
 
+use clap::builder::ValueParser;
 use clap::error::ErrorKind;
 use clap::{Arg, ArgAction, ArgMatches, Command, Error};
 use std::alloc::{AllocError, Global};
@@ -41,6 +42,8 @@ pub enum Task {
     Check,
     /// Looks at a script as that of a race.
     CheckRace,
+    /// Runs a race, whose build has so many workers.
+    Race { workers: usize },
 }
 
 /// Reads the words, the first of which is the program's name. The error is what to print, and where: a refusal, or
@@ -59,6 +62,9 @@ fn chosen<'a>(matches: &ArgMatches<'a>) -> Option<Choice<'a>> {
         "replay" => Task::Replay,
         "check" if arguments.get_flag("race") => Task::CheckRace,
         "check" => Task::Check,
+        "race" => Task::Race {
+            workers: arguments.get_one("workers")?,
+        },
         _ => return None,
     };
     let script = arguments.get_str("SCRIPT")?;
@@ -91,7 +97,25 @@ fn command<'a>(alloc: Global) -> Result<Command<'a>, AllocError> {
         .after_help(EXAMPLE)
         .subcommand_required(true)
         .subcommand(replay)?
-        .subcommand(check)
+        .subcommand(check)?
+        .subcommand(race_command(alloc)?)
+}
+
+/// The command of a race.
+fn race_command<'a>(alloc: Global) -> Result<Command<'a>, AllocError> {
+    let workers = Arg::new(alloc, "workers")
+        .long("workers")
+        .value_name("N")
+        .help("How many workers build, 1 to 16, each in a thread of its own")
+        .required(true)
+        .value_parser(ValueParser::Unsigned(1, 16))
+        .action(ArgAction::Set);
+    task_command(
+        alloc,
+        "race",
+        "Runs the sessions of a script in threads of their own while a build runs beside them, and prints how it went",
+    )?
+    .arg(workers)
 }
 
 /// The command of a task.

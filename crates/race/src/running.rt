@@ -1,0 +1,140 @@
+//! The course of a race.
+
+use crate::outcome::Outcome;
+use crate::planned::{Planned, planned};
+use crate::resting::check_all;
+use crate::rows::put_rows;
+use crate::session_line::SessionLine;
+use crate::session_script::SessionScript;
+use crate::splitting::sessions_of;
+use crate::threads::{Built, Ended, Started, run_beside};
+use crate::told::Told;
+use builder_core::Parts;
+use crew::{Closed, Opened, Receipt, Report, TableParts};
+use heap_table::Heap;
+use keybytes::{Fault, KeySpec};
+use race_sessions::SessionEnd;
+use replay::{shared_lines, table_heap};
+use script::RaceScript;
+use std::alloc::Global;
+use std::marker::Brand;
+use std::sync::Wait;
+use std::thread::Threads;
+
+/// Runs a race, and tells how it went. It is refused where its table is, or where there is no memory to begin with it.
+pub fn run_race<R: Threads + Wait + Sync>(
+    rt: &R,
+    alloc: Global,
+    workers: usize,
+    script: RaceScript,
+) -> Result<Told, Fault> {
+    let RaceScript {
+        table,
+        rows,
+        build,
+        steps,
+        ..
+    } = script;
+    let room = steps.len();
+    let mut heap = table_heap(alloc, table)?;
+    put_rows(&mut heap, rows);
+    let sessions = sessions_of(alloc, steps)?;
+    let lines = Vec::with_capacity(alloc, sessions.len())?;
+    let started = Vec::with_capacity(alloc, sessions.len())?;
+    let ended = Vec::with_capacity(alloc, sessions.len())?;
+    let receipts = Vec::with_capacity(alloc, 2 * room + 1)?;
+    let planned = planned(alloc, heap.schema(), workers, build);
+    let parts = table_parts(alloc, heap)?;
+    Ok(run_named::<Brand, R>(
+        rt, alloc, parts, planned, sessions, lines, started, ended, receipts,
+    ))
+}
+
+/// The table, ready to be shared.
+fn table_parts(alloc: Global, heap: Heap) -> Result<TableParts, Fault> {
+    let parts = match Parts::new(alloc, heap) {
+        Ok(parts) => parts,
+        Err((_, fault)) => return Err(fault),
+    };
+    match TableParts::new(alloc, parts) {
+        Ok(parts) => Ok(parts),
+        Err((_, fault)) => Err(fault),
+    }
+}
+
+/// The same on a table with a name, and with room for what the sessions give back.
+fn run_named<T: Opened + Send + Sync, R: Threads + Wait + Sync>(
+    rt: &R,
+    alloc: Global,
+    parts: TableParts,
+    planned: Result<Planned, Fault>,
+    sessions: Vec<SessionScript>,
+    mut lines: Vec<SessionLine>,
+    started: Vec<Started<T>>,
+    ended: Vec<Ended<T>>,
+    mut receipts: Vec<Receipt<T>>,
+) -> Told {
+    let (table, ends) = parts.open::<T>();
+    let (Built { report, pages }, ended) = run_beside(
+        rt, alloc, &table, ends, planned, sessions, started, ended,
+    );
+    gather(ended, &mut lines, &mut receipts);
+    let build = note(alloc, report, &mut receipts);
+    let Closed { mut live, missing } = table.close(receipts);
+    Told {
+        build,
+        sessions: lines,
+        checks: check_all(alloc, &mut live),
+        receipts: missing,
+        pages,
+    }
+}
+
+/// Puts the receipts of the sessions together, and a line for each.
+fn gather<T: Opened>(
+    ended: Vec<Ended<T>>,
+    lines: &mut Vec<SessionLine>,
+    receipts: &mut Vec<Receipt<T>>,
+) {
+    for Ended { session, end } in ended {
+        let SessionEnd {
+            accepted,
+            refused,
+            receipts: more,
+        } = end;
+        lines.push_reserved(SessionLine {
+            session,
+            accepted,
+            refused,
+        });
+        for receipt in more {
+            keep(receipts, receipt);
+        }
+    }
+}
+
+/// Keeps a receipt. One for which there is no memory counts as missing; room was made for all before.
+fn keep<T: Opened>(receipts: &mut Vec<Receipt<T>>, receipt: Receipt<T>) {
+    let _kept = receipts.push(receipt);
+}
+
+/// What became of the indexes; the receipt of the switch goes to the others.
+fn note<T: Opened>(
+    alloc: Global,
+    report: Result<(Report<T>, Vec<KeySpec>), Fault>,
+    receipts: &mut Vec<Receipt<T>>,
+) -> Result<Outcome, Fault> {
+    let (
+        Report {
+            receipt,
+            verdicts,
+            ..
+        },
+        specs,
+    ) = report?;
+    keep(receipts, receipt);
+    Ok(Outcome {
+        shared: shared_lines(alloc, specs.as_slice(), verdicts.as_slice()),
+        verdicts,
+    })
+}

@@ -1,0 +1,39 @@
+use crate::check_line::CheckLine;
+use crate::outcome::Outcome;
+use crate::session_line::SessionLine;
+use heap_log::Outcome as Verdict;
+use keybytes::Fault;
+use replay::Status;
+
+/// How a race went.
+#[derive(Drop)]
+pub struct Told {
+    /// What became of the indexes, or why the build was given up.
+    pub build: Result<Outcome, Fault>,
+    /// Of each session that did something, in their order.
+    pub sessions: Vec<SessionLine>,
+    /// Of each ready index, in their order.
+    pub checks: Vec<CheckLine>,
+    /// How many records of the log have no receipt.
+    pub receipts: usize,
+    /// How many pages that the build leased are missing.
+    pub pages: usize,
+}
+
+impl Told {
+    /// Done where every index became ready.
+    pub fn status(&self) -> Status {
+        match &self.build {
+            Ok(outcome) if !has_refused(outcome) => Status::Done,
+            _ => Status::IndexRefused,
+        }
+    }
+}
+
+fn has_refused(outcome: &Outcome) -> bool {
+    outcome
+        .verdicts
+        .as_slice()
+        .iter()
+        .any(|verdict| matches!(verdict, Verdict::Shared { .. }))
+}
