@@ -1,4 +1,4 @@
-use replay::{check, replay};
+use replay::{check, check_race, replay};
 use std::alloc::Global;
 use std::io::Read;
 use std::str;
@@ -34,6 +34,14 @@ impl Printed {
         let mut out = Vec::new(alloc);
         let mut err = Vec::new(alloc);
         let status = check(alloc, script, &mut out, &mut err);
+        Printed { out, err, status }
+    }
+
+    /// What a check prints that takes the script for a race.
+    pub fn by_check_of_race<R: Read + Drop>(alloc: Global, script: R) -> Printed {
+        let mut out = Vec::new(alloc);
+        let mut err = Vec::new(alloc);
+        let status = check_race(alloc, script, &mut out, &mut err);
         Printed { out, err, status }
     }
 

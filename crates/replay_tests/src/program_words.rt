@@ -11,13 +11,14 @@ static TASKS: [(&str, Task); 2] = [("replay", Task::Replay), ("check", Task::Che
 
 static SCRIPTS: [&str; 3] = ["three.csv", "-", "./a b"];
 
-static REFUSED: [&[&str]; 7] = [
+static REFUSED: [&[&str]; 8] = [
     &["sfbuild"],
     &["sfbuild", "fly"],
     &["sfbuild", "replay"],
     &["sfbuild", "check"],
     &["sfbuild", "replay", "a", "b"],
     &["sfbuild", "check", "--fast", "a"],
+    &["sfbuild", "replay", "--race", "a"],
     &["sfbuild", "-", "a"],
 ];
 
@@ -43,6 +44,12 @@ fn name_a_script(rt: HostRuntime) {
             assert!(rt; ask_for(rt.alloc(), words.as_slice(), task, script));
         }
     }
+}
+
+#[test]
+fn name_a_race(rt: HostRuntime) {
+    let words = ["sfbuild", "check", "--race", "a"];
+    assert!(rt; ask_for(rt.alloc(), words.as_slice(), Task::CheckRace, "a"));
 }
 
 fn are_refused(alloc: Global, words: &[&str]) -> bool {
