@@ -1,5 +1,9 @@
 //! What a build is asked for, and the pages that its spools lease.
 
+ghost use Rattle.std.specs.Prelude.{◌≡◌, ◌≤◌, map, IfOk};
+ghost use Rattle.replay.specs.Leasing.{AreOf, plain_stake};
+ghost use Rattle.replay.specs.Listings.{key_spec_of};
+
 use builder_core::Plan;
 use keybytes::{Fault, Schema};
 use replay::{Leases, is_in_limits, key_specs};
@@ -24,7 +28,10 @@ pub fn planned(
     schema: &Schema,
     workers: usize,
     build: Build,
-) -> Result<Planned, Fault> {
+) -> Result<Planned, Fault>
+    ensures leased { IfOk result (λ made. AreOf made.leases (map plain_stake made.spools.items)) }
+    ensures specs { IfOk result (λ made. made.plan.specs.items ≡ map (key_spec_of schema.now) build.specs.items) }
+{
     if !is_in_limits(workers, build.specs.len(), build.quota) {
         return Err(Fault::BadCount);
     }

@@ -80,9 +80,9 @@ fn print_check<W: Write + Drop>(
     match line {
         CheckLine::Same => output.text("same")?,
         CheckLine::Differs => output.text("differs")?,
-        CheckLine::Unknown => {
+        CheckLine::Refused(fault) => {
             output.text("refused")?;
-            output.fault(Fault::Memory)?;
+            output.fault(fault)?;
         }
     }
     output.end()

@@ -1,4 +1,7 @@
 //! A race, from its script to what is printed.
+ghost use Rattle.std.specs.Prelude.{◌≡◌, ◌≤◌, ◌⊎◌, None, IfOk, IfSome};
+ghost use Rattle.replay.specs.Limits.{table_refusal};
+ghost use Rattle.race.specs.Races.{EndsRace};
 
 use crate::printing::print;
 use crate::running::run_race;
@@ -18,6 +21,8 @@ where
     R: Read + Drop,
     W: Write + Drop,
     E: Write + Drop,
+    ensures limit { result ≤ 2 }
+    ensures status { IfSome (R.remaining reader) (λ text. EndsRace text result) }
 {
     let script = match RaceScript::read(alloc, &mut reader) {
         Ok(script) => script,
@@ -40,6 +45,7 @@ fn run<A, W>(
 where
     A: Threads + Wait + Sync,
     W: Write + Drop,
+    ensures { IfOk result (λ status. (table_refusal script.table ≡ None) ⊎ (status ≡ Status.Failed)) }
 {
     let mut output = Output::new(out);
     let status = answer(rt, alloc, workers, script, &mut output)?;
@@ -58,6 +64,7 @@ fn answer<A, W>(
 where
     A: Threads + Wait + Sync,
     W: Write + Drop,
+    ensures { IfOk result (λ status. (table_refusal script.table ≡ None) ⊎ (status ≡ Status.Failed)) }
 {
     let number = script.table_number;
     match run_race(rt, alloc, workers, script) {

@@ -1,4 +1,10 @@
 //! The course of a race.
+ghost use Rattle.std.specs.Prelude.{◌≡◌, ◌≤◌, [], None, IfOk, OnOk, map, vec_len, vec_capacity};
+ghost use Rattle.keybytes.specs.declared.fault.Fault.TheVariants.{Memory};
+ghost use Rattle.build_events.specs.Verdicts.{HaveSharedKeys};
+ghost use Rattle.replay.specs.Leasing.{AreOf, plain_stake};
+ghost use Rattle.replay.specs.Limits.{table_refusal};
+ghost use Rattle.race.specs.Resting.{NoneDiffers};
 
 use crate::outcome::Outcome;
 use crate::planned::{Planned, planned};
@@ -27,7 +33,11 @@ pub fn run_race<R: Threads + Wait + Sync>(
     alloc: Global,
     workers: usize,
     script: RaceScript,
-) -> Result<Told, Fault> {
+) -> Result<Told, Fault>
+    ensures table { OnOk result (table_refusal script.table ≡ None) }
+    ensures pages { IfOk result (λ told. told.pages ≡ 0) }
+    ensures checks { IfOk result (λ told. NoneDiffers told.checks.items) }
+{
     let RaceScript {
         table,
         rows,
@@ -51,7 +61,8 @@ pub fn run_race<R: Threads + Wait + Sync>(
 }
 
 /// The table, ready to be shared.
-fn table_parts(alloc: Global, heap: Heap) -> Result<TableParts, Fault> {
+fn table_parts(alloc: Global, heap: Heap) -> Result<TableParts, Fault>
+{
     let parts = match Parts::new(alloc, heap) {
         Ok(parts) => parts,
         Err((_, fault)) => return Err(fault),
@@ -73,7 +84,17 @@ fn run_named<T: Opened + Send + Sync, R: Threads + Wait + Sync>(
     started: Vec<Started<T>>,
     ended: Vec<Ended<T>>,
     mut receipts: Vec<Receipt<T>>,
-) -> Told {
+) -> Told
+    requires word { parts.word ≡ T.table }
+    requires rings { parts.parts.pages ≡ T.pages }
+    requires sides { parts.parts.sides ≡ T.sides }
+    requires opening { parts.parts.heap.log ≡ T.opening }
+    requires leased { IfOk planned (λ made. AreOf made.leases (map plain_stake made.spools.items)) }
+    requires none { (started.items ≡ []) × (ended.items ≡ []) × (lines.items ≡ []) }
+    requires room { (vec_len sessions ≤ vec_capacity started) × (vec_len sessions ≤ vec_capacity ended) × (vec_len sessions ≤ vec_capacity lines) }
+    ensures pages { result.pages ≡ 0 }
+    ensures checks { NoneDiffers result.checks.items }
+{
     let (table, ends) = parts.open::<T>();
     let (Built { report, pages }, ended) = run_beside(
         rt, alloc, &table, ends, planned, sessions, started, ended,
@@ -95,7 +116,10 @@ fn gather<T: Opened>(
     ended: Vec<Ended<T>>,
     lines: &mut Vec<SessionLine>,
     receipts: &mut Vec<Receipt<T>>,
-) {
+)
+    requires none { lines.old.items ≡ [] }
+    requires room { vec_len ended ≤ vec_capacity lines.old }
+{
     for Ended { session, end } in ended {
         let SessionEnd {
             accepted,
@@ -123,7 +147,9 @@ fn note<T: Opened>(
     alloc: Global,
     report: Result<(Report<T>, Vec<KeySpec>), Fault>,
     receipts: &mut Vec<Receipt<T>>,
-) -> Result<Outcome, Fault> {
+) -> Result<Outcome, Fault>
+    requires { IfOk report (λ made. HaveSharedKeys made.1.items made.0.verdicts) }
+{
     let (
         Report {
             receipt,

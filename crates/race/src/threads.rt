@@ -1,11 +1,12 @@
 //! Sessions in threads of their own, and a build beside them.
+ghost use Rattle.std.specs.Prelude.{◌≡◌, ◌≤◌, [], IfOk, map, vec_len, vec_capacity};
+ghost use Rattle.build_events.specs.Verdicts.{HaveSharedKeys};
+ghost use Rattle.replay.specs.Leasing.{AreOf, plain_stake};
 
 use crate::planned::Planned;
-use crate::session_line::SessionLine;
 use crate::session_script::SessionScript;
 use builder_core::{Ends, Plan};
-use crew::{BuildFault, Gate, Opened, Point, Receipt, Report, Session, Table, build};
-use heap_log::Verdicts;
+use crew::{BuildFault, Gate, Opened, Point, Report, Session, Table, build};
 use keybytes::{Fault, KeySpec};
 use race_sessions::{SessionEnd, run_session};
 use std::alloc::Global;
@@ -52,11 +53,25 @@ pub fn run_beside<'e, T: Opened + Send + Sync + 'e, R: Threads + Wait + Sync>(
     scripts: Vec<SessionScript>,
     started: Vec<Started<T>>,
     ended: Vec<Ended<T>>,
-) -> (Built<T>, Vec<Ended<T>>) {
+) -> (Built<T>, Vec<Ended<T>>)
+    requires leased { IfOk planned (λ made. AreOf made.leases (map plain_stake made.spools.items)) }
+    requires none { (started.items ≡ []) × (ended.items ≡ []) }
+    requires room { (vec_len scripts ≤ vec_capacity started) × (vec_len scripts ≤ vec_capacity ended) }
+    ensures pages { result.0.pages ≡ 0 }
+    ensures keys { IfOk result.0.report (λ made. HaveSharedKeys made.1.items made.0.verdicts) }
+    ensures many { vec_len result.1 ≤ vec_len scripts }
+{
     thread::scope(
         thread::scope_env(),
         rt,
-        move |scope| -> (Built<T>, Vec<Ended<T>>) {
+        move |scope| -> (Built<T>, Vec<Ended<T>>)
+            requires leased { IfOk planned (λ made. AreOf made.leases (map plain_stake made.spools.items)) }
+            requires none { (started.items ≡ []) × (ended.items ≡ []) }
+            requires room { (vec_len scripts ≤ vec_capacity started) × (vec_len scripts ≤ vec_capacity ended) }
+            ensures pages { result.0.pages ≡ 0 }
+            ensures keys { IfOk result.0.report (λ made. HaveSharedKeys made.1.items made.0.verdicts) }
+            ensures many { vec_len result.1 ≤ vec_len scripts }
+        {
             let started = start_all(scope, rt, alloc, table, scripts, started);
             let built = run_build(rt, alloc, table, ends, planned);
             (built, join_all(rt, started, ended))
@@ -72,7 +87,11 @@ fn start_all<'s, 'e, T: Opened + Send + Sync + 'e, R: Threads + Wait + Sync>(
     table: &'e Table<T>,
     scripts: Vec<SessionScript>,
     mut started: Vec<Started<T>>,
-) -> Vec<Started<T>> {
+) -> Vec<Started<T>>
+    requires none { started.items ≡ [] }
+    requires room { vec_len scripts ≤ vec_capacity started }
+    ensures { vec_len result ≡ vec_len scripts }
+{
     for script in scripts {
         let session = table.session(rt);
         started.push_reserved(
@@ -106,7 +125,11 @@ fn join_all<T: Opened, R: Threads>(
     rt: &R,
     started: Vec<Started<T>>,
     mut all: Vec<Ended<T>>,
-) -> Vec<Ended<T>> {
+) -> Vec<Ended<T>>
+    requires none { all.items ≡ [] }
+    requires room { vec_len started ≤ vec_capacity all }
+    ensures { vec_len result ≡ vec_len started }
+{
     for one in started {
         all.push_reserved(match one {
             Started::Thread(handle) => handle.join(rt),
@@ -123,7 +146,11 @@ fn run_build<T: Opened + Send + Sync, R: Threads + Wait + Sync>(
     table: &Table<T>,
     ends: Ends<T>,
     planned: Result<Planned, Fault>,
-) -> Built<T> {
+) -> Built<T>
+    requires leased { IfOk planned (λ made. AreOf made.leases (map plain_stake made.spools.items)) }
+    ensures pages { result.pages ≡ 0 }
+    ensures keys { IfOk result.report (λ made. HaveSharedKeys made.1.items made.0.verdicts) }
+{
     let Planned {
         plan,
         leases,

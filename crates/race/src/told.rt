@@ -1,9 +1,11 @@
+ghost use Rattle.std.specs.Prelude.{◌≡◌};
+ghost use Rattle.race.specs.Races.{status_after};
+
 use crate::check_line::CheckLine;
 use crate::outcome::Outcome;
 use crate::session_line::SessionLine;
-use heap_log::Outcome as Verdict;
 use keybytes::Fault;
-use replay::Status;
+use replay::{Status, has_refused};
 
 /// How a race went.
 #[derive(Drop)]
@@ -22,18 +24,12 @@ pub struct Told {
 
 impl Told {
     /// Done where every index became ready.
-    pub fn status(&self) -> Status {
+    pub fn status(&self) -> Status
+        ensures { result ≡ status_after self.now.build }
+    {
         match &self.build {
-            Ok(outcome) if !has_refused(outcome) => Status::Done,
+            Ok(outcome) if !has_refused(&outcome.verdicts) => Status::Done,
             _ => Status::IndexRefused,
         }
     }
-}
-
-fn has_refused(outcome: &Outcome) -> bool {
-    outcome
-        .verdicts
-        .as_slice()
-        .iter()
-        .any(|verdict| matches!(verdict, Verdict::Shared { .. }))
 }

@@ -31,5 +31,6 @@ pub use parts::table_heap;
 pub use plan::{is_in_limits, key_specs};
 pub use report::{check, check_race, refuse};
 pub use run::{refuse_table, replay};
+pub use session::has_refused;
 pub use shared_line::SharedLine;
 pub use status::Status;

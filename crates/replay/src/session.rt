@@ -330,7 +330,8 @@ fn step<T: Table>(bench: &mut Bench<T>, event: Event) -> Result<Answer, Fault>
     })
 }
 
-fn has_refused(verdicts: &Verdicts) -> bool
+/// Whether an index was refused.
+pub fn has_refused(verdicts: &Verdicts) -> bool
     ensures { result ≡ list_any is_refusal verdicts.now }
 {
     verdicts
