@@ -26,7 +26,19 @@ pairs of an index on its first column. `sfbuild replay three.csv` then prints
   3,ok,1
   3,pair,5,0.0
 
-`sfbuild check three.csv` runs nothing, and says whether all records are good.";
+`sfbuild check three.csv` runs nothing, and says whether all records are good.
+
+A race has sessions that write in threads of their own while a build runs, as in
+
+  table,2,int
+  row,5
+  build,4,even:2,n:0
+  go
+  in,1,begin,A
+  in,1,insert,A,6
+  in,1,commit,A
+
+`sfbuild race race.csv --workers 2` runs it and prints how it went.";
 
 /// What the words ask for: something that is to be done with a script, which is a file's path, or `-` for standard input.
 #[derive(Clone, Copy)]
