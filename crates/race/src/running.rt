@@ -61,8 +61,7 @@ pub fn run_race<R: Threads + Wait + Sync>(
 }
 
 /// The table, ready to be shared.
-fn table_parts(alloc: Global, heap: Heap) -> Result<TableParts, Fault>
-{
+fn table_parts(alloc: Global, heap: Heap) -> Result<TableParts, Fault> {
     let parts = match Parts::new(alloc, heap) {
         Ok(parts) => parts,
         Err((_, fault)) => return Err(fault),
