@@ -1,5 +1,5 @@
-ghost use Rattle.std.specs.Prelude.{◌≡◌, ◌≤◌, ◌+◌, vec_len, OnOk, OnErr};
-ghost use Rattle.race_sessions.specs.Noted.{IsNoted};
+ghost use Rattle.std.specs.Prelude.{◌≡◌, [], OnOk, OnErr};
+ghost use Rattle.race_sessions.specs.Commands.{GoesOn, Obeys, StepsBack, WritesNothing};
 
 use crew::{Opened, Receipt, Session, UndoStep};
 use keybytes::{Cell, Fault, Rid, Row};
@@ -24,7 +24,7 @@ pub struct Running<T: Opened> {
 
 impl<T: Opened> Running<T> {
     pub fn new(alloc: Global) -> Running<T>
-        ensures { vec_len result.receipts ≡ 0 }
+        ensures { result.receipts.items ≡ [] }
     {
         Running {
             alloc,
@@ -34,16 +34,18 @@ impl<T: Opened> Running<T> {
         }
     }
 
-    /// Does what a command of the session asks for. A refused one changes nothing, but that a label which was to name a transaction names
-    /// none. Room for the receipt is made before.
+    /// Does what a command of the session asks for. A refused one writes nothing; a label that was to name a transaction then names none.
+    /// Room for the receipt is made before.
     pub fn obey<R: Wait>(
         &mut self,
         rt: &R,
         session: &mut Session<'_, T>,
         command: SessionCommand,
     ) -> Result<(), Fault>
-        ensures noted { OnOk result (IsNoted command (vec_len self.old.receipts) (vec_len self.new.receipts)) }
-        ensures refused { OnErr result (vec_len self.new.receipts ≡ vec_len self.old.receipts) }
+        ensures ok { OnOk result (Obeys command self.old.labels
+            (record { log = session.old; receipts = self.old.receipts.items }) (record { log = session.new; receipts = self.new.receipts.items })) }
+        ensures refused { OnErr result (WritesNothing
+            (record { log = session.old; receipts = self.old.receipts.items }) (record { log = session.new; receipts = self.new.receipts.items })) }
     {
         match command {
             SessionCommand::Begin { label } => self.begin(rt, session, &label),
@@ -64,7 +66,8 @@ impl<T: Opened> Running<T> {
         session: &mut Session<'_, T>,
         label: &Label,
     ) -> Result<(), Fault>
-        ensures { self.new.receipts ≡ self.old.receipts }
+        ensures { WritesNothing
+            (record { log = session.old; receipts = self.old.receipts.items }) (record { log = session.new; receipts = self.new.receipts.items }) }
     {
         self.labels.forget(label)?;
         self.open.reserve(1)?;
@@ -81,8 +84,10 @@ impl<T: Opened> Running<T> {
         label: &Label,
         cells: Vec<Cell>,
     ) -> Result<(), Fault>
-        ensures noted { OnOk result (vec_len self.new.receipts ≡ vec_len self.old.receipts + 1) }
-        ensures refused { OnErr result (vec_len self.new.receipts ≡ vec_len self.old.receipts) }
+        ensures ok { OnOk result (Obeys (SessionCommand.Insert label.now cells) self.old.labels
+            (record { log = session.old; receipts = self.old.receipts.items }) (record { log = session.new; receipts = self.new.receipts.items })) }
+        ensures refused { OnErr result (WritesNothing
+            (record { log = session.old; receipts = self.old.receipts.items }) (record { log = session.new; receipts = self.new.receipts.items })) }
     {
         let row = Row::new(cells)?;
         let txn = self.labels.txn(label)?;
@@ -100,8 +105,10 @@ impl<T: Opened> Running<T> {
         rid: Rid,
         cells: Vec<Cell>,
     ) -> Result<(), Fault>
-        ensures noted { OnOk result (vec_len self.new.receipts ≡ vec_len self.old.receipts + 1) }
-        ensures refused { OnErr result (vec_len self.new.receipts ≡ vec_len self.old.receipts) }
+        ensures ok { OnOk result (Obeys (SessionCommand.Update label.now rid cells) self.old.labels
+            (record { log = session.old; receipts = self.old.receipts.items }) (record { log = session.new; receipts = self.new.receipts.items })) }
+        ensures refused { OnErr result (WritesNothing
+            (record { log = session.old; receipts = self.old.receipts.items }) (record { log = session.new; receipts = self.new.receipts.items })) }
     {
         let row = Row::new(cells)?;
         let txn = self.labels.txn(label)?;
@@ -118,8 +125,10 @@ impl<T: Opened> Running<T> {
         label: &Label,
         rid: Rid,
     ) -> Result<(), Fault>
-        ensures noted { OnOk result (vec_len self.new.receipts ≡ vec_len self.old.receipts + 1) }
-        ensures refused { OnErr result (vec_len self.new.receipts ≡ vec_len self.old.receipts) }
+        ensures ok { OnOk result (Obeys (SessionCommand.Delete label.now rid) self.old.labels
+            (record { log = session.old; receipts = self.old.receipts.items }) (record { log = session.new; receipts = self.new.receipts.items })) }
+        ensures refused { OnErr result (WritesNothing
+            (record { log = session.old; receipts = self.old.receipts.items }) (record { log = session.new; receipts = self.new.receipts.items })) }
     {
         let txn = self.labels.txn(label)?;
         self.receipts.reserve(1)?;
@@ -134,8 +143,10 @@ impl<T: Opened> Running<T> {
         session: &mut Session<'_, T>,
         label: &Label,
     ) -> Result<(), Fault>
-        ensures noted { OnOk result (vec_len self.new.receipts ≡ vec_len self.old.receipts + 1) }
-        ensures refused { OnErr result (vec_len self.new.receipts ≡ vec_len self.old.receipts) }
+        ensures ok { OnOk result (Obeys (SessionCommand.Commit label.now) self.old.labels
+            (record { log = session.old; receipts = self.old.receipts.items }) (record { log = session.new; receipts = self.new.receipts.items })) }
+        ensures refused { OnErr result (WritesNothing
+            (record { log = session.old; receipts = self.old.receipts.items }) (record { log = session.new; receipts = self.new.receipts.items })) }
     {
         let txn = self.labels.txn(label)?;
         self.receipts.reserve(1)?;
@@ -152,9 +163,10 @@ impl<T: Opened> Running<T> {
         session: &mut Session<'_, T>,
         label: &Label,
     ) -> Result<(), Fault>
-        ensures more { vec_len self.old.receipts ≤ vec_len self.new.receipts }
-        ensures one { vec_len self.new.receipts ≤ vec_len self.old.receipts + 1 }
-        ensures refused { OnErr result (vec_len self.new.receipts ≡ vec_len self.old.receipts) }
+        ensures ok { OnOk result (Obeys (SessionCommand.Undo label.now) self.old.labels
+            (record { log = session.old; receipts = self.old.receipts.items }) (record { log = session.new; receipts = self.new.receipts.items })) }
+        ensures refused { OnErr result (WritesNothing
+            (record { log = session.old; receipts = self.old.receipts.items }) (record { log = session.new; receipts = self.new.receipts.items })) }
     {
         let txn = self.labels.txn(label)?;
         let left = self.undo_step(rt, session, txn)?;
@@ -171,9 +183,11 @@ impl<T: Opened> Running<T> {
         session: &mut Session<'_, T>,
         txn: u64,
     ) -> Result<usize, Fault>
-        ensures more { vec_len self.old.receipts ≤ vec_len self.new.receipts }
-        ensures one { vec_len self.new.receipts ≤ vec_len self.old.receipts + 1 }
-        ensures refused { OnErr result (vec_len self.new.receipts ≡ vec_len self.old.receipts) }
+        ensures ok { OnOk result (StepsBack txn
+            (record { log = session.old; receipts = self.old.receipts.items }) (record { log = session.new; receipts = self.new.receipts.items })) }
+        ensures refused { OnErr result (WritesNothing
+            (record { log = session.old; receipts = self.old.receipts.items }) (record { log = session.new; receipts = self.new.receipts.items })) }
+        ensures labels { self.new.labels ≡ self.old.labels }
     {
         self.receipts.reserve(1)?;
         let UndoStep { receipt, left } = session.undo(rt, txn)?;
@@ -192,7 +206,8 @@ impl<T: Opened> Running<T> {
 
     /// Undoes the transactions that are open, step by step. One for whose steps there is no memory stays open.
     pub fn roll_back_all<R: Wait>(&mut self, rt: &R, session: &mut Session<'_, T>)
-        ensures { vec_len self.old.receipts ≤ vec_len self.new.receipts }
+        ensures { GoesOn
+            (record { log = session.old; receipts = self.old.receipts.items }) (record { log = session.new; receipts = self.new.receipts.items }) }
     {
         let open = mem::replace(&mut self.open, Vec::new(self.alloc));
         for txn in open {
@@ -201,7 +216,8 @@ impl<T: Opened> Running<T> {
     }
 
     fn roll_back<R: Wait>(&mut self, rt: &R, session: &mut Session<'_, T>, txn: u64)
-        ensures { vec_len self.old.receipts ≤ vec_len self.new.receipts }
+        ensures { GoesOn
+            (record { log = session.old; receipts = self.old.receipts.items }) (record { log = session.new; receipts = self.new.receipts.items }) }
     {
         for _ in 0..u64::MAX {
             match self.undo_patiently(rt, session, txn) {
@@ -218,7 +234,8 @@ impl<T: Opened> Running<T> {
         session: &mut Session<'_, T>,
         txn: u64,
     ) -> Result<usize, Fault>
-        ensures { vec_len self.old.receipts ≤ vec_len self.new.receipts }
+        ensures { GoesOn
+            (record { log = session.old; receipts = self.old.receipts.items }) (record { log = session.new; receipts = self.new.receipts.items }) }
     {
         for _ in 0..RETRIES {
             match self.undo_step(rt, session, txn) {
