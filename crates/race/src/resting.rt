@@ -1,5 +1,5 @@
 //! Whether ready indexes have the pairs of the rows.
-ghost use Rattle.std.specs.Prelude.{◌≡◌, ◌<◌, IfOk, length, true};
+ghost use Rattle.std.specs.Prelude.{◌≡◌, ◌<◌, IfOk, length, true, false};
 ghost use Rattle.race.specs.Resting.{NoneDiffers};
 
 use crate::check_line::CheckLine;
@@ -55,15 +55,24 @@ fn is_same<T: Table>(live: &mut Live<T>, number: usize) -> Result<bool, Fault>
 
 /// Whether these are the pairs of the tree, in order.
 fn has_pairs(tree: &Tree, pairs: &[Pair]) -> bool
-    ensures { result ≡ true → tree.now.pairs ≡ pairs.now }
-    ensures { tree.now.pairs ≡ pairs.now → result ≡ true }
+    ensures yes { result ≡ true → tree.now.pairs ≡ pairs.now }
+    ensures no { result ≡ false → ¬ (tree.now.pairs ≡ pairs.now) }
 {
     let mut left = pairs;
     for pair in tree.iter() {
         match left.split_first() {
-            Some((first, rest)) if *first == *pair => left = rest,
+            Some((first, rest)) if is_same_pair(first, pair) => left = rest,
             _ => return false,
         }
     }
     left.is_empty()
+}
+
+fn is_same_pair(one: &Pair, other: &Pair) -> bool
+    ensures yes { result ≡ true → one.now ≡ other.now }
+    ensures no { result ≡ false → ¬ (one.now ≡ other.now) }
+{
+    one.rid.page == other.rid.page
+        && one.rid.slot == other.rid.slot
+        && one.key.bytes() == other.key.bytes()
 }
