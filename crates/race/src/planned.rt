@@ -23,7 +23,7 @@ pub struct Planned {
 }
 
 /// The plan of a record `build` on a table with these columns, with its spools. [`Fault::BadCount`], then [`Fault::BadColumn`].
-pub fn planned(
+pub fn plan_build(
     alloc: Global,
     schema: &Schema,
     workers: usize,

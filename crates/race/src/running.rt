@@ -7,7 +7,7 @@ ghost use Rattle.replay.specs.Limits.{table_refusal};
 ghost use Rattle.race.specs.Resting.{NoneDiffers};
 
 use crate::outcome::Outcome;
-use crate::planned::{Planned, planned};
+use crate::planned::{Planned, plan_build};
 use crate::resting::check_all;
 use crate::rows::put_rows;
 use crate::session_line::SessionLine;
@@ -53,7 +53,7 @@ pub fn run_race<R: Threads + Wait + Sync>(
     let started = Vec::with_capacity(alloc, sessions.len())?;
     let ended = Vec::with_capacity(alloc, sessions.len())?;
     let receipts = Vec::with_capacity(alloc, 2 * room + 1)?;
-    let planned = planned(alloc, heap.schema(), workers, build);
+    let planned = plan_build(alloc, heap.schema(), workers, build);
     let parts = table_parts(alloc, heap)?;
     Ok(run_named::<Brand, R>(
         rt, alloc, parts, planned, sessions, lines, started, ended, receipts,
@@ -130,9 +130,13 @@ fn gather<T: Opened>(
             accepted,
             refused,
         });
-        for receipt in more {
-            keep(receipts, receipt);
-        }
+        keep_all(receipts, more);
+    }
+}
+
+fn keep_all<T: Opened>(receipts: &mut Vec<Receipt<T>>, more: Vec<Receipt<T>>) {
+    for receipt in more {
+        keep(receipts, receipt);
     }
 }
 
@@ -149,14 +153,10 @@ fn note<T: Opened>(
 ) -> Result<Outcome, Fault>
     requires { IfOk report (λ made. HaveSharedKeys made.1.items made.0.verdicts) }
 {
-    let (
-        Report {
-            receipt,
-            verdicts,
-            ..
-        },
-        specs,
-    ) = report?;
+    let (report, specs) = report?;
+    let Report {
+        receipt, verdicts, ..
+    } = report;
     keep(receipts, receipt);
     Ok(Outcome {
         shared: shared_lines(alloc, specs.as_slice(), verdicts.as_slice()),
