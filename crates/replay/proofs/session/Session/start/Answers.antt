@@ -34,7 +34,8 @@ by_plan g c answer starts =
     let start = c.args.start in
     let no_build : is_some core.live.build ≡ false =
     sym (ap (λ (s : CoreState). is_some s.live.build) c.core.ensures) ∙ sym c.is_building.ensures ∙ c.if-is_building.false in
-    let in_limits : is_in_limits start.workers (vec_len start.specs) start.quota ≡ true = sym c.is_in_limits.ensures ∙ c.if-not-is_in_limits.false in
+    let in_limits : is_in_limits start.workers (vec_len start.specs) start.quota ≡ true =
+    ap (λ indexes. is_in_limits start.workers indexes start.quota) (sym c.len.ensures) ∙ sym c.is_in_limits.ensures ∙ c.if-not-is_in_limits.false in
     subst (λ (cause : Option Fault). Unless cause (StartsBuild start) core answer c.start.new.self) (sym (no_refusal _ _ no_build in_limits)) (inl (
       plan_of g c,
       record {
