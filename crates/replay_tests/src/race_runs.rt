@@ -92,7 +92,8 @@ static RACES: [Race; 9] = [
 
 /// Whether a race prints what it is to.
 fn is_run<R: Threads + Wait + Sync>(rt: &R, alloc: Global, case: &Race) -> bool {
-    Printed::by_race(rt, alloc, case.workers, case.script).parts() == (case.out, case.err, case.status)
+    Printed::by_race(rt, alloc, case.workers, case.script).parts()
+        == (case.out, case.err, case.status)
 }
 
 /// The first race that prints something else.

@@ -48,7 +48,7 @@ pub struct Choice<'a> {
 }
 
 /// What is to be done with a script.
-#[derive(Clone, Copy)]
+#[derive(Clone, Copy, PartialEq, Eq)]
 pub enum Task {
     Replay,
     Check,
