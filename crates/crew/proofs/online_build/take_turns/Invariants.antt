@@ -1,0 +1,9 @@
+use Rattle.std.proofs.Common.{◌≡◌, length}
+use Rattle.crew.specs.Seats.{GoesOnWith, stakes_beside}
+use Rattle.crew.proofs.online_build.take_turns.Given as goal
+
+abbrev pub invariant-loop-n : goal.invariant-loop-n
+invariant-loop-n g l = record {
+  goes_on : GoesOnWith (length l.plan.specs.items) l.plan.specs.items l.building;
+  stakes : stakes_beside l.building ≡ stakes_beside l.fn.building;
+}

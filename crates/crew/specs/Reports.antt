@@ -1,0 +1,38 @@
+-- What a build reports, and why it is given up.
+use Rattle.std.specs.Prelude.{◌≡◌, ◌≢◌, ℕ, List, map, true}
+use Rattle.std.specs.List.{list_any}
+use Rattle.keybytes.specs.Keys.{KeySpecValue}
+use Rattle.keybytes.specs.declared.fault.Fault.{Fault}
+use Rattle.keybytes.specs.declared.fault.Fault.TheVariants.{Busy, SpoolNotEmpty}
+use Rattle.keybytes.specs.declared.pair.Pair.{Pair}
+use Rattle.heap_log.specs.declared.outcome.Outcome.{Outcome}
+use Rattle.heap_log.specs.declared.record.LogRec.{LogRec}
+use Rattle.heap_log.specs.declared.record.LogRec.TheVariants.{Switch}
+use Rattle.heap_table.specs.TablePairs.{pairs_at_rest}
+use Rattle.build_events.specs.Verdicts.{accepted, outcomes, verdict_on}
+use Rattle.crew.specs.Receipts.{EndsWith}
+
+-- the log ends with a switch of these verdicts, which are those on these indexes over the rows that stand in it
+pub record IsReport (specs : List KeySpecValue) (log : List LogRec) (verdicts : List Outcome) : Type 0 where
+  pub switched : EndsWith log (Switch verdicts)
+  -- so many indexes were ready before
+  pub ready : ℕ
+  pub right : verdicts ≡ outcomes ready (map (verdict_on log) specs)
+
+-- of each index that is accepted these are the pairs at rest
+abbrev pub ArePairsAtRest : List KeySpecValue → List LogRec → List (List Pair) → Type 0
+ArePairsAtRest specs log pairs = pairs ≡ map (λ spec. pairs_at_rest spec log) (accepted log specs)
+
+-- some index is unique
+abbrev pub HasUnique : List KeySpecValue → Type 0
+HasUnique specs = list_any (λ spec. spec.unique) specs ≡ true
+
+-- a fault that is neither a start's, for a spool that isn't empty, nor a switch's, for transactions that are busy
+pub record IsOther (fault : Fault) : Type 0 where
+  pub not_full : fault ≢ SpoolNotEmpty
+  pub not_busy : (count : ℕ) → fault ≢ Busy count
+
+-- a fault for which a build of these indexes may be given up once it has started
+pub record EndsFor (specs : List KeySpecValue) (fault : Fault) : Type 0 where
+  pub not_full : fault ≢ SpoolNotEmpty
+  pub busy : (count : ℕ) → fault ≡ Busy count → HasUnique specs

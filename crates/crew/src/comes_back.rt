@@ -1,0 +1,20 @@
+use crate::Opened;
+use crate::returned::Returned;
+use builder_core::Worker;
+use run_spool::Spool;
+use std::snapshot::Snapshot;
+use std::thread::Promise;
+
+/// The worker that comes back is the one that went, with its spools.
+#[derive(Drop)]
+pub(crate) struct ComesBack<S: Spool, T: Opened> {
+    pub(crate) worker: Snapshot<Worker<S, T>>,
+}
+
+impl<S: Spool, T: Opened> Promise<Returned<S, T>> for ComesBack<S, T> {
+    ghost use Rattle.std.specs.Prelude.{◌≡◌, IfSome};
+    ghost use Rattle.crew.specs.Reports.{IsOther};
+    ghost use Rattle.crew.specs.Seats.{seat_of};
+
+    ghost kept_by = { λ promise returned. (seat_of returned.worker ≡ seat_of promise.worker.value) × IfSome returned.fault IsOther };
+}

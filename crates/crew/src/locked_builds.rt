@@ -1,0 +1,151 @@
+//! The steps of a build that are done under the lock.
+ghost use Rattle.std.specs.Prelude.{◌≡◌, ◌≢◌, ℕ, ◌<◌, List, length, map, take, drop, Some, None, IfOk, IfErr, IfSome, OnErr, OnOk, true, false, All};
+ghost use Rattle.keybytes.specs.Keys.{KeySpecValue};
+ghost use Rattle.keybytes.specs.declared.fault.Fault.{Fault};
+ghost use Rattle.build_work.specs.Lent.{CanLend};
+ghost use Rattle.ready_indexes.specs.Following.{indexes_of};
+ghost use Rattle.crew.specs.Reports.{ArePairsAtRest, EndsFor, IsOther, IsReport};
+ghost use Rattle.crew.specs.Seats.{CanLoadEach, GoesOnWith, HasPairsLeft, stakes_beside};
+
+use crate::locked::{Locked, copied};
+use crate::{Opened, Receipt, Report};
+use builder_core::{Building, Plan, ReadyIndexes};
+use heap_table::PageImage;
+use keybytes::{Fault, Pair};
+use run_spool::Spool;
+use std::alloc::Global;
+
+impl<T: Opened> Locked<T> {
+    /// A build of the plan's indexes starts.
+    pub(crate) fn start<S: Spool>(
+        &mut self,
+        plan: &Plan,
+        building: &mut Building<S, T>,
+    ) -> Result<u32, Fault>
+        ensures lendable { OnOk result (CanLend building.new) }
+        ensures goes_on { OnOk result (GoesOnWith 0 plan.now.specs.items building.new) }
+        ensures stakes { stakes_beside building.new ≡ stakes_beside building.old }
+        ensures not_empty { IfErr result (λ fault. fault ≡ Fault.SpoolNotEmpty → HasPairsLeft building.old) }
+        ensures not_busy { IfErr result (λ fault. (count : ℕ) → fault ≢ Fault.Busy count) }
+        ensures log { self.new.state.heap.log ≡ self.old.state.heap.log }
+    {
+        self.live.start(plan, building)
+    }
+
+    /// The lowest page of the range that is left is copied for the worker, in one step.
+    pub(crate) fn scan_step(
+        &mut self,
+        range: usize,
+        worker: usize,
+        image: PageImage,
+    ) -> Result<u32, (PageImage, Fault)>
+        ensures other { IfErr result (λ back. IsOther back.1) }
+        ensures log { self.new.state.heap.log ≡ self.old.state.heap.log }
+    {
+        self.live.scan_step(range, worker, image)
+    }
+
+    /// All pages were copied and their pairs made: the workers hand their spools over to the indexes.
+    pub(crate) fn end_scan<S: Spool>(&mut self, building: &mut Building<S, T>) -> Result<(), Fault>
+        ensures loads { OnOk result (CanLoadEach building.new) }
+        ensures goes_on { OnOk result ((specs : List KeySpecValue) → GoesOnWith 0 specs building.old → GoesOnWith 0 specs building.new) }
+        ensures stakes { stakes_beside building.new ≡ stakes_beside building.old }
+        ensures other { IfErr result (λ fault. IfSome building.old.work (λ w. w.spoiled ≡ None → IsOther fault)) }
+        ensures log { self.new.state.heap.log ≡ self.old.state.heap.log }
+    {
+        self.live.end_scan(building)
+    }
+
+    /// Moves the next entries of an index's side-file into its ring.
+    pub(crate) fn feed(&mut self, index: usize, most: usize) -> Result<usize, Fault>
+        ensures other { IfErr result IsOther }
+        ensures log { self.new.state.heap.log ≡ self.old.state.heap.log }
+    {
+        self.live.feed(index, most)
+    }
+
+    /// Gives the build up, if one runs.
+    pub(crate) fn abandon(&mut self)
+        ensures none { self.new.state.build ≡ None }
+        ensures log { self.new.state.heap.log ≡ self.old.state.heap.log }
+    {
+        self.live.give_up();
+    }
+
+    /// Switches the indexes in, and answers what the build reports, with the pairs if they are asked for. Where busy transactions keep it waiting
+    /// no other transaction begins from here on.
+    pub(crate) fn switch<S: Spool>(
+        &mut self,
+        alloc: Global,
+        keep_pairs: bool,
+        building: &mut Building<S, T>,
+    ) -> Result<Report<T>, Fault>
+        ensures report { IfOk result (λ report. IfSome building.old.work (λ w. IsReport w.specs report.receipt report.verdicts)) }
+        ensures pairs { IfOk result (λ report. IfSome building.old.work (λ w. IfSome report.pairs
+            (λ pairs. ArePairsAtRest w.specs report.receipt (map (λ it. it.items) pairs.items)))) }
+        ensures log { IfOk result (λ report. report.receipt ≡ self.new.state.heap.log) }
+        ensures same { OnErr result (self.new.state.heap.log ≡ self.old.state.heap.log) }
+        ensures stakes { stakes_beside building.new ≡ stakes_beside building.old }
+        ensures goes_on { IfErr result (λ fault. fault ≢ Fault.Memory
+            → (count : ℕ) (specs : List KeySpecValue) → GoesOnWith count specs building.old → GoesOnWith count specs building.new) }
+        ensures ends { IfErr result (λ fault. IfSome building.old.work (λ w. w.spoiled ≡ None → EndsFor w.specs fault)) }
+    {
+        let first = self.live.ready().len();
+        match self.live.switch_in(building) {
+            Ok(switched) => {
+                self.keeper.append(switched.number, &switched.record);
+                let receipt = Receipt::new(self.keeper.tell(), switched.record);
+                let pairs = self.pairs_from(alloc, keep_pairs, first);
+                Ok(Report {
+                    receipt,
+                    verdicts: switched.verdicts,
+                    pairs,
+                })
+            }
+            Err(fault) => {
+                self.fence_if_busy(fault);
+                Err(fault)
+            }
+        }
+    }
+
+    /// Sets the fence where a switch waits for transactions.
+    fn fence_if_busy(&mut self, fault: Fault)
+        ensures log { self.new.state.heap.log ≡ self.old.state.heap.log }
+    {
+        if let Fault::Busy(_) = fault {
+            let _fenced = self.live.fence();
+        }
+    }
+
+    /// Copies of the pairs of the ready indexes from that number on, if they are asked for and memory is there.
+    fn pairs_from(&self, alloc: Global, keep_pairs: bool, first: usize) -> Option<Vec<Vec<Pair>>>
+        ensures { IfSome result (λ pairs. map (λ it. it.items) pairs.items ≡ map (λ it. it.pairs) (drop first self.now.state.ready)) }
+    {
+        if !keep_pairs {
+            return None;
+        }
+        match copies_from(alloc, self.live.ready(), first) {
+            Ok(pairs) => Some(pairs),
+            Err(_) => None,
+        }
+    }
+}
+
+/// Copies of the pairs of these indexes, from that number on.
+fn copies_from(
+    alloc: Global,
+    ready: &ReadyIndexes,
+    first: usize,
+) -> Result<Vec<Vec<Pair>>, Fault>
+    ensures { IfOk result (λ pairs. map (λ it. it.items) pairs.items ≡ map (λ it. it.pairs) (drop first (indexes_of ready.now.indexes))) }
+{
+    let mut pairs = Vec::new(alloc);
+    for number in first..ready.len() {
+        let Some(index) = ready.get(number) else {
+            unreachable!()
+        };
+        pairs.push(copied(alloc, index.tree())?)?;
+    }
+    Ok(pairs)
+}

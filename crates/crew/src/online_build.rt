@@ -1,0 +1,255 @@
+//! A build from its start to its switch.
+ghost use Rattle.std.specs.Prelude.{◌≡◌, ◌≢◌, ◌<◌, ℕ, [], All, length, map, None, Some, IfErr, IfOk, IfSome, OnErr, OnOk};
+ghost use Rattle.keybytes.specs.Keys.{KeySpecValue};
+ghost use Rattle.keybytes.specs.declared.fault.Fault.{Fault};
+ghost use Rattle.build_work.specs.Lent.{CanLend};
+ghost use Rattle.crew.specs.Reports.{ArePairsAtRest, EndsFor, HasUnique, IsOther, IsReport};
+ghost use Rattle.crew.specs.Seats.{CanLoadEach, GoesOnWith, HasPairsLeft, stakes_beside};
+
+use crate::scanning::scan_all;
+use crate::{BuildFault, Gate, Opened, Point, Report, Table};
+use builder_core::{Building, Ends, Plan};
+use keybytes::Fault;
+use run_spool::Spool;
+use std::alloc::Global;
+use std::sync::Wait;
+use std::thread::Threads;
+
+/// The most entries of an index that are fed in one hold of the lock.
+const FED_MOST: usize = 256;
+
+/// Builds the plan's indexes by a thread for each worker, while sessions write. The workers copy pages under the lock and make their pairs outside
+/// of it; the pairs are then put in order, and at most `tries` turns of the plan feed and apply what was written meanwhile, and try the switch. Where
+/// busy transactions keep the switch waiting, no other transaction begins until the build has decided or is given up.
+///
+/// A fault gives the build up: of [`Fault::Behind`] and [`Fault::Busy`] that of the last turn, and of several workers' the lowest worker's. Where a
+/// thread can't be started, it is [`Fault::Memory`]. The ends of the rings and the spools come back in any case, the spools ended.
+///
+/// `rt` is the runtime that `main` hands in. It may wait for the lock, for the threads that it starts, and for the gate.
+pub fn build<S, T, G, R>(
+    rt: &R,
+    alloc: Global,
+    table: &Table<T>,
+    ends: Ends<T>,
+    plan: &Plan,
+    spools: Vec<S>,
+    gate: &G,
+) -> (Ends<T>, Vec<S>, Result<Report<T>, BuildFault>)
+where
+    S: Spool + Send,
+    T: Opened + Send + Sync,
+    G: Gate + Sync,
+    R: Threads + Wait + Sync,
+    ensures report { IfOk result.2 (λ report. IsReport plan.now.specs.items report.receipt report.verdicts) }
+    ensures pairs { IfOk result.2 (λ report. IfSome report.pairs
+        (λ pairs. ArePairsAtRest plan.now.specs.items report.receipt (map (λ it. it.items) pairs.items))) }
+    ensures not_empty { IfErr result.2 (λ fault. fault.0 ≡ Fault.SpoolNotEmpty
+        → All (λ spool. (S.runs spool ≡ []) × (S.open_run spool ≡ [])) spools.items → ⊥) }
+    ensures busy { IfErr result.2 (λ fault. (count : ℕ) → fault.0 ≡ Fault.Busy count → HasUnique plan.now.specs.items) }
+    ensures ended { All S.ended result.1.items }
+    ensures stakes { map S.stake result.1.items ≡ map S.stake spools.items }
+{
+    let building = Building::new(ends, spools);
+    let (building, told) = build_beside(rt, alloc, table, plan, gate, building);
+    let (ends, spools) = building.into_parts();
+    (ends, spools, told.map_err(BuildFault))
+}
+
+/// The same with what stands beside the table. A build that has started and ends with a fault is abandoned.
+fn build_beside<S, T, G, R>(
+    rt: &R,
+    alloc: Global,
+    table: &Table<T>,
+    plan: &Plan,
+    gate: &G,
+    building: Building<S, T>,
+) -> (Building<S, T>, Result<Report<T>, Fault>)
+where
+    S: Spool + Send,
+    T: Opened + Send + Sync,
+    G: Gate + Sync,
+    R: Threads + Wait + Sync,
+    ensures report { IfOk result.1 (λ report. IsReport plan.now.specs.items report.receipt report.verdicts) }
+    ensures pairs { IfOk result.1 (λ report. IfSome report.pairs
+        (λ pairs. ArePairsAtRest plan.now.specs.items report.receipt (map (λ it. it.items) pairs.items))) }
+    ensures not_empty { IfErr result.1 (λ fault. fault ≡ Fault.SpoolNotEmpty → HasPairsLeft building) }
+    ensures busy { IfErr result.1 (λ fault. (count : ℕ) → fault ≡ Fault.Busy count → HasUnique plan.now.specs.items) }
+    ensures stakes { stakes_beside result.0 ≡ stakes_beside building }
+{
+    let mut building = building;
+    let started = table.lock().lock(rt).start(plan, &mut building);
+    if let Err(fault) = started {
+        return (building, Err(fault));
+    }
+    let (building, told) = build_started(rt, alloc, table, plan, gate, building);
+    if told.is_err() {
+        table.lock().lock(rt).abandon();
+    }
+    (building, told)
+}
+
+/// A build that has started: its workers are lent to threads, and come back for the rest.
+fn build_started<S, T, G, R>(
+    rt: &R,
+    alloc: Global,
+    table: &Table<T>,
+    plan: &Plan,
+    gate: &G,
+    building: Building<S, T>,
+) -> (Building<S, T>, Result<Report<T>, Fault>)
+where
+    S: Spool + Send,
+    T: Opened + Send + Sync,
+    G: Gate + Sync,
+    R: Threads + Wait + Sync,
+    requires lendable { CanLend building }
+    requires goes_on { GoesOnWith 0 plan.now.specs.items building }
+    ensures report { IfOk result.1 (λ report. IsReport plan.now.specs.items report.receipt report.verdicts) }
+    ensures pairs { IfOk result.1 (λ report. IfSome report.pairs
+        (λ pairs. ArePairsAtRest plan.now.specs.items report.receipt (map (λ it. it.items) pairs.items))) }
+    ensures ends { IfErr result.1 (EndsFor plan.now.specs.items) }
+    ensures stakes { stakes_beside result.0 ≡ stakes_beside building }
+{
+    let (workers, rest) = building.lend();
+    let (workers, scanned) = scan_all(rt, alloc, table, plan, gate, workers);
+    let mut building = rest.gather(workers);
+    if let Err(fault) = scanned {
+        return (building, Err(fault));
+    }
+    let told = finish(rt, alloc, table, plan, gate, &mut building);
+    (building, told)
+}
+
+/// The rest of a build whose pages were scanned.
+fn finish<S: Spool, T: Opened, G: Gate, R: Wait>(
+    rt: &R,
+    alloc: Global,
+    table: &Table<T>,
+    plan: &Plan,
+    gate: &G,
+    building: &mut Building<S, T>,
+) -> Result<Report<T>, Fault>
+    requires { GoesOnWith 0 plan.now.specs.items building.old }
+    ensures report { IfOk result (λ report. IsReport plan.now.specs.items report.receipt report.verdicts) }
+    ensures pairs { IfOk result (λ report. IfSome report.pairs
+        (λ pairs. ArePairsAtRest plan.now.specs.items report.receipt (map (λ it. it.items) pairs.items))) }
+    ensures ends { IfErr result (EndsFor plan.now.specs.items) }
+    ensures stakes { stakes_beside building.new ≡ stakes_beside building.old }
+{
+    table.lock().lock(rt).end_scan(building)?;
+    load_all(alloc, plan, gate, building)?;
+    take_turns(rt, alloc, table, plan, gate, building)
+}
+
+/// Puts the pairs of each index in order.
+fn load_all<S: Spool, T: Opened, G: Gate>(
+    alloc: Global,
+    plan: &Plan,
+    gate: &G,
+    building: &mut Building<S, T>,
+) -> Result<(), Fault>
+    requires goes_on { GoesOnWith 0 plan.now.specs.items building.old }
+    requires loads { CanLoadEach building.old }
+    ensures goes_on { OnOk result (GoesOnWith (length plan.now.specs.items) plan.now.specs.items building.new) }
+    ensures stakes { stakes_beside building.new ≡ stakes_beside building.old }
+    ensures memory { IfErr result (λ fault. fault ≡ Fault.Memory) }
+{
+    for index in 0..plan.specs.len() {
+        building.load(alloc, index)?;
+        gate.at(Point::Loaded { index });
+    }
+    Ok(())
+}
+
+/// Takes turns until the switch decides, or the last turn has to wait as well.
+fn take_turns<S: Spool, T: Opened, G: Gate, R: Wait>(
+    rt: &R,
+    alloc: Global,
+    table: &Table<T>,
+    plan: &Plan,
+    gate: &G,
+    building: &mut Building<S, T>,
+) -> Result<Report<T>, Fault>
+    requires { GoesOnWith (length plan.now.specs.items) plan.now.specs.items building.old }
+    ensures report { IfOk result (λ report. IsReport plan.now.specs.items report.receipt report.verdicts) }
+    ensures pairs { IfOk result (λ report. IfSome report.pairs
+        (λ pairs. ArePairsAtRest plan.now.specs.items report.receipt (map (λ it. it.items) pairs.items))) }
+    ensures ends { IfErr result (EndsFor plan.now.specs.items) }
+    ensures stakes { stakes_beside building.new ≡ stakes_beside building.old }
+{
+    for n in 1..plan.tries {
+        match take_turn(rt, alloc, table, plan, gate, building, n) {
+            Err(Fault::Behind(_) | Fault::Busy(_)) => {}
+            told => return told,
+        }
+    }
+    take_turn(rt, alloc, table, plan, gate, building, plan.tries.max(1))
+}
+
+/// One turn: what was written meanwhile is fed and applied to each index, and the switch is tried.
+fn take_turn<S: Spool, T: Opened, G: Gate, R: Wait>(
+    rt: &R,
+    alloc: Global,
+    table: &Table<T>,
+    plan: &Plan,
+    gate: &G,
+    building: &mut Building<S, T>,
+    n: u32,
+) -> Result<Report<T>, Fault>
+    requires { GoesOnWith (length plan.now.specs.items) plan.now.specs.items building.old }
+    ensures report { IfOk result (λ report. IsReport plan.now.specs.items report.receipt report.verdicts) }
+    ensures pairs { IfOk result (λ report. IfSome report.pairs
+        (λ pairs. ArePairsAtRest plan.now.specs.items report.receipt (map (λ it. it.items) pairs.items))) }
+    ensures goes_on { IfErr result (λ fault. fault ≢ Fault.Memory
+        → GoesOnWith (length plan.now.specs.items) plan.now.specs.items building.new) }
+    ensures ends { IfErr result (EndsFor plan.now.specs.items) }
+    ensures stakes { stakes_beside building.new ≡ stakes_beside building.old }
+{
+    gate.at(Point::Try { n });
+    catch_up(rt, table, plan, building)?;
+    table
+        .lock()
+        .lock(rt)
+        .switch(alloc, plan.keep_pairs, building)
+}
+
+/// Feeds what was written meanwhile, and applies it to each index.
+fn catch_up<S: Spool, T: Opened, R: Wait>(
+    rt: &R,
+    table: &Table<T>,
+    plan: &Plan,
+    building: &mut Building<S, T>,
+) -> Result<(), Fault>
+    requires { GoesOnWith (length plan.now.specs.items) plan.now.specs.items building.old }
+    ensures goes_on { OnOk result (GoesOnWith (length plan.now.specs.items) plan.now.specs.items building.new) }
+    ensures still { IfErr result (λ fault. fault ≢ Fault.Memory
+        → GoesOnWith (length plan.now.specs.items) plan.now.specs.items building.new) }
+    ensures other { IfErr result IsOther }
+    ensures stakes { stakes_beside building.new ≡ stakes_beside building.old }
+{
+    for index in 0..plan.specs.len() {
+        table.lock().lock(rt).feed(index, FED_MOST)?;
+        apply_seen(plan, building, index)?;
+    }
+    Ok(())
+}
+
+/// Applies the entries that are in the index's ring.
+fn apply_seen<S: Spool, T: Opened>(
+    plan: &Plan,
+    building: &mut Building<S, T>,
+    index: usize,
+) -> Result<usize, Fault>
+    requires goes_on { GoesOnWith (length plan.now.specs.items) plan.now.specs.items building.old }
+    requires there { index < length plan.now.specs.items }
+    ensures goes_on { OnOk result (GoesOnWith (length plan.now.specs.items) plan.now.specs.items building.new) }
+    ensures stakes { stakes_beside building.new ≡ stakes_beside building.old }
+    ensures memory { IfErr result (λ fault. fault ≡ Fault.Memory) }
+{
+    let seen = building.look_for_entries(index);
+    let Some(work) = building.work() else {
+        unreachable!()
+    };
+    let count = seen.min(usize::MAX - work.applied(index));
+    building.apply(index, count)
+}

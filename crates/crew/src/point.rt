@@ -1,0 +1,12 @@
+/// How far a build is.
+#[derive(Clone, Copy, PartialEq, Eq)]
+pub enum Point {
+    /// The worker has a copy of the page, whose pairs it didn't make yet.
+    Scanned { worker: usize, page: u32 },
+    /// The worker found no range any more, and closed its runs.
+    Sealed { worker: usize },
+    /// The pairs of the index are in order.
+    Loaded { index: usize },
+    /// A turn begins that feeds, applies and tries the switch, numbered from 1.
+    Try { n: u32 },
+}

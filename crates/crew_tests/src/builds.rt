@@ -1,0 +1,321 @@
+//! Builds by workers in threads, of tables to which nobody writes meanwhile.
+ghost use Rattle.std.specs.Prelude.{◌≡◌};
+
+use crate::tables::{Rows, table_of};
+use builder_core::{Dealing, Plan};
+use crew::{BuildFault, Gate, Opened, Point, Report, Table, TableParts, build};
+use heap_log::Outcome;
+use keybytes::{Fault, Kind, KeySpec, Pair, Rid, Schema};
+use run_spool::{PlainSpool, Spool};
+use spool_ledger::Pool;
+use std::alloc::Global;
+use std::marker::Brand;
+use std::sync::Wait;
+use std::thread::Threads;
+
+/// What is built, of how many rows.
+#[derive(Clone, Copy)]
+struct Asked {
+    rows: Rows,
+    /// For each index whether it is unique.
+    unique: &'static [bool],
+    workers: usize,
+    ranges: usize,
+    /// The pages of each spool.
+    quota: u32,
+    /// Whether the first spool has a pair.
+    is_used: bool,
+}
+
+const WHOLE: Asked = Asked {
+    rows: Rows {
+        slots: 2,
+        count: 7,
+        distinct: 7,
+    },
+    unique: &[false],
+    workers: 1,
+    ranges: 1,
+    quota: 4,
+    is_used: false,
+};
+
+/// What a build came to: how many of its indexes are ready, and how many pairs these have in all; or the fault that it was given up for.
+#[derive(Clone, Copy, PartialEq)]
+enum Told {
+    Decided { ready: usize, pairs: usize },
+    GivenUp(Fault),
+}
+
+/// Is not interested.
+struct Silent;
+
+impl Gate for Silent {
+    fn at(&self, _point: Point) {}
+}
+
+fn spec(alloc: Global, unique: bool) -> Result<KeySpec, Fault> {
+    let schema = Schema::new(vec![in alloc; Kind::Int]?)?;
+    KeySpec::new(alloc, &schema, vec![in alloc; 0]?, unique)
+}
+
+fn plan(alloc: Global, asked: Asked) -> Result<Plan, Fault> {
+    let mut specs = Vec::new(alloc);
+    for unique in asked.unique {
+        specs.push(spec(alloc, *unique)?)?;
+    }
+    Ok(Plan {
+        specs,
+        workers: asked.workers,
+        dealing: Dealing::Even(asked.ranges),
+        tries: 2,
+        keep_pairs: true,
+    })
+}
+
+fn spool(alloc: Global, pool: &mut Pool, quota: u32) -> Result<PlainSpool, Fault> {
+    let Some(account) = pool.split(alloc, &[quota])?.pop() else {
+        return Err(Fault::Memory);
+    };
+    match PlainSpool::new(alloc, account) {
+        Ok(spool) => Ok(spool),
+        Err((_, fault)) => Err(fault),
+    }
+}
+
+fn spools(alloc: Global, asked: Asked) -> Result<Vec<PlainSpool>, Fault> {
+    let mut pool = Pool::new(alloc, 1, 64)?;
+    let mut spools = Vec::new(alloc);
+    for _ in 0..asked.workers {
+        for _ in asked.unique {
+            spools.push(spool(alloc, &mut pool, asked.quota)?)?;
+        }
+    }
+    if asked.is_used {
+        use_first(alloc, &mut spools)?;
+    }
+    Ok(spools)
+}
+
+/// Puts a pair into the first spool.
+fn use_first(alloc: Global, spools: &mut Vec<PlainSpool>) -> Result<(), Fault> {
+    let pair = Pair {
+        key: keybytes::Key::new(alloc),
+        rid: Rid { page: 0, slot: 0 },
+    };
+    let Some(first) = spools.first_mut() else {
+        return Err(Fault::BadCount);
+    };
+    match Spool::push(first, pair) {
+        Ok(()) => Ok(()),
+        Err((_, fault)) => Err(fault),
+    }
+}
+
+/// How many pairs these are, if they are the pairs of the table's ready indexes.
+fn told_by<T: Opened>(alloc: Global, table: Table<T>, report: Report<T>) -> Result<Told, Fault> {
+    let Report {
+        receipt,
+        verdicts,
+        pairs,
+    } = report;
+    let mut ready = 0;
+    for verdict in verdicts.as_slice() {
+        match verdict {
+            Outcome::Ready(number) if *number == ready => ready += 1,
+            Outcome::Ready(_) => return Err(Fault::BadCount),
+            Outcome::Shared { .. } => {}
+        }
+    }
+    let closed = table.close(vec![in alloc; receipt]?);
+    let Some(pairs) = pairs else {
+        return Err(Fault::Memory);
+    };
+    if closed.missing != 0 || closed.live.ready().len() != ready || pairs.len() != ready {
+        return Err(Fault::BadCount);
+    }
+    let mut live = closed.live;
+    let mut count = 0;
+    for own in &pairs {
+        let rest = live.rest(&spec(alloc, false)?)?;
+        if *own != rest {
+            return Err(Fault::BadColumn);
+        }
+        count += own.len();
+    }
+    Ok(Told::Decided {
+        ready,
+        pairs: count,
+    })
+}
+
+/// Whether each spool is back, with no page leased.
+fn are_back(spools: &[PlainSpool], asked: Asked) -> bool {
+    spools.len() == asked.workers * asked.unique.len() && spools.iter().all(|spool| spool.leased() == 0)
+}
+
+fn told_of<T: Opened + Send + Sync, R: Threads + Wait + Sync>(
+    rt: &R,
+    alloc: Global,
+    asked: Asked,
+    parts: TableParts,
+    plan: Plan,
+    spools: Vec<PlainSpool>,
+) -> Result<Told, Fault>
+    requires word { parts.word ≡ T.table }
+    requires pages { parts.parts.pages ≡ T.pages }
+    requires sides { parts.parts.sides ≡ T.sides }
+    requires opening { parts.parts.heap.log ≡ T.opening }
+{
+    let (table, ends) = parts.open::<T>();
+    let (_ends, spools, told) = build(rt, alloc, &table, ends, &plan, spools, &Silent);
+    if !are_back(&spools, asked) {
+        return Err(Fault::NoPage);
+    }
+    match told {
+        Ok(report) => told_by(alloc, table, report),
+        Err(BuildFault(fault)) => Ok(Told::GivenUp(fault)),
+    }
+}
+
+fn told<R: Threads + Wait + Sync>(rt: &R, alloc: Global, asked: Asked) -> Result<Told, Fault> {
+    let parts = table_of(alloc, asked.rows)?;
+    let (plan, spools) = (plan(alloc, asked)?, spools(alloc, asked)?);
+    told_of::<Brand, R>(rt, alloc, asked, parts, plan, spools)
+}
+
+const DECIDED: [(Asked, Told); 7] = [
+    (WHOLE, Told::Decided { ready: 1, pairs: 7 }),
+    (
+        Asked {
+            workers: 2,
+            ranges: 3,
+            ..WHOLE
+        },
+        Told::Decided { ready: 1, pairs: 7 },
+    ),
+    (
+        Asked {
+            workers: 4,
+            ranges: 9,
+            ..WHOLE
+        },
+        Told::Decided { ready: 1, pairs: 7 },
+    ),
+    (
+        Asked {
+            unique: &[false, true],
+            workers: 2,
+            ..WHOLE
+        },
+        Told::Decided { ready: 2, pairs: 14 },
+    ),
+    (
+        Asked {
+            unique: &[true, false],
+            workers: 2,
+            rows: Rows {
+                slots: 2,
+                count: 7,
+                distinct: 6,
+            },
+            ..WHOLE
+        },
+        Told::Decided { ready: 1, pairs: 7 },
+    ),
+    (
+        Asked {
+            rows: Rows {
+                slots: 255,
+                count: 3000,
+                distinct: 3000,
+            },
+            workers: 4,
+            ranges: 5,
+            quota: 15,
+            ..WHOLE
+        },
+        Told::Decided { ready: 1, pairs: 3000 },
+    ),
+    (
+        Asked {
+            rows: Rows {
+                slots: 255,
+                count: 240,
+                distinct: 240,
+            },
+            quota: 1,
+            ..WHOLE
+        },
+        Told::Decided { ready: 1, pairs: 240 },
+    ),
+];
+
+const GIVEN_UP: [(Asked, Fault); 4] = [
+    (
+        Asked {
+            is_used: true,
+            workers: 2,
+            ..WHOLE
+        },
+        Fault::SpoolNotEmpty,
+    ),
+    (
+        Asked {
+            ranges: 0,
+            ..WHOLE
+        },
+        Fault::BadRanges,
+    ),
+    (
+        Asked {
+            workers: 17,
+            quota: 1,
+            ..WHOLE
+        },
+        Fault::BadCount,
+    ),
+    (
+        Asked {
+            rows: Rows {
+                slots: 255,
+                count: 241,
+                distinct: 241,
+            },
+            quota: 1,
+            ..WHOLE
+        },
+        Fault::NoPage,
+    ),
+];
+
+/// The number of the first build that comes to something else.
+fn other_decided<R: Threads + Wait + Sync>(rt: &R, alloc: Global) -> Option<usize> {
+    for number in 0..DECIDED.len() {
+        let (asked, wanted) = DECIDED[number];
+        if told(rt, alloc, asked) != Ok(wanted) {
+            return Some(number);
+        }
+    }
+    None
+}
+
+fn other_given_up<R: Threads + Wait + Sync>(rt: &R, alloc: Global) -> Option<usize> {
+    for number in 0..GIVEN_UP.len() {
+        let (asked, fault) = GIVEN_UP[number];
+        if told(rt, alloc, asked) != Ok(Told::GivenUp(fault)) {
+            return Some(number);
+        }
+    }
+    None
+}
+
+#[test]
+fn builds_decide(rt: HostRuntime) {
+    assert_eq!(rt; other_decided(&rt, rt.alloc()), None);
+}
+
+#[test]
+fn builds_that_are_given_up_hand_their_spools_back(rt: HostRuntime) {
+    assert_eq!(rt; other_given_up(&rt, rt.alloc()), None);
+}
