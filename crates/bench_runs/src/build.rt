@@ -17,12 +17,17 @@ const SPOOLS_MAX: usize = WORKERS_MAX * INDEXES_MAX;
 
 /// An empty table of these columns, with as many rows a page as a page may have.
 pub fn parts(alloc: Global, columns: &[Column]) -> Result<Parts, Fault> {
-    let schema = Schema::new(kinds(alloc, columns)?)?;
+    let schema = schema(alloc, columns)?;
     let heap = Heap::new(alloc, schema, SLOTS_MAX, PAGES_MAX)?;
     match Parts::new(alloc, heap) {
         Ok(parts) => Ok(parts),
         Err((_, fault)) => Err(fault),
     }
+}
+
+/// Rows of these columns.
+pub fn schema(alloc: Global, columns: &[Column]) -> Result<Schema, Fault> {
+    Schema::new(kinds(alloc, columns)?)
 }
 
 /// What the cells of each column are.

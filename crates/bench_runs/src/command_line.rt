@@ -57,7 +57,7 @@ const FLAG: Word = Word {
     parser: ValueParser::String,
 };
 
-static WORDS: [Word; 8] = [
+static WORDS: [Word; 10] = [
     Word {
         name: "rows",
         help: "How many rows the table has",
@@ -89,7 +89,7 @@ static WORDS: [Word; 8] = [
     },
     Word {
         name: "workers",
-        help: "How many workers make the pairs, in turn in one thread [default: as many as the rows need]",
+        help: "How many workers make the pairs, in turn in one thread or with --threads each in its own [default: as many as the rows need]",
         value: Some("W"),
         parser: ValueParser::Unsigned(1, 16),
         ..FLAG
@@ -100,6 +100,18 @@ static WORDS: [Word; 8] = [
         value: Some("M"),
         default: Some("0"),
         parser: ValueParser::Signed(0, 4_294_967_295),
+        ..FLAG
+    },
+    Word {
+        name: "threads",
+        help: "The workers are in threads of their own, and the build is measured as one phase",
+        ..FLAG
+    },
+    Word {
+        name: "writers",
+        help: "How many sessions write beside a build with threads, and for two seconds before it",
+        value: Some("M"),
+        parser: ValueParser::Unsigned(1, 16),
         ..FLAG
     },
     Word {
@@ -153,6 +165,8 @@ fn choose(matches: &ArgMatches<'_>, options: &mut Options) -> Result<(), Refusal
     options.indexes = number(matches, "indexes") as usize;
     options.unique = matches.get_flag("unique");
     options.writes = number(matches, "writes");
+    options.threads = matches.get_flag("threads");
+    options.writers = number(matches, "writers") as usize;
     options.seed = matches.get_one("seed").unwrap_or(0);
     options.csv = matches.get_flag("csv");
     options.workers = match matches.get_one::<usize>("workers") {

@@ -21,6 +21,10 @@ pub struct Options {
     pub writes: u32,
     /// What the rows are drawn by.
     pub seed: u64,
+    /// Whether the workers are in threads of their own.
+    pub threads: bool,
+    /// How many sessions write beside the build.
+    pub writers: usize,
     /// Whether the figures are printed as comma-separated records.
     pub csv: bool,
     pub ghost some: { 0 < workers },
@@ -37,6 +41,8 @@ impl Drop for Options {
             workers: _,
             writes: _,
             seed: _,
+            threads: _,
+            writers: _,
             csv: _,
         } = self;
     }
@@ -53,6 +59,8 @@ impl Options {
             workers: 1,
             writes: 0,
             seed: 0,
+            threads: false,
+            writers: 0,
             csv: false,
         }
     }
