@@ -165,8 +165,8 @@ fn choose(matches: &ArgMatches<'_>, options: &mut Options) -> Result<(), Refusal
     options.indexes = number(matches, "indexes") as usize;
     options.unique = matches.get_flag("unique");
     options.writes = number(matches, "writes");
-    options.threads = matches.get_flag("threads");
     options.writers = number(matches, "writers") as usize;
+    options.threads = matches.get_flag("threads") || options.writers > 0;
     options.seed = matches.get_one("seed").unwrap_or(0);
     options.csv = matches.get_flag("csv");
     options.workers = match matches.get_one::<usize>("workers") {

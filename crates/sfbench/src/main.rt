@@ -4,7 +4,7 @@
 //! hands the words and the standard streams in.
 #![tactic(auto)]
 
-use bench_runs::Options;
+use bench_runs::{Failure, Options};
 use std::process::ExitCode;
 use std::{env, io};
 
@@ -49,18 +49,27 @@ fn print(rt: &HostRuntime, error: &clap::Error) -> u8 {
 
 /// Runs what is asked for and prints its figures, or says why there are none.
 fn measure(rt: &HostRuntime, options: &Options) -> u8 {
-    let figures = match bench_runs::run(rt, options) {
-        Ok(figures) => figures,
-        Err(failure) => {
-            let _ = eprintln!(rt; "sfbench: {failure}");
-            return FAILED;
-        }
-    };
-    match bench_runs::printed(rt.alloc(), options, &figures) {
+    match figures(rt, options) {
         Ok(text) => match print!(rt; "{text}") {
             Ok(()) => DONE,
             Err(_) => FAILED,
         },
-        Err(_) => FAILED,
+        Err(failure) => {
+            let _ = eprintln!(rt; "sfbench: {failure}");
+            FAILED
+        }
     }
+}
+
+/// The figures of the run that is asked for, as they are printed.
+fn figures(rt: &HostRuntime, options: &Options) -> Result<String, Failure> {
+    let alloc = rt.alloc();
+    let printed = if options.threads {
+        let figures = bench_threads::run(rt, alloc, options)?;
+        bench_threads::printed(alloc, options, &figures)
+    } else {
+        let figures = bench_runs::run(rt, options)?;
+        bench_runs::printed(alloc, options, &figures)
+    };
+    printed.or(Err(Failure::Memory))
 }
