@@ -10,7 +10,8 @@ use std::time::Duration;
 const TITLES: &str = "phase              seconds   rows a second\n";
 
 /// What stands above those of the writers.
-const WRITERS: &str = "writers            seconds    a second   longest transaction ms   longest call ms\n";
+const WRITERS: &str =
+    "writers            seconds    a second   longest transaction ms   longest call ms\n";
 
 /// What stands below the figures.
 const END: &str = "each index has the pairs that the table gives\n";
@@ -117,7 +118,12 @@ fn add_record(
     spent: Duration,
     count: u64,
 ) -> Result<(), AllocError> {
-    write!(text, "{name},{}.{:09},{count}", spent.as_secs(), spent.subsec_nanos())
+    write!(
+        text,
+        "{name},{}.{:09},{count}",
+        spent.as_secs(),
+        spent.subsec_nanos()
+    )
 }
 
 fn add_writers(text: &mut String, name: &str, written: &Written) -> Result<(), AllocError> {

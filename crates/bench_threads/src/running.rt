@@ -20,8 +20,8 @@ use std::sync::Wait;
 use std::thread::{JoinHandle, Scope, Threads, scope, scope_env, sleep};
 use std::time::Duration;
 
-/// How long the writers write before the build.
-const ALONE: Duration = Duration::from_secs(2);
+/// How many seconds the writers write before the build.
+const ALONE: u64 = 2;
 
 /// How often a build tries its switch before it is given up.
 const TRIES: u32 = 1_000_000;
@@ -69,7 +69,7 @@ where
     let (table, ends) = parts.open::<T>();
     let figures = measure(rt, alloc, &table, ends, options);
     let mut live = table.close(Vec::new(alloc)).live;
-    compare_all(alloc, &mut live, options)?;
+    compare_all(alloc, &mut live)?;
     figures
 }
 
@@ -127,7 +127,16 @@ where
     let shared = &course;
     let (told, met) = scope(scope_env(), rt, move |scope| {
         let mut handles = handles;
-        let started = start(scope, rt, alloc, table, shared, options, pages, &mut handles);
+        let started = start(
+            scope,
+            rt,
+            alloc,
+            table,
+            shared,
+            options,
+            pages,
+            &mut handles,
+        );
         let told = match started {
             Ok(()) => build_beside(rt, alloc, table, ends, options, shared),
             Err(failure) => Err(failure),
@@ -200,7 +209,7 @@ where
     let since = now(rt)?;
     let before = course.ended();
     if options.writers > 0 {
-        sleep(rt, ALONE);
+        sleep(rt, Duration::from_secs(ALONE));
     }
     let before = written(elapsed(rt, since)?, course.ended() - before);
     course.go_to(Stage::During);
@@ -261,11 +270,7 @@ fn are_ready(verdicts: &[Outcome]) -> Result<(), Failure> {
 }
 
 /// Compares each index with what the table gives.
-fn compare_all<T: Opened>(
-    alloc: Global,
-    live: &mut Live<T>,
-    options: &Options,
-) -> Result<(), Failure> {
+fn compare_all<T: Opened>(alloc: Global, live: &mut Live<T>) -> Result<(), Failure> {
     for index in 0..live.ready().len() {
         match compare(alloc, live, index) {
             Ok(None) => {}
@@ -273,7 +278,6 @@ fn compare_all<T: Opened>(
             Err(fault) => return Err(Failure::Refused("the pairs at rest", fault)),
         }
     }
-    let _ = options;
     Ok(())
 }
 

@@ -62,6 +62,7 @@ impl Met {
 }
 
 /// A session that writes, and what it met.
+#[derive(Drop)]
 struct Writer<'a, 't, T: Opened> {
     alloc: Global,
     session: Session<'t, T>,
@@ -182,4 +183,3 @@ impl<T: Opened> Writer<'_, '_, T> {
         Ok(())
     }
 }
-
