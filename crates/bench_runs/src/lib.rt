@@ -29,7 +29,7 @@ pub use command_line::read;
 pub use failure::Failure;
 pub use look_ups::first_difference;
 pub use options::Options;
-pub use peak::{peak_in, read as peak};
+pub use peak::{peak_in, read as read_peak};
 pub use record::Figures;
 pub use report::{add_number, printed};
 pub use rows::random_row;

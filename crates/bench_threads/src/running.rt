@@ -6,7 +6,7 @@ use crate::course::{Course, Stage};
 use crate::figures::{Figures, Written};
 use crate::filling::fill;
 use crate::writer::{Met, Pages, write_on};
-use bench_runs::{Failure, Options, first_difference, parts, peak, plan, schema, spec, spools};
+use bench_runs::{Failure, Options, first_difference, parts, plan, read_peak, schema, spec, spools};
 use builder_core::{Ends, Live};
 use crew::{Gate, Opened, Point, Table, TableParts, build};
 use heap_log::Outcome;
@@ -221,7 +221,7 @@ where
     Ok(Figures {
         fill: Duration::ZERO,
         build: spent,
-        peak: peak(rt),
+        peak: read_peak(rt),
         before,
         during,
     })
