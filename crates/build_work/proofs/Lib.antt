@@ -4,12 +4,14 @@ pub mod AtWork
 pub mod Beginning
 pub mod BroughtHome
 pub mod Columns
+pub mod ColumnsApart
 pub mod Equipping
 pub mod HandedKept
 pub mod Kept
 pub mod LeftBeside
 pub mod LentBack
 pub mod LoadedKept
+pub mod LoadsApart
 pub mod Looked
 pub mod Looks
 pub mod Merges

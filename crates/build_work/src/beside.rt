@@ -4,6 +4,7 @@ ghost use Rattle.std.specs.List.{list_all};
 ghost use Rattle.building.specs.SpoolValue.{spool_value};
 ghost use Rattle.build_work.specs.BuildingValue.{fresh, given_up, intakes, IsUnloaded};
 ghost use Rattle.build_work.specs.Holding.{all_spools, lent_spools, spools_state};
+ghost use Rattle.build_work.specs.IndexLoads.{CanLoadAll, HasLoadedAll, LoadsStopped};
 ghost use Rattle.build_work.specs.Keeping.{AreWorkers, KeepsWork};
 ghost use Rattle.catch_up.specs.Built.{told_to};
 ghost use Rattle.build_work.specs.Equipped.{HasOwnSpools, HasRoomFor, IsFresh, IsNewMaker};
@@ -12,6 +13,8 @@ ghost use Rattle.build_work.specs.Working.{CanApply, CanHandOver, CanLoad, Count
 use crate::ends::Ends;
 use crate::equipment::{Equipment, equip};
 use crate::index_work::IndexWork;
+use crate::load_runner::LoadRunner;
+use crate::loads::{install, load_each};
 use crate::returning::{bring_home, take_back};
 use crate::rings::laws_of;
 use crate::sorted::sorted_index;
@@ -280,6 +283,32 @@ impl<S: Spool, T: Table> Building<S, T> {
             applied: 0,
         };
         Ok(count)
+    }
+
+    /// Puts the pairs of all indexes in order, of which none is yet, each by itself: the runner may let them run side by side. Want of memory spoils
+    /// the build, and may lose some of the pairs.
+    pub fn load_all<L: LoadRunner>(&mut self, alloc: Global, runner: &mut L) -> Result<(), Fault>
+    where
+        S: Send,
+        requires { CanLoadAll self.old }
+        ensures loaded { OnOk result (HasLoadedAll self.old self.new) }
+        ensures spoiled { IfErr result (λ fault. LoadsStopped self.old fault self.new) }
+        ensures memory { IfErr result (λ fault. fault ≡ Fault.Memory) }
+    {
+        let Some(work) = &mut self.work else {
+            unreachable!()
+        };
+        let workers = self.workers.len();
+        match load_each(alloc, &mut self.spools, work, workers, runner) {
+            Ok(loads) => {
+                install(loads, &mut work.indexes);
+                Ok(())
+            }
+            Err(fault) => {
+                work.spoiled = Some(fault);
+                Err(fault)
+            }
+        }
     }
 
     /// Looks into the ring of an index's side-file, and answers how many entries it has seen there. It needs no lock: [`Building::apply`]
