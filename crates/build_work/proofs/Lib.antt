@@ -10,8 +10,11 @@ pub mod HandedKept
 pub mod Kept
 pub mod LeftBeside
 pub mod LentBack
+pub mod LoadRan
+pub mod LoadedAll
 pub mod LoadedKept
 pub mod LoadsApart
+pub mod LoadsDone
 pub mod Looked
 pub mod Looks
 pub mod Merges

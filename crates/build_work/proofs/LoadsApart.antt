@@ -1,6 +1,7 @@
 -- The spools of each index are taken out for a load by itself, and put back.
-use Rattle.std.proofs.Common.{◌≡◌, ℕ, zero, suc, ◌+◌, ◌-◌, ◌<◌, List, [], ◌∷◌, ◌++◌, All, length, map, set, take, drop, Bool, Option, Some, None, refl, sym, ap, ◌∙◌, subst, arith}
+use Rattle.std.proofs.Common.{◌≡◌, ℕ, zero, suc, ◌+◌, ◌-◌, ◌<◌, List, [], ◌∷◌, ◌++◌, All, length, length-append, map, set, take, drop, Bool, Option, Some, None, refl, sym, ap, ap₂, ◌∙◌, subst, arith}
 use Rattle.std.specs.List.{IsDistinct, slice_get}
+use Rattle.std.proofs.lemmas.List.{length-set}
 use Rattle.std.proofs.lemmas.List.Elements.{All-nil}
 use Rattle.std.proofs.lemmas.Option.{same_Some}
 use Rattle.keybytes.specs.Keys.{KeySpecValue}
@@ -9,9 +10,10 @@ use Rattle.spool_ledger.specs.Accounts.{Stake}
 use Rattle.run_spool.specs.Spools.{AreSorted, all_pairs}
 use Rattle.run_merge.specs.Merging.{all_runs}
 use Rattle.building.specs.SpoolValue.{SpoolValue, runs_of, spool_value}
-use Rattle.build_work.specs.BuildingValue.{WorkValue, is_unique}
+use Rattle.catch_up.specs.Built.{BuiltValue}
+use Rattle.build_work.specs.BuildingValue.{IndexValue, WorkValue, is_unique}
 use Rattle.build_work.specs.Columns.{column, other_columns}
-use Rattle.build_work.specs.IndexLoads.{IndexLoadValue, IsLoadable, load_at}
+use Rattle.build_work.specs.IndexLoads.{IndexLoadValue, IsLoadable, index_from, load_at}
 use Rattle.build_work.specs.Keeping.{AreEachOnce}
 use Rattle.build_work.proofs.Columns.{all_but_map, every_map}
 use Rattle.build_work.proofs.ColumnsApart.{column_later}
@@ -59,13 +61,30 @@ all_pushed f (y ∷ ys) (suc k) x many all is zero less = all 0 (omega arith)
 all_pushed f (y ∷ ys) (suc k) x many all is (suc i) less =
     all_pushed (λ j. f (suc j)) ys k x (omega (arith, many)) (λ j few. all (suc j) (omega (arith, few))) is i (omega (arith, less))
 
--- the last load that has its spools gives them away
-pub one_less :
-    {X : Type 0} (f : X → X) (xs : List X) (a : ℕ) (x : X) → slice_get xs a ≡ Some x
-    → set (take (suc a) xs ++ map f (drop (suc a) xs)) a (f x) ≡ take a xs ++ map f (drop a xs)
-one_less f [] a x at = absurd (cc)
-one_less f (y ∷ ys) zero x at = ap (λ z. f z ∷ map f ys) (sym (same_Some y x at))
-one_less f (y ∷ ys) (suc a) x at = ap (λ l. y ∷ l) (one_less f ys a x at)
+-- of two lists as long the last place that is still the second one's becomes what f makes of the first one's
+pub one_changed :
+    {X Y : Type 0} (f : X → Y) (xs : List X) (ys : List Y) (a : ℕ) (x : X) → slice_get xs a ≡ Some x → length ys ≡ length xs
+    → set (take (suc a) ys ++ map f (drop (suc a) xs)) a (f x) ≡ take a ys ++ map f (drop a xs)
+one_changed f [] ys a x at same = absurd (cc)
+one_changed f (z ∷ zs) [] a x at same = absurd (omega (arith, same))
+one_changed f (z ∷ zs) (y ∷ ys) zero x at same = ap (λ w. f w ∷ map f zs) (sym (same_Some z x at))
+one_changed f (z ∷ zs) (y ∷ ys) (suc a) x at same = ap (λ l. y ∷ l) (one_changed f zs ys a x at (omega (arith, same)))
+
+-- the last one of a beginning
+pub last_of_front :
+    {X : Type 0} (front all : List X) (x : X) (n : ℕ) → front ++ x ∷ [] ≡ take n all
+    → (front ≡ take (length front) all) × (slice_get all (length front) ≡ Some x)
+last_of_front [] [] x zero is = absurd (cc)
+last_of_front [] [] x (suc n) is = absurd (cc)
+last_of_front [] (y ∷ ys) x zero is = absurd (cc)
+last_of_front [] (y ∷ ys) x (suc n) is = (refl, let e : x ≡ y = cc in ap (λ z. Some z) (sym e))
+last_of_front (z ∷ zs) [] x zero is = absurd (cc)
+last_of_front (z ∷ zs) [] x (suc n) is = absurd (cc)
+last_of_front (z ∷ zs) (y ∷ ys) x zero is = absurd (cc)
+last_of_front (z ∷ zs) (y ∷ ys) x (suc n) is =
+    let first : z ≡ y = cc in
+    let rest = last_of_front zs ys x n (let e : zs ++ x ∷ [] ≡ take n ys = cc in e) in
+    (ap₂ ◌∷◌ first rest.0, rest.1)
 
 -- until then it is the one that was lent
 pub still_there : {X : Type 0} (f : X → X) (xs : List X) (a : ℕ) (x : X) → slice_get (take (suc a) xs ++ map f (drop (suc a) xs)) a ≡ Some x → slice_get xs a ≡ Some x
@@ -109,3 +128,23 @@ module _
 
   pub own_values : map (spool_value runs open_run stake) own ≡ column k n (map (spool_value runs open_run stake) all)
   own_values = ap (map (spool_value runs open_run stake)) is ∙ sym (every_map (spool_value runs open_run stake) (n - 1) k all)
+
+-- the last index that has nothing gets what its load made
+module _
+    (loads old_loads front : List IndexLoadValue) (indexes old : List IndexValue) (load : IndexLoadValue) (place : ℕ) (made : Option BuiltValue)
+    (popped : old_loads ≡ front ++ load ∷ []) (before : old_loads ≡ take (length old_loads) loads)
+    (done : old ≡ take (length old_loads) indexes ++ map index_from (drop (length old_loads) loads)) (many : length old ≡ length loads)
+    (same : length indexes ≡ length loads) (at : place ≡ length front) (is : made ≡ load.built) where
+  pub installed :
+      (front ≡ take (length front) loads)
+      × (set old place (record { built = made; applied = 0 }) ≡ take (length front) indexes ++ map index_from (drop (length front) loads))
+      × (length (set old place (record { built = made; applied = 0 })) ≡ length loads)
+  installed =
+      let last = last_of_front front loads load (length old_loads) (sym popped ∙ before) in
+      let one : length old_loads ≡ suc (length front) = ap length popped ∙ length-append front (load ∷ []) ∙ omega arith in
+      let value : record { built = made; applied = 0 } ≡ index_from load = ap (λ (b : Option BuiltValue). record { built = b; applied = 0 }) is in (
+        last.0,
+        ap₂ (set old) at value ∙ ap (λ (l : List IndexValue). set l (length front) (index_from load))
+            (done ∙ ap (λ n. take n indexes ++ map index_from (drop n loads)) one) ∙ one_changed index_from loads indexes (length front) load last.1 same,
+        length-set old place (record { built = made; applied = 0 }) ∙ many,
+      )

@@ -1,6 +1,6 @@
 -- Loads of a build's indexes, each by itself.
-use Rattle.std.specs.Prelude.{◌≡◌, ℕ, suc, Bool, List, [], ◌∷◌, length, map, true, Option, Some, None, IfSome, IsPermutation}
-use Rattle.std.specs.List.{All, slice_get}
+use Rattle.std.specs.Prelude.{◌≡◌, ℕ, suc, ◌*◌, Bool, List, [], ◌∷◌, length, map, true, Option, Some, None, IfSome, IsPermutation}
+use Rattle.std.specs.List.{All, AllZip, slice_get}
 use Rattle.keybytes.specs.Faults.{first_cause}
 use Rattle.keybytes.specs.Pairs.{AreOrdered}
 use Rattle.keybytes.specs.declared.fault.Fault.{Fault}
@@ -70,6 +70,15 @@ pub record IsDoneAt (work : WorkValue) (spools : List SpoolValue) (index : ℕ) 
 pub record AreDone (work : WorkValue) (spools : List SpoolValue) (loads : List IndexLoadValue) : Type 0 where
   pub many : length loads ≡ length work.specs
   pub each : (index : ℕ) (load : IndexLoadValue) → slice_get loads index ≡ Some load → IsDoneAt work spools index load
+
+-- loads went on and gave their spools back, worker by worker; the first fault is told
+pub record HaveRun (workers : ℕ) (old new : List IndexLoadValue) (fault : Option Fault) (spools : List SpoolValue) : Type 0 where
+  pub after : List IndexLoadValue
+  pub ran : AllZip HasRun old after
+  pub left : new ≡ map without_spools after
+  pub first : fault ≡ first_fault_of after
+  pub back : (index : ℕ) (load : IndexLoadValue) → slice_get after index ≡ Some load → column index (length after) spools ≡ load.spools
+  pub many : length spools ≡ workers * length after
 
 -- the index of a load to which no entry was applied
 abbrev pub index_from : IndexLoadValue → IndexValue

@@ -299,16 +299,15 @@ impl<S: Spool, T: Table> Building<S, T> {
             unreachable!()
         };
         let workers = self.workers.len();
-        match load_each(alloc, &mut self.spools, work, workers, runner) {
-            Ok(loads) => {
-                install(loads, &mut work.indexes);
-                Ok(())
-            }
+        let loads = match load_each(alloc, &mut self.spools, work, workers, runner) {
+            Ok(loads) => loads,
             Err(fault) => {
                 work.spoiled = Some(fault);
-                Err(fault)
+                return Err(fault);
             }
-        }
+        };
+        install(loads, &mut work.indexes);
+        Ok(())
     }
 
     /// Looks into the ring of an index's side-file, and answers how many entries it has seen there. It needs no lock: [`Building::apply`]

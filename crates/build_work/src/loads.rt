@@ -5,7 +5,7 @@ ghost use Rattle.building.specs.SpoolValue.{ended_spool, spool_value, stakes_of}
 ghost use Rattle.build_work.specs.BuildingValue.{IndexValue, IsUnloaded};
 ghost use Rattle.build_work.specs.Columns.{column};
 ghost use Rattle.build_work.specs.Equipped.{HasRoomFor};
-ghost use Rattle.build_work.specs.IndexLoads.{AreDone, IndexLoadValue, IsLoadable, first_fault_of, index_from, load_at, without_spools};
+ghost use Rattle.build_work.specs.IndexLoads.{AreDone, HaveRun, IndexLoadValue, IsLoadable, first_fault_of, index_from, load_at, without_spools};
 
 use crate::index_load::IndexLoad;
 use crate::index_work::IndexWork;
@@ -36,12 +36,28 @@ pub fn load_each<S: Spool + Send, L: LoadRunner>(
     ensures memory { IfErr result (λ fault. fault ≡ Fault.Memory) }
 {
     let mut loads = take_loads(alloc, spools, work, workers)?;
-    runner.run(&mut loads);
-    put_spools_back(spools, &mut loads, workers);
-    match first_fault(&loads) {
+    match run_each(spools, &mut loads, workers, runner) {
         None => Ok(loads),
         Some(fault) => Err(fault),
     }
+}
+
+/// Lets all loads run, and puts their spools back; answers the fault of the first that was refused.
+fn run_each<S: Spool + Send, L: LoadRunner>(
+    spools: &mut Vec<S>,
+    loads: &mut [IndexLoad<S>],
+    workers: usize,
+    runner: &mut L,
+) -> Option<Fault>
+    requires none { spools.old.items ≡ [] }
+    requires own { All (λ load. length load.spools ≡ workers) loads.old }
+    requires room { workers * length loads.old ≤ vec_capacity spools.old }
+    ensures ran { HaveRun workers loads.old loads.new result (map (spool_value S.runs S.open_run S.stake) spools.new.items) }
+    ensures capacity { vec_capacity spools.old ≤ vec_capacity spools.new }
+{
+    runner.run(loads);
+    put_spools_back(spools, loads, workers);
+    first_fault(loads)
 }
 
 /// Gives each index what its load made.
@@ -49,13 +65,12 @@ pub fn install<S: Spool>(loads: Vec<IndexLoad<S>>, indexes: &mut Vec<IndexWork>)
     requires { length loads.items ≡ length indexes.old.items }
     ensures { indexes.new.items ≡ map index_from loads.items }
 {
-    let mut place = 0;
-    for load in loads {
-        indexes[place] = IndexWork {
+    let mut loads = loads;
+    while let Some(load) = loads.pop() {
+        indexes[loads.len()] = IndexWork {
             built: load.into_built(),
             applied: 0,
         };
-        place += 1;
     }
 }
 
@@ -134,11 +149,7 @@ fn fill_loads<S: Spool>(
 }
 
 /// Puts the spools of all loads back, in the order in which they were taken. There is room for them.
-fn put_spools_back<S: Spool>(
-    spools: &mut Vec<S>,
-    loads: &mut [IndexLoad<S>],
-    workers: usize,
-)
+fn put_spools_back<S: Spool>(spools: &mut Vec<S>, loads: &mut [IndexLoad<S>], workers: usize)
     requires none { spools.old.items ≡ [] }
     requires own { All (λ load. length load.spools ≡ workers) loads.old }
     requires room { workers * length loads.old ≤ vec_capacity spools.old }

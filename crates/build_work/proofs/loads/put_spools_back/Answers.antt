@@ -1,9 +1,9 @@
-use Rattle.std.proofs.Common.{◌≡◌, ◌∙◌, ℕ, suc, ◌+◌, ◌-◌, ◌*◌, ◌<◌, List, Some, length, map, set, take, drop, ◌++◌, sym, ap, subst, arith}
+use Rattle.std.proofs.Common.{◌≡◌, ◌∙◌, ℕ, suc, ◌+◌, ◌-◌, ◌*◌, ◌<◌, List, Some, length, map, set, take, drop, ◌++◌, refl, sym, ap, arith}
 use Rattle.std.specs.List.{slice_get}
 use Rattle.building.specs.SpoolValue.{SpoolValue, spool_value}
 use Rattle.build_work.specs.Columns.{column}
 use Rattle.build_work.specs.IndexLoads.{IndexLoadValue, without_spools}
-use Rattle.build_work.proofs.LoadsApart.{columns_back, one_less, still_there}
+use Rattle.build_work.proofs.LoadsApart.{columns_back, one_changed, still_there}
 use Rattle.build_scan.proofs.Places.{at_index, below}
 use Rattle.build_work.proofs.loads.put_spools_back.Goals as goal
 
@@ -32,7 +32,7 @@ loop-back-preserved g c =
           (λ i l few here. kept.columns i l few (ap (λ k. slice_get loads (k + i)) one ∙ here)) j load less (ap (λ k. slice_get loads (k + j)) (sym next) ∙ there);
       loads = ap (λ l. set l a c.take_spools-own.new.self) now ∙ ap (set (take (suc a) loads ++ map without_spools (drop (suc a) loads)) a)
           (c.take_spools-own.ensures.left ∙ ap without_spools (sym c.index-loads-count.is))
-          ∙ one_less without_spools loads a it at ∙ ap (λ i. take i loads ++ map without_spools (drop i loads)) (sym next);
+          ∙ one_changed without_spools loads loads a it at refl ∙ ap (λ i. take i loads ++ map without_spools (drop i loads)) (sym next);
       room = omega (arith, kept.room, c.put_back.ensures.capacity);
       capacity = omega (arith, kept.capacity, c.put_back.ensures.capacity);
     }
