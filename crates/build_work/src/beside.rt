@@ -301,9 +301,9 @@ impl<S: Spool, T: Table> Building<S, T> {
         let workers = self.workers.len();
         let loads = match load_each(alloc, &mut self.spools, work, workers, runner) {
             Ok(loads) => loads,
-            Err(fault) => {
-                work.spoiled = Some(fault);
-                return Err(fault);
+            Err(short) => {
+                work.spoiled = Some(short);
+                return Err(short);
             }
         };
         install(loads, &mut work.indexes);

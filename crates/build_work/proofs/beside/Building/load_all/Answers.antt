@@ -14,7 +14,7 @@ pub returns-in-Err-clause-spoiled : goal.returns-in-Err-clause-spoiled
 returns-in-Err-clause-spoiled g c =
     let spool = g.S.Spool in
     let after = c.load_each.new.spools.items in
-    loads_stopped c.args.self.now _ c.in-Some.work _ c.self.view_is c.in-Some.is c.work.view_is c.in-Err.fault
+    loads_stopped c.args.self.now _ c.in-Some.work _ c.self.view_is c.in-Some.is c.work.view_is c.in-Err.short
     (map (spool_value spool.runs spool.open_run spool.stake) after) (same_seen spool.runs spool.open_run spool.stake after c.self.inside.spools.items c.load_each.ensures.stakes)
 
 pub invariant_of-self-2 : goal.invariant_of-self-2
