@@ -1,10 +1,11 @@
 //! What stands beside a table.
 ghost use Rattle.std.specs.Prelude.{◌≡◌, ◌⊎◌, ℕ, ◌+◌, ◌*◌, ◌^◌, ◌<◌, ◌≤◌, OnOk, [], All, length, map, slice_get, true, false, None, Some, IsSome, IfSome, IfOk, IfErr, OnErr, MatchOption};
-ghost use Rattle.std.specs.List.{list_all};
+ghost use Rattle.std.specs.Fn.{FnOnceReturnsAtMut};
+ghost use Rattle.std.specs.List.{AllZip, list_all};
 ghost use Rattle.building.specs.SpoolValue.{spool_value};
 ghost use Rattle.build_work.specs.BuildingValue.{fresh, given_up, intakes, IsUnloaded};
 ghost use Rattle.build_work.specs.Holding.{all_spools, lent_spools, spools_state};
-ghost use Rattle.build_work.specs.IndexLoads.{CanLoadAll, HasLoadedAll, LoadsStopped};
+ghost use Rattle.build_work.specs.IndexLoads.{CanLoadAll, HasLoadedAll, HasRun, IndexLoadValue, LoadsStopped};
 ghost use Rattle.build_work.specs.Keeping.{AreWorkers, KeepsWork};
 ghost use Rattle.catch_up.specs.Built.{told_to};
 ghost use Rattle.build_work.specs.Equipped.{HasOwnSpools, HasRoomFor, IsFresh, IsNewMaker};
@@ -12,8 +13,8 @@ ghost use Rattle.build_work.specs.Working.{CanApply, CanHandOver, CanLoad, Count
 
 use crate::ends::Ends;
 use crate::equipment::{Equipment, equip};
+use crate::index_load::IndexLoad;
 use crate::index_work::IndexWork;
-use crate::load_runner::LoadRunner;
 use crate::loads::{install, load_each};
 use crate::returning::{bring_home, take_back};
 use crate::rings::laws_of;
@@ -285,12 +286,16 @@ impl<S: Spool, T: Table> Building<S, T> {
         Ok(count)
     }
 
-    /// Puts the pairs of all indexes in order, of which none is yet, each by itself: the runner may let them run side by side. Want of memory spoils
-    /// the build, and may lose some of the pairs.
-    pub fn load_all<L: LoadRunner>(&mut self, alloc: Global, runner: &mut L) -> Result<(), Fault>
-    where
-        S: Send,
-        requires { CanLoadAll self.old }
+    /// Puts the pairs of all indexes in order, of which none is yet, each by itself: the closure lets the loads run ([`IndexLoad::run`]), in any order or
+    /// side by side. Want of memory spoils the build, and may lose some of the pairs.
+    pub fn load_all<F: FnOnce(&mut [IndexLoad<S>])>(
+        &mut self,
+        alloc: Global,
+        run: F,
+    ) -> Result<(), Fault>
+        requires can { CanLoadAll self.old }
+        requires callable { F.IsAlwaysCallable run }
+        requires runs { (old new : List IndexLoadValue) → FnOnceReturnsAtMut F.FnOnce run old tt new → AllZip HasRun old new }
         ensures loaded { OnOk result (HasLoadedAll self.old self.new) }
         ensures spoiled { IfErr result (λ fault. LoadsStopped self.old fault self.new) }
         ensures memory { IfErr result (λ fault. fault ≡ Fault.Memory) }
@@ -299,7 +304,7 @@ impl<S: Spool, T: Table> Building<S, T> {
             unreachable!()
         };
         let workers = self.workers.len();
-        let loads = match load_each(alloc, &mut self.spools, work, workers, runner) {
+        let loads = match load_each(alloc, &mut self.spools, work, workers, run) {
             Ok(loads) => loads,
             Err(short) => {
                 work.spoiled = Some(short);

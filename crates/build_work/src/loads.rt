@@ -1,33 +1,35 @@
 //! The loads of all indexes of a build, each by itself: their spools are taken out of the build's, and come back.
-ghost use Rattle.std.specs.Prelude.{◌≡◌, ℕ, ◌+◌, ◌*◌, ◌<◌, ◌≤◌, [], All, length, map, replicate, slice_get, None, Some, IfOk, IfErr, IfSome, OnOk, OnErr, vec_capacity};
+ghost use Rattle.std.specs.Prelude.{◌≡◌, ℕ, List, ◌+◌, ◌*◌, ◌<◌, ◌≤◌, [], All, length, map, replicate, slice_get, None, Some, IfOk, IfErr, IfSome, OnOk, OnErr, vec_capacity};
+ghost use Rattle.std.specs.Fn.{FnOnceReturnsAtMut};
 ghost use Rattle.std.specs.List.{AllZip};
 ghost use Rattle.building.specs.SpoolValue.{ended_spool, spool_value, stakes_of};
 ghost use Rattle.build_work.specs.BuildingValue.{IndexValue, IsUnloaded};
 ghost use Rattle.build_work.specs.Columns.{column};
 ghost use Rattle.build_work.specs.Equipped.{HasRoomFor};
-ghost use Rattle.build_work.specs.IndexLoads.{AreDone, HaveRun, IndexLoadValue, IsLoadable, first_fault_of, index_from, load_at, without_spools};
+ghost use Rattle.build_work.specs.IndexLoads.{AreDone, HasRun, HaveRun, IndexLoadValue, IsLoadable, first_fault_of, index_from, load_at, without_spools};
 
 use crate::index_load::IndexLoad;
 use crate::index_work::IndexWork;
-use crate::load_runner::LoadRunner;
 use crate::merging::{move_out, put_back};
 use crate::work::Work;
 use keybytes::Fault;
 use run_spool::Spool;
 use std::alloc::Global;
 
-/// Puts the pairs of all indexes in order, each by itself, as the runner lets them run. Want of memory may lose some of the pairs; the spools come back in any
+/// Puts the pairs of all indexes in order, each by itself, as the closure lets them run. Want of memory may lose some of the pairs; the spools come back in any
 /// case.
-pub fn load_each<S: Spool + Send, L: LoadRunner>(
+pub fn load_each<S: Spool, F: FnOnce(&mut [IndexLoad<S>])>(
     alloc: Global,
     spools: &mut Vec<S>,
     work: &Work,
     workers: usize,
-    runner: &mut L,
+    run: F,
 ) -> Result<Vec<IndexLoad<S>>, Fault>
     requires all { length spools.old.items ≡ workers * length work.now.specs }
     requires loadable { (index : ℕ) → index < length work.now.specs
         → IsLoadable (column index (length work.now.specs) (map (spool_value S.runs S.open_run S.stake) spools.old.items)) }
+    requires callable { F.IsAlwaysCallable run }
+    requires runs { (old new : List IndexLoadValue) → FnOnceReturnsAtMut F.FnOnce run old tt new → AllZip HasRun old new }
     ensures done { IfOk result (λ loads. AreDone work.now (map (spool_value S.runs S.open_run S.stake) spools.old.items) loads.items) }
     ensures ended { OnOk result (map (spool_value S.runs S.open_run S.stake) spools.new.items
         ≡ map ended_spool (map (spool_value S.runs S.open_run S.stake) spools.old.items)) }
@@ -36,26 +38,28 @@ pub fn load_each<S: Spool + Send, L: LoadRunner>(
     ensures memory { IfErr result (λ fault. fault ≡ Fault.Memory) }
 {
     let mut loads = take_loads(alloc, spools, work, workers)?;
-    match run_each(spools, &mut loads, workers, runner) {
+    match run_each(spools, &mut loads, workers, run) {
         None => Ok(loads),
         Some(fault) => Err(fault),
     }
 }
 
 /// Lets all loads run, and puts their spools back; answers the fault of the first that was refused.
-fn run_each<S: Spool + Send, L: LoadRunner>(
+fn run_each<S: Spool, F: FnOnce(&mut [IndexLoad<S>])>(
     spools: &mut Vec<S>,
     loads: &mut [IndexLoad<S>],
     workers: usize,
-    runner: &mut L,
+    run: F,
 ) -> Option<Fault>
     requires none { spools.old.items ≡ [] }
     requires own { All (λ load. length load.spools ≡ workers) loads.old }
     requires room { workers * length loads.old ≤ vec_capacity spools.old }
+    requires callable { F.IsAlwaysCallable run }
+    requires runs { (old new : List IndexLoadValue) → FnOnceReturnsAtMut F.FnOnce run old tt new → AllZip HasRun old new }
     ensures ran { HaveRun workers loads.old loads.new result (map (spool_value S.runs S.open_run S.stake) spools.new.items) }
     ensures capacity { vec_capacity spools.old ≤ vec_capacity spools.new }
 {
-    runner.run(loads);
+    run(loads);
     put_spools_back(spools, loads, workers);
     first_fault(loads)
 }

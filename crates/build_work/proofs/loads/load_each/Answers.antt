@@ -18,7 +18,7 @@ lent_whole (x ∷ xs) (y ∷ ys) zero same is = absurd (cc)
 lent_whole (x ∷ xs) (y ∷ ys) (suc n) same is = ap (λ l. x ∷ l) (lent_whole xs ys n (omega (arith, same)) (omega (arith, is)))
 
 pub run_each-requires-clause-own : goal.run_each-requires-clause-own
-run_each-requires-clause-own g c = λ κs inside.
+run_each-requires-clause-own g c =
     let value = spool_value g.S.Spool.runs g.S.Spool.open_run g.S.Spool.stake in
     let items = c.args.spools.now.items in
     let took = c.in_ok-loads.ensures in

@@ -26,7 +26,7 @@ invariant_of-self-2 g c =
     let after = c.load_each.new.spools.items in
     let same = stakes_beside workers (map value after) (map value items) (same_seen spool.runs spool.open_run spool.stake after items c.load_each.ensures.stakes) in
     let many = as_many (all_spools workers (map value after)) (all_spools workers (map value items)) same in
-    let can = can_load_all c.args.self.now _ c.in-Some.work _ c.self.view_is c.in-Some.is c.work.view_is c.self.invariant.6 c.requires in
+    let can = can_load_all c.args.self.now _ c.in-Some.work _ c.self.view_is c.in-Some.is c.work.view_is c.self.invariant.6 c.requires.can in
     let long : length (map value after) ≡ length (map value items) = ap length c.in-Ok.ensures.ended ∙ length-map (map value items) ended_spool in
     let kept = all_kept workers (map take_end c.self.inside.side_ends.items) (map value items) c.in-Some.work can.kept can.loads can.none c.in-Ok.loads.items c.in-Ok.ensures.done
     (map value after) long in (
