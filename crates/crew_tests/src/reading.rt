@@ -45,7 +45,7 @@ fn are_in_slots(index: &(KeySpec, Vec<Pair>), slots: &[u16]) -> bool {
         && pairs.iter().zip(slots).all(|(pair, slot)| pair.rid.page == 0 && pair.rid.slot == *slot)
 }
 
-/// Builds beside the rows 5 and 3, and inserts 4 then: whether both are reported, and the session reads all three.
+/// Inserts the keys 5 and 3, builds, and then inserts 4: whether the report has the first two, and the session reads all three.
 fn are_read<T: Opened + Send + Sync, R: Threads + Wait + Sync>(
     rt: &R,
     alloc: Global,
