@@ -250,9 +250,5 @@ fn apply_seen<S: Spool, T: Opened>(
     ensures memory { IfErr result (λ fault. fault ≡ Fault.Memory) }
 {
     let seen = building.look_for_entries(index);
-    let Some(work) = building.work() else {
-        unreachable!()
-    };
-    let count = seen.min(usize::MAX - work.applied(index));
-    building.apply(index, count)
+    building.apply(index, seen)
 }
