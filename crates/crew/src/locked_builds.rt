@@ -4,7 +4,7 @@ ghost use Rattle.keybytes.specs.Keys.{KeySpecValue};
 ghost use Rattle.keybytes.specs.declared.fault.Fault.{Fault};
 ghost use Rattle.build_work.specs.Lent.{CanLend};
 ghost use Rattle.ready_indexes.specs.Following.{indexes_of};
-ghost use Rattle.crew.specs.Reports.{ArePairsAtRest, EndsFor, IsOther, IsReport};
+ghost use Rattle.crew.specs.Reports.{EndsFor, IsOther, IsReport, lists_in};
 ghost use Rattle.crew.specs.Seats.{CanLoadEach, GoesOnWith, HasPairsLeft, stakes_beside};
 
 use crate::locked::{Locked, copied};
@@ -80,9 +80,8 @@ impl<T: Opened> Locked<T> {
         keep_pairs: bool,
         building: &mut Building<S, T>,
     ) -> Result<Report<T>, Fault>
-        ensures report { IfOk result (λ report. IfSome building.old.work (λ w. IsReport w.specs report.receipt report.verdicts)) }
-        ensures pairs { IfOk result (λ report. IfSome building.old.work (λ w. IfSome report.pairs
-            (λ pairs. ArePairsAtRest w.specs report.receipt (map (λ it. it.items) pairs.items)))) }
+        ensures report { IfOk result (λ report. IfSome building.old.work
+            (λ w. IsReport w.specs report.receipt report.verdicts (lists_in report.pairs))) }
         ensures log { IfOk result (λ report. report.receipt ≡ self.new.state.heap.log) }
         ensures same { OnErr result (self.new.state.heap.log ≡ self.old.state.heap.log) }
         ensures stakes { stakes_beside building.new ≡ stakes_beside building.old }
@@ -120,7 +119,7 @@ impl<T: Opened> Locked<T> {
 
     /// Copies of the pairs of the ready indexes from that number on, if they are asked for and memory is there.
     fn pairs_from(&self, alloc: Global, keep_pairs: bool, first: usize) -> Option<Vec<Vec<Pair>>>
-        ensures { IfSome result (λ pairs. map (λ it. it.items) pairs.items ≡ map (λ it. it.pairs) (drop first self.now.state.ready)) }
+        ensures { IfSome (lists_in result) (λ lists. lists ≡ map (λ it. it.pairs) (drop first self.now.state.ready)) }
     {
         if !keep_pairs {
             return None;
