@@ -160,7 +160,7 @@ fn ready_in(verdicts: &[Outcome]) -> Result<usize, Fault> {
 }
 
 /// The pairs of the table's rows.
-fn rest_of<T: Opened>(alloc: Global, live: &mut Live<T>) -> Result<Vec<Pair>, Fault> {
+pub fn rest_of<T: Opened>(alloc: Global, live: &mut Live<T>) -> Result<Vec<Pair>, Fault> {
     let spec = spec(alloc, false)?;
     if !spec.is_of(live.heap().schema()) {
         return Err(Fault::BadColumn);
