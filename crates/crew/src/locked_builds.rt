@@ -8,7 +8,7 @@ ghost use Rattle.crew.specs.Reports.{EndsFor, IsOther, IsReport, lists_in};
 ghost use Rattle.crew.specs.Seats.{CanLoadEach, GoesOnWith, HasPairsLeft, stakes_beside};
 
 use crate::locked::{Locked, copied};
-use crate::{Opened, Receipt, Report};
+use crate::{Opened, Progress, Receipt, Report};
 use builder_core::{Building, Plan, ReadyIndexes};
 use heap_table::PageImage;
 use keybytes::{Fault, Pair};
@@ -29,7 +29,9 @@ impl<T: Opened> Locked<T> {
         ensures not_busy { IfErr result (λ fault. (count : ℕ) → fault ≢ Fault.Busy count) }
         ensures log { self.new.state.heap.log ≡ self.old.state.heap.log }
     {
-        self.live.start(plan, building)
+        let number = self.live.start(plan, building)?;
+        self.progress = Progress::started(self.live.heap().pages());
+        Ok(number)
     }
 
     /// The lowest page of the range that is left is copied for the worker, in one step.
@@ -42,7 +44,9 @@ impl<T: Opened> Locked<T> {
         ensures other { IfErr result (λ back. IsOther back.1) }
         ensures log { self.new.state.heap.log ≡ self.old.state.heap.log }
     {
-        self.live.scan_step(range, worker, image)
+        let page = self.live.scan_step(range, worker, image)?;
+        self.progress.note_page();
+        Ok(page)
     }
 
     /// All pages were copied and their pairs made: the workers hand their spools over to the indexes.
@@ -53,7 +57,9 @@ impl<T: Opened> Locked<T> {
         ensures other { IfErr result (λ fault. IfSome building.old.work (λ w. w.spoiled ≡ None → IsOther fault)) }
         ensures log { self.new.state.heap.log ≡ self.old.state.heap.log }
     {
-        self.live.end_scan(building)
+        self.live.end_scan(building)?;
+        self.progress.note_scanned();
+        Ok(())
     }
 
     /// Moves the next entries of an index's side-file into its ring.
@@ -61,7 +67,9 @@ impl<T: Opened> Locked<T> {
         ensures other { IfErr result IsOther }
         ensures log { self.new.state.heap.log ≡ self.old.state.heap.log }
     {
-        self.live.feed(index, most)
+        let fed = self.live.feed(index, most)?;
+        self.progress.note_fed(fed);
+        Ok(fed)
     }
 
     /// Gives the build up, if one runs.
@@ -70,6 +78,7 @@ impl<T: Opened> Locked<T> {
         ensures log { self.new.state.heap.log ≡ self.old.state.heap.log }
     {
         self.live.give_up();
+        self.progress = Progress::idle();
     }
 
     /// Switches the indexes in, and answers what the build reports, with the pairs if they are asked for. Where busy transactions keep it waiting
@@ -92,6 +101,7 @@ impl<T: Opened> Locked<T> {
         let first = self.live.ready().len();
         match self.live.switch_in(building) {
             Ok(switched) => {
+                self.progress = Progress::idle();
                 self.keeper.append(switched.number, &switched.record);
                 let receipt = Receipt::new(self.keeper.tell(), switched.record);
                 let pairs = self.pairs_from(alloc, keep_pairs, first);

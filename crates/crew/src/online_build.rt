@@ -13,6 +13,7 @@ use keybytes::Fault;
 use run_spool::Spool;
 use std::alloc::Global;
 use std::sync::Wait;
+use std::thread;
 use std::thread::Threads;
 
 /// The most entries of an index that are fed in one hold of the lock.
@@ -132,13 +133,15 @@ fn finish<S: Spool, T: Opened, G: Gate, R: Wait>(
     ensures stakes { stakes_beside building.new ≡ stakes_beside building.old }
 {
     table.lock().lock(rt).end_scan(building)?;
-    load_all(alloc, plan, gate, building)?;
+    load_all(rt, alloc, table, plan, gate, building)?;
     take_turns(rt, alloc, table, plan, gate, building)
 }
 
 /// Puts the pairs of each index in order.
-fn load_all<S: Spool, T: Opened, G: Gate>(
+fn load_all<S: Spool, T: Opened, G: Gate, R: Wait>(
+    rt: &R,
     alloc: Global,
+    table: &Table<T>,
     plan: &Plan,
     gate: &G,
     building: &mut Building<S, T>,
@@ -150,13 +153,14 @@ fn load_all<S: Spool, T: Opened, G: Gate>(
     ensures memory { IfErr result (λ fault. fault ≡ Fault.Memory) }
 {
     for index in 0..plan.specs.len() {
-        building.load(alloc, index)?;
+        let pairs = building.load(alloc, index)?;
+        table.lock().lock(rt).note_loaded(pairs);
         gate.at(Point::Loaded { index });
     }
     Ok(())
 }
 
-/// Takes turns until the switch decides, or the last turn has to wait as well.
+/// Takes turns until the switch decides, or the last turn has to wait as well. Other threads run in between.
 fn take_turns<S: Spool, T: Opened, G: Gate, R: Wait>(
     rt: &R,
     alloc: Global,
@@ -172,7 +176,7 @@ fn take_turns<S: Spool, T: Opened, G: Gate, R: Wait>(
 {
     for n in 1..plan.tries {
         match take_turn(rt, alloc, table, plan, gate, building, n) {
-            Err(Fault::Behind(_) | Fault::Busy(_)) => {}
+            Err(Fault::Behind(_) | Fault::Busy(_)) => thread::yield_now(),
             told => return told,
         }
     }
@@ -196,6 +200,7 @@ fn take_turn<S: Spool, T: Opened, G: Gate, R: Wait>(
     ensures ends { IfErr result (EndsFor plan.now.specs.items) }
     ensures stakes { stakes_beside building.new ≡ stakes_beside building.old }
 {
+    table.lock().lock(rt).note_try(n);
     gate.at(Point::Try { n });
     catch_up(rt, table, plan, building)?;
     table
@@ -220,7 +225,8 @@ fn catch_up<S: Spool, T: Opened, R: Wait>(
 {
     for index in 0..plan.specs.len() {
         table.lock().lock(rt).feed(index, FED_MOST)?;
-        apply_seen(plan, building, index)?;
+        let applied = apply_seen(plan, building, index)?;
+        table.lock().lock(rt).note_applied(applied);
     }
     Ok(())
 }

@@ -1,7 +1,7 @@
 //! Four sessions that write to the same rows and want the same key, while a build makes this key unique and after it.
 ghost use Rattle.std.specs.Prelude.{◌≡◌};
 
-use crate::builds::{Asked, Silent, WHOLE, plan, rest_of, spools};
+use crate::builds::{Asked, SILENT, WHOLE, plan, rest_of, spools};
 use crate::tables::{Rows, number_row, table_of};
 use crate::two_sessions::gather;
 use builder_core::{Ends, Plan};
@@ -204,7 +204,7 @@ fn built<T: Opened + Send + Sync, R: Threads + Wait + Sync>(
     spools: Vec<PlainSpool>,
     is_built: &AtomicBool,
 ) -> Result<Report<T>, BuildFault> {
-    let (_ends, _spools, told) = build(rt, alloc, table, ends, plan, spools, &Silent);
+    let (_ends, _spools, told) = build(rt, alloc, table, ends, plan, spools, &SILENT);
     is_built.store(true, Ordering::SeqCst);
     told
 }

@@ -6,7 +6,7 @@ use crate::held_spool::HeldSpool;
 use crate::overlap::Overlap;
 use crate::tables::{Rows, number_row, table_of};
 use builder_core::{Ends, Plan};
-use crew::{BuildFault, Opened, Receipt, Report, Session, Table, TableParts, build};
+use crew::{BuildFault, Opened, Phase, Receipt, Report, Session, Table, TableParts, build};
 use keybytes::Fault;
 use run_spool::PlainSpool;
 use std::alloc::Global;
@@ -41,10 +41,21 @@ fn insert<T: Opened, R: Wait>(
     Ok(())
 }
 
+/// Whether the table tells that its pages are being copied, and that entries wait.
+fn is_scanning<T: Opened, R: Wait>(rt: &R, table: &Table<T>) -> bool {
+    let progress = table.progress(rt);
+    progress.phase == Phase::Scanning
+        && progress.pages == 34
+        && progress.scanned > 0
+        && progress.entries > 0
+        && progress.loaded == 0
+}
+
 /// Inserts a row whenever somebody asks, until the build has returned.
 fn insert_when_asked<T: Opened, R: Wait>(
     rt: &R,
     alloc: Global,
+    table: &Table<T>,
     session: &mut Session<'_, T>,
     receipts: &mut Vec<Receipt<T>>,
     overlap: &Overlap,
@@ -53,6 +64,9 @@ fn insert_when_asked<T: Opened, R: Wait>(
         let asked = overlap.asked();
         if !overlap.is_answered(asked) {
             insert(rt, alloc, session, receipts)?;
+            if !is_scanning(rt, table) {
+                return Err(Fault::NotScanned(0));
+            }
             overlap.answer(asked);
         } else if overlap.is_over() {
             return Ok(());
@@ -67,11 +81,12 @@ fn insert_when_asked<T: Opened, R: Wait>(
 fn written<T: Opened, R: Wait>(
     rt: &R,
     alloc: Global,
+    table: &Table<T>,
     mut session: Session<'_, T>,
     overlap: &Overlap,
 ) -> (Vec<Receipt<T>>, Result<(), Fault>) {
     let mut receipts = Vec::new(alloc);
-    let told = insert_when_asked(rt, alloc, &mut session, &mut receipts, overlap);
+    let told = insert_when_asked(rt, alloc, table, &mut session, &mut receipts, overlap);
     (receipts, told)
 }
 
@@ -134,9 +149,12 @@ fn overlapped<T: Opened + Send + Sync, R: Threads + Wait + Sync>(
     let session = table.session(rt);
     let (written, told) = join(
         rt,
-        move || written(rt, alloc, session, overlap),
+        || written(rt, alloc, &table, session, overlap),
         || built(rt, alloc, &table, ends, plan, spools, overlap),
     );
+    if table.progress(rt).phase != Phase::Idle {
+        return Err(Fault::BuildRunning);
+    }
     pairs_in(alloc, table, written, told)
 }
 

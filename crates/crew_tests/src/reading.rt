@@ -1,7 +1,7 @@
 //! A session that reads and writes an index which a build made ready.
 ghost use Rattle.std.specs.Prelude.{◌≡◌};
 
-use crate::builds::{Asked, Silent, WHOLE, plan, spools};
+use crate::builds::{Asked, SILENT, WHOLE, plan, spools};
 use crate::tables::{Rows, number_row, table_of};
 use builder_core::Plan;
 use crew::{Opened, Session, TableParts, build};
@@ -61,7 +61,7 @@ fn are_read<T: Opened + Send + Sync, R: Threads + Wait + Sync>(
     let (table, ends) = parts.open::<T>();
     let mut session = table.session(rt);
     insert(rt, alloc, &mut session, &[5, 3])?;
-    let (_ends, _spools, told) = build(rt, alloc, &table, ends, &plan, spools, &Silent);
+    let (_ends, _spools, told) = build(rt, alloc, &table, ends, &plan, spools, &SILENT);
     let reported = match told {
         Ok(report) => report.pairs,
         Err(given_up) => return Err(given_up.0),
