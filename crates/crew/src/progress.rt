@@ -26,9 +26,18 @@ pub struct Progress {
 impl Progress {
     /// No build runs.
     pub(crate) fn idle() -> Progress {
+        Progress::with_pages(Phase::Idle, 0)
+    }
+
+    /// A build has started that copies so many pages.
+    pub(crate) fn started(pages: u32) -> Progress {
+        Progress::with_pages(Phase::Scanning, pages)
+    }
+
+    fn with_pages(phase: Phase, pages: u32) -> Progress {
         Progress {
-            phase: Phase::Idle,
-            pages: 0,
+            phase,
+            pages,
             scanned: 0,
             loaded: 0,
             pairs: 0,
@@ -36,14 +45,6 @@ impl Progress {
             tries: 0,
             busy: 0,
         }
-    }
-
-    /// A build has started that copies so many pages.
-    pub(crate) fn started(pages: u32) -> Progress {
-        let mut progress = Progress::idle();
-        progress.phase = Phase::Scanning;
-        progress.pages = pages;
-        progress
     }
 
     /// Another page is copied. Each is copied once.
