@@ -1,4 +1,4 @@
-ghost use Rattle.std.specs.Prelude.{◌≡◌, IfOk, [], ◌++◌};
+ghost use Rattle.std.specs.Prelude.{◌≡◌};
 
 use crate::overlap::Overlap;
 use keybytes::{Fault, Key, Pair, Rid};
@@ -14,7 +14,9 @@ pub struct HeldSpool<'e> {
 }
 
 impl HeldSpool<'_> {
-    fn hold_first(&mut self) {
+    fn hold_first(&mut self)
+        ensures { self.new.spool ≡ self.old.spool }
+    {
         if !self.was_held {
             self.was_held = true;
             self.overlap.hold(false);
