@@ -15,7 +15,7 @@ use Rattle.heap_log.specs.declared.outcome.Outcome.{Outcome}
 use Rattle.heap_log.specs.declared.record.LogRec.{LogRec}
 use Rattle.heap_log.specs.declared.record.LogRec.TheVariants.{Switch as Noted}
 use Rattle.heap_table.specs.HeapState.{HeapState, busy_txns}
-use Rattle.build_events.specs.BuildSteps.{CatchesUp, OnBuild, Starts, Switches, behind_refusal, build_cause, busy_refusal, cause_if, counts_fit, start_refusal, started, switch_refusal}
+use Rattle.build_events.specs.BuildSteps.{AreKeyed, CatchesUp, OnBuild, Starts, Switches, behind_refusal, build_cause, busy_refusal, cause_if, counts_fit, start_refusal, started, switch_refusal}
 use Rattle.build_events.specs.CoreState.{BuildState, CoreState, IndexState, LiveState, WorkState}
 use Rattle.build_events.specs.Ranges.{open_range}
 use Rattle.build_events.specs.Steps.{IsRefused, refusal}
@@ -170,6 +170,7 @@ pub record HasSwitched (specs : List KeySpecValue) (old new : LiveState) (number
   pub numbered : number ≡ length old.heap.log + 1
   pub logged : new.heap.log ≡ old.heap.log ++ Noted verdicts ∷ []
   pub right : verdicts ≡ outcomes (length old.ready) (map (verdict_on old.heap.log) specs)
+  pub keyed : AreKeyed old.heap.log specs
   pub ready : new.ready ≡ old.ready ++ map (index_now old.heap.log) (accepted old.heap.log specs)
 
 pub has_switched :
@@ -187,6 +188,7 @@ has_switched live new_live building new w told runs part does =
       numbered = on.1.0;
       logged = ap (λ (l : LiveState). l.heap.log) left ∙ ap (λ (vs : List Outcome). log ++ Noted vs ∷ []) (sym on.1.1);
       right = on.1.1 ∙ ap (λ (xs : List KeySpecValue). outcomes (length live.state.ready) (map (verdict_on log) xs)) specs;
+      keyed = subst (AreKeyed log) specs on.1.3;
       ready = ap (λ (l : LiveState). l.ready) left ∙ ap (λ (xs : List KeySpecValue). live.state.ready ++ map (index_now log) (accepted log xs)) specs;
     }
 
