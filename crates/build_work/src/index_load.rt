@@ -1,4 +1,4 @@
-ghost use Rattle.std.specs.Prelude.{◌≡◌, All, None, map};
+ghost use Rattle.std.specs.Prelude.{◌≡◌, All, None, MatchOption, length, map};
 ghost use Rattle.run_spool.specs.Spools.{AreSorted, all_pairs};
 ghost use Rattle.run_merge.specs.Merging.{all_runs};
 ghost use Rattle.building.specs.SpoolValue.{spool_value, stakes_of};
@@ -92,6 +92,16 @@ impl<S: Spool> IndexLoad<S> {
         match built {
             Ok(built) => self.built = Some(built),
             Err(fault) => self.fault = Some(fault),
+        }
+    }
+
+    /// How many pairs are in order; 0 until it ran.
+    pub fn pairs(&self) -> usize
+        ensures { MatchOption self.now.built (result ≡ 0) (λ built. result ≡ length built.pairs) }
+    {
+        match &self.built {
+            Some(built) => built.tree().len(),
+            None => 0,
         }
     }
 
