@@ -2,10 +2,11 @@
 ghost use Rattle.std.specs.Prelude.{◌≡◌, ◌≢◌, ℕ, ◌<◌, List, length, map, take, drop, Some, None, IfOk, IfErr, IfSome, OnErr, OnOk, true, false, All};
 ghost use Rattle.keybytes.specs.Keys.{KeySpecValue};
 ghost use Rattle.keybytes.specs.declared.fault.Fault.{Fault};
+ghost use Rattle.build_work.specs.IndexLoads.{CanLoadAll};
 ghost use Rattle.build_work.specs.Lent.{CanLend};
 ghost use Rattle.ready_indexes.specs.Following.{indexes_of};
 ghost use Rattle.crew.specs.Reports.{EndsFor, IsOther, IsReport, lists_in};
-ghost use Rattle.crew.specs.Seats.{CanLoadEach, GoesOnWith, HasPairsLeft, stakes_beside};
+ghost use Rattle.crew.specs.Seats.{GoesOnWith, HasPairsLeft, StillScans, stakes_beside};
 
 use crate::locked::{Locked, copied};
 use crate::{Opened, Progress, Receipt, Report};
@@ -51,12 +52,14 @@ impl<T: Opened> Locked<T> {
 
     /// All pages were copied and their pairs made: the workers hand their spools over to the indexes.
     pub(crate) fn end_scan<S: Spool>(&mut self, building: &mut Building<S, T>) -> Result<(), Fault>
-        ensures loads { OnOk result (CanLoadEach building.new) }
+        ensures loads { OnOk result ((specs : List KeySpecValue) → GoesOnWith 0 specs building.old → StillScans building.old → CanLoadAll building.new) }
         ensures goes_on { OnOk result ((specs : List KeySpecValue) → GoesOnWith 0 specs building.old → GoesOnWith 0 specs building.new) }
         ensures stakes { stakes_beside building.new ≡ stakes_beside building.old }
         ensures other { IfErr result (λ fault. IfSome building.old.work (λ w. w.spoiled ≡ None → IsOther fault)) }
         ensures log { self.new.state.heap.log ≡ self.old.state.heap.log }
     {
+        // What is kept of the indexes is known once it is told.
+        building.laws();
         self.live.end_scan(building)?;
         self.progress.note_scanned();
         Ok(())

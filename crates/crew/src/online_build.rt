@@ -4,8 +4,9 @@ ghost use Rattle.keybytes.specs.Keys.{KeySpecValue};
 ghost use Rattle.keybytes.specs.declared.fault.Fault.{Fault};
 ghost use Rattle.build_work.specs.Lent.{CanLend};
 ghost use Rattle.crew.specs.Reports.{EndsFor, HasUnique, IsOther, IsReport, lists_in};
-ghost use Rattle.crew.specs.Seats.{CanLoadEach, GoesOnWith, HasPairsLeft, stakes_beside};
+ghost use Rattle.crew.specs.Seats.{GoesOnWith, HasPairsLeft, StillScans, stakes_beside};
 
+use crate::loading::load_all;
 use crate::scanning::scan_all;
 use crate::{BuildFault, Gate, Opened, Point, Report, Table};
 use builder_core::{Building, Ends, Plan};
@@ -119,7 +120,7 @@ where
 }
 
 /// The rest of a build whose pages were scanned.
-fn finish<S: Spool, T: Opened, G: Gate, R: Wait>(
+fn finish<S: Spool + Send, T: Opened, G: Gate, R: Threads + Wait + Sync>(
     rt: &R,
     alloc: Global,
     table: &Table<T>,
@@ -127,7 +128,8 @@ fn finish<S: Spool, T: Opened, G: Gate, R: Wait>(
     gate: &G,
     building: &mut Building<S, T>,
 ) -> Result<Report<T>, Fault>
-    requires { GoesOnWith 0 plan.now.specs.items building.old }
+    requires goes_on { GoesOnWith 0 plan.now.specs.items building.old }
+    requires scans { StillScans building.old }
     ensures report { IfOk result (λ report. IsReport plan.now.specs.items report.receipt report.verdicts (lists_in report.pairs)) }
     ensures ends { IfErr result (EndsFor plan.now.specs.items) }
     ensures stakes { stakes_beside building.new ≡ stakes_beside building.old }
@@ -135,29 +137,6 @@ fn finish<S: Spool, T: Opened, G: Gate, R: Wait>(
     table.lock().lock(rt).end_scan(building)?;
     load_all(rt, alloc, table, plan, gate, building)?;
     take_turns(rt, alloc, table, plan, gate, building)
-}
-
-/// Puts the pairs of each index in order.
-fn load_all<S: Spool, T: Opened, G: Gate, R: Wait>(
-    rt: &R,
-    alloc: Global,
-    table: &Table<T>,
-    plan: &Plan,
-    gate: &G,
-    building: &mut Building<S, T>,
-) -> Result<(), Fault>
-    requires goes_on { GoesOnWith 0 plan.now.specs.items building.old }
-    requires loads { CanLoadEach building.old }
-    ensures goes_on { OnOk result (GoesOnWith (length plan.now.specs.items) plan.now.specs.items building.new) }
-    ensures stakes { stakes_beside building.new ≡ stakes_beside building.old }
-    ensures memory { IfErr result (λ fault. fault ≡ Fault.Memory) }
-{
-    for index in 0..plan.specs.len() {
-        let pairs = building.load(alloc, index)?;
-        table.lock().lock(rt).note_loaded(pairs);
-        gate.at(Point::Loaded { index });
-    }
-    Ok(())
 }
 
 /// Takes turns until the switch decides, or the last turn has to wait as well. Other threads run in between.
