@@ -1,6 +1,6 @@
 -- What loads and entries that are applied leave of a build that goes on.
-use Rattle.std.proofs.Common.{◌≡◌, ℕ, ◌+◌, ◌<◌, ◌≤◌, true, List, ◌++◌, length, map, set, Option, Some, None, refl, sym, ap, ap₂, subst, ◌∙◌, inl, inr, arith, length-set}
-use Rattle.std.specs.Prelude.{◌⊎◌, IfSome, OnErr, is_some}
+use Rattle.std.proofs.Common.{◌≡◌, ℕ, ◌+◌, ◌<◌, true, List, ◌++◌, length, Option, Some, None, refl, sym, ap, ap₂, subst, ◌∙◌, inl, inr, arith, length-set}
+use Rattle.std.specs.Prelude.{◌⊎◌, IfSome, is_some}
 use Rattle.std.specs.List.{slice_get}
 use Rattle.std.proofs.lemmas.Bool.{cases_lt}
 use Rattle.std.proofs.lemmas.List.{map-append}
@@ -15,7 +15,7 @@ use Rattle.build_scan.proofs.Places.{at_set}
 use Rattle.build_work.proofs.Columns.{kept_changed}
 use Rattle.build_work.proofs.OneWorker.{the_work}
 use Rattle.build_work.specs.BuildingValue.{BuildingValue, IndexValue, WorkValue, with_index}
-use Rattle.build_work.specs.Holding.{ended_column, workers_spools}
+use Rattle.build_work.specs.Holding.{workers_spools}
 use Rattle.build_work.specs.Working.{CanLoad, HasApplied, HasLoaded, HasSeenEntries, LoadStopped}
 use Rattle.crew.specs.Seats.{CanLoadEach, GoesOnWith, stakes_beside}
 use Rattle.crew.proofs.Steps.{goes_same}

@@ -1,7 +1,4 @@
-use Rattle.std.proofs.Common.{◌≡◌, List, ◌∙◌}
-use Rattle.keybytes.specs.Keys.{KeySpecValue}
-use Rattle.build_work.specs.BuildingValue.{BuildingValue}
-use Rattle.crew.specs.Seats.{GoesOnWith, stakes_beside}
+use Rattle.std.proofs.Common.{◌∙◌}
 use Rattle.crew.proofs.Gathered.{gathered_goes_on, gathered_stakes}
 use Rattle.crew.proofs.Seats.{all_back}
 use Rattle.crew.proofs.online_build.build_started.Goals as goal
