@@ -1,21 +1,18 @@
 -- What loads and entries that are applied leave of a build that goes on.
-use Rattle.std.proofs.Common.{◌≡◌, ℕ, zero, suc, ◌+◌, ◌<◌, ◌≤◌, true, false, List, [], ◌∷◌, ◌++◌, All, length, map, set, Option, Some, None, refl, sym, ap, ap₂, subst, ◌∙◌, inl, inr, arith, length-set}
-use Rattle.std.specs.Prelude.{◌⊎◌, IfSome, OnErr, is_some}
+use Rattle.std.proofs.Common.{◌≡◌, ℕ, zero, suc, ◌+◌, ◌<◌, true, false, List, [], ◌∷◌, ◌++◌, All, length, map, Option, Some, None, refl, sym, ap, ap₂, subst, ◌∙◌, inl, inr, length-set}
+use Rattle.std.specs.Prelude.{IfSome, is_some}
 use Rattle.std.specs.List.{slice_get}
-use Rattle.std.proofs.lemmas.Bool.{cases_lt}
 use Rattle.std.proofs.lemmas.List.{map-append}
 use Rattle.std.proofs.lemmas.Option.{same_Some}
 use Rattle.keybytes.specs.Keys.{KeySpecValue}
 use Rattle.keybytes.specs.declared.fault.Fault.{Fault}
 use Rattle.keybytes.specs.declared.pair.Pair.{Pair}
-use Rattle.catch_up.specs.Built.{BuiltValue}
 use Rattle.building.specs.SpoolValue.{SpoolValue, ended_spool, stakes_of}
 use Rattle.building.specs.WorkerValue.{WorkerValue}
 use Rattle.build_scan.proofs.Places.{at_set}
-use Rattle.build_work.proofs.Columns.{kept_changed}
 use Rattle.build_work.proofs.OneWorker.{the_work}
 use Rattle.build_work.specs.BuildingValue.{BuildingValue, IndexValue, WorkValue, with_index}
-use Rattle.build_work.specs.Holding.{ended_column, workers_spools}
+use Rattle.build_work.specs.Holding.{workers_spools}
 use Rattle.build_work.specs.IndexLoads.{CanLoadAll, HasLoadedAll, LoadsStopped, loaded_from}
 use Rattle.build_work.specs.Keeping.{KeepsWork}
 use Rattle.build_work.specs.Working.{HasApplied, HasSeenEntries}

@@ -1,4 +1,4 @@
-use Rattle.std.proofs.Common.{◌≡◌, ◌∙◌, ◌∷◌, ◌++◌, [], List, append_assoc, append-nil, map, sym, ap, subst, arith}
+use Rattle.std.proofs.Common.{◌∙◌, ◌∷◌, ◌++◌, [], List, append_assoc, append-nil, map, sym, ap, subst, arith}
 use Rattle.std.proofs.lemmas.List.{nil_from_length}
 use Rattle.std.specs.List.{AllZip}
 use Rattle.std.specs.Vec.Iter.{into_iter_items}

@@ -1,4 +1,4 @@
-use Rattle.std.proofs.Common.{get_or, refl, subst, sym, arith}
+use Rattle.std.proofs.Common.{subst, sym, arith}
 use Rattle.build_work.specs.IndexLoads.{HasRun, IndexLoadValue}
 use Rattle.build_scan.proofs.Places.{at_index}
 use Rattle.crew.proofs.Placewise.{zip_more}
