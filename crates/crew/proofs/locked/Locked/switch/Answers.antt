@@ -1,6 +1,4 @@
-use Rattle.std.proofs.Common.{◌≡◌, length, ap, ◌∙◌}
-use Rattle.heap_log.specs.declared.record.LogRec.{LogRec}
-use Rattle.build_halves.specs.Builds.{LiveValue}
+use Rattle.std.proofs.Common.{length, ap, ◌∙◌}
 use Rattle.crew.proofs.Steps.{still_goes_on, switch_left}
 use Rattle.crew.specs.Reports.{lists_in}
 use Rattle.crew.proofs.Switching.{switch_ends_for, switched_report}
