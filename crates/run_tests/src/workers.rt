@@ -7,7 +7,7 @@ ghost use Rattle.run_maker.specs.Making.{AreReady};
 use building::{Copied, Intake, PagePutter, page_ring};
 use heap_table::{Heap, PageImage};
 use keybytes::{Cell, Fault, Key, KeySpec, Kind, Rid, Row, Schema};
-use run_maker::Maker;
+use run_maker::{Maker, StdSort};
 use run_spool::{PlainSpool, Spool};
 use spool_ledger::Pool;
 use std::alloc::Global;
@@ -61,7 +61,7 @@ impl Bench {
         if self.worker.waiting(&mut self.putter) == 0 {
             return Ok(0);
         }
-        self.worker.digest(maker, spools)
+        self.worker.digest(maker, spools, &mut StdSort)
     }
 
     fn seal<S: Spool>(&mut self, maker: &mut Maker, spools: &mut [S]) -> Result<usize, Fault>
@@ -69,7 +69,7 @@ impl Bench {
         requires ready { AreReady (map S.runs spools.old) (map S.open_run spools.old) }
     {
         self.worker.waiting(&mut self.putter);
-        self.worker.seal(maker, spools)
+        self.worker.seal(maker, spools, &mut StdSort)
     }
 }
 
