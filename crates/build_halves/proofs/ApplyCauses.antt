@@ -9,10 +9,10 @@ use Rattle.keybytes.specs.Keys.{KeySpecValue}
 use Rattle.keybytes.specs.declared.fault.Fault.{Fault}
 use Rattle.keybytes.specs.declared.fault.Fault.TheVariants.{NoBuild, NotLoaded}
 use Rattle.building.specs.WorkerValue.{WorkerValue}
-use Rattle.build_halves.specs.Builds.{LiveValue, IsRunning, WorksOn, MayApply, SideIsLooked, SeesSideAt}
+use Rattle.build_halves.specs.Builds.{LiveValue, IsRunning, StandsBeside, MayApply, SideIsLooked, SeesSideAt}
 use Rattle.build_work.specs.BuildingValue.{BuildingValue, WorkValue, IndexValue, state_unless, work_state, index_state}
 use Rattle.build_scan.specs.TableBuilds.{BuildFollows}
-use Rattle.build_work.specs.WorkOn.{IsWorkOf}
+use Rattle.build_work.specs.WorkOn.{WorkMatches}
 use Rattle.build_halves.specs.Builds.{core_state, cause_of}
 use Rattle.build_events.specs.CoreState.{BuildState, IndexState, WorkState, CoreState}
 use Rattle.build_scan.specs.SideFiles.{AreFedEntries}
@@ -51,7 +51,7 @@ fine_by b w workers index it at (Some fault) free =
 
 pub may_apply :
     (index : ℕ) (live : LiveValue) (building : BuildingValue) (most : ℕ) → BuildFollows live.state.heap.schema live.state.heap.log live.state.build
-    → WorksOn live building → cause_of live building (Apply index most) ≡ None → MayApply live building index
+    → StandsBeside live building → cause_of live building (Apply index most) ≡ None → MayApply live building index
 may_apply index live building most follows works free = by_build live.state.build building.work refl refl where
   work_of : Option WorkValue → WorkState
   work_of x = work_state building.workers x
@@ -60,8 +60,8 @@ may_apply index live building most follows works free = by_build live.state.buil
   by_build None x is held =
       absurd (let bad : Some NoBuild ≡ None = ap (λ (p : Option BuildState). build_cause p (λ a. apply_refusal a (work_of building.work) index)) (sym is) ∙ free in cc)
   by_build (Some b) None is held =
-      absurd (subst (λ (p : Option BuildState). IsWorkOf live.state.heap.schema live.state.heap.log p None) is
-      (subst (IsWorkOf live.state.heap.schema live.state.heap.log live.state.build) held works.work))
+      absurd (subst (λ (p : Option BuildState). WorkMatches live.state.heap.schema live.state.heap.log p None) is
+      (subst (WorkMatches live.state.heap.schema live.state.heap.log live.state.build) held works.work))
   by_build (Some b) (Some w) is held =
       let run = running live building b w is held follows works in
       let free_now : apply_refusal b (state_unless w.spoiled building.workers w) index ≡ None =
@@ -76,7 +76,7 @@ may_apply index live building most follows works free = by_build live.state.buil
 -- told of both before the look
 pub applies_next :
     (index : ℕ) (live new_live : LiveValue) (building new : BuildingValue) (waiting most : ℕ)
-    → BuildFollows new_live.state.heap.schema new_live.state.heap.log new_live.state.build → WorksOn live building → cause_of live building (Apply index most) ≡ None
+    → BuildFollows new_live.state.heap.schema new_live.state.heap.log new_live.state.build → StandsBeside live building → cause_of live building (Apply index most) ≡ None
     → SideIsLooked index live building new_live new → SeesSideAt index waiting new_live new
     → IfSome new_live.state.build (λ b. IfSome (slice_get b.specs index) (λ spec. IfSome (slice_get new_live.sides index)
     (AreFedEntries new_live.state.heap.log b index spec))) → AppliesNext index waiting new_live new
@@ -128,7 +128,7 @@ module _
   done_some : (new : BuildingValue) (n : ℕ) → n ≤ count → HasApplied index building n new → core_state live new ≡ record before { work = after_apply before.work index n }
   done_some new n less done = state_applied index waiting live building next new n (omega (arith, less, few)) done
 
-  works_some : (new : BuildingValue) (n : ℕ) → n ≤ count → HasApplied index building n new → WorksOn live new
+  works_some : (new : BuildingValue) (n : ℕ) → n ≤ count → HasApplied index building n new → StandsBeside live new
   works_some new n less done = works_applied index waiting live building next new n (omega (arith, less, few)) done
 
   pub applies_all :
@@ -161,7 +161,7 @@ module _
 
   pub works_after_apply :
       (new : BuildingValue) (answer : Result ℕ Fault) → IfOk answer (λ n. (n ≡ count) × HasApplied index building count new)
-      → OnErr answer (StopsApplying index count building new) → WorksOn live new
+      → OnErr answer (StopsApplying index count building new) → StandsBeside live new
   works_after_apply new (Ok n) done some = works_some new count (omega arith) done.1
   works_after_apply new (Err fault) done some = works_some new some.entries (omega (arith, some.fewer)) some.applied
 

@@ -10,9 +10,9 @@ use Rattle.keybytes.specs.Faults.{first_cause}
 use Rattle.keybytes.specs.Keys.{KeySpecValue}
 use Rattle.keybytes.specs.declared.fault.Fault.TheVariants.{NotLoaded}
 use Rattle.heap_log.specs.declared.record.LogRec.{LogRec}
-use Rattle.build_halves.specs.Builds.{LiveValue, IsRunning, WorksOn, core_state}
+use Rattle.build_halves.specs.Builds.{LiveValue, IsRunning, StandsBeside, core_state}
 use Rattle.build_work.specs.BuildingValue.{BuildingValue, WorkValue, work_state, index_state}
-use Rattle.build_work.specs.WorkOn.{IsWorkOf}
+use Rattle.build_work.specs.WorkOn.{WorkMatches}
 use Rattle.build_scan.specs.TableBuilds.{BuildFollows}
 use Rattle.build_halves.specs.CatchingUp.{MayCatchUp, IndexIsFurther, left_at, left_of, unapplied_at, further_by}
 use Rattle.build_events.specs.CoreState.{BuildState, IndexState, CoreState}
@@ -210,14 +210,14 @@ all_begin live building b w run ahead puts ends =
 
 -- told of the table and of what stands beside it
 pub begins :
-    (live : LiveValue) (building : BuildingValue) (b : BuildState) → live.state.build ≡ Some b → WorksOn live building
+    (live : LiveValue) (building : BuildingValue) (b : BuildState) → live.state.build ≡ Some b → StandsBeside live building
     → BuildFollows live.state.heap.schema live.state.heap.log live.state.build → IfSome live.state.build (NoneAhead live.state.heap.log)
     → length live.sides ≡ 8 → length building.sides ≡ 8 → AllAreFurther (core_state live building) (core_state live building)
 begins live building b is works follows ahead puts ends = by_work building.work refl where
   by_work : (x : Option WorkValue) → building.work ≡ x → AllAreFurther (core_state live building) (core_state live building)
   by_work None held =
-      absurd (subst (λ (p : Option BuildState). IsWorkOf live.state.heap.schema live.state.heap.log p None) is
-      (subst (IsWorkOf live.state.heap.schema live.state.heap.log live.state.build) held works.work))
+      absurd (subst (λ (p : Option BuildState). WorkMatches live.state.heap.schema live.state.heap.log p None) is
+      (subst (WorkMatches live.state.heap.schema live.state.heap.log live.state.build) held works.work))
   by_work (Some w) held =
       all_begin live building b w (running live building b w is held follows works)
       (subst (λ (o : Option BuildState). IfSome o (NoneAhead live.state.heap.log)) is ahead) puts ends

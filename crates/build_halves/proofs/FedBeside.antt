@@ -5,11 +5,11 @@ use Rattle.std.specs.List.{slice_get}
 use Rattle.std.proofs.Math.Nat.{min-le_left, min-le_right, le-min}
 use Rattle.keybytes.specs.declared.fault.Fault.{Fault}
 use Rattle.building.specs.WorkerValue.{WorkerValue}
-use Rattle.build_halves.specs.Builds.{LiveValue, WorksOn, SideIsLooked, SeesSideAt, HasFed, least_fed}
+use Rattle.build_halves.specs.Builds.{LiveValue, StandsBeside, SideIsLooked, SeesSideAt, HasFed, least_fed}
 use Rattle.build_work.specs.BuildingValue.{BuildingValue, WorkValue, state_unless, work_state, index_state}
 use Rattle.build_scan.specs.TableBuilds.{BuildFollows}
 use Rattle.build_halves.specs.Builds.{core_state}
-use Rattle.build_work.specs.WorkOn.{IsWorkOf}
+use Rattle.build_work.specs.WorkOn.{WorkMatches}
 use Rattle.build_events.specs.CoreState.{BuildState, IndexState, LiveState, CoreState}
 use Rattle.build_scan.specs.SideFiles.{side_refusal}
 use Rattle.side_file.specs.Ends.{PutEnd}
@@ -79,9 +79,9 @@ module _
       absurd (cc (same, there, refused))
 
   module _
-      (works : WorksOn live building) (follows : BuildFollows new_live.state.heap.schema new_live.state.heap.log new_live.state.build) (waiting : ℕ)
+      (works : StandsBeside live building) (follows : BuildFollows new_live.state.heap.schema new_live.state.heap.log new_live.state.build) (waiting : ℕ)
       (sees : SeesSideAt index waiting new_live mid) where
-    works_mid : WorksOn new_live mid
+    works_mid : StandsBeside new_live mid
     works_mid = works_side_looked index live new_live building mid looked works
 
     -- what waits, as callers see it
@@ -89,8 +89,8 @@ module _
         (b : BuildState) (x : Option WorkValue) → new_live.state.build ≡ Some b → mid.work ≡ x → index < length b.specs
         → waiting ≡ in_ring b (work_state mid.workers mid.work) index
     waits b None is held less =
-        absurd (subst (λ (o : Option BuildState). IsWorkOf new_live.state.heap.schema new_live.state.heap.log o None) is
-        (subst (IsWorkOf new_live.state.heap.schema new_live.state.heap.log new_live.state.build) held works_mid.work))
+        absurd (subst (λ (o : Option BuildState). WorkMatches new_live.state.heap.schema new_live.state.heap.log o None) is
+        (subst (WorkMatches new_live.state.heap.schema new_live.state.heap.log new_live.state.build) held works_mid.work))
     waits b (Some w) is held less =
         let run = running new_live mid b w is held follows works_mid in
         let many = run.on.many in

@@ -9,9 +9,9 @@ use Rattle.side_file.specs.Ends.{PutEnd}
 use Rattle.side_file.specs.SideFileValue.{SideFileValue}
 use Rattle.side_file.specs.declared.entry.Entry.{Entry}
 use Rattle.building.specs.declared.copied.Copied.{Copied}
-use Rattle.build_halves.specs.Builds.{LiveValue, WorksOn, SideIsLooked, core_state}
+use Rattle.build_halves.specs.Builds.{LiveValue, StandsBeside, SideIsLooked, core_state}
 use Rattle.build_work.specs.BuildingValue.{BuildingValue, WorkValue}
-use Rattle.build_work.specs.WorkOn.{IsWorkOf, WorkersFollow}
+use Rattle.build_work.specs.WorkOn.{WorkMatches, WorkersFollow}
 use Rattle.build_events.specs.CoreState.{BuildState}
 use Rattle.build_scan.specs.SideFiles.{IsFed, HasEntries}
 use Rattle.build_scan.proofs.Places.{at_set}
@@ -26,7 +26,7 @@ module _
   same : SidesAreSame live building new_live new
   same = sides_same live new_live building new (one_looked index live new_live building new looked)
 
-  pub works_side_looked : WorksOn live building → WorksOn new_live new
+  pub works_side_looked : StandsBeside live building → StandsBeside new_live new
   works_side_looked = works_sides_looked live new_live building new same
 
   -- and callers see no difference
@@ -58,8 +58,8 @@ module _
   }
 
 pub work_fed :
-    (kinds : List Kind) (log : List LogRec) (b : BuildState) (index count : ℕ) (work : Option WorkValue) → IsWorkOf kinds log (Some b) work
-    → IsWorkOf kinds log (Some (after_feed b index count)) work
+    (kinds : List Kind) (log : List LogRec) (b : BuildState) (index count : ℕ) (work : Option WorkValue) → WorkMatches kinds log (Some b) work
+    → WorkMatches kinds log (Some (after_feed b index count)) work
 work_fed kinds log b index count None is = is
 work_fed kinds log b index count (Some w) is = record {
   number = is.number;

@@ -7,7 +7,7 @@ use Rattle.heap_table.specs.HeapState.{HeapState, txn_refusal, after_commit}
 use Rattle.heap_table.specs.HeapValue.{HeapValue}
 use Rattle.building.specs.declared.copied.Copied.{Copied}
 use Rattle.build_work.specs.BuildingValue.{WorkValue, BuildingValue}
-use Rattle.build_work.specs.WorkOn.{IsWorkOf, WorkersFollow}
+use Rattle.build_work.specs.WorkOn.{WorkMatches, WorkersFollow}
 use Rattle.build_scan.specs.TableBuilds.{BuildFollows}
 use Rattle.build_halves.specs.Rings.{PagesFollow}
 use Rattle.build_events.specs.CoreState.{BuildState}
@@ -33,10 +33,10 @@ refused_same cause old new fault (inr wants) = wants.2
 -- after a commit the work of the build is its own
 pub commit_works :
     (old new : HeapState) (txn : ℕ) (build : Option BuildState) (work : Option WorkValue) → (new ≡ after_commit old txn) ⊎ (new ≡ old)
-    → BuildFollows old.schema old.log build → IsWorkOf old.schema old.log build work → IsWorkOf new.schema new.log build work
+    → BuildFollows old.schema old.log build → WorkMatches old.schema old.log build work → WorkMatches new.schema new.log build work
 commit_works old new txn build work (inl done) is works =
-    subst (λ (h : HeapState). IsWorkOf h.schema h.log build work) (sym done) (work_kept old.schema old.log (Commit txn) build work is works)
-commit_works old new txn build work (inr refused) is works = subst (λ (h : HeapState). IsWorkOf h.schema h.log build work) (sym refused) works
+    subst (λ (h : HeapState). WorkMatches h.schema h.log build work) (sym done) (work_kept old.schema old.log (Commit txn) build work is works)
+commit_works old new txn build work (inr refused) is works = subst (λ (h : HeapState). WorkMatches h.schema h.log build work) (sym refused) works
 
 -- and its workers are
 pub commit_workers :

@@ -43,7 +43,7 @@ use Rattle.build_halves.proofs.RunsToClose.{run_to_close}
 use Rattle.build_halves.proofs.Waits.{begun_is, next_copied, waits}
 use Rattle.build_scan.proofs.Places.{all_at, at_map, below, map_at, there_is}
 use Rattle.build_work.specs.BuildingValue.{BuildingValue, WorkValue, worker_state}
-use Rattle.build_work.specs.Holding.{all_spools, lent_spools}
+use Rattle.build_work.specs.Holding.{all_spools, workers_spools}
 use Rattle.build_work.specs.Rings.{IsWorkerOf, all_sent}
 use Rattle.build_work.proofs.SpoolPlaces.{flat_at}
 use Rattle.build_halves.specs.Builds.{IsRunning, LiveValue, SeesRing, core_state}
@@ -81,12 +81,12 @@ module _
       let end = there_is live.pages j (omega (arith, less, run.at_work.many, run.follows.few_workers, rings)) in
       (end.0.sent, map_at (λ (e : PutEnd Copied). e.sent) live.pages j end.0 end.1)
 
-  own_of : w.loading ≡ false → (j : ℕ) (worker : WorkerValue) → slice_get building.workers j ≡ Some worker → length worker.spools ≡ length w.specs
+  own_of : w.handed ≡ false → (j : ℕ) (worker : WorkerValue) → slice_get building.workers j ≡ Some worker → length worker.spools ≡ length w.specs
   own_of scans j worker here =
       let copies = sent_to j worker here in
       (run.at_work.taking fine j copies.0 worker copies.1 here).own scans
 
-  its : IsWorkerOf b.number kinds w.specs w.loading sent it
+  its : IsWorkerOf b.number kinds w.specs w.handed sent it
   its = run.at_work.taking fine k sent it sent_there sees.there
 
   -- the images of the build in its ring are copies of the pages that were scanned for it
@@ -143,12 +143,12 @@ module _
   -- it has another run to close
   has_run :
       (turn : Turn) (fault : Fault) (after : WorkerValue) (stopped : IsStopped is_full runs open_run stake turn it fault after) (no_page : fault ≡ NoPage) (page_rings : List RingId)
-      → KeepsLaws page_rings it → w.loading ≡ false → (spec : KeySpecValue) → slice_get w.specs (stopped.full its.fine no_page).index ≡ Some spec
+      → KeepsLaws page_rings it → w.handed ≡ false → (spec : KeySpecValue) → slice_get w.specs (stopped.full its.fine no_page).index ≡ Some spec
       → HasRunToClose turn b log k (worker_at (core_state live building).work k) spec
   has_run turn fault after stopped no_page page_rings laws scans spec is =
       let full = stopped.full its.fine no_page in
       let columns = all_at (λ (s : KeySpecValue). s.kinds ≡ kinds) w.specs full.index spec run.on.columns is in
-      let opened = (opened_of w.loading it its run.on.columns laws).opened full.index spec is in
+      let opened = (opened_of w.handed it its run.on.columns laws).opened full.index spec is in
       let begun = begun_is kinds log b k sent it.intake (put k sent sent_there) its.taking spec columns (get_or it.maker.begun full.index []) opened in
       let next = flat_map (pairs_at_scan (scanning_of b spec) log) (turn_scans turn b k (worker_state it.intake)) in
       let have = copies_pairs (scanning_of b spec) kinds log (turn_scans turn b k (worker_state it.intake)) (turn_images turn kinds it.intake) columns (turn_copied turn) in
@@ -171,18 +171,18 @@ module _
       let seen : slice_get (stakes_of it.spools) full.index ≡ Some (stake full.spool) =
       ap (λ (l : List (Option Stake)). slice_get l full.index) (sym stopped.same.stakes)
       ∙ map_at (λ (s : SpoolValue). s.stake) after.spools full.index (spool_value runs open_run stake full.spool) full.there in
-      elim (cases_Bool w.loading) [
-        | inl loading ↦
+      elim (cases_Bool w.handed) [
+        | inl handed ↦
             let none : slice_get (stakes_of []) full.index ≡ Some (stake full.spool) =
-            subst (λ (l : List SpoolValue). slice_get (stakes_of l) full.index ≡ Some (stake full.spool)) (its.none loading) seen in
+            subst (λ (l : List SpoolValue). slice_get (stakes_of l) full.index ≡ Some (stake full.spool)) (its.none handed) seen in
             absurd (cc)
         | inr scans ↦
             let own = at_map (λ (s : SpoolValue). s.stake) it.spools full.index (stake full.spool) seen in
             let many : length it.spools ≡ length w.specs = own_of scans k it sees.there in
             let place = flat_at (λ (v : WorkerValue). v.spools) (length w.specs) building.workers (own_of scans) k it sees.there full.index own.0 own.1 in
             let all : slice_get (stakes_of (all_spools building.workers building.spools)) (k * length w.specs + full.index) ≡ Some (stake full.spool) =
-            ap (λ (home : List SpoolValue). slice_get (stakes_of (home ++ lent_spools building.workers)) (k * length w.specs + full.index)) (run.at_work.lent fine scans)
-            ∙ map_at (λ (s : SpoolValue). s.stake) (lent_spools building.workers) (k * length w.specs + full.index) own.0 place ∙ ap (λ o. Some o) own.2 in
+            ap (λ (home : List SpoolValue). slice_get (stakes_of (home ++ workers_spools building.workers)) (k * length w.specs + full.index)) (run.at_work.lent fine scans)
+            ∙ map_at (λ (s : SpoolValue). s.stake) (workers_spools building.workers) (k * length w.specs + full.index) own.0 place ∙ ap (λ o. Some o) own.2 in
             let index = there_is w.specs full.index (let within = below it.spools full.index own.0 own.1 in omega (arith, within, many)) in
             let state = worker_at (core_state live building).work k in
             let was : WasFull is_full runs open_run stake turn b log k state (stakes_of (all_spools building.workers building.spools)) = record {

@@ -15,7 +15,7 @@ use Rattle.build_events.specs.CoreState.{BuildState, WorkState}
 use Rattle.build_events.specs.Ranges.{open_range}
 use Rattle.build_halves.specs.Builds.{LiveValue, IsRunning, core_state}
 use Rattle.build_work.specs.BuildingValue.{BuildingValue, WorkValue, IsUnloaded, index_state, work_state, worker_state}
-use Rattle.build_work.specs.Holding.{all_spools, lent_spools, spools_state}
+use Rattle.build_work.specs.Holding.{all_spools, workers_spools, spools_state}
 use Rattle.build_work.specs.Rings.{all_sent, AreSealed, IsSealed, IsWorkerOf}
 use Rattle.build_work.specs.Working.{CanHandOver, HasHandedOver, handed_over}
 use Rattle.build_work.specs.Keeping.{HaveEachOnce, IsClosed}
@@ -32,21 +32,21 @@ spec_is specs index spec is = get_or_from_slice_get specs index spec (record { k
 
 module _
     (live : LiveValue) (building : BuildingValue) (b : BuildState) (w : WorkValue) (run : IsRunning live building b w) (fine : w.spoiled ≡ None)
-    (scans : w.loading ≡ false) (rings : length live.pages ≡ 16) (sealed : AreSealed (all_sent live.pages) building.workers) (all : open_range b ≡ None)
+    (scans : w.handed ≡ false) (rings : length live.pages ≡ 16) (sealed : AreSealed (all_sent live.pages) building.workers) (all : open_range b ≡ None)
     (holding : All (λ worker. IsHolding worker.intake worker.maker worker.spools) building.workers) where
   -- what is left
   abbrev pub left : BuildingValue
   left = record building {
     workers = map handed_over building.workers;
     spools = all_spools building.workers building.spools;
-    work = Some (record w { loading = true });
+    work = Some (record w { handed = true });
   }
 
   abbrev n : ℕ
   n = length w.specs
 
   abbrev lent : List SpoolValue
-  lent = lent_spools building.workers
+  lent = workers_spools building.workers
 
   pub all_lent : all_spools building.workers building.spools ≡ lent
   all_lent = ap (λ (home : List SpoolValue). home ++ lent) (run.at_work.lent fine scans)
@@ -58,7 +58,7 @@ module _
       let end = there_is live.pages k (omega (arith, less, run.at_work.many, run.follows.few_workers, rings)) in
       (end.0.sent, map_at (λ (e : _). e.sent) live.pages k end.0 end.1)
 
-  of_build : (k : ℕ) (worker : WorkerValue) (at : slice_get building.workers k ≡ Some worker) → IsWorkerOf b.number live.state.heap.schema w.specs w.loading (sent_to k worker at).0 worker
+  of_build : (k : ℕ) (worker : WorkerValue) (at : slice_get building.workers k ≡ Some worker) → IsWorkerOf b.number live.state.heap.schema w.specs w.handed (sent_to k worker at).0 worker
   of_build k worker at = let sent = sent_to k worker at in run.at_work.taking fine k sent.0 worker sent.1 at
 
   holds : (k : ℕ) (worker : WorkerValue) → slice_get building.workers k ≡ Some worker → IsHolding worker.intake worker.maker worker.spools
@@ -78,7 +78,7 @@ module _
   all_closed = all_from IsClosed building.workers (λ k worker at. (is_sealed k worker at).closed)
 
   -- so they may, where no pair of an index is there twice
-  pub can_hand_over : HaveEachOnce w (lent_spools building.workers) → CanHandOver building
+  pub can_hand_over : HaveEachOnce w (workers_spools building.workers) → CanHandOver building
   can_hand_over once = record { work = w; runs = run.work_is; fine = fine; scans = scans; closed = all_closed; once = once }
 
   -- of what it took since its last seal
@@ -88,7 +88,7 @@ module _
   still_open k worker at = opened_in (of_build k worker at) run.on.columns (holds k worker at)
 
   -- the build goes on
-  pub handed_run : IsRunning live left b (record w { loading = true })
+  pub handed_run : IsRunning live left b (record w { handed = true })
   handed_run = record {
     build_is = run.build_is;
     work_is = refl;
@@ -119,7 +119,7 @@ module _
             let was = sealed k sent it.0 there it.1 in
             subst (IsSealed sent) it.2 (record { taken = was.taken; closed = was.closed }),
       );
-      columns = λ f e. rw all_lent (lent_columns w.specs building.workers all_own all_closed holds (λ index. IsUnloaded index (record w { loading = true })));
+      columns = λ f e. rw all_lent (lent_columns w.specs building.workers all_own all_closed holds (λ index. IsUnloaded index (record w { handed = true })));
     };
   }
 
@@ -130,7 +130,7 @@ module _
       let spools : List SpoolValue = all_spools building.workers building.spools in
       let same : all_spools left.workers left.spools ≡ spools = ap (λ (l : List SpoolValue). spools ++ l) (none_left building.workers) ∙ append-nil spools in
       let states : work_state left.workers left.work ≡ work_state building.workers building.work =
-      state_is left (record w { loading = true }) refl fine
+      state_is left (record w { handed = true }) refl fine
       ∙ ap (λ ws. record { workers = ws; indexes = map index_state w.indexes; spoiled = None }) (mapped handed_over (λ (v : WorkerValue). worker_state v.intake) building.workers)
       ∙ sym (state_is building w run.work_is fine) in
       ap (λ (s : WorkState). record { live = live.state; work = s; spools = spools_state building.given (all_spools left.workers left.spools) }) states
@@ -142,5 +142,5 @@ module _
       done.left ∙ ap (λ (v : WorkValue). record building {
         workers = map handed_over building.workers;
         spools = all_spools building.workers building.spools;
-        work = Some (record v { loading = true });
+        work = Some (record v { handed = true });
       }) (same_Some done.work w (sym done.runs ∙ run.work_is))

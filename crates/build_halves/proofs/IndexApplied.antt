@@ -17,7 +17,7 @@ use Rattle.visibility.specs.SideEntries.{SideEntry, delete, insert}
 use Rattle.visibility.proofs.Changes.{apply-append}
 use Rattle.catch_up.specs.Built.{told_to}
 use Rattle.catch_up.proofs.Telling.{told_entries}
-use Rattle.build_halves.specs.Builds.{LiveValue, IsRunning, WorksOn}
+use Rattle.build_halves.specs.Builds.{LiveValue, IsRunning, StandsBeside}
 use Rattle.build_work.specs.BuildingValue.{BuildingValue, WorkValue, IndexValue, with_index, with_pairs, is_unique, work_state, index_state}
 use Rattle.build_work.specs.WorkOn.{IsCaughtUpTo, IsIndexOn, AreFed}
 use Rattle.build_halves.specs.Builds.{core_state}
@@ -282,9 +282,9 @@ module _ (index waiting : ℕ) (live : LiveValue) (building : BuildingValue) (t 
     ]
 
     -- all goes on
-    pub works_applied : WorksOn live new
+    pub works_applied : StandsBeside live new
     works_applied =
-        subst (WorksOn live) (sym left_is)
+        subst (StandsBeside live) (sym left_is)
         (works_with live left t.build after (record {
           build_is = t.run.build_is;
           work_is = refl;
@@ -297,9 +297,9 @@ module _ (index waiting : ℕ) (live : LiveValue) (building : BuildingValue) (t 
             taking = λ f. t.run.at_work.taking t.fine;
             lent = λ f. t.run.at_work.lent t.fine;
             drained = λ f. t.run.at_work.drained t.fine;
-            columns = λ f loading. open_fewer _ _ t.work.specs building.workers building.spools
+            columns = λ f handed. open_fewer _ _ t.work.specs building.workers building.spools
                 (unloaded_before t.work index (with_pairs t.work index done.pairs) (t.it.applied + count) (below t.work.indexes index t.it t.it_at))
-                (t.run.at_work.columns t.fine loading);
+                (t.run.at_work.columns t.fine handed);
           };
         }))
 

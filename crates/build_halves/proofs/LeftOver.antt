@@ -5,9 +5,9 @@ use Rattle.std.specs.List.{slice_get}
 use Rattle.std.proofs.lemmas.List.{length-map}
 use Rattle.keybytes.specs.Keys.{KeySpecValue}
 use Rattle.heap_log.specs.declared.record.LogRec.{LogRec}
-use Rattle.build_halves.specs.Builds.{LiveValue, WorksOn, core_state}
+use Rattle.build_halves.specs.Builds.{LiveValue, StandsBeside, core_state}
 use Rattle.build_work.specs.BuildingValue.{BuildingValue, WorkValue, IndexValue, work_state, index_state}
-use Rattle.build_work.specs.WorkOn.{IsWorkOf}
+use Rattle.build_work.specs.WorkOn.{WorkMatches}
 use Rattle.build_scan.specs.TableBuilds.{BuildFollows}
 use Rattle.build_halves.specs.CatchingUp.{left_at, left_of, unapplied_at}
 use Rattle.build_events.specs.CoreState.{BuildState, IndexState, CoreState}
@@ -72,17 +72,17 @@ all_left s b runs many =
 
 -- the build's indexes are as many as its specifications
 pub indexes_many :
-    (live : LiveValue) (building : BuildingValue) (b : BuildState) → live.state.build ≡ Some b → WorksOn live building
+    (live : LiveValue) (building : BuildingValue) (b : BuildState) → live.state.build ≡ Some b → StandsBeside live building
     → length (work_state building.workers building.work).indexes ≡ length b.specs
 indexes_many live building b is works =
-    by_work building.work (subst (λ (o : Option BuildState). IsWorkOf live.state.heap.schema live.state.heap.log o building.work) is works.work) where
-      by_work : (o : Option WorkValue) → IsWorkOf live.state.heap.schema live.state.heap.log (Some b) o → length (work_state building.workers o).indexes ≡ length b.specs
+    by_work building.work (subst (λ (o : Option BuildState). WorkMatches live.state.heap.schema live.state.heap.log o building.work) is works.work) where
+      by_work : (o : Option WorkValue) → WorkMatches live.state.heap.schema live.state.heap.log (Some b) o → length (work_state building.workers o).indexes ≡ length b.specs
       by_work None on = absurd on
       by_work (Some w) on = ap length (indexes_seen w.spoiled building.workers w) ∙ length-map w.indexes index_state ∙ on.many
 
 -- what is left of an index, by its side-file and its work
 pub left_known :
-    (live : LiveValue) (building : BuildingValue) (index applied : ℕ) (sides : List SideFileValue) (side : SideFileValue) (w : WorkValue) → WorksOn live building
+    (live : LiveValue) (building : BuildingValue) (index applied : ℕ) (sides : List SideFileValue) (side : SideFileValue) (w : WorkValue) → StandsBeside live building
     → building.work ≡ Some w → IsSome live.state.build → IfSome live.state.build (λ b. index < length b.specs)
     → BuildFollows live.state.heap.schema live.state.heap.log live.state.build → SidesFollow live.state.heap.log live.state.build sides
     → live.sides ≡ put_ends sides → length sides ≡ 8 → side ≡ get_or sides index side → length building.sides ≡ 8

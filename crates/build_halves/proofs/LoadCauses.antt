@@ -39,8 +39,8 @@ pub record OpenRuns (specs : List KeySpecValue) (worker : WorkerValue) : Type 0 
 
 -- they are those of a worker of the build, whether it has its spools or not
 pub opened_of :
-    {build : ℕ} {kinds : List Kind} {specs : List KeySpecValue} (loading : Bool) {sent : List Copied} (worker : WorkerValue)
-    → IsWorkerOf build kinds specs loading sent worker → All (λ spec. spec.kinds ≡ kinds) specs → {rings : List RingId} → KeepsLaws rings worker
+    {build : ℕ} {kinds : List Kind} {specs : List KeySpecValue} (handed : Bool) {sent : List Copied} (worker : WorkerValue)
+    → IsWorkerOf build kinds specs handed sent worker → All (λ spec. spec.kinds ≡ kinds) specs → {rings : List RingId} → KeepsLaws rings worker
     → OpenRuns specs worker
 opened_of true worker its columns laws =
     record { many = laws.begun ∙ ap length its.specs_are; opened = its.opened refl }
@@ -60,7 +60,7 @@ module _
 
   module _ (k : ℕ) (sent : List Copied) (worker : WorkerValue) (there : slice_get (all_sent live.pages) k ≡ Some sent)
       (at : slice_get building.workers k ≡ Some worker) (open_runs : OpenRuns w.specs worker) where
-    its : IsWorkerOf b.number live.state.heap.schema w.specs w.loading sent worker
+    its : IsWorkerOf b.number live.state.heap.schema w.specs w.handed sent worker
     its = run.at_work.taking fine k sent worker there at
 
     -- whether it is sealed is what callers see
@@ -80,7 +80,7 @@ module _
 
   module _ (rings : length live.pages ≡ 16) (page_rings : List RingId) (laws : All (KeepsLaws page_rings) building.workers) where
     its_place : (k : ℕ) (worker : WorkerValue) → slice_get building.workers k ≡ Some worker
-        → (sent : List Copied) × IsWorkerOf b.number live.state.heap.schema w.specs w.loading sent worker
+        → (sent : List Copied) × IsWorkerOf b.number live.state.heap.schema w.specs w.handed sent worker
     its_place k worker at =
         let less = slice_get_within building.workers k worker at in
         let end = there_is live.pages k (omega (arith, less, run.at_work.many, run.follows.few_workers, rings)) in
@@ -89,15 +89,15 @@ module _
 
     pub open_runs : (k : ℕ) (worker : WorkerValue) → slice_get building.workers k ≡ Some worker → OpenRuns w.specs worker
     open_runs k worker at =
-        opened_of w.loading worker (its_place k worker at).1 run.on.columns (all_at (KeepsLaws page_rings) building.workers k worker laws at)
+        opened_of w.handed worker (its_place k worker at).1 run.on.columns (all_at (KeepsLaws page_rings) building.workers k worker laws at)
 
     -- before the first load each holds the pairs of what it took
-    pub all_holding : w.loading ≡ false → All (λ x. IsHolding x.intake x.maker x.spools) building.workers
-    all_holding loading = all_from (λ (x : WorkerValue). IsHolding x.intake x.maker x.spools) building.workers each where
+    pub all_holding : w.handed ≡ false → All (λ x. IsHolding x.intake x.maker x.spools) building.workers
+    all_holding handed = all_from (λ (x : WorkerValue). IsHolding x.intake x.maker x.spools) building.workers each where
       each : (k : ℕ) (x : WorkerValue) → slice_get building.workers k ≡ Some x → IsHolding x.intake x.maker x.spools
       each k x at =
           let its = (its_place k x at).1 in
-          (all_at (KeepsLaws page_rings) building.workers k x laws at).holding its.fine (its.handed ∙ loading)
+          (all_at (KeepsLaws page_rings) building.workers k x laws at).holding its.fine (its.handed ∙ handed)
 
   module _ (rings : length live.pages ≡ 16) (open_runs : (k : ℕ) (worker : WorkerValue) → slice_get building.workers k ≡ Some worker → OpenRuns w.specs worker) where
     -- callers see so many workers as the build has

@@ -12,7 +12,7 @@ use Rattle.build_events.specs.declared.event.Event.TheVariants.{Load}
 use Rattle.build_work.specs.BuildingValue.{BuildingValue, WorkValue}
 use Rattle.build_work.specs.Keeping.{KeepsLaws}
 use Rattle.build_work.specs.Rings.{all_sent}
-use Rattle.build_halves.specs.Builds.{HasLooked, IsRunning, LiveValue, MayLoad, cause_of}
+use Rattle.build_halves.specs.Builds.{HasLookedAtRings, IsRunning, LiveValue, MayLoad, cause_of}
 use Rattle.build_halves.specs.Rings.{ArePut, PagesFollow}
 use Rattle.build_halves.specs.Switching.{HaveAll, IsLowestUnsealed}
 use Rattle.build_halves.proofs.LoadCauses.{OpenRuns, all_holding, load_free, load_unsealed, open_runs}
@@ -22,7 +22,7 @@ use Rattle.build_halves.proofs.Takes.{put_of}
 -- a build that goes on and has such an index, all of whose pages are copied, where a look came before
 module _
     (old live : LiveValue) (before building : BuildingValue) (b : BuildState) (w : WorkValue) (index : ℕ) (was : IsRunning old before b w)
-    (fine : w.spoiled ≡ None) (there : index < length b.specs) (all : open_range b ≡ None) (looked : HasLooked old before live building)
+    (fine : w.spoiled ≡ None) (there : index < length b.specs) (all : open_range b ≡ None) (looked : HasLookedAtRings old before live building)
     (follow : PagesFollow live.state.heap.schema live.state.heap.log live.state.builds live.state.build (all_sent live.pages)) (sixteen : length live.pages ≡ 16)
     (rings : List RingId) (laws : All (KeepsLaws rings) building.workers) where
   run : IsRunning live building b w

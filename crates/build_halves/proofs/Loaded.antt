@@ -12,7 +12,7 @@ use Rattle.keybytes.specs.declared.fault.Fault.{Fault}
 use Rattle.keybytes.specs.declared.pair.Pair.{Pair}
 use Rattle.side_file.specs.Ends.{PutEnd}
 use Rattle.building.specs.declared.copied.Copied.{Copied}
-use Rattle.build_halves.specs.Builds.{LiveValue, IsRunning, WorksOn}
+use Rattle.build_halves.specs.Builds.{LiveValue, IsRunning, StandsBeside}
 use Rattle.build_work.specs.BuildingValue.{BuildingValue, WorkValue, IndexValue, IsUnloaded, with_index, with_pairs, work_state, index_state}
 use Rattle.build_work.specs.WorkOn.{IsIndexOn, AreFed}
 use Rattle.build_halves.specs.Builds.{core_state}
@@ -22,7 +22,7 @@ use Rattle.building.specs.SpoolValue.{SpoolValue, ended_spool, pairs_in, runs_of
 use Rattle.building.specs.Taking.{received_images}
 use Rattle.keybytes.specs.declared.kind.Kind.{Kind}
 use Rattle.build_work.specs.Columns.{column}
-use Rattle.build_work.specs.Holding.{HaveColumns, all_spools, ended_column, lent_spools, spools_state}
+use Rattle.build_work.specs.Holding.{HaveColumns, all_spools, ended_column, workers_spools, spools_state}
 use Rattle.run_spool.specs.Spools.{AreSorted, all_pairs}
 use Rattle.std.specs.Prelude.{All, map}
 use Rattle.build_events.specs.Ranges.{open_range}
@@ -67,7 +67,7 @@ put_inside inside live b same is follow =
 
 module _
     (live : LiveValue) (building : BuildingValue) (b : BuildState) (w : WorkValue) (run : IsRunning live building b w) (fine : w.spoiled ≡ None)
-    (put : ArePut live.state.heap.schema live.state.heap.log b (all_sent live.pages)) (rings : length live.pages ≡ 16) (loads : w.loading ≡ true) where
+    (put : ArePut live.state.heap.schema live.state.heap.log b (all_sent live.pages)) (rings : length live.pages ≡ 16) (loads : w.handed ≡ true) where
   columns : HaveColumns (λ index. IsUnloaded index w) w.specs building.workers building.spools
   columns = run.at_work.columns fine loads
 
@@ -208,9 +208,9 @@ module _
             (ap (λ (l : List SpoolValue). slice_get l k) (sym (elsewhere i below none)) ∙ lent);
       }
 
-      sorted_works : WorksOn live new
+      sorted_works : StandsBeside live new
       sorted_works =
-          subst (WorksOn live) (sym done.left)
+          subst (StandsBeside live) (sym done.left)
           (works_with live left b sorted (record {
             build_is = run.build_is;
             work_is = refl;
@@ -245,7 +245,7 @@ module _
       spools_left : spools_state left.given (all_spools left.workers left.spools) ≡ spools_state building.given (all_spools building.workers building.spools)
       spools_left =
           let stake : SpoolValue → _ = λ s. s.stake in
-          let lent : List SpoolValue = lent_spools building.workers in
+          let lent : List SpoolValue = workers_spools building.workers in
           rw run.at_work.given (ap (λ stakes. record { stakes = stakes; left = [] })
           (map-append stake left.spools lent
           ∙ ap (λ l. l ++ map stake lent) (kept_changed ended_spool stake (λ s. refl) (length w.specs - 1) index building.spools)
@@ -299,9 +299,9 @@ module _
       again : is_some it.built ≡ true → (count ≡ 0) × (new ≡ building)
       again some = done.again (ap (λ (x : IndexValue). is_some x.built) same_it ∙ some)
 
-      loaded_works : (o : Option BuiltValue) → it.built ≡ o → WorksOn live new
+      loaded_works : (o : Option BuiltValue) → it.built ≡ o → StandsBeside live new
       loaded_works None none = sorted_works new count none (first none)
-      loaded_works (Some built) there = subst (WorksOn live) (sym (again (ap is_some there)).1) (works_with live building b w run)
+      loaded_works (Some built) there = subst (StandsBeside live) (sym (again (ap is_some there)).1) (works_with live building b w run)
 
       loaded_loads : (o : Option BuiltValue) → it.built ≡ o → Loads index (core_state live building) count (core_state live new)
       loaded_loads None none = sorted_loads new count none (first none)
@@ -320,7 +320,7 @@ module _
     -- whatever the load answered, all goes on
     pub works_after_load :
         (new : BuildingValue) (answer : Result ℕ Fault) → IfOk answer (λ count. HasLoaded index building count new)
-        → IfErr answer (λ fault. IsSpoiled fault building new) → WorksOn live new
+        → IfErr answer (λ fault. IsSpoiled fault building new) → StandsBeside live new
     works_after_load new (Ok count) done spoiled = loaded_works index its_spec.0 its_spec.1 its_index.0 its_index.1 new count done its_index.0.built refl
     works_after_load new (Err fault) done spoiled = spoiled_works live fault building new b w run spoiled
 
@@ -341,11 +341,11 @@ module _
 -- of what the workers of a build hold no pair of an index is there twice, once all have taken what their rings were sent
 pub lent_once :
     (live : LiveValue) (building : BuildingValue) (b : BuildState) (w : WorkValue) (run : IsRunning live building b w) (fine : w.spoiled ≡ None)
-    (scans : w.loading ≡ false) (rings : length live.pages ≡ 16) (sealed : AreSealed (all_sent live.pages) building.workers) (all : open_range b ≡ None)
+    (scans : w.handed ≡ false) (rings : length live.pages ≡ 16) (sealed : AreSealed (all_sent live.pages) building.workers) (all : open_range b ≡ None)
     (holding : All (λ worker. IsHolding worker.intake worker.maker worker.spools) building.workers)
-    → ArePut live.state.heap.schema live.state.heap.log b (all_sent live.pages) → HaveEachOnce w (lent_spools building.workers)
+    → ArePut live.state.heap.schema live.state.heap.log b (all_sent live.pages) → HaveEachOnce w (workers_spools building.workers)
 lent_once live building b w run fine scans rings sealed all holding put index less none =
     let after = left_over live building b w run fine scans rings sealed all holding in
     let spec = there_is w.specs index less in
     subst (λ (l : List SpoolValue). AreEachOnce (pairs_in (column index (length w.specs) l))) (all_lent live building b w run fine scans rings sealed all holding)
-    (each_once live after b (record w { loading = true }) (handed_run live building b w run fine scans rings sealed all holding) fine put rings refl index spec.0 spec.1 none)
+    (each_once live after b (record w { handed = true }) (handed_run live building b w run fine scans rings sealed all holding) fine put rings refl index spec.0 spec.1 none)

@@ -1,7 +1,7 @@
 -- A table and what stands beside it, where their rings were looked at.
 use Rattle.std.proofs.Common.{◌≡◌, ℕ, List, ◌++◌, Option, Some, None, refl, sym, ap, ◌∙◌, subst}
 use Rattle.building.specs.SpoolValue.{SpoolValue}
-use Rattle.build_halves.specs.Builds.{LiveValue, HasLooked, IsRunning, WorksOn, core_state}
+use Rattle.build_halves.specs.Builds.{LiveValue, HasLookedAtRings, IsRunning, StandsBeside, core_state}
 use Rattle.build_work.specs.BuildingValue.{BuildingValue, WorkValue, work_state}
 use Rattle.build_work.specs.WorkOn.{WorkersFollow, AreAtWork}
 use Rattle.build_events.specs.CoreState.{BuildState, LiveState, WorkState, SpoolsState}
@@ -23,7 +23,7 @@ use Rattle.keybytes.specs.declared.kind.Kind.{Kind}
 use Rattle.build_work.proofs.Looked.{columns_looked, lent_looked, states_looked}
 
 -- nothing was looked at
-pub not_looked : (live : LiveValue) (building : BuildingValue) → HasLooked live building live building
+pub not_looked : (live : LiveValue) (building : BuildingValue) → HasLookedAtRings live building live building
 not_looked live building = record {
   state = refl;
   sides = refl;
@@ -36,11 +36,11 @@ not_looked live building = record {
 }
 
 -- of a table's ends a look at the page rings reaches those that put copies
-pub ends_looked : (live new_live : LiveValue) (building new : BuildingValue) → HasLooked live building new_live new → PagesAreLooked live new_live
+pub ends_looked : (live new_live : LiveValue) (building new : BuildingValue) → HasLookedAtRings live building new_live new → PagesAreLooked live new_live
 ends_looked live new_live building new looked = record { pages = looked.rings.puts; sides = looked.sides }
 
 -- callers see no difference
-pub state_looked : (live new_live : LiveValue) (building new : BuildingValue) → HasLooked live building new_live new → core_state new_live new ≡ core_state live building
+pub state_looked : (live new_live : LiveValue) (building new : BuildingValue) → HasLookedAtRings live building new_live new → core_state new_live new ≡ core_state live building
 state_looked live new_live building new looked =
     let all : all_spools new.workers new.spools ≡ all_spools building.workers building.spools =
     ap (all_spools new.workers) looked.spools ∙ ap (λ (l : List SpoolValue). building.spools ++ l) (lent_looked building.workers new.workers looked.rings.same) in
@@ -55,7 +55,7 @@ state_looked live new_live building new looked =
 -- and all goes on
 workers_after :
     (kinds : List Kind) (live new_live : LiveValue) (building new : BuildingValue) (build : Option BuildState) (work : Option WorkValue)
-    → HasLooked live building new_live new
+    → HasLookedAtRings live building new_live new
     → WorkersFollow kinds live.pages live.sides building build work → WorkersFollow kinds new_live.pages new_live.sides new build work
 workers_after kinds live new_live building new None work looked follow = tt
 workers_after kinds live new_live building new (Some b) None looked follow = tt
@@ -63,17 +63,17 @@ workers_after kinds live new_live building new (Some b) (Some w) looked follow =
   fed = rw (looked.sides, looked.other_sides) follow.fed;
   given = looked.given ∙ follow.given;
   many = as_long unseen unseen new.workers building.workers looked.rings.same ∙ follow.many;
-  taking = λ fine. rw (same_sent live.pages new_live.pages looked.rings.puts) (taking_same b.number kinds w.specs w.loading _ building.workers new.workers looked.rings.same (follow.taking fine));
+  taking = λ fine. rw (same_sent live.pages new_live.pages looked.rings.puts) (taking_same b.number kinds w.specs w.handed _ building.workers new.workers looked.rings.same (follow.taking fine));
   lent = λ fine scans. looked.spools ∙ follow.lent fine scans;
-  drained = λ fine loading. (
-    (follow.drained fine loading).0,
+  drained = λ fine handed. (
+    (follow.drained fine handed).0,
     sealed_looked (all_sent live.pages) building.workers (all_sent new_live.pages) new.workers
-        (same_sent live.pages new_live.pages looked.rings.puts) looked.rings.same (follow.drained fine loading).1,
+        (same_sent live.pages new_live.pages looked.rings.puts) looked.rings.same (follow.drained fine handed).1,
   );
-  columns = λ fine loading. rw looked.spools (columns_looked building.workers new.workers building.spools w looked.rings.same (follow.columns fine loading));
+  columns = λ fine handed. rw looked.spools (columns_looked building.workers new.workers building.spools w looked.rings.same (follow.columns fine handed));
 }
 
-pub works_looked : (live new_live : LiveValue) (building new : BuildingValue) → HasLooked live building new_live new → WorksOn live building → WorksOn new_live new
+pub works_looked : (live new_live : LiveValue) (building new : BuildingValue) → HasLookedAtRings live building new_live new → StandsBeside live building → StandsBeside new_live new
 works_looked live new_live building new looked works = record {
   work = rw (looked.state, looked.work) works.work;
   workers =
@@ -83,7 +83,7 @@ works_looked live new_live building new looked works = record {
 }
 
 pub runs_looked :
-    (live new_live : LiveValue) (building new : BuildingValue) (b : BuildState) (w : WorkValue) → HasLooked live building new_live new
+    (live new_live : LiveValue) (building new : BuildingValue) (b : BuildState) (w : WorkValue) → HasLookedAtRings live building new_live new
     → IsRunning live building b w → IsRunning new_live new b w
 runs_looked live new_live building new b w looked run = record {
   build_is = rw looked.state run.build_is;

@@ -63,10 +63,10 @@ workers_looked kinds old new sides building (Some b) (Some w) same follow = reco
   fed = follow.fed;
   given = follow.given;
   many = follow.many;
-  taking = λ fine. subst (λ (all : List (List Copied)). AreTaking b.number kinds w.specs w.loading all building.workers) (sym same) (follow.taking fine);
+  taking = λ fine. subst (λ (all : List (List Copied)). AreTaking b.number kinds w.specs w.handed all building.workers) (sym same) (follow.taking fine);
   lent = follow.lent;
-  drained = λ fine loading.
-      let was = follow.drained fine loading in
+  drained = λ fine handed.
+      let was = follow.drained fine handed in
       (was.0, subst (λ (all : List (List Copied)). AreSealed all building.workers) (sym same) was.1);
   columns = follow.columns;
 }
@@ -126,10 +126,10 @@ put_next kinds log builds b all worker page records number sent image is there n
 
 -- one copy more is put for a worker
 worker_put :
-    (build : ℕ) (kinds : List Kind) (specs : List KeySpecValue) (loading : Bool) (sent : List Copied) (worker : WorkerValue)
-    → IsWorkerOf build kinds specs loading sent worker → (copied : Copied) → IsFor build kinds copied
-    → IsWorkerOf build kinds specs loading (sent ++ copied ∷ []) worker
-worker_put build kinds specs loading sent worker it copied own = record {
+    (build : ℕ) (kinds : List Kind) (specs : List KeySpecValue) (handed : Bool) (sent : List Copied) (worker : WorkerValue)
+    → IsWorkerOf build kinds specs handed sent worker → (copied : Copied) → IsFor build kinds copied
+    → IsWorkerOf build kinds specs handed (sent ++ copied ∷ []) worker
+worker_put build kinds specs handed sent worker it copied own = record {
   fine = it.fine;
   schema = it.schema;
   specs_are = it.specs_are;
@@ -152,9 +152,9 @@ workers_put kinds pages sides building b new (Some w) i sent copied put follow t
   given = follow.given;
   many = follow.many ∙ sym workers;
   taking = λ fine.
-      rw (is, number) (taking_put b.number kinds w.specs w.loading (all_sent pages) building.workers i (sent ++ copied ∷ []) (follow.taking fine)
-      (λ worker at. worker_put b.number kinds w.specs w.loading sent worker (follow.taking fine i sent worker there at) copied own));
+      rw (is, number) (taking_put b.number kinds w.specs w.handed (all_sent pages) building.workers i (sent ++ copied ∷ []) (follow.taking fine)
+      (λ worker at. worker_put b.number kinds w.specs w.handed sent worker (follow.taking fine i sent worker there at) copied own));
   lent = follow.lent;
-  drained = λ fine loading. absurd (more (follow.drained fine loading).0);
+  drained = λ fine handed. absurd (more (follow.drained fine handed).0);
   columns = follow.columns;
 }

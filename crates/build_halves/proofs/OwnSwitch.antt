@@ -14,28 +14,28 @@ use Rattle.build_events.specs.declared.event.Event.TheVariants.{Switch}
 use Rattle.build_scan.specs.TableBuilds.{BuildFollows}
 use Rattle.build_work.specs.BuildingValue.{BuildingValue, WorkValue, work_state}
 use Rattle.build_work.specs.Keeping.{IsKept, KeepsWork}
-use Rattle.build_work.specs.WorkOn.{IsWorkOf}
+use Rattle.build_work.specs.WorkOn.{WorkMatches}
 use Rattle.build_scan.proofs.Places.{map_at, there_is}
-use Rattle.build_halves.specs.Builds.{IsRunning, LiveValue, WorksOn, core_state}
+use Rattle.build_halves.specs.Builds.{IsRunning, LiveValue, StandsBeside, core_state}
 use Rattle.build_halves.specs.Switching.{HasLeftCopy, HaveAll, IsForeign, IsPartOf, KeepsOut, RefusesSwitch, early_cause}
 use Rattle.build_halves.proofs.EarlyCauses.{early_is, first_unloaded, switch_refused}
 use Rattle.build_halves.proofs.Refusals.{running}
-use Rattle.build_halves.proofs.Reunited.{all_loaded, loading}
+use Rattle.build_halves.proofs.Reunited.{all_loaded, handed}
 use Rattle.build_halves.proofs.Unloaded.{no_fault}
 
 -- where a build runs there is work
 work_there :
-    (live : LiveValue) (building : BuildingValue) (b : BuildState) → live.state.build ≡ Some b → WorksOn live building
+    (live : LiveValue) (building : BuildingValue) (b : BuildState) → live.state.build ≡ Some b → StandsBeside live building
     → (w : WorkValue) × (building.work ≡ Some w)
 work_there live building b runs works = by_work building.work refl where
   by_work : (o : Option WorkValue) → building.work ≡ o → (w : WorkValue) × (building.work ≡ Some w)
   by_work (Some w) is = (w, is)
   by_work None is =
-      absurd (subst (λ (o : Option BuildState). IsWorkOf live.state.heap.schema live.state.heap.log o None) runs
-      (subst (IsWorkOf live.state.heap.schema live.state.heap.log live.state.build) is works.work))
+      absurd (subst (λ (o : Option BuildState). WorkMatches live.state.heap.schema live.state.heap.log o None) runs
+      (subst (WorkMatches live.state.heap.schema live.state.heap.log live.state.build) is works.work))
 
 module _
-    (live : LiveValue) (building : BuildingValue) (follows : BuildFollows live.state.heap.schema live.state.heap.log live.state.build) (works : WorksOn live building) where
+    (live : LiveValue) (building : BuildingValue) (follows : BuildFollows live.state.heap.schema live.state.heap.log live.state.build) (works : StandsBeside live building) where
   -- the work is the build's
   pub own_part : (b : BuildState) → live.state.build ≡ Some b → IsPartOf live building
   own_part b runs =
@@ -68,7 +68,7 @@ module _
         let later = both_none (option_map NotScanned (open_range b)) _ parts.1 in
         let kept : IsKept building.workers building.sides building.spools w =
         subst (λ (o : Option WorkValue). KeepsWork building.workers building.sides building.spools o) of.there keeps fine in
-        let loads : w.loading ≡ true = loading live building left.part kept run.follows (all_loaded w.indexes (sym (no_fault (first_unloaded w) later.1))) in
+        let loads : w.handed ≡ true = handed live building left.part kept run.follows (all_loaded w.indexes (sym (no_fault (first_unloaded w) later.1))) in
         let k : ℕ = left.worker in
         let worker = there_is building.workers k left.lowest.there in
         let end = there_is live.pages k (omega (arith, left.lowest.there, run.at_work.many, run.follows.few_workers, rings)) in
@@ -100,7 +100,7 @@ module _
 pub refused_after :
     {X : Type 0} (live mid new_live : LiveValue) (building beside new : BuildingValue) (answer : Result X Fault)
     → core_state mid beside ≡ core_state live building → IsPartOf live building × HaveAll live building → early_cause true (core_state live building) ≡ None
-    → IfErr answer (λ fault. IsRefused (core_state mid beside) Switch fault (core_state new_live new)) → WorksOn new_live new
+    → IfErr answer (λ fault. IsRefused (core_state mid beside) Switch fault (core_state new_live new)) → StandsBeside new_live new
     → IfErr answer (λ fault. RefusesSwitch live building fault new_live new)
 refused_after live mid new_live building beside new (Ok x) same taken first refused works = tt
 refused_after live mid new_live building beside new (Err fault) same taken first refused works = inr (record {

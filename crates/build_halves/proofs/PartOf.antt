@@ -24,7 +24,7 @@ use Rattle.build_scan.proofs.LookedEnds.{all_looked_twice, all_unlooked, same_lo
 use Rattle.build_scan.proofs.Places.{at_index, below, map_at, same_at, there_is}
 use Rattle.build_work.specs.BuildingValue.{BuildingValue, IndexValue, WorkValue}
 use Rattle.build_work.specs.WorkOn.{AreFed, IsIndexFed, WorkersFollow}
-use Rattle.build_halves.specs.Builds.{LiveValue, SeesSideAt, SideIsLooked, WorksOn, core_state}
+use Rattle.build_halves.specs.Builds.{LiveValue, SeesSideAt, SideIsLooked, StandsBeside, core_state}
 use Rattle.build_halves.specs.Switching.{IsFedAt, IsOfBuild, IsPartOf, SidesAreLooked, unseen_take}
 
 -- an end that puts entries, but for the places that it has seen free
@@ -194,10 +194,10 @@ follow_sides kinds pages puts new_puts building new_ends (Some b) (Some w) same_
 }
 
 pub works_sides_looked :
-    (live new_live : LiveValue) (building new : BuildingValue) → SidesAreSame live building new_live new → WorksOn live building → WorksOn new_live new
+    (live new_live : LiveValue) (building new : BuildingValue) → SidesAreSame live building new_live new → StandsBeside live building → StandsBeside new_live new
 works_sides_looked live new_live building new looked works =
-    subst (λ (l : LiveValue). WorksOn l new) (sym looked.of_live)
-    (subst (WorksOn (record live { sides = new_live.sides })) (sym looked.of_building) (record {
+    subst (λ (l : LiveValue). StandsBeside l new) (sym looked.of_live)
+    (subst (StandsBeside (record live { sides = new_live.sides })) (sym looked.of_building) (record {
       work = works.work;
       workers = follow_sides live.state.heap.schema live.pages live.sides new_live.sides building new.sides live.state.build building.work
           looked.puts looked.takes works.workers;

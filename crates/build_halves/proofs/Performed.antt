@@ -11,7 +11,7 @@ use Rattle.heap_table.specs.Pages.{SetsRow}
 use Rattle.heap_table.specs.Ready.{IsReady, IsLawfulChange, after_ready}
 use Rattle.building.specs.declared.copied.Copied.{Copied}
 use Rattle.build_work.specs.BuildingValue.{WorkValue}
-use Rattle.build_work.specs.WorkOn.{IsWorkOf}
+use Rattle.build_work.specs.WorkOn.{WorkMatches}
 use Rattle.build_scan.specs.TableBuilds.{BuildFollows}
 use Rattle.build_events.specs.CoreState.{BuildState}
 use Rattle.ready_indexes.specs.Following.{AllFollow, FitsColumns, Follows, GuardedIndex}
@@ -22,11 +22,11 @@ use Rattle.build_scan.proofs.Performed.{fits_of, grows, rec_ready, schema_is}
 
 module _ (h : HeapValue) (ready : Ready) (is : IsReady h ready) (change : IsLawfulChange h.state ready) (sets : SetsRow h.state.log ready.rid ready.new (after_ready h.state ready).log) where
   pub works_on :
-      (build : Option BuildState) (work : Option WorkValue) → BuildFollows h.state.schema h.state.log build → IsWorkOf h.state.schema h.state.log build work
-      → IsWorkOf (after_ready h.state ready).schema (after_ready h.state ready).log build work
+      (build : Option BuildState) (work : Option WorkValue) → BuildFollows h.state.schema h.state.log build → WorkMatches h.state.schema h.state.log build work
+      → WorkMatches (after_ready h.state ready).schema (after_ready h.state ready).log build work
   works_on build work is_of works =
-      subst (λ k. IsWorkOf k (after_ready h.state ready).log build work) (sym (schema_is h ready is change sets))
-      (subst (λ l. IsWorkOf h.state.schema l build work) (sym (grows h ready is change sets)) (work_kept h.state.schema h.state.log (rec_ready ready) build work is_of works))
+      subst (λ k. WorkMatches k (after_ready h.state ready).log build work) (sym (schema_is h ready is change sets))
+      (subst (λ l. WorkMatches h.state.schema l build work) (sym (grows h ready is change sets)) (work_kept h.state.schema h.state.log (rec_ready ready) build work is_of works))
 
   pub pages_on :
       (builds : ℕ) (build : Option BuildState) (all : List (List Copied)) → BuildFollows h.state.schema h.state.log build

@@ -14,9 +14,9 @@ use Rattle.std.proofs.lemmas.Option.{get_or_from_slice_get}
 use Rattle.building.specs.declared.copied.Copied.{Copied}
 use Rattle.build_halves.specs.Builds.{LiveValue}
 use Rattle.build_work.specs.BuildingValue.{BuildingValue, WorkValue, work_state, worker_state, index_state}
-use Rattle.build_work.specs.WorkOn.{IsWorkOf, WorkersFollow}
+use Rattle.build_work.specs.WorkOn.{WorkMatches, WorkersFollow}
 use Rattle.build_scan.specs.TableBuilds.{BuildFollows}
-use Rattle.build_halves.specs.Builds.{WorksOn, IsRunning}
+use Rattle.build_halves.specs.Builds.{StandsBeside, IsRunning}
 use Rattle.build_events.specs.CoreState.{BuildState, WorkState}
 use Rattle.build_work.specs.Rings.{all_sent}
 use Rattle.build_halves.specs.Rings.{ArePut}
@@ -26,13 +26,13 @@ use Rattle.build_halves.proofs.Waits.{waits}
 
 pub running :
     (live : LiveValue) (building : BuildingValue) (b : BuildState) (w : WorkValue) → live.state.build ≡ Some b → building.work ≡ Some w
-    → BuildFollows live.state.heap.schema live.state.heap.log live.state.build → WorksOn live building → IsRunning live building b w
+    → BuildFollows live.state.heap.schema live.state.heap.log live.state.build → StandsBeside live building → IsRunning live building b w
 running live building b w build_is work_is follows works = record {
   build_is = build_is;
   work_is = work_is;
   follows = subst (BuildFollows live.state.heap.schema live.state.heap.log) build_is follows;
-  on = subst (λ (o : Option BuildState). IsWorkOf live.state.heap.schema live.state.heap.log o (Some w)) build_is
-      (subst (IsWorkOf live.state.heap.schema live.state.heap.log live.state.build) work_is works.work);
+  on = subst (λ (o : Option BuildState). WorkMatches live.state.heap.schema live.state.heap.log o (Some w)) build_is
+      (subst (WorkMatches live.state.heap.schema live.state.heap.log live.state.build) work_is works.work);
   at_work = subst (λ (o : Option BuildState). WorkersFollow live.state.heap.schema live.pages live.sides building o (Some w)) build_is
       (subst (WorkersFollow live.state.heap.schema live.pages live.sides building live.state.build) work_is works.workers);
 }
@@ -40,17 +40,17 @@ running live building b w build_is work_is follows works = record {
 -- the same, told of a table from within
 pub running_inside :
     (inside live : LiveValue) (building : BuildingValue) (b : BuildState) (w : WorkValue) → inside ≡ live → inside.state.build ≡ Some b → building.work ≡ Some w
-    → BuildFollows inside.state.heap.schema inside.state.heap.log inside.state.build → WorksOn live building → IsRunning live building b w
+    → BuildFollows inside.state.heap.schema inside.state.heap.log inside.state.build → StandsBeside live building → IsRunning live building b w
 running_inside inside live building b w view_is build_is work_is follows works =
     running live building b w (sym (ap (λ (l : LiveValue). l.state.build) view_is) ∙ build_is) work_is
     (subst (λ (l : LiveValue). BuildFollows l.state.heap.schema l.state.heap.log l.state.build) view_is follows) works
 
 -- a running build's work, as a table and what stands beside it show it
 pub works_with :
-    (live : LiveValue) (building : BuildingValue) (b : BuildState) (w : WorkValue) → IsRunning live building b w → WorksOn live building
+    (live : LiveValue) (building : BuildingValue) (b : BuildState) (w : WorkValue) → IsRunning live building b w → StandsBeside live building
 works_with live building b w run = record {
-  work = subst (λ (o : Option BuildState). IsWorkOf live.state.heap.schema live.state.heap.log o building.work) (sym run.build_is)
-      (subst (IsWorkOf live.state.heap.schema live.state.heap.log (Some b)) (sym run.work_is) run.on);
+  work = subst (λ (o : Option BuildState). WorkMatches live.state.heap.schema live.state.heap.log o building.work) (sym run.build_is)
+      (subst (WorkMatches live.state.heap.schema live.state.heap.log (Some b)) (sym run.work_is) run.on);
   workers = subst (λ (o : Option BuildState). WorkersFollow live.state.heap.schema live.pages live.sides building o building.work) (sym run.build_is)
       (subst (WorkersFollow live.state.heap.schema live.pages live.sides building (Some b)) (sym run.work_is) run.at_work);
 }
@@ -91,7 +91,7 @@ builds_on (Some b) some = refl
 -- a build that runs was given the spools
 pub given_to :
     (kinds : List Kind) (log : List LogRec) (pages : List (PutEnd Copied)) (sides : List (PutEnd Entry)) (building : BuildingValue) (o : Option BuildState)
-    (work : Option WorkValue) → IsWorkOf kinds log o work → WorkersFollow kinds pages sides building o work → IsSome o → building.given ≡ true
+    (work : Option WorkValue) → WorkMatches kinds log o work → WorkersFollow kinds pages sides building o work → IsSome o → building.given ≡ true
 given_to kinds log pages sides building None w is follow some = absurd (false≢true some)
 given_to kinds log pages sides building (Some b) None is follow some = absurd is
 given_to kinds log pages sides building (Some b) (Some w) is follow some = follow.given

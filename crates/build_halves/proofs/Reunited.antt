@@ -49,9 +49,9 @@ use Rattle.build_scan.proofs.Places.{all_at, all_from, below, map_at, there_is}
 use Rattle.build_work.specs.BuildingValue.{BuildingValue, IndexValue, WorkValue}
 use Rattle.build_work.specs.Keeping.{HasHanded, IsIndexOf, IsKept, KeepsLaws, all_received}
 use Rattle.build_work.specs.Rings.{AreSealed, IsSealed, IsWorkerOf, all_sent}
-use Rattle.build_work.specs.WorkOn.{AreAtWork, IsCaughtUpTo, IsIndexOn, IsWorkOn}
+use Rattle.build_work.specs.WorkOn.{AreAtWork, IsCaughtUpTo, IsIndexOn, IsWorkOfBuild}
 use Rattle.build_work.proofs.Positions.{all_fail}
-use Rattle.build_halves.specs.Builds.{IsRunning, LiveValue, WorksOn}
+use Rattle.build_halves.specs.Builds.{IsRunning, LiveValue, StandsBeside}
 use Rattle.build_halves.specs.Invariant.{EachPageOnce}
 use Rattle.build_halves.specs.Rings.{all_images}
 use Rattle.build_halves.specs.Switching.{IsPartOf}
@@ -151,8 +151,8 @@ module _
   first_index = there_is w.indexes 0 (omega (arith, follows.some_index, kept.many, ap length part.of.specs))
 
   -- so where all are in order the workers have handed their spools over
-  pub loading : ((k : ℕ) (index : IndexValue) → slice_get w.indexes k ≡ Some index → is_some index.built ≡ true) → w.loading ≡ true
-  loading loaded = elim (cases_Bool w.loading) [
+  pub handed : ((k : ℕ) (index : IndexValue) → slice_get w.indexes k ≡ Some index → is_some index.built ≡ true) → w.handed ≡ true
+  handed loaded = elim (cases_Bool w.handed) [
     | inl loads ↦ loads
     | inr scans ↦
         let none = all_at (λ (i : IndexValue). i.built ≡ None) w.indexes 0 first_index.0 (kept.unloaded scans) first_index.1 in
@@ -160,7 +160,7 @@ module _
   ]
 
   -- one of the workers, from the first load on
-  handed : w.loading ≡ true → (k : ℕ) (worker : WorkerValue) → slice_get building.workers k ≡ Some worker → HasHanded w.specs worker
+  handed : w.handed ≡ true → (k : ℕ) (worker : WorkerValue) → slice_get building.workers k ≡ Some worker → HasHanded w.specs worker
   handed loads k worker at = all_at (HasHanded w.specs) building.workers k worker (kept.handed loads) at
 
   -- where each worker's specifications are of the columns that it reads, these are the table's
@@ -204,7 +204,7 @@ module _
       of_build : worker.intake.build ≡ b.number
       of_build = (kept.placed k worker at).of_build ∙ part.of.number
 
-      is_worker : IsWorkerOf b.number kinds w.specs w.loading sent worker
+      is_worker : IsWorkerOf b.number kinds w.specs w.handed sent worker
       is_worker = record {
         fine = (kept.placed k worker at).fine;
         schema = schema;
@@ -334,7 +334,7 @@ module _
       }
 
     -- it is the work of that build
-    pub work_on : IsWorkOn kinds log b w
+    pub work_on : IsWorkOfBuild kinds log b w
     work_on = record {
       number = part.of.number;
       specs = part.of.specs;
@@ -358,5 +358,5 @@ module _
     pub reunited_run : IsRunning live building b w
     reunited_run = record { build_is = part.of.runs; work_is = part.of.there; follows = follows; on = work_on; at_work = at_work }
 
-    pub reunited : WorksOn live building
+    pub reunited : StandsBeside live building
     reunited = works_with live building b w reunited_run

@@ -5,7 +5,7 @@ use Rattle.std.proofs.lemmas.Bool.{le-leb, lt-leb}
 use Rattle.keybytes.specs.declared.fault.Fault.TheVariants.{RingFull}
 use Rattle.side_file.specs.Ends.{PutEnd}
 use Rattle.building.specs.declared.copied.Copied.{Copied}
-use Rattle.build_halves.specs.Builds.{LiveValue, IsRunning, SeesRing, HasLooked, core_state, cause_of}
+use Rattle.build_halves.specs.Builds.{LiveValue, IsRunning, SeesRing, HasLookedAtRings, core_state, cause_of}
 use Rattle.build_work.specs.BuildingValue.{BuildingValue, WorkValue}
 use Rattle.build_events.specs.CoreState.{BuildState, CoreState, WorkState}
 use Rattle.build_events.specs.Ranges.{next_page}
@@ -33,7 +33,7 @@ ring_cause s b range worker count runs fine ranges workers more waits =
 module _
     (live new_live : LiveValue) (building new : BuildingValue) (b : BuildState) (w : WorkValue) (range worker count : ℕ) (run : IsRunning live building b w)
     (fine : w.spoiled ≡ None) (ranges : range < length b.ends) (workers : worker < b.workers) (more : is_some (next_page b range) ≡ true)
-    (looked : HasLooked live building new_live new) (sees : SeesRing worker count new_live new)
+    (looked : HasLookedAtRings live building new_live new) (sees : SeesRing worker count new_live new)
     (put : PagesFollow new_live.state.heap.schema new_live.state.heap.log new_live.state.builds new_live.state.build (all_sent new_live.pages)) where
   after : IsRunning new_live new b w
   after = runs_looked live new_live building new b w looked run

@@ -11,7 +11,7 @@ use Rattle.side_file.specs.Ends.{PutEnd, RingId}
 use Rattle.side_file.specs.declared.entry.Entry.{Entry}
 use Rattle.building.specs.TakeEnd.{TakeEnd}
 use Rattle.building.specs.declared.copied.Copied.{Copied}
-use Rattle.build_halves.specs.Builds.{LiveValue, WorksOn}
+use Rattle.build_halves.specs.Builds.{LiveValue, StandsBeside}
 use Rattle.build_work.specs.BuildingValue.{BuildingValue, WorkValue, IndexValue, fresh, fresh_index, intakes}
 use Rattle.build_work.specs.WorkOn.{AreFed}
 use Rattle.build_scan.specs.TableBuilds.{IsBuildOf, build_over}
@@ -95,7 +95,7 @@ pub started_works :
     → intakes building.workers building.idle ≡ map (begun_on (builds + 1)) live.pages → building.sides ≡ map drained_end live.sides
     → length building.workers ≡ workers → All (λ worker. worker.maker ≡ fresh_maker live.state.heap.schema specs) building.workers
     → All (HasOwnSpools specs) building.workers → AreWorkers (builds + 1) specs false building.workers
-    → building.spools ≡ [] → WorksOn live building
+    → building.spools ≡ [] → StandsBeside live building
 started_works live building b w builds specs workers opened cuts build_is work_is given b_is w_is follows columns before intakes_are drained many makers own placed none =
     let new : BuildState = build_over (builds + 1) specs workers opened cuts [] (map (λ spec. 0) specs) in
     works_with live building b w (record {
@@ -109,7 +109,7 @@ started_works live building b w builds specs workers opened cuts build_is work_i
         many = many ∙ sym (ap (λ (x : BuildState). x.workers) b_is);
         taking = λ fine. rw (b_is, w_is) (started_taking builds live.pages before live.state.heap.schema specs building.workers building.idle intakes_are makers own placed);
         lent = λ fine scans. none;
-        drained = λ fine loading. absurd (false≢true (ap (λ (x : WorkValue). x.loading) (sym w_is) ∙ loading));
-        columns = λ fine loading. absurd (false≢true (ap (λ (x : WorkValue). x.loading) (sym w_is) ∙ loading));
+        drained = λ fine handed. absurd (false≢true (ap (λ (x : WorkValue). x.handed) (sym w_is) ∙ handed));
+        columns = λ fine handed. absurd (false≢true (ap (λ (x : WorkValue). x.handed) (sym w_is) ∙ handed));
       };
     })

@@ -13,7 +13,7 @@ use Rattle.heap_table.specs.TablePairs.{index_pairs, pairs_at_rest}
 use Rattle.keybytes.proofs.ColumnOrder.{column_order}
 use Rattle.keybytes.specs.Pairs.{HaveKeysOf, AreInColumnOrder}
 use Rattle.catch_up.specs.Built.{BuiltValue}
-use Rattle.build_halves.specs.Builds.{LiveValue, IsRunning, WorksOn, cause_of, core_state}
+use Rattle.build_halves.specs.Builds.{LiveValue, IsRunning, StandsBeside, cause_of, core_state}
 use Rattle.build_work.specs.BuildingValue.{BuildingValue, WorkValue, IndexValue, state_unless, work_state, index_state}
 use Rattle.build_halves.specs.CatchingUp.{IsDoneIndex, MayCatchUp, built_pairs, ready_of}
 use Rattle.build_work.specs.Verdicts.{built_verdict, its_verdict}
@@ -143,7 +143,7 @@ pub record HasCaughtUp (live : LiveValue) (building : BuildingValue) (b : BuildS
 -- told of a table from within
 pub caught_up :
     (inside old live : LiveValue) (before building : BuildingValue) (b : BuildState) (w : WorkValue) → inside ≡ live → inside.state.build ≡ Some b
-    → building.work ≡ Some w → BuildFollows inside.state.heap.schema inside.state.heap.log inside.state.build → WorksOn old before → WorksOn live building
+    → building.work ≡ Some w → BuildFollows inside.state.heap.schema inside.state.heap.log inside.state.build → StandsBeside old before → StandsBeside live building
     → cause_of old before Switch ≡ None → CatchesUp (core_state old before) (core_state live building)
     → OnBuild live.state.build (λ b. all_unapplied b live.state.heap.log b.specs (work_state building.workers building.work).indexes ≡ 0)
     → HasCaughtUp live building b w

@@ -9,7 +9,7 @@ use Rattle.keybytes.specs.declared.kind.Kind.{Kind}
 use Rattle.heap_log.specs.declared.record.LogRec.{LogRec}
 use Rattle.heap_table.specs.TablePairs.{pairs_at_rest}
 use Rattle.build_work.specs.BuildingValue.{WorkValue, IndexValue}
-use Rattle.build_work.specs.WorkOn.{IsIndexOn, IsWorkOn, IsWorkOf}
+use Rattle.build_work.specs.WorkOn.{IsIndexOn, IsWorkOfBuild, WorkMatches}
 use Rattle.build_scan.specs.TableBuilds.{IsBuildOf, BuildFollows}
 use Rattle.build_events.specs.CoreState.{BuildState, scanning_of}
 use Rattle.build_events.specs.Ranges.{next_page}
@@ -49,8 +49,8 @@ index_grown kinds log rec b spec index build is = record {
   scans = (build.scanned spec).scans
 
 work_grown :
-    (kinds : List Kind) (log : List LogRec) (rec : LogRec) (b : BuildState) (work : WorkValue) → IsBuildOf kinds log b → IsWorkOn kinds log b work
-    → IsWorkOn kinds (log ++ rec ∷ []) b work
+    (kinds : List Kind) (log : List LogRec) (rec : LogRec) (b : BuildState) (work : WorkValue) → IsBuildOf kinds log b → IsWorkOfBuild kinds log b work
+    → IsWorkOfBuild kinds (log ++ rec ∷ []) b work
 work_grown kinds log rec b work build is = record {
   number = is.number;
   specs = is.specs;
@@ -60,8 +60,8 @@ work_grown kinds log rec b work build is = record {
 }
 
 pub work_kept :
-    (kinds : List Kind) (log : List LogRec) (rec : LogRec) (build : Option BuildState) (work : Option WorkValue) → BuildFollows kinds log build → IsWorkOf kinds log build work
-    → IsWorkOf kinds (log ++ rec ∷ []) build work
+    (kinds : List Kind) (log : List LogRec) (rec : LogRec) (build : Option BuildState) (work : Option WorkValue) → BuildFollows kinds log build → WorkMatches kinds log build work
+    → WorkMatches kinds (log ++ rec ∷ []) build work
 work_kept kinds log rec None None build is = tt
 work_kept kinds log rec None (Some w) build is = is
 work_kept kinds log rec (Some b) None build is = is
@@ -81,16 +81,16 @@ switched_pairs kinds log b spec index built build is loaded all =
 
 -- where the next page is copied, the work of the build stands
 pub work_next :
-    (kinds : List Kind) (log : List LogRec) (b : BuildState) (work : WorkValue) (range worker page records : ℕ) → IsWorkOn kinds log b work
+    (kinds : List Kind) (log : List LogRec) (b : BuildState) (work : WorkValue) (range worker page records : ℕ) → IsWorkOfBuild kinds log b work
     → next_page b range ≡ Some page → records ≡ length log
-    → IsWorkOn kinds log (record b { scans = b.scans ++ record { worker = worker; page = page; records = records } ∷ [] }) work
+    → IsWorkOfBuild kinds log (record b { scans = b.scans ++ record { worker = worker; page = page; records = records } ∷ [] }) work
 work_next kinds log b work range worker page records is next now =
-    subst (λ r. IsWorkOn kinds log (record b { scans = b.scans ++ record { worker = worker; page = page; records = r } ∷ [] }) work)
+    subst (λ r. IsWorkOfBuild kinds log (record b { scans = b.scans ++ record { worker = worker; page = page; records = r } ∷ [] }) work)
     (sym now) (scanned_work_on kinds log b work worker page is (λ none. no_page b none range page next))
 
 pub work_of_next :
-    (kinds : List Kind) (log : List LogRec) (b : BuildState) (work : Option WorkValue) (range worker page records : ℕ) → IsWorkOf kinds log (Some b) work
+    (kinds : List Kind) (log : List LogRec) (b : BuildState) (work : Option WorkValue) (range worker page records : ℕ) → WorkMatches kinds log (Some b) work
     → next_page b range ≡ Some page → records ≡ length log
-    → IsWorkOf kinds log (Some (record b { scans = b.scans ++ record { worker = worker; page = page; records = records } ∷ [] })) work
+    → WorkMatches kinds log (Some (record b { scans = b.scans ++ record { worker = worker; page = page; records = records } ∷ [] })) work
 work_of_next kinds log b None range worker page records is next now = is
 work_of_next kinds log b (Some w) range worker page records is next now = work_next kinds log b w range worker page records is next now

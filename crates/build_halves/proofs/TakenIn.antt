@@ -23,9 +23,9 @@ use Rattle.build_work.specs.Working.{HasHandedOver}
 use Rattle.build_work.specs.Rings.{AreLooked, FirstAreSealed, IsUnsealed, all_sent, unseen}
 use Rattle.build_work.proofs.Looks.{first_looked, same_sent, sealed_looked}
 use Rattle.build_scan.proofs.LookedEnds.{all_unlooked}
-use Rattle.build_halves.specs.Builds.{HasLooked, IsRunning, LiveValue, MayLoad, WorksOn, core_state}
+use Rattle.build_halves.specs.Builds.{HasLookedAtRings, IsRunning, LiveValue, MayLoad, StandsBeside, core_state}
 use Rattle.build_halves.specs.Invariant.{EachPageOnce}
-use Rattle.build_halves.specs.Switching.{GoesOn, HandsOver, HaveAll, IsKeptOut, IsOnlyLookedAt, IsPartOf, IsScannedWhole, IsTakenIn, SidesAreLooked, early_cause, unseen_take}
+use Rattle.build_halves.specs.Switching.{IsUnspoiled, HandsOver, HaveAll, IsKeptOut, IsOnlyLookedAt, IsPartOf, IsScannedWhole, IsTakenIn, SidesAreLooked, early_cause, unseen_take}
 use Rattle.build_halves.proofs.Looked.{state_looked, works_looked}
 use Rattle.build_halves.proofs.PartOf.{SidesAreSame, looked_back, part_looked, sides_same, state_sides_looked, works_sides_looked}
 use Rattle.build_halves.proofs.Refusals.{running}
@@ -38,7 +38,7 @@ pub works_again :
     → IfSome live.state.build (λ b. EachPageOnce live.state.heap.schema live.state.heap.log b (all_sent live.pages))
     → IfSome live.state.build (λ b. EachEntryOnce live.state.heap.log b live.sides) → length live.pages ≡ 16 → length live.sides ≡ 8 → length building.sides ≡ 8
     → (building.given ≡ false → building.work ≡ None) → (rings : List RingId) → All (KeepsLaws rings) building.workers
-    → KeepsWork building.workers building.sides building.spools building.work → WorksOn live building
+    → KeepsWork building.workers building.sides building.spools building.work → StandsBeside live building
 works_again live building taken follows pages entries page_rings entry_rings taken_rings given rings laws keeps =
     let part : IsPartOf live building = taken.part in
     let b : BuildState = part.of.build in
@@ -74,7 +74,7 @@ rest_same new old mid idle sides spools given work of_mid =
 
 -- it leaves what is part of the build so
 pub part_rings_looked :
-    (live new_live : LiveValue) (building new : BuildingValue) → HasLooked live building new_live new → IsPartOf live building → IsPartOf new_live new
+    (live new_live : LiveValue) (building new : BuildingValue) → HasLookedAtRings live building new_live new → IsPartOf live building → IsPartOf new_live new
 part_rings_looked live new_live building new looked part = record {
   of = record {
     build = part.of.build;
@@ -91,7 +91,7 @@ part_rings_looked live new_live building new looked part = record {
 
 -- where nothing is left over then, it is taken in
 pub now_taken :
-    (live new_live : LiveValue) (building new : BuildingValue) → HasLooked live building new_live new → IsPartOf live building → GoesOn building
+    (live new_live : LiveValue) (building new : BuildingValue) → HasLookedAtRings live building new_live new → IsPartOf live building → IsUnspoiled building
     → IsScannedWhole live → HaveAll new_live new → IsTakenIn new_live new
 now_taken live new_live building new looked part fine scanned all = record {
   part = part_rings_looked live new_live building new looked part;
@@ -111,7 +111,7 @@ module _ (in_order : Bool) (live mid_live : LiveValue) (building mid : BuildingV
   pub same_state : core_state mid_live mid ≡ core_state live building
   same_state = state_sides_looked live mid_live building mid same
 
-  pub works_same : WorksOn live building → WorksOn mid_live mid
+  pub works_same : StandsBeside live building → StandsBeside mid_live mid
   works_same = works_sides_looked live mid_live building mid same
 
   pub sides_only : IsOnlyLookedAt live building mid_live mid
@@ -136,11 +136,11 @@ module _ (in_order : Bool) (live mid_live : LiveValue) (building mid : BuildingV
   kept_foreign foreign = record { cause = inl (record { foreign = foreign; no_build = refl }); looked = sides_only }
 
   -- and then those of the workers
-  module _ (new_live : LiveValue) (new : BuildingValue) (rings : HasLooked mid_live mid new_live new) where
+  module _ (new_live : LiveValue) (new : BuildingValue) (rings : HasLookedAtRings mid_live mid new_live new) where
     pub state_taken : core_state new_live new ≡ core_state live building
     state_taken = state_looked mid_live new_live mid new rings ∙ same_state
 
-    pub works_taken : WorksOn live building → WorksOn new_live new
+    pub works_taken : StandsBeside live building → StandsBeside new_live new
     works_taken works = works_looked mid_live new_live mid new rings (works_same works)
 
     pages_are : mid_live.pages ≡ live.pages
@@ -209,7 +209,7 @@ module _ (in_order : Bool) (live mid_live : LiveValue) (building mid : BuildingV
 -- and its workers may hand their spools over
 pub may_hand_over :
     (live : LiveValue) (building : BuildingValue) → IsTakenIn live building
-    → BuildFollows live.state.heap.schema live.state.heap.log live.state.build → WorksOn live building → (rings : List RingId)
+    → BuildFollows live.state.heap.schema live.state.heap.log live.state.build → StandsBeside live building → (rings : List RingId)
     → All (KeepsLaws rings) building.workers → KeepsWork building.workers building.sides building.spools building.work → MayLoad live building 0
 may_hand_over live building taken follows works rings laws keeps =
     let of = taken.part.of in
@@ -240,14 +240,14 @@ module _
 
   -- they do it now
   pub hands_over :
-      IfSome seen.work (λ w. w.loading ≡ false → HasHandedOver seen new) → IfSome building.work (λ w. w.loading ≡ false → HandsOver live building new_live new)
+      IfSome seen.work (λ w. w.handed ≡ false → HasHandedOver seen new) → IfSome building.work (λ w. w.handed ≡ false → HandsOver live building new_live new)
   hands_over handed =
-      IfSome_then building.work (subst (λ (o : Option WorkValue). IfSome o (λ w. w.loading ≡ false → HasHandedOver seen new)) work_seen handed)
+      IfSome_then building.work (subst (λ (o : Option WorkValue). IfSome o (λ w. w.handed ≡ false → HasHandedOver seen new)) work_seen handed)
       (λ w now scans. record { seen = seen; looked = looked; handed = now scans })
 
   -- or nothing is left to do
   pub looks_again :
-      IfSome seen.work (λ w. w.loading ≡ true → new ≡ seen) → IfSome building.work (λ w. w.loading ≡ true → IsOnlyLookedAt live building new_live new)
+      IfSome seen.work (λ w. w.handed ≡ true → new ≡ seen) → IfSome building.work (λ w. w.handed ≡ true → IsOnlyLookedAt live building new_live new)
   looks_again same =
-      IfSome_then building.work (subst (λ (o : Option WorkValue). IfSome o (λ w. w.loading ≡ true → new ≡ seen)) work_seen same)
+      IfSome_then building.work (subst (λ (o : Option WorkValue). IfSome o (λ w. w.handed ≡ true → new ≡ seen)) work_seen same)
       (λ w now loads. subst (IsOnlyLookedAt live building new_live) (sym (now loads)) looked)

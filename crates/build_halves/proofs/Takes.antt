@@ -14,9 +14,9 @@ use Rattle.building.specs.Taking.{received_images}
 use Rattle.building.specs.TakeEnd.{TakeEnd}
 use Rattle.building.specs.WorkerValue.{WorkerValue}
 use Rattle.building.specs.declared.copied.Copied.{Copied}
-use Rattle.build_halves.specs.Builds.{LiveValue, IsRunning, WorksOn}
+use Rattle.build_halves.specs.Builds.{LiveValue, IsRunning, StandsBeside}
 use Rattle.build_work.specs.BuildingValue.{BuildingValue, WorkValue, IsUnloaded, worker_state, index_state, state_unless, work_state}
-use Rattle.build_work.specs.WorkOn.{IsWorkOn, AreFed}
+use Rattle.build_work.specs.WorkOn.{IsWorkOfBuild, AreFed}
 use Rattle.build_halves.specs.Builds.{core_state}
 use Rattle.build_events.specs.CoreState.{BuildState, WorkState, SpoolsState, spoiled_work}
 use Rattle.build_work.specs.Holding.{HaveColumns, all_spools, spools_state}
@@ -43,18 +43,18 @@ put_of live b is follow =
 module _
     (live : LiveValue) (building : BuildingValue) (b : BuildState) (w : WorkValue) (run : IsRunning live building b w) (fine : w.spoiled ≡ None)
     (k : ℕ) (sent : List Copied) (it after : WorkerValue) (there : slice_get (all_sent live.pages) k ≡ Some sent) (at : slice_get building.workers k ≡ Some it)
-    (own : IsWorkerOf b.number live.state.heap.schema w.specs w.loading sent after)
+    (own : IsWorkerOf b.number live.state.heap.schema w.specs w.handed sent after)
     -- in a load it only seals what it took
-    (kept : w.loading ≡ true → (after.maker ≡ it.maker) × (after.intake.end ≡ it.intake.end) × (after.intake.build ≡ it.intake.build)) where
+    (kept : w.handed ≡ true → (after.maker ≡ it.maker) × (after.intake.end ≡ it.intake.end) × (after.intake.build ≡ it.intake.build)) where
   -- the build goes on with the worker
   abbrev pub going_on : BuildingValue
   going_on = record building { workers = set building.workers k after }
 
-  still_sealed : w.loading ≡ true → AreSealed (all_sent live.pages) building.workers → AreSealed (all_sent live.pages) (set building.workers k after)
-  still_sealed loading sealed j s worker put_there here = elim (at_set building.workers k after j worker here) [
+  still_sealed : w.handed ≡ true → AreSealed (all_sent live.pages) building.workers → AreSealed (all_sent live.pages) (set building.workers k after)
+  still_sealed handed sealed j s worker put_there here = elim (at_set building.workers k after j worker here) [
     | inl same ↦
         let was : IsSealed s it = sealed j s it put_there (ap (slice_get building.workers) same.0 ∙ at) in
-        let parts = kept loading in
+        let parts = kept handed in
         subst (IsSealed s) (sym same.1) (record {
           taken = ap (λ (e : TakeEnd Copied). e.received) parts.1 ∙ was.taken;
           closed = rw parts.0 was.closed;
@@ -62,29 +62,29 @@ module _
     | inr other ↦ sealed j s worker put_there other.1
   ]
 
-  same_images : w.loading ≡ true → received_images after.maker.schema after.intake ≡ received_images it.maker.schema it.intake
-  same_images loading =
-      let parts = kept loading in
+  same_images : w.handed ≡ true → received_images after.maker.schema after.intake ≡ received_images it.maker.schema it.intake
+  same_images handed =
+      let parts = kept handed in
       ap (λ (m : MakerValue). received_images m.schema after.intake) parts.0
       ∙ ap (λ (e : TakeEnd Copied). images_of after.intake.build it.maker.schema e.received) parts.1
       ∙ ap (λ (n : ℕ). images_of n it.maker.schema it.intake.end.received) parts.2
 
   still_columns :
-      w.loading ≡ true → HaveColumns (λ index. IsUnloaded index w) w.specs building.workers building.spools
+      w.handed ≡ true → HaveColumns (λ index. IsUnloaded index w) w.specs building.workers building.spools
       → HaveColumns (λ index. IsUnloaded index w) w.specs (set building.workers k after) building.spools
-  still_columns loading columns = record {
+  still_columns handed columns = record {
     many = columns.many ∙ ap (λ (n : ℕ). n * length w.specs) (sym (length-set building.workers k after));
     sorted = columns.sorted;
     pairs = λ index j worker spool less opened here lent. elim (at_set building.workers k after j worker here) [
       | inl same ↦
           let was = columns.pairs index j it spool less opened (ap (slice_get building.workers) same.0 ∙ at) lent in
           subst (λ (v : WorkerValue). HoldsPairs (spec_at w.specs index) (received_images v.maker.schema v.intake) spool.runs []) (sym same.1)
-          (subst (λ images. HoldsPairs (spec_at w.specs index) images spool.runs []) (sym (same_images loading)) was)
+          (subst (λ images. HoldsPairs (spec_at w.specs index) images spool.runs []) (sym (same_images handed)) was)
       | inr other ↦ columns.pairs index j worker spool less opened other.1 lent
     ];
   }
 
-  pub goes_on : WorksOn live going_on
+  pub goes_on : StandsBeside live going_on
   goes_on =
       works_with live going_on b w (record {
         build_is = run.build_is;
@@ -95,11 +95,11 @@ module _
           fed = run.at_work.fed;
           given = run.at_work.given;
           many = length-set building.workers k after ∙ run.at_work.many;
-          taking = λ f. taking_set b.number live.state.heap.schema w.specs w.loading (all_sent live.pages) building.workers k after (run.at_work.taking fine)
-              (λ s is. subst (λ (x : List Copied). IsWorkerOf b.number live.state.heap.schema w.specs w.loading x after) (same_Some sent s (sym there ∙ is)) own);
+          taking = λ f. taking_set b.number live.state.heap.schema w.specs w.handed (all_sent live.pages) building.workers k after (run.at_work.taking fine)
+              (λ s is. subst (λ (x : List Copied). IsWorkerOf b.number live.state.heap.schema w.specs w.handed x after) (same_Some sent s (sym there ∙ is)) own);
           lent = run.at_work.lent;
-          drained = λ f loading. ((run.at_work.drained fine loading).0, still_sealed loading (run.at_work.drained fine loading).1);
-          columns = λ f loading. still_columns loading (run.at_work.columns fine loading);
+          drained = λ f handed. ((run.at_work.drained fine handed).0, still_sealed handed (run.at_work.drained fine handed).1);
+          columns = λ f handed. still_columns handed (run.at_work.columns fine handed);
         };
       })
 
@@ -118,13 +118,13 @@ module _
 -- the build is spoiled, and stands so
 pub spoiled_works :
     (live : LiveValue) (fault : Fault) (building new : BuildingValue) (b : BuildState) (w : WorkValue) → IsRunning live building b w
-    → IsSpoiled fault building new → WorksOn live new
+    → IsSpoiled fault building new → StandsBeside live new
 spoiled_works live fault building new b w run spoiled =
     let left : WorkValue = record spoiled.work { spoiled = Some fault } in
     let other : BuildingValue = record building { workers = spoiled.workers; spools = spoiled.spools; work = Some left } in
     let same : w ≡ spoiled.work = same_Some w spoiled.work (sym run.work_is ∙ spoiled.runs) in
-    let on : IsWorkOn live.state.heap.schema live.state.heap.log b spoiled.work = subst (IsWorkOn live.state.heap.schema live.state.heap.log b) same run.on in
-    subst (WorksOn live) (sym spoiled.left)
+    let on : IsWorkOfBuild live.state.heap.schema live.state.heap.log b spoiled.work = subst (IsWorkOfBuild live.state.heap.schema live.state.heap.log b) same run.on in
+    subst (StandsBeside live) (sym spoiled.left)
     (works_with live other b left (record {
       build_is = run.build_is;
       work_is = refl;

@@ -26,7 +26,7 @@ use Rattle.building.specs.declared.copied.Copied.{Copied}
 use Rattle.building.proofs.Turns.{behind_known, seal_saw}
 use Rattle.building.proofs.Digests.{next_known, same_worker}
 use Rattle.building.proofs.Taking.{digested_taking, next_count, sealed_open, sealed_taking, sent_count}
-use Rattle.build_halves.specs.Builds.{LiveValue, IsRunning, SeesRing, WorksOn, core_state}
+use Rattle.build_halves.specs.Builds.{LiveValue, IsRunning, SeesRing, StandsBeside, core_state}
 use Rattle.build_work.specs.BuildingValue.{BuildingValue, WorkValue, worker_state, work_state, index_state}
 use Rattle.build_events.specs.CoreState.{BuildState, CoreState, WorkerState, WorkState, SpoolsState}
 use Rattle.build_work.specs.Holding.{all_spools, spools_state}
@@ -124,15 +124,15 @@ module _
   there : slice_get (all_sent live.pages) k ≡ Some sent
   there = map_at (λ (end : PutEnd Copied). end.sent) live.pages k sees.end sees.ring
 
-  its : IsWorkerOf b.number kinds w.specs w.loading sent it
+  its : IsWorkerOf b.number kinds w.specs w.handed sent it
   its = run.at_work.taking fine k sent it there sees.there
 
-  its_sealed : w.loading ≡ true → IsSealed sent it
-  its_sealed loading = (run.at_work.drained fine loading).1 k sent it there sees.there
+  its_sealed : w.handed ≡ true → IsSealed sent it
+  its_sealed handed = (run.at_work.drained fine handed).1 k sent it there sees.there
 
-  none_left : w.loading ≡ true → it.intake.end.known ≡ []
-  none_left loading =
-      append_cancel_left it.intake.end.received it.intake.end.known [] (sees.in_order ∙ sym (its_sealed loading).taken ∙ sym (append-nil it.intake.end.received))
+  none_left : w.handed ≡ true → it.intake.end.known ≡ []
+  none_left handed =
+      append_cancel_left it.intake.end.received it.intake.end.known [] (sees.in_order ∙ sym (its_sealed handed).taken ∙ sym (append-nil it.intake.end.received))
 
   abbrev before : WorkState
   before = work_state building.workers building.work
@@ -166,24 +166,24 @@ module _
       did : HasDone turn it images done.after
       did = subst (λ (v : WorkerValue). HasDone turn v images done.after) (same_Some done.it it (sym done.there ∙ sees.there)) done.did
 
-      after_load : w.loading ≡ true → (images ≡ 0) × (done.after ≡ record it { intake = marked turn it.intake })
-      after_load loading = did.nothing (its.handed ∙ loading)
+      after_load : w.handed ≡ true → (images ≡ 0) × (done.after ≡ record it { intake = marked turn it.intake })
+      after_load handed = did.nothing (its.handed ∙ handed)
 
       intake_is : done.after.intake ≡ after_turn turn kinds it.intake
-      intake_is = elim (cases_Bool w.loading) [
-        | inl loading ↦ ap (λ (v : WorkerValue). v.intake) (after_load loading).1 ∙ sym (turn_none turn kinds it.intake (none_left loading))
+      intake_is = elim (cases_Bool w.handed) [
+        | inl handed ↦ ap (λ (v : WorkerValue). v.intake) (after_load handed).1 ∙ sym (turn_none turn kinds it.intake (none_left handed))
         | inr scans ↦ (did.took (its.handed ∙ scans)).intake ∙ ap (λ (ks : List Kind). after_turn turn ks it.intake) its.schema
       ]
 
       images_are : images ≡ length (turn_images turn kinds it.intake)
-      images_are = elim (cases_Bool w.loading) [
-        | inl loading ↦ (after_load loading).0 ∙ sym (no_images turn kinds it.intake (none_left loading))
+      images_are = elim (cases_Bool w.handed) [
+        | inl handed ↦ (after_load handed).0 ∙ sym (no_images turn kinds it.intake (none_left handed))
         | inr scans ↦ (did.took (its.handed ∙ scans)).counted ∙ ap (λ (ks : List Kind). length (turn_images turn ks it.intake)) its.schema
       ]
 
-      kept : w.loading ≡ true → (done.after.maker ≡ it.maker) × (done.after.intake.end ≡ it.intake.end) × (done.after.intake.build ≡ it.intake.build)
-      kept loading =
-          let same = (after_load loading).1 in
+      kept : w.handed ≡ true → (done.after.maker ≡ it.maker) × (done.after.intake.end ≡ it.intake.end) × (done.after.intake.build ≡ it.intake.build)
+      kept handed =
+          let same = (after_load handed).1 in
           let ends = marked_end turn it.intake in (
             ap (λ (v : WorkerValue). v.maker) same,
             ap (λ (v : WorkerValue). v.intake.end) same ∙ ends.0,
@@ -191,21 +191,21 @@ module _
           )
 
       opened_after :
-          w.loading ≡ true → (index : ℕ) (spec : KeySpecValue) → slice_get w.specs index ≡ Some spec
+          w.handed ≡ true → (index : ℕ) (spec : KeySpecValue) → slice_get w.specs index ≡ Some spec
           → HoldsOpen spec (unsealed_images spec.kinds done.after.intake) (get_or done.after.maker.begun index [])
-      opened_after loading index spec is =
+      opened_after handed index spec is =
           let columns = all_at (λ (s : KeySpecValue). s.kinds ≡ kinds) w.specs index spec run.on.columns is in
-          let none = no_pair it.maker.begun index (its_sealed loading).closed in
+          let none = no_pair it.maker.begun index (its_sealed handed).closed in
           let was : HoldsOpen spec (unsealed_images kinds it.intake) [] =
           subst (HoldsOpen spec (unsealed_images kinds it.intake)) none
-          (subst (λ (ks : List Kind). HoldsOpen spec (unsealed_images ks it.intake) (get_or it.maker.begun index [])) columns (its.opened loading index spec is)) in
-          let none_after : get_or done.after.maker.begun index [] ≡ [] = ap (λ (m : MakerValue). get_or m.begun index []) (kept loading).0 ∙ none in
+          (subst (λ (ks : List Kind). HoldsOpen spec (unsealed_images ks it.intake) (get_or it.maker.begun index [])) columns (its.opened handed index spec is)) in
+          let none_after : get_or done.after.maker.begun index [] ≡ [] = ap (λ (m : MakerValue). get_or m.begun index []) (kept handed).0 ∙ none in
           subst (HoldsOpen spec (unsealed_images spec.kinds done.after.intake)) (sym none_after)
           (subst (λ (intake : IntakeValue). HoldsOpen spec (unsealed_images spec.kinds intake) []) (sym intake_is)
           (subst (λ (ks : List Kind). HoldsOpen spec (unsealed_images ks (after_turn turn kinds it.intake)) []) (sym columns)
-          (turn_open turn spec kinds it.intake (none_left loading) its.taking.taken was)))
+          (turn_open turn spec kinds it.intake (none_left handed) its.taking.taken was)))
 
-      own : IsWorkerOf b.number kinds w.specs w.loading sent done.after
+      own : IsWorkerOf b.number kinds w.specs w.handed sent done.after
       own = record {
         fine = did.sound.1;
         schema = did.same.schema ∙ its.schema;
@@ -220,8 +220,8 @@ module _
       abbrev changed : BuildingValue
       changed = going_on live building b w run fine k sent it done.after there sees.there own kept
 
-      turn_works : WorksOn live new
-      turn_works = subst (WorksOn live) (sym done.left) (goes_on live building b w run fine k sent it done.after there sees.there own kept)
+      turn_works : StandsBeside live new
+      turn_works = subst (StandsBeside live) (sym done.left) (goes_on live building b w run fine k sent it done.after there sees.there own kept)
 
       abbrev with_states : List WorkerState → WorkState
       with_states states = record { workers = states; indexes = map index_state w.indexes; spoiled = None }
@@ -265,7 +265,7 @@ module _
       Stopped fault = WorkerStopped is_full runs open_run stake turn k building fault new
 
       -- all goes on
-      pub works_after_turn : (answer : Result ℕ Fault) → IfOk answer (λ images. WorkerDid turn k building images new) → IfErr answer Stopped → WorksOn live new
+      pub works_after_turn : (answer : Result ℕ Fault) → IfOk answer (λ images. WorkerDid turn k building images new) → IfErr answer Stopped → StandsBeside live new
       works_after_turn (Ok images) done stopped = turn_works images done
       works_after_turn (Err fault) done stopped =
           spoiled_works live fault building new b w run (stopped_spoils is_full runs open_run stake turn k building new fault w run.work_is fine stopped)

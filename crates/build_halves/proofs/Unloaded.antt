@@ -8,7 +8,7 @@ use Rattle.keybytes.specs.declared.fault.Fault.{Fault}
 use Rattle.keybytes.specs.declared.fault.Fault.TheVariants.{NoBuild, NotLoaded, NotScanned, Behind}
 use Rattle.keybytes.specs.Faults.{first_cause}
 use Rattle.heap_table.specs.HeapState.{busy_txns}
-use Rattle.build_halves.specs.Builds.{LiveValue, IsRunning, WorksOn, core_state, cause_of}
+use Rattle.build_halves.specs.Builds.{LiveValue, IsRunning, StandsBeside, core_state, cause_of}
 use Rattle.build_work.specs.BuildingValue.{BuildingValue, WorkValue, IndexValue, index_state, work_state}
 use Rattle.build_halves.specs.CatchingUp.{MayCatchUp}
 use Rattle.build_events.specs.declared.event.Event.TheVariants.{Switch}
@@ -80,7 +80,7 @@ module _ (live : LiveValue) (building : BuildingValue) where
   abbrev now : WorkState
   now = work_state building.workers building.work
 
-  pub may_catch_up : WorksOn live building → cause_of live building Switch ≡ None → MayCatchUp (core_state live building)
+  pub may_catch_up : StandsBeside live building → cause_of live building Switch ≡ None → MayCatchUp (core_state live building)
   may_catch_up works free = by_build live.state.build refl where
     by_build : (o : Option BuildState) → live.state.build ≡ o → MayCatchUp (core_state live building)
     by_build None gone =

@@ -26,7 +26,7 @@ use Rattle.build_events.specs.Workers.{fed_to, unfed}
 use Rattle.build_events.specs.SideEntries.{side_entries}
 use Rattle.build_scan.specs.TableBuilds.{IsBuildOf}
 use Rattle.build_work.specs.BuildingValue.{BuildingValue, IndexValue, WorkValue, work_state}
-use Rattle.build_work.specs.WorkOn.{AreAtWork, IsWorkOf, IsWorkOn, WorkersFollow}
+use Rattle.build_work.specs.WorkOn.{AreAtWork, WorkMatches, IsWorkOfBuild, WorkersFollow}
 
 -- a table with the ends of its rings that put
 pub record LiveValue : Type 0 where
@@ -60,12 +60,12 @@ cause_of live building event = refusal (core_state live building) event
 
 -- work stands beside a table exactly where a build runs on it, and is that build's; its workers follow their rings, and their makers and
 -- spools hold what they took
-pub record WorksOn (live : LiveValue) (building : BuildingValue) : Type 0 where
-  pub work : IsWorkOf live.state.heap.schema live.state.heap.log live.state.build building.work
+pub record StandsBeside (live : LiveValue) (building : BuildingValue) : Type 0 where
+  pub work : WorkMatches live.state.heap.schema live.state.heap.log live.state.build building.work
   pub workers : WorkersFollow live.state.heap.schema live.pages live.sides building live.state.build building.work
 
 -- both ends of the rings were looked at, and nothing else changed
-pub record HasLooked (live : LiveValue) (building : BuildingValue) (new_live : LiveValue) (new_building : BuildingValue) : Type 0 where
+pub record HasLookedAtRings (live : LiveValue) (building : BuildingValue) (new_live : LiveValue) (new_building : BuildingValue) : Type 0 where
   pub state : new_live.state ≡ live.state
   pub sides : new_live.sides ≡ live.sides
   pub rings : AreLooked live.pages building.workers new_live.pages new_building.workers
@@ -90,7 +90,7 @@ pub record IsRunning (live : LiveValue) (building : BuildingValue) (b : BuildSta
   pub build_is : live.state.build ≡ Some b
   pub work_is : building.work ≡ Some work
   pub follows : IsBuildOf live.state.heap.schema live.state.heap.log b
-  pub on : IsWorkOn live.state.heap.schema live.state.heap.log b work
+  pub on : IsWorkOfBuild live.state.heap.schema live.state.heap.log b work
   pub at_work : AreAtWork live.state.heap.schema b live.pages live.sides building work
 
 -- how many places of a ring are known to be free
@@ -127,7 +127,7 @@ pub record MayLoad (live : LiveValue) (building : BuildingValue) (index : ℕ) :
   pub there : index < length work.specs
   pub all : open_range build ≡ None
   pub sealed : AreSealed (all_sent live.pages) building.workers
-  pub holding : work.loading ≡ false → All (λ worker. IsHolding worker.intake worker.maker worker.spools) building.workers
+  pub holding : work.handed ≡ false → All (λ worker. IsHolding worker.intake worker.maker worker.spools) building.workers
 
 -- its workers have handed their spools over for that
 pub record IsLoading (live : LiveValue) (building : BuildingValue) (index : ℕ) : Type 0 where
@@ -136,7 +136,7 @@ pub record IsLoading (live : LiveValue) (building : BuildingValue) (index : ℕ)
   pub runs : IsRunning live building build work
   pub fine : work.spoiled ≡ None
   pub there : index < length work.specs
-  pub loads : work.loading ≡ true
+  pub loads : work.handed ≡ true
 
 -- entries of its side-file may be applied to the index
 pub record MayApply (live : LiveValue) (building : BuildingValue) (index : ℕ) : Type 0 where

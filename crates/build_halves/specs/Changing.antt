@@ -4,7 +4,7 @@ use Rattle.heap_table.specs.HeapState.{HeapState}
 use Rattle.building.specs.declared.copied.Copied.{Copied}
 use Rattle.side_file.specs.SideFileValue.{SideFileValue}
 use Rattle.build_work.specs.BuildingValue.{WorkValue}
-use Rattle.build_work.specs.WorkOn.{IsWorkOf}
+use Rattle.build_work.specs.WorkOn.{WorkMatches}
 use Rattle.build_scan.specs.TableBuilds.{BuildFollows}
 use Rattle.build_events.specs.CoreState.{BuildState}
 use Rattle.build_halves.specs.Rings.{PagesFollow}
@@ -22,5 +22,5 @@ pub record HasHeard (build : Option BuildState) (old : HeapState) (olds : List S
   pub noted : SidesFollow new.log build news
   pub ends : put_ends news ≡ put_ends olds
   pub put : (builds : ℕ) (all : List (List Copied)) → PagesFollow old.schema old.log builds build all → PagesFollow new.schema new.log builds build all
-  pub works : (work : Option WorkValue) → IsWorkOf old.schema old.log build work → IsWorkOf new.schema new.log build work
+  pub works : (work : Option WorkValue) → WorkMatches old.schema old.log build work → WorkMatches new.schema new.log build work
   pub columns : new.schema ≡ old.schema

@@ -17,7 +17,7 @@ use Rattle.build_work.specs.BuildingValue.{BuildingValue, WorkValue}
 use Rattle.build_work.specs.Rings.{all_sent, AreLooked, AreSealed, FirstAreSealed, IsUnsealed}
 use Rattle.build_work.specs.WorkOn.{AreFed, IsIndexFed}
 use Rattle.build_work.specs.Working.{HasHandedOver}
-use Rattle.build_halves.specs.Builds.{LiveValue, WorksOn, core_state}
+use Rattle.build_halves.specs.Builds.{LiveValue, StandsBeside, core_state}
 
 -- what stands beside the table is of the build that runs: it has its number and its indexes, work on each of these, and as many workers
 pub record IsOfBuild (live : LiveValue) (building : BuildingValue) : Type 0 where
@@ -69,8 +69,8 @@ abbrev pub IsScannedWhole : LiveValue → Type 0
 IsScannedWhole live = OnBuild live.state.build (λ b. open_range b ≡ None)
 
 -- its work isn't spoiled
-abbrev pub GoesOn : BuildingValue → Type 0
-GoesOn building = IfSome building.work (λ w. w.spoiled ≡ None)
+abbrev pub IsUnspoiled : BuildingValue → Type 0
+IsUnspoiled building = IfSome building.work (λ w. w.spoiled ≡ None)
 
 -- what keeps a build waiting before its workers are asked: it is spoiled, a page isn't copied, or an index isn't in order where all have to be
 abbrev pub early_cause : Bool → CoreState → Option Fault
@@ -91,7 +91,7 @@ HaveAll live building = AreSealed (all_sent live.pages) building.workers
 -- what stands beside the table is of the build that runs and goes on, and nothing is left of what was copied for it
 pub record IsTakenIn (live : LiveValue) (building : BuildingValue) : Type 0 where
   pub part : IsPartOf live building
-  pub fine : GoesOn building
+  pub fine : IsUnspoiled building
   pub scanned : IsScannedWhole live
   pub all : HaveAll live building
 
@@ -133,7 +133,7 @@ pub record IsSwitchRefused
   pub first : early_cause true (core_state live building) ≡ None
   pub all : HaveAll live building
   pub refused : IsRefused (core_state live building) Switch fault (core_state new_live new_building)
-  pub works : WorksOn new_live new_building
+  pub works : StandsBeside new_live new_building
 
 -- why the table doesn't switch in what stands beside it, and what that leaves
 abbrev pub RefusesSwitch : LiveValue → BuildingValue → Fault → LiveValue → BuildingValue → Type 0

@@ -66,7 +66,7 @@ module _
   pub applied_kept : KeepsWork workers sides spools (Some work) → KeepsWork workers (set sides index new_end) spools (Some (with_tree work index after count here))
   applied_kept is = λ fine.
       let kept = is fine in
-      let not_scanning : work.loading ≡ false → ⊥ = λ scans.
+      let not_scanning : work.handed ≡ false → ⊥ = λ scans.
       let bad : Some built ≡ None = sym loaded ∙ all_at (λ (i : IndexValue). i.built ≡ None) work.indexes index it (kept.unloaded scans) at in
       cc in
       record {

@@ -23,8 +23,8 @@ use Rattle.build_work.specs.Rings.{all_sent, begun_on, unseen, AreOfBuilds, AreT
 use Rattle.build_scan.proofs.Places.{at_set, all_at, at_map, map_at, same_at, mapped}
 
 -- what a worker takes doesn't depend on what it has seen of its ring
-module _ (build : ℕ) (kinds : List Kind) (specs : List KeySpecValue) (loading : Bool) (sent : List Copied) (worker : WorkerValue) where
-  unseen_is : IsWorkerOf build kinds specs loading sent worker → IsWorkerOf build kinds specs loading sent (unseen worker)
+module _ (build : ℕ) (kinds : List Kind) (specs : List KeySpecValue) (handed : Bool) (sent : List Copied) (worker : WorkerValue) where
+  unseen_is : IsWorkerOf build kinds specs handed sent worker → IsWorkerOf build kinds specs handed sent (unseen worker)
   unseen_is it = record {
     fine = it.fine;
     schema = it.schema;
@@ -43,7 +43,7 @@ module _ (build : ℕ) (kinds : List Kind) (specs : List KeySpecValue) (loading 
     };
   }
 
-  seen_is : IsWorkerOf build kinds specs loading sent (unseen worker) → IsWorkerOf build kinds specs loading sent worker
+  seen_is : IsWorkerOf build kinds specs handed sent (unseen worker) → IsWorkerOf build kinds specs handed sent worker
   seen_is it = record {
     fine = it.fine;
     schema = it.schema;
@@ -63,12 +63,12 @@ module _ (build : ℕ) (kinds : List Kind) (specs : List KeySpecValue) (loading 
   }
 
 pub taking_same :
-    (build : ℕ) (kinds : List Kind) (specs : List KeySpecValue) (loading : Bool) (all : List (List Copied)) (old new : List WorkerValue)
-    → map unseen new ≡ map unseen old → AreTaking build kinds specs loading all old → AreTaking build kinds specs loading all new
-taking_same build kinds specs loading all old new same taking k sent worker there at =
+    (build : ℕ) (kinds : List Kind) (specs : List KeySpecValue) (handed : Bool) (all : List (List Copied)) (old new : List WorkerValue)
+    → map unseen new ≡ map unseen old → AreTaking build kinds specs handed all old → AreTaking build kinds specs handed all new
+taking_same build kinds specs handed all old new same taking k sent worker there at =
     let it = same_at unseen old new k worker (sym same) at in
-    seen_is build kinds specs loading sent worker
-    (subst (IsWorkerOf build kinds specs loading sent) it.2 (unseen_is build kinds specs loading sent it.0 (taking k sent it.0 there it.1)))
+    seen_is build kinds specs handed sent worker
+    (subst (IsWorkerOf build kinds specs handed sent) it.2 (unseen_is build kinds specs handed sent it.0 (taking k sent it.0 there it.1)))
 
 -- nor does what callers see of the workers
 pub states_same :
@@ -80,24 +80,24 @@ states_same old new same =
 
 -- one worker changed
 pub taking_set :
-    (build : ℕ) (kinds : List Kind) (specs : List KeySpecValue) (loading : Bool) (all : List (List Copied)) (workers : List WorkerValue) (i : ℕ) (new : WorkerValue)
-    → AreTaking build kinds specs loading all workers
-    → ((sent : List Copied) → slice_get all i ≡ Some sent → IsWorkerOf build kinds specs loading sent new)
-    → AreTaking build kinds specs loading all (set workers i new)
-taking_set build kinds specs loading all workers i new taking own k sent worker there at = elim (at_set workers i new k worker at) [
-  | inl it ↦ subst (IsWorkerOf build kinds specs loading sent) (sym it.1) (own sent (sym (ap (slice_get all) it.0) ∙ there))
+    (build : ℕ) (kinds : List Kind) (specs : List KeySpecValue) (handed : Bool) (all : List (List Copied)) (workers : List WorkerValue) (i : ℕ) (new : WorkerValue)
+    → AreTaking build kinds specs handed all workers
+    → ((sent : List Copied) → slice_get all i ≡ Some sent → IsWorkerOf build kinds specs handed sent new)
+    → AreTaking build kinds specs handed all (set workers i new)
+taking_set build kinds specs handed all workers i new taking own k sent worker there at = elim (at_set workers i new k worker at) [
+  | inl it ↦ subst (IsWorkerOf build kinds specs handed sent) (sym it.1) (own sent (sym (ap (slice_get all) it.0) ∙ there))
   | inr it ↦ taking k sent worker there it.1
 ]
 
 -- one ring was sent more
 pub taking_put :
-    (build : ℕ) (kinds : List Kind) (specs : List KeySpecValue) (loading : Bool) (all : List (List Copied)) (workers : List WorkerValue) (i : ℕ) (new : List Copied)
-    → AreTaking build kinds specs loading all workers
-    → ((worker : WorkerValue) → slice_get workers i ≡ Some worker → IsWorkerOf build kinds specs loading new worker)
-    → AreTaking build kinds specs loading (set all i new) workers
-taking_put build kinds specs loading all workers i new taking own k sent worker there at = elim (at_set all i new k sent there) [
+    (build : ℕ) (kinds : List Kind) (specs : List KeySpecValue) (handed : Bool) (all : List (List Copied)) (workers : List WorkerValue) (i : ℕ) (new : List Copied)
+    → AreTaking build kinds specs handed all workers
+    → ((worker : WorkerValue) → slice_get workers i ≡ Some worker → IsWorkerOf build kinds specs handed new worker)
+    → AreTaking build kinds specs handed (set all i new) workers
+taking_put build kinds specs handed all workers i new taking own k sent worker there at = elim (at_set all i new k sent there) [
   | inl it ↦
-      subst (λ (s : List Copied). IsWorkerOf build kinds specs loading s worker) (sym it.1)
+      subst (λ (s : List Copied). IsWorkerOf build kinds specs handed s worker) (sym it.1)
       (own worker (sym (ap (slice_get workers) it.0) ∙ at))
   | inr it ↦ taking k sent worker it.1 at
 ]
@@ -147,8 +147,8 @@ module _
 
 -- of what a worker took since its last seal those pairs are in no run that don't fill one
 pub opened_in :
-    {build : ℕ} {kinds : List Kind} {specs : List KeySpecValue} {loading : Bool} {sent : List Copied} {worker : WorkerValue}
-    → IsWorkerOf build kinds specs loading sent worker → All (λ spec. spec.kinds ≡ kinds) specs → IsHolding worker.intake worker.maker worker.spools
+    {build : ℕ} {kinds : List Kind} {specs : List KeySpecValue} {handed : Bool} {sent : List Copied} {worker : WorkerValue}
+    → IsWorkerOf build kinds specs handed sent worker → All (λ spec. spec.kinds ≡ kinds) specs → IsHolding worker.intake worker.maker worker.spools
     → (index : ℕ) (spec : KeySpecValue) → slice_get specs index ≡ Some spec
     → HoldsOpen spec (unsealed_images spec.kinds worker.intake) (get_or worker.maker.begun index [])
 opened_in {kinds = kinds} {specs = specs} {worker = worker} its columns holds index spec at =

@@ -11,22 +11,22 @@ use Rattle.building.specs.SpoolValue.{SpoolValue}
 use Rattle.building.specs.TakeEnd.{TakeEnd}
 use Rattle.building.specs.WorkerValue.{WorkerValue}
 use Rattle.build_work.specs.BuildingValue.{intakes}
-use Rattle.build_work.specs.Holding.{all_spools, lent_spools}
+use Rattle.build_work.specs.Holding.{all_spools, workers_spools}
 use Rattle.build_work.specs.Rings.{AreTakeEnds}
 use Rattle.build_work.specs.Working.{handed_over}
 use Rattle.build_scan.proofs.Places.{mapped}
 
 -- a worker's spools are among those of all
-pub own_within : (workers : List WorkerValue) (k : ℕ) (worker : WorkerValue) → slice_get workers k ≡ Some worker → length worker.spools ≤ length (lent_spools workers)
+pub own_within : (workers : List WorkerValue) (k : ℕ) (worker : WorkerValue) → slice_get workers k ≡ Some worker → length worker.spools ≤ length (workers_spools workers)
 own_within [] k worker at = absurd (cc)
-own_within (w ∷ ws) zero worker at = omega (arith, length-append w.spools (lent_spools ws), ap (λ (v : WorkerValue). length v.spools) (same_Some w worker at))
-own_within (w ∷ ws) (suc k) worker at = let less = own_within ws k worker at in omega (arith, length-append w.spools (lent_spools ws), less)
+own_within (w ∷ ws) zero worker at = omega (arith, length-append w.spools (workers_spools ws), ap (λ (v : WorkerValue). length v.spools) (same_Some w worker at))
+own_within (w ∷ ws) (suc k) worker at = let less = own_within ws k worker at in omega (arith, length-append w.spools (workers_spools ws), less)
 
 -- there is room for them where there is room for all
 pub room_for :
     (workers : List WorkerValue) (home : List SpoolValue) (k : ℕ) (worker : WorkerValue) → slice_get workers k ≡ Some worker
     → length home + length worker.spools ≤ length (all_spools workers home)
-room_for workers home k worker at = let less = own_within workers k worker at in omega (arith, length-append home (lent_spools workers), less)
+room_for workers home k worker at = let less = own_within workers k worker at in omega (arith, length-append home (workers_spools workers), less)
 
 -- they go behind those that came before, and all stay the same
 pub moved_home :
@@ -36,17 +36,17 @@ pub moved_home :
 moved_home [] before k worker after home own so_far at is left = absurd (cc)
 moved_home (w ∷ ws) before zero worker after home own so_far at is left =
     let same : own ≡ w.spools = is ∙ ap (λ (v : WorkerValue). v.spools) (sym (same_Some w worker at)) in
-    ap (λ (v : WorkerValue). (home ++ own) ++ (v.spools ++ lent_spools ws)) left
-    ∙ append_assoc home own (lent_spools ws)
-    ∙ ap (λ (l : List SpoolValue). home ++ (l ++ lent_spools ws)) same
+    ap (λ (v : WorkerValue). (home ++ own) ++ (v.spools ++ workers_spools ws)) left
+    ∙ append_assoc home own (workers_spools ws)
+    ∙ ap (λ (l : List SpoolValue). home ++ (l ++ workers_spools ws)) same
 moved_home (w ∷ ws) [] (suc k) worker after home own so_far at is left = absurd (cc)
 moved_home (w ∷ ws) (b ∷ bs) (suc k) worker after home own so_far at is left =
     let first : w ≡ handed_over b = cc in
     let rest : take k ws ≡ map handed_over bs = cc in
     let none : w.spools ≡ [] = ap (λ (v : WorkerValue). v.spools) first in
-    ap (λ (l : List SpoolValue). (home ++ own) ++ (l ++ lent_spools (set ws k after))) none
+    ap (λ (l : List SpoolValue). (home ++ own) ++ (l ++ workers_spools (set ws k after))) none
     ∙ moved_home ws bs k worker after home own rest at is left
-    ∙ ap (λ (l : List SpoolValue). home ++ (l ++ lent_spools ws)) (sym none)
+    ∙ ap (λ (l : List SpoolValue). home ++ (l ++ workers_spools ws)) (sym none)
 
 -- one worker more has handed its spools over
 module _
@@ -78,7 +78,7 @@ module _
       drop-set-lt (k + 1) workers k after (omega arith) ∙ same
 
 -- who handed its spools over has none
-pub none_left : (workers : List WorkerValue) → lent_spools (map handed_over workers) ≡ []
+pub none_left : (workers : List WorkerValue) → workers_spools (map handed_over workers) ≡ []
 none_left [] = refl
 none_left (w ∷ ws) = none_left ws
 
@@ -96,7 +96,7 @@ ends_kept old new page_rings entry_rings idle sides is are =
 
 -- all spools are then those that no worker has
 pub none_away : (old new : List WorkerValue) (home : List SpoolValue) → new ≡ map handed_over old → all_spools new home ≡ home
-none_away old new home is = ap (λ (l : List SpoolValue). home ++ l) (ap lent_spools is ∙ none_left old) ∙ append-nil home
+none_away old new home is = ap (λ (l : List SpoolValue). home ++ l) (ap workers_spools is ∙ none_left old) ∙ append-nil home
 
 -- once all have, the workers have none
 pub all_home :
@@ -104,4 +104,4 @@ pub all_home :
     → all_spools workers home ≡ all → home ≡ all
 all_home old workers k home all past end so_far same =
     let each : workers ≡ map handed_over old = sym (take_all k workers past) ∙ so_far ∙ ap (map handed_over) (take_all k old end) in
-    sym (append-nil home) ∙ ap (λ (l : List SpoolValue). home ++ l) (sym (ap lent_spools each ∙ none_left old)) ∙ same
+    sym (append-nil home) ∙ ap (λ (l : List SpoolValue). home ++ l) (sym (ap workers_spools each ∙ none_left old)) ∙ same

@@ -12,7 +12,7 @@ use Rattle.building.specs.SpoolValue.{SpoolValue}
 use Rattle.building.specs.WorkerValue.{WorkerValue}
 use Rattle.build_work.specs.BuildingValue.{intakes}
 use Rattle.build_work.specs.Keeping.{AreWorkers, IsWorkerAt}
-use Rattle.build_work.specs.Holding.{lent_spools}
+use Rattle.build_work.specs.Holding.{workers_spools}
 use Rattle.build_work.specs.Rings.{take_rings}
 use Rattle.build_scan.proofs.Places.{map_at}
 
@@ -43,15 +43,15 @@ next_ring workers idle it rings n all first is =
 -- one worker more has the next spools
 pub more_lent :
     {S : Type 0} (value : S → SpoolValue) (workers : List WorkerValue) (worker : WorkerValue) (own rest left : List S) (n : ℕ) → worker.spools ≡ map value own
-    → own ≡ take n rest → left ≡ drop n rest → lent_spools (workers ++ worker ∷ []) ++ map value left ≡ lent_spools workers ++ map value rest
+    → own ≡ take n rest → left ≡ drop n rest → workers_spools (workers ++ worker ∷ []) ++ map value left ≡ workers_spools workers ++ map value rest
 more_lent value [] worker own rest left n is first others =
     ap (λ (l : List SpoolValue). l ++ map value left) (append-nil worker.spools ∙ is)
     ∙ sym (map-append value own left)
     ∙ ap (map value) (ap₂ ◌++◌ first others ∙ take-append-drop n rest)
 more_lent value (w ∷ ws) worker own rest left n is first others =
-    append_assoc w.spools (lent_spools (ws ++ worker ∷ [])) (map value left)
+    append_assoc w.spools (workers_spools (ws ++ worker ∷ [])) (map value left)
     ∙ ap (λ (l : List SpoolValue). w.spools ++ l) (more_lent value ws worker own rest left n is first others)
-    ∙ sym (append_assoc w.spools (lent_spools ws) (map value rest))
+    ∙ sym (append_assoc w.spools (workers_spools ws) (map value rest))
 
 -- what each was given, where one goes over to those that were made
 pub one_made :

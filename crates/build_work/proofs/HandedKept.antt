@@ -17,7 +17,7 @@ use Rattle.building.specs.Taking.{received_images, unsealed_images}
 use Rattle.building.specs.WorkerValue.{IsHolding, WorkerValue}
 use Rattle.build_work.specs.BuildingValue.{BuildingValue, IndexValue, IsUnloaded, WorkValue}
 use Rattle.build_work.specs.Columns.{column}
-use Rattle.build_work.specs.Holding.{HaveColumns, all_spools, lent_spools}
+use Rattle.build_work.specs.Holding.{HaveColumns, all_spools, workers_spools}
 use Rattle.build_work.specs.Keeping.{AreWorkers, HasHanded, HaveEachOnce, IsClosed, IsWorkerAt, KeepsLaws, KeepsWork}
 use Rattle.build_work.specs.Working.{CanHandOver, handed_over}
 use Rattle.build_work.proofs.Kept.{any_workers}
@@ -46,19 +46,19 @@ module _
   own_many : (k : ℕ) (worker : WorkerValue) → slice_get workers k ≡ Some worker → length worker.spools ≡ n
   own_many k worker at = (holds k worker at).many ∙ ap length (its_own k worker at).specs_are
 
-  lent_many : length (lent_spools workers) ≡ length workers * n
+  lent_many : length (workers_spools workers) ≡ length workers * n
   lent_many = flat_many (λ (v : WorkerValue). v.spools) n workers own_many
 
   -- the spool of an index at a worker's place is the worker's
   module _ (index k : ℕ) (worker : WorkerValue) (spool : SpoolValue) (less : index < n) (at : slice_get workers k ≡ Some worker)
-      (here : slice_get (column index n (lent_spools workers)) k ≡ Some spool) where
+      (here : slice_get (column index n (workers_spools workers)) k ≡ Some spool) where
     mine : (s : SpoolValue) × (slice_get worker.spools index ≡ Some s)
     mine = there_is worker.spools index (let many = own_many k worker at in omega (arith, less, many))
 
     same : mine.0 ≡ spool
     same =
         same_Some mine.0 spool (sym (flat_at (λ (v : WorkerValue). v.spools) n workers own_many k worker at index mine.0 mine.1)
-        ∙ sym (column_is n (length workers) index (lent_spools workers) less lent_many k) ∙ here)
+        ∙ sym (column_is n (length workers) index (workers_spools workers) less lent_many k) ∙ here)
 
     runs_there : get_or (runs_of worker.spools) index [] ≡ spool.runs
     runs_there =
@@ -81,11 +81,11 @@ module _
         (subst (λ (rs : List (List Pair)). HoldsPairs (spec_at worker.maker.specs index) (received_images worker.maker.schema worker.intake) rs []) runs_there
         (subst (HoldsPairs (spec_at worker.maker.specs index) (received_images worker.maker.schema worker.intake) (get_or (runs_of worker.spools) index [])) none held))
 
-  pub lent_columns : (is_open : ℕ → Type 0) → HaveColumns is_open specs (map handed_over workers) (lent_spools workers)
+  pub lent_columns : (is_open : ℕ → Type 0) → HaveColumns is_open specs (map handed_over workers) (workers_spools workers)
   lent_columns is_open = record {
     many = lent_many ∙ ap (λ (m : ℕ). m * n) (sym (length-map workers handed_over));
-    sorted = λ index less opened. mapped_of AreSorted (λ (s : SpoolValue). s.runs) (column index n (lent_spools workers)) (λ k spool here.
-        let k_less = column_there n (length workers) index (lent_spools workers) less lent_many k spool here in
+    sorted = λ index less opened. mapped_of AreSorted (λ (s : SpoolValue). s.runs) (column index n (workers_spools workers)) (λ k spool here.
+        let k_less = column_there n (length workers) index (workers_spools workers) less lent_many k spool here in
         let worker = there_is workers k k_less in
         in_order index k worker.0 spool less worker.1 here);
     pairs = λ index k worker spool less opened at here.
@@ -138,15 +138,15 @@ own_held specs rings workers own laws k worker at =
 
 -- the work goes on, and its indexes are being loaded
 pub handed_kept :
-    (workers : List WorkerValue) (sides : List (TakeEnd Entry)) (spools : List SpoolValue) (work : WorkValue) (rings : List RingId) → work.loading ≡ false
-    → All IsClosed workers → HaveEachOnce work (lent_spools workers) → All (KeepsLaws rings) workers
-    → KeepsWork workers sides spools (Some work) → KeepsWork (map handed_over workers) sides (all_spools workers spools) (Some (record work { loading = true }))
+    (workers : List WorkerValue) (sides : List (TakeEnd Entry)) (spools : List SpoolValue) (work : WorkValue) (rings : List RingId) → work.handed ≡ false
+    → All IsClosed workers → HaveEachOnce work (workers_spools workers) → All (KeepsLaws rings) workers
+    → KeepsWork workers sides spools (Some work) → KeepsWork (map handed_over workers) sides (all_spools workers spools) (Some (record work { handed = true }))
 handed_kept workers sides spools work rings scans closed once laws is = λ fine.
     let old = is fine in
     let placed = subst (λ (handed : Bool). AreWorkers work.build work.specs handed workers) scans old.placed in
     let own = own_spools work.build work.specs workers placed in
     let holding = own_held work.specs rings workers own laws in
-    let all : all_spools workers spools ≡ lent_spools workers = ap (λ (home : List SpoolValue). home ++ lent_spools workers) (old.lent scans) in
+    let all : all_spools workers spools ≡ workers_spools workers = ap (λ (home : List SpoolValue). home ++ workers_spools workers) (old.lent scans) in
     record {
       many = old.many;
       placed = placed_handed work.build work.specs workers placed;
@@ -156,7 +156,7 @@ handed_kept workers sides spools work rings scans closed once laws is = λ fine.
       lent = λ e. absurd (false≢true (sym e));
       unloaded = λ e. absurd (false≢true (sym e));
       handed = λ e. all_handed work.specs workers own closed holding rings laws;
-      columns = λ e. rw all (lent_columns work.specs workers own closed holding (λ index. IsUnloaded index (record work { loading = true })));
+      columns = λ e. rw all (lent_columns work.specs workers own closed holding (λ index. IsUnloaded index (record work { handed = true })));
       once = λ e. rw all once;
     }
 
@@ -165,14 +165,14 @@ pub handed_over_kept :
     (old seen : BuildingValue) (work held : WorkValue) → seen ≡ old → seen.work ≡ Some work → held ≡ work → CanHandOver old → {rings : List RingId}
     → All (KeepsLaws rings) seen.workers → KeepsWork seen.workers seen.sides seen.spools seen.work
     → (workers : List WorkerValue) (spools : List SpoolValue) → workers ≡ map handed_over seen.workers → spools ≡ all_spools seen.workers seen.spools
-    → KeepsWork workers seen.sides spools (Some (record held { loading = true }))
+    → KeepsWork workers seen.sides spools (Some (record held { handed = true }))
 handed_over_kept old seen work held same runs is can {rings} laws keeps workers spools workers_are spools_are =
     let it : can.work ≡ work = its_work old seen work can.work same runs can.runs can.fine can.scans keeps in
-    let scans : work.loading ≡ false = still_scans old seen work can.work same runs can.runs can.fine can.scans keeps in
+    let scans : work.handed ≡ false = still_scans old seen work can.work same runs can.runs can.fine can.scans keeps in
     let closed : All IsClosed seen.workers = subst (λ (b : BuildingValue). All IsClosed b.workers) (sym same) can.closed in
-    let once : HaveEachOnce work (lent_spools seen.workers) =
-    subst (λ (w : WorkValue). HaveEachOnce w (lent_spools seen.workers)) it
-    (subst (λ (b : BuildingValue). HaveEachOnce can.work (lent_spools b.workers)) (sym same) can.once) in
+    let once : HaveEachOnce work (workers_spools seen.workers) =
+    subst (λ (w : WorkValue). HaveEachOnce w (workers_spools seen.workers)) it
+    (subst (λ (b : BuildingValue). HaveEachOnce can.work (workers_spools b.workers)) (sym same) can.once) in
     rw (workers_are, spools_are, is)
     (handed_kept seen.workers seen.sides seen.spools work rings scans closed once laws
     (subst (λ (o : Option WorkValue). KeepsWork seen.workers seen.sides seen.spools o) runs keeps))

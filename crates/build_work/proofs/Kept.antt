@@ -84,8 +84,8 @@ any_workers build spec old new end index none is = record {
 
 -- until the first load the workers may do anything, as long as they go on
 pub scanning_kept :
-    (old new : List WorkerValue) (sides : List (TakeEnd Entry)) (spools : List SpoolValue) (work : WorkValue) → work.loading ≡ false
-    → AreWorkers work.build work.specs work.loading new → IsKept old sides spools work → IsKept new sides spools work
+    (old new : List WorkerValue) (sides : List (TakeEnd Entry)) (spools : List SpoolValue) (work : WorkValue) → work.handed ≡ false
+    → AreWorkers work.build work.specs work.handed new → IsKept old sides spools work → IsKept new sides spools work
 scanning_kept old new sides spools work scans placed is = record {
   many = is.many;
   placed = placed;
@@ -130,8 +130,8 @@ same_columns is_open specs old new spools same is = record {
 -- workers that received the same
 pub workers_kept :
     (old new : List WorkerValue) (sides : List (TakeEnd Entry)) (spools : List SpoolValue) (work : WorkValue) → map own_images new ≡ map own_images old
-    → AreWorkers work.build work.specs work.loading new
-    → (work.loading ≡ true → All (HasHanded work.specs) old → All (HasHanded work.specs) new) → IsKept old sides spools work → IsKept new sides spools work
+    → AreWorkers work.build work.specs work.handed new
+    → (work.handed ≡ true → All (HasHanded work.specs) old → All (HasHanded work.specs) new) → IsKept old sides spools work → IsKept new sides spools work
 workers_kept old new sides spools work same placed handed is = record {
   many = is.many;
   placed = placed;
@@ -185,7 +185,7 @@ pub looked_kept :
 looked_kept old new sides spools None same is = tt
 looked_kept old new sides spools (Some work) same is = λ fine.
     workers_kept old new sides spools work (sym (mapped unseen own_images new) ∙ ap (map own_images) same ∙ mapped unseen own_images old)
-    (placed_looked work.build work.specs work.loading old new same (is fine).placed)
+    (placed_looked work.build work.specs work.handed old new same (is fine).placed)
     (λ loads all. all_from (HasHanded work.specs) new (λ k worker at.
     let it = same_at unseen old new k worker (sym same) at in
     from_unseen work.specs worker
@@ -261,7 +261,7 @@ module _
     (workers : List WorkerValue) (sides : List (TakeEnd Entry)) (spools : List SpoolValue) (held new : WorkValue) (k : ℕ) (it after : WorkerValue)
     (at : slice_get workers k ≡ Some it) (is : KeepsWork workers sides spools (Some held)) where
   -- it goes on at its place, and the others as before
-  placed_set : SameWorker it after → after.fault ≡ None → AreWorkers held.build held.specs held.loading workers → AreWorkers held.build held.specs held.loading (set workers k after)
+  placed_set : SameWorker it after → after.fault ≡ None → AreWorkers held.build held.specs held.handed workers → AreWorkers held.build held.specs held.handed (set workers k after)
   placed_set same sound are j worker there = elim (at_set workers k after j worker there) [
     | inl this ↦
         let was = are k it at in
@@ -283,7 +283,7 @@ module _
   stepped_kept same same_worker sound stays = λ fine.
       let old : IsKept workers sides spools held = is (ap (λ (w : WorkValue). w.spoiled) (sym same) ∙ fine) in
       let placed = placed_set same_worker sound old.placed in
-      subst (IsKept (set workers k after) sides spools) (sym same) (elim (cases_Bool held.loading) [
+      subst (IsKept (set workers k after) sides spools) (sym same) (elim (cases_Bool held.handed) [
         | inl loads ↦
             let was = all_at (HasHanded held.specs) workers k it (old.handed loads) at in
             let now = stays ((old.placed k it at).spools_are ∙ loads) was in

@@ -14,7 +14,7 @@ use Rattle.side_file.specs.declared.entry.Entry.{Entry}
 use Rattle.catch_up.specs.Built.{BuiltValue}
 use Rattle.build_work.specs.BuildingValue.{BuildingValue, WorkValue, IndexValue, IsUnloaded, with_index, is_unique}
 use Rattle.build_work.specs.Columns.{column, other_columns}
-use Rattle.build_work.specs.Holding.{all_spools, lent_spools, spools_state, ended_column, spools_in}
+use Rattle.build_work.specs.Holding.{all_spools, workers_spools, spools_state, ended_column, spools_in}
 use Rattle.build_work.specs.Keeping.{IsKept, KeepsWork}
 use Rattle.build_work.specs.Keeping.{AreEachOnce}
 use Rattle.build_work.specs.Working.{CanLoad, LoadStopped}
@@ -77,13 +77,13 @@ pub stakes_beside :
     (workers : List WorkerValue) (a b : List SpoolValue) → stakes_of a ≡ stakes_of b → stakes_of (all_spools workers a) ≡ stakes_of (all_spools workers b)
 stakes_beside workers a b same =
     let stake : SpoolValue → Option Stake = λ s. s.stake in
-    map-append stake a (lent_spools workers) ∙ ap (λ (l : List (Option Stake)). l ++ stakes_of (lent_spools workers)) same ∙ sym (map-append stake b (lent_spools workers))
+    map-append stake a (workers_spools workers) ∙ ap (λ (l : List (Option Stake)). l ++ stakes_of (workers_spools workers)) same ∙ sym (map-append stake b (workers_spools workers))
 
 -- what is asked of work and spools for a load of an index
 pub record CanSort (index : ℕ) (work : WorkValue) (workers : List WorkerValue) (sides : List (TakeEnd Entry)) (spools : List SpoolValue) : Type 0 where
   pub there : index < length work.specs
   pub many : length work.indexes ≡ length work.specs
-  pub loads : work.loading ≡ true
+  pub loads : work.handed ≡ true
   pub kept : IsKept workers sides spools work
   pub lent : length spools ≡ length workers * length work.specs
   pub sorted : IsUnloaded index work → All AreSorted (runs_of (column index (length work.specs) spools))
@@ -129,7 +129,7 @@ module _ (old seen : BuildingValue) (work held : WorkValue) (same : seen ≡ old
   can_load index keeps can =
       let it : can.work ≡ work = the_work old.work can.work work can.runs its_work in
       let fine : work.spoiled ≡ None = ap (λ (w : WorkValue). w.spoiled) (sym it) ∙ can.fine in
-      let loads : work.loading ≡ true = ap (λ (w : WorkValue). w.loading) (sym it) ∙ can.loads in
+      let loads : work.handed ≡ true = ap (λ (w : WorkValue). w.handed) (sym it) ∙ can.loads in
       let there : index < length work.specs = subst (λ (w : WorkValue). index < length w.specs) it can.there in
       let kept : IsKept seen.workers seen.sides seen.spools work =
       subst (λ (o : Option WorkValue). KeepsWork seen.workers seen.sides seen.spools o) runs keeps fine in

@@ -15,7 +15,7 @@ use Rattle.building.specs.TakeEnd.{TakeEnd}
 use Rattle.building.specs.WorkerValue.{SameWorker, WorkerValue}
 use Rattle.build_work.specs.BuildingValue.{BuildingValue, WorkValue, intakes}
 use Rattle.build_work.specs.Equipped.{HasOwnSpools}
-use Rattle.build_work.specs.Holding.{all_spools, lent_spools}
+use Rattle.build_work.specs.Holding.{all_spools, workers_spools}
 use Rattle.build_work.specs.Keeping.{AreWorkers, IsKept, KeepsLaws, KeepsWork}
 use Rattle.build_work.specs.Lent.{AreBack, CanLend, IsBack, StaysWithout, lowest_fault}
 use Rattle.build_work.specs.Rings.{AreTakeEnds, take_rings}
@@ -44,7 +44,7 @@ all_there page_rings entry_rings workers idle sides are =
 -- what every building keeps, and its work goes on, without its workers
 pub stays_without :
     (page_rings entry_rings : List RingId) (workers : List WorkerValue) (idle : List IntakeValue) (sides : List (TakeEnd Entry)) (home : List SpoolValue)
-    (work : WorkValue) → AreTakeEnds page_rings entry_rings (intakes workers idle) sides → IsKept workers sides home work → work.spoiled ≡ None → work.loading ≡ false
+    (work : WorkValue) → AreTakeEnds page_rings entry_rings (intakes workers idle) sides → IsKept workers sides home work → work.spoiled ≡ None → work.handed ≡ false
     → StaysWithout page_rings entry_rings idle sides work
 stays_without page_rings entry_rings workers idle sides home work are kept fine scans =
     let ring : IntakeValue → RingId = λ i. i.end.ring in
@@ -68,7 +68,7 @@ stays_without page_rings entry_rings workers idle sides home work are kept fine 
 -- each worker has as many spools as there are indexes
 pub spools_many :
     (specs : List KeySpecValue) (workers : List WorkerValue) → ((k : ℕ) (worker : WorkerValue) → slice_get workers k ≡ Some worker → HasOwnSpools specs worker)
-    → length (lent_spools workers) ≡ length workers * length specs
+    → length (workers_spools workers) ≡ length workers * length specs
 spools_many specs workers own = flat_many (λ (w : WorkerValue). w.spools) (length specs) workers own
 
 -- of workers that go on each could be back

@@ -60,7 +60,7 @@ gathered spec (w ∷ ws) (s ∷ ss) many holds =
 
 module _
     (workers : List WorkerValue) (sides : List (TakeEnd Entry)) (spools : List SpoolValue) (work : WorkValue) (kept : IsKept workers sides spools work)
-    (loads : work.loading ≡ true) (index : ℕ) (spec : KeySpecValue) (is : slice_get work.specs index ≡ Some spec) (it : IndexValue)
+    (loads : work.handed ≡ true) (index : ℕ) (spec : KeySpecValue) (is : slice_get work.specs index ≡ Some spec) (it : IndexValue)
     (at : slice_get work.indexes index ≡ Some it) (none : it.built ≡ None) where
   abbrev n : ℕ
   n = length work.specs

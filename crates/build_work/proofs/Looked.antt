@@ -3,7 +3,7 @@ use Rattle.std.proofs.Common.{◌≡◌, ℕ, ◌*◌, ◌≤◌, Bool, false, L
 use Rattle.building.specs.SpoolValue.{SpoolValue}
 use Rattle.building.specs.WorkerValue.{WorkerValue}
 use Rattle.build_work.specs.BuildingValue.{WorkValue, IsUnloaded, work_state, intakes, state_unless, index_state}
-use Rattle.build_work.specs.Holding.{HaveColumns, all_spools, lent_spools}
+use Rattle.build_work.specs.Holding.{HaveColumns, all_spools, workers_spools}
 use Rattle.build_work.specs.Rings.{AreTakeEnds, unseen}
 use Rattle.build_work.proofs.AtWork.{states_same}
 use Rattle.build_work.specs.Keeping.{KeepsWork}
@@ -27,7 +27,7 @@ flat_map_map f g [] = refl
 flat_map_map f g (x ∷ xs) = ap (λ l. g (f x) ++ l) (flat_map_map f g xs)
 
 -- the workers have the same spools
-pub lent_looked : (old new : List WorkerValue) → map unseen new ≡ map unseen old → lent_spools new ≡ lent_spools old
+pub lent_looked : (old new : List WorkerValue) → map unseen new ≡ map unseen old → workers_spools new ≡ workers_spools old
 lent_looked old new same =
     let own : WorkerValue → List SpoolValue = λ v. v.spools in
     sym (flat_map_map unseen own new) ∙ ap (flat_map own) same ∙ flat_map_map unseen own old

@@ -13,15 +13,15 @@ the_work o a b one other = same_Some a b (sym one ∙ other)
 -- work that goes on while its workers have their spools, as it was seen
 module _
     (old seen : BuildingValue) (work its : WorkValue) (same : seen ≡ old) (runs : seen.work ≡ Some work) (is : old.work ≡ Some its) (fine : its.spoiled ≡ None)
-    (scans : its.loading ≡ false) (keeps : KeepsWork seen.workers seen.sides seen.spools seen.work) where
+    (scans : its.handed ≡ false) (keeps : KeepsWork seen.workers seen.sides seen.spools seen.work) where
   pub its_work : its ≡ work
   its_work = the_work old.work its work is (ap (λ (b : BuildingValue). b.work) (sym same) ∙ runs)
 
   pub still_fine : work.spoiled ≡ None
   still_fine = ap (λ (w : WorkValue). w.spoiled) (sym its_work) ∙ fine
 
-  pub still_scans : work.loading ≡ false
-  still_scans = ap (λ (w : WorkValue). w.loading) (sym its_work) ∙ scans
+  pub still_scans : work.handed ≡ false
+  still_scans = ap (λ (w : WorkValue). w.handed) (sym its_work) ∙ scans
 
   pub work_kept : IsKept seen.workers seen.sides seen.spools work
   work_kept = subst (λ (o : Option WorkValue). KeepsWork seen.workers seen.sides seen.spools o) runs keeps still_fine

@@ -16,7 +16,7 @@ use Rattle.std.proofs.lemmas.List.Sorted.{list_any-IsPermutation}
 use Rattle.keybytes.specs.Pairs.{AreOrdered, pair_cmp, set_of}
 use Rattle.keybytes.proofs.PairSets.{contains-set_of, same_members}
 use Rattle.build_work.specs.BuildingValue.{WorkValue, IndexValue, with_index, fresh, fresh_index, with_pairs, is_unique}
-use Rattle.build_work.specs.WorkOn.{IsIndexOn, IsWorkOn, IsCaughtUpTo}
+use Rattle.build_work.specs.WorkOn.{IsIndexOn, IsWorkOfBuild, IsCaughtUpTo}
 use Rattle.build_scan.proofs.Places.{at_set, replicate_at}
 use Rattle.build_events.specs.CoreState.{BuildState, scanning_of}
 use Rattle.build_events.specs.Ranges.{open_range}
@@ -36,7 +36,7 @@ fresh_on log b s = record {
 
 pub fresh_work_on :
     (kinds : List Kind) (log : List LogRec) (b : BuildState) (specs : List KeySpecValue) → b.specs ≡ specs
-    → All (λ spec. spec.kinds ≡ kinds) specs → IsWorkOn kinds log b (fresh b.number specs)
+    → All (λ spec. spec.kinds ≡ kinds) specs → IsWorkOfBuild kinds log b (fresh b.number specs)
 fresh_work_on kinds log b specs are same = record {
   number = refl;
   specs = are;
@@ -47,7 +47,7 @@ fresh_work_on kinds log b specs are same = record {
 
 -- its indexes are being loaded
 pub loading_work_on :
-    (kinds : List Kind) (log : List LogRec) (b : BuildState) (work : WorkValue) → IsWorkOn kinds log b work → IsWorkOn kinds log b (record work { loading = true })
+    (kinds : List Kind) (log : List LogRec) (b : BuildState) (work : WorkValue) → IsWorkOfBuild kinds log b work → IsWorkOfBuild kinds log b (record work { handed = true })
 loading_work_on kinds log b work is = record {
   number = is.number;
   specs = is.specs;
@@ -77,8 +77,8 @@ scanned_index_on log b spec index worker page is more = record {
 
 -- one page more was copied
 pub scanned_work_on :
-    (kinds : List Kind) (log : List LogRec) (b : BuildState) (work : WorkValue) (worker page : ℕ) → IsWorkOn kinds log b work → (open_range b ≡ None → ⊥)
-    → IsWorkOn kinds log (record b { scans = b.scans ++ scan_now worker page log ∷ [] }) work
+    (kinds : List Kind) (log : List LogRec) (b : BuildState) (work : WorkValue) (worker page : ℕ) → IsWorkOfBuild kinds log b work → (open_range b ≡ None → ⊥)
+    → IsWorkOfBuild kinds log (record b { scans = b.scans ++ scan_now worker page log ∷ [] }) work
 scanned_work_on kinds log b work worker page is more = record {
   number = is.number;
   specs = is.specs;
@@ -89,8 +89,8 @@ scanned_work_on kinds log b work worker page is more = record {
 
 -- it is spoiled
 pub spoiled_work_on :
-    (kinds : List Kind) (log : List LogRec) (b : BuildState) (work : WorkValue) (fault : Fault) → IsWorkOn kinds log b work
-    → IsWorkOn kinds log b (record work { spoiled = Some fault })
+    (kinds : List Kind) (log : List LogRec) (b : BuildState) (work : WorkValue) (fault : Fault) → IsWorkOfBuild kinds log b work
+    → IsWorkOfBuild kinds log b (record work { spoiled = Some fault })
 spoiled_work_on kinds log b work fault is = record {
   number = is.number;
   specs = is.specs;
@@ -107,8 +107,8 @@ same_set made pairs moved =
 
 -- the work on one of its indexes is other work on it
 pub set_work_on :
-    (kinds : List Kind) (log : List LogRec) (b : BuildState) (work : WorkValue) (index : ℕ) (spec : KeySpecValue) (new : IndexValue) → IsWorkOn kinds log b work
-    → slice_get b.specs index ≡ Some spec → IsIndexOn log b spec new → IsWorkOn kinds log b (record work { indexes = set work.indexes index new })
+    (kinds : List Kind) (log : List LogRec) (b : BuildState) (work : WorkValue) (index : ℕ) (spec : KeySpecValue) (new : IndexValue) → IsWorkOfBuild kinds log b work
+    → slice_get b.specs index ≡ Some spec → IsIndexOn log b spec new → IsWorkOfBuild kinds log b (record work { indexes = set work.indexes index new })
 set_work_on kinds log b work index spec new is here on = record {
   number = is.number;
   specs = is.specs;
@@ -124,9 +124,9 @@ set_work_on kinds log b work index spec new is here on = record {
 
 -- the pairs of an index are in order
 pub sorted_work_on :
-    (kinds : List Kind) (log : List LogRec) (b : BuildState) (work : WorkValue) (index : ℕ) (spec : KeySpecValue) (made pairs : List Pair) → IsWorkOn kinds log b work
+    (kinds : List Kind) (log : List LogRec) (b : BuildState) (work : WorkValue) (index : ℕ) (spec : KeySpecValue) (made pairs : List Pair) → IsWorkOfBuild kinds log b work
     → slice_get b.specs index ≡ Some spec → open_range b ≡ None → IsPermutation made (scanned_pairs (scanning_of b spec) log) → IsPermutation made pairs
-    → AreOrdered pairs → IsWorkOn kinds log b (with_index work index pairs 0)
+    → AreOrdered pairs → IsWorkOfBuild kinds log b (with_index work index pairs 0)
 sorted_work_on kinds log b work index spec made pairs is here all whole moved ordered =
     set_work_on kinds log b work index spec (record { built = Some (with_pairs work index pairs); applied = 0 }) is here (record {
       all = λ e. all;

@@ -28,14 +28,14 @@ pub record WorkValue : Type 0 where
   pub build : ℕ
   -- what makes the keys of its indexes
   pub specs : List KeySpecValue
-  -- whether its indexes are being loaded, and its workers have handed their spools over
-  pub loading : Bool
+  -- whether its workers have handed their spools over to the indexes, which can be loaded then
+  pub handed : Bool
   pub indexes : List IndexValue
   pub spoiled : Option Fault
 
 -- the work of the build with that number, of which nothing is done
 abbrev pub fresh : ℕ → List KeySpecValue → WorkValue
-fresh build specs = record { build = build; specs = specs; loading = false; indexes = replicate (length specs) fresh_index; spoiled = None }
+fresh build specs = record { build = build; specs = specs; handed = false; indexes = replicate (length specs) fresh_index; spoiled = None }
 
 -- the ends of a table's rings that take: those of the page rings are the workers' intakes
 pub record EndsValue : Type 0 where

@@ -15,12 +15,12 @@ use Rattle.build_work.specs.Columns.{column, with_every}
 use Rattle.build_events.specs.CoreState.{SpoolsState}
 
 -- the spools that the workers have, worker by worker
-abbrev pub lent_spools : List WorkerValue → List SpoolValue
-lent_spools workers = flat_map (λ worker. worker.spools) workers
+abbrev pub workers_spools : List WorkerValue → List SpoolValue
+workers_spools workers = flat_map (λ worker. worker.spools) workers
 
 -- all spools, in the order in which they were handed in
 abbrev pub all_spools : List WorkerValue → List SpoolValue → List SpoolValue
-all_spools workers spools = spools ++ lent_spools workers
+all_spools workers spools = spools ++ workers_spools workers
 
 -- spools as callers of the core see them; those that a build was given are not left for a next one
 abbrev pub spools_state : Bool → List SpoolValue → SpoolsState

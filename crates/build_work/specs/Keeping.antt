@@ -88,16 +88,16 @@ HaveEachOnce work spools =
 -- what the work of a build that goes on keeps, with its workers, the spools that no worker has, and the ends of its side-files' rings
 pub record IsKept (workers : List WorkerValue) (sides : List (TakeEnd Entry)) (spools : List SpoolValue) (work : WorkValue) : Type 0 where
   pub many : length work.indexes ≡ length work.specs
-  pub placed : AreWorkers work.build work.specs work.loading workers
+  pub placed : AreWorkers work.build work.specs work.handed workers
   pub indexes : (k : ℕ) (spec : KeySpecValue) (end : TakeEnd Entry) (index : IndexValue) → slice_get work.specs k ≡ Some spec
       → slice_get sides k ≡ Some end → slice_get work.indexes k ≡ Some index → IsIndexOf work.build spec workers end index
   -- until they hand their spools over each spool is with its worker, and no index is in order
-  pub lent : work.loading ≡ false → spools ≡ []
-  pub unloaded : work.loading ≡ false → All (λ index. index.built ≡ None) work.indexes
+  pub lent : work.handed ≡ false → spools ≡ []
+  pub unloaded : work.handed ≡ false → All (λ index. index.built ≡ None) work.indexes
   -- from then on no worker has one, and those of an index that isn't in order hold its pairs, each once
-  pub handed : work.loading ≡ true → All (HasHanded work.specs) workers
-  pub columns : work.loading ≡ true → HaveColumns (λ index. IsUnloaded index work) work.specs workers spools
-  pub once : work.loading ≡ true → HaveEachOnce work spools
+  pub handed : work.handed ≡ true → All (HasHanded work.specs) workers
+  pub columns : work.handed ≡ true → HaveColumns (λ index. IsUnloaded index work) work.specs workers spools
+  pub once : work.handed ≡ true → HaveEachOnce work spools
 
 -- so it is of the work, if there is any, until it is spoiled
 abbrev pub KeepsWork : List WorkerValue → List (TakeEnd Entry) → List SpoolValue → Option WorkValue → Type 0

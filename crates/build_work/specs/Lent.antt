@@ -12,7 +12,7 @@ use Rattle.building.specs.WorkerValue.{WorkerValue}
 use Rattle.build_scan.specs.SideFiles.{taken_rings}
 use Rattle.build_work.specs.BuildingValue.{BuildingValue, WorkValue}
 use Rattle.build_work.specs.Equipped.{HasOwnSpools}
-use Rattle.build_work.specs.Holding.{lent_spools}
+use Rattle.build_work.specs.Holding.{workers_spools}
 use Rattle.build_work.specs.Keeping.{IsKept}
 use Rattle.build_work.specs.Rings.{take_rings}
 
@@ -21,7 +21,7 @@ pub record CanLend (building : BuildingValue) : Type 0 where
   pub work : WorkValue
   pub runs : building.work ≡ Some work
   pub fine : work.spoiled ≡ None
-  pub scans : work.loading ≡ false
+  pub scans : work.handed ≡ false
 
 -- the worker of a place of that build of these indexes, with its spools, whether it goes on or was stopped
 pub record IsBack (build : ℕ) (specs : List KeySpecValue) (place : ℕ) (worker : WorkerValue) : Type 0 where
@@ -43,7 +43,7 @@ pub record AreNoMore (building : BuildingValue) (workers : List WorkerValue) : T
   pub work : WorkValue
   pub runs : building.work ≡ Some work
   pub few : length workers + length building.idle ≤ 16
-  pub spools : length (lent_spools workers) ≤ (16 - length building.idle) * length work.specs
+  pub spools : length (workers_spools workers) ≤ (16 - length building.idle) * length work.specs
 
 -- of those that were stopped the lowest one's fault
 abbrev pub lowest_fault : List WorkerValue → Option Fault
@@ -60,5 +60,5 @@ pub record StaysWithout
   pub sides_are : taken_rings sides ≡ entry_rings
   pub eight : length sides ≡ 8
   pub fine : work.spoiled ≡ None
-  pub scans : work.loading ≡ false
+  pub scans : work.handed ≡ false
   pub kept : IsKept [] sides [] work

@@ -46,7 +46,7 @@ AreIndexesOn log b indexes =
     (k : ℕ) (spec : KeySpecValue) (index : IndexValue) → slice_get b.specs k ≡ Some spec → slice_get indexes k ≡ Some index → IsIndexOn log b spec index
 
 -- it is the work of that build
-pub record IsWorkOn (kinds : List Kind) (log : List LogRec) (b : BuildState) (work : WorkValue) : Type 0 where
+pub record IsWorkOfBuild (kinds : List Kind) (log : List LogRec) (b : BuildState) (work : WorkValue) : Type 0 where
   pub number : work.build ≡ b.number
   pub specs : b.specs ≡ work.specs
   pub columns : All (λ spec. spec.kinds ≡ kinds) work.specs
@@ -54,11 +54,11 @@ pub record IsWorkOn (kinds : List Kind) (log : List LogRec) (b : BuildState) (wo
   pub indexes : AreIndexesOn log b work.indexes
 
 -- there is work exactly where a build runs, and it is that build's
-abbrev pub IsWorkOf : List Kind → List LogRec → Option BuildState → Option WorkValue → Type 0
-IsWorkOf kinds log None None = Unit {0}
-IsWorkOf kinds log None (Some work) = ⊥
-IsWorkOf kinds log (Some b) None = ⊥
-IsWorkOf kinds log (Some b) (Some work) = IsWorkOn kinds log b work
+abbrev pub WorkMatches : List Kind → List LogRec → Option BuildState → Option WorkValue → Type 0
+WorkMatches kinds log None None = Unit {0}
+WorkMatches kinds log None (Some work) = ⊥
+WorkMatches kinds log (Some b) None = ⊥
+WorkMatches kinds log (Some b) (Some work) = IsWorkOfBuild kinds log b work
 
 -- of that index the entries that were fed and not applied wait in the ring between these ends
 abbrev pub IsIndexFed : BuildState → List IndexValue → List (PutEnd Entry) → List (TakeEnd Entry) → ℕ → Type 0
@@ -78,12 +78,12 @@ pub record AreAtWork
   pub fed : AreFed b work.indexes sides building.sides
   pub given : building.given ≡ true
   pub many : length building.workers ≡ b.workers
-  pub taking : work.spoiled ≡ None → AreTaking b.number kinds work.specs work.loading (all_sent pages) building.workers
+  pub taking : work.spoiled ≡ None → AreTaking b.number kinds work.specs work.handed (all_sent pages) building.workers
   -- until they hand their spools over each is with its worker
-  pub lent : work.spoiled ≡ None → work.loading ≡ false → building.spools ≡ []
+  pub lent : work.spoiled ≡ None → work.handed ≡ false → building.spools ≡ []
   -- from then on nothing is left to scan or to take
-  pub drained : work.spoiled ≡ None → work.loading ≡ true → (open_range b ≡ None) × AreSealed (all_sent pages) building.workers
-  pub columns : work.spoiled ≡ None → work.loading ≡ true → HaveColumns (λ index. IsUnloaded index work) work.specs building.workers building.spools
+  pub drained : work.spoiled ≡ None → work.handed ≡ true → (open_range b ≡ None) × AreSealed (all_sent pages) building.workers
+  pub columns : work.spoiled ≡ None → work.handed ≡ true → HaveColumns (λ index. IsUnloaded index work) work.specs building.workers building.spools
 
 -- the same for the build that runs, if one does
 abbrev pub WorkersFollow : List Kind → List (PutEnd Copied) → List (PutEnd Entry) → BuildingValue → Option BuildState → Option WorkValue → Type 0

@@ -15,7 +15,7 @@ use Rattle.build_scan.specs.SideFiles.{HasLookedAtSide, SeesSide}
 use Rattle.build_work.specs.BuildingValue.{BuildingValue, WorkValue, IndexValue, with_index, with_pairs}
 use Rattle.build_work.specs.Columns.{column, other_columns}
 use Rattle.build_work.specs.Keeping.{HaveEachOnce, IsClosed}
-use Rattle.build_work.specs.Holding.{all_spools, ended_column, lent_spools}
+use Rattle.build_work.specs.Holding.{all_spools, ended_column, workers_spools}
 
 -- a worker without its spools
 abbrev pub handed_over : WorkerValue → WorkerValue
@@ -26,10 +26,10 @@ pub record CanHandOver (building : BuildingValue) : Type 0 where
   pub work : WorkValue
   pub runs : building.work ≡ Some work
   pub fine : work.spoiled ≡ None
-  pub scans : work.loading ≡ false
+  pub scans : work.handed ≡ false
   pub closed : All IsClosed building.workers
   -- no pair is there twice, as no page was read twice
-  pub once : HaveEachOnce work (lent_spools building.workers)
+  pub once : HaveEachOnce work (workers_spools building.workers)
 
 -- the workers of the build handed their spools over, for the loads of its indexes
 pub record HasHandedOver (old new : BuildingValue) : Type 0 where
@@ -38,7 +38,7 @@ pub record HasHandedOver (old new : BuildingValue) : Type 0 where
   pub left : new ≡ record old {
     workers = map handed_over old.workers;
     spools = all_spools old.workers old.spools;
-    work = Some (record work { loading = true });
+    work = Some (record work { handed = true });
   }
 
 -- the pairs of the index's spools are put in order, and these spools ended; answered with the number of pairs
@@ -55,7 +55,7 @@ pub record CanLoad (index : ℕ) (building : BuildingValue) : Type 0 where
   pub runs : building.work ≡ Some work
   pub there : index < length work.specs
   pub fine : work.spoiled ≡ None
-  pub loads : work.loading ≡ true
+  pub loads : work.handed ≡ true
 
 -- a load of an index was refused: the work is spoiled, the spools of the index may be other but for their stakes, and nothing else changed
 pub record LoadStopped (index : ℕ) (old : BuildingValue) (fault : Fault) (new : BuildingValue) : Type 0 where

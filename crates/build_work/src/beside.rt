@@ -3,7 +3,7 @@ ghost use Rattle.std.specs.Prelude.{◌≡◌, ◌⊎◌, ℕ, ◌+◌, ◌*◌,
 ghost use Rattle.std.specs.List.{list_all};
 ghost use Rattle.building.specs.SpoolValue.{spool_value};
 ghost use Rattle.build_work.specs.BuildingValue.{fresh, given_up, intakes, IsUnloaded};
-ghost use Rattle.build_work.specs.Holding.{all_spools, lent_spools, spools_state};
+ghost use Rattle.build_work.specs.Holding.{all_spools, workers_spools, spools_state};
 ghost use Rattle.build_work.specs.Keeping.{AreWorkers, KeepsWork};
 ghost use Rattle.catch_up.specs.Built.{told_to};
 ghost use Rattle.build_work.specs.Equipped.{HasOwnSpools, HasRoomFor, IsFresh, IsNewMaker};
@@ -208,7 +208,7 @@ impl<S: Spool, T: Table> Building<S, T> {
         ensures rest { self.new ≡ record self.old { workers = self.new.workers; idle = self.new.idle; spools = []; given = true; work = Some work } }
         ensures intakes { intakes self.new.workers self.new.idle ≡ self.old.idle }
         ensures makers { map (λ worker. worker.maker) self.new.workers ≡ map (λ it. it.maker) equipment.items }
-        ensures lent { lent_spools self.new.workers ≡ self.old.spools }
+        ensures lent { workers_spools self.new.workers ≡ self.old.spools }
         ensures own { All (HasOwnSpools work.specs) self.new.workers }
         ensures workers { AreWorkers work.build work.specs false self.new.workers }
     {
@@ -229,7 +229,7 @@ impl<S: Spool, T: Table> Building<S, T> {
 
     /// Whether a build runs whose indexes are being loaded.
     pub fn is_loading(&self) -> bool
-        ensures loading { IfSome self.now.work (λ work. result ≡ work.loading) }
+        ensures handed { IfSome self.now.work (λ work. result ≡ work.handed) }
         ensures none { self.now.work ≡ None → result ≡ false }
     {
         match &self.work {
@@ -248,7 +248,7 @@ impl<S: Spool, T: Table> Building<S, T> {
         };
         laws_of(&self.workers);
         bring_home(&mut self.workers, &mut self.spools);
-        work.loading = true;
+        work.handed = true;
     }
 
     /// Puts the pairs of an index in order, and answers how many there are; 0 where they are in order already. Want of memory

@@ -3,7 +3,7 @@ ghost use Rattle.std.specs.Prelude.{◌≡◌, ◌≤◌, ◌<◌, ◌+◌, ◌*
 ghost use Rattle.std.specs.Vec.Iter.{into_iter_items};
 ghost use Rattle.building.specs.SpoolValue.{spool_value};
 ghost use Rattle.build_work.specs.BuildingValue.{intakes};
-ghost use Rattle.build_work.specs.Holding.{fresh_maker, lent_spools};
+ghost use Rattle.build_work.specs.Holding.{fresh_maker, workers_spools};
 ghost use Rattle.build_work.specs.Rings.{take_rings};
 ghost use Rattle.build_work.specs.Equipped.{HasOneMore, HasOwnSpools, HasRoomFor, IsFresh, IsNewMaker};
 ghost use Rattle.build_work.specs.Keeping.{AreWorkers};
@@ -79,7 +79,7 @@ pub fn equip<S: Spool, T: Table>(
     ensures intakes { intakes workers.new.items idle.new.items ≡ idle.old.items }
     ensures idle_room { vec_capacity idle.new ≡ vec_capacity idle.old }
     ensures makers { map (λ worker. worker.maker) workers.new.items ≡ map (λ it. it.maker) equipment.items }
-    ensures lent { lent_spools workers.new.items ≡ map (spool_value S.runs S.open_run S.stake) spools.items }
+    ensures lent { workers_spools workers.new.items ≡ map (spool_value S.runs S.open_run S.stake) spools.items }
     ensures own { All (HasOwnSpools work.now.specs) workers.new.items }
     ensures workers { AreWorkers work.now.build work.now.specs false workers.new.items }
 {
@@ -108,8 +108,8 @@ fn add_one<S: Spool, T: Table>(
     requires empty { All (λ spool. (S.runs spool ≡ []) × (S.open_run spool ≡ [])) (into_iter_items rest.old) }
     ensures intakes { intakes workers.new.items idle.new.items ≡ intakes workers.old.items idle.old.items }
     ensures more { HasOneMore work.now.build work.now.specs it.maker workers.old.items workers.new.items }
-    ensures lent { lent_spools workers.new.items ++ map (spool_value S.runs S.open_run S.stake) (into_iter_items rest.new)
-        ≡ lent_spools workers.old.items ++ map (spool_value S.runs S.open_run S.stake) (into_iter_items rest.old) }
+    ensures lent { workers_spools workers.new.items ++ map (spool_value S.runs S.open_run S.stake) (into_iter_items rest.new)
+        ≡ workers_spools workers.old.items ++ map (spool_value S.runs S.open_run S.stake) (into_iter_items rest.old) }
     ensures rest { into_iter_items rest.new ≡ drop (length work.now.specs) (into_iter_items rest.old) }
     ensures idle { idle.new.items ≡ drop 1 idle.old.items }
     ensures idle_room { vec_capacity idle.new ≡ vec_capacity idle.old }

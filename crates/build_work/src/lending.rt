@@ -4,7 +4,7 @@ ghost use Rattle.building.specs.SpoolValue.{spool_value, stakes_of};
 ghost use Rattle.building.specs.TakeEnd.{take_end};
 ghost use Rattle.build_work.specs.BuildingValue.{intakes};
 ghost use Rattle.build_work.specs.Equipped.{HasRoomFor};
-ghost use Rattle.build_work.specs.Holding.{lent_spools};
+ghost use Rattle.build_work.specs.Holding.{workers_spools};
 ghost use Rattle.build_work.specs.Lent.{AreBack, AreNoMore, CanLend, lowest_fault, StaysWithout};
 
 use crate::beside::Building;
@@ -125,7 +125,7 @@ impl<S: Spool, T: Table> WithoutWorkers<S, T> {
         ensures intakes { result.0.items ≡ intakes workers.items self.idle }
         ensures sides { map take_end result.1.items ≡ self.sides }
         ensures ended { All S.ended result.2.items }
-        ensures stakes { map S.stake result.2.items ≡ stakes_of (lent_spools workers.items) }
+        ensures stakes { map S.stake result.2.items ≡ stakes_of (workers_spools workers.items) }
     {
         let mut workers = workers;
         let (mut intakes, side_ends, mut spools) = self.into_parts();

@@ -4,7 +4,7 @@
 //! spools, the ends of the side-files' rings, the spools that no worker has, and the [`Work`], of each index an [`IndexWork`]. While its
 //! workers are lent to threads it is [`WithoutWorkers`]. Between two builds the rings' ends are [`Ends`], and what the next build's workers
 //! begin with is made by [`prepare`]. What its workers, spools and work have to do with the build that a table knows is said once, by
-//! `AreAtWork` and `IsWorkOn` of `specs/WorkOn.antt`.
+//! `AreAtWork` and `IsWorkOfBuild` of `specs/WorkOn.antt`.
 #![tactic(auto)]
 
 mod beside;

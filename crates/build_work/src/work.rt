@@ -12,8 +12,8 @@ use std::marker::Model;
 pub struct Work {
     pub(crate) build: u64,
     pub(crate) specs: Vec<KeySpec>,
-    /// Whether its indexes are being loaded, and its workers have handed their spools over.
-    pub(crate) loading: bool,
+    /// Whether its workers have handed their spools over to the indexes, which can be loaded then.
+    pub(crate) handed: bool,
     pub(crate) indexes: Vec<IndexWork>,
     pub(crate) spoiled: Option<Fault>,
 }
@@ -23,7 +23,7 @@ impl Drop for Work {
         let Work {
             build: _,
             specs: _,
-            loading: _,
+            handed: _,
             indexes: _,
             spoiled: _,
         } = self;
@@ -38,7 +38,7 @@ impl Model for Work {
     ghost view = { λ work. record {
       build = work.build;
       specs = work.specs.items;
-      loading = work.loading;
+      handed = work.handed;
       indexes = work.indexes.items;
       spoiled = work.spoiled;
     } };
@@ -54,7 +54,7 @@ impl Work {
             indexes: fresh_indexes(alloc, specs.len())?,
             build,
             specs,
-            loading: false,
+            handed: false,
             spoiled: None,
         })
     }
@@ -85,9 +85,9 @@ impl Work {
 
     /// Whether its indexes are being loaded.
     pub fn is_loading(&self) -> bool
-        ensures { result ≡ self.now.loading }
+        ensures { result ≡ self.now.handed }
     {
-        self.loading
+        self.handed
     }
 
     /// Whether the pairs of that index are in order.
@@ -132,7 +132,7 @@ impl Work {
         let Work {
             build: _,
             specs: _,
-            loading: _,
+            handed: _,
             indexes,
             spoiled: _,
         } = self;

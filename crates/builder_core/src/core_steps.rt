@@ -35,13 +35,13 @@ pub struct Core<S: Spool, T: Table> {
 
 impl<S: Spool, T: Table> Model for Core<S, T> {
     ghost use Rattle.build_events.specs.CoreState.{CoreState};
-    ghost use Rattle.build_halves.specs.Builds.{core_state, WorksOn};
+    ghost use Rattle.build_halves.specs.Builds.{core_state, StandsBeside};
 
     ghost Value = { CoreState };
 
     ghost view = { λ core. core_state core.live core.building };
 
-    ghost invariant = { λ core. WorksOn core.live core.building };
+    ghost invariant = { λ core. StandsBeside core.live core.building };
 }
 
 impl<S: Spool, T: Table> Core<S, T> {

@@ -15,7 +15,7 @@ ghost use Rattle.building.specs.WorkerValue.{IsShortage};
 use crate::{Copied, PagePutter, Turn};
 use keybytes::Fault;
 use rtrb::Consumer;
-use run_maker::Maker;
+use run_maker::{Maker, RunSort};
 use run_spool::Spool;
 use std::marker::Model;
 
@@ -132,10 +132,16 @@ impl Intake {
     }
 
     /// Takes the next copy that it has seen, makes its pairs, spools those that fill a run, and answers 1. The answer is 0 where it has seen
-    /// none, and where the copy is of another build or of other columns than its maker's, and so is dropped. It is lent the spool of each index. Want
+    /// none, and where the copy is of another build or of other columns than its maker's, and so is dropped. It is lent the spool of each index, and
+    /// the sort of its runs. Want
     /// of memory or of a page spoils the build: the copy is gone, and a part of its pairs may be spooled. [`Fault::Memory`] is also
     /// the answer where its copies would be more than `usize` counts.
-    pub fn digest<S: Spool>(&mut self, maker: &mut Maker, spools: &mut [S]) -> Result<usize, Fault>
+    pub fn digest<S: Spool, Q: RunSort>(
+        &mut self,
+        maker: &mut Maker,
+        spools: &mut [S],
+        sort: &mut Q,
+    ) -> Result<usize, Fault>
         requires spools { length spools.old ≡ length maker.old.specs }
         requires ready { AreReady (map S.runs spools.old) (map S.open_run spools.old) }
         ensures count { IfOk result (λ images. images ≡ length (next_images 1 maker.old.schema self.old)) }
@@ -169,7 +175,7 @@ impl Intake {
             return Err(Fault::Memory);
         }
         copied.image.laws();
-        maker.take(copied.image, spools)?;
+        maker.take_with(copied.image, spools, sort)?;
         self.taken += 1;
         Ok(1)
     }
@@ -177,7 +183,12 @@ impl Intake {
     /// Takes all copies that it has seen, spools their pairs, closes the run of each index, and answers how many copies of its
     /// build and of its maker's columns there were. What it has taken is then sealed. Want of memory or of a page spoils the
     /// build: some of the copies are gone.
-    pub fn seal<S: Spool>(&mut self, maker: &mut Maker, spools: &mut [S]) -> Result<usize, Fault>
+    pub fn seal<S: Spool, Q: RunSort>(
+        &mut self,
+        maker: &mut Maker,
+        spools: &mut [S],
+        sort: &mut Q,
+    ) -> Result<usize, Fault>
         requires spools { length spools.old ≡ length maker.old.specs }
         requires ready { AreReady (map S.runs spools.old) (map S.open_run spools.old) }
         ensures count { IfOk result (λ images. images ≡ length (next_images (length self.old.end.known) maker.old.schema self.old)) }
@@ -206,20 +217,21 @@ impl Intake {
         maker.laws();
         let mut images = 0;
         for _ in 0..self.seen() {
-            images += self.digest(maker, spools)?;
+            images += self.digest(maker, spools, sort)?;
         }
         maker.laws();
-        maker.seal(spools)?;
+        maker.seal_with(spools, sort)?;
         self.mark(Turn::Seal);
         Ok(images)
     }
 
     /// Takes what that turn asks, as [`Intake::digest`] or [`Intake::seal`].
-    pub(crate) fn take<S: Spool>(
+    pub(crate) fn take<S: Spool, Q: RunSort>(
         &mut self,
         turn: Turn,
         maker: &mut Maker,
         spools: &mut [S],
+        sort: &mut Q,
     ) -> Result<usize, Fault>
         requires spools { length spools.old ≡ length maker.old.specs }
         requires ready { AreReady (map S.runs spools.old) (map S.open_run spools.old) }
@@ -247,8 +259,8 @@ impl Intake {
             (record { runs = map S.runs spools.old; begun = maker.old.begun }) (record { runs = map S.runs spools.new; begun = maker.new.begun }))) }
     {
         match turn {
-            Turn::Digest => self.digest(maker, spools),
-            Turn::Seal => self.seal(maker, spools),
+            Turn::Digest => self.digest(maker, spools, sort),
+            Turn::Seal => self.seal(maker, spools, sort),
         }
     }
 

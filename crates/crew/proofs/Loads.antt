@@ -15,7 +15,7 @@ use Rattle.build_scan.proofs.Places.{at_set}
 use Rattle.build_work.proofs.Columns.{kept_changed}
 use Rattle.build_work.proofs.OneWorker.{the_work}
 use Rattle.build_work.specs.BuildingValue.{BuildingValue, IndexValue, WorkValue, with_index}
-use Rattle.build_work.specs.Holding.{ended_column, lent_spools}
+use Rattle.build_work.specs.Holding.{ended_column, workers_spools}
 use Rattle.build_work.specs.Working.{CanLoad, HasApplied, HasLoaded, HasSeenEntries, LoadStopped}
 use Rattle.crew.specs.Seats.{CanLoadEach, GoesOnWith, stakes_beside}
 use Rattle.crew.proofs.Steps.{goes_same}
@@ -24,9 +24,9 @@ use Rattle.crew.proofs.Steps.{goes_same}
 beside_same : (building new : BuildingValue) → new.workers ≡ building.workers → stakes_of new.spools ≡ stakes_of building.spools → stakes_beside new ≡ stakes_beside building
 beside_same building new workers spools =
     let stake : SpoolValue → _ = λ s. s.stake in
-    map-append stake new.spools (lent_spools new.workers)
-    ∙ ap₂ (λ (home : List _) (all : List WorkerValue). home ++ stakes_of (lent_spools all)) spools workers
-    ∙ sym (map-append stake building.spools (lent_spools building.workers))
+    map-append stake new.spools (workers_spools new.workers)
+    ∙ ap₂ (λ (home : List _) (all : List WorkerValue). home ++ stakes_of (workers_spools all)) spools workers
+    ∙ sym (map-append stake building.spools (workers_spools building.workers))
 
 -- one index more is in order
 set_goes :
@@ -60,7 +60,7 @@ same_goes count more specs building on loaded = record {
 }
 
 -- each index can be loaded where the workers handed their spools over
-each_loads : (building : BuildingValue) (w : WorkValue) → building.work ≡ Some w → w.spoiled ≡ None → w.loading ≡ true → CanLoadEach building
+each_loads : (building : BuildingValue) (w : WorkValue) → building.work ≡ Some w → w.spoiled ≡ None → w.handed ≡ true → CanLoadEach building
 each_loads building w runs fine loads = λ index there. record {
   work = w;
   runs = runs;
@@ -119,7 +119,7 @@ module _ (index : ℕ) (old : BuildingValue) (pairs : ℕ) (new : BuildingValue)
       let its : does.work ≡ can.work = the_work old.work does.work can.work does.runs can.runs in
       by_built {P = CanLoadEach new}
       (λ there same. subst CanLoadEach (sym same) (each_loads old can.work can.runs can.fine can.loads))
-      (λ none. each_loads new _ (ap (λ (b : BuildingValue). b.work) (does.first none).left) (ap (λ (w : WorkValue). w.spoiled) its ∙ can.fine) (ap (λ (w : WorkValue). w.loading) its ∙ can.loads))
+      (λ none. each_loads new _ (ap (λ (b : BuildingValue). b.work) (does.first none).left) (ap (λ (w : WorkValue). w.spoiled) its ∙ can.fine) (ap (λ (w : WorkValue). w.handed) its ∙ can.loads))
 
 pub stopped_stakes : (index : ℕ) (old : BuildingValue) (fault : Fault) (new : BuildingValue) → LoadStopped index old fault new → stakes_beside new ≡ stakes_beside old
 stopped_stakes index old fault new stopped =

@@ -8,7 +8,7 @@ use Rattle.building.specs.SpoolValue.{SpoolValue, stakes_of}
 use Rattle.building.specs.WorkerValue.{SameWorker, WorkerValue}
 use Rattle.build_scan.proofs.Places.{as_long, same_at}
 use Rattle.build_work.specs.BuildingValue.{BuildingValue}
-use Rattle.build_work.specs.Holding.{all_spools, lent_spools}
+use Rattle.build_work.specs.Holding.{all_spools, workers_spools}
 use Rattle.build_work.specs.Lent.{AreBack, IsBack}
 use Rattle.crew.specs.Seats.{SeatValue, seat_of, seats_of}
 
@@ -45,10 +45,10 @@ all_back rest old new same back = record {
 }
 
 -- the stakes of what workers have are told by their seats
-stakes_in_seats : (workers : List WorkerValue) → stakes_of (lent_spools workers) ≡ flat_map (λ (seat : SeatValue). seat.stakes) (seats_of workers)
+stakes_in_seats : (workers : List WorkerValue) → stakes_of (workers_spools workers) ≡ flat_map (λ (seat : SeatValue). seat.stakes) (seats_of workers)
 stakes_in_seats [] = refl
 stakes_in_seats (w ∷ ws) =
-    map-append (λ (s : SpoolValue). s.stake) w.spools (lent_spools ws)
+    map-append (λ (s : SpoolValue). s.stake) w.spools (workers_spools ws)
     ∙ ap (λ (l : List (Option Stake)). stakes_of w.spools ++ l) (stakes_in_seats ws)
 
 -- and those of all spools
@@ -56,7 +56,7 @@ pub same_stakes :
     (old new : List WorkerValue) (spools : List SpoolValue) → seats_of new ≡ seats_of old → stakes_of (all_spools new spools) ≡ stakes_of (all_spools old spools)
 same_stakes old new spools same =
     let stake : SpoolValue → Option Stake = λ s. s.stake in
-    map-append stake spools (lent_spools new)
+    map-append stake spools (workers_spools new)
     ∙ ap (λ (l : List (Option Stake)). stakes_of spools ++ l)
     (stakes_in_seats new ∙ ap (flat_map (λ (seat : SeatValue). seat.stakes)) same ∙ sym (stakes_in_seats old))
-    ∙ sym (map-append stake spools (lent_spools old))
+    ∙ sym (map-append stake spools (workers_spools old))

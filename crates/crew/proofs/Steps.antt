@@ -25,14 +25,14 @@ use Rattle.build_events.specs.declared.event.Event.TheVariants.{Switch}
 use Rattle.build_events.specs.declared.plan.Plan.{Plan}
 use Rattle.build_scan.proofs.Places.{map_at, same_at}
 use Rattle.build_halves.proofs.Starts.{has_counts}
-use Rattle.build_halves.specs.Builds.{LiveValue, WorksOn, core_state}
+use Rattle.build_halves.specs.Builds.{LiveValue, StandsBeside, core_state}
 use Rattle.build_halves.specs.Switching.{HandsOver, IsOnlyLookedAt, IsPartOf, IsSwitchRefused, KeepsOut, RefusesSwitch, early_cause}
 use Rattle.building.specs.SpoolValue.{SpoolValue, stakes_of}
 use Rattle.build_work.proofs.Looked.{lent_looked}
 use Rattle.build_work.proofs.OneWorker.{the_work}
 use Rattle.build_work.specs.BuildingValue.{BuildingValue, IndexValue, WorkValue, index_state, state_unless, work_state}
 use Rattle.build_work.specs.Lent.{CanLend}
-use Rattle.build_work.specs.WorkOn.{IsWorkOf, IsWorkOn}
+use Rattle.build_work.specs.WorkOn.{WorkMatches, IsWorkOfBuild}
 use Rattle.ready_indexes.specs.Indexes.{ReadyValue, index_now}
 use Rattle.crew.specs.Reports.{EndsFor, IsOther}
 use Rattle.crew.specs.Seats.{GoesOnWith, stakes_beside}
@@ -90,12 +90,12 @@ module _ (live new_live : LiveValue) (building new : BuildingValue) (plan : Plan
       (has_counts live.state left plan (unless_none (counts_fit live.state left plan) BadCount counted.0)).few_indexes
 
   pub started_goes_on :
-      start_refusal live.state (core_state live building).spools plan ≡ None → WorksOn new_live new → CanLend new → GoesOnWith 0 plan.specs.items new
+      start_refusal live.state (core_state live building).spools plan ≡ None → StandsBeside new_live new → CanLend new → GoesOnWith 0 plan.specs.items new
   started_goes_on none works can =
       let kinds : List Kind = new_live.state.heap.schema in
       let log : List LogRec = new_live.state.heap.log in
-      let on : IsWorkOn kinds log (started live.state plan) can.work =
-      subst (λ (o : Option BuildState). IsWorkOf kinds log o (Some can.work)) build_is (subst (IsWorkOf kinds log new_live.state.build) can.runs works.work) in
+      let on : IsWorkOfBuild kinds log (started live.state plan) can.work =
+      subst (λ (o : Option BuildState). WorkMatches kinds log o (Some can.work)) build_is (subst (WorkMatches kinds log new_live.state.build) can.runs works.work) in
       record {
         work = can.work;
         runs = can.runs;
@@ -129,19 +129,19 @@ goes_same count specs building new same on = goes_with count specs building new 
 -- The end of the scans.
 
 pub scan_ended :
-    (live new_live : LiveValue) (building new : BuildingValue) → IfSome building.work (λ w. w.loading ≡ false → HandsOver live building new_live new)
-    → IfSome building.work (λ w. w.loading ≡ true → IsOnlyLookedAt live building new_live new)
+    (live new_live : LiveValue) (building new : BuildingValue) → IfSome building.work (λ w. w.handed ≡ false → HandsOver live building new_live new)
+    → IfSome building.work (λ w. w.handed ≡ true → IsOnlyLookedAt live building new_live new)
     → (count : ℕ) (specs : List KeySpecValue) → GoesOnWith count specs building → GoesOnWith count specs new
 scan_ended live new_live building new first again count specs on =
-    let hands = subst (λ (o : Option WorkValue). IfSome o (λ w. w.loading ≡ false → HandsOver live building new_live new)) on.runs first in
-    let looks = subst (λ (o : Option WorkValue). IfSome o (λ w. w.loading ≡ true → IsOnlyLookedAt live building new_live new)) on.runs again in
-    elim (cases_Bool on.work.loading) [
-      | inl loading ↦ goes_same count specs building new (ap (λ (b : BuildingValue). b.work) (looks loading).rest) on
+    let hands = subst (λ (o : Option WorkValue). IfSome o (λ w. w.handed ≡ false → HandsOver live building new_live new)) on.runs first in
+    let looks = subst (λ (o : Option WorkValue). IfSome o (λ w. w.handed ≡ true → IsOnlyLookedAt live building new_live new)) on.runs again in
+    elim (cases_Bool on.work.handed) [
+      | inl handed ↦ goes_same count specs building new (ap (λ (b : BuildingValue). b.work) (looks handed).rest) on
       | inr scans ↦
           let over = hands scans in
           let seen : over.seen.work ≡ building.work = ap (λ (b : BuildingValue). b.work) over.looked.rest in
           let its : over.handed.work ≡ on.work = the_work over.seen.work over.handed.work on.work over.handed.runs (seen ∙ on.runs) in
-          goes_with count specs building new on (record over.handed.work { loading = true }) (ap (λ (b : BuildingValue). b.work) over.handed.left)
+          goes_with count specs building new on (record over.handed.work { handed = true }) (ap (λ (b : BuildingValue). b.work) over.handed.left)
           (ap (λ (w : WorkValue). w.specs) its) (ap (λ (w : WorkValue). w.indexes) its) (ap (λ (w : WorkValue). w.spoiled) its)
     ]
 
@@ -222,14 +222,14 @@ switch_left live new_live building new fault (inr refused) = elim refused.refuse
 
 -- there is work where a build runs, and it is that build's
 work_there :
-    (kinds : List Kind) (log : List LogRec) (o : Option BuildState) (b : BuildState) (m : Option WorkValue) → o ≡ Some b → IsWorkOf kinds log o m
-    → (w : WorkValue) × (m ≡ Some w) × IsWorkOn kinds log b w
-work_there kinds log o b None is work = absurd (let bad : IsWorkOf kinds log (Some b) None = subst (λ (x : Option BuildState). IsWorkOf kinds log x None) is work in bad)
-work_there kinds log o b (Some w) is work = (w, refl, subst (λ (x : Option BuildState). IsWorkOf kinds log x (Some w)) is work)
+    (kinds : List Kind) (log : List LogRec) (o : Option BuildState) (b : BuildState) (m : Option WorkValue) → o ≡ Some b → WorkMatches kinds log o m
+    → (w : WorkValue) × (m ≡ Some w) × IsWorkOfBuild kinds log b w
+work_there kinds log o b None is work = absurd (let bad : WorkMatches kinds log (Some b) None = subst (λ (x : Option BuildState). WorkMatches kinds log x None) is work in bad)
+work_there kinds log o b (Some w) is work = (w, refl, subst (λ (x : Option BuildState). WorkMatches kinds log x (Some w)) is work)
 
 -- a switch that has to wait leaves the work as it was
 waits_same :
-    (live new_live : LiveValue) (building new : BuildingValue) → IsPartOf live building → WorksOn new_live new → core_state new_live new ≡ core_state live building
+    (live new_live : LiveValue) (building new : BuildingValue) → IsPartOf live building → StandsBeside new_live new → core_state new_live new ≡ core_state live building
     → (count : ℕ) (specs : List KeySpecValue) → GoesOnWith count specs building → GoesOnWith count specs new
 waits_same live new_live building new part works same count specs on =
     let build : new_live.state.build ≡ Some part.of.build = ap (λ (s : CoreState). s.live.build) same ∙ part.of.runs in

@@ -7,7 +7,7 @@ ghost use Rattle.heap_table.specs.Pages.{pages_written};
 ghost use Rattle.building.specs.TakeEnd.{PutEndLooked};
 ghost use Rattle.building.specs.declared.copied.Copied.{Copied};
 ghost use Rattle.build_work.specs.BuildingValue.{BuildingValue, given_up, intakes};
-ghost use Rattle.build_halves.specs.Builds.{core_state, put_refusal, page_refusal, WorksOn};
+ghost use Rattle.build_halves.specs.Builds.{core_state, put_refusal, page_refusal, StandsBeside};
 ghost use Rattle.build_halves.specs.Putting.{IsPutTo};
 ghost use Rattle.build_events.specs.CoreState.{abandoned};
 ghost use Rattle.build_events.specs.Ranges.{next_page};
@@ -52,12 +52,12 @@ impl<T: Table> Live<T> {
     ) -> Result<u32, Fault>
         ensures started { Answered (start_refusal self.old.state (core_state self.old building.old).spools plan.now) (Starts plan.now)
             (core_state self.old building.old) result (core_state self.new building.new) }
-        ensures works { OnOk result (WorksOn self.new building.new) }
+        ensures works { OnOk result (StandsBeside self.new building.new) }
         ensures lendable { OnOk result (CanLend building.new) }
         ensures emptied { OnOk result (intakes building.new.workers building.new.idle ≡ map (begun_on self.new.state.builds) self.new.pages) }
         ensures pages { OnOk result (self.new.pages ≡ map all_free self.old.pages) }
         ensures sides { OnOk result (AllZip PutEndLooked self.old.sides self.new.sides) }
-        ensures kept { WorksOn self.old building.old → WorksOn self.new building.new }
+        ensures kept { StandsBeside self.old building.old → StandsBeside self.new building.new }
         ensures unchanged { OnErr result ((self.new ≡ self.old) × (building.new ≡ building.old)) }
     {
         self.check_plan(plan, building)?;
@@ -147,7 +147,7 @@ impl<T: Table> Live<T> {
     ) -> Result<u32, (PageImage, Fault)>
         ensures scanned { IfOk result (λ page. Scans range worker self.old.state page self.new.state) }
         ensures accepted { OnOk result (page_refusal self.old.state range worker ≡ None) }
-        ensures works { (building : BuildingValue) → WorksOn self.old building → WorksOn self.new building }
+        ensures works { (building : BuildingValue) → StandsBeside self.old building → StandsBeside self.new building }
         ensures succeeds { put_refusal self.old range worker ≡ None → IsOk result }
         ensures first { (end : PutEnd Copied) → slice_get self.old.pages worker ≡ Some end → length end.sent < 4
             → page_refusal self.old.state range worker ≡ None → IsOk result }
@@ -180,7 +180,7 @@ impl<T: Table> Live<T> {
     /// Lets no transaction begin until the build has decided or is given up. [`Fault::NoBuild`]. Takes no memory.
     pub fn fence(&mut self) -> Result<(), Fault>
         ensures fenced { OnOk result (self.new ≡ record self.old { state = fenced self.old.state }) }
-        ensures works { (building : BuildingValue) → WorksOn self.old building → WorksOn self.new building }
+        ensures works { (building : BuildingValue) → StandsBeside self.old building → StandsBeside self.new building }
         ensures accepted { OnOk result (IsSome self.old.state.build) }
         ensures refused { IfErr result (λ fault. (fault ≡ Fault.NoBuild) × (self.old.state.build ≡ None)) }
         ensures unchanged { OnErr result (self.new ≡ self.old) }
@@ -196,7 +196,7 @@ impl<T: Table> Live<T> {
     /// Takes no memory.
     pub fn abandon(&mut self) -> Result<(), Fault>
         ensures abandoned { OnOk result (self.new ≡ record self.old { state = abandoned self.old.state }) }
-        ensures works { OnOk result ((building : BuildingValue) → WorksOn self.new (given_up building)) }
+        ensures works { OnOk result ((building : BuildingValue) → StandsBeside self.new (given_up building)) }
         ensures accepted { OnOk result (IsSome self.old.state.build) }
         ensures refused { IfErr result (λ fault. (fault ≡ Fault.NoBuild) × (self.old.state.build ≡ None)) }
         ensures unchanged { OnErr result (self.new ≡ self.old) }

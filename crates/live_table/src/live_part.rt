@@ -1,8 +1,8 @@
 //! Whether what stands beside a table is of the build that runs on it.
 ghost use Rattle.std.specs.Prelude.{◌≡◌, ◌<◌, ◌↔◌, All, IsTrue, length, true, false, None, Some, IfErr, IfSome, OnOk, MatchResult};
 ghost use Rattle.build_events.specs.BuildSteps.{OnBuild};
-ghost use Rattle.build_halves.specs.Builds.{core_state, SideIsLooked, SeesSideAt, WorksOn};
-ghost use Rattle.build_halves.specs.Switching.{GoesOn, IsFedAt, IsOfBuild, IsPartOf, IsScannedWhole, IsTakenIn, SidesAreLooked};
+ghost use Rattle.build_halves.specs.Builds.{core_state, SideIsLooked, SeesSideAt, StandsBeside};
+ghost use Rattle.build_halves.specs.Switching.{IsUnspoiled, IsFedAt, IsOfBuild, IsPartOf, IsScannedWhole, IsTakenIn, SidesAreLooked};
 ghost use Rattle.build_halves.specs.Switching.{early_cause, HaveAll, IsOnlyLookedAt, KeepsOut};
 
 use crate::{Building, Live, Table};
@@ -18,12 +18,12 @@ impl<T: Table> Live<T> {
         building: &mut Building<S, T>,
         in_order: bool,
     ) -> Result<(), Fault>
-        ensures works { OnOk result (WorksOn self.new building.new) }
+        ensures works { OnOk result (StandsBeside self.new building.new) }
         ensures taken { OnOk result (IsTakenIn self.new building.new) }
         ensures all { OnOk result (IsPartOf self.old building.old × HaveAll self.old building.old) }
         ensures first { OnOk result (early_cause in_order (core_state self.old building.old) ≡ None) }
         ensures state { core_state self.new building.new ≡ core_state self.old building.old }
-        ensures kept { WorksOn self.old building.old → WorksOn self.new building.new }
+        ensures kept { StandsBeside self.old building.old → StandsBeside self.new building.new }
         ensures out { IfErr result (KeepsOut in_order self.old building.old) }
         ensures looked { IsOnlyLookedAt self.old building.old self.new building.new }
     {
@@ -41,7 +41,7 @@ impl<T: Table> Live<T> {
     /// Does nothing: its clause tells that the work of which nothing is left over is beside the table as if it had never been apart.
     fn reunite<S: Spool>(&self, building: &Building<S, T>)
         requires { IsTakenIn self.now building.now }
-        ensures { WorksOn self.now building.now }
+        ensures { StandsBeside self.now building.now }
     {
         self.laws();
         building.laws();
@@ -137,7 +137,7 @@ impl<T: Table> Live<T> {
             (λ _. early_cause in_order (core_state self.now building.now) ≡ None)
             (λ fault. early_cause in_order (core_state self.now building.now) ≡ Some fault) }
         ensures scanned { OnOk result (IsScannedWhole self.now) }
-        ensures fine { OnOk result (GoesOn building.now) }
+        ensures fine { OnOk result (IsUnspoiled building.now) }
     {
         let (Some(build), Some(work)) = (self.build(), building.work()) else {
             unreachable!()

@@ -1,7 +1,7 @@
 //! The side-files of a build, one for each index: their entries go into their rings, and from there to the indexes.
 ghost use Rattle.std.specs.Prelude.{◌≡◌, ◌<◌, None, Some, slice_get, IfSome, IfOk, IfErr, OnOk, OnErr};
 ghost use Rattle.build_work.specs.BuildingValue.{BuildingValue};
-ghost use Rattle.build_halves.specs.Builds.{core_state, cause_of, WorksOn, SideIsLooked, SeesSideAt, HasFed};
+ghost use Rattle.build_halves.specs.Builds.{core_state, cause_of, StandsBeside, SideIsLooked, SeesSideAt, HasFed};
 ghost use Rattle.build_halves.specs.Putting.{SendsOn};
 ghost use Rattle.build_scan.specs.TableBuilds.{BuildFollows};
 ghost use Rattle.build_scan.specs.SideFiles.{AreFedEntries, side_refusal};
@@ -18,7 +18,7 @@ impl<T: Table> Live<T> {
     /// as this end of the ring knows places for. [`Fault::NoBuild`], [`Fault::BadCount`]. Takes no memory.
     pub fn feed(&mut self, index: usize, most: usize) -> Result<usize, Fault>
         ensures fed { IfOk result (λ count. HasFed index most self.old count self.new) }
-        ensures works { (building : BuildingValue) → WorksOn self.old building → WorksOn self.new building }
+        ensures works { (building : BuildingValue) → StandsBeside self.old building → StandsBeside self.new building }
         ensures accepted { OnOk result (side_refusal self.old.state.build index ≡ None) }
         ensures refused { IfErr result (λ fault. side_refusal self.old.state.build index ≡ Some fault) }
         ensures unchanged { OnErr result (self.new ≡ self.old) }
@@ -57,12 +57,12 @@ impl<T: Table> Live<T> {
         most: usize,
         building: &mut Building<S, T>,
     ) -> Result<usize, Fault>
-        requires { WorksOn self.old building.old }
+        requires { StandsBeside self.old building.old }
         ensures fed { IfOk result (λ count. Feeds index most (core_state self.old building.old) count (core_state self.new building.new)) }
         ensures accepted { OnOk result (cause_of self.old building.old (Event.Feed index most) ≡ None) }
         ensures refused { IfErr result (λ fault. cause_of self.old building.old (Event.Feed index most) ≡ Some fault) }
         ensures unchanged { OnErr result ((self.new ≡ self.old) × (building.new ≡ building.old)) }
-        ensures works { WorksOn self.new building.new }
+        ensures works { StandsBeside self.new building.new }
         ensures sends { OnOk result (SendsOn self.old self.new) }
         ensures pages { self.new.pages ≡ self.old.pages }
     {
@@ -77,7 +77,7 @@ impl<T: Table> Live<T> {
         index: usize,
         building: &Building<S, T>,
     ) -> Result<(), Fault>
-        requires { WorksOn self.now building.now }
+        requires { StandsBeside self.now building.now }
         ensures accepted { OnOk result (cause_of self.now building.now (Event.Apply index 0) ≡ None) }
         ensures refused { IfErr result (λ fault. cause_of self.now building.now (Event.Apply index 0) ≡ Some fault) }
         ensures few { OnOk result (index < 8) }
@@ -101,12 +101,12 @@ impl<T: Table> Live<T> {
         most: usize,
         building: &mut Building<S, T>,
     ) -> Result<usize, Fault>
-        requires works { WorksOn self.old building.old }
+        requires works { StandsBeside self.old building.old }
         requires few { index < 8 }
         requires runs { cause_of self.old building.old (Event.Apply index most) ≡ None }
         ensures applied { IfOk result (λ count. Applies index most (core_state self.old building.old) count (core_state self.new building.new)) }
         ensures some { OnErr result (AppliesSome index most (core_state self.old building.old) (core_state self.new building.new)) }
-        ensures works { WorksOn self.new building.new }
+        ensures works { StandsBeside self.new building.new }
         ensures sends { SendsOn self.old self.new }
         ensures pages { self.new.pages ≡ self.old.pages }
         ensures memory { IfErr result (λ fault. fault ≡ Fault.Memory) }

@@ -5,7 +5,7 @@ ghost use Rattle.heap_log.specs.declared.record.LogRec.{LogRec};
 ghost use Rattle.heap_table.specs.HeapState.{HeapState, after_switch, busy_txns};
 ghost use Rattle.keybytes.specs.Keys.{are_key_columns};
 ghost use Rattle.heap_table.specs.Pages.{KeepsRows};
-ghost use Rattle.build_halves.specs.Builds.{core_state, cause_of, WorksOn};
+ghost use Rattle.build_halves.specs.Builds.{core_state, cause_of, StandsBeside};
 ghost use Rattle.building.specs.TakeEnd.{PutEndLooked};
 ghost use Rattle.build_halves.specs.Putting.{SendsAll, SendsNext, SendsOn};
 ghost use Rattle.build_halves.specs.Switching.{HaveAll, IsPartOf, RefusesSwitch};
@@ -36,7 +36,7 @@ const SWITCH_MAX: usize = 1024;
 impl<T: Table> Live<T> {
     /// How many entries of an index's side-file were not applied yet.
     fn unapplied_of<S: Spool>(&self, index: usize, building: &Building<S, T>) -> usize
-        requires works { WorksOn self.now building.now }
+        requires works { StandsBeside self.now building.now }
         requires there { IfSome self.now.state.build (λ b. index < length b.specs) }
         requires runs { IsSome self.now.state.build }
         ensures left { result ≡ left_at index (core_state self.now building.now) }
@@ -53,7 +53,7 @@ impl<T: Table> Live<T> {
 
     /// How many entries of all side-files were not applied yet.
     fn unapplied<S: Spool>(&self, building: &Building<S, T>) -> usize
-        requires works { WorksOn self.now building.now }
+        requires works { StandsBeside self.now building.now }
         requires runs { IsSome self.now.state.build }
         ensures { OnBuild self.now.state.build (λ b. result ≡ all_unapplied b self.now.state.heap.log b.specs (core_state self.now building.now).work.indexes) }
     {
@@ -69,7 +69,7 @@ impl<T: Table> Live<T> {
 
     /// Why the indexes of the build would not become ready. Takes no memory.
     fn check_switch<S: Spool>(&self, building: &Building<S, T>) -> Result<(), Fault>
-        requires { WorksOn self.now building.now }
+        requires { StandsBeside self.now building.now }
         ensures { MatchResult result
             (λ _. cause_of self.now building.now Event.Switch ≡ None)
             (λ fault. cause_of self.now building.now Event.Switch ≡ Some fault) }
@@ -109,12 +109,12 @@ impl<T: Table> Live<T> {
 
     /// Applies all entries that are left of each side-file. Those that were applied before memory was wanted stay applied.
     fn catch_up<S: Spool>(&mut self, building: &mut Building<S, T>) -> Result<(), Fault>
-        requires works { WorksOn self.old building.old }
+        requires works { StandsBeside self.old building.old }
         requires runs { MayCatchUp (core_state self.old building.old) }
         ensures further { CatchesUp (core_state self.old building.old) (core_state self.new building.new) }
         ensures all { OnOk result (OnBuild self.new.state.build
             (λ b. all_unapplied b self.new.state.heap.log b.specs (core_state self.new building.new).work.indexes ≡ 0)) }
-        ensures works { WorksOn self.new building.new }
+        ensures works { StandsBeside self.new building.new }
         ensures sends { SendsOn self.old self.new }
         ensures fed { OnOk result (SendsAll self.old self.new.sides) }
         ensures pages { self.new.pages ≡ self.old.pages }
@@ -136,12 +136,12 @@ impl<T: Table> Live<T> {
         index: usize,
         building: &mut Building<S, T>,
     ) -> Result<(), Fault>
-        requires works { WorksOn self.old building.old }
+        requires works { StandsBeside self.old building.old }
         requires few { index < 8 }
         requires runs { cause_of self.old building.old (Event.Apply index 256) ≡ None }
         ensures further { IndexIsFurther index (core_state self.old building.old) (core_state self.new building.new) }
         ensures all { OnOk result (left_at index (core_state self.new building.new) ≡ 0) }
-        ensures works { WorksOn self.new building.new }
+        ensures works { StandsBeside self.new building.new }
         ensures sends { SendsOn self.old self.new }
         ensures pages { self.new.pages ≡ self.old.pages }
         ensures memory { IfErr result (λ fault. fault ≡ Fault.Memory) }
@@ -168,10 +168,10 @@ impl<T: Table> Live<T> {
         ensures accepted { OnOk result (cause_of self.old building.old Event.Switch ≡ None) }
         ensures all { OnOk result (IsPartOf self.old building.old × HaveAll self.old building.old) }
         ensures refused { IfErr result (λ fault. RefusesSwitch self.old building.old fault self.new building.new) }
-        ensures own { WorksOn self.old building.old
+        ensures own { StandsBeside self.old building.old
             → IfErr result (λ fault. IsRefused (core_state self.old building.old) Event.Switch fault (core_state self.new building.new)) }
-        ensures works { OnOk result (WorksOn self.new building.new) }
-        ensures kept { WorksOn self.old building.old → WorksOn self.new building.new }
+        ensures works { OnOk result (StandsBeside self.new building.new) }
+        ensures kept { StandsBeside self.old building.old → StandsBeside self.new building.new }
         ensures pages { AllZip PutEndLooked self.old.pages self.new.pages }
         ensures sides { SendsNext self.old self.new.sides }
         ensures fed { OnOk result (SendsAll self.old self.new.sides) }
@@ -185,12 +185,12 @@ impl<T: Table> Live<T> {
 
     /// The same of work that goes with the build, once its workers have taken all.
     fn switch_own<S: Spool>(&mut self, building: &mut Building<S, T>) -> Result<Switched, Fault>
-        requires { WorksOn self.old building.old }
+        requires { StandsBeside self.old building.old }
         ensures switched { IfOk result (λ done. Switches (core_state self.old building.old) (done.number, done.verdicts) (core_state self.new building.new)) }
         ensures record { IfOk result (λ done. done.record ≡ LogRec.Switch done.verdicts) }
         ensures accepted { OnOk result (cause_of self.old building.old Event.Switch ≡ None) }
         ensures refused { IfErr result (λ fault. IsRefused (core_state self.old building.old) Event.Switch fault (core_state self.new building.new)) }
-        ensures works { WorksOn self.new building.new }
+        ensures works { StandsBeside self.new building.new }
         ensures pages { self.new.pages ≡ self.old.pages }
         ensures sides { SendsNext self.old self.new.sides }
         ensures fed { OnOk result (SendsAll self.old self.new.sides) }

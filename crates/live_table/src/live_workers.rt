@@ -3,7 +3,7 @@ ghost use Rattle.std.specs.Prelude.{ℕ, ◌≡◌, ◌++◌, ◌<◌, ◌≤◌
 ghost use Rattle.side_file.specs.Ends.{PutEnd};
 ghost use Rattle.build_work.specs.Keeping.{KeepsLaws};
 ghost use Rattle.building.specs.declared.copied.Copied.{Copied};
-ghost use Rattle.build_halves.specs.Builds.{core_state, cause_of, put_refusal, HasLooked, SeesRing, IsLoading, MayWork, MayLoad, WorksOn};
+ghost use Rattle.build_halves.specs.Builds.{core_state, cause_of, put_refusal, HasLookedAtRings, SeesRing, IsLoading, MayWork, MayLoad, StandsBeside};
 ghost use Rattle.build_halves.specs.Switching.{early_cause, HandsOver, HaveAll, IsKeptOut, IsLowestUnsealed, IsOnlyLookedAt, IsPartOf};
 ghost use Rattle.build_halves.specs.Putting.{PagesAreLooked};
 ghost use Rattle.build_work.specs.Working.{CanLoad, HasHandedOver};
@@ -24,7 +24,7 @@ impl<T: Table> Live<T> {
     /// How many copies wait for a worker.
     fn look<S: Spool>(&mut self, worker: usize, building: &mut Building<S, T>) -> usize
         requires { worker < length building.old.workers }
-        ensures looked { HasLooked self.old building.old self.new building.new }
+        ensures looked { HasLookedAtRings self.old building.old self.new building.new }
         ensures sees { SeesRing worker result self.new building.new }
         ensures pages { length self.new.pages ≡ 16 }
         ensures put { PagesFollow self.new.state.heap.schema self.new.state.heap.log self.new.state.builds self.new.state.build (all_sent self.new.pages) }
@@ -35,7 +35,7 @@ impl<T: Table> Live<T> {
     /// The lowest worker of what stands beside the table for which a copy waits in its ring, or whose run is open. No index is loaded before
     /// none is left, and no build switched in. That worker has then seen all that its ring was sent, so that it can seal it without the table. Takes no memory.
     pub fn unsealed<S: Spool>(&mut self, building: &mut Building<S, T>) -> Option<usize>
-        ensures looked { HasLooked self.old building.old self.new building.new }
+        ensures looked { HasLookedAtRings self.old building.old self.new building.new }
         ensures unsealed { MatchOption result (HaveAll self.new building.new) (IsLowestUnsealed self.new building.new) }
         ensures seen { IfSome result (λ worker. HasSeenAll worker (all_sent self.new.pages) building.new.workers) }
         ensures laws { All (KeepsLaws T.pages) building.new.workers }
@@ -52,12 +52,12 @@ impl<T: Table> Live<T> {
         worker: usize,
         building: &mut Building<S, T>,
     ) -> Result<(), Fault>
-        requires { WorksOn self.old building.old }
+        requires { StandsBeside self.old building.old }
         ensures accepted { OnOk result (cause_of self.old building.old (Event.Scan range worker) ≡ None) }
         ensures refused { IfErr result (λ fault. cause_of self.old building.old (Event.Scan range worker) ≡ Some fault) }
         ensures state { core_state self.new building.new ≡ core_state self.old building.old }
-        ensures works { WorksOn self.new building.new }
-        ensures looked { HasLooked self.old building.old self.new building.new }
+        ensures works { StandsBeside self.new building.new }
+        ensures looked { HasLookedAtRings self.old building.old self.new building.new }
         ensures room { OnOk result (put_refusal self.new range worker ≡ None) }
     {
         let (Some(build), Some(work)) = (self.build(), building.work()) else {
@@ -82,7 +82,7 @@ impl<T: Table> Live<T> {
         worker: usize,
         building: &Building<S, T>,
     ) -> Result<(), Fault>
-        requires { WorksOn self.now building.now }
+        requires { StandsBeside self.now building.now }
         ensures seal { MatchResult result
             (λ _. cause_of self.now building.now (Event.Seal worker) ≡ None)
             (λ fault. cause_of self.now building.now (Event.Seal worker) ≡ Some fault) }
@@ -107,12 +107,12 @@ impl<T: Table> Live<T> {
         worker: usize,
         building: &mut Building<S, T>,
     ) -> Result<usize, Fault>
-        requires works { WorksOn self.old building.old }
+        requires works { StandsBeside self.old building.old }
         requires runs { MayWork self.old building.old worker }
         ensures done { IfOk result (λ images. HasTurn Turn.Digest worker (core_state self.old building.old) images (core_state self.new building.new)) }
         ensures refused { IfErr result (λ fault.
             IsTurnRefused S.is_full S.runs S.open_run S.stake Turn.Digest worker (core_state self.old building.old) fault (core_state self.new building.new)) }
-        ensures works { WorksOn self.new building.new }
+        ensures works { StandsBeside self.new building.new }
         ensures ends { PagesAreLooked self.old self.new }
     {
         self.take(worker, Turn::Digest, building)
@@ -125,12 +125,12 @@ impl<T: Table> Live<T> {
         worker: usize,
         building: &mut Building<S, T>,
     ) -> Result<usize, Fault>
-        requires works { WorksOn self.old building.old }
+        requires works { StandsBeside self.old building.old }
         requires runs { MayWork self.old building.old worker }
         ensures done { IfOk result (λ images. HasTurn Turn.Seal worker (core_state self.old building.old) images (core_state self.new building.new)) }
         ensures refused { IfErr result (λ fault.
             IsTurnRefused S.is_full S.runs S.open_run S.stake Turn.Seal worker (core_state self.old building.old) fault (core_state self.new building.new)) }
-        ensures works { WorksOn self.new building.new }
+        ensures works { StandsBeside self.new building.new }
         ensures ends { PagesAreLooked self.old self.new }
     {
         self.take(worker, Turn::Seal, building)
@@ -143,12 +143,12 @@ impl<T: Table> Live<T> {
         turn: Turn,
         building: &mut Building<S, T>,
     ) -> Result<usize, Fault>
-        requires works { WorksOn self.old building.old }
+        requires works { StandsBeside self.old building.old }
         requires runs { MayWork self.old building.old worker }
         ensures done { IfOk result (λ images. HasTurn turn worker (core_state self.old building.old) images (core_state self.new building.new)) }
         ensures refused { IfErr result (λ fault.
             IsTurnRefused S.is_full S.runs S.open_run S.stake turn worker (core_state self.old building.old) fault (core_state self.new building.new)) }
-        ensures works { WorksOn self.new building.new }
+        ensures works { StandsBeside self.new building.new }
         ensures ends { PagesAreLooked self.old self.new }
     {
         self.look(worker, building);
@@ -162,12 +162,12 @@ impl<T: Table> Live<T> {
         index: usize,
         building: &mut Building<S, T>,
     ) -> Result<(), Fault>
-        requires { WorksOn self.old building.old }
+        requires { StandsBeside self.old building.old }
         ensures accepted { OnOk result (cause_of self.old building.old (Event.Load index) ≡ None) }
         ensures refused { IfErr result (λ fault. cause_of self.old building.old (Event.Load index) ≡ Some fault) }
         ensures state { core_state self.new building.new ≡ core_state self.old building.old }
-        ensures works { WorksOn self.new building.new }
-        ensures looked { HasLooked self.old building.old self.new building.new }
+        ensures works { StandsBeside self.new building.new }
+        ensures looked { HasLookedAtRings self.old building.old self.new building.new }
         ensures runs { OnOk result (MayLoad self.new building.new index) }
     {
         let (Some(build), Some(work)) = (self.build(), building.work()) else {
@@ -194,14 +194,14 @@ impl<T: Table> Live<T> {
     /// build, [`Fault::NotScanned`], [`Fault::NotSealed`]. Takes no memory.
     pub fn end_scan<S: Spool>(&mut self, building: &mut Building<S, T>) -> Result<(), Fault>
         ensures loads { OnOk result ((index : ℕ) → IfSome building.new.work (λ w. index < length w.specs) → CanLoad index building.new) }
-        ensures works { OnOk result (WorksOn self.new building.new) }
-        ensures hands_over { OnOk result (IfSome building.old.work (λ w. w.loading ≡ false → HandsOver self.old building.old self.new building.new)) }
-        ensures again { OnOk result (IfSome building.old.work (λ w. w.loading ≡ true → IsOnlyLookedAt self.old building.old self.new building.new)) }
+        ensures works { OnOk result (StandsBeside self.new building.new) }
+        ensures hands_over { OnOk result (IfSome building.old.work (λ w. w.handed ≡ false → HandsOver self.old building.old self.new building.new)) }
+        ensures again { OnOk result (IfSome building.old.work (λ w. w.handed ≡ true → IsOnlyLookedAt self.old building.old self.new building.new)) }
         ensures all { OnOk result (IsPartOf self.old building.old × HaveAll self.old building.old) }
         ensures first { OnOk result (early_cause false (core_state self.old building.old) ≡ None) }
         ensures out { IfErr result (λ fault. IsKeptOut false self.old building.old fault self.new building.new) }
         ensures state { core_state self.new building.new ≡ core_state self.old building.old }
-        ensures kept { WorksOn self.old building.old → WorksOn self.new building.new }
+        ensures kept { StandsBeside self.old building.old → StandsBeside self.new building.new }
     {
         self.take_in(building, false)?;
         building.laws();
@@ -218,12 +218,12 @@ impl<T: Table> Live<T> {
         index: usize,
         building: &mut Building<S, T>,
     ) -> Result<usize, Fault>
-        requires works { WorksOn self.now building.old }
+        requires works { StandsBeside self.now building.old }
         requires runs { MayLoad self.now building.old index }
         ensures first { OnErr result ((index_at (core_state self.now building.old).work.indexes index).loaded ≡ false) }
         ensures loaded { IfOk result (λ pairs. Loads index (core_state self.now building.old) pairs (core_state self.now building.new)) }
         ensures spoiled { IfErr result (λ fault. core_state self.now building.new ≡ spoiled_by fault (core_state self.now building.old)) }
-        ensures works { WorksOn self.now building.new }
+        ensures works { StandsBeside self.now building.new }
         ensures memory { IfErr result (λ fault. fault ≡ Fault.Memory) }
     {
         self.hand_over(index, building);
@@ -235,8 +235,8 @@ impl<T: Table> Live<T> {
         requires { MayLoad self.now building.old index }
         ensures state { core_state self.now building.new ≡ core_state self.now building.old }
         ensures loads { IsLoading self.now building.new index }
-        ensures first { IfSome building.old.work (λ w. w.loading ≡ false → HasHandedOver building.old building.new) }
-        ensures again { IfSome building.old.work (λ w. w.loading ≡ true → building.new ≡ building.old) }
+        ensures first { IfSome building.old.work (λ w. w.handed ≡ false → HasHandedOver building.old building.new) }
+        ensures again { IfSome building.old.work (λ w. w.handed ≡ true → building.new ≡ building.old) }
     {
         // That there are sixteen rings is known once their fields are reached.
         let _pages = &self.pages;

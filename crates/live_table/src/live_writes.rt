@@ -5,7 +5,7 @@ ghost use Rattle.keybytes.specs.Rows.{row_bytes};
 ghost use Rattle.heap_table.specs.Calls.{Begins, Inserts, Updates, Deletes, Undoes, Commits};
 ghost use Rattle.heap_table.specs.HeapState.{begin_refusal, insert_place, txn_refusal, delete_refusal, undo_refusal};
 ghost use Rattle.build_work.specs.BuildingValue.{BuildingValue};
-ghost use Rattle.build_halves.specs.Builds.{WorksOn};
+ghost use Rattle.build_halves.specs.Builds.{StandsBeside};
 ghost use Rattle.build_halves.specs.Putting.{KeepsRings};
 ghost use Rattle.build_events.specs.Steps.{row_refusal, change_refusal, OnHeap, OnRows};
 
@@ -17,7 +17,7 @@ impl<T: Table> Live<T> {
     /// The next transaction begins. [`Fault::TooManyTxns`].
     pub fn begin(&mut self) -> Result<u64, Fault>
         ensures begun { Answered (begin_refusal self.old.state.heap) (OnHeap Begins) self.old.state result self.new.state }
-        ensures works { (building : BuildingValue) → WorksOn self.old building → WorksOn self.new building }
+        ensures works { (building : BuildingValue) → StandsBeside self.old building → StandsBeside self.new building }
         ensures rings { KeepsRings self.old self.new }
     {
         self.heap.begin()
@@ -57,7 +57,7 @@ impl<T: Table> Live<T> {
     /// index where another row has the key, [`Fault::Duplicate`], or another open transaction may give it back, [`Fault::KeyHeld`].
     pub fn insert(&mut self, txn: u64, row: Row) -> Result<(usize, Rid), Fault>
         ensures inserted { Answered (row_refusal self.old.state txn row) (OnRows (Inserts txn row)) self.old.state result self.new.state }
-        ensures works { (building : BuildingValue) → WorksOn self.old building → WorksOn self.new building }
+        ensures works { (building : BuildingValue) → StandsBeside self.old building → StandsBeside self.new building }
         ensures rings { KeepsRings self.old self.new }
     {
         let rid = self.check_place(txn, &row)?;
@@ -69,7 +69,7 @@ impl<T: Table> Live<T> {
         requires free { row_refusal self.old.state txn row ≡ None }
         requires place { insert_place self.old.state.heap (length (row_bytes row)) ≡ Some rid }
         ensures inserted { Answered (row_refusal self.old.state txn row) (OnRows (Inserts txn row)) self.old.state result self.new.state }
-        ensures works { (building : BuildingValue) → WorksOn self.old building → WorksOn self.new building }
+        ensures works { (building : BuildingValue) → StandsBeside self.old building → StandsBeside self.new building }
         ensures rings { KeepsRings self.old self.new }
     {
         let ready = self.heap.ready_insert_at(txn, rid, row)?;
@@ -86,7 +86,7 @@ impl<T: Table> Live<T> {
     /// The transaction gives a RID another row. Refused as [`heap_table::Heap::update`], and then for its keys as [`Live::insert`].
     pub fn update(&mut self, txn: u64, rid: Rid, row: Row) -> Result<(usize, Rid), Fault>
         ensures updated { Answered (change_refusal self.old.state txn rid row) (OnRows (Updates txn rid row)) self.old.state result self.new.state }
-        ensures works { (building : BuildingValue) → WorksOn self.old building → WorksOn self.new building }
+        ensures works { (building : BuildingValue) → StandsBeside self.old building → StandsBeside self.new building }
         ensures rings { KeepsRings self.old self.new }
     {
         self.check_update(txn, rid, &row)?;
@@ -97,7 +97,7 @@ impl<T: Table> Live<T> {
     pub fn update_free(&mut self, txn: u64, rid: Rid, row: Row) -> Result<(usize, Rid), Fault>
         requires { change_refusal self.old.state txn rid row ≡ None }
         ensures updated { Answered (change_refusal self.old.state txn rid row) (OnRows (Updates txn rid row)) self.old.state result self.new.state }
-        ensures works { (building : BuildingValue) → WorksOn self.old building → WorksOn self.new building }
+        ensures works { (building : BuildingValue) → StandsBeside self.old building → StandsBeside self.new building }
         ensures rings { KeepsRings self.old self.new }
     {
         let ready = self.heap.ready_update_at(txn, rid, row)?;
@@ -114,7 +114,7 @@ impl<T: Table> Live<T> {
     /// The transaction takes the row at a RID away. Refused as [`heap_table::Heap::delete`].
     pub fn delete(&mut self, txn: u64, rid: Rid) -> Result<(usize, Rid), Fault>
         ensures deleted { Answered (delete_refusal self.old.state.heap txn rid) (OnRows (Deletes txn rid)) self.old.state result self.new.state }
-        ensures works { (building : BuildingValue) → WorksOn self.old building → WorksOn self.new building }
+        ensures works { (building : BuildingValue) → StandsBeside self.old building → StandsBeside self.new building }
         ensures rings { KeepsRings self.old self.new }
     {
         let ready = self.heap.ready_delete(txn, rid)?;
@@ -132,7 +132,7 @@ impl<T: Table> Live<T> {
     /// running build hears if it sees the RID by now. Refused as [`heap_table::Heap::undo_step`].
     pub fn undo(&mut self, txn: u64) -> Result<Undone, Fault>
         ensures undone { Answered (undo_refusal self.old.state.heap txn) (OnRows (Undoes txn)) self.old.state result self.new.state }
-        ensures works { (building : BuildingValue) → WorksOn self.old building → WorksOn self.new building }
+        ensures works { (building : BuildingValue) → StandsBeside self.old building → StandsBeside self.new building }
         ensures rings { KeepsRings self.old self.new }
     {
         match self.heap.ready_undo(txn)? {
@@ -152,7 +152,7 @@ impl<T: Table> Live<T> {
     /// [`Fault::TxnEnding`].
     pub fn commit(&mut self, txn: u64) -> Result<usize, Fault>
         ensures committed { Answered (txn_refusal self.old.state.heap txn) (OnHeap (Commits txn)) self.old.state result self.new.state }
-        ensures works { (building : BuildingValue) → WorksOn self.old building → WorksOn self.new building }
+        ensures works { (building : BuildingValue) → StandsBeside self.old building → StandsBeside self.new building }
         ensures rings { KeepsRings self.old self.new }
     {
         self.heap.laws();

@@ -8,6 +8,7 @@ ghost use Rattle.run_maker.specs.FullSpools.{HasFullOf};
 ghost use Rattle.run_maker.specs.Making.{AreReady, TakesRow, TakesRowPart, Takes, TakesPart, AreHeldWithCopy, AreHeldWithRow};
 ghost use Rattle.run_maker.specs.Spooling.{MemoryOnlyIf};
 
+use crate::RunSort;
 use crate::open_run::OpenRun;
 use crate::rows::add_row;
 use heap_table::PageImage;
@@ -15,12 +16,13 @@ use keybytes::{Fault, KeySpec, Rid, Schema};
 use run_spool::Spool;
 
 /// Makes the pairs of the rows on a copy.
-pub(crate) fn add_image<S: Spool>(
+pub(crate) fn add_image<S: Spool, Q: RunSort>(
     image: &PageImage,
     schema: &Schema,
     specs: &[KeySpec],
     begun: &mut [OpenRun],
     spools: &mut [S],
+    sort: &mut Q,
 ) -> Result<(), Fault>
     requires rows { (rows : ℕ → Option (List Cell)) × HasRows schema.now image.now rows }
     requires columns { All (λ spec. spec.kinds ≡ schema.now) specs.now }
@@ -40,19 +42,20 @@ pub(crate) fn add_image<S: Spool>(
         (record { runs = map S.runs spools.old; begun = begun.old }) (record { runs = map S.runs spools.new; begun = begun.new }))) }
 {
     for slot in 0..image.slots() {
-        add_slot(image, slot, schema, specs, begun, spools)?;
+        add_slot(image, slot, schema, specs, begun, spools, sort)?;
     }
     Ok(())
 }
 
 // Makes the pairs of the row in a slot of a copy, if there is one.
-fn add_slot<S: Spool>(
+fn add_slot<S: Spool, Q: RunSort>(
     image: &PageImage,
     slot: u16,
     schema: &Schema,
     specs: &[KeySpec],
     begun: &mut [OpenRun],
     spools: &mut [S],
+    sort: &mut Q,
 ) -> Result<(), Fault>
     requires row { (row : Option (List Cell)) × Shows schema.now (image_slot image.now slot) row }
     requires columns { All (λ spec. spec.kinds ≡ schema.now) specs.now }
@@ -81,5 +84,5 @@ fn add_slot<S: Spool>(
         page: image.page(),
         slot,
     };
-    add_row(specs, &row, rid, begun, spools)
+    add_row(specs, &row, rid, begun, spools, sort)
 }

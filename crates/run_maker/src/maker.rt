@@ -7,6 +7,7 @@ ghost use Rattle.run_maker.specs.Spooling.{MemoryOnlyIf};
 use crate::images::add_image;
 use crate::open_run::OpenRun;
 use crate::sealing::close_all;
+use crate::{RunSort, StdSort};
 use heap_table::PageImage;
 use keybytes::{Fault, KeySpec, Schema};
 use run_spool::Spool;
@@ -101,8 +102,42 @@ impl Maker {
         ensures part { IfErr result (MemoryOnlyIf (TakesPart self.old.specs image
             (record { runs = map S.runs spools.old; begun = self.old.begun }) (record { runs = map S.runs spools.new; begun = self.new.begun }))) }
     {
+        self.take_with(image, spools, &mut StdSort)
+    }
+
+    /// As [`Maker::take`], with runs sorted by the sort that is lent.
+    pub fn take_with<S: Spool, Q: RunSort>(
+        &mut self,
+        image: PageImage,
+        spools: &mut [S],
+        sort: &mut Q,
+    ) -> Result<(), Fault>
+        requires schema { image.schema ≡ self.old.schema }
+        requires spools { length spools.old ≡ length self.old.specs }
+        requires ready { AreReady (map S.runs spools.old) (map S.open_run spools.old) }
+        ensures taken { OnOk result (Takes self.old.specs image
+            (record { runs = map S.runs spools.old; begun = self.old.begun }) (record { runs = map S.runs spools.new; begun = self.new.begun })) }
+        ensures ready { OnOk result (AreReady (map S.runs spools.new) (map S.open_run spools.new)) }
+        ensures sorted { All AreSorted (map S.runs spools.old) → All AreSorted (map S.runs spools.new) }
+        ensures stakes { map S.stake spools.new ≡ map S.stake spools.old }
+        ensures schema { self.new.schema ≡ self.old.schema }
+        ensures specs { self.new.specs ≡ self.old.specs }
+        ensures fault { IfErr result (λ fault. (fault ≡ Fault.NoPage) ⊎ (fault ≡ Fault.Memory)) }
+        ensures full { IfErr result (NoPageOnlyIf (HasFullOf S.is_full S.runs S.open_run 4096 (map S.runs spools.old)
+            (AreHeldWithCopy self.old.specs image (record { runs = map S.runs spools.old; begun = self.old.begun })) spools.new)) }
+        ensures want { IfErr result (MemoryOnlyIf (AreReady (map S.runs spools.new) (map S.open_run spools.new))) }
+        ensures part { IfErr result (MemoryOnlyIf (TakesPart self.old.specs image
+            (record { runs = map S.runs spools.old; begun = self.old.begun }) (record { runs = map S.runs spools.new; begun = self.new.begun }))) }
+    {
         image.laws();
-        add_image(&image, &self.schema, &self.specs, &mut self.begun, spools)
+        add_image(
+            &image,
+            &self.schema,
+            &self.specs,
+            &mut self.begun,
+            spools,
+            sort,
+        )
     }
 
     /// Spools what is in no run yet.
@@ -120,7 +155,29 @@ impl Maker {
         ensures full { OnErr result (HasFullOf S.is_full S.runs S.open_run 1 (map S.runs spools.old)
             (AreHeld (record { runs = map S.runs spools.old; begun = self.old.begun })) spools.new) }
     {
-        close_all(&mut self.begun, spools)
+        self.seal_with(spools, &mut StdSort)
+    }
+
+    /// As [`Maker::seal`], with runs sorted by the sort that is lent.
+    pub fn seal_with<S: Spool, Q: RunSort>(
+        &mut self,
+        spools: &mut [S],
+        sort: &mut Q,
+    ) -> Result<(), Fault>
+        requires spools { length spools.old ≡ length self.old.specs }
+        requires ready { AreReady (map S.runs spools.old) (map S.open_run spools.old) }
+        ensures sealed { OnOk result (Seals (record { runs = map S.runs spools.old; begun = self.old.begun }) (map S.runs spools.new)) }
+        ensures none_open { OnOk result (All (λ begun. begun ≡ []) self.new.begun) }
+        ensures ready { OnOk result (AreReady (map S.runs spools.new) (map S.open_run spools.new)) }
+        ensures sorted { All AreSorted (map S.runs spools.old) → All AreSorted (map S.runs spools.new) }
+        ensures stakes { map S.stake spools.new ≡ map S.stake spools.old }
+        ensures schema { self.new.schema ≡ self.old.schema }
+        ensures specs { self.new.specs ≡ self.old.specs }
+        ensures no_page { IfErr result (λ fault. fault ≡ Fault.NoPage) }
+        ensures full { OnErr result (HasFullOf S.is_full S.runs S.open_run 1 (map S.runs spools.old)
+            (AreHeld (record { runs = map S.runs spools.old; begun = self.old.begun })) spools.new) }
+    {
+        close_all(&mut self.begun, spools, sort)
     }
 
     /// Whether some pairs are in no run yet.

@@ -3,6 +3,7 @@ ghost use Rattle.run_spool.specs.Spools.{NoneEmpty, AreSorted, NoPageOnlyIf, all
 ghost use Rattle.run_maker.specs.FullSpools.{IsFullOf};
 ghost use Rattle.run_maker.specs.Spooling.{Spooled, Adds, MemoryOnlyIf};
 
+use crate::RunSort;
 use crate::spooling::spool_run;
 use keybytes::{Fault, Pair};
 use run_spool::Spool;
@@ -53,7 +54,12 @@ impl OpenRun {
     }
 
     /// Adds a pair. With as many as make a run they are spooled.
-    pub(crate) fn add<S: Spool>(&mut self, pair: Pair, spool: &mut S) -> Result<(), Fault>
+    pub(crate) fn add<S: Spool, Q: RunSort>(
+        &mut self,
+        pair: Pair,
+        spool: &mut S,
+        sort: &mut Q,
+    ) -> Result<(), Fault>
         requires none_empty { NoneEmpty (S.runs spool.old) }
         requires open_run { S.open_run spool.old ≡ [] }
         ensures added { OnOk result (Adds (pair ∷ []) (S.runs spool.old) self.old (S.runs spool.new) self.new) }
@@ -74,11 +80,15 @@ impl OpenRun {
         if self.pairs.len() < RUN_PAIRS {
             return Ok(());
         }
-        spool_run(&mut self.pairs, spool)
+        spool_run(&mut self.pairs, spool, sort)
     }
 
     /// Spools its pairs, fewer than make a run.
-    pub(crate) fn close<S: Spool>(&mut self, spool: &mut S) -> Result<(), Fault>
+    pub(crate) fn close<S: Spool, Q: RunSort>(
+        &mut self,
+        spool: &mut S,
+        sort: &mut Q,
+    ) -> Result<(), Fault>
         requires none_empty { NoneEmpty (S.runs spool.old) }
         requires open_run { S.open_run spool.old ≡ [] }
         ensures spooled { OnOk result (Spooled self.old (S.runs spool.old) (S.runs spool.new)) }
@@ -92,6 +102,6 @@ impl OpenRun {
         ensures runs { OnErr result (S.runs spool.new ≡ S.runs spool.old) }
         ensures some { OnErr result (0 < length self.old) }
     {
-        spool_run(&mut self.pairs, spool)
+        spool_run(&mut self.pairs, spool, sort)
     }
 }

@@ -7,17 +7,19 @@ ghost use Rattle.run_maker.specs.FullSpools.{HasFullOf, IsFullOf};
 ghost use Rattle.run_maker.specs.Spooling.{Adds, MemoryOnlyIf};
 ghost use Rattle.run_maker.specs.Making.{AreReady, TakesRow, TakesRowPart, AreHeldWithRow};
 
+use crate::RunSort;
 use crate::open_run::OpenRun;
 use keybytes::{Fault, KeySpec, Pair, Rid, Row};
 use run_spool::Spool;
 
 // Makes the pair of a row for one index.
-fn add_key<S: Spool>(
+fn add_key<S: Spool, Q: RunSort>(
     spec: &KeySpec,
     row: &Row,
     rid: Rid,
     begun: &mut OpenRun,
     spool: &mut S,
+    sort: &mut Q,
 ) -> Result<(), Fault>
     requires fits { fits spec.now.kinds row.now ≡ true }
     requires none_empty { NoneEmpty (S.runs spool.old) }
@@ -38,16 +40,17 @@ fn add_key<S: Spool>(
     ensures untouched { IfErr result (MemoryOnlyIf (spool.new ≡ spool.old)) }
 {
     let key = spec.key(row)?;
-    begun.add(Pair { key, rid }, spool)
+    begun.add(Pair { key, rid }, spool, sort)
 }
 
 /// Makes the pairs of a row.
-pub(crate) fn add_row<S: Spool>(
+pub(crate) fn add_row<S: Spool, Q: RunSort>(
     specs: &[KeySpec],
     row: &Row,
     rid: Rid,
     begun: &mut [OpenRun],
     spools: &mut [S],
+    sort: &mut Q,
 ) -> Result<(), Fault>
     requires fits { All (λ spec. fits spec.kinds row.now ≡ true) specs.now }
     requires begun { length begun.old ≡ length specs.now }
@@ -66,7 +69,7 @@ pub(crate) fn add_row<S: Spool>(
         (record { runs = map S.runs spools.old; begun = begun.old }) (record { runs = map S.runs spools.new; begun = begun.new }))) }
 {
     for i in 0..specs.len() {
-        add_key(&specs[i], row, rid, &mut begun[i], &mut spools[i])?;
+        add_key(&specs[i], row, rid, &mut begun[i], &mut spools[i], sort)?;
     }
     Ok(())
 }

@@ -3,12 +3,17 @@ ghost use Rattle.run_spool.specs.Spools.{AreSorted};
 ghost use Rattle.run_maker.specs.FullSpools.{HasFullOf};
 ghost use Rattle.run_maker.specs.Making.{AreHeld, AreReady, Seals};
 
+use crate::RunSort;
 use crate::open_run::OpenRun;
 use keybytes::Fault;
 use run_spool::Spool;
 
 /// Spools the pairs of each index that are in no run yet.
-pub(crate) fn close_all<S: Spool>(begun: &mut [OpenRun], spools: &mut [S]) -> Result<(), Fault>
+pub(crate) fn close_all<S: Spool, Q: RunSort>(
+    begun: &mut [OpenRun],
+    spools: &mut [S],
+    sort: &mut Q,
+) -> Result<(), Fault>
     requires spools { length spools.old ≡ length begun.old }
     requires ready { AreReady (map S.runs spools.old) (map S.open_run spools.old) }
     ensures sealed { OnOk result (Seals (record { runs = map S.runs spools.old; begun = begun.old }) (map S.runs spools.new)) }
@@ -21,7 +26,7 @@ pub(crate) fn close_all<S: Spool>(begun: &mut [OpenRun], spools: &mut [S]) -> Re
         (AreHeld (record { runs = map S.runs spools.old; begun = begun.old })) spools.new) }
 {
     for i in 0..begun.len() {
-        begun[i].close(&mut spools[i])?;
+        begun[i].close(&mut spools[i], sort)?;
     }
     Ok(())
 }

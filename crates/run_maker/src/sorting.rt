@@ -1,11 +1,9 @@
-//! The sort of a run.
+//! A run is brought near its order before it is sorted.
 //!
 //! Numbers are sorted much faster than pairs. So each key gives its first bytes as a number, which is sorted with the pair's
 //! place in its low bits, and the pairs are moved after it. The sort of the pairs then mostly finds them in order: where two keys
 //! give one number, it does the rest.
-ghost use Rattle.std.specs.Prelude.{◌≡◌, IsPermutation, length};
-ghost use Rattle.std.specs.List.Sorted.{IsSorted};
-ghost use Rattle.keybytes.specs.Pairs.{pair_cmp};
+ghost use Rattle.std.specs.Prelude.{IsPermutation};
 
 use crate::open_run::RUN_PAIRS;
 use keybytes::{Key, Pair};
@@ -81,20 +79,10 @@ fn move_to(pairs: &mut [Pair], goals: &mut [usize])
 }
 
 /// Brings the pairs near their order. Where there is no memory for the numbers, nothing is moved.
-fn bring_near(pairs: &mut Vec<Pair>)
+pub(crate) fn bring_near(pairs: &mut Vec<Pair>)
     ensures { IsPermutation pairs.old.items pairs.new.items }
 {
     if let Ok(mut goals) = goals(*pairs.allocator(), pairs) {
         move_to(pairs, &mut goals);
     }
-}
-
-/// Sorts the pairs of a run.
-pub(crate) fn sort(pairs: &mut Vec<Pair>)
-    ensures permutation { IsPermutation pairs.old.items pairs.new.items }
-    ensures len { length pairs.new.items ≡ length pairs.old.items }
-    ensures sorted { IsSorted pair_cmp pairs.new.items }
-{
-    bring_near(pairs);
-    pairs.sort_unstable();
 }

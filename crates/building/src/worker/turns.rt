@@ -5,6 +5,7 @@ ghost use Rattle.building.specs.Turns.{AnswersTurn, HasDone, HasLooked, IsStoppe
 use super::Worker;
 use crate::{Table, Turn};
 use keybytes::Fault;
+use run_maker::{RunSort, StdSort};
 use run_spool::Spool;
 
 impl<S: Spool, T: Table> Worker<S, T> {
@@ -25,6 +26,13 @@ impl<S: Spool, T: Table> Worker<S, T> {
         self.take(Turn::Digest)
     }
 
+    /// As [`Worker::digest`], with runs sorted by the sort that is lent.
+    pub fn digest_with<Q: RunSort>(&mut self, sort: &mut Q) -> Result<usize, Fault>
+        ensures { AnswersTurn S.is_full S.runs S.open_run S.stake Turn.Digest self.old result self.new }
+    {
+        self.take_with(Turn::Digest, sort)
+    }
+
     /// Takes all copies that it has seen, spools their pairs, closes the run of each index, and answers how many copies of its build
     /// and of its maker's columns there were. Where its spools went to the indexes, it takes nothing.
     pub fn seal(&mut self) -> Result<usize, Fault>
@@ -33,8 +41,23 @@ impl<S: Spool, T: Table> Worker<S, T> {
         self.take(Turn::Seal)
     }
 
+    /// As [`Worker::seal`], with runs sorted by the sort that is lent.
+    pub fn seal_with<Q: RunSort>(&mut self, sort: &mut Q) -> Result<usize, Fault>
+        ensures { AnswersTurn S.is_full S.runs S.open_run S.stake Turn.Seal self.old result self.new }
+    {
+        self.take_with(Turn::Seal, sort)
+    }
+
     /// Does what that turn asks, as [`Worker::digest`] or [`Worker::seal`].
     pub fn take(&mut self, turn: Turn) -> Result<usize, Fault>
+        ensures done { IfOk result (λ images. HasDone turn self.old images self.new) }
+        ensures stopped { IfErr result (λ fault. IsStopped S.is_full S.runs S.open_run S.stake turn self.old fault self.new) }
+    {
+        self.take_with(turn, &mut StdSort)
+    }
+
+    /// The same, with runs sorted by the sort that is lent.
+    pub fn take_with<Q: RunSort>(&mut self, turn: Turn, sort: &mut Q) -> Result<usize, Fault>
         ensures done { IfOk result (λ images. HasDone turn self.old images self.new) }
         ensures stopped { IfErr result (λ fault. IsStopped S.is_full S.runs S.open_run S.stake turn self.old fault self.new) }
     {
@@ -45,7 +68,10 @@ impl<S: Spool, T: Table> Worker<S, T> {
             self.intake.mark(turn);
             return Ok(0);
         }
-        match self.intake.take(turn, &mut self.maker, &mut self.spools) {
+        match self
+            .intake
+            .take(turn, &mut self.maker, &mut self.spools, sort)
+        {
             Ok(images) => {
                 self.maker.laws();
                 Ok(images)

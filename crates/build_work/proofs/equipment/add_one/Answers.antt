@@ -3,7 +3,7 @@ use Rattle.std.specs.Vec.Iter.{into_iter_items}
 use Rattle.building.specs.IntakeValue.{IntakeValue}
 use Rattle.building.specs.SpoolValue.{spool_value}
 use Rattle.building.specs.WorkerValue.{WorkerValue}
-use Rattle.build_work.specs.Holding.{lent_spools}
+use Rattle.build_work.specs.Holding.{workers_spools}
 use Rattle.build_work.proofs.Equipping.{more_lent, next_ring}
 use Rattle.build_scan.proofs.Places.{at_index}
 use Rattle.build_work.proofs.equipment.add_one.Goals as goal
@@ -20,6 +20,6 @@ returns-clause-lent g c =
     let spool = g.S.Spool in
     let value = spool_value spool.runs spool.open_run spool.stake in
     let workers : List WorkerValue = c.args.workers.now.items in
-    ap (λ (ws : List WorkerValue). lent_spools ws ++ map value (into_iter_items c.lend.new.rest)) c.push_reserved.ensures.items
+    ap (λ (ws : List WorkerValue). workers_spools ws ++ map value (into_iter_items c.lend.new.rest)) c.push_reserved.ensures.items
     ∙ more_lent value workers c.new.result c.lend.new.own.items (into_iter_items c.args.rest.now) (into_iter_items c.lend.new.rest) c.len.result
     (ap (λ (w : WorkerValue). w.spools) c.new.ensures) c.lend.ensures.own c.lend.ensures.rest

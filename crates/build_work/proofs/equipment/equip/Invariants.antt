@@ -5,7 +5,7 @@ use Rattle.building.specs.WorkerValue.{WorkerValue}
 use Rattle.build_work.specs.BuildingValue.{intakes}
 use Rattle.build_work.specs.Equipped.{HasOwnSpools, HasRoomFor, IsFresh, IsNewMaker}
 use Rattle.build_work.specs.Keeping.{AreWorkers}
-use Rattle.build_work.specs.Holding.{lent_spools}
+use Rattle.build_work.specs.Holding.{workers_spools}
 use Rattle.build_work.proofs.equipment.equip.Given as goal
 
 abbrev pub invariant-loop-it : goal.invariant-loop-it
@@ -15,7 +15,7 @@ invariant-loop-it g l = record {
   makers : map (λ (worker : WorkerValue). worker.maker) l.workers.items ++ map (λ it. it.maker) l.it-iterator.rest.items ≡ map (λ it. it.maker) l.fn.equipment.items;
   kinds : All (λ it. IsNewMaker l.work.specs it.maker) l.it-iterator.rest.items;
   rooms : All (λ it. HasRoomFor (length l.work.specs) it.spools) l.it-iterator.rest.items;
-  lent : lent_spools l.workers.items ++ map (spool_value g.S.Spool.runs g.S.Spool.open_run g.S.Spool.stake) (into_iter_items l.rest)
+  lent : workers_spools l.workers.items ++ map (spool_value g.S.Spool.runs g.S.Spool.open_run g.S.Spool.stake) (into_iter_items l.rest)
       ≡ map (spool_value g.S.Spool.runs g.S.Spool.open_run g.S.Spool.stake) l.fn.spools.items;
   left : length (into_iter_items l.rest) ≡ length l.it-iterator.rest.items * length l.work.specs;
   empty : All (λ spool. (g.S.Spool.runs spool ≡ []) × (g.S.Spool.open_run spool ≡ [])) (into_iter_items l.rest);

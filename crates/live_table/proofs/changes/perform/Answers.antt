@@ -3,7 +3,7 @@ use Rattle.heap_table.specs.HeapState.{HeapState}
 use Rattle.heap_table.specs.Pages.{SetsRow}
 use Rattle.side_file.specs.SideFileValue.{SideFileValue}
 use Rattle.build_scan.specs.TableBuilds.{BuildFollows}
-use Rattle.build_work.specs.WorkOn.{IsWorkOf}
+use Rattle.build_work.specs.WorkOn.{WorkMatches}
 use Rattle.build_halves.specs.Rings.{PagesFollow}
 use Rattle.build_scan.specs.SideFiles.{SidesFollow}
 use Rattle.build_scan.proofs.Places.{as_long}
@@ -53,7 +53,7 @@ returns-clause-heard c =
       ends = c.note.ensures.ends;
       put = λ builds all put. subst (λ (h : HeapState). PagesFollow h.schema h.log builds build all) (sym done)
           (pages_on heap ready c.requires.ready lawful rows builds build all was.follows put);
-      works = λ work works. subst (λ (h : HeapState). IsWorkOf h.schema h.log build work) (sym done)
+      works = λ work works. subst (λ (h : HeapState). WorkMatches h.schema h.log build work) (sym done)
           (works_on heap ready c.requires.ready lawful rows build work was.follows works);
       columns = ap (λ (h : HeapState). h.schema) done ∙ schema_is heap ready c.requires.ready lawful rows;
     }

@@ -6,7 +6,7 @@ use Rattle.std.proofs.lemmas.Result.{err_from_is_err_and}
 use Rattle.keybytes.specs.Keys.{KeySpecValue, key_of}
 use Rattle.keybytes.specs.Pairs.{pair_with}
 use Rattle.keybytes.specs.declared.pair.Pair.{Pair}
-use Rattle.run_spool.specs.Spools.{AreSorted, all_pairs}
+use Rattle.run_spool.specs.Spools.{AreSorted, NoneEmpty, all_pairs}
 use Rattle.run_maker.specs.Spooling.{Adds}
 use Rattle.run_maker.specs.Making.{AreHeldWithRow, Holdings, spec_at}
 use Rattle.run_maker.proofs.EachIndex.{read_at, holds_at, holds_after, ready_after, reached_none, reached_more}
@@ -14,6 +14,11 @@ use Rattle.run_maker.specs.FullSpools.{WantsRun}
 use Rattle.run_maker.proofs.FullSpools.{full_after, wants_run}
 use Rattle.run_maker.proofs.Parts.{reached_first}
 use Rattle.run_maker.proofs.rows.add_row.Goals as goal
+
+pub add_key-requires-clause-none_empty : goal.add_key-requires-clause-none_empty
+add_key-requires-clause-none_empty g c =
+    let inside : c.loop-i.i < length c.loop-i.spools = omega (arith, c.loop-i-test.true, c.loop-i.invariant.long_spools, c.requires.spools) in
+    holds_at NoneEmpty g.S.Spool.runs c.loop-i.spools c.loop-i.i c.index-spools-i.result inside c.loop-i.invariant.ready.none_empty
 
 pub add_key-requires-clause-open_run : goal.add_key-requires-clause-open_run
 add_key-requires-clause-open_run g c =

@@ -12,11 +12,11 @@ pub returns-clause-sorted : goal.returns-clause-sorted
 returns-clause-sorted g c = λ all.
     let run = g.S.Spool.open_run c.loop-pair.spool in
     let none : c.loop-pair.pairs.items ≡ [] = nil_from_length c.loop-pair.pairs.items (search (rules, c.in_default.ensures.cases)) in
-    let sorted = c.sort.new.pairs.items in
+    let sorted = c.put_in_order.new.pairs.items in
     let run_is : run ≡ sorted =
     moved_all run sorted c.reverse.new.self.items c.loop-pair.pairs.items none c.reverse.ensures.items c.loop-pair.invariant.moved in
     let closed = c.end_run.ensures.runs ∙ ap (λ (rs : List (List Pair)). with_closed_run rs run) c.loop-pair.invariant.runs in
-    subst AreSorted (sym closed) (closed_sorted (g.S.Spool.runs c.args.spool.now) run (subst (IsSorted pair_cmp) (sym run_is) c.sort.ensures.sorted)
+    subst AreSorted (sym closed) (closed_sorted (g.S.Spool.runs c.args.spool.now) run (subst (IsSorted pair_cmp) (sym run_is) c.put_in_order.ensures.sorted)
     all)
 
 pub returns-in-Err-clause-full : goal.returns-in-Err-clause-full
@@ -25,9 +25,9 @@ returns-in-Err-clause-full g c =
     let open_run = g.S.Spool.open_run in
     record {
       pair = c.in-Some.pair;
-      held = stops_at (runs c.args.spool.now) (runs c.push.new.self) c.args.pairs.now.items c.sort.new.pairs.items c.reverse.new.self.items
+      held = stops_at (runs c.args.spool.now) (runs c.push.new.self) c.args.pairs.now.items c.put_in_order.new.pairs.items c.reverse.new.self.items
           (open_run c.loop-pair.spool) (open_run c.push.new.self) c.loop-pair.pairs.items c.pop.new.self.items c.in-Some.pair
-          (c.push.ensures.runs ∙ c.loop-pair.invariant.runs) c.in-Err.ensures.err c.sort.ensures.permutation c.reverse.ensures.items
+          (c.push.ensures.runs ∙ c.loop-pair.invariant.runs) c.in-Err.ensures.err c.put_in_order.ensures.permutation c.reverse.ensures.items
           c.loop-pair.invariant.moved c.in-Some.ensures.items;
       full = c.in-Err.ensures.still;
     }

@@ -38,13 +38,13 @@ returns-in_err-images-clause-failed g c =
       stops_behind n c.args.maker.now.schema c.loop.maker.schema c.args.self.now c.loop.self c.digest.new.self was.taken was.schema c.in_err-images.ensures.failed,
     ))
 
-pub returns-in_err-seal-clause-failed : goal.returns-in_err-seal-clause-failed
-returns-in_err-seal-clause-failed g c =
+pub returns-in_err-seal_with-clause-failed : goal.returns-in_err-seal_with-clause-failed
+returns-in_err-seal_with-clause-failed g c =
     let worker = c.args.self.now in
     let kinds = c.args.maker.now.schema in
     let all : c.loop.counter ≡ length worker.end.known = omega (arith, c.loop-test.false, c.loop.auto.counter-end, c.seen-end.ensures) in
-    let p = err_from_is_err_and c.from_residual-in_err-seal.result c.from_residual-in_err-seal.ensures.1 in
-    rw (p.1, p.2) (inr (c.in_err-seal.ensures.no_page, subst (λ (n : ℕ). c.loop.self ≡ after_digest n kinds worker) all c.loop.invariant.taken))
+    let p = err_from_is_err_and c.from_residual-in_err-seal_with.result c.from_residual-in_err-seal_with.ensures.1 in
+    rw (p.1, p.2) (inr (c.in_err-seal_with.ensures.no_page, subst (λ (n : ℕ). c.loop.self ≡ after_digest n kinds worker) all c.loop.invariant.taken))
 
 pub returns-in_err-images-clause-part : goal.returns-in_err-images-clause-part
 returns-in_err-images-clause-part g c =
@@ -96,8 +96,8 @@ returns-in_err-images-clause-full g c =
     (all.0, (n + 1, ap (λ (w : IntakeValue). w.end) stops.left, all.1), all.2))
     (c.in_err-images.ensures.full no_page))
 
-pub returns-in_err-seal-clause-full : goal.returns-in_err-seal-clause-full
-returns-in_err-seal-clause-full g c =
+pub returns-in_err-seal_with-clause-full : goal.returns-in_err-seal_with-clause-full
+returns-in_err-seal_with-clause-full g c =
     let worker = c.args.self.now in
     let maker = c.args.maker.now in
     let was = c.loop.invariant in
@@ -107,10 +107,10 @@ returns-in_err-seal-clause-full g c =
     let middle : Holdings = record { runs = map g.S.Spool.runs c.loop.spools; begun = begun } in
     let build = ap (λ (w : IntakeValue). w.build) was.taken in
     let end = ap (λ (w : IntakeValue). w.end) was.taken in
-    let long : length c.seal.new.spools ≡ length maker.specs = omega (arith, c.seal.auto.spools, c.loop.auto.spools, c.requires.spools) in
-    let p = err_from_is_err_and c.from_residual-in_err-seal.result c.from_residual-in_err-seal.ensures.1 in
+    let long : length c.seal_with.new.spools ≡ length maker.specs = omega (arith, c.seal_with.auto.spools, c.loop.auto.spools, c.requires.spools) in
+    let p = err_from_is_err_and c.from_residual-in_err-seal_with.result c.from_residual-in_err-seal_with.ensures.1 in
     rw (p.1, p.2) (λ no_page.
-    full_given g.S.Spool.is_full g.S.Spool.runs g.S.Spool.open_run 1 1 start.runs middle.runs c.seal.new.spools (AreHeld middle)
+    full_given g.S.Spool.is_full g.S.Spool.runs g.S.Spool.open_run 1 1 start.runs middle.runs c.seal_with.new.spools (AreHeld middle)
     (AreHeldWithTaken maker.specs maker.schema worker c.loop.self start) (omega arith)
     (λ i less. full_till n maker.specs maker.schema worker start middle c.laws.ensures.specs was.readable was.holds i (omega (arith, less, long)))
     (λ i pairs less are.
@@ -119,7 +119,7 @@ returns-in_err-seal-clause-full g c =
     (omega (arith, less, long)) pairs none in
     let same : n + 0 ≡ n = omega arith in
     (all.0, (n, end, subst (λ (j : ℕ). AreHeldWith maker.specs (next_images j maker.schema worker) start i all.0) same all.1), all.2))
-    c.in_err-seal.ensures.full)
+    c.in_err-seal_with.ensures.full)
 
 pub overflow_add-images : goal.overflow_add-images
 overflow_add-images g c =
@@ -172,8 +172,8 @@ returns-clause-holds g c =
     let middle : Holdings = record { runs = map g.S.Spool.runs c.loop.spools; begun = c.loop.maker.begun } in
     let all : c.loop.counter ≡ length worker.end.known = omega (arith, c.loop-test.false, c.loop.auto.counter-end, c.seen-end.ensures) in
     let takes = subst (λ (n : ℕ). TakesAll specs (next_images n kinds worker) start middle) all was.holds in
-    takes_sealed specs (next_images (length worker.end.known) kinds worker) start middle (map g.S.Spool.runs c.seal.new.spools) c.seal.new.self.begun takes
-    (c.laws-2.ensures.begun ∙ ap length was.specs) c.laws-2.ensures.short c.in_ok-seal.ensures.sealed c.in_ok-seal.ensures.none_open
+    takes_sealed specs (next_images (length worker.end.known) kinds worker) start middle (map g.S.Spool.runs c.seal_with.new.spools) c.seal_with.new.self.begun takes
+    (c.laws-2.ensures.begun ∙ ap length was.specs) c.laws-2.ensures.short c.in_ok-seal_with.ensures.sealed c.in_ok-seal_with.ensures.none_open
 
 pub returns-clause-readable : goal.returns-clause-readable
 returns-clause-readable g c =

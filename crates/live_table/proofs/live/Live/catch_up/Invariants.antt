@@ -1,5 +1,5 @@
 use Rattle.std.proofs.Common.{◌≡◌, ◌<◌, ℕ}
-use Rattle.build_halves.specs.Builds.{core_state, WorksOn}
+use Rattle.build_halves.specs.Builds.{core_state, StandsBeside}
 use Rattle.build_halves.specs.CatchingUp.{left_at}
 use Rattle.build_halves.specs.Putting.{SendsOn}
 use Rattle.build_halves.proofs.CatchingUp.{AllAreFurther}
@@ -9,7 +9,7 @@ abbrev pub invariant-loop-index : goal.invariant-loop-index
 invariant-loop-index g l = record {
   further : AllAreFurther (core_state l.fn.self l.fn.building) (core_state l.self l.building);
   none : (k : ℕ) → k < l.index → left_at k (core_state l.self l.building) ≡ 0;
-  works : WorksOn l.self l.building;
+  works : StandsBeside l.self l.building;
   sends : SendsOn l.fn.self l.self;
   pages : l.self.pages ≡ l.fn.self.pages;
 }

@@ -1,5 +1,5 @@
 use Rattle.std.proofs.Common.{◌≡◌}
-use Rattle.build_halves.specs.Builds.{core_state, WorksOn}
+use Rattle.build_halves.specs.Builds.{core_state, StandsBeside}
 use Rattle.build_halves.specs.CatchingUp.{IndexIsFurther, left_at}
 use Rattle.build_halves.specs.Putting.{SendsOn}
 use Rattle.live_table.proofs.live.Live.catch_up_one.Given as goal
@@ -7,7 +7,7 @@ use Rattle.live_table.proofs.live.Live.catch_up_one.Given as goal
 abbrev pub invariant-loop-self : goal.invariant-loop-self
 invariant-loop-self g l = record {
   further : IndexIsFurther l.index (core_state l.fn.self l.fn.building) (core_state l.self l.building);
-  works : WorksOn l.self l.building;
+  works : StandsBeside l.self l.building;
   sends : SendsOn l.fn.self l.self;
   pages : l.self.pages ≡ l.fn.self.pages;
 }

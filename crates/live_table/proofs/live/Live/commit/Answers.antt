@@ -3,7 +3,7 @@ use Rattle.heap_table.specs.HeapState.{HeapState}
 use Rattle.heap_table.specs.HeapValue.{HeapValue}
 use Rattle.heap_log.specs.declared.record.LogRec.TheVariants.{Commit}
 use Rattle.ready_indexes.specs.Following.{AllFollow, GoesOn}
-use Rattle.build_halves.specs.Builds.{LiveValue, WorksOn}
+use Rattle.build_halves.specs.Builds.{LiveValue, StandsBeside}
 use Rattle.build_work.specs.Rings.{all_sent}
 use Rattle.build_halves.proofs.Following.{committed, commit_pages, commit_workers, commit_works, refused_same}
 use Rattle.build_scan.proofs.TableBuilds.{commit_follows}
@@ -30,7 +30,7 @@ pub returns-clause-works : goal.returns-clause-works
 returns-clause-works g c = λ building works.
     let old = c.self.inside in
     let done = committed old.heap c.commit.new.self c.args.txn c.commit.result c.commit.ensures.committed in
-    let before = subst (λ (l : LiveValue). WorksOn l building) (sym c.self.view_is) works in
+    let before = subst (λ (l : LiveValue). StandsBeside l building) (sym c.self.view_is) works in
     record {
       work = commit_works old.heap.state c.commit.new.self.state c.args.txn old.build building.work done c.self.invariant.1 before.work;
       workers = commit_workers old.heap.state c.commit.new.self.state c.args.txn old.pages.items (put_ends old.sides.items) building old.build building.work done before.workers;

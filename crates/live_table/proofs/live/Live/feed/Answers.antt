@@ -6,8 +6,8 @@ use Rattle.heap_table.specs.HeapState.{HeapState}
 use Rattle.side_file.specs.Ends.{PutEnd}
 use Rattle.side_file.specs.SideFileValue.{SideFileValue}
 use Rattle.side_file.specs.declared.entry.Entry.{Entry}
-use Rattle.build_halves.specs.Builds.{LiveValue, WorksOn, HasFed, next_entries}
-use Rattle.build_work.specs.WorkOn.{IsWorkOf, WorkersFollow}
+use Rattle.build_halves.specs.Builds.{LiveValue, StandsBeside, HasFed, next_entries}
+use Rattle.build_work.specs.WorkOn.{WorkMatches, WorkersFollow}
 use Rattle.build_scan.specs.TableBuilds.{IsBuildOf, BuildFollows}
 use Rattle.build_events.specs.CoreState.{BuildState, scanning_of}
 use Rattle.build_work.specs.Rings.{all_sent}
@@ -161,13 +161,13 @@ returns-clause-works g c = λ building works.
     let new : SideFileValue = c.feed-count.new.self in
     let count : ℕ = c.feed-count.result in
     let fed = c.feed-count.ensures in
-    let before = subst (λ (l : LiveValue). WorksOn l building) (sym c.self.view_is) works in
+    let before = subst (λ (l : LiveValue). StandsBeside l building) (sym c.self.view_is) works in
     let countable = fed_countable heap.log b c.args.index f.spec f.counted old new count c.args.most f.its fed.fed fed.most fed.all c.laws.ensures in
     let puts : List (PutEnd Entry) = put_ends sides in
     record {
-      work = subst (λ (x : BuildState). IsWorkOf heap.schema heap.log (Some x) building.work) (sym c.note_fed.ensures)
+      work = subst (λ (x : BuildState). WorkMatches heap.schema heap.log (Some x) building.work) (sym c.note_fed.ensures)
           (work_fed heap.schema heap.log b c.args.index count building.work
-          (subst (λ (o : Option BuildState). IsWorkOf heap.schema heap.log o building.work) c.in-Some.is before.work));
+          (subst (λ (o : Option BuildState). WorkMatches heap.schema heap.log o building.work) c.in-Some.is before.work));
       workers =
           subst (λ (x : BuildState). WorkersFollow heap.schema inside.pages.items (put_ends (set sides c.args.index new)) building (Some x) building.work) (sym c.note_fed.ensures)
           (subst (λ (ps : List (PutEnd Entry)). WorkersFollow heap.schema inside.pages.items ps building (Some (after_feed b c.args.index count)) building.work)

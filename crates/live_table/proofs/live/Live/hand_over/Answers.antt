@@ -10,7 +10,7 @@ pub hand_over-requires : goal.hand_over-requires
 hand_over-requires g c =
     let may = c.requires in
     let live : LiveValue = c.args.self.now in
-    let scans : may.work.loading ≡ false = sym (subst (λ (o : Option WorkValue). IfSome o (λ work. false ≡ work.loading)) may.runs.work_is c.if-not-is_loading.ensures.loading) in
+    let scans : may.work.handed ≡ false = sym (subst (λ (o : Option WorkValue). IfSome o (λ work. false ≡ work.handed)) may.runs.work_is c.if-not-is_loading.ensures.handed) in
     let rings : length live.pages ≡ 16 = sym (ap (λ (l : LiveValue). length l.pages) c.self.view_is) ∙ c.self.invariant.5.sixteen in
     let put = put_inside _ live may.build c.self.view_is may.runs.build_is c.self.invariant.3 in
     can_hand_over live c.args.building.now may.build may.work may.runs may.fine scans rings may.sealed may.all (may.holding scans)
@@ -21,7 +21,7 @@ returns-then-not-is_loading-clause-state g c =
     let may = c.requires in
     let live : LiveValue = c.args.self.now in
     let old : BuildingValue = c.args.building.now in
-    let scans : may.work.loading ≡ false = sym (subst (λ (o : Option WorkValue). IfSome o (λ work. false ≡ work.loading)) may.runs.work_is c.if-not-is_loading.ensures.loading) in
+    let scans : may.work.handed ≡ false = sym (subst (λ (o : Option WorkValue). IfSome o (λ work. false ≡ work.handed)) may.runs.work_is c.if-not-is_loading.ensures.handed) in
     let rings : length live.pages ≡ 16 = sym (ap (λ (l : LiveValue). length l.pages) c.self.view_is) ∙ c.self.invariant.5.sixteen in
     ap (core_state live) (handed_is live old may.build may.work may.runs may.fine scans rings may.sealed may.all (may.holding scans) c.hand_over.new.self c.hand_over.ensures)
     ∙ handed_state live old may.build may.work may.runs may.fine scans rings may.sealed may.all (may.holding scans)
@@ -31,9 +31,9 @@ returns-then-not-is_loading-clause-loads g c =
     let may = c.requires in
     let live : LiveValue = c.args.self.now in
     let old : BuildingValue = c.args.building.now in
-    let scans : may.work.loading ≡ false = sym (subst (λ (o : Option WorkValue). IfSome o (λ work. false ≡ work.loading)) may.runs.work_is c.if-not-is_loading.ensures.loading) in
+    let scans : may.work.handed ≡ false = sym (subst (λ (o : Option WorkValue). IfSome o (λ work. false ≡ work.handed)) may.runs.work_is c.if-not-is_loading.ensures.handed) in
     let rings : length live.pages ≡ 16 = sym (ap (λ (l : LiveValue). length l.pages) c.self.view_is) ∙ c.self.invariant.5.sixteen in
-    let after : WorkValue = record may.work { loading = true } in
+    let after : WorkValue = record may.work { handed = true } in
     record {
       build = may.build;
       work = after;

@@ -9,8 +9,8 @@ use Rattle.heap_table.specs.Pages.{pages_written}
 use Rattle.side_file.specs.Ends.{PutEnd}
 use Rattle.building.specs.TakeEnd.{PutEndLooked}
 use Rattle.building.specs.declared.copied.Copied.{Copied}
-use Rattle.build_halves.specs.Builds.{LiveValue, WorksOn, full_refusal, put_refusal}
-use Rattle.build_work.specs.WorkOn.{IsWorkOf, WorkersFollow}
+use Rattle.build_halves.specs.Builds.{LiveValue, StandsBeside, full_refusal, put_refusal}
+use Rattle.build_work.specs.WorkOn.{WorkMatches, WorkersFollow}
 use Rattle.build_scan.specs.TableBuilds.{BuildFollows, IsBuildOf}
 use Rattle.build_events.specs.CoreState.{BuildState, LiveState}
 use Rattle.build_work.specs.Rings.{all_sent, AreOfBuilds}
@@ -49,7 +49,7 @@ invariant_of-self g c =
 pub returns-then-not-has_room-clause-works : goal.returns-then-not-has_room-clause-works
 returns-then-not-has_room-clause-works g c = λ building works.
     let inside = c.self.inside in
-    let before = subst (λ (l : LiveValue). WorksOn l building) (sym c.self.view_is) works in
+    let before = subst (λ (l : LiveValue). StandsBeside l building) (sym c.self.view_is) works in
     let same = sent_looked inside.pages.items c.args.worker c.has_room.new.self c.index_mut.result.now c.index_mut.ensures.value c.has_room.ensures.looked.sent in
     record {
       work = before.work;
@@ -170,7 +170,7 @@ returns-clause-works g c = λ building works.
     let here : live.state.build ≡ Some b = sym (ap (λ (l : LiveValue). l.state.build) c.self.view_is) ∙ c.in-Some.is in
     let next = subst (λ (o : Option BuildState). OnBuild o (λ x. (next_page x c.args.range ≡ Some c.in-Ok.page) × (c.args.worker < x.workers))) here c.in-Ok.ensures.page in
     let follows : IsBuildOf heap.schema heap.log b = subst (BuildFollows heap.schema heap.log) c.in-Some.is c.self.invariant.1 in
-    let before = subst (λ (l : LiveValue). WorksOn l building) (sym c.self.view_is) works in
+    let before = subst (λ (l : LiveValue). StandsBeside l building) (sym c.self.view_is) works in
     let now : c.records-records.result ≡ length heap.log = c.records-records.ensures ∙ ap (λ (h : HeapState). length h.log) c.copy_page.ensures.visited in
     let less : c.args.worker < length pages = omega (arith, next.1, follows.few_workers, c.self.invariant.5.sixteen) in
     let there : slice_get pages c.args.worker ≡ Some old =
@@ -186,10 +186,10 @@ returns-clause-works g c = λ building works.
     ∙ ap (set (all_sent pages) c.args.worker) sent in
     let number : c.number-build.result ≡ b.number = c.number-build.ensures ∙ ap (λ (x : BuildState). x.number) c.note.ensures.noted in
     record {
-      work = subst (λ (h : HeapState). IsWorkOf h.schema h.log (Some c.note.new.self) building.work) (sym c.copy_page.ensures.visited)
-          (subst (λ (x : BuildState). IsWorkOf heap.schema heap.log (Some x) building.work) (sym c.note.ensures.noted)
+      work = subst (λ (h : HeapState). WorkMatches h.schema h.log (Some c.note.new.self) building.work) (sym c.copy_page.ensures.visited)
+          (subst (λ (x : BuildState). WorkMatches heap.schema heap.log (Some x) building.work) (sym c.note.ensures.noted)
           (work_of_next heap.schema heap.log b building.work c.args.range c.args.worker c.in-Ok.page c.records-records.result
-          (subst (λ (o : Option BuildState). IsWorkOf heap.schema heap.log o building.work) c.in-Some.is before.work) next.0 now));
+          (subst (λ (o : Option BuildState). WorkMatches heap.schema heap.log o building.work) c.in-Some.is before.work) next.0 now));
       workers = subst (λ (h : HeapState). WorkersFollow h.schema new_pages (put_ends inside.sides.items) building (Some c.note.new.self) building.work) (sym c.copy_page.ensures.visited)
           (workers_put heap.schema pages (put_ends inside.sides.items) building b c.note.new.self building.work c.args.worker old.sent copied
           new_pages

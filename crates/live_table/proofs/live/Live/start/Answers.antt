@@ -256,7 +256,7 @@ returns-clause-lendable g c = record {
   work = c.in_ok-work.work;
   runs = ap (λ (b : BuildingValue). b.work) c.begin.ensures.rest;
   fine = ap (λ (w : WorkValue). w.spoiled) c.in_ok-work.ensures.ok;
-  scans = ap (λ (w : WorkValue). w.loading) c.in_ok-work.ensures.ok;
+  scans = ap (λ (w : WorkValue). w.handed) c.in_ok-work.ensures.ok;
 }
 
 pub returns-clause-kept : goal.returns-clause-kept

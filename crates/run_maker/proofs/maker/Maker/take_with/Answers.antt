@@ -4,9 +4,9 @@ use Rattle.keybytes.specs.declared.cell.Cell.{Cell}
 use Rattle.keybytes.specs.declared.kind.Kind.{Kind}
 use Rattle.heap_table.specs.Images.{HasRows}
 use Rattle.run_maker.specs.Making.{MakerValue}
-use Rattle.run_maker.proofs.maker.Maker.take.Given as given
-use Rattle.run_maker.proofs.maker.Maker.take.Goals as goal
-use Rattle.run_maker.proofs.maker.Maker.take.Goals.{After-add_image}
+use Rattle.run_maker.proofs.maker.Maker.take_with.Given as given
+use Rattle.run_maker.proofs.maker.Maker.take_with.Goals as goal
+use Rattle.run_maker.proofs.maker.Maker.take_with.Goals.{After-add_image}
 
 -- what the lists are that the pairs were added to, and what is left of those in no run
 its_lists :

@@ -6,7 +6,7 @@ use Rattle.building.specs.Turns.{HasDone, IsStopped, TurnHolds, least_pairs, tur
 use Rattle.building.specs.WorkerValue.{WorkerValue}
 use Rattle.building.proofs.SpoolViews.{lent_back, part_held, received_full, same_after, spools_ready, turn_held, turn_seen, values_ready, worker_with}
 use Rattle.building.proofs.Turns.{turn_counts}
-use Rattle.building.proofs.worker.Worker.take.Goals as goal
+use Rattle.building.proofs.worker.Worker.take_with.Goals as goal
 
 pub take-requires-clause-ready : goal.take-requires-clause-ready
 take-requires-clause-ready g c =
