@@ -1,3 +1,5 @@
+ghost use Rattle.std.specs.Prelude.{◌≡◌, ◌≤◌, ◌<◌};
+
 use crate::clock::nanos_between;
 use std::sync::atomic::{AtomicU64, Ordering};
 use std::time::{Clock, Instant};
@@ -36,7 +38,8 @@ pub struct Course {
 
 /// The place of a step among the stages.
 pub fn place_of(step: u64) -> usize
-    ensures { result < 6 }
+    ensures stage { step < 4 → result ≡ step }
+    ensures turn { 4 ≤ step → result ≡ 5 }
 {
     if step < FIRST_TURN {
         step as usize

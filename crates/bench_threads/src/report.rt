@@ -74,7 +74,7 @@ fn add_asked(text: &mut String, options: &Options) -> Result<(), AllocError> {
 /// The fill, the stages and the build.
 fn add_lines(text: &mut String, options: &Options, figures: &Figures) -> Result<(), AllocError> {
     let all = Some(options.rows);
-    add_line(text, options.csv, line("fill", figures.fill, all, None))?;
+    add_line(text, options.csv, line_of("fill", figures.fill, all, None))?;
     let (mut spent, mut met) = (0u64, Span::NONE);
     for place in 0..STAGES {
         let of_stage = told(options, figures.met[place]);
@@ -83,11 +83,11 @@ fn add_lines(text: &mut String, options: &Options, figures: &Figures) -> Result<
             met = met.and(figures.met[place]);
         }
         if place > 0 || options.writers > 0 {
-            let stage = line(NAMES[place], figures.spent[place], None, of_stage);
+            let stage = line_of(NAMES[place], figures.spent[place], None, of_stage);
             add_line(text, options.csv, stage)?;
         }
     }
-    let build = line("build", spent, all, told(options, met));
+    let build = line_of("build", spent, all, told(options, met));
     add_line(text, options.csv, build)
 }
 
@@ -99,7 +99,7 @@ fn told(options: &Options, met: Span) -> Option<Span> {
     Some(met)
 }
 
-fn line(name: &'static str, spent: u64, rows: Option<u32>, met: Option<Span>) -> Line {
+fn line_of(name: &'static str, spent: u64, rows: Option<u32>, met: Option<Span>) -> Line {
     Line {
         name,
         spent,

@@ -1,3 +1,5 @@
+ghost use Rattle.std.specs.Prelude.{◌≡◌, ◌+◌, ◌<◌, ◌^◌, max};
+
 /// What writers met in a part of a run. Times are in nanoseconds.
 #[derive(Clone, Copy)]
 pub struct Span {
@@ -25,7 +27,11 @@ impl Span {
     };
 
     /// A call that took so long, and the entries that its change makes.
-    pub fn call(spent: u64, entries: u64) -> Span {
+    pub fn call(spent: u64, entries: u64) -> Span
+        ensures entries { result.entries ≡ entries }
+        ensures longest { result.longest_call ≡ spent }
+        ensures long { 1000000 < spent → result.long_calls ≡ 1 }
+    {
         Span {
             entries,
             long_calls: u64::from(spent > MILLISECOND),
@@ -35,7 +41,9 @@ impl Span {
     }
 
     /// A transaction that took so long.
-    pub fn transaction(spent: u64) -> Span {
+    pub fn transaction(spent: u64) -> Span
+        ensures { result ≡ record { transactions = 1; entries = 0; long_calls = 0; longest_call = 0; longest_transaction = spent } }
+    {
         Span {
             transactions: 1,
             longest_transaction: spent,
@@ -44,7 +52,13 @@ impl Span {
     }
 
     /// Both together.
-    pub fn and(self, other: Span) -> Span {
+    pub fn and(self, other: Span) -> Span
+        ensures transactions { self.transactions + other.transactions < 2 ^ 64 → result.transactions ≡ self.transactions + other.transactions }
+        ensures entries { self.entries + other.entries < 2 ^ 64 → result.entries ≡ self.entries + other.entries }
+        ensures long { self.long_calls + other.long_calls < 2 ^ 64 → result.long_calls ≡ self.long_calls + other.long_calls }
+        ensures call { result.longest_call ≡ max self.longest_call other.longest_call }
+        ensures transaction { result.longest_transaction ≡ max self.longest_transaction other.longest_transaction }
+    {
         Span {
             transactions: self.transactions.saturating_add(other.transactions),
             entries: self.entries.saturating_add(other.entries),
