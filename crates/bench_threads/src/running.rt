@@ -1,5 +1,6 @@
 //! A run: the table is filled, the writers begin, the build goes on beside them, and each index is compared with the table.
-ghost use Rattle.std.specs.Prelude.{◌≡◌};
+ghost use Rattle.std.specs.Prelude.{◌≡◌, All, OnOk};
+ghost use Rattle.bench_threads.specs.Verdicts.{IsReady};
 
 use crate::clock::now;
 use crate::course::{Course, STAGES, START};
@@ -288,10 +289,13 @@ fn verdict_of<T: Opened>(told: &Result<Report<T>, BuildFault>) -> Result<(), Fai
     }
 }
 
-fn are_ready(verdicts: &[Outcome]) -> Result<(), Failure> {
-    for (index, verdict) in verdicts.iter().enumerate() {
-        if let Outcome::Shared { .. } = verdict {
-            return Err(Failure::Shared(index));
+fn are_ready(verdicts: &[Outcome]) -> Result<(), Failure>
+    ensures { OnOk result (All IsReady verdicts.now) }
+{
+    for index in 0..verdicts.len() {
+        match &verdicts[index] {
+            Outcome::Ready(_) => {}
+            Outcome::Shared { .. } => return Err(Failure::Shared(index)),
         }
     }
     Ok(())
