@@ -43,14 +43,15 @@ AreOfBuilds builds all = All (λ sent. All (λ copied. copied.build ≤ builds) 
 
 -- a worker of that build of these indexes, on rows of these columns, which takes what its ring was sent. It has a spool for each index;
 -- once it handed them over it has none, and of the pairs that it took since its last seal those are in no run that don't fill one
-pub record IsWorkerOf (build : ℕ) (kinds : List Kind) (specs : List KeySpecValue) (handed : Bool) (sent : List Copied) (worker : WorkerValue) : Type 0 where
+pub record IsWorkerOf (build : ℕ) (kinds : List Kind) (specs : List KeySpecValue) (gone : Bool) (sent : List Copied) (worker : WorkerValue) : Type 0 where
   pub fine : worker.fault ≡ None
   pub schema : worker.maker.schema ≡ kinds
   pub specs_are : worker.maker.specs ≡ specs
-  pub handed : worker.handed ≡ handed
-  pub own : handed ≡ false → length worker.spools ≡ length specs
-  pub none : handed ≡ true → worker.spools ≡ []
-  pub opened : handed ≡ true → (index : ℕ) (spec : KeySpecValue) → slice_get specs index ≡ Some spec
+  -- its spools are gone to the indexes
+  pub handed : worker.handed ≡ gone
+  pub own : gone ≡ false → length worker.spools ≡ length specs
+  pub none : gone ≡ true → worker.spools ≡ []
+  pub opened : gone ≡ true → (index : ℕ) (spec : KeySpecValue) → slice_get specs index ≡ Some spec
       → HoldsOpen spec (unsealed_images spec.kinds worker.intake) (get_or worker.maker.begun index [])
   pub taking : IsTaking build kinds sent worker.intake
 
