@@ -160,8 +160,8 @@ module _
   ]
 
   -- one of the workers, from the first load on
-  handed : w.handed ≡ true → (k : ℕ) (worker : WorkerValue) → slice_get building.workers k ≡ Some worker → HasHanded w.specs worker
-  handed loads k worker at = all_at (HasHanded w.specs) building.workers k worker (kept.handed loads) at
+  handed_one : w.handed ≡ true → (k : ℕ) (worker : WorkerValue) → slice_get building.workers k ≡ Some worker → HasHanded w.specs worker
+  handed_one loads k worker at = all_at (HasHanded w.specs) building.workers k worker (kept.handed loads) at
 
   -- where each worker's specifications are of the columns that it reads, these are the table's
   pub same_columns :
@@ -213,12 +213,12 @@ module _
         own = λ scans.
             let is = kept.placed k worker at in
             (keeps.holding is.fine (is.spools_are ∙ scans)).many ∙ ap length is.specs_are;
-        none = λ loads. (handed loads k worker at).none;
+        none = λ loads. (handed_one loads k worker at).none;
         opened = λ loads index spec is.
             let kinds_are : worker.maker.schema ≡ spec.kinds = schema ∙ sym (all_at (λ (s : KeySpecValue). s.kinds ≡ kinds) w.specs index spec columns is) in
             subst (λ (ks : List Kind). HoldsOpen spec (unsealed_images ks worker.intake) (get_or worker.maker.begun index [])) kinds_are
             (subst (λ (s : KeySpecValue). HoldsOpen s (unsealed_images worker.maker.schema worker.intake) (get_or worker.maker.begun index []))
-            (spec_is w.specs index spec is) ((handed loads k worker at).opened index (below w.specs index spec is)));
+            (spec_is w.specs index spec is) ((handed_one loads k worker at).opened index (below w.specs index spec is)));
         taking = record {
           of_build = of_build;
           rest = [];
