@@ -104,7 +104,7 @@ module _
           applied = ordered ∙ ap keys (same_set made.0 built.pairs (IsPermutation-trans made.0 (pairs_in own) built.pairs made.2 moved));
         }
 
-    loaded_index : (s : KeySpecValue) (end : TakeEnd Entry) → slice_get work.specs index ≡ Some s → slice_get sides index ≡ Some end
+    pub loaded_index : (s : KeySpecValue) (end : TakeEnd Entry) → slice_get work.specs index ≡ Some s → slice_get sides index ≡ Some end
         → IsIndexOf work.build s workers end (record { built = Some built; applied = 0 })
     loaded_index s end there taking =
         let same : spec ≡ s = same_Some spec s (sym is ∙ there) in

@@ -8,7 +8,7 @@ use Rattle.build_work.specs.Columns.{every, all_but}
 use Rattle.build_work.proofs.Columns.{every_removed, all_but_removed, every_behind, all_but_behind, every_put, all_but_put}
 
 -- each of so many workers has one of the index, and the others
-parted : (workers indexes index : ℕ) → index < indexes → workers * indexes ≡ workers * (indexes - 1) + workers
+pub parted : (workers indexes index : ℕ) → index < indexes → workers * indexes ≡ workers * (indexes - 1) + workers
 parted workers indexes index less =
     ap (λ n. workers * n) (let e : indexes ≡ suc (indexes - 1) = omega (arith, less) in e) ∙ mul-suc workers (indexes - 1)
 

@@ -2,6 +2,7 @@ pub mod BuildingValue
 pub mod Columns
 pub mod Equipped
 pub mod Holding
+pub mod IndexLoads
 pub mod Keeping
 pub mod Lent
 pub mod Rings

@@ -1,5 +1,6 @@
 //! The pairs of an index's spools in a tree.
-ghost use Rattle.std.specs.Prelude.{◌≡◌, ℕ, ◌+◌, ◌*◌, ◌<◌, ◌≤◌, All, map, length, IfOk, IfErr, OnOk, OnErr, IsPermutation, vec_len, vec_capacity};
+ghost use Rattle.std.specs.Prelude.{◌≡◌, ℕ, ◌+◌, ◌*◌, ◌<◌, ◌≤◌, [], All, map, length, IfOk, IfErr, OnOk, OnErr, IsPermutation, vec_len, vec_capacity};
+ghost use Rattle.keybytes.specs.Pairs.{AreOrdered};
 ghost use Rattle.run_spool.specs.Spools.{AreSorted, all_pairs};
 ghost use Rattle.run_merge.specs.Merging.{all_runs};
 ghost use Rattle.build_work.specs.Columns.{column, other_columns};
@@ -10,6 +11,7 @@ ghost use Rattle.build_work.specs.Keeping.{AreEachOnce};
 use crate::ending::end_spools;
 use btree::Tree;
 use bulk_load::{Source, load};
+use catch_up::Built;
 use keybytes::{Fault, Pair};
 use run_merge::{Merged, merge};
 use run_spool::Spool;
@@ -62,15 +64,38 @@ fn take_out<S: Spool>(
     ensures unchanged { OnErr result (spools.new ≡ spools.old) }
     ensures memory { IfErr result (λ fault. fault ≡ Fault.Memory) }
 {
-    let mut own = Vec::with_capacity(alloc, workers)?;
+    let own = Vec::with_capacity(alloc, workers)?;
+    Ok(move_out(own, spools, index, indexes, workers))
+}
+
+/// Moves the spools of an index out of those of so many workers into an empty list that has room for them.
+pub fn move_out<S: Spool>(
+    own: Vec<S>,
+    spools: &mut Vec<S>,
+    index: usize,
+    indexes: usize,
+    workers: usize,
+) -> Vec<S>
+    requires none { own.items ≡ [] }
+    requires places { workers ≤ vec_capacity own }
+    requires there { index < indexes }
+    requires all { length spools.old.items ≡ workers * indexes }
+    ensures own { result.items ≡ column index indexes spools.old.items }
+    ensures others { spools.new.items ≡ other_columns index indexes spools.old.items }
+    ensures many { length result.items ≡ workers }
+    ensures all { length spools.new.items + workers ≡ workers * indexes }
+    ensures room { workers * indexes ≤ vec_capacity spools.new }
+    ensures capacity { vec_capacity spools.new ≡ vec_capacity spools.old }
+{
+    let mut own = own;
     for worker in 0..workers {
         own.push_reserved(spools.remove(worker * (indexes - 1) + index));
     }
-    Ok(own)
+    own
 }
 
 /// Puts the spools of an index back among those of the others. Takes no memory.
-fn put_back<S: Spool>(
+pub fn put_back<S: Spool>(
     spools: &mut Vec<S>,
     mut own: Vec<S>,
     index: usize,
@@ -83,6 +108,7 @@ fn put_back<S: Spool>(
     requires room { workers * indexes ≤ vec_capacity spools.old }
     ensures own { column index indexes spools.new.items ≡ own.items }
     ensures others { other_columns index indexes spools.new.items ≡ spools.old.items }
+    ensures many { length spools.new.items ≡ workers * indexes }
     ensures capacity { vec_capacity spools.old ≤ vec_capacity spools.new }
 {
     while let Some(spool) = own.pop() {
@@ -90,6 +116,48 @@ fn put_back<S: Spool>(
             unreachable!()
         };
     }
+}
+
+/// Makes an index of the pairs of all closed runs of the spools, in order, with a tally where it is unique; the spools are handed back, ended if there
+/// is an index.
+pub fn built_of<S: Spool>(
+    alloc: Global,
+    spools: Vec<S>,
+    build: u64,
+    unique: bool,
+) -> (Result<Built, Fault>, Vec<S>)
+    requires sorted { All AreSorted (map S.runs spools.items) }
+    requires once { AreEachOnce (all_pairs (all_runs (map S.runs spools.items))) }
+    ensures all { IfOk result.0 (λ built. IsPermutation (all_pairs (all_runs (map S.runs spools.items))) built.pairs) }
+    ensures order { IfOk result.0 (λ built. AreOrdered built.pairs) }
+    ensures build { IfOk result.0 (λ built. built.build ≡ build) }
+    ensures unique { IfOk result.0 (λ built. built.unique ≡ unique) }
+    ensures ended { OnOk result.0 (map (spool_value S.runs S.open_run S.stake) result.1.items
+        ≡ map ended_spool (map (spool_value S.runs S.open_run S.stake) spools.items)) }
+    ensures stakes { map S.stake result.1.items ≡ map S.stake spools.items }
+    ensures memory { IfErr result.0 (λ fault. fault ≡ Fault.Memory) }
+{
+    let (tree, back) = tree_of(alloc, spools);
+    let built = match tree {
+        Ok(tree) => index_of(alloc, tree, build, unique),
+        Err(fault) => Err(fault),
+    };
+    (built, back)
+}
+
+/// The index of a tree, with a tally where it is unique.
+fn index_of(alloc: Global, tree: Tree, build: u64, unique: bool) -> Result<Built, Fault>
+    ensures pairs { IfOk result (λ built. built.pairs ≡ tree.pairs) }
+    ensures order { IfOk result (λ built. AreOrdered built.pairs) }
+    ensures build { IfOk result (λ built. built.build ≡ build) }
+    ensures unique { IfOk result (λ built. built.unique ≡ unique) }
+    ensures memory { IfErr result (λ fault. fault ≡ Fault.Memory) }
+{
+    tree.laws();
+    if unique {
+        return Built::unique(alloc, build, tree);
+    }
+    Ok(Built::new(build, tree))
 }
 
 /// A merge of pairs of which none is there twice. Contracts see the merge.

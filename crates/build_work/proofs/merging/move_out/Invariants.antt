@@ -1,6 +1,6 @@
 use Rattle.std.proofs.Common.{◌≡◌, ◌+◌, ◌-◌, ◌*◌, ◌≤◌, ◌++◌, length, vec_capacity}
 use Rattle.build_work.specs.Columns.{every, all_but, column, other_columns}
-use Rattle.build_work.proofs.merging.take_out.Given as goal
+use Rattle.build_work.proofs.merging.move_out.Given as goal
 
 abbrev pub invariant-loop-worker : goal.invariant-loop-worker
 invariant-loop-worker g l =

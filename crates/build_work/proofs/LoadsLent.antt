@@ -1,0 +1,96 @@
+-- The loads of a build's indexes are lent, and come back.
+use Rattle.std.proofs.Common.{◌≡◌, ℕ, ◌*◌, List, [], ◌∷◌, ◌++◌, All, length, append-nil, map, Option, Some, None, refl, sym, ap, ◌∙◌, subst}
+use Rattle.std.proofs.lemmas.List.Elements.{All-head, All-tail}
+use Rattle.keybytes.specs.Keys.{KeySpecValue}
+use Rattle.keybytes.specs.declared.fault.Fault.{Fault}
+use Rattle.keybytes.specs.declared.fault.Fault.TheVariants.{Memory}
+use Rattle.building.specs.SpoolValue.{SpoolValue}
+use Rattle.building.specs.WorkerValue.{WorkerValue}
+use Rattle.build_work.specs.BuildingValue.{BuildingValue, IndexValue, WorkValue}
+use Rattle.build_work.specs.Holding.{all_spools, workers_spools}
+use Rattle.build_work.specs.IndexLoads.{AreBackFrom, AreDone, AreHome, HasLoadedAll, HasRun, IndexLoadValue, LoadsStopped, index_from}
+use Rattle.build_work.specs.Keeping.{HasHanded, KeepsWork}
+use Rattle.build_work.proofs.LoadedAll.{all_kept, all_loaded, loads_stopped}
+use Rattle.build_work.proofs.LoadsDone.{loads_done, loads_many, memory_alone, own_lent, own_ran, same_stakes, spools_ended, zip_long}
+use Rattle.build_work.proofs.OneWorker.{the_work}
+
+-- workers that handed their spools over have none
+pub none_with : (specs : List KeySpecValue) (workers : List WorkerValue) → All (HasHanded specs) workers → workers_spools workers ≡ []
+none_with specs [] all = refl
+none_with specs (worker ∷ workers) all =
+    rw ((All-head (HasHanded specs) worker workers all).none) (none_with specs workers (All-tail (HasHanded specs) worker workers all))
+
+-- what stands beside the table while the loads are lent, once other spools are there and the work is other
+pub others_there :
+    (was seen : BuildingValue) (w work held : WorkValue) → seen ≡ record was { spools = []; work = Some (record w { spoiled = Some Memory }) } → seen.work ≡ Some work
+    → held ≡ work → (spools : List SpoolValue) (indexes : List IndexValue) (spoiled : Option Fault)
+    → record seen { spools = spools; work = Some (record held { indexes = indexes; spoiled = spoiled }) }
+    ≡ record was { spools = spools; work = Some (record w { indexes = indexes; spoiled = spoiled }) }
+others_there was seen w work held lent runs is spools indexes spoiled =
+    let its : work ≡ record w { spoiled = Some Memory } = the_work seen.work work (record w { spoiled = Some Memory }) runs (ap (λ (b : BuildingValue). b.work) lent) in
+    rw (is, its, lent) refl
+
+-- the indexes are those that there were
+pub same_indexes : (was seen : BuildingValue) (w work held : WorkValue) → seen ≡ record was { spools = []; work = Some (record w { spoiled = Some Memory }) }
+    → seen.work ≡ Some work → held ≡ work → held.indexes ≡ w.indexes
+same_indexes was seen w work held lent runs is =
+    let its : work ≡ record w { spoiled = Some Memory } = the_work seen.work work (record w { spoiled = Some Memory }) runs (ap (λ (b : BuildingValue). b.work) lent) in
+    ap (λ (x : WorkValue). x.indexes) (is ∙ its)
+
+module _ (was now : BuildingValue) (loads : List IndexLoadValue) (back : AreBackFrom was loads now) where
+  abbrev pub w : WorkValue
+  w = back.were.work
+
+  abbrev many : ℕ
+  many = length was.workers
+
+  spools_many : length was.spools ≡ many * length w.specs
+  spools_many = (back.were.kept.columns back.were.going).many
+
+  pub own_back : All (λ load. length load.spools ≡ many) loads
+  own_back = own_ran many back.lent loads back.ran (own_lent w many was.spools spools_many back.lent back.were.each back.were.many)
+
+  loads_as_many : length loads ≡ length w.specs
+  loads_as_many = sym (zip_long HasRun back.lent loads back.ran) ∙ back.were.many
+
+  -- there are as many spools as before
+  pub same_room : many * length loads ≡ length was.spools
+  same_room = ap (λ n. many * n) loads_as_many ∙ sym spools_many
+
+  module _ (after : List IndexLoadValue) (fault : Option Fault) (spools : List SpoolValue) (home : AreHome many loads after fault spools) where
+    done : fault ≡ None → AreDone w was.spools after
+    done none = loads_done w many was.spools spools_many back.lent loads back.were.each back.were.many back.ran after fault spools home none
+
+    pub after_many : length after ≡ length w.indexes
+    after_many =
+        loads_many w many was.spools spools_many back.lent loads back.were.each back.were.many back.ran after fault spools home ∙ sym back.were.kept.many
+
+    pub spools_fit : length (all_spools was.workers spools) ≡ length was.spools
+    spools_fit =
+        ap (λ (lent : List SpoolValue). length (spools ++ lent)) (none_with w.specs was.workers (back.were.kept.handed back.were.going))
+        ∙ ap length (append-nil spools) ∙ home.many ∙ same_room
+
+    pub wants : (f : Fault) → fault ≡ Some f → f ≡ Memory
+    wants = memory_alone w many was.spools spools_many back.lent loads back.were.each back.were.many back.ran after fault spools home
+
+    pub stopped : (f : Fault) → fault ≡ Some f → LoadsStopped was f (record was { spools = spools; work = Some (record w { spoiled = fault }) })
+    stopped f is =
+        rw is (loads_stopped was was w w refl back.were.runs refl f spools
+        (same_stakes w many was.spools spools_many back.lent loads back.were.each back.were.many back.ran after fault spools home))
+
+    module _ (none : fault ≡ None) (indexes : List IndexValue) (installed : indexes ≡ map index_from after) where
+      -- the work goes on again
+      same_work : record w { indexes = indexes; spoiled = fault } ≡ record w { indexes = indexes }
+      same_work = ap (λ (o : Option Fault). record w { indexes = indexes; spoiled = o }) (none ∙ sym back.were.fine)
+
+      pub loaded : HasLoadedAll was (record was { spools = spools; work = Some (record w { indexes = indexes; spoiled = fault }) })
+      loaded =
+          subst (λ (x : WorkValue). HasLoadedAll was (record was { spools = spools; work = Some x })) (sym same_work)
+          (all_loaded was was w w refl back.were.runs refl after (done none) spools indexes
+          (spools_ended w many was.spools spools_many back.lent loads back.were.each back.were.many back.ran after fault spools home none) installed)
+
+      pub work_kept : KeepsWork was.workers was.sides spools (Some (record w { indexes = indexes; spoiled = fault }))
+      work_kept =
+          subst (λ (x : WorkValue). KeepsWork was.workers was.sides spools (Some x)) (sym same_work)
+          (subst (λ (l : List IndexValue). KeepsWork was.workers was.sides spools (Some (record w { indexes = l }))) (sym installed)
+          (all_kept was.workers was.sides was.spools w back.were.kept back.were.going back.were.none after (done none) spools (home.many ∙ same_room)))

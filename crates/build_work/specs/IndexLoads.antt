@@ -1,0 +1,133 @@
+-- Loads of a build's indexes, each by itself.
+use Rattle.std.specs.Prelude.{◌≡◌, ℕ, suc, ◌*◌, ◌<◌, Bool, List, [], ◌∷◌, length, map, true, Option, Some, None, IfSome, IsPermutation}
+use Rattle.std.specs.List.{All, AllZip, slice_get}
+use Rattle.keybytes.specs.Faults.{first_cause}
+use Rattle.keybytes.specs.Pairs.{AreOrdered}
+use Rattle.keybytes.specs.declared.fault.Fault.{Fault}
+use Rattle.keybytes.specs.declared.fault.Fault.TheVariants.{Memory}
+use Rattle.keybytes.specs.declared.pair.Pair.{Pair}
+use Rattle.run_spool.specs.Spools.{AreSorted}
+use Rattle.building.specs.SpoolValue.{SpoolValue, ended_spool, pairs_in, runs_of, stakes_of}
+use Rattle.catch_up.specs.Built.{BuiltValue}
+use Rattle.build_work.specs.BuildingValue.{BuildingValue, IndexValue, WorkValue, is_unique, with_pairs}
+use Rattle.build_work.specs.Columns.{column}
+use Rattle.build_work.specs.Keeping.{AreEachOnce, IsKept}
+
+-- the number of the build, whether the index is to be unique, the spools that hold its pairs, one of each worker, the index once its pairs are in
+-- order, and the fault of a load that was refused
+pub record IndexLoadValue : Type 0 where
+  pub build : ℕ
+  pub unique : Bool
+  pub spools : List SpoolValue
+  pub built : Option BuiltValue
+  pub fault : Option Fault
+
+-- its pairs can be put in order: each run is, and none is there twice
+pub record IsLoadable (spools : List SpoolValue) : Type 0 where
+  pub sorted : All AreSorted (runs_of spools)
+  pub once : AreEachOnce (pairs_in spools)
+
+-- the pairs of the spools are in order in an index of that build
+pub record IsLoadOf (load : IndexLoadValue) (built : BuiltValue) : Type 0 where
+  pub build : built.build ≡ load.build
+  pub unique : built.unique ≡ load.unique
+  pub moved : IsPermutation (pairs_in load.spools) built.pairs
+  pub ordered : AreOrdered built.pairs
+
+-- a load without its spools
+abbrev pub without_spools : IndexLoadValue → IndexLoadValue
+without_spools load = record load { spools = [] }
+
+-- of loads that were refused the first one's fault
+abbrev pub first_fault_of : List IndexLoadValue → Option Fault
+first_fault_of [] = None
+first_fault_of (load ∷ loads) = first_cause load.fault (first_fault_of loads)
+
+-- a load went on: one that wasn't done or refused before put the pairs in order and ended the spools, or is refused for want of memory
+pub record HasRun (old new : IndexLoadValue) : Type 0 where
+  pub stakes : stakes_of new.spools ≡ stakes_of old.spools
+  pub done : old.built ≡ None → old.fault ≡ None → new.fault ≡ None
+      → (built : BuiltValue) × (new.built ≡ Some built) × IsLoadOf old built × (new.spools ≡ map ended_spool old.spools)
+  pub memory : old.fault ≡ None → IfSome new.fault (λ fault. fault ≡ Memory)
+
+-- the load of the index of that number, before it begins
+abbrev pub load_at : WorkValue → List SpoolValue → ℕ → IndexLoadValue
+load_at work spools index = record {
+  build = work.build;
+  unique = is_unique (slice_get work.specs index);
+  spools = column index (length work.specs) spools;
+  built = None;
+  fault = None;
+}
+
+-- the load of the index of that number is done, and has its index
+pub record IsDoneAt (work : WorkValue) (spools : List SpoolValue) (index : ℕ) (load : IndexLoadValue) : Type 0 where
+  pub built : BuiltValue
+  pub there : load.built ≡ Some built
+  pub its : IsLoadOf (load_at work spools index) built
+
+-- so are those of all indexes of the work
+pub record AreDone (work : WorkValue) (spools : List SpoolValue) (loads : List IndexLoadValue) : Type 0 where
+  pub many : length loads ≡ length work.specs
+  pub each : (index : ℕ) (load : IndexLoadValue) → slice_get loads index ≡ Some load → IsDoneAt work spools index load
+
+-- loads gave their spools back, worker by worker; the fault of the first that was refused is told
+pub record AreHome (workers : ℕ) (loads new : List IndexLoadValue) (fault : Option Fault) (spools : List SpoolValue) : Type 0 where
+  pub left : new ≡ map without_spools loads
+  pub first : fault ≡ first_fault_of loads
+  pub back : (index : ℕ) (load : IndexLoadValue) → slice_get loads index ≡ Some load → column index (length loads) spools ≡ load.spools
+  pub many : length spools ≡ workers * length loads
+
+-- the index of a load to which no entry was applied
+abbrev pub index_from : IndexLoadValue → IndexValue
+index_from load = record { built = load.built; applied = 0 }
+
+-- all indexes of a build can be loaded: it goes on, the spools were handed over, and none is loaded
+pub record CanLoadAll (building : BuildingValue) : Type 0 where
+  pub work : WorkValue
+  pub runs : building.work ≡ Some work
+  pub fine : work.spoiled ≡ None
+  pub loads : work.handed ≡ true
+  pub none : All (λ index. index.built ≡ None) work.indexes
+
+-- the loads of all indexes are lent, with all spools; until they are back the work is spoiled
+pub record AreLent (old : BuildingValue) (loads : List IndexLoadValue) (new : BuildingValue) : Type 0 where
+  pub work : WorkValue
+  pub runs : old.work ≡ Some work
+  pub fine : work.spoiled ≡ None
+  pub going : work.handed ≡ true
+  pub none : All (λ index. index.built ≡ None) work.indexes
+  pub kept : IsKept old.workers old.sides old.spools work
+  pub many : length loads ≡ length work.specs
+  pub each : (index : ℕ) → index < length work.specs → slice_get loads index ≡ Some (load_at work old.spools index)
+  pub left : new ≡ record old { spools = []; work = Some (record work { spoiled = Some Memory }) }
+
+-- those that were lent went on and are back, in their order
+pub record AreBackFrom (old : BuildingValue) (loads : List IndexLoadValue) (now : BuildingValue) : Type 0 where
+  pub lent : List IndexLoadValue
+  pub were : AreLent old lent now
+  pub ran : AllZip HasRun lent loads
+
+-- from an index on, the indexes of the work with these pairs in order
+abbrev pub loaded_from : WorkValue → ℕ → List (List Pair) → List IndexValue
+loaded_from work index [] = []
+loaded_from work index (pairs ∷ rest) = record { built = Some (with_pairs work index pairs); applied = 0 } ∷ loaded_from work (suc index) rest
+
+-- the pairs of all indexes are put in order, and all spools ended
+pub record HasLoadedAll (old new : BuildingValue) : Type 0 where
+  pub work : WorkValue
+  pub runs : old.work ≡ Some work
+  pub pairs : List (List Pair)
+  pub many : length pairs ≡ length work.specs
+  pub moved : (index : ℕ) (own : List Pair) → slice_get pairs index ≡ Some own
+      → IsPermutation (pairs_in (column index (length work.specs) old.spools)) own
+  pub ordered : All AreOrdered pairs
+  pub left : new ≡ record old { spools = map ended_spool old.spools; work = Some (record work { indexes = loaded_from work 0 pairs }) }
+
+-- a load was refused: the work is spoiled, the spools may be other but for their stakes, and nothing else changed
+pub record LoadsStopped (old : BuildingValue) (fault : Fault) (new : BuildingValue) : Type 0 where
+  pub work : WorkValue
+  pub runs : old.work ≡ Some work
+  pub spools : List SpoolValue
+  pub stakes : stakes_of spools ≡ stakes_of old.spools
+  pub left : new ≡ record old { spools = spools; work = Some (record work { spoiled = Some fault }) }
