@@ -5,6 +5,7 @@ pub mod Beginning
 pub mod BroughtHome
 pub mod Columns
 pub mod ColumnsApart
+pub mod Crosses
 pub mod Equipping
 pub mod HandedKept
 pub mod Kept

@@ -1,4 +1,5 @@
-ghost use Rattle.std.specs.Prelude.{◌≡◌, All, None, map};
+ghost use Rattle.std.specs.Prelude.{◌≡◌, All, None, length, map};
+ghost use Rattle.std.specs.Option.{option_map};
 ghost use Rattle.run_spool.specs.Spools.{AreSorted, all_pairs};
 ghost use Rattle.run_merge.specs.Merging.{all_runs};
 ghost use Rattle.building.specs.SpoolValue.{spool_value, stakes_of};
@@ -92,6 +93,16 @@ impl<S: Spool> IndexLoad<S> {
         match built {
             Ok(built) => self.built = Some(built),
             Err(fault) => self.fault = Some(fault),
+        }
+    }
+
+    /// How many pairs are in order; none where it didn't run yet, and where it was refused.
+    pub fn pairs(&self) -> Option<usize>
+        ensures { result ≡ option_map (λ built. length built.pairs) self.now.built }
+    {
+        match &self.built {
+            Some(built) => Some(built.tree().len()),
+            None => None,
         }
     }
 
