@@ -3,24 +3,27 @@ use denote.RattleType.{RattleType}
 use denote.Ref.{NamedLft}
 use mathlib.Core.List.{List, [], ◌∷◌}
 use mir.Syntax.{Sym}
-use denote.Param.Send.{AllSend, IsSend, IsSync, sendable}
+use denote.Param.Send.{AllSend, IsSend, IsSync, sendable, view_send}
 use denote.Param.SendFields.{FieldsHave, as_row_send, declared_send}
 use denote.Struct.Field.{row_field}
 use denote.Struct.Tuple.{TupleAt, parts, type_at}
 use Rattle.std.proofs.Crossing.{crosses}
 use Rattle.known_log.proofs.known.Known.TheSendSync as known
 use Rattle.known_log.proofs.keeper.Keeper.TheSendSync as keeper
+use Rattle.crew.proofs.progress.Progress.TheSendSync as progress
 use Rattle.known_log.specs.declared.named.Named as named
 use Rattle.building.specs.declared.table.Table as table
 use Rattle.live_table.proofs.Crosses.{live_send}
 use Rattle.crew.specs.declared.opened.Opened as opened
 use Rattle.crew.specs.contracts.locked.Locked as Locked
+use Rattle.crew.specs.contracts.locked.Locked.TheInside as Inside
 use Rattle.crew.specs.contracts.table.Table as Table
 use Rattle.crew.specs.contracts.session.Session as Session
 
 module _ (T : RattleType) (o : opened.Ghosts T.Denot) (n : named.Ghosts T.Denot) (t : table.Ghosts T.Denot) where
   locked_send : IsSend (Locked.the_row T o n t)
-  locked_send = search (live_send, keeper.the_send, sendable) depth 20
+  locked_send = view_send (Inside.the_row T o n t) _ _ _ _ (declared_send (Inside.the_type T o n t)
+      (search (live_send, sendable) depth 20, (search (keeper.the_send, sendable) depth 20, (search (progress.the_send, sendable) depth 20, tt))))
 
   pub table_sync : IsSync (Table.the_row T o n t)
   table_sync = search (locked_send, sendable, crosses) depth 20

@@ -1,5 +1,5 @@
 -- Workers that come back from their threads are in their build again.
-use Rattle.std.proofs.Common.{◌≡◌, ℕ, List, [], ◌∷◌, Some, None, refl, sym, ap, subst, ◌∙◌}
+use Rattle.std.proofs.Common.{◌≡◌, false, List, [], ◌∷◌, Some, None, refl, sym, ap, subst, ◌∙◌}
 use Rattle.std.specs.Prelude.{IfSome, Option}
 use Rattle.std.specs.List.{All}
 use Rattle.std.proofs.lemmas.List.Elements.{All-head, All-tail}
@@ -12,7 +12,7 @@ use Rattle.build_work.proofs.OneWorker.{the_work}
 use Rattle.build_work.specs.BuildingValue.{BuildingValue, WorkValue}
 use Rattle.build_work.specs.Holding.{all_spools}
 use Rattle.build_work.specs.Lent.{lowest_fault}
-use Rattle.crew.specs.Seats.{GoesOnWith, seats_of, stakes_beside}
+use Rattle.crew.specs.Seats.{GoesOnWith, StillScans, seats_of, stakes_beside}
 use Rattle.crew.proofs.Seats.{same_stakes}
 use Rattle.crew.proofs.Steps.{goes_with}
 
@@ -44,3 +44,7 @@ module _
       let its : w ≡ on.work = the_work building.work w on.work runs on.runs in
       goes_with 0 specs building new on (record w { spoiled = lowest_fault back }) (ap (λ (b : BuildingValue). b.work) left) (ap (λ (x : WorkValue). x.specs) its)
       (ap (λ (x : WorkValue). x.indexes) its) (none_stopped back fine ∙ sym on.fine)
+
+  -- its workers have their spools still
+  pub gathered_scans : w.handed ≡ false → StillScans new
+  gathered_scans scans = subst (λ (o : Option WorkValue). IfSome o (λ x. x.handed ≡ false)) (sym (ap (λ (b : BuildingValue). b.work) left)) scans

@@ -1,23 +1,24 @@
 -- What loads and entries that are applied leave of a build that goes on.
-use Rattle.std.proofs.Common.{◌≡◌, ℕ, ◌+◌, ◌<◌, ◌≤◌, true, List, ◌++◌, length, map, set, Option, Some, None, refl, sym, ap, ap₂, subst, ◌∙◌, inl, inr, arith, length-set}
-use Rattle.std.specs.Prelude.{◌⊎◌, IfSome, OnErr, is_some}
+use Rattle.std.proofs.Common.{◌≡◌, ℕ, zero, suc, ◌+◌, ◌<◌, true, false, List, [], ◌∷◌, ◌++◌, All, length, map, Option, Some, None, refl, sym, ap, ap₂, subst, ◌∙◌, inl, inr, length-set}
+use Rattle.std.specs.Prelude.{IfSome, is_some}
 use Rattle.std.specs.List.{slice_get}
-use Rattle.std.proofs.lemmas.Bool.{cases_lt}
 use Rattle.std.proofs.lemmas.List.{map-append}
 use Rattle.std.proofs.lemmas.Option.{same_Some}
 use Rattle.keybytes.specs.Keys.{KeySpecValue}
 use Rattle.keybytes.specs.declared.fault.Fault.{Fault}
 use Rattle.keybytes.specs.declared.pair.Pair.{Pair}
-use Rattle.catch_up.specs.Built.{BuiltValue}
 use Rattle.building.specs.SpoolValue.{SpoolValue, ended_spool, stakes_of}
 use Rattle.building.specs.WorkerValue.{WorkerValue}
 use Rattle.build_scan.proofs.Places.{at_set}
-use Rattle.build_work.proofs.Columns.{kept_changed}
 use Rattle.build_work.proofs.OneWorker.{the_work}
 use Rattle.build_work.specs.BuildingValue.{BuildingValue, IndexValue, WorkValue, with_index}
-use Rattle.build_work.specs.Holding.{ended_column, workers_spools}
-use Rattle.build_work.specs.Working.{CanLoad, HasApplied, HasLoaded, HasSeenEntries, LoadStopped}
-use Rattle.crew.specs.Seats.{CanLoadEach, GoesOnWith, stakes_beside}
+use Rattle.build_work.specs.Holding.{workers_spools}
+use Rattle.build_work.specs.IndexLoads.{CanLoadAll, HasLoadedAll, LoadsStopped, loaded_from}
+use Rattle.build_work.specs.Keeping.{KeepsWork}
+use Rattle.build_work.specs.Working.{HasApplied, HasSeenEntries}
+use Rattle.build_halves.specs.Builds.{LiveValue}
+use Rattle.build_halves.specs.Switching.{HandsOver}
+use Rattle.crew.specs.Seats.{GoesOnWith, stakes_beside}
 use Rattle.crew.proofs.Steps.{goes_same}
 
 -- the same workers, and spools of the same stakes
@@ -45,85 +46,66 @@ set_goes count more specs building new on index applied pairs its same runs othe
   ];
 }
 
--- the same with the next one
-same_goes :
-    (count more : ℕ) (specs : List KeySpecValue) (building : BuildingValue) (on : GoesOnWith count specs building)
-    → ((k : ℕ) (index : IndexValue) → k < more → slice_get on.work.indexes k ≡ Some index → is_some index.built ≡ true) → GoesOnWith more specs building
-same_goes count more specs building on loaded = record {
-  work = on.work;
-  runs = on.runs;
-  specs_are = on.specs_are;
-  few = on.few;
-  many = on.many;
-  fine = on.fine;
-  loaded = loaded;
-}
+-- The loads.
 
--- each index can be loaded where the workers handed their spools over
-each_loads : (building : BuildingValue) (w : WorkValue) → building.work ≡ Some w → w.spoiled ≡ None → w.handed ≡ true → CanLoadEach building
-each_loads building w runs fine loads = λ index there. record {
-  work = w;
-  runs = runs;
-  there = subst (λ (o : Option WorkValue). IfSome o (λ x. index < length x.specs)) runs there;
-  fine = fine;
-  loads = loads;
-}
+-- each of the indexes has its pairs in order
+built_from :
+    (work : WorkValue) (k : ℕ) (pairs : List (List Pair)) (i : ℕ) (index : IndexValue) → slice_get (loaded_from work k pairs) i ≡ Some index → is_some index.built ≡ true
+built_from work k [] i index at = absurd (cc)
+built_from work k (own ∷ rest) zero index at = ap (λ (it : IndexValue). is_some it.built) (sym (same_Some _ index at))
+built_from work k (own ∷ rest) (suc i) index at = built_from work (suc k) rest i index at
 
--- an index of the build can
-pub can_load :
-    (count : ℕ) (specs : List KeySpecValue) (building : BuildingValue) → GoesOnWith count specs building → CanLoadEach building → (index : ℕ) → index < length specs
-    → CanLoad index building
-can_load count specs building on each index less =
-    each index (subst (λ (o : Option WorkValue). IfSome o (λ x. index < length x.specs)) (sym on.runs) (subst (λ (l : List KeySpecValue). index < length l) (sym on.specs_are) less))
+as_many_from : (work : WorkValue) (k : ℕ) (pairs : List (List Pair)) → length (loaded_from work k pairs) ≡ length pairs
+as_many_from work k [] = refl
+as_many_from work k (own ∷ rest) = ap suc (as_many_from work (suc k) rest)
 
-module _ (index : ℕ) (old : BuildingValue) (pairs : ℕ) (new : BuildingValue) (does : HasLoaded index old pairs new) where
-  by_built : {P : Type 0} → (is_some does.it.built ≡ true → new ≡ old → P) → (does.it.built ≡ None → P) → P
-  by_built {P} again first = cases does.it.built refl where
-    cases : (o : Option BuiltValue) → does.it.built ≡ o → P
-    cases None is = first is
-    cases (Some built) is = let there : is_some does.it.built ≡ true = ap is_some is in again there (does.again there).1
+ended_stakes : (spools : List SpoolValue) → stakes_of (map ended_spool spools) ≡ stakes_of spools
+ended_stakes [] = refl
+ended_stakes (spool ∷ spools) = ap (λ l. spool.stake ∷ l) (ended_stakes spools)
 
-  pub loaded_stakes : stakes_beside new ≡ stakes_beside old
-  loaded_stakes = by_built {P = stakes_beside new ≡ stakes_beside old} (λ there same. ap stakes_beside same) (λ none.
-      let left = (does.first none).left in
-      beside_same old new (ap (λ (b : BuildingValue). b.workers) left)
-      (ap (λ (b : BuildingValue). stakes_of b.spools) left
-      ∙ kept_changed ended_spool (λ (s : SpoolValue). s.stake) (λ s. refl) _ index old.spools))
+module _ (old new : BuildingValue) (does : HasLoadedAll old new) where
+  pub all_stakes : stakes_beside new ≡ stakes_beside old
+  all_stakes =
+      beside_same old new (ap (λ (b : BuildingValue). b.workers) does.left)
+      (ap (λ (b : BuildingValue). stakes_of b.spools) does.left ∙ ended_stakes old.spools)
 
-  pub loaded_goes_on : (specs : List KeySpecValue) → GoesOnWith index specs old → GoesOnWith (index + 1) specs new
-  loaded_goes_on specs on =
+  pub all_goes_on : (specs : List KeySpecValue) → GoesOnWith 0 specs old → GoesOnWith (length specs) specs new
+  all_goes_on specs on =
       let its : does.work ≡ on.work = the_work old.work does.work on.work does.runs on.runs in
-      by_built {P = GoesOnWith (index + 1) specs new} (λ there same.
-      let here : slice_get on.work.indexes index ≡ Some does.it = ap (λ (w : WorkValue). slice_get w.indexes index) (sym its) ∙ does.there in
-      subst (GoesOnWith (index + 1) specs) (sym same)
-      (same_goes index (index + 1) specs old on (λ k it less at. elim (below_or_at k index less) [
-        | inl lower ↦ on.loaded k it lower at
-        | inr this ↦
-            let one : does.it ≡ it = same_Some does.it it (sym here ∙ ap (slice_get on.work.indexes) (sym this) ∙ at) in
-            ap (λ (i : IndexValue). is_some i.built) (sym one) ∙ there
-      ])))
-      (λ none. set_goes index (index + 1) specs old new on index 0 (does.first none).pairs does.work its (ap (λ (b : BuildingValue). b.work) (does.first none).left)
-      (λ k less other. elim (below_or_at k index less) [
-        | inl lower ↦ lower
-        | inr this ↦ absurd (other this)
-      ]))
-    where
-      below_or_at : (k n : ℕ) → k < n + 1 → (k < n) ⊎ (k ≡ n)
-      below_or_at k n less = elim (cases_lt k n) [
-        | inl lower ↦ inl lower
-        | inr upper ↦ inr (omega (arith, less, upper))
-      ]
+      let same : does.work.specs ≡ specs = ap (λ (w : WorkValue). w.specs) its ∙ on.specs_are in
+      record {
+        work = record does.work { indexes = loaded_from does.work 0 does.pairs };
+        runs = ap (λ (b : BuildingValue). b.work) does.left;
+        specs_are = same;
+        few = on.few;
+        many = as_many_from does.work 0 does.pairs ∙ does.many ∙ ap length same;
+        fine = ap (λ (w : WorkValue). w.spoiled) its ∙ on.fine;
+        loaded = λ k index less at. built_from does.work 0 does.pairs k index at;
+      }
 
-  pub loaded_loads : CanLoad index old → CanLoadEach new
-  loaded_loads can =
-      let its : does.work ≡ can.work = the_work old.work does.work can.work does.runs can.runs in
-      by_built {P = CanLoadEach new}
-      (λ there same. subst CanLoadEach (sym same) (each_loads old can.work can.runs can.fine can.loads))
-      (λ none. each_loads new _ (ap (λ (b : BuildingValue). b.work) (does.first none).left) (ap (λ (w : WorkValue). w.spoiled) its ∙ can.fine) (ap (λ (w : WorkValue). w.handed) its ∙ can.loads))
-
-pub stopped_stakes : (index : ℕ) (old : BuildingValue) (fault : Fault) (new : BuildingValue) → LoadStopped index old fault new → stakes_beside new ≡ stakes_beside old
-stopped_stakes index old fault new stopped =
+pub stopped_stakes : (old : BuildingValue) (fault : Fault) (new : BuildingValue) → LoadsStopped old fault new → stakes_beside new ≡ stakes_beside old
+stopped_stakes old fault new stopped =
     beside_same old new (ap (λ (b : BuildingValue). b.workers) stopped.left) (ap (λ (b : BuildingValue). stakes_of b.spools) stopped.left ∙ stopped.stakes)
+
+-- the indexes of a build that goes on can be loaded once its workers handed their spools over
+pub all_load :
+    (live new_live : LiveValue) (building new : BuildingValue) → KeepsWork building.workers building.sides building.spools building.work
+    → IfSome building.work (λ w. w.handed ≡ false → HandsOver live building new_live new)
+    → (specs : List KeySpecValue) → GoesOnWith 0 specs building → IfSome building.work (λ w. w.handed ≡ false) → CanLoadAll new
+all_load live new_live building new keeps over specs on scans =
+    let P : Option WorkValue → Type 0 = λ o. KeepsWork building.workers building.sides building.spools o in
+    let kept = subst P on.runs keeps on.fine in
+    let lent : on.work.handed ≡ false = subst (λ (o : Option WorkValue). IfSome o (λ w. w.handed ≡ false)) on.runs scans in
+    let hands = subst (λ (o : Option WorkValue). IfSome o (λ w. w.handed ≡ false → HandsOver live building new_live new)) on.runs over lent in
+    let its : hands.handed.work ≡ on.work =
+    the_work building.work hands.handed.work on.work (sym (ap (λ (b : BuildingValue). b.work) hands.looked.rest) ∙ hands.handed.runs) on.runs in
+    record {
+      work = record hands.handed.work { handed = true };
+      runs = ap (λ (b : BuildingValue). b.work) hands.handed.left;
+      fine = ap (λ (w : WorkValue). w.spoiled) its ∙ on.fine;
+      loads = refl;
+      none = subst (λ (w : WorkValue). All (λ index. index.built ≡ None) w.indexes) (sym its) (kept.unloaded lent);
+    }
 
 -- Entries.
 

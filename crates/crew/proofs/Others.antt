@@ -1,9 +1,9 @@
 -- Why a step of a build is refused, as far as a start's and a switch's own faults matter.
-use Rattle.std.proofs.Common.{◌≡◌, ◌≢◌, ℕ, Bool, true, false, cond, List, length, Option, Some, None, refl, sym, ap, subst, ◌∙◌, inl, inr}
-use Rattle.std.specs.Prelude.{◌⊎◌, ◌&&◌, nat_lt, nat_le, not, is_none, is_some}
-use Rattle.std.specs.List.{list_all, list_any, slice_get}
+use Rattle.std.proofs.Common.{◌≡◌, ◌≢◌, ℕ, Bool, true, false, cond, List, length, Option, Some, None, refl, sym, subst, ◌∙◌, inl, inr}
+use Rattle.std.specs.Prelude.{◌&&◌, nat_lt, nat_le, not, is_none, is_some}
+use Rattle.std.specs.List.{list_all, list_any}
 use Rattle.std.specs.Option.{option_map}
-use Rattle.std.proofs.lemmas.Bool.{cases_Bool, cond-true, cond-false, and_parts}
+use Rattle.std.proofs.lemmas.Bool.{cases_Bool, and_parts}
 use Rattle.std.proofs.lemmas.Option.{same_Some}
 use Rattle.keybytes.specs.Faults.{first_cause}
 use Rattle.keybytes.specs.Keys.{KeySpecValue}
@@ -11,7 +11,7 @@ use Rattle.keybytes.specs.declared.fault.Fault.{Fault}
 use Rattle.keybytes.specs.declared.fault.Fault.TheVariants.{BadColumn, BadCount, BadRanges, Behind, BuildRunning, Busy, Memory, NoBuild, NoPage, NotLoaded, NotScanned, NotSealed, RangeDone, RingFull, SpoolNotEmpty}
 use Rattle.keybytes.specs.Schemas.{same_kinds}
 use Rattle.heap_table.specs.Pages.{pages_written}
-use Rattle.scan_range.specs.Cuts.{are_cuts, even_refusal, ranges_most}
+use Rattle.scan_range.specs.Cuts.{are_cuts, ranges_most}
 use Rattle.scan_range.specs.Dealings.{dealing_refusal}
 use Rattle.scan_range.specs.declared.dealing.Dealing.{Dealing}
 use Rattle.scan_range.specs.declared.dealing.Dealing.TheVariants.{Ends, Even}
@@ -20,7 +20,7 @@ use Rattle.build_events.specs.BuildSteps.{behind_refusal, build_cause, busy_refu
 use Rattle.build_events.specs.CoreState.{BuildState, LiveState, SpoolsState}
 use Rattle.build_events.specs.Ranges.{next_page}
 use Rattle.build_events.specs.declared.plan.Plan.{Plan}
-use Rattle.crew.specs.Reports.{EndsFor, HasUnique, IsOther}
+use Rattle.crew.specs.Reports.{EndsFor, IsOther}
 
 pub other_memory : IsOther Memory
 other_memory = record { not_full = λ e. cc; not_busy = λ n e. cc }

@@ -1,6 +1,6 @@
 -- What is told of a switch is right for the log that ends with it.
-use Rattle.std.proofs.Common.{◌≡◌, ℕ, Bool, cond, List, [], ◌∷◌, ◌++◌, length, map, drop, refl, sym, ap, ap₂, ◌∙◌}
-use Rattle.std.specs.Prelude.{if◌then◌else◌}
+use Rattle.std.proofs.Common.{◌≡◌, Bool, cond, List, [], ◌∷◌, ◌++◌, length, map, drop, Option, Some, None, refl, sym, ap, ap₂, subst, ◌∙◌}
+use Rattle.std.specs.Prelude.{IfSome, if◌then◌else◌}
 use Rattle.std.proofs.Math.Seq.{drop-append_seam}
 use Rattle.keybytes.specs.Keys.{KeySpecValue}
 use Rattle.keybytes.specs.declared.pair.Pair.{Pair}
@@ -13,7 +13,9 @@ use Rattle.heap_table.specs.TablePairs.{pairs_at_rest}
 use Rattle.unique_verdict.specs.Shared.{shared_pairs}
 use Rattle.unique_verdict.specs.Verdicts.{accepts, first_shared}
 use Rattle.unique_verdict.specs.declared.verdict.Verdict.TheVariants.{Unique}
-use Rattle.build_events.specs.Verdicts.{accepted, outcomes, verdict_on}
+use Rattle.build_events.proofs.SharedKeys.{shared_keys}
+use Rattle.build_events.specs.BuildSteps.{AreKeyed}
+use Rattle.build_events.specs.Verdicts.{HaveSharedKeys, accepted, outcomes, verdict_on}
 use Rattle.ready_indexes.specs.Indexes.{ReadyValue, index_now}
 use Rattle.crew.specs.Reports.{ArePairsAtRest, IsReport}
 
@@ -42,11 +44,8 @@ module _ (log : List LogRec) (said : List Outcome) where
   same_accepted (spec ∷ specs) =
       ap₂ (λ (b : Bool) (rest : List KeySpecValue). cond b (spec ∷ rest) rest) (ap accepts (same_verdict spec)) (same_accepted specs)
 
-  pub is_report : (ready : ℕ) (specs : List KeySpecValue) → said ≡ outcomes ready (map (verdict_on log) specs) → IsReport specs after said
-  is_report ready specs is = record { switched = (log, refl); ready = ready; right = is ∙ ap (outcomes ready) (sym (same_verdicts specs)) }
-
   -- the indexes that it made ready have the pairs at rest
-  pub at_rest_are :
+  at_rest_are :
       (ready all : List ReadyValue) (specs : List KeySpecValue) → all ≡ ready ++ map (index_now log) (accepted log specs)
       → ArePairsAtRest specs after (map (λ (it : ReadyValue). it.pairs) (drop (length ready) all))
   at_rest_are ready all specs are =
@@ -54,3 +53,23 @@ module _ (log : List LogRec) (said : List Outcome) where
       ∙ ap (map (λ (it : ReadyValue). it.pairs)) (drop-append_seam ready (map (index_now log) (accepted log specs)))
       ∙ mapped (index_now log) (λ (it : ReadyValue). it.pairs) (λ (spec : KeySpecValue). pairs_at_rest spec after) (λ spec. sym (same_pairs spec)) (accepted log specs)
       ∙ ap (map (λ (spec : KeySpecValue). pairs_at_rest spec after)) (sym (same_accepted specs))
+
+  -- so have copies of them, where there are any
+  copies_are :
+      (ready all : List ReadyValue) (specs : List KeySpecValue) → all ≡ ready ++ map (index_now log) (accepted log specs)
+      → (pairs : Option (List (List Pair))) → IfSome pairs (λ lists. lists ≡ map (λ (it : ReadyValue). it.pairs) (drop (length ready) all))
+      → IfSome pairs (ArePairsAtRest specs after)
+  copies_are ready all specs are None copies = tt
+  copies_are ready all specs are (Some lists) copies = copies ∙ at_rest_are ready all specs are
+
+  pub is_report :
+      (ready all : List ReadyValue) (specs : List KeySpecValue) (pairs : Option (List (List Pair)))
+      → said ≡ outcomes (length ready) (map (verdict_on log) specs) → AreKeyed log specs → all ≡ ready ++ map (index_now log) (accepted log specs)
+      → IfSome pairs (λ lists. lists ≡ map (λ (it : ReadyValue). it.pairs) (drop (length ready) all)) → IsReport specs after said pairs
+  is_report ready all specs pairs is keyed are copies = record {
+    switched = (log, refl);
+    ready = length ready;
+    right = is ∙ ap (outcomes (length ready)) (sym (same_verdicts specs));
+    keyed = subst (HaveSharedKeys specs) (sym is) (shared_keys log (length ready) specs keyed);
+    at_rest = copies_are ready all specs are pairs copies;
+  }

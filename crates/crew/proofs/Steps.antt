@@ -1,6 +1,6 @@
 -- What the steps of a build under the lock leave.
-use Rattle.std.proofs.Common.{◌≡◌, ◌≢◌, ℕ, ◌+◌, ◌<◌, ◌≤◌, Bool, true, false, cond, List, [], ◌∷◌, ◌++◌, length, map, Option, Some, None, refl, sym, ap, ap₂, subst, ◌∙◌, inl, inr, arith}
-use Rattle.std.specs.Prelude.{◌⊎◌, IfSome, is_some, not}
+use Rattle.std.proofs.Common.{◌≡◌, ◌≢◌, ℕ, ◌+◌, ◌≤◌, Bool, true, false, cond, List, [], ◌∷◌, ◌++◌, length, map, Option, Some, None, refl, sym, ap, ap₂, subst, ◌∙◌, inl, inr, arith}
+use Rattle.std.specs.Prelude.{IfSome, is_some, not}
 use Rattle.std.specs.List.{list_all, slice_get}
 use Rattle.std.specs.Option.{option_map}
 use Rattle.std.proofs.lemmas.Bool.{cases_Bool}
@@ -15,28 +15,26 @@ use Rattle.heap_log.specs.declared.outcome.Outcome.{Outcome}
 use Rattle.heap_log.specs.declared.record.LogRec.{LogRec}
 use Rattle.heap_log.specs.declared.record.LogRec.TheVariants.{Switch as Noted}
 use Rattle.heap_table.specs.HeapState.{HeapState, busy_txns}
-use Rattle.build_events.specs.BuildSteps.{CatchesUp, OnBuild, Starts, Switches, behind_refusal, build_cause, busy_refusal, cause_if, counts_fit, start_refusal, started, switch_refusal}
+use Rattle.build_events.specs.BuildSteps.{AreKeyed, OnBuild, Starts, Switches, behind_refusal, build_cause, busy_refusal, cause_if, counts_fit, start_refusal, started, switch_refusal}
 use Rattle.build_events.specs.CoreState.{BuildState, CoreState, IndexState, LiveState, WorkState}
 use Rattle.build_events.specs.Ranges.{open_range}
-use Rattle.build_events.specs.Steps.{IsRefused, refusal}
 use Rattle.build_events.specs.Verdicts.{accepted, outcomes, verdict_on}
 use Rattle.build_events.specs.Workers.{all_unapplied, unloaded_index}
-use Rattle.build_events.specs.declared.event.Event.TheVariants.{Switch}
 use Rattle.build_events.specs.declared.plan.Plan.{Plan}
-use Rattle.build_scan.proofs.Places.{map_at, same_at}
+use Rattle.build_scan.proofs.Places.{same_at}
 use Rattle.build_halves.proofs.Starts.{has_counts}
 use Rattle.build_halves.specs.Builds.{LiveValue, StandsBeside, core_state}
-use Rattle.build_halves.specs.Switching.{HandsOver, IsOnlyLookedAt, IsPartOf, IsSwitchRefused, KeepsOut, RefusesSwitch, early_cause}
+use Rattle.build_halves.specs.Switching.{HandsOver, IsOnlyLookedAt, IsPartOf, KeepsOut, RefusesSwitch}
 use Rattle.building.specs.SpoolValue.{SpoolValue, stakes_of}
 use Rattle.build_work.proofs.Looked.{lent_looked}
 use Rattle.build_work.proofs.OneWorker.{the_work}
 use Rattle.build_work.specs.BuildingValue.{BuildingValue, IndexValue, WorkValue, index_state, state_unless, work_state}
 use Rattle.build_work.specs.Lent.{CanLend}
 use Rattle.build_work.specs.WorkOn.{WorkMatches, IsWorkOfBuild}
-use Rattle.ready_indexes.specs.Indexes.{ReadyValue, index_now}
+use Rattle.ready_indexes.specs.Indexes.{index_now}
 use Rattle.crew.specs.Reports.{EndsFor, IsOther}
 use Rattle.crew.specs.Seats.{GoesOnWith, stakes_beside}
-use Rattle.crew.proofs.Others.{Holds, ends_all, ends_behind, ends_busy, ends_other, holds_build, holds_first, holds_map, holds_none, other_early, other_memory, other_no_build, other_not_loaded, other_not_scanned, other_not_sealed}
+use Rattle.crew.proofs.Others.{Holds, ends_all, ends_behind, ends_busy, ends_other, holds_build, holds_first, holds_map, holds_none, other_memory, other_no_build, other_not_loaded, other_not_scanned, other_not_sealed}
 
 -- what holds of the build that runs, and which that is
 pub on_build : (o : Option BuildState) (P : BuildState → Type 0) → OnBuild o P → (b : BuildState) × P b × (o ≡ Some b)
@@ -170,6 +168,7 @@ pub record HasSwitched (specs : List KeySpecValue) (old new : LiveState) (number
   pub numbered : number ≡ length old.heap.log + 1
   pub logged : new.heap.log ≡ old.heap.log ++ Noted verdicts ∷ []
   pub right : verdicts ≡ outcomes (length old.ready) (map (verdict_on old.heap.log) specs)
+  pub keyed : AreKeyed old.heap.log specs
   pub ready : new.ready ≡ old.ready ++ map (index_now old.heap.log) (accepted old.heap.log specs)
 
 pub has_switched :
@@ -187,6 +186,7 @@ has_switched live new_live building new w told runs part does =
       numbered = on.1.0;
       logged = ap (λ (l : LiveState). l.heap.log) left ∙ ap (λ (vs : List Outcome). log ++ Noted vs ∷ []) (sym on.1.1);
       right = on.1.1 ∙ ap (λ (xs : List KeySpecValue). outcomes (length live.state.ready) (map (verdict_on log) xs)) specs;
+      keyed = subst (AreKeyed log) specs on.1.3;
       ready = ap (λ (l : LiveState). l.ready) left ∙ ap (λ (xs : List KeySpecValue). live.state.ready ++ map (index_now log) (accepted log xs)) specs;
     }
 

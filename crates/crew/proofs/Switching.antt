@@ -11,8 +11,8 @@ use Rattle.build_halves.specs.Builds.{LiveValue, core_state}
 use Rattle.build_halves.specs.Switching.{IsPartOf, RefusesSwitch}
 use Rattle.build_work.specs.BuildingValue.{BuildingValue, WorkValue}
 use Rattle.ready_indexes.specs.Indexes.{ReadyValue}
-use Rattle.crew.specs.Reports.{ArePairsAtRest, EndsFor, IsReport}
-use Rattle.crew.proofs.Reported.{at_rest_are, is_report}
+use Rattle.crew.specs.Reports.{EndsFor, IsReport}
+use Rattle.crew.proofs.Reported.{is_report}
 use Rattle.crew.proofs.Steps.{has_switched, switch_ends}
 
 -- what is so of work that there is
@@ -28,22 +28,15 @@ module _
   receipt_is =
       told ∙ ap (λ (log : List LogRec). log ++ rec ∷ []) knows ∙ ap (λ (r : LogRec). live.state.heap.log ++ r ∷ []) its
 
-  pub switched_report : IfSome building.work (λ w. IsReport w.specs receipt verdicts)
-  switched_report = of_work building.work (λ w. IsReport w.specs receipt verdicts) (λ w runs.
+  pub switched_report :
+      (first : ℕ) (pairs : Option (List (List Pair))) → first ≡ length live.state.ready
+      → IfSome pairs (λ lists. lists ≡ map (λ (it : ReadyValue). it.pairs) (drop first new_live.state.ready))
+      → IfSome building.work (λ w. IsReport w.specs receipt verdicts pairs)
+  switched_report first pairs from copies = of_work building.work (λ w. IsReport w.specs receipt verdicts pairs) (λ w runs.
       let switched = has_switched live new_live building new w (number, verdicts) runs part does in
-      subst (λ (log : List LogRec). IsReport w.specs log verdicts) (sym receipt_is)
-      (is_report live.state.heap.log verdicts (length live.state.ready) w.specs switched.right))
-
-  pub switched_pairs :
-      {X : Type 0} (lists : X → List (List Pair)) (first : ℕ) (pairs : Option X) → first ≡ length live.state.ready
-      → IfSome pairs (λ them. lists them ≡ map (λ (it : ReadyValue). it.pairs) (drop first new_live.state.ready))
-      → IfSome building.work (λ w. IfSome pairs (λ them. ArePairsAtRest w.specs receipt (lists them)))
-  switched_pairs {X} lists first None from copies = of_work building.work _ (λ w runs. tt)
-  switched_pairs {X} lists first (Some them) from copies = of_work building.work (λ w. ArePairsAtRest w.specs receipt (lists them)) (λ w runs.
-      let switched = has_switched live new_live building new w (number, verdicts) runs part does in
-      copies ∙ ap (λ n. map (λ (it : ReadyValue). it.pairs) (drop n new_live.state.ready)) from
-      ∙ subst (λ (log : List LogRec). ArePairsAtRest w.specs log (map (λ (it : ReadyValue). it.pairs) (drop (length live.state.ready) new_live.state.ready))) (sym receipt_is)
-      (at_rest_are live.state.heap.log verdicts live.state.ready new_live.state.ready w.specs switched.ready))
+      let behind = subst (λ n. IfSome pairs (λ lists. lists ≡ map (λ (it : ReadyValue). it.pairs) (drop n new_live.state.ready))) from copies in
+      subst (λ (log : List LogRec). IsReport w.specs log verdicts pairs) (sym receipt_is)
+      (is_report live.state.heap.log verdicts live.state.ready new_live.state.ready w.specs pairs switched.right switched.keyed switched.ready behind))
 
 -- why it is refused
 pub switch_ends_for :

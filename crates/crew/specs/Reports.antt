@@ -1,6 +1,8 @@
 -- What a build reports, and why it is given up.
-use Rattle.std.specs.Prelude.{◌≡◌, ◌≢◌, ℕ, List, map, true}
+use Rattle.std.specs.Global.{Vec}
 use Rattle.std.specs.List.{list_any}
+use Rattle.std.specs.Option.{option_map}
+use Rattle.std.specs.Prelude.{◌≡◌, ◌≢◌, ℕ, IfSome, List, Option, map, true}
 use Rattle.keybytes.specs.Keys.{KeySpecValue}
 use Rattle.keybytes.specs.declared.fault.Fault.{Fault}
 use Rattle.keybytes.specs.declared.fault.Fault.TheVariants.{Busy, SpoolNotEmpty}
@@ -9,19 +11,29 @@ use Rattle.heap_log.specs.declared.outcome.Outcome.{Outcome}
 use Rattle.heap_log.specs.declared.record.LogRec.{LogRec}
 use Rattle.heap_log.specs.declared.record.LogRec.TheVariants.{Switch}
 use Rattle.heap_table.specs.TablePairs.{pairs_at_rest}
-use Rattle.build_events.specs.Verdicts.{accepted, outcomes, verdict_on}
+use Rattle.build_events.specs.Verdicts.{HaveSharedKeys, accepted, outcomes, verdict_on}
 use Rattle.crew.specs.Receipts.{EndsWith}
-
--- the log ends with a switch of these verdicts, which are those on these indexes over the rows that stand in it
-pub record IsReport (specs : List KeySpecValue) (log : List LogRec) (verdicts : List Outcome) : Type 0 where
-  pub switched : EndsWith log (Switch verdicts)
-  -- so many indexes were ready before
-  pub ready : ℕ
-  pub right : verdicts ≡ outcomes ready (map (verdict_on log) specs)
 
 -- of each index that is accepted these are the pairs at rest
 abbrev pub ArePairsAtRest : List KeySpecValue → List LogRec → List (List Pair) → Type 0
 ArePairsAtRest specs log pairs = pairs ≡ map (λ spec. pairs_at_rest spec log) (accepted log specs)
+
+-- the pairs of each index, where there are any
+abbrev pub lists_in : Option (Vec (Vec Pair)) → Option (List (List Pair))
+lists_in pairs = option_map (λ them. map (λ it. it.items) them.items) pairs
+
+-- what is told of a build of these indexes that decided, by the log that its receipt stands for
+pub record IsReport (specs : List KeySpecValue) (log : List LogRec) (verdicts : List Outcome) (pairs : Option (List (List Pair))) : Type 0 where
+  -- the log ends with a switch of these verdicts
+  pub switched : EndsWith log (Switch verdicts)
+  -- so many indexes were ready before
+  pub ready : ℕ
+  -- they are the verdicts on these indexes over the rows that stand in the log
+  pub right : verdicts ≡ outcomes ready (map (verdict_on log) specs)
+  -- a key that rows share is a key of its index
+  pub keyed : HaveSharedKeys specs verdicts
+  -- the pairs are those at rest
+  pub at_rest : IfSome pairs (ArePairsAtRest specs log)
 
 -- some index is unique
 abbrev pub HasUnique : List KeySpecValue → Type 0

@@ -7,7 +7,6 @@ use Rattle.building.specs.SpoolValue.{stakes_of}
 use Rattle.building.specs.WorkerValue.{WorkerValue}
 use Rattle.build_work.specs.BuildingValue.{BuildingValue, IndexValue, WorkValue}
 use Rattle.build_work.specs.Holding.{all_spools, spools_state}
-use Rattle.build_work.specs.Working.{CanLoad}
 
 -- a worker's number, its build with the indexes, whether its spools went to these, and the stakes of its spools
 pub record SeatValue : Type 0 where
@@ -47,6 +46,6 @@ pub record GoesOnWith (count : ℕ) (specs : List KeySpecValue) (building : Buil
 abbrev pub HasPairsLeft : BuildingValue → Type 0
 HasPairsLeft building = list_all (λ is_empty. is_empty) (spools_state building.given (all_spools building.workers building.spools)).left ≡ false
 
--- each of its indexes can be loaded
-abbrev pub CanLoadEach : BuildingValue → Type 0
-CanLoadEach building = (index : ℕ) → IfSome building.work (λ w. index < length w.specs) → CanLoad index building
+-- its workers have their spools still
+abbrev pub StillScans : BuildingValue → Type 0
+StillScans building = IfSome building.work (λ w. w.handed ≡ false)

@@ -2,13 +2,14 @@
 ghost use Rattle.std.specs.Prelude.{◌≡◌, ◌≢◌, ℕ, ◌<◌, List, length, map, take, drop, Some, None, IfOk, IfErr, IfSome, OnErr, OnOk, true, false, All};
 ghost use Rattle.keybytes.specs.Keys.{KeySpecValue};
 ghost use Rattle.keybytes.specs.declared.fault.Fault.{Fault};
+ghost use Rattle.build_work.specs.IndexLoads.{CanLoadAll};
 ghost use Rattle.build_work.specs.Lent.{CanLend};
 ghost use Rattle.ready_indexes.specs.Following.{indexes_of};
-ghost use Rattle.crew.specs.Reports.{ArePairsAtRest, EndsFor, IsOther, IsReport};
-ghost use Rattle.crew.specs.Seats.{CanLoadEach, GoesOnWith, HasPairsLeft, stakes_beside};
+ghost use Rattle.crew.specs.Reports.{EndsFor, IsOther, IsReport, lists_in};
+ghost use Rattle.crew.specs.Seats.{GoesOnWith, HasPairsLeft, StillScans, stakes_beside};
 
 use crate::locked::{Locked, copied};
-use crate::{Opened, Receipt, Report};
+use crate::{Opened, Progress, Receipt, Report};
 use builder_core::{Building, Plan, ReadyIndexes};
 use heap_table::PageImage;
 use keybytes::{Fault, Pair};
@@ -29,7 +30,9 @@ impl<T: Opened> Locked<T> {
         ensures not_busy { IfErr result (λ fault. (count : ℕ) → fault ≢ Fault.Busy count) }
         ensures log { self.new.state.heap.log ≡ self.old.state.heap.log }
     {
-        self.live.start(plan, building)
+        let number = self.live.start(plan, building)?;
+        self.progress = Progress::started(self.live.heap().pages());
+        Ok(number)
     }
 
     /// The lowest page of the range that is left is copied for the worker, in one step.
@@ -42,18 +45,24 @@ impl<T: Opened> Locked<T> {
         ensures other { IfErr result (λ back. IsOther back.1) }
         ensures log { self.new.state.heap.log ≡ self.old.state.heap.log }
     {
-        self.live.scan_step(range, worker, image)
+        let page = self.live.scan_step(range, worker, image)?;
+        self.progress.note_page();
+        Ok(page)
     }
 
     /// All pages were copied and their pairs made: the workers hand their spools over to the indexes.
     pub(crate) fn end_scan<S: Spool>(&mut self, building: &mut Building<S, T>) -> Result<(), Fault>
-        ensures loads { OnOk result (CanLoadEach building.new) }
+        ensures loads { OnOk result ((specs : List KeySpecValue) → GoesOnWith 0 specs building.old → StillScans building.old → CanLoadAll building.new) }
         ensures goes_on { OnOk result ((specs : List KeySpecValue) → GoesOnWith 0 specs building.old → GoesOnWith 0 specs building.new) }
         ensures stakes { stakes_beside building.new ≡ stakes_beside building.old }
         ensures other { IfErr result (λ fault. IfSome building.old.work (λ w. w.spoiled ≡ None → IsOther fault)) }
         ensures log { self.new.state.heap.log ≡ self.old.state.heap.log }
     {
-        self.live.end_scan(building)
+        // What is kept of the indexes is known once it is told.
+        building.laws();
+        self.live.end_scan(building)?;
+        self.progress.note_scanned();
+        Ok(())
     }
 
     /// Moves the next entries of an index's side-file into its ring.
@@ -61,7 +70,9 @@ impl<T: Opened> Locked<T> {
         ensures other { IfErr result IsOther }
         ensures log { self.new.state.heap.log ≡ self.old.state.heap.log }
     {
-        self.live.feed(index, most)
+        let fed = self.live.feed(index, most)?;
+        self.progress.note_fed(fed);
+        Ok(fed)
     }
 
     /// Gives the build up, if one runs.
@@ -70,6 +81,7 @@ impl<T: Opened> Locked<T> {
         ensures log { self.new.state.heap.log ≡ self.old.state.heap.log }
     {
         self.live.give_up();
+        self.progress = Progress::idle();
     }
 
     /// Switches the indexes in, and answers what the build reports, with the pairs if they are asked for. Where busy transactions keep it waiting
@@ -80,9 +92,8 @@ impl<T: Opened> Locked<T> {
         keep_pairs: bool,
         building: &mut Building<S, T>,
     ) -> Result<Report<T>, Fault>
-        ensures report { IfOk result (λ report. IfSome building.old.work (λ w. IsReport w.specs report.receipt report.verdicts)) }
-        ensures pairs { IfOk result (λ report. IfSome building.old.work (λ w. IfSome report.pairs
-            (λ pairs. ArePairsAtRest w.specs report.receipt (map (λ it. it.items) pairs.items)))) }
+        ensures report { IfOk result (λ report. IfSome building.old.work
+            (λ w. IsReport w.specs report.receipt report.verdicts (lists_in report.pairs))) }
         ensures log { IfOk result (λ report. report.receipt ≡ self.new.state.heap.log) }
         ensures same { OnErr result (self.new.state.heap.log ≡ self.old.state.heap.log) }
         ensures stakes { stakes_beside building.new ≡ stakes_beside building.old }
@@ -93,6 +104,7 @@ impl<T: Opened> Locked<T> {
         let first = self.live.ready().len();
         match self.live.switch_in(building) {
             Ok(switched) => {
+                self.progress = Progress::idle();
                 self.keeper.append(switched.number, &switched.record);
                 let receipt = Receipt::new(self.keeper.tell(), switched.record);
                 let pairs = self.pairs_from(alloc, keep_pairs, first);
@@ -120,7 +132,7 @@ impl<T: Opened> Locked<T> {
 
     /// Copies of the pairs of the ready indexes from that number on, if they are asked for and memory is there.
     fn pairs_from(&self, alloc: Global, keep_pairs: bool, first: usize) -> Option<Vec<Vec<Pair>>>
-        ensures { IfSome result (λ pairs. map (λ it. it.items) pairs.items ≡ map (λ it. it.pairs) (drop first self.now.state.ready)) }
+        ensures { IfSome (lists_in result) (λ lists. lists ≡ map (λ it. it.pairs) (drop first self.now.state.ready)) }
     {
         if !keep_pairs {
             return None;

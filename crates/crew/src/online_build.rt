@@ -3,9 +3,10 @@ ghost use Rattle.std.specs.Prelude.{◌≡◌, ◌≢◌, ◌<◌, ℕ, [], All,
 ghost use Rattle.keybytes.specs.Keys.{KeySpecValue};
 ghost use Rattle.keybytes.specs.declared.fault.Fault.{Fault};
 ghost use Rattle.build_work.specs.Lent.{CanLend};
-ghost use Rattle.crew.specs.Reports.{ArePairsAtRest, EndsFor, HasUnique, IsOther, IsReport};
-ghost use Rattle.crew.specs.Seats.{CanLoadEach, GoesOnWith, HasPairsLeft, stakes_beside};
+ghost use Rattle.crew.specs.Reports.{EndsFor, HasUnique, IsOther, IsReport, lists_in};
+ghost use Rattle.crew.specs.Seats.{GoesOnWith, HasPairsLeft, StillScans, stakes_beside};
 
+use crate::loading::load_all;
 use crate::scanning::scan_all;
 use crate::{BuildFault, Gate, Opened, Point, Report, Table};
 use builder_core::{Building, Ends, Plan};
@@ -13,6 +14,7 @@ use keybytes::Fault;
 use run_spool::Spool;
 use std::alloc::Global;
 use std::sync::Wait;
+use std::thread;
 use std::thread::Threads;
 
 /// The most entries of an index that are fed in one hold of the lock.
@@ -40,9 +42,7 @@ where
     T: Opened + Send + Sync,
     G: Gate + Sync,
     R: Threads + Wait + Sync,
-    ensures report { IfOk result.2 (λ report. IsReport plan.now.specs.items report.receipt report.verdicts) }
-    ensures pairs { IfOk result.2 (λ report. IfSome report.pairs
-        (λ pairs. ArePairsAtRest plan.now.specs.items report.receipt (map (λ it. it.items) pairs.items))) }
+    ensures report { IfOk result.2 (λ report. IsReport plan.now.specs.items report.receipt report.verdicts (lists_in report.pairs)) }
     ensures not_empty { IfErr result.2 (λ fault. fault.0 ≡ Fault.SpoolNotEmpty
         → All (λ spool. (S.runs spool ≡ []) × (S.open_run spool ≡ [])) spools.items → ⊥) }
     ensures busy { IfErr result.2 (λ fault. (count : ℕ) → fault.0 ≡ Fault.Busy count → HasUnique plan.now.specs.items) }
@@ -72,9 +72,7 @@ where
     T: Opened + Send + Sync,
     G: Gate + Sync,
     R: Threads + Wait + Sync,
-    ensures report { IfOk result.1 (λ report. IsReport plan.now.specs.items report.receipt report.verdicts) }
-    ensures pairs { IfOk result.1 (λ report. IfSome report.pairs
-        (λ pairs. ArePairsAtRest plan.now.specs.items report.receipt (map (λ it. it.items) pairs.items))) }
+    ensures report { IfOk result.1 (λ report. IsReport plan.now.specs.items report.receipt report.verdicts (lists_in report.pairs)) }
     ensures not_empty { IfErr result.1 (λ fault. fault ≡ Fault.SpoolNotEmpty → HasPairsLeft building) }
     ensures busy { IfErr result.1 (λ fault. (count : ℕ) → fault ≡ Fault.Busy count → HasUnique plan.now.specs.items) }
     ensures stakes { stakes_beside result.0 ≡ stakes_beside building }
@@ -107,9 +105,7 @@ where
     R: Threads + Wait + Sync,
     requires lendable { CanLend building }
     requires goes_on { GoesOnWith 0 plan.now.specs.items building }
-    ensures report { IfOk result.1 (λ report. IsReport plan.now.specs.items report.receipt report.verdicts) }
-    ensures pairs { IfOk result.1 (λ report. IfSome report.pairs
-        (λ pairs. ArePairsAtRest plan.now.specs.items report.receipt (map (λ it. it.items) pairs.items))) }
+    ensures report { IfOk result.1 (λ report. IsReport plan.now.specs.items report.receipt report.verdicts (lists_in report.pairs)) }
     ensures ends { IfErr result.1 (EndsFor plan.now.specs.items) }
     ensures stakes { stakes_beside result.0 ≡ stakes_beside building }
 {
@@ -124,7 +120,7 @@ where
 }
 
 /// The rest of a build whose pages were scanned.
-fn finish<S: Spool, T: Opened, G: Gate, R: Wait>(
+fn finish<S: Spool + Send, T: Opened, G: Gate, R: Threads + Wait + Sync>(
     rt: &R,
     alloc: Global,
     table: &Table<T>,
@@ -132,39 +128,18 @@ fn finish<S: Spool, T: Opened, G: Gate, R: Wait>(
     gate: &G,
     building: &mut Building<S, T>,
 ) -> Result<Report<T>, Fault>
-    requires { GoesOnWith 0 plan.now.specs.items building.old }
-    ensures report { IfOk result (λ report. IsReport plan.now.specs.items report.receipt report.verdicts) }
-    ensures pairs { IfOk result (λ report. IfSome report.pairs
-        (λ pairs. ArePairsAtRest plan.now.specs.items report.receipt (map (λ it. it.items) pairs.items))) }
+    requires goes_on { GoesOnWith 0 plan.now.specs.items building.old }
+    requires scans { StillScans building.old }
+    ensures report { IfOk result (λ report. IsReport plan.now.specs.items report.receipt report.verdicts (lists_in report.pairs)) }
     ensures ends { IfErr result (EndsFor plan.now.specs.items) }
     ensures stakes { stakes_beside building.new ≡ stakes_beside building.old }
 {
     table.lock().lock(rt).end_scan(building)?;
-    load_all(alloc, plan, gate, building)?;
+    load_all(rt, alloc, table, plan, gate, building)?;
     take_turns(rt, alloc, table, plan, gate, building)
 }
 
-/// Puts the pairs of each index in order.
-fn load_all<S: Spool, T: Opened, G: Gate>(
-    alloc: Global,
-    plan: &Plan,
-    gate: &G,
-    building: &mut Building<S, T>,
-) -> Result<(), Fault>
-    requires goes_on { GoesOnWith 0 plan.now.specs.items building.old }
-    requires loads { CanLoadEach building.old }
-    ensures goes_on { OnOk result (GoesOnWith (length plan.now.specs.items) plan.now.specs.items building.new) }
-    ensures stakes { stakes_beside building.new ≡ stakes_beside building.old }
-    ensures memory { IfErr result (λ fault. fault ≡ Fault.Memory) }
-{
-    for index in 0..plan.specs.len() {
-        building.load(alloc, index)?;
-        gate.at(Point::Loaded { index });
-    }
-    Ok(())
-}
-
-/// Takes turns until the switch decides, or the last turn has to wait as well.
+/// Takes turns until the switch decides, or the last turn has to wait as well. Other threads run in between.
 fn take_turns<S: Spool, T: Opened, G: Gate, R: Wait>(
     rt: &R,
     alloc: Global,
@@ -174,15 +149,13 @@ fn take_turns<S: Spool, T: Opened, G: Gate, R: Wait>(
     building: &mut Building<S, T>,
 ) -> Result<Report<T>, Fault>
     requires { GoesOnWith (length plan.now.specs.items) plan.now.specs.items building.old }
-    ensures report { IfOk result (λ report. IsReport plan.now.specs.items report.receipt report.verdicts) }
-    ensures pairs { IfOk result (λ report. IfSome report.pairs
-        (λ pairs. ArePairsAtRest plan.now.specs.items report.receipt (map (λ it. it.items) pairs.items))) }
+    ensures report { IfOk result (λ report. IsReport plan.now.specs.items report.receipt report.verdicts (lists_in report.pairs)) }
     ensures ends { IfErr result (EndsFor plan.now.specs.items) }
     ensures stakes { stakes_beside building.new ≡ stakes_beside building.old }
 {
     for n in 1..plan.tries {
         match take_turn(rt, alloc, table, plan, gate, building, n) {
-            Err(Fault::Behind(_) | Fault::Busy(_)) => {}
+            Err(Fault::Behind(_) | Fault::Busy(_)) => thread::yield_now(),
             told => return told,
         }
     }
@@ -200,14 +173,13 @@ fn take_turn<S: Spool, T: Opened, G: Gate, R: Wait>(
     n: u32,
 ) -> Result<Report<T>, Fault>
     requires { GoesOnWith (length plan.now.specs.items) plan.now.specs.items building.old }
-    ensures report { IfOk result (λ report. IsReport plan.now.specs.items report.receipt report.verdicts) }
-    ensures pairs { IfOk result (λ report. IfSome report.pairs
-        (λ pairs. ArePairsAtRest plan.now.specs.items report.receipt (map (λ it. it.items) pairs.items))) }
+    ensures report { IfOk result (λ report. IsReport plan.now.specs.items report.receipt report.verdicts (lists_in report.pairs)) }
     ensures goes_on { IfErr result (λ fault. fault ≢ Fault.Memory
         → GoesOnWith (length plan.now.specs.items) plan.now.specs.items building.new) }
     ensures ends { IfErr result (EndsFor plan.now.specs.items) }
     ensures stakes { stakes_beside building.new ≡ stakes_beside building.old }
 {
+    table.lock().lock(rt).note_try(n);
     gate.at(Point::Try { n });
     catch_up(rt, table, plan, building)?;
     table
@@ -232,7 +204,8 @@ fn catch_up<S: Spool, T: Opened, R: Wait>(
 {
     for index in 0..plan.specs.len() {
         table.lock().lock(rt).feed(index, FED_MOST)?;
-        apply_seen(plan, building, index)?;
+        let applied = apply_seen(plan, building, index)?;
+        table.lock().lock(rt).note_applied(applied);
     }
     Ok(())
 }

@@ -40,7 +40,7 @@ where
     ensures fine { OnOk result.1 (All (λ worker. worker.fault ≡ None) result.0.items) }
     ensures other { IfErr result.1 IsOther }
 {
-    match RangeQueue::new(rt, alloc, ranges_of(plan)) {
+    match RangeQueue::new(rt, alloc, ranges_of(plan), gate) {
         Ok(queue) => scan_dealt(rt, alloc, table, plan, &queue, gate, workers),
         Err(fault) => (workers, Err(fault)),
     }

@@ -25,6 +25,8 @@ pub struct Asked {
     pub quota: u32,
     /// Whether the first spool has a pair.
     pub is_used: bool,
+    /// Whether ranges are dealt to the threads of the workers.
+    pub is_dealt: bool,
 }
 
 impl Asked {
@@ -45,6 +47,7 @@ pub const WHOLE: Asked = Asked {
     ranges: 1,
     quota: 4,
     is_used: false,
+    is_dealt: true,
 };
 
 /// What a build came to: how many of its indexes are ready, and how many pairs these have in all; or the fault that it was given up for.
@@ -54,12 +57,22 @@ enum Told {
     GivenUp(Fault),
 }
 
-/// Is not interested.
-pub struct Silent;
+/// Isn't interested in how far a build is.
+#[derive(Drop)]
+pub struct Silent {
+    pub is_dealt: bool,
+}
 
 impl Gate for Silent {
     fn at(&self, _point: Point) {}
+
+    fn deals(&self, _range: usize) -> bool {
+        self.is_dealt
+    }
 }
+
+/// Lets all ranges through.
+pub const SILENT: Silent = Silent { is_dealt: true };
 
 fn spec(alloc: Global, unique: bool) -> Result<KeySpec, Fault> {
     let schema = Schema::new(vec![in alloc; Kind::Int]?)?;
@@ -160,7 +173,7 @@ fn ready_in(verdicts: &[Outcome]) -> Result<usize, Fault> {
 }
 
 /// The pairs of the table's rows.
-fn rest_of<T: Opened>(alloc: Global, live: &mut Live<T>) -> Result<Vec<Pair>, Fault> {
+pub fn rest_of<T: Opened>(alloc: Global, live: &mut Live<T>) -> Result<Vec<Pair>, Fault> {
     let spec = spec(alloc, false)?;
     if !spec.is_of(live.heap().schema()) {
         return Err(Fault::BadColumn);
@@ -187,7 +200,10 @@ fn answered<T: Opened + Send + Sync, R: Threads + Wait + Sync>(
     requires opening { parts.parts.heap.log ≡ T.opening }
 {
     let (table, ends) = parts.open::<T>();
-    let (_ends, spools, told) = build(rt, alloc, &table, ends, &plan, spools, &Silent);
+    let gate = Silent {
+        is_dealt: asked.is_dealt,
+    };
+    let (_ends, spools, told) = build(rt, alloc, &table, ends, &plan, spools, &gate);
     if !are_back(&spools, asked) {
         return Err(Fault::NoPage);
     }
@@ -203,7 +219,18 @@ fn answer<R: Threads + Wait + Sync>(rt: &R, alloc: Global, asked: Asked) -> Resu
     answered::<Brand, R>(rt, alloc, asked, parts, plan, spools)
 }
 
-const DECIDED: [(Asked, Told); 7] = [
+/// Two rows of one number, and a unique index.
+const TWICE: Asked = Asked {
+    rows: Rows {
+        slots: 2,
+        count: 2,
+        distinct: 1,
+    },
+    unique: &[true],
+    ..WHOLE
+};
+
+const DECIDED: [(Asked, Told); 9] = [
     (WHOLE, Told::Decided { ready: 1, pairs: 7 }),
     (
         Asked {
@@ -276,6 +303,14 @@ const DECIDED: [(Asked, Told); 7] = [
             ready: 1,
             pairs: 240,
         },
+    ),
+    (TWICE, Told::Decided { ready: 0, pairs: 0 }),
+    (
+        Asked {
+            is_dealt: false,
+            ..TWICE
+        },
+        Told::Decided { ready: 0, pairs: 0 },
     ),
 ];
 

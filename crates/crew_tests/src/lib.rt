@@ -8,7 +8,15 @@ mod calling;
 #[cfg(test)]
 mod contending;
 #[cfg(test)]
+mod contending_builds;
+#[cfg(test)]
+mod held_spool;
+#[cfg(test)]
 mod one_session;
+#[cfg(test)]
+mod overlap;
+#[cfg(test)]
+mod overlapping;
 #[cfg(test)]
 mod reading;
 #[cfg(test)]

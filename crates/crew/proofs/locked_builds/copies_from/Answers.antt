@@ -1,4 +1,4 @@
-use Rattle.std.proofs.Common.{◌≡◌, ◌+◌, ◌++◌, ◌∷◌, [], List, map, drop, sym, ap, ◌∙◌}
+use Rattle.std.proofs.Common.{◌+◌, ◌++◌, List, map, drop, ap, ◌∙◌}
 use Rattle.keybytes.specs.declared.pair.Pair.{Pair}
 use Rattle.ready_indexes.specs.Following.{indexes_of}
 use Rattle.ready_indexes.specs.Indexes.{ReadyValue}

@@ -1,6 +1,4 @@
-use Rattle.std.proofs.Common.{◌≡◌, List}
-use Rattle.keybytes.specs.Keys.{KeySpecValue}
-use Rattle.keybytes.specs.declared.fault.Fault.{Fault}
+use Rattle.std.proofs.Common.{◌≡◌}
 use Rattle.keybytes.specs.declared.fault.Fault.TheVariants.{SpoolNotEmpty}
 use Rattle.crew.specs.Reports.{EndsFor}
 use Rattle.crew.specs.Seats.{HasPairsLeft}

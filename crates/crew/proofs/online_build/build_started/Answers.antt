@@ -1,8 +1,7 @@
-use Rattle.std.proofs.Common.{◌≡◌, List, ◌∙◌}
-use Rattle.keybytes.specs.Keys.{KeySpecValue}
-use Rattle.build_work.specs.BuildingValue.{BuildingValue}
-use Rattle.crew.specs.Seats.{GoesOnWith, stakes_beside}
-use Rattle.crew.proofs.Gathered.{gathered_goes_on, gathered_stakes}
+use Rattle.std.proofs.Common.{ap, ◌∙◌}
+use Rattle.build_work.proofs.OneWorker.{the_work}
+use Rattle.build_work.specs.BuildingValue.{WorkValue}
+use Rattle.crew.proofs.Gathered.{gathered_goes_on, gathered_scans, gathered_stakes}
 use Rattle.crew.proofs.Seats.{all_back}
 use Rattle.crew.proofs.online_build.build_started.Goals as goal
 
@@ -15,8 +14,15 @@ returns-in-Err-clause-stakes g c =
     gathered_stakes c.args.building c.lend-workers.result.1 c.gather-building.result c.lend-workers.result.0.items c.scan_all-workers.result.0.items
     c.lend-workers.ensures.workers c.lend-workers.ensures.rest c.scan_all-workers.ensures.back c.gather-building.ensures c.requires.goes_on.work c.requires.goes_on.runs
 
-pub finish-told-requires : goal.finish-told-requires
-finish-told-requires g c =
+pub finish-told-requires-clause-scans : goal.finish-told-requires-clause-scans
+finish-told-requires-clause-scans g c = λ κs within.
+    let its = the_work c.args.building.work c.requires.goes_on.work c.requires.lendable.work c.requires.goes_on.runs c.requires.lendable.runs in
+    gathered_scans c.args.building c.lend-workers.result.1 c.gather-building.result c.lend-workers.result.0.items c.scan_all-workers.result.0.items
+    c.lend-workers.ensures.workers c.lend-workers.ensures.rest c.scan_all-workers.ensures.back c.gather-building.ensures c.requires.goes_on.work c.requires.goes_on.runs
+    (ap (λ (w : WorkValue). w.handed) its ∙ c.requires.lendable.scans)
+
+pub finish-told-requires-clause-goes_on : goal.finish-told-requires-clause-goes_on
+finish-told-requires-clause-goes_on g c = λ κs within.
     gathered_goes_on c.args.building c.lend-workers.result.1 c.gather-building.result c.lend-workers.result.0.items c.scan_all-workers.result.0.items
     c.lend-workers.ensures.workers c.lend-workers.ensures.rest c.scan_all-workers.ensures.back c.gather-building.ensures c.requires.goes_on.work c.requires.goes_on.runs
     (rw c.in_default.is at c.scan_all-workers.ensures.fine) c.args.plan.now.specs.items c.requires.goes_on

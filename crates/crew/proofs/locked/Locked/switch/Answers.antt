@@ -1,8 +1,7 @@
-use Rattle.std.proofs.Common.{◌≡◌, List, ◌∷◌, ◌++◌, [], length, map, ap, sym, ◌∙◌}
-use Rattle.heap_log.specs.declared.record.LogRec.{LogRec}
-use Rattle.build_halves.specs.Builds.{LiveValue}
+use Rattle.std.proofs.Common.{length, ap, ◌∙◌}
 use Rattle.crew.proofs.Steps.{still_goes_on, switch_left}
-use Rattle.crew.proofs.Switching.{switch_ends_for, switched_pairs, switched_report}
+use Rattle.crew.specs.Reports.{lists_in}
+use Rattle.crew.proofs.Switching.{switch_ends_for, switched_report}
 use Rattle.crew.proofs.locked.Locked.switch.Goals as goal
 
 pub returns-in-Ok-clause-report : goal.returns-in-Ok-clause-report
@@ -10,13 +9,7 @@ returns-in-Ok-clause-report g c =
     switched_report c.self.inside.live c.switch_in.new.self c.args.building.now c.switch_in.new.building c.in-Ok.switched.number c.in-Ok.switched.verdicts c.in-Ok.switched.record
     c.self.inside.keeper c.new-receipt.result c.in-Ok.ensures.all.0 c.in-Ok.ensures.switched c.in-Ok.ensures.record c.self.invariant.0
     (c.new-receipt.ensures ∙ c.tell.ensures.told ∙ c.append.ensures)
-
-pub returns-in-Ok-clause-pairs : goal.returns-in-Ok-clause-pairs
-returns-in-Ok-clause-pairs g c =
-    switched_pairs c.self.inside.live c.switch_in.new.self c.args.building.now c.switch_in.new.building c.in-Ok.switched.number c.in-Ok.switched.verdicts c.in-Ok.switched.record
-    c.self.inside.keeper c.new-receipt.result c.in-Ok.ensures.all.0 c.in-Ok.ensures.switched c.in-Ok.ensures.record c.self.invariant.0
-    (c.new-receipt.ensures ∙ c.tell.ensures.told ∙ c.append.ensures)
-    (λ pairs. map (λ it. it.items) pairs.items) c.len-first.result c.pairs_from-pairs.result (c.len-first.ensures ∙ ap length c.ready.ensures.ready) c.pairs_from-pairs.ensures
+    c.len-first.result (lists_in c.pairs_from-pairs.result) (c.len-first.ensures ∙ ap length c.ready.ensures.ready) c.pairs_from-pairs.ensures
 
 pub returns-in-Err-clause-stakes : goal.returns-in-Err-clause-stakes
 returns-in-Err-clause-stakes g c =

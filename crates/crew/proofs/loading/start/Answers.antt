@@ -1,0 +1,25 @@
+use mathlib.Core.List.{[], ◌∷◌}
+use denote.Param.{param}
+use denote.Param.Send.{IsSend, param_send}
+use denote.Struct.Tuple.{TupleAt}
+use Rattle.build_work.specs.contracts.index_load.IndexLoad as IndexLoad
+use Rattle.build_work.proofs.Crosses.{load_send}
+use Rattle.crew.proofs.Crosses.{captured_send}
+use Rattle.crew.proofs.loading.start.Lts as lts
+use Rattle.crew.proofs.loading.start.Goals as goal
+
+-- `search` doesn't see what the closure has taken, so the list of it is written out.
+pub spawn_with-requires-send-F : goal.spawn_with-requires-send-F
+spawn_with-requires-send-F g c = λ κs known.
+    let s : IsSend (TupleAt [] (IndexLoad.the_row (param 0 g.row.S) g.S.Spool ∷ [])) =
+    captured_send [] (IndexLoad.the_row (param 0 g.row.S) g.S.Spool ∷ []) (load_send (param 0 g.row.S) g.S.Spool c.type_bounds.send-S, tt) in
+    param_send 2
+    (lts.arg-3-2 g.row.S g.row.R g.S.laws g.R.laws g.S.Spool g.S.Spool-dict g.R.Threads g.R.Threads-dict g.R.Wait g.R.Wait-dict g.S.Destruct-dict κs)
+    (record { owned = s.owned; leaving = s.leaving })
+
+pub spawn_with-requires-send-T : goal.spawn_with-requires-send-T
+spawn_with-requires-send-T g c = λ κs known.
+    let s = load_send (param 0 g.row.S) g.S.Spool c.type_bounds.send-S in
+    param_send 3
+    (lts.arg-3-3 g.row.S g.row.R g.S.laws g.R.laws g.S.Spool g.S.Spool-dict g.R.Threads g.R.Threads-dict g.R.Wait g.R.Wait-dict g.S.Destruct-dict κs)
+    (record { owned = s.owned; leaving = s.leaving })

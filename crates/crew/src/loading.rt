@@ -1,0 +1,176 @@
+//! The loads of a build's indexes in threads of their own.
+ghost use Rattle.std.specs.Prelude.{◌≡◌, ◌≤◌, ◌+◌, [], List, length, map, IfErr, IfSome, OnOk, vec_len, vec_capacity};
+ghost use Rattle.keybytes.specs.declared.fault.Fault.{Fault};
+ghost use Rattle.std.specs.List.{AllZip};
+ghost use Rattle.build_work.specs.IndexLoads.{CanLoadAll, HasLoadedAll, HasRun, IndexLoadValue, LoadsStopped};
+ghost use Rattle.crew.specs.Loading.{AreLoadsOf};
+ghost use Rattle.crew.specs.Seats.{GoesOnWith, stakes_beside};
+
+use crate::load_ran::LoadRan;
+use crate::{Gate, Opened, Point, Table};
+use build_work::IndexLoad;
+use builder_core::{Building, Plan};
+use keybytes::Fault;
+use run_spool::Spool;
+use std::alloc::Global;
+use std::snapshot::Snapshot;
+use std::sync::Wait;
+use std::thread;
+use std::thread::{PromisedHandle, Scope, Threads};
+
+/// What a thread does with its load.
+fn run<S: Spool>(mut load: IndexLoad<S>) -> IndexLoad<S>
+    ensures { HasRun load result }
+{
+    load.run();
+    load
+}
+
+/// Lets loads run one after the other.
+fn run_here<S: Spool>(loads: &mut [IndexLoad<S>])
+    ensures { AllZip HasRun loads.old loads.new }
+{
+    for load in loads {
+        load.run();
+    }
+}
+
+/// Starts a thread for each load. Where one can't be started, the load and those behind it run here, and come back.
+fn start<'s, 'e, S: Spool + Send + 'e, R: Threads + Wait + Sync>(
+    scope: &'s Scope<'s, &'e ()>,
+    rt: &'e R,
+    mut loads: Vec<IndexLoad<S>>,
+    mut handles: Vec<PromisedHandle<IndexLoad<S>, LoadRan<S>>>,
+) -> (
+    Vec<PromisedHandle<IndexLoad<S>, LoadRan<S>>>,
+    Vec<IndexLoad<S>>,
+)
+    requires none { handles.items ≡ [] }
+    requires room { vec_len loads ≤ vec_capacity handles }
+    ensures ran { AreLoadsOf loads.items (map (λ handle. handle.promise.load.value) result.0.items) result.1.items }
+    ensures many { vec_len result.0 + vec_len result.1 ≡ vec_len loads }
+{
+    while !loads.is_empty() {
+        let load = loads.remove(0);
+        let promise = LoadRan {
+            load: Snapshot::of(&load),
+        };
+        match scope.spawn_with(promise, move || run(load)) {
+            Ok(handle) => handles.push_reserved(handle),
+            Err(refused) => {
+                let load = (refused.value)();
+                run_here(&mut loads);
+                let Ok(()) = loads.insert(0, load) else {
+                    unreachable!()
+                };
+                return (handles, loads);
+            }
+        }
+    }
+    (handles, loads)
+}
+
+/// Waits for each thread. The loads that had none come behind.
+fn join_all<S: Spool, R: Threads>(
+    rt: &R,
+    handles: Vec<PromisedHandle<IndexLoad<S>, LoadRan<S>>>,
+    rest: Vec<IndexLoad<S>>,
+    mut back: Vec<IndexLoad<S>>,
+) -> Vec<IndexLoad<S>>
+    requires none { back.items ≡ [] }
+    requires room { vec_len handles + vec_len rest ≤ vec_capacity back }
+    ensures { (loads : List IndexLoadValue) → AreLoadsOf loads (map (λ handle. handle.promise.load.value) handles.items) rest.items
+        → AllZip HasRun loads result.items }
+{
+    for handle in handles {
+        back.push_reserved(handle.join(rt));
+    }
+    for load in rest {
+        back.push_reserved(load);
+    }
+    back
+}
+
+/// Lets all loads run side by side, each in a thread of its own where one can be started. There is room for the threads, and for the loads that come back.
+fn run_all<'e, S: Spool + Send + 'e, R: Threads + Wait + Sync>(
+    rt: &'e R,
+    loads: Vec<IndexLoad<S>>,
+    handles: Vec<PromisedHandle<IndexLoad<S>, LoadRan<S>>>,
+    back: Vec<IndexLoad<S>>,
+) -> Vec<IndexLoad<S>>
+    requires none { (handles.items ≡ []) × (back.items ≡ []) }
+    requires room { (vec_len loads ≤ vec_capacity handles) × (vec_len loads ≤ vec_capacity back) }
+    ensures { AllZip HasRun loads.items result.items }
+{
+    thread::scope(
+        thread::scope_env(),
+        rt,
+        move |scope| -> Vec<IndexLoad<S>>
+            requires none { (handles.items ≡ []) × (back.items ≡ []) }
+            requires room { (vec_len loads ≤ vec_capacity handles) × (vec_len loads ≤ vec_capacity back) }
+            ensures { AllZip HasRun loads.items result.items }
+        {
+            let (handles, rest) = start(scope, rt, loads, handles);
+            join_all(rt, handles, rest, back)
+        },
+    )
+}
+
+/// Tells of each index whose pairs are in order.
+fn tell_loaded<S: Spool, T: Opened, G: Gate, R: Wait>(
+    rt: &R,
+    table: &Table<T>,
+    gate: &G,
+    loads: &[IndexLoad<S>],
+) {
+    for (index, load) in loads.iter().enumerate() {
+        if let Some(pairs) = load.pairs() {
+            table.lock().lock(rt).note_loaded(pairs);
+            gate.at(Point::Loaded { index });
+        }
+    }
+}
+
+/// Puts the pairs of all indexes in order, side by side. There is room for the threads, and for the loads that come back.
+fn load_reserved<S: Spool + Send, T: Opened, G: Gate, R: Threads + Wait + Sync>(
+    rt: &R,
+    alloc: Global,
+    table: &Table<T>,
+    gate: &G,
+    building: &mut Building<S, T>,
+    handles: Vec<PromisedHandle<IndexLoad<S>, LoadRan<S>>>,
+    back: Vec<IndexLoad<S>>,
+) -> Result<(), Fault>
+    requires loads { CanLoadAll building.old }
+    requires none { (handles.items ≡ []) × (back.items ≡ []) }
+    requires room { IfSome building.old.work (λ w. (length w.specs ≤ vec_capacity handles) × (length w.specs ≤ vec_capacity back)) }
+    ensures loaded { OnOk result (HasLoadedAll building.old building.new) }
+    ensures spoiled { IfErr result (λ fault. LoadsStopped building.old fault building.new) }
+    ensures memory { IfErr result (λ fault. fault ≡ Fault.Memory) }
+{
+    let was = Snapshot::of(&*building);
+    let (loads, room) = building.lend_loads(alloc)?;
+    let loads = run_all(rt, loads, handles, back);
+    tell_loaded(rt, table, gate, &loads);
+    building.gather_loads(was, loads, room)
+}
+
+/// Puts the pairs of all indexes in order, side by side.
+pub(crate) fn load_all<S: Spool + Send, T: Opened, G: Gate, R: Threads + Wait + Sync>(
+    rt: &R,
+    alloc: Global,
+    table: &Table<T>,
+    plan: &Plan,
+    gate: &G,
+    building: &mut Building<S, T>,
+) -> Result<(), Fault>
+    requires goes_on { GoesOnWith 0 plan.now.specs.items building.old }
+    requires loads { CanLoadAll building.old }
+    ensures goes_on { OnOk result (GoesOnWith (length plan.now.specs.items) plan.now.specs.items building.new) }
+    ensures stakes { stakes_beside building.new ≡ stakes_beside building.old }
+    ensures memory { IfErr result (λ fault. fault ≡ Fault.Memory) }
+{
+    let handles = Vec::with_capacity(alloc, plan.specs.len())?;
+    let back = Vec::with_capacity(alloc, plan.specs.len())?;
+    load_reserved(rt, alloc, table, gate, building, handles, back)
+}

@@ -1,0 +1,83 @@
+ghost use Rattle.std.specs.Prelude.{◌≡◌, ◌≤◌};
+
+use crate::Phase;
+
+/// How far the build of a table is, as it was in one hold of the table's lock. But for `busy`, all is 0 where no build runs.
+#[derive(Clone, Copy, PartialEq, Eq)]
+pub struct Progress {
+    pub phase: Phase,
+    /// The pages that the build copies: those that the table had when it started.
+    pub pages: u32,
+    /// How many of these are copied.
+    pub scanned: u32,
+    /// How many indexes have their pairs in order.
+    pub loaded: usize,
+    /// How many pairs that were, in all these indexes together.
+    pub pairs: usize,
+    /// How many changes of keys, in all indexes together, were written behind the scans and aren't applied yet.
+    pub entries: usize,
+    /// The number of the turn that feeds, applies and tries the switch, from 1.
+    pub tries: u32,
+    /// How many open transactions have a write that stands. The switch of a unique index waits for them.
+    pub busy: usize,
+    ghost within: { scanned ≤ pages },
+}
+
+impl Progress {
+    /// No build runs.
+    pub(crate) fn idle() -> Progress {
+        Progress::with_pages(Phase::Idle, 0)
+    }
+
+    /// A build has started that copies so many pages.
+    pub(crate) fn started(pages: u32) -> Progress {
+        Progress::with_pages(Phase::Scanning, pages)
+    }
+
+    fn with_pages(phase: Phase, pages: u32) -> Progress {
+        Progress {
+            phase,
+            pages,
+            scanned: 0,
+            loaded: 0,
+            pairs: 0,
+            entries: 0,
+            tries: 0,
+            busy: 0,
+        }
+    }
+
+    /// Another page is copied. Each is copied once.
+    pub(crate) fn note_page(&mut self) {
+        if self.scanned < self.pages {
+            self.scanned += 1;
+        }
+    }
+
+    /// Another index has its pairs in order, which are so many.
+    pub(crate) fn note_loaded(&mut self, pairs: usize) {
+        self.loaded = self.loaded.saturating_add(1);
+        self.pairs = self.pairs.saturating_add(pairs);
+    }
+
+    /// So many changes of keys more wait in a ring to be applied.
+    pub(crate) fn note_fed(&mut self, count: usize) {
+        self.entries = self.entries.saturating_add(count);
+    }
+
+    /// So many of these were applied.
+    pub(crate) fn note_applied(&mut self, count: usize) {
+        self.entries = self.entries.saturating_sub(count);
+    }
+
+    /// The turn of that number begins.
+    pub(crate) fn note_try(&mut self, n: u32) {
+        self.phase = Phase::CatchingUp;
+        self.tries = n;
+    }
+
+    /// All pages are copied, and their pairs are put in order next.
+    pub(crate) fn note_scanned(&mut self) {
+        self.phase = Phase::Loading;
+    }
+}
