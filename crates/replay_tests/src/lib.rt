@@ -17,6 +17,8 @@ mod printed;
 #[cfg(test)]
 mod program_words;
 #[cfg(test)]
+mod race_runs;
+#[cfg(test)]
 mod races;
 #[cfg(test)]
 mod scripts;

@@ -1,7 +1,10 @@
+use race::race;
 use replay::{check, check_race, replay};
 use std::alloc::Global;
 use std::io::Read;
 use std::str;
+use std::sync::Wait;
+use std::thread::Threads;
 
 /// What a script printed to its two streams, and its exit status.
 pub struct Printed {
@@ -42,6 +45,19 @@ impl Printed {
         let mut out = Vec::new(alloc);
         let mut err = Vec::new(alloc);
         let status = check_race(alloc, script, &mut out, &mut err);
+        Printed { out, err, status }
+    }
+
+    /// What a race prints.
+    pub fn by_race<A: Threads + Wait + Sync, R: Read + Drop>(
+        rt: &A,
+        alloc: Global,
+        workers: usize,
+        script: R,
+    ) -> Printed {
+        let mut out = Vec::new(alloc);
+        let mut err = Vec::new(alloc);
+        let status = race(rt, alloc, workers, script, &mut out, &mut err);
         Printed { out, err, status }
     }
 

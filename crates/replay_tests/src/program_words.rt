@@ -11,7 +11,7 @@ static TASKS: [(&str, Task); 2] = [("replay", Task::Replay), ("check", Task::Che
 
 static SCRIPTS: [&str; 3] = ["three.csv", "-", "./a b"];
 
-static REFUSED: [&[&str]; 8] = [
+static REFUSED: [&[&str]; 11] = [
     &["sfbuild"],
     &["sfbuild", "fly"],
     &["sfbuild", "replay"],
@@ -19,6 +19,9 @@ static REFUSED: [&[&str]; 8] = [
     &["sfbuild", "replay", "a", "b"],
     &["sfbuild", "check", "--fast", "a"],
     &["sfbuild", "replay", "--race", "a"],
+    &["sfbuild", "race", "a"],
+    &["sfbuild", "race", "a", "--workers", "0"],
+    &["sfbuild", "race", "a", "--workers", "17"],
     &["sfbuild", "-", "a"],
 ];
 
@@ -31,7 +34,7 @@ static HELPED: [&[&str]; 3] = [
 /// Whether these words ask for that task with that script.
 fn ask_for(alloc: Global, words: &[&str], task: Task, script: &str) -> bool {
     match read(alloc, words) {
-        Ok(choice) => choice.task as u8 == task as u8 && choice.script == script,
+        Ok(choice) => choice.task == task && choice.script == script,
         Err(_) => false,
     }
 }
@@ -50,6 +53,15 @@ fn name_a_script(rt: HostRuntime) {
 fn name_a_race(rt: HostRuntime) {
     let words = ["sfbuild", "check", "--race", "a"];
     assert!(rt; ask_for(rt.alloc(), words.as_slice(), Task::CheckRace, "a"));
+    let words = ["sfbuild", "race", "--workers", "16", "a"];
+    assert!(rt;
+        ask_for(
+            rt.alloc(),
+            words.as_slice(),
+            Task::Race { workers: 16 },
+            "a"
+        )
+    );
 }
 
 fn are_refused(alloc: Global, words: &[&str]) -> bool {

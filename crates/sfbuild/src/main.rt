@@ -9,12 +9,14 @@ use script::ScriptError;
 use std::fs::File;
 use std::io::Read;
 use std::process::ExitCode;
+use std::sync::Wait;
+use std::thread::Threads;
 use std::{env, io};
 use words::{Choice, Task};
 
 fn main(rt: HostRuntime) -> ExitCode {
     let status = match given(&rt) {
-        Ok(words) => obey(&rt, words.as_slice()),
+        Ok(words) => obey(&rt, &rt, words.as_slice()),
         Err(error) => {
             let _ = eprintln!(rt; "sfbuild: {error}");
             Status::Failed as u8
@@ -30,9 +32,9 @@ fn given(rt: &HostRuntime) -> io::Result<Vec<String>> {
 }
 
 /// Does what the words ask for, and answers the program's exit status.
-fn obey(rt: &HostRuntime, words: &[String]) -> u8 {
+fn obey<A: Threads + Wait + Sync>(rt: &HostRuntime, threads: &A, words: &[String]) -> u8 {
     match words::read(rt.alloc(), words) {
-        Ok(Choice { task, script }) => run(rt, task, script),
+        Ok(Choice { task, script }) => run(rt, threads, task, script),
         Err(error) => print(rt, &error),
     }
 }
@@ -46,20 +48,33 @@ fn print(rt: &HostRuntime, error: &clap::Error) -> u8 {
 }
 
 /// Does the task with the script of that path, or of standard input where the path is `-`.
-fn run(rt: &HostRuntime, task: Task, path: &str) -> u8 {
+fn run<A: Threads + Wait + Sync>(rt: &HostRuntime, threads: &A, task: Task, path: &str) -> u8 {
     if path == "-" {
-        return run_on(rt, task, rt.stdin());
+        return run_on(rt, threads, task, rt.stdin());
     }
     match File::open(rt, path) {
-        Ok(script) => run_on(rt, task, script),
+        Ok(script) => run_on(rt, threads, task, script),
         Err(_) => replay::refuse(ScriptError::CannotRead, rt.stderr()),
     }
 }
 
-fn run_on<R: Read + Drop>(rt: &HostRuntime, task: Task, script: R) -> u8 {
+fn run_on<A: Threads + Wait + Sync, R: Read + Drop>(
+    rt: &HostRuntime,
+    threads: &A,
+    task: Task,
+    script: R,
+) -> u8 {
     match task {
         Task::Replay => replay::replay(rt.alloc(), script, rt.stdout(), rt.stderr()),
         Task::Check => replay::check(rt.alloc(), script, rt.stdout(), rt.stderr()),
         Task::CheckRace => replay::check_race(rt.alloc(), script, rt.stdout(), rt.stderr()),
+        Task::Race { workers } => race::race(
+            threads,
+            rt.alloc(),
+            workers,
+            script,
+            rt.stdout(),
+            rt.stderr(),
+        ),
     }
 }

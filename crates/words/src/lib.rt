@@ -1,6 +1,7 @@
 //! The words that the program `sfbuild` understands.
 #![tactic(auto)]
 
+use clap::builder::ValueParser;
 use clap::error::ErrorKind;
 use clap::{Arg, ArgAction, ArgMatches, Command, Error};
 use std::alloc::{AllocError, Global};
@@ -25,7 +26,19 @@ pairs of an index on its first column. `sfbuild replay three.csv` then prints
   3,ok,1
   3,pair,5,0.0
 
-`sfbuild check three.csv` runs nothing, and says whether all records are good.";
+`sfbuild check three.csv` runs nothing, and says whether all records are good.
+
+A race has sessions that write in threads of their own while a build runs, as in
+
+  table,2,int
+  row,5
+  build,4,even:2,n:0
+  go
+  in,1,begin,A
+  in,1,insert,A,6
+  in,1,commit,A
+
+`sfbuild race race.csv --workers 2` runs it and prints how it went.";
 
 /// What the words ask for: something that is to be done with a script, which is a file's path, or `-` for standard input.
 #[derive(Clone, Copy)]
@@ -35,12 +48,14 @@ pub struct Choice<'a> {
 }
 
 /// What is to be done with a script.
-#[derive(Clone, Copy)]
+#[derive(Clone, Copy, PartialEq, Eq)]
 pub enum Task {
     Replay,
     Check,
     /// Looks at a script as that of a race.
     CheckRace,
+    /// Runs a race, whose build has so many workers.
+    Race { workers: usize },
 }
 
 /// Reads the words, the first of which is the program's name. The error is what to print, and where: a refusal, or
@@ -59,6 +74,9 @@ fn chosen<'a>(matches: &ArgMatches<'a>) -> Option<Choice<'a>> {
         "replay" => Task::Replay,
         "check" if arguments.get_flag("race") => Task::CheckRace,
         "check" => Task::Check,
+        "race" => Task::Race {
+            workers: arguments.get_one("workers")?,
+        },
         _ => return None,
     };
     let script = arguments.get_str("SCRIPT")?;
@@ -91,7 +109,25 @@ fn command<'a>(alloc: Global) -> Result<Command<'a>, AllocError> {
         .after_help(EXAMPLE)
         .subcommand_required(true)
         .subcommand(replay)?
-        .subcommand(check)
+        .subcommand(check)?
+        .subcommand(race_command(alloc)?)
+}
+
+/// The command of a race.
+fn race_command<'a>(alloc: Global) -> Result<Command<'a>, AllocError> {
+    let workers = Arg::new(alloc, "workers")
+        .long("workers")
+        .value_name("N")
+        .help("How many workers build, 1 to 16, each in a thread of its own")
+        .required(true)
+        .value_parser(ValueParser::Unsigned(1, 16))
+        .action(ArgAction::Set);
+    task_command(
+        alloc,
+        "race",
+        "Runs the sessions of a script in threads of their own while a build runs beside them, and prints how it went",
+    )?
+    .arg(workers)
 }
 
 /// The command of a task.

@@ -1,0 +1,11 @@
+use Rattle.race.proofs.running.run_race.Given as goal
+
+-- the name of the table that was just made, and its log
+abbrev pub ghosts-run_named-T-Named : goal.ghosts-run_named-T-Named
+ghosts-run_named-T-Named g a = record { table = a.parts.word }
+
+abbrev pub ghosts-run_named-T-Table : goal.ghosts-run_named-T-Table
+ghosts-run_named-T-Table g a = record { pages = a.parts.parts.pages; sides = a.parts.parts.sides }
+
+abbrev pub ghosts-run_named-T-Opened : goal.ghosts-run_named-T-Opened
+ghosts-run_named-T-Opened g a = record { opening = a.parts.parts.heap.log }

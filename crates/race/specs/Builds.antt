@@ -1,0 +1,52 @@
+-- The build of a race.
+use Rattle.std.specs.Prelude.{◌≡◌, ◌⊎◌, ℕ, List, [], true, vec_len, map, Option, Result, Ok, Err, IfOk}
+use Rattle.keybytes.specs.Keys.{KeySpecValue}
+use Rattle.keybytes.specs.declared.fault.Fault.{Fault}
+use Rattle.keybytes.specs.declared.fault.Fault.TheVariants.{BadCount}
+use Rattle.keybytes.specs.declared.kind.Kind.{Kind}
+use Rattle.keybytes.specs.declared.pair.Pair.{Pair}
+use Rattle.heap_log.specs.declared.record.LogRec.{LogRec}
+use Rattle.crew.specs.Reports.{IsReport}
+use Rattle.replay.specs.Leasing.{AreOf, plain_stake}
+use Rattle.replay.specs.Limits.{is_in_limits}
+use Rattle.replay.specs.Listings.{ListsShared, key_spec_of}
+use Rattle.script.specs.declared.race.build.Build.{Build}
+use Rattle.race.specs.declared.outcome.Outcome.{Outcome}
+use Rattle.race.specs.declared.planned.Planned.{Planned}
+
+-- the workers, the indexes and the quota are as many as a build may have
+abbrev pub IsInLimits : ℕ → Build → Type 0
+IsInLimits workers build = is_in_limits workers (vec_len build.specs) build.quota ≡ true
+
+-- the pages of its spools are leased from its pool
+abbrev pub IsLeased : Planned → Type 0
+IsLeased planned = AreOf planned.leases (map plain_stake planned.spools.items)
+
+-- a build of these indexes may start, over pages that it leases
+pub record IsPlanOf (workers : ℕ) (schema : List Kind) (build : Build) (planned : Planned) : Type 0 where
+  pub limits : IsInLimits workers build
+  pub specs : planned.plan.specs.items ≡ map (key_spec_of schema) build.specs.items
+  pub leased : IsLeased planned
+
+-- the build is planned, or refused; one that is out of its limits is refused for that
+abbrev pub PlansBuild : ℕ → List Kind → Build → Result Planned Fault → Type 0
+PlansBuild workers schema build (Ok planned) = IsPlanOf workers schema build planned
+PlansBuild workers schema build (Err fault) = IsInLimits workers build ⊎ (fault ≡ BadCount)
+
+-- a build of these indexes was decided so: the verdicts are those on the rows that stood when it was, and the lines tell of the refused indexes, unless there
+-- was no memory for them
+pub record IsOutcomeOf (specs : List KeySpecValue) (outcome : Outcome) : Type 0 where
+  pub log : List LogRec
+  pub pairs : Option (List (List Pair))
+  pub report : IsReport specs log outcome.verdicts pairs
+  pub shared : ListsShared 0 specs outcome.verdicts outcome.shared.items ⊎ (outcome.shared.items ≡ [])
+
+-- a planned build was decided or given up; one that was refused wasn't started
+abbrev pub EndsPlanned : Result Planned Fault → Result Outcome Fault → Type 0
+EndsPlanned (Ok planned) told = IfOk told (IsOutcomeOf planned.plan.specs.items)
+EndsPlanned (Err fault) told = told ≡ Err fault
+
+-- the build that a race asks for was decided, or given up; one that is out of its limits was refused for that
+abbrev pub EndsBuild : ℕ → List Kind → Build → Result Outcome Fault → Type 0
+EndsBuild workers schema build (Ok outcome) = IsInLimits workers build × IsOutcomeOf (map (key_spec_of schema) build.specs.items) outcome
+EndsBuild workers schema build (Err fault) = IsInLimits workers build ⊎ (fault ≡ BadCount)

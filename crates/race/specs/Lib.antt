@@ -1,0 +1,4 @@
+pub mod Builds
+pub mod Races
+pub mod Resting
+pub mod Sessions

@@ -1,0 +1,93 @@
+//! The build of a race.
+ghost use Rattle.std.specs.Prelude.{◌≡◌, IfOk};
+ghost use Rattle.crew.specs.Reports.{IsReport, lists_in};
+ghost use Rattle.race.specs.Builds.{EndsPlanned, IsLeased, IsOutcomeOf};
+
+use crate::built::Built;
+use crate::outcome::Outcome;
+use crate::planned::Planned;
+use builder_core::{Ends, Plan};
+use crew::{BuildFault, Gate, Opened, Point, Report, Table, build};
+use keybytes::Fault;
+use replay::shared_lines;
+use std::alloc::Global;
+use std::sync::Wait;
+use std::thread::Threads;
+
+/// A gate that does nothing.
+struct Open;
+
+impl Gate for Open {
+    fn at(&self, _point: Point) {}
+}
+
+/// Runs the build, if it was planned, and gives its spools up.
+pub fn run_build<T: Opened + Send + Sync, R: Threads + Wait + Sync>(
+    rt: &R,
+    alloc: Global,
+    table: &Table<T>,
+    ends: Ends<T>,
+    planned: Result<Planned, Fault>,
+) -> Built<T>
+    requires { IfOk planned IsLeased }
+    ensures pages { result.pages ≡ 0 }
+    ensures build { EndsPlanned planned result.build }
+{
+    match planned {
+        Ok(planned) => run_planned(rt, alloc, table, ends, planned),
+        Err(fault) => Built {
+            build: Err(fault),
+            receipt: None,
+            pages: 0,
+        },
+    }
+}
+
+fn run_planned<T: Opened + Send + Sync, R: Threads + Wait + Sync>(
+    rt: &R,
+    alloc: Global,
+    table: &Table<T>,
+    ends: Ends<T>,
+    planned: Planned,
+) -> Built<T>
+    requires { IsLeased planned }
+    ensures pages { result.pages ≡ 0 }
+    ensures build { IfOk result.build (IsOutcomeOf planned.plan.specs.items) }
+{
+    let Planned {
+        plan,
+        leases,
+        spools,
+    } = planned;
+    let (_ends, spools, told) = build(rt, alloc, table, ends, &plan, spools, &Open);
+    let (_pool, pages) = leases.reclaim(spools);
+    match told {
+        Ok(report) => decided(alloc, &plan, report, pages),
+        Err(BuildFault(fault)) => Built {
+            build: Err(fault),
+            receipt: None,
+            pages,
+        },
+    }
+}
+
+/// What a build that decided gave.
+fn decided<T: Opened>(alloc: Global, plan: &Plan, report: Report<T>, pages: usize) -> Built<T>
+    requires { IsReport plan.now.specs.items report.receipt report.verdicts (lists_in report.pairs) }
+    ensures pages { result.pages ≡ pages }
+    ensures build { IfOk result.build (IsOutcomeOf plan.now.specs.items) }
+{
+    let Report {
+        receipt,
+        verdicts,
+        ..
+    } = report;
+    Built {
+        build: Ok(Outcome {
+            shared: shared_lines(alloc, plan.specs.as_slice(), verdicts.as_slice()),
+            verdicts,
+        }),
+        receipt: Some(receipt),
+        pages,
+    }
+}

@@ -1,0 +1,26 @@
+//! Races: sessions that write in threads of their own while a build runs beside them.
+//!
+//! [`race`] reads the script of a race, runs it and prints how it went: what became of each index, how many commands of each session
+//! were accepted and refused, whether each ready index has the pairs of the rows, and whether receipts or pages are missing.
+#![tactic(auto)]
+
+mod builder;
+mod built;
+mod check_line;
+mod each_counted;
+mod ended;
+mod gathered;
+mod outcome;
+mod planned;
+mod printing;
+mod resting;
+mod rows;
+mod run;
+mod running;
+mod session_line;
+mod session_script;
+mod splitting;
+mod threads;
+mod told;
+
+pub use run::race;

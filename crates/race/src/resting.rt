@@ -1,0 +1,81 @@
+//! Whether ready indexes have the pairs of the rows.
+ghost use Rattle.std.specs.Prelude.{◌≡◌, ◌<◌, IfOk, length, true, false};
+ghost use Rattle.race.specs.Resting.{NoneDiffers};
+
+use crate::check_line::CheckLine;
+use btree::Tree;
+use builder_core::{Live, Table};
+use keybytes::{Fault, Pair};
+use std::alloc::Global;
+
+/// A line for each ready index, as far as there is memory for them.
+pub fn check_all<T: Table>(alloc: Global, live: &mut Live<T>) -> Vec<CheckLine>
+    ensures { NoneDiffers result.items }
+{
+    let mut lines = Vec::new(alloc);
+    for number in 0..live.ready().len() {
+        if lines.push(check(live, number)).is_err() {
+            return lines;
+        }
+    }
+    lines
+}
+
+fn check<T: Table>(live: &mut Live<T>, number: usize) -> CheckLine
+    requires { number < length live.old.state.ready }
+    ensures same { ¬ (result ≡ CheckLine.Differs) }
+    ensures ready { live.new.state.ready ≡ live.old.state.ready }
+{
+    match is_same(live, number) {
+        Ok(true) => CheckLine::Same,
+        Ok(false) => CheckLine::Differs,
+        Err(fault) => CheckLine::Refused(fault),
+    }
+}
+
+/// Whether the ready index of that number has the pairs that a build at rest gives.
+fn is_same<T: Table>(live: &mut Live<T>, number: usize) -> Result<bool, Fault>
+    requires { number < length live.old.state.ready }
+    ensures same { IfOk result (λ same. same ≡ true) }
+    ensures ready { live.new.state.ready ≡ live.old.state.ready }
+{
+    let Some(index) = live.ready().get(number) else {
+        unreachable!()
+    };
+    let spec = index.spec().clone()?;
+    if !spec.is_of(live.heap().schema()) {
+        return Err(Fault::BadColumn);
+    }
+    let pairs = live.rest(&spec)?;
+    let Some(index) = live.ready().get(number) else {
+        unreachable!()
+    };
+    Ok(has_pairs(index.tree(), pairs.as_slice()))
+}
+
+/// Whether these are the pairs of the tree, in order.
+fn has_pairs(tree: &Tree, pairs: &[Pair]) -> bool
+    ensures yes { result ≡ true → tree.now.pairs ≡ pairs.now }
+    ensures no { result ≡ false → ¬ (tree.now.pairs ≡ pairs.now) }
+{
+    let mut left = pairs;
+    for pair in tree.iter() {
+        let Some((first, rest)) = left.split_first() else {
+            return false;
+        };
+        if !is_same_pair(first, pair) {
+            return false;
+        }
+        left = rest;
+    }
+    left.is_empty()
+}
+
+fn is_same_pair(one: &Pair, other: &Pair) -> bool
+    ensures yes { result ≡ true → one.now ≡ other.now }
+    ensures no { result ≡ false → ¬ (one.now ≡ other.now) }
+{
+    one.rid.page == other.rid.page
+        && one.rid.slot == other.rid.slot
+        && one.key.bytes() == other.key.bytes()
+}

@@ -1,0 +1,139 @@
+//! The course of a race.
+ghost use Rattle.std.specs.Prelude.{◌≡◌, ◌≤◌, [], map, IfOk, vec_len, vec_capacity};
+ghost use Rattle.race.specs.Builds.{EndsPlanned, IsLeased};
+ghost use Rattle.race.specs.Races.{IsToldOf};
+ghost use Rattle.race.specs.Resting.{NoneDiffers};
+ghost use Rattle.race.specs.Sessions.{line_count, script_count};
+
+use crate::built::Built;
+use crate::each_counted::EachCounted;
+use crate::ended::Ended;
+use crate::gathered::Gathered;
+use crate::planned::{Planned, plan_build};
+use crate::resting::check_all;
+use crate::rows::put_rows;
+use crate::session_script::SessionScript;
+use crate::splitting::sessions_of;
+use crate::threads::run_beside;
+use crate::told::Told;
+use builder_core::Parts;
+use crew::{Closed, Opened, TableParts};
+use heap_table::Heap;
+use keybytes::Fault;
+use replay::table_heap;
+use script::RaceScript;
+use std::alloc::Global;
+use std::marker::Brand;
+use std::sync::Wait;
+use std::thread::{PromisedHandle, Threads};
+
+/// Runs a race, and tells how it went. It is refused where its table is, or where there is no memory to begin with it.
+pub fn run_race<R: Threads + Wait + Sync>(
+    rt: &R,
+    alloc: Global,
+    workers: usize,
+    script: RaceScript,
+) -> Result<Told, Fault>
+    ensures { IfOk result (IsToldOf workers script) }
+{
+    let RaceScript {
+        table,
+        rows,
+        build,
+        steps,
+        ..
+    } = script;
+    // A command writes one record at most, and its undo another.
+    let records = 2 * steps.len();
+    let mut heap = table_heap(alloc, table)?;
+    let planned = plan_build(alloc, heap.schema(), workers, build);
+    put_rows(&mut heap, rows);
+    let sessions = sessions_of(alloc, steps)?;
+    let parts = table_parts(alloc, heap)?;
+    run_named::<Brand, R>(rt, alloc, parts, planned, sessions, records)
+}
+
+/// The table, ready to be shared.
+fn table_parts(alloc: Global, heap: Heap) -> Result<TableParts, Fault> {
+    let parts = match Parts::new(alloc, heap) {
+        Ok(parts) => parts,
+        Err((_, fault)) => return Err(fault),
+    };
+    match TableParts::new(alloc, parts) {
+        Ok(parts) => Ok(parts),
+        Err((_, fault)) => Err(fault),
+    }
+}
+
+/// The same on a table with a name. Sessions may write so many records.
+fn run_named<T: Opened + Send + Sync, R: Threads + Wait + Sync>(
+    rt: &R,
+    alloc: Global,
+    parts: TableParts,
+    planned: Result<Planned, Fault>,
+    sessions: Vec<SessionScript>,
+    records: usize,
+) -> Result<Told, Fault>
+    requires word { parts.word ≡ T.table }
+    requires pages { parts.parts.pages ≡ T.pages }
+    requires sides { parts.parts.sides ≡ T.sides }
+    requires opening { parts.parts.heap.log ≡ T.opening }
+    requires leased { IfOk planned IsLeased }
+    ensures pages { IfOk result (λ told. told.pages ≡ 0) }
+    ensures build { IfOk result (λ told. EndsPlanned planned told.build) }
+    ensures lines { IfOk result (λ told. map line_count told.sessions.items ≡ map script_count sessions.items) }
+    ensures checks { IfOk result (λ told. NoneDiffers told.checks.items) }
+{
+    let gathered = Gathered::<T>::new(alloc, sessions.len(), records.saturating_add(1))?;
+    let handles = Vec::with_capacity(alloc, sessions.len())?;
+    let ended = Vec::with_capacity(alloc, sessions.len())?;
+    Ok(run_reserved(
+        rt, alloc, parts, planned, sessions, handles, ended, gathered,
+    ))
+}
+
+/// The same with room for the threads, and for what the sessions leave.
+fn run_reserved<T: Opened + Send + Sync, R: Threads + Wait + Sync>(
+    rt: &R,
+    alloc: Global,
+    parts: TableParts,
+    planned: Result<Planned, Fault>,
+    sessions: Vec<SessionScript>,
+    handles: Vec<PromisedHandle<Ended<T>, EachCounted>>,
+    ended: Vec<Ended<T>>,
+    gathered: Gathered<T>,
+) -> Told
+    requires word { parts.word ≡ T.table }
+    requires rings { parts.parts.pages ≡ T.pages }
+    requires sides { parts.parts.sides ≡ T.sides }
+    requires opening { parts.parts.heap.log ≡ T.opening }
+    requires leased { IfOk planned IsLeased }
+    requires none { (handles.items ≡ []) × (ended.items ≡ []) × (gathered.lines.items ≡ []) }
+    requires room { (vec_len sessions ≤ vec_capacity handles) × (vec_len sessions ≤ vec_capacity ended) × (vec_len sessions ≤ vec_capacity gathered.lines) }
+    ensures pages { result.pages ≡ 0 }
+    ensures build { EndsPlanned planned result.build }
+    ensures lines { map line_count result.sessions.items ≡ map script_count sessions.items }
+    ensures checks { NoneDiffers result.checks.items }
+{
+    let (table, ends) = parts.open::<T>();
+    let (built, mut gathered) = run_beside(
+        rt, alloc, &table, ends, planned, sessions, handles, ended, gathered,
+    );
+    let Built {
+        build,
+        receipt,
+        pages,
+    } = built;
+    if let Some(receipt) = receipt {
+        gathered.keep(receipt);
+    }
+    let Gathered { lines, receipts } = gathered;
+    let Closed { mut live, missing } = table.close(receipts);
+    Told {
+        build,
+        sessions: lines,
+        checks: check_all(alloc, &mut live),
+        receipts: missing,
+        pages,
+    }
+}
