@@ -15,6 +15,9 @@ use std::time::Clock;
 /// The rows that one transaction puts in.
 const ROWS_OF_A_TRANSACTION: u32 = 1_000;
 
+/// No table is filled by more sessions.
+const SESSIONS_MAX: usize = 16;
+
 /// What sessions put into the table.
 #[derive(Clone, Copy)]
 pub struct Filled {
@@ -64,8 +67,8 @@ where
     let told = map_indices(
         rt,
         alloc,
-        options.sessions,
-        &|number| { fill_share(rt, alloc, table, options, number) },
+        options.sessions.min(SESSIONS_MAX),
+        &move |number| { fill_share(rt, alloc, table, options, number) },
     );
     match told {
         Ok(shares) => together(shares.as_slice()),
@@ -104,7 +107,8 @@ fn fill_share<T: Opened, R: Wait + Clock>(
         rows: Vec::new(alloc),
         filled: Filled::NOTHING,
     };
-    let rows = part_of(options.rows, options.sessions as u32, number as u32);
+    let sessions = options.sessions.min(SESSIONS_MAX) as u32;
+    let rows = part_of(options.rows, sessions, number.min(SESSIONS_MAX) as u32);
     filler.fill(rt, &mut session, rows)
 }
 

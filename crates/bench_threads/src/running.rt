@@ -8,7 +8,7 @@ use crate::figures::Figures;
 use crate::filling::{Filled, fill_all};
 use crate::met::Met;
 use crate::watch::Watch;
-use crate::writer::{Field, write_on};
+use crate::writer::write_on;
 use bench_runs::{
     Failure, Options, first_difference, parts, plan, read_peak, schema, spec, spools,
 };
@@ -35,9 +35,6 @@ const RANGES_OF_A_WORKER: usize = 8;
 
 /// A worker takes as many ranges as it can, so its spools have room for the parts of so many workers.
 const PARTS_OF_A_SPOOL: usize = 4;
-
-/// What the writers' rows are drawn by differs from what those of the table are drawn by.
-const SEED_OF_WRITERS: u64 = 4_294_967_296;
 
 /// What a build is to do, and by which spools.
 #[derive(Drop)]
@@ -150,13 +147,30 @@ where
     R: Runtime + Threads + Wait + Sync,
 {
     course.go_to(rt, 0);
-    // Where no thread can be made the writers come last, and find that all is over.
-    let (met, built) = join(
-        rt,
-        || write_all(rt, alloc, table, options, course, filled),
-        move || build_beside(rt, alloc, table, ends, work, options, course),
-    );
+    let (met, built) = write_and_build(rt, alloc, table, options, course, filled, ends, work);
     figures_of(course, filled, met, built, read_peak(rt))
+}
+
+/// The writers write in threads of their own until the build is done. Where no thread can be made they come last, and find that all is over.
+fn write_and_build<T, R>(
+    rt: &R,
+    alloc: Global,
+    table: &Table<T>,
+    options: &Options,
+    course: &Course,
+    filled: Filled,
+    ends: Ends<T>,
+    work: Work,
+) -> (Result<Met, Failure>, Result<(), Failure>)
+where
+    T: Opened + Send + Sync,
+    R: Threads + Wait + Clock + Sync,
+{
+    join(
+        rt,
+        move || write_all(rt, alloc, table, options, course, filled),
+        move || build_beside(rt, alloc, table, ends, work, options, course),
+    )
 }
 
 /// What was measured, unless something failed.
@@ -195,18 +209,11 @@ where
     T: Opened + Send + Sync,
     R: Threads + Wait + Clock + Sync,
 {
-    let field = field_of(options, filled);
     let told = map_indices(
         rt,
         alloc,
         options.writers,
-        &|number| {
-            let seed = options
-                .seed
-                .wrapping_add(SEED_OF_WRITERS)
-                .wrapping_add(number as u64);
-            write_on(rt, alloc, table, course, field, seed)
-        },
+        &move |number| { write_on(rt, alloc, table, options, course, filled, number) },
     );
     match told {
         Ok(all) => together(course.step(), all.as_slice()),
@@ -224,15 +231,6 @@ fn together(step: u64, all: &[Result<Met, Failure>]) -> Result<Met, Failure> {
         }
     }
     Ok(together)
-}
-
-fn field_of<'a>(options: &'a Options, filled: Filled) -> Field<'a> {
-    let rows = options.rows.div_ceil(filled.pages.max(1));
-    Field {
-        columns: options.columns.as_slice(),
-        pages: filled.pages,
-        rows: rows.min(u32::from(u16::MAX)) as u16,
-    }
 }
 
 /// Lets the writers write alone for a while, builds then, and ends the run.

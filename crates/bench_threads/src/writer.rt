@@ -2,9 +2,10 @@
 
 use crate::clock::{nanos_between, now};
 use crate::course::Course;
+use crate::filling::Filled;
 use crate::met::Met;
 use crate::span::Span;
-use bench_runs::{Column, Failure, random_row};
+use bench_runs::{Column, Failure, Options, random_row};
 use crew::{Opened, Session, Table};
 use keybytes::{Fault, Rid};
 use rand::rngs::SmallRng;
@@ -30,22 +31,19 @@ enum Write {
 
 const WRITES: [Write; 3] = [Write::Insert, Write::Update, Write::Delete];
 
-/// The table that is written to, as a writer knows it.
-#[derive(Clone, Copy)]
-pub struct Field<'a> {
-    pub columns: &'a [Column],
-    /// How many pages had rows at first.
-    pub pages: u32,
-    /// How many rows a page had at most.
-    pub rows: u16,
-}
+/// What the writers' rows are drawn by differs from what those of the table are drawn by.
+const SEED_OF_WRITERS: u64 = 4_294_967_296;
 
 /// A writer, and what it met.
 #[derive(Drop)]
 struct Writer<'a> {
     alloc: Global,
     course: &'a Course,
-    field: Field<'a>,
+    columns: &'a [Column],
+    /// How many pages had rows at first.
+    pages: u32,
+    /// How many rows a page had then.
+    rows: u16,
     rng: SmallRng,
     /// When its last call ended.
     last: Instant,
@@ -54,20 +52,25 @@ struct Writer<'a> {
     met: Met,
 }
 
-/// Writes until the run is over.
+/// What the writer of that number does until the run is over.
 pub fn write_on<T: Opened, R: Wait + Clock>(
     rt: &R,
     alloc: Global,
     table: &Table<T>,
+    options: &Options,
     course: &Course,
-    field: Field<'_>,
-    seed: u64,
+    filled: Filled,
+    number: usize,
 ) -> Result<Met, Failure> {
+    let seed = options.seed.wrapping_add(SEED_OF_WRITERS);
+    let rows = options.rows.div_ceil(filled.pages.max(1));
     let mut writer = Writer {
         alloc,
         course,
-        field,
-        rng: SmallRng::seed_from_u64(seed),
+        columns: options.columns.as_slice(),
+        pages: filled.pages.max(1),
+        rows: rows.clamp(1, u32::from(u16::MAX)) as u16,
+        rng: SmallRng::seed_from_u64(seed.wrapping_add(number as u64)),
         last: now(rt)?,
         entries: 0,
         met: Met::NOTHING,
@@ -187,13 +190,13 @@ impl Writer<'_> {
     ) -> Result<u64, Fault> {
         match write {
             Write::Insert => {
-                let row = random_row(self.alloc, &mut self.rng, self.field.columns)?;
+                let row = random_row(self.alloc, &mut self.rng, self.columns)?;
                 session.insert(rt, txn, row)?;
                 Ok(1)
             }
             Write::Update => {
                 let rid = self.pick();
-                let row = random_row(self.alloc, &mut self.rng, self.field.columns)?;
+                let row = random_row(self.alloc, &mut self.rng, self.columns)?;
                 session.update(rt, txn, rid, row)?;
                 Ok(2)
             }
@@ -207,8 +210,8 @@ impl Writer<'_> {
     /// Where a row may stand.
     fn pick(&mut self) -> Rid {
         Rid {
-            page: self.rng.random_range(0..self.field.pages.max(1)),
-            slot: self.rng.random_range(0..self.field.rows.max(1)),
+            page: self.rng.random_range(0..self.pages.max(1)),
+            slot: self.rng.random_range(0..self.rows.max(1)),
         }
     }
 

@@ -45,7 +45,7 @@ join-requires-send-F g c = λ κs known.
         ),
       ),
     ) in
-    param_send 2
-    (lts.arg-0-2 g.row.T g.row.R g.T.laws g.R.laws g.T.Opened g.T.Opened-dict g.T.Named g.T.Named-dict g.T.Table g.T.Table-dict
+    param_send 1
+    (lts.arg-0-1 g.row.T g.row.R g.T.laws g.R.laws g.T.Opened g.T.Opened-dict g.T.Named g.T.Named-dict g.T.Table g.T.Table-dict
     g.R.Threads g.R.Threads-dict g.R.Wait g.R.Wait-dict g.R.Clock g.R.Clock-dict κs)
     (record { owned = s.owned; leaving = s.leaving })
