@@ -1,4 +1,4 @@
-use Rattle.std.proofs.Common.{arith, take, length, subst, sym, ◌∙◌}
+use Rattle.std.proofs.Common.{arith, subst, sym, ◌∙◌}
 use Rattle.std.proofs.lemmas.List.Elements.{All-more}
 use Rattle.std.proofs.lemmas.List.{take_all, get_or_read}
 use Rattle.std.specs.List.{All}
