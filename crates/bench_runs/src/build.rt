@@ -1,5 +1,5 @@
 //! What is made for the core: a table to measure on, and the spools and the plan of a build.
-ghost use Rattle.std.specs.Prelude.{◌≡◌, ◌∷◌, [], ◌%◌, length, IfOk, All};
+ghost use Rattle.std.specs.Prelude.{◌≡◌, ◌<◌, ◌∷◌, [], ◌%◌, length, IfOk, All};
 ghost use Rattle.spool_ledger.specs.Accounts.{IsWhole};
 
 use crate::column::Column;
@@ -17,12 +17,17 @@ const SPOOLS_MAX: usize = WORKERS_MAX * INDEXES_MAX;
 
 /// An empty table of these columns, with as many rows a page as a page may have.
 pub fn parts(alloc: Global, columns: &[Column]) -> Result<Parts, Fault> {
-    let schema = Schema::new(kinds(alloc, columns)?)?;
+    let schema = schema(alloc, columns)?;
     let heap = Heap::new(alloc, schema, SLOTS_MAX, PAGES_MAX)?;
     match Parts::new(alloc, heap) {
         Ok(parts) => Ok(parts),
         Err((_, fault)) => Err(fault),
     }
+}
+
+/// Rows of these columns.
+pub fn schema(alloc: Global, columns: &[Column]) -> Result<Schema, Fault> {
+    Schema::new(kinds(alloc, columns)?)
 }
 
 /// What the cells of each column are.
@@ -34,9 +39,11 @@ fn kinds(alloc: Global, columns: &[Column]) -> Result<Vec<Kind>, AllocError> {
     Ok(kinds)
 }
 
-/// A spool for each worker and index, with as many pages as the pairs of its part take.
-pub fn spools(alloc: Global, options: &Options) -> Result<Vec<PlainSpool>, Fault> {
-    let quota = quota(options.rows, options.key_size(), options.workers);
+/// A spool for each worker and index, with as many pages as the pairs of one of so many parts take.
+pub fn spools(alloc: Global, options: &Options, parts: usize) -> Result<Vec<PlainSpool>, Fault>
+    requires { 0 < parts }
+{
+    let quota = quota(options.rows, options.key_size(), parts);
     let count = options
         .workers
         .saturating_mul(options.indexes)

@@ -32,6 +32,20 @@ The phases of a run:
   inserts        a tenth as many rows, and 100,000 at most, are inserted with the indexes ready
   updates ready  as many rows are updated with the indexes ready
 
+With threads there are these phases:
+
+  fill           sessions insert the rows, 1,000 a transaction; the time of the one that took longest
+  before         the writers write for two seconds (with --writers)
+  start          the build starts
+  scan           each worker copies pages in holds of the table's lock, and makes their pairs outside of it
+  load           the runs are merged, without the lock
+  catch-up       turns that feed and apply entries of the side-files, and try the switch
+  last turn      the one that ends with the switch
+  build          start to last turn
+
+A writer's transaction inserts, updates and deletes a row; 15 of 100 are rolled back. `entries` are those that the changes
+make for each index: from load on they all go into the side-files. A call's time has its wait for the lock in it.
+
 Then each index is compared with the pairs that the table itself gives; where they differ no figures are printed, and
 the exit status is 2. `peak` is the most memory that the program ever had by the end of the phase.
 
@@ -57,7 +71,7 @@ const FLAG: Word = Word {
     parser: ValueParser::String,
 };
 
-static WORDS: [Word; 8] = [
+static WORDS: [Word; 11] = [
     Word {
         name: "rows",
         help: "How many rows the table has",
@@ -89,7 +103,7 @@ static WORDS: [Word; 8] = [
     },
     Word {
         name: "workers",
-        help: "How many workers make the pairs, in turn in one thread [default: as many as the rows need]",
+        help: "How many workers make the pairs, in turn in one thread or with --threads each in its own [default: as many as the rows need]",
         value: Some("W"),
         parser: ValueParser::Unsigned(1, 16),
         ..FLAG
@@ -100,6 +114,25 @@ static WORDS: [Word; 8] = [
         value: Some("M"),
         default: Some("0"),
         parser: ValueParser::Signed(0, 4_294_967_295),
+        ..FLAG
+    },
+    Word {
+        name: "threads",
+        help: "The table is shared: its rows are put in by sessions, and each worker has a thread of its own",
+        ..FLAG
+    },
+    Word {
+        name: "sessions",
+        help: "How many sessions fill the table, each in a thread of its own (implies --threads) [default: 1]",
+        value: Some("S"),
+        parser: ValueParser::Unsigned(1, 16),
+        ..FLAG
+    },
+    Word {
+        name: "writers",
+        help: "How many sessions write beside the build, and for two seconds before it (implies --threads)",
+        value: Some("M"),
+        parser: ValueParser::Unsigned(1, 16),
         ..FLAG
     },
     Word {
@@ -122,6 +155,7 @@ static WORDS: [Word; 8] = [
 enum Refusal {
     Column,
     Rows,
+    Writes,
     Memory,
 }
 
@@ -141,6 +175,7 @@ fn told(alloc: Global, refusal: Refusal) -> Result<Error, AllocError> {
     let message = match refusal {
         Refusal::Column => "a column is `int`, or `text:` with a number from 1 to 100",
         Refusal::Rows => "so many rows find no room in the spools of 16 workers",
+        Refusal::Writes => "with threads `--writers` write, and `--writes` is of builds without",
         Refusal::Memory => return Err(AllocError),
     };
     command(alloc)?.error(ErrorKind::ValueValidation, message)
@@ -153,6 +188,7 @@ fn choose(matches: &ArgMatches<'_>, options: &mut Options) -> Result<(), Refusal
     options.indexes = number(matches, "indexes") as usize;
     options.unique = matches.get_flag("unique");
     options.writes = number(matches, "writes");
+    choose_threads(matches, options)?;
     options.seed = matches.get_one("seed").unwrap_or(0);
     options.csv = matches.get_flag("csv");
     options.workers = match matches.get_one::<usize>("workers") {
@@ -162,6 +198,23 @@ fn choose(matches: &ArgMatches<'_>, options: &mut Options) -> Result<(), Refusal
             None => return Err(Refusal::Rows),
         },
     };
+    Ok(())
+}
+
+/// Writes down what is chosen of threads.
+fn choose_threads(matches: &ArgMatches<'_>, options: &mut Options) -> Result<(), Refusal> {
+    options.threads = matches.get_flag("threads");
+    if let Some(sessions) = matches.get_one("sessions") {
+        options.sessions = sessions;
+        options.threads = true;
+    }
+    if let Some(writers) = matches.get_one("writers") {
+        options.writers = writers;
+        options.threads = true;
+    }
+    if options.threads && options.writes > 0 {
+        return Err(Refusal::Writes);
+    }
     Ok(())
 }
 

@@ -23,10 +23,15 @@ mod running;
 mod spool_pages;
 mod subject;
 
+pub use build::{parts, plan, schema, spec, spools};
+pub use column::Column;
 pub use command_line::read;
+pub use dealing::part_of;
 pub use failure::Failure;
+pub use look_ups::first_difference;
 pub use options::Options;
-pub use peak::peak_in;
+pub use peak::{peak_in, read as read_peak};
 pub use record::Figures;
-pub use report::printed;
+pub use report::{add_number, printed};
+pub use rows::random_row;
 pub use running::run;

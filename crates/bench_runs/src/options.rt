@@ -21,6 +21,12 @@ pub struct Options {
     pub writes: u32,
     /// What the rows are drawn by.
     pub seed: u64,
+    /// Whether the workers are in threads of their own.
+    pub threads: bool,
+    /// How many sessions fill the table, where the workers are in threads.
+    pub sessions: usize,
+    /// How many sessions write beside the build.
+    pub writers: usize,
     /// Whether the figures are printed as comma-separated records.
     pub csv: bool,
     pub ghost some: { 0 < workers },
@@ -37,6 +43,9 @@ impl Drop for Options {
             workers: _,
             writes: _,
             seed: _,
+            threads: _,
+            sessions: _,
+            writers: _,
             csv: _,
         } = self;
     }
@@ -53,6 +62,9 @@ impl Options {
             workers: 1,
             writes: 0,
             seed: 0,
+            threads: false,
+            sessions: 1,
+            writers: 0,
             csv: false,
         }
     }

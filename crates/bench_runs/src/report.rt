@@ -113,7 +113,7 @@ fn told_peak(figure: &Figure) -> Option<u128> {
 }
 
 /// Adds a number with a comma before each three digits, or nothing, at the right end of so many groups of at least that many characters.
-fn add_number(
+pub fn add_number(
     text: &mut String,
     number: Option<u128>,
     groups: usize,

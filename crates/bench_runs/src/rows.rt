@@ -53,7 +53,7 @@ impl Rows {
     ) -> Result<(), Fault> {
         for _ in 0..count {
             let rid = if are_new { None } else { Some(self.pick()) };
-            let row = row(alloc, &mut self.rng, columns)?;
+            let row = random_row(alloc, &mut self.rng, columns)?;
             self.changes.push(Change { rid, row })?;
         }
         Ok(())
@@ -81,7 +81,7 @@ impl Rows {
 }
 
 /// A random row of these columns.
-fn row(alloc: Global, rng: &mut SmallRng, columns: &[Column]) -> Result<Row, Fault> {
+pub fn random_row(alloc: Global, rng: &mut SmallRng, columns: &[Column]) -> Result<Row, Fault> {
     let mut cells = Vec::with_capacity(alloc, columns.len())?;
     add_cells(alloc, rng, columns, &mut cells)?;
     Row::new(cells)

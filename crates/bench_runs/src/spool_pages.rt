@@ -6,8 +6,11 @@ use builder_core::WORKERS_MAX;
 use heap_table::SLOTS_MAX;
 use spool_ledger::PAGE_SIZE;
 
+/// The most pages of a spool where the workers are as many as the rows need.
+const USUAL_MAX: usize = 1024;
+
 /// The most pages of a spool.
-pub const QUOTA_MAX: usize = 1024;
+const QUOTA_MAX: usize = 16_777_216;
 
 /// The pairs of a run, which begins on a page of its own.
 const RUN_PAIRS: usize = 4096;
@@ -37,7 +40,7 @@ fn share(rows: u32, workers: usize) -> usize
 pub fn quota(rows: u32, key_size: usize, workers: usize) -> usize
     requires workers { 0 < workers }
     requires key { key_size ≤ 258 }
-    ensures { result ≤ 1024 }
+    ensures { result ≤ 16777216 }
 {
     pages_for(key_size, share(rows, workers)).min(QUOTA_MAX)
 }
@@ -48,7 +51,7 @@ fn fits(rows: u32, key_size: usize, workers: usize) -> bool
     requires key { key_size ≤ 258 }
     ensures { result ≡ fits rows key_size workers }
 {
-    pages_for(key_size, share(rows, workers)) <= QUOTA_MAX
+    pages_for(key_size, share(rows, workers)) <= USUAL_MAX
 }
 
 /// The fewest workers whose spools have room for the pairs of so many rows, if a build may have as many.

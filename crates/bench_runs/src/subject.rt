@@ -40,7 +40,7 @@ impl<T: Table> Subject for Core<PlainSpool, T> {
 
     fn start(&mut self, rt: &HostRuntime, record: &mut Record, options: &Options) {
         record.begin(rt);
-        match spools(rt.alloc(), options) {
+        match spools(rt.alloc(), options, options.workers) {
             Ok(spools) => {
                 self.exchange_spools(spools);
             }

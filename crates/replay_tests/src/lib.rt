@@ -1,5 +1,5 @@
 //! Tests of the libraries `replay` and `script`: whole scripts with what they print, what is said of bad ones, and readers and writers
-//! that fail; of `words`: those that `sfbuild` takes; and of `bench_runs`: small runs with what they print.
+//! that fail; of `words`: those that `sfbuild` takes; and of `bench_runs` and `bench_threads`: small runs with what they print.
 #![tactic(auto)]
 
 #[cfg(test)]

@@ -2,7 +2,10 @@
 
 use bench_runs::{Failure, peak_in, printed, read, run};
 use std::alloc::Global;
+use std::rt::Runtime;
+use std::sync::Wait;
 use std::test::Fail;
+use std::thread::Threads;
 
 /// The phases of a run with updates, in the order in which they are printed, behind the names of the fields.
 static PHASES: [&str; 15] = [
@@ -57,7 +60,7 @@ static RUNS: [&[&str]; 3] = [
 ];
 
 /// Words that ask for nothing that can be run.
-static REFUSED: [&[&str]; 9] = [
+static REFUSED: [&[&str]; 12] = [
     &["sfbench", "fast"],
     &["sfbench", "--rows", "0"],
     &["sfbench", "--rows", "100000000"],
@@ -67,6 +70,39 @@ static REFUSED: [&[&str]; 9] = [
     &["sfbench", "--workers", "17"],
     &["sfbench", "--indexes", "0"],
     &["sfbench", "--indexes", "9"],
+    &["sfbench", "--sessions", "0"],
+    &["sfbench", "--writers", "17"],
+    &["sfbench", "--threads", "--writes", "1"],
+];
+
+/// The phases of a run with writers in threads, in the order in which they are printed, behind the names of the fields.
+static STAGES: [&str; 9] = [
+    "phase",
+    "fill",
+    "before",
+    "start",
+    "scan",
+    "load",
+    "catch-up",
+    "last turn",
+    "build",
+];
+
+/// A run whose rows come by three sessions, and whose two indexes are built by two workers beside two writers.
+static BESIDE: [&str; 13] = [
+    "sfbench",
+    "--rows",
+    "3000",
+    "--columns",
+    "int,text:20",
+    "--indexes",
+    "2",
+    "--workers",
+    "2",
+    "--sessions=3",
+    "--writers",
+    "2",
+    "--csv",
 ];
 
 /// What a run prints.
@@ -74,6 +110,18 @@ fn told(rt: &HostRuntime, words: &[&str]) -> Result<String, Fail> {
     let options = read(rt.alloc(), words)?;
     match run(rt, &options) {
         Ok(figures) => Ok(printed(rt.alloc(), &options, &figures)?),
+        Err(failure) => Err(Fail::new(failure)),
+    }
+}
+
+/// What a run with threads prints.
+fn told_beside<R>(rt: &R, alloc: Global, words: &[&str]) -> Result<String, Fail>
+where
+    R: Runtime + Threads + Wait + Sync,
+{
+    let options = read(alloc, words)?;
+    match bench_threads::run(rt, alloc, &options) {
+        Ok(figures) => Ok(bench_threads::printed(alloc, &options, &figures)?),
         Err(failure) => Err(Fail::new(failure)),
     }
 }
@@ -95,6 +143,13 @@ fn small_runs(rt: HostRuntime) -> Result<(), Fail> {
         let records = told(&rt, words)?;
         assert!(rt; begin_with(records.as_str(), &PHASES));
     }
+    Ok(())
+}
+
+#[test]
+fn a_build_beside_writers(rt: HostRuntime) -> Result<(), Fail> {
+    let records = told_beside(&rt, rt.alloc(), BESIDE.as_slice())?;
+    assert!(rt; begin_with(records.as_str(), &STAGES));
     Ok(())
 }
 

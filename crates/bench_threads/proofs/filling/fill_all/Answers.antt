@@ -1,0 +1,41 @@
+use mathlib.Core.List.{[], ◌∷◌}
+use mir.Syntax.{named}
+use denote.Param.{param}
+use denote.Ref.{ShrRef}
+use denote.Param.Send.{IsSync, param_sync, sendable, shr_sync}
+use denote.Struct.Tuple.{TupleAt}
+use Rattle.std.proofs.Crossing.{crosses}
+use Rattle.std.specs.contracts.alloc.Global as Global
+use Rattle.bench_runs.proofs.options.Options.TheSendSync as options
+use Rattle.bench_runs.specs.contracts.options.Options as Options
+use Rattle.crew.proofs.Crosses.{table_sync}
+use Rattle.crew.specs.contracts.table.Table as Table
+use Rattle.bench_threads.proofs.Crosses.{captured_sync}
+use Rattle.bench_threads.proofs.filling.fill_all.Lts as lts
+use Rattle.bench_threads.proofs.filling.fill_all.Goals as goal
+
+-- `search` doesn't see what the closure has taken, so the list of it is written out.
+pub map_indices-told-requires-sync-F : goal.map_indices-told-requires-sync-F
+map_indices-told-requires-sync-F g c = λ κs known.
+    let s : IsSync (TupleAt [] (ShrRef (named 6) κs.1.1.1.1.1.1.0 (param 1 g.row.R)
+    ∷ Global.the_row
+    ∷ ShrRef (named 7) κs.1.1.1.1.1.1.1.0 (Table.the_row (param 0 g.row.T) g.T.Opened g.T.Named g.T.Table)
+    ∷ ShrRef (named 8) κs.1.1.1.1.1.1.1.1.0 Options.the_row
+    ∷ [])) = captured_sync [] (ShrRef (named 6) κs.1.1.1.1.1.1.0 (param 1 g.row.R)
+    ∷ Global.the_row
+    ∷ ShrRef (named 7) κs.1.1.1.1.1.1.1.0 (Table.the_row (param 0 g.row.T) g.T.Opened g.T.Named g.T.Table)
+    ∷ ShrRef (named 8) κs.1.1.1.1.1.1.1.1.0 Options.the_row
+    ∷ []) (
+      search (c.type_bounds.sync-R, sendable) depth 10,
+      (
+        search (sendable, crosses) depth 10,
+        (
+          shr_sync _ _ _ (table_sync (param 0 g.row.T) g.T.Opened g.T.Named g.T.Table),
+          (search (options.the_sync, sendable) depth 10, tt),
+        ),
+      ),
+    ) in
+    param_sync 3
+    (lts.arg-1-3 g.row.T g.row.R g.T.laws g.R.laws g.T.Opened g.T.Opened-dict g.T.Named g.T.Named-dict g.T.Table g.T.Table-dict
+    g.R.Threads g.R.Threads-dict g.R.Wait g.R.Wait-dict g.R.Clock g.R.Clock-dict κs)
+    (record { shared = s.shared })

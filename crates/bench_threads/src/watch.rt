@@ -1,0 +1,34 @@
+use crate::course::{Course, FIRST_TURN, LOAD, SCAN, START};
+use crew::{Gate, Point};
+use std::time::Clock;
+
+/// Tells the course how far a build is, and holds nobody up.
+#[derive(Drop)]
+pub struct Watch<'a, R: Clock> {
+    pub rt: &'a R,
+    pub course: &'a Course,
+    /// How many workers the build has.
+    pub workers: usize,
+}
+
+impl<R: Clock> Gate for Watch<'_, R> {
+    fn at(&self, point: Point) {
+        match point {
+            Point::Scanned { .. } => {
+                if self.course.step() == START {
+                    self.course.go_to(self.rt, SCAN);
+                }
+            }
+            Point::Sealed { .. } => {
+                if self.course.note_sealed() == self.workers as u64 {
+                    self.course.go_to(self.rt, LOAD);
+                }
+            }
+            Point::Loaded { .. } => {}
+            Point::Try { n } => {
+                let turn = u64::from(n).saturating_sub(1);
+                self.course.go_to(self.rt, FIRST_TURN + turn);
+            }
+        }
+    }
+}
