@@ -11,7 +11,6 @@ use run_spool::PlainSpool;
 use std::alloc::Global;
 use std::marker::Brand;
 use std::sync::Wait;
-use std::sync::atomic::{AtomicBool, Ordering};
 use std::thread;
 use std::thread::{Threads, join};
 
@@ -30,8 +29,10 @@ const THREE: Asked = Asked {
 /// The key that all sessions want.
 const WANTED: i64 = 7;
 
-/// How many transactions each session has behind the build.
-const BEHIND: usize = 40;
+/// How many transactions each session has beside the build at most, and how many behind it.
+const BESIDE: u32 = 1_000_000;
+
+const BEHIND: u16 = 40;
 
 /// The next transaction, once the build lets one begin.
 fn begin<T: Opened, R: Wait>(rt: &R, session: &mut Session<'_, T>) -> Result<u64, Fault> {
@@ -124,25 +125,34 @@ fn transact<T: Opened, R: Wait>(
     undo(rt, session, receipts, txn)
 }
 
-/// Transactions that are undone until the build has returned, and then some of which every other one commits.
+/// Transactions that are undone, until the index is ready.
+fn write_beside<T: Opened, R: Wait>(
+    rt: &R,
+    alloc: Global,
+    session: &mut Session<'_, T>,
+    receipts: &mut Vec<Receipt<T>>,
+) -> Result<(), Fault> {
+    let mut turn: u16 = 0;
+    for _ in 0..BESIDE {
+        if session.pairs(rt, alloc, 0).is_ok() {
+            return Ok(());
+        }
+        transact(rt, alloc, session, receipts, turn, false)?;
+        turn = turn.wrapping_add(1);
+    }
+    Err(Fault::NotLoaded(0))
+}
+
+/// The same, and then some of which every other one commits.
 fn write<T: Opened, R: Wait>(
     rt: &R,
     alloc: Global,
     session: &mut Session<'_, T>,
     receipts: &mut Vec<Receipt<T>>,
-    is_built: &AtomicBool,
 ) -> Result<(), Fault> {
-    let mut turn: u16 = 0;
-    for _ in rt.forever() {
-        if is_built.load(Ordering::SeqCst) {
-            break;
-        }
-        transact(rt, alloc, session, receipts, turn, false)?;
-        turn = turn.wrapping_add(1);
-    }
-    for behind in 0..BEHIND {
-        transact(rt, alloc, session, receipts, turn, behind % 2 == 1)?;
-        turn = turn.wrapping_add(1);
+    write_beside(rt, alloc, session, receipts)?;
+    for turn in 0..BEHIND {
+        transact(rt, alloc, session, receipts, turn, turn % 2 == 1)?;
     }
     Ok(())
 }
@@ -152,10 +162,9 @@ fn written<T: Opened, R: Wait>(
     rt: &R,
     alloc: Global,
     mut session: Session<'_, T>,
-    is_built: &AtomicBool,
 ) -> (Vec<Receipt<T>>, Result<(), Fault>) {
     let mut receipts = Vec::new(alloc);
-    let told = write(rt, alloc, &mut session, &mut receipts, is_built);
+    let told = write(rt, alloc, &mut session, &mut receipts);
     (receipts, told)
 }
 
@@ -165,36 +174,17 @@ fn written_by_two<T: Opened + Send + Sync, R: Threads + Wait + Sync>(
     alloc: Global,
     one: Session<'_, T>,
     two: Session<'_, T>,
-    is_built: &AtomicBool,
 ) -> (Vec<Receipt<T>>, Result<(), Fault>) {
     let ((mut receipts, first), second) = join(
         rt,
-        move || written(rt, alloc, one, is_built),
-        move || written(rt, alloc, two, is_built),
+        move || written(rt, alloc, one),
+        move || written(rt, alloc, two),
     );
     let gathered = gather(&mut receipts, second);
     (receipts, first.and(gathered))
 }
 
-/// Those of four.
-fn written_by_four<T: Opened + Send + Sync, R: Threads + Wait + Sync>(
-    rt: &R,
-    alloc: Global,
-    table: &Table<T>,
-    is_built: &AtomicBool,
-) -> (Vec<Receipt<T>>, Result<(), Fault>) {
-    let (one, two) = (table.session(rt), table.session(rt));
-    let (three, four) = (table.session(rt), table.session(rt));
-    let ((mut receipts, first), second) = join(
-        rt,
-        move || written_by_two(rt, alloc, one, two, is_built),
-        move || written_by_two(rt, alloc, three, four, is_built),
-    );
-    let gathered = gather(&mut receipts, second);
-    (receipts, first.and(gathered))
-}
-
-/// What a build comes to, whose end is told.
+/// What a build comes to.
 fn built<T: Opened + Send + Sync, R: Threads + Wait + Sync>(
     rt: &R,
     alloc: Global,
@@ -202,11 +192,51 @@ fn built<T: Opened + Send + Sync, R: Threads + Wait + Sync>(
     ends: Ends<T>,
     plan: &Plan,
     spools: Vec<PlainSpool>,
-    is_built: &AtomicBool,
 ) -> Result<Report<T>, BuildFault> {
     let (_ends, _spools, told) = build(rt, alloc, table, ends, plan, spools, &SILENT);
-    is_built.store(true, Ordering::SeqCst);
     told
+}
+
+/// The same, and what two sessions beside it wrote.
+fn built_beside_two<T: Opened + Send + Sync, R: Threads + Wait + Sync>(
+    rt: &R,
+    alloc: Global,
+    table: &Table<T>,
+    ends: Ends<T>,
+    plan: &Plan,
+    spools: Vec<PlainSpool>,
+) -> (
+    (Vec<Receipt<T>>, Result<(), Fault>),
+    Result<Report<T>, BuildFault>,
+) {
+    let (one, two) = (table.session(rt), table.session(rt));
+    join(
+        rt,
+        move || written_by_two(rt, alloc, one, two),
+        || built(rt, alloc, table, ends, plan, spools),
+    )
+}
+
+/// The same beside four.
+fn built_beside_four<T: Opened + Send + Sync, R: Threads + Wait + Sync>(
+    rt: &R,
+    alloc: Global,
+    table: &Table<T>,
+    ends: Ends<T>,
+    plan: &Plan,
+    spools: Vec<PlainSpool>,
+) -> (
+    (Vec<Receipt<T>>, Result<(), Fault>),
+    Result<Report<T>, BuildFault>,
+) {
+    let (one, two) = (table.session(rt), table.session(rt));
+    let ((mut receipts, first), (second, told)) = join(
+        rt,
+        move || written_by_two(rt, alloc, one, two),
+        || built_beside_two(rt, alloc, table, ends, plan, spools),
+    );
+    let gathered = gather(&mut receipts, second);
+    ((receipts, first.and(gathered)), told)
 }
 
 /// The pairs of the unique index, once the wanted key is found to be a row's.
@@ -264,7 +294,6 @@ fn contended<T: Opened + Send + Sync, R: Threads + Wait + Sync>(
     parts: TableParts,
     plan: &Plan,
     spools: Vec<PlainSpool>,
-    is_built: &AtomicBool,
 ) -> Result<usize, Fault>
     requires word { parts.word ≡ T.table }
     requires pages { parts.parts.pages ≡ T.pages }
@@ -272,11 +301,7 @@ fn contended<T: Opened + Send + Sync, R: Threads + Wait + Sync>(
     requires opening { parts.parts.heap.log ≡ T.opening }
 {
     let (table, ends) = parts.open::<T>();
-    let (written, told) = join(
-        rt,
-        || written_by_four(rt, alloc, &table, is_built),
-        || built(rt, alloc, &table, ends, plan, spools, is_built),
-    );
+    let (written, told) = built_beside_four(rt, alloc, &table, ends, plan, spools);
     pairs_of(rt, alloc, table, written, told)
 }
 
@@ -287,7 +312,7 @@ fn outcome<R: Threads + Wait + Sync>(rt: &R, alloc: Global) -> Result<usize, Fau
         tries: 1_000_000,
         ..plan
     };
-    contended::<Brand, R>(rt, alloc, parts, &patient, spools, &AtomicBool::new(false))
+    contended::<Brand, R>(rt, alloc, parts, &patient, spools)
 }
 
 /// Each refusal is for a row or a key that is another's. The last transaction that wants the key commits, so one of them has it in the end.

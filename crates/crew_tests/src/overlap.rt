@@ -14,7 +14,7 @@ pub struct Overlap {
     /// How many pages were copied, and how many by either worker.
     copies: AtomicU64,
     pages: [AtomicU64; 2],
-    /// How many inserts were asked for, and up to which of these they were answered.
+    /// How many inserts were asked for, and how many of these were answered.
     asked: AtomicU64,
     answered: AtomicU64,
     gave_up: AtomicBool,
@@ -46,25 +46,23 @@ impl Overlap {
         one > 0 && two > 0
     }
 
-    /// The number of inserts that were asked for.
-    pub fn asked(&self) -> u64 {
-        self.asked.load(Ordering::SeqCst)
+    /// The number of the next insert, if one is asked for.
+    pub fn next(&self) -> Option<u64> {
+        let next = self.answered.load(Ordering::SeqCst).saturating_add(1);
+        (next <= self.asked.load(Ordering::SeqCst)).then_some(next)
     }
 
-    pub fn is_answered(&self, asked: u64) -> bool {
-        self.answered.load(Ordering::SeqCst) >= asked
-    }
-
-    /// All inserts up to that number were answered.
-    pub fn answer(&self, asked: u64) {
-        self.answered.store(asked, Ordering::SeqCst);
+    /// The insert of that number, and all before it, were answered.
+    pub fn answer(&self, number: u64) {
+        self.answered.store(number, Ordering::SeqCst);
     }
 
     /// Holds the caller until an insert that began since was answered, and, if that is asked, until both workers were there.
     pub fn hold(&self, wants_both: bool) {
-        let asked = self.asked.fetch_add(1, Ordering::SeqCst).saturating_add(1);
+        let number = self.asked.fetch_add(1, Ordering::SeqCst).saturating_add(1);
         for _ in 0..LOOKS {
-            if self.is_answered(asked) && (!wants_both || self.are_both_there()) {
+            let is_answered = self.answered.load(Ordering::SeqCst) >= number;
+            if is_answered && (!wants_both || self.are_both_there()) {
                 return;
             }
             thread::yield_now();

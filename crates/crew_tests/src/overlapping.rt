@@ -61,13 +61,12 @@ fn insert_when_asked<T: Opened, R: Wait>(
     overlap: &Overlap,
 ) -> Result<(), Fault> {
     for _ in rt.forever() {
-        let asked = overlap.asked();
-        if !overlap.is_answered(asked) {
+        if let Some(number) = overlap.next() {
             insert(rt, alloc, session, receipts)?;
             if !is_scanning(rt, table) {
                 return Err(Fault::NotScanned(0));
             }
-            overlap.answer(asked);
+            overlap.answer(number);
         } else if overlap.is_over() {
             return Ok(());
         } else {
@@ -127,7 +126,9 @@ fn pairs_in<T: Opened>(
     let mut closed = table.close(receipts);
     let rest = rest_of(alloc, &mut closed.live)?;
     match pairs {
-        Some(pairs) if closed.missing == 0 && pairs.len() == 1 && pairs[0] == rest => Ok(rest.len()),
+        Some(pairs) if closed.missing == 0 && pairs.len() == 1 && pairs[0] == rest => Ok(
+            rest.len(),
+        ),
         _ => Err(Fault::BadCount),
     }
 }
@@ -146,10 +147,10 @@ fn overlapped<T: Opened + Send + Sync, R: Threads + Wait + Sync>(
     requires opening { parts.parts.heap.log ≡ T.opening }
 {
     let (table, ends) = parts.open::<T>();
-    let session = table.session(rt);
+    let (shared, session) = (&table, table.session(rt));
     let (written, told) = join(
         rt,
-        || written(rt, alloc, &table, session, overlap),
+        move || written(rt, alloc, shared, session, overlap),
         || built(rt, alloc, &table, ends, plan, spools, overlap),
     );
     if table.progress(rt).phase != Phase::Idle {

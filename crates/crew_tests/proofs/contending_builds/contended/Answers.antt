@@ -1,6 +1,0 @@
-use denote.Param.Send.{sendable}
-use Rattle.crew.proofs.Crosses.{table_sync}
-use Rattle.crew_tests.proofs.contending_builds.contended.Goals as goal
-
-pub join-written-requires-send-F : goal.join-written-requires-send-F
-join-written-requires-send-F g c = search (table_sync, sendable) depth 20
