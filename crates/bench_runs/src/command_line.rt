@@ -71,7 +71,7 @@ const FLAG: Word = Word {
     parser: ValueParser::String,
 };
 
-static WORDS: [Word; 11] = [
+static WORDS: [Word; 12] = [
     Word {
         name: "rows",
         help: "How many rows the table has",
@@ -133,6 +133,14 @@ static WORDS: [Word; 11] = [
         help: "How many sessions write beside the build, and for two seconds before it (implies --threads)",
         value: Some("M"),
         parser: ValueParser::Unsigned(1, 16),
+        ..FLAG
+    },
+    Word {
+        name: "pause",
+        help: "How many microseconds a writer waits between its transactions; a build never catches up with writers that don't wait",
+        value: Some("P"),
+        default: Some("100"),
+        parser: ValueParser::Signed(0, 4_294_967_295),
         ..FLAG
     },
     Word {
@@ -204,6 +212,7 @@ fn choose(matches: &ArgMatches<'_>, options: &mut Options) -> Result<(), Refusal
 /// Writes down what is chosen of threads.
 fn choose_threads(matches: &ArgMatches<'_>, options: &mut Options) -> Result<(), Refusal> {
     options.threads = matches.get_flag("threads");
+    options.pause = number(matches, "pause");
     if let Some(sessions) = matches.get_one("sessions") {
         options.sessions = sessions;
         options.threads = true;

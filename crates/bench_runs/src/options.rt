@@ -27,6 +27,8 @@ pub struct Options {
     pub sessions: usize,
     /// How many sessions write beside the build.
     pub writers: usize,
+    /// How many microseconds a writer waits between its transactions.
+    pub pause: u32,
     /// Whether the figures are printed as comma-separated records.
     pub csv: bool,
     pub ghost some: { 0 < workers },
@@ -46,6 +48,7 @@ impl Drop for Options {
             threads: _,
             sessions: _,
             writers: _,
+            pause: _,
             csv: _,
         } = self;
     }
@@ -65,6 +68,7 @@ impl Options {
             threads: false,
             sessions: 1,
             writers: 0,
+            pause: 0,
             csv: false,
         }
     }

@@ -27,8 +27,8 @@ use std::time::{Clock, Duration};
 /// How many seconds the writers write before the build.
 const ALONE: u64 = 2;
 
-/// How often a build tries its switch before it is given up.
-const TRIES: u32 = 1_000_000;
+/// How often a build tries its switch before it is given up: where its writers are too fast for it, it would never end.
+const TRIES: u32 = 5_000;
 
 /// The pages are dealt into so many ranges for each worker, so that none waits long for another at the end.
 const RANGES_OF_A_WORKER: usize = 8;
@@ -233,7 +233,7 @@ fn together(step: u64, all: &[Result<Met, Failure>]) -> Result<Met, Failure> {
     Ok(together)
 }
 
-/// Lets the writers write alone for a while, builds then, and ends the run.
+/// Lets the writers write alone for a while, and builds then.
 fn build_beside<T, R>(
     rt: &R,
     alloc: Global,
@@ -251,12 +251,10 @@ where
         sleep(rt, Duration::from_secs(ALONE));
     }
     course.go_to(rt, START);
-    let told = build_by(rt, alloc, table, ends, work, course);
-    course.end(rt);
-    told
+    build_by(rt, alloc, table, ends, work, course)
 }
 
-/// Builds the indexes by workers in threads.
+/// Builds the indexes by workers in threads, and ends the run then.
 fn build_by<T, R>(
     rt: &R,
     alloc: Global,
@@ -276,6 +274,7 @@ where
         workers: plan.workers,
     };
     let (_ends, _spools, told) = build(rt, alloc, table, ends, &plan, spools, &watch);
+    course.end(rt);
     verdict_of(&told)
 }
 

@@ -12,8 +12,8 @@ use rand::rngs::SmallRng;
 use rand::{RngExt, SeedableRng};
 use std::alloc::Global;
 use std::sync::Wait;
-use std::thread::yield_now;
-use std::time::{Clock, Instant};
+use std::thread::{sleep, yield_now};
+use std::time::{Clock, Duration, Instant};
 
 /// Of so many transactions ..
 const OF_ALL: u32 = 100;
@@ -45,6 +45,8 @@ struct Writer<'a> {
     /// How many rows a page had then.
     rows: u16,
     rng: SmallRng,
+    /// How long it waits between its transactions.
+    pause: Duration,
     /// When its last call ended.
     last: Instant,
     /// The entries that the open transaction makes.
@@ -71,6 +73,7 @@ pub fn write_on<T: Opened, R: Wait + Clock>(
         pages: filled.pages.max(1),
         rows: rows.clamp(1, u32::from(u16::MAX)) as u16,
         rng: SmallRng::seed_from_u64(seed.wrapping_add(number as u64)),
+        pause: Duration::from_micros(u64::from(options.pause)),
         last: now(rt)?,
         entries: 0,
         met: Met::NOTHING,
@@ -101,9 +104,19 @@ impl Writer<'_> {
             if self.course.is_over() {
                 return Ok(self.met);
             }
+            self.rest(rt)?;
             self.transact(rt, session)?;
         }
         unreachable!()
+    }
+
+    /// Waits before a transaction.
+    fn rest<R: Clock>(&mut self, rt: &R) -> Result<(), Failure> {
+        if self.pause > Duration::ZERO {
+            sleep(rt, self.pause);
+            self.last = now(rt)?;
+        }
+        Ok(())
     }
 
     /// One transaction, once it may begin.
