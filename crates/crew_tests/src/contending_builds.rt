@@ -29,8 +29,11 @@ const THREE: Asked = Asked {
 /// The key that all sessions want.
 const WANTED: i64 = 7;
 
-/// How many transactions each session has beside the build at most, and how many behind it.
-const BESIDE: u32 = 1_000_000;
+/// How often a session looks for the index before it gives up.
+const LOOKS: u32 = 1_000_000;
+
+/// How many transactions each session has beside the build at most, and how many behind it. A build may not catch up with sessions that write all the time.
+const BESIDE: u32 = 200;
 
 const BEHIND: u16 = 40;
 
@@ -125,20 +128,22 @@ fn transact<T: Opened, R: Wait>(
     undo(rt, session, receipts, txn)
 }
 
-/// Transactions that are undone, until the index is ready.
+/// Transactions that are undone, some at most, until the index is ready.
 fn write_beside<T: Opened, R: Wait>(
     rt: &R,
     alloc: Global,
     session: &mut Session<'_, T>,
     receipts: &mut Vec<Receipt<T>>,
 ) -> Result<(), Fault> {
-    let mut turn: u16 = 0;
-    for _ in 0..BESIDE {
+    for look in 0..LOOKS {
         if session.pairs(rt, alloc, 0).is_ok() {
             return Ok(());
         }
-        transact(rt, alloc, session, receipts, turn, false)?;
-        turn = turn.wrapping_add(1);
+        if look < BESIDE {
+            transact(rt, alloc, session, receipts, (look % 6) as u16, false)?;
+        } else {
+            thread::yield_now();
+        }
     }
     Err(Fault::NotLoaded(0))
 }
@@ -279,11 +284,11 @@ fn pairs_of<T: Opened, R: Wait>(
     told: Result<Report<T>, BuildFault>,
 ) -> Result<usize, Fault> {
     let (mut receipts, fine) = written;
-    fine?;
     match told {
         Ok(report) => receipts.push(report.receipt)?,
         Err(given_up) => return Err(given_up.0),
     }
+    fine?;
     let pairs = read(rt, alloc, &mut table.session(rt))?;
     count(alloc, table, receipts, pairs)
 }
