@@ -144,7 +144,8 @@ pub fn run_beside<'e, T: Opened + Send + Sync + 'e, R: Threads + Wait + Sync>(
         move |scope| -> (Built<T>, Gathered<T>)
             requires leased { IfOk planned IsLeased }
             requires none { (handles.items ≡ []) × (ended.items ≡ []) × (gathered.lines.items ≡ []) }
-            requires room { (vec_len scripts ≤ vec_capacity handles) × (vec_len scripts ≤ vec_capacity ended) × (vec_len scripts ≤ vec_capacity gathered.lines) }
+            requires room { (vec_len scripts ≤ vec_capacity handles) × (vec_len scripts ≤ vec_capacity ended)
+                × (vec_len scripts ≤ vec_capacity gathered.lines) }
             ensures pages { result.0.pages ≡ 0 }
             ensures build { EndsPlanned planned result.0.build }
             ensures lines { map line_count result.1.lines.items ≡ map script_count scripts.items }
