@@ -26,7 +26,7 @@ lists_in pairs = option_map (λ them. map (λ it. it.items) them.items) pairs
 pub record IsReport (specs : List KeySpecValue) (log : List LogRec) (verdicts : List Outcome) (pairs : Option (List (List Pair))) : Type 0 where
   -- the log ends with a switch of these verdicts
   pub switched : EndsWith log (Switch verdicts)
-  -- so many indexes were ready before
+  -- the indexes that became ready are numbered from here on
   pub ready : ℕ
   -- they are the verdicts on these indexes over the rows that stand in the log
   pub right : verdicts ≡ outcomes ready (map (verdict_on log) specs)

@@ -5,7 +5,7 @@ pub enum Phase {
     Idle,
     /// The workers copy pages and make their pairs.
     Scanning,
-    /// The pairs of one index after the other are put in order.
+    /// The pairs of the indexes are put in order.
     Loading,
     /// What was written meanwhile is fed and applied, and the switch is tried.
     CatchingUp,

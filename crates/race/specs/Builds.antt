@@ -33,15 +33,15 @@ abbrev pub PlansBuild : ℕ → List Kind → Build → Result Planned Fault →
 PlansBuild workers schema build (Ok planned) = IsPlanOf workers schema build planned
 PlansBuild workers schema build (Err fault) = IsInLimits workers build ⊎ (fault ≡ BadCount)
 
--- a build of these indexes was decided so: the verdicts are those on the rows that stood when it was, and the lines tell of the refused indexes, unless there
--- was no memory for them
+-- a build of these indexes was decided so: the verdicts are those on the rows that stood when it was, and the lines tell of the refused indexes, if there
+-- are any lines
 pub record IsOutcomeOf (specs : List KeySpecValue) (outcome : Outcome) : Type 0 where
   pub log : List LogRec
   pub pairs : Option (List (List Pair))
   pub report : IsReport specs log outcome.verdicts pairs
   pub shared : ListsShared 0 specs outcome.verdicts outcome.shared.items ⊎ (outcome.shared.items ≡ [])
 
--- a planned build was decided or given up; one that was refused wasn't started
+-- a planned build was decided or given up; one that was refused is told as it was refused
 abbrev pub EndsPlanned : Result Planned Fault → Result Outcome Fault → Type 0
 EndsPlanned (Ok planned) told = IfOk told (IsOutcomeOf planned.plan.specs.items)
 EndsPlanned (Err fault) told = told ≡ Err fault

@@ -4,6 +4,6 @@ use Rattle.std.specs.List.{All}
 use Rattle.race.specs.declared.check_line.CheckLine.{CheckLine}
 use Rattle.race.specs.declared.check_line.CheckLine.TheVariants.{Differs}
 
--- no index has other pairs than the rows
+-- no line says that a ready index has other pairs than the rows
 abbrev pub NoneDiffers : List CheckLine → Type 0
 NoneDiffers lines = All (λ line. ¬ (line ≡ Differs)) lines
