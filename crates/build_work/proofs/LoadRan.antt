@@ -1,5 +1,5 @@
 -- A load of an index went on.
-use Rattle.std.proofs.Common.{◌≡◌, ◌∙◌, ℕ, Bool, false, List, map, Option, Some, None, refl, sym, subst}
+use Rattle.std.proofs.Common.{◌≡◌, ◌∙◌, ℕ, Bool, inl, inr, false, List, map, Option, Some, None, refl, sym, subst}
 use Rattle.std.specs.Prelude.{IfSome, IsPermutation, is_some}
 use Rattle.keybytes.specs.Pairs.{AreOrdered}
 use Rattle.keybytes.specs.declared.fault.Fault.{Fault}
@@ -26,11 +26,15 @@ module _
 
   -- it put the pairs in order
   pub ran_well :
-      (built : BuiltValue) → refused ≡ None → built.build ≡ build → built.unique ≡ unique → IsPermutation (all_pairs (all_runs (map runs old))) built.pairs
+      (built : BuiltValue) → tree ≡ None → refused ≡ None → built.build ≡ build → built.unique ≡ unique → IsPermutation (all_pairs (all_runs (map runs old))) built.pairs
       → AreOrdered built.pairs → map (spool_value runs open_run stake) new ≡ map ended_spool (map (spool_value runs open_run stake) old)
       → HasRun (load_with old tree refused) (load_with new (Some built) refused)
-  ran_well built none number tallied moved ordered ended = record {
+  ran_well built empty none number tallied moved ordered ended = record {
     stakes = sym (stakes_seen runs open_run stake new) ∙ same ∙ stakes_seen runs open_run stake old;
+    again = λ before. elim before [
+      | inl there ↦ absurd (cc)
+      | inr told ↦ absurd (cc)
+    ];
     done = λ _ _ _. (
       built,
       refl,
@@ -43,12 +47,18 @@ module _
       ended,
     );
     memory = λ _. subst (λ (o : Option Fault). IfSome o (λ fault. fault ≡ Memory)) (sym none) tt;
+    refused = λ _. subst (λ (o : Option Fault). IfSome o (λ fault. Some built ≡ None)) (sym none) tt;
   }
 
   -- it was refused
-  pub ran_ill : (fault : Fault) → fault ≡ Memory → HasRun (load_with old tree refused) (load_with new tree (Some fault))
-  ran_ill fault memory = record {
+  pub ran_ill : (fault : Fault) → tree ≡ None → refused ≡ None → fault ≡ Memory → HasRun (load_with old tree refused) (load_with new tree (Some fault))
+  ran_ill fault empty none memory = record {
     stakes = sym (stakes_seen runs open_run stake new) ∙ same ∙ stakes_seen runs open_run stake old;
+    again = λ before. elim before [
+      | inl there ↦ absurd (cc)
+      | inr told ↦ absurd (cc)
+    ];
     done = λ _ _ none. absurd (cc);
     memory = λ _. memory;
+    refused = λ is. is;
   }

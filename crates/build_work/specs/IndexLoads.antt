@@ -1,5 +1,5 @@
 -- Loads of a build's indexes, each by itself.
-use Rattle.std.specs.Prelude.{◌≡◌, ℕ, suc, ◌*◌, ◌<◌, Bool, List, [], ◌∷◌, length, map, true, Option, Some, None, IfSome, IsPermutation}
+use Rattle.std.specs.Prelude.{◌≡◌, ◌⊎◌, ℕ, suc, ◌*◌, ◌<◌, Bool, is_some, List, [], ◌∷◌, length, map, true, Option, Some, None, IfSome, IsPermutation}
 use Rattle.std.specs.List.{All, AllZip, slice_get}
 use Rattle.keybytes.specs.Faults.{first_cause}
 use Rattle.keybytes.specs.Pairs.{AreOrdered}
@@ -46,9 +46,13 @@ first_fault_of (load ∷ loads) = first_cause load.fault (first_fault_of loads)
 -- a load went on: one that wasn't done or refused before put the pairs in order and ended the spools, or is refused for want of memory
 pub record HasRun (old new : IndexLoadValue) : Type 0 where
   pub stakes : stakes_of new.spools ≡ stakes_of old.spools
+  -- what was done or refused before stays as it is
+  pub again : ((is_some old.built ≡ true) ⊎ (is_some old.fault ≡ true)) → new ≡ old
   pub done : old.built ≡ None → old.fault ≡ None → new.fault ≡ None
       → (built : BuiltValue) × (new.built ≡ Some built) × IsLoadOf old built × (new.spools ≡ map ended_spool old.spools)
   pub memory : old.fault ≡ None → IfSome new.fault (λ fault. fault ≡ Memory)
+  -- one that is refused has no index
+  pub refused : old.built ≡ None → IfSome new.fault (λ fault. new.built ≡ None)
 
 -- the load of the index of that number, before it begins
 abbrev pub load_at : WorkValue → List SpoolValue → ℕ → IndexLoadValue

@@ -1,7 +1,7 @@
 //! The loads of a build's indexes, lent to threads.
-ghost use Rattle.std.specs.Prelude.{◌≡◌, length, IfErr, IfOk, OnOk};
+ghost use Rattle.std.specs.Prelude.{◌≡◌, length, IfErr, IfOk, OnOk, Some};
 ghost use Rattle.build_work.specs.Equipped.{HasRoomFor};
-ghost use Rattle.build_work.specs.IndexLoads.{AreBackFrom, AreLent, CanLoadAll, HasLoadedAll, LoadsStopped};
+ghost use Rattle.build_work.specs.IndexLoads.{AreBackFrom, AreLent, CanLoadAll, HasLoadedAll, LoadsStopped, first_fault_of};
 
 use crate::beside::Building;
 use crate::index_load::IndexLoad;
@@ -47,6 +47,7 @@ impl<S: Spool, T: Table> Building<S, T> {
         requires room { HasRoomFor (length was.value.spools) room }
         ensures loaded { OnOk result (HasLoadedAll was.value self.new) }
         ensures spoiled { IfErr result (λ fault. LoadsStopped was.value fault self.new) }
+        ensures first { IfErr result (λ fault. first_fault_of loads.items ≡ Some fault) }
         ensures memory { IfErr result (λ fault. fault ≡ Fault.Memory) }
     {
         let Some(work) = &mut self.work else {

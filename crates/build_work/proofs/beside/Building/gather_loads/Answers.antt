@@ -100,6 +100,11 @@ returns-in-Some-spoiled-clause-spoiled g c =
     (stopped was c.args.self.now c.args.loads.items c.requires.back (after g at) c.take_home-work-inside.result (back g at) (home g at) c.in-Some-spoiled.fault
     c.in-Some-spoiled.is)
 
+pub returns-in-Some-spoiled-clause-first : goal.returns-in-Some-spoiled-clause-first
+returns-in-Some-spoiled-clause-first g c =
+    let at = (goal.at.returns-in-Some-spoiled-clause-first g c).After-take_home-work-inside in
+    sym (home g at).first ∙ c.in-Some-spoiled.is
+
 pub install-requires : goal.install-requires
 install-requires g c =
     let at = (goal.at.install-requires g c).After-take_home-work-inside in

@@ -56,7 +56,7 @@ module _ (g : given.Over) (c : After-built_of-built g) where
       let ended = subst (λ r. OnOk r (map value c.built_of-built.result.1.items ≡ map ended_spool (map value c.replace-own.result.items))) is c.built_of-built.ensures.ended in
       subst (λ (old : IndexLoadValue). HasRun old (left (Some built) c.self.inside.fault)) c.self.view_is
       (ran_well spool.runs spool.open_run spool.stake c.self.inside.build c.self.inside.unique c.self.inside.built c.self.inside.fault c.self.inside.spools.items
-      c.built_of-built.result.1.items stakes built (none_there c.self.inside.fault c.if-is_some-2.ensures)
+      c.built_of-built.result.1.items stakes built (none_there c.self.inside.built c.if-is_some.ensures) (none_there c.self.inside.fault c.if-is_some-2.ensures)
       (subst (λ r. IfOk r (λ (b : BuiltValue). b.build ≡ c.self.inside.build)) is c.built_of-built.ensures.build)
       (subst (λ r. IfOk r (λ (b : BuiltValue). b.unique ≡ c.self.inside.unique)) is c.built_of-built.ensures.unique)
       (subst (λ (l : List _). IsPermutation (all_pairs (all_runs (map spool.runs l))) built.pairs) spools_same all)
@@ -76,4 +76,4 @@ returns-in-Err g c =
     let spool = g.S.Spool in
     subst (λ (old : IndexLoadValue). HasRun old (left g at c.self.inside.built (Some c.in-Err.fault))) c.self.view_is
     (ran_ill spool.runs spool.open_run spool.stake c.self.inside.build c.self.inside.unique c.self.inside.built c.self.inside.fault c.self.inside.spools.items
-    c.built_of-built.result.1.items (stakes g at) c.in-Err.fault (subst (λ r. IfErr r (λ (f : Fault). f ≡ Memory)) c.in-Err.is c.built_of-built.ensures.memory))
+    c.built_of-built.result.1.items (stakes g at) c.in-Err.fault (none_there c.self.inside.built c.if-is_some.ensures) (none_there c.self.inside.fault c.if-is_some-2.ensures) (subst (λ r. IfErr r (λ (f : Fault). f ≡ Memory)) c.in-Err.is c.built_of-built.ensures.memory))
