@@ -24,7 +24,7 @@ Records rec old new = (receipt : List LogRec) × (new.receipts ≡ old.receipts 
 abbrev pub Undoes : ℕ → SessionState → SessionState → Type 0
 Undoes txn old new = (receipt : List LogRec) × (new.receipts ≡ old.receipts ++ receipt ∷ []) × Undid old.log txn receipt new.log
 
--- nothing was written
+-- no receipt was kept, and what the session knows of the log only grew
 abbrev pub WritesNothing : SessionState → SessionState → Type 0
 WritesNothing old new = (new.receipts ≡ old.receipts) × IsPrefix old.log new.log
 

@@ -34,7 +34,7 @@ impl<T: Opened> Running<T> {
         }
     }
 
-    /// Does what a command of the session asks for. A refused one writes nothing; a label that was to name a transaction then names none.
+    /// Does what a command of the session asks for. A refused one keeps no receipt; a label that was to name a transaction then names none.
     /// Room for the receipt is made before.
     pub fn obey<R: Wait>(
         &mut self,
