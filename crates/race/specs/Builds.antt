@@ -1,5 +1,5 @@
 -- The build of a race.
-use Rattle.std.specs.Prelude.{◌≡◌, ◌⊎◌, ℕ, List, [], true, vec_len, map, Option, Result, Ok, Err, IfOk}
+use Rattle.std.specs.Prelude.{◌≡◌, ◌⊎◌, ℕ, ◌*◌, List, [], true, vec_len, map, Option, Result, Ok, Err, IfOk}
 use Rattle.keybytes.specs.Keys.{KeySpecValue}
 use Rattle.keybytes.specs.declared.fault.Fault.{Fault}
 use Rattle.keybytes.specs.declared.fault.Fault.TheVariants.{BadCount}
@@ -7,7 +7,7 @@ use Rattle.keybytes.specs.declared.kind.Kind.{Kind}
 use Rattle.keybytes.specs.declared.pair.Pair.{Pair}
 use Rattle.heap_log.specs.declared.record.LogRec.{LogRec}
 use Rattle.crew.specs.Reports.{IsReport}
-use Rattle.replay.specs.Leasing.{AreOf, plain_stake}
+use Rattle.replay.specs.Leasing.{AreOf, new_spools, plain_spools, plain_stake}
 use Rattle.replay.specs.Limits.{is_in_limits}
 use Rattle.replay.specs.Listings.{ListsShared, key_spec_of}
 use Rattle.script.specs.declared.race.build.Build.{Build}
@@ -22,11 +22,14 @@ IsInLimits workers build = is_in_limits workers (vec_len build.specs) build.quot
 abbrev pub IsLeased : Planned → Type 0
 IsLeased planned = AreOf planned.leases (map plain_stake planned.spools.items)
 
--- a build of these indexes may start, over pages that it leases
+-- the build that is asked for may start with so many workers, over new spools whose pages it leases, one for each worker and index
 pub record IsPlanOf (workers : ℕ) (schema : List Kind) (build : Build) (planned : Planned) : Type 0 where
   pub limits : IsInLimits workers build
   pub specs : planned.plan.specs.items ≡ map (key_spec_of schema) build.specs.items
+  pub workers_are : planned.plan.workers ≡ workers
+  pub dealing : planned.plan.dealing ≡ build.dealing
   pub leased : IsLeased planned
+  pub spools : plain_spools planned.spools.items ≡ new_spools (workers * vec_len build.specs) build.quota
 
 -- the build is planned, or refused; one that is out of its limits is refused for that
 abbrev pub PlansBuild : ℕ → List Kind → Build → Result Planned Fault → Type 0

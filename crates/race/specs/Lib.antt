@@ -1,4 +1,5 @@
 pub mod Builds
 pub mod Races
 pub mod Resting
+pub mod Rows
 pub mod Sessions

@@ -5,36 +5,32 @@ ghost use Rattle.race.specs.Builds.{EndsPlanned, IsLeased, IsOutcomeOf};
 
 use crate::built::Built;
 use crate::outcome::Outcome;
+use crate::Watch;
 use crate::planned::Planned;
+use crate::watching::Watching;
 use builder_core::{Ends, Plan};
-use crew::{BuildFault, Gate, Opened, Point, Report, Table, build};
+use crew::{BuildFault, Opened, Report, Table, build};
 use keybytes::Fault;
 use replay::shared_lines;
 use std::alloc::Global;
 use std::sync::Wait;
 use std::thread::Threads;
 
-/// A gate that does nothing.
-struct Open;
-
-impl Gate for Open {
-    fn at(&self, _point: Point) {}
-}
-
-/// Runs the build, if it was planned, and gives its spools up.
-pub fn run_build<T: Opened + Send + Sync, R: Threads + Wait + Sync>(
+/// Runs the build, if it was planned, and gives its spools up. Meanwhile it is shown to who watches.
+pub fn run_build<T: Opened + Send + Sync, R: Threads + Wait + Sync, V: Watch + Send + Drop>(
     rt: &R,
     alloc: Global,
     table: &Table<T>,
     ends: Ends<T>,
     planned: Result<Planned, Fault>,
+    watch: V,
 ) -> Built<T>
     requires { IfOk planned IsLeased }
     ensures pages { result.pages ≡ 0 }
     ensures build { EndsPlanned planned result.build }
 {
     match planned {
-        Ok(planned) => run_planned(rt, alloc, table, ends, planned),
+        Ok(planned) => run_planned(rt, alloc, table, ends, planned, watch),
         Err(fault) => Built {
             build: Err(fault),
             receipt: None,
@@ -43,12 +39,13 @@ pub fn run_build<T: Opened + Send + Sync, R: Threads + Wait + Sync>(
     }
 }
 
-fn run_planned<T: Opened + Send + Sync, R: Threads + Wait + Sync>(
+fn run_planned<T: Opened + Send + Sync, R: Threads + Wait + Sync, V: Watch + Send + Drop>(
     rt: &R,
     alloc: Global,
     table: &Table<T>,
     ends: Ends<T>,
     planned: Planned,
+    watch: V,
 ) -> Built<T>
     requires { IsLeased planned }
     ensures pages { result.pages ≡ 0 }
@@ -59,7 +56,9 @@ fn run_planned<T: Opened + Send + Sync, R: Threads + Wait + Sync>(
         leases,
         spools,
     } = planned;
-    let (_ends, spools, told) = build(rt, alloc, table, ends, &plan, spools, &Open);
+    let gate = Watching::new(rt, table, watch);
+    let (_ends, spools, told) = build(rt, alloc, table, ends, &plan, spools, &gate);
+    gate.end();
     let (_pool, pages) = leases.reclaim(spools);
     match told {
         Ok(report) => decided(alloc, &plan, report, pages),

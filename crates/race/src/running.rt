@@ -5,6 +5,7 @@ ghost use Rattle.race.specs.Races.{IsToldOf};
 ghost use Rattle.race.specs.Resting.{NoneDiffers};
 ghost use Rattle.race.specs.Sessions.{line_count, script_count};
 
+use crate::Watch;
 use crate::built::Built;
 use crate::each_counted::EachCounted;
 use crate::ended::Ended;
@@ -28,11 +29,12 @@ use std::sync::Wait;
 use std::thread::{PromisedHandle, Threads};
 
 /// Runs a race, and tells how it went. It is refused where its table is, or where there is no memory to begin with it.
-pub fn run_race<R: Threads + Wait + Sync>(
+pub fn run_race<R: Threads + Wait + Sync, V: Watch + Send + Drop>(
     rt: &R,
     alloc: Global,
     workers: usize,
     script: RaceScript,
+    watch: V,
 ) -> Result<Told, Fault>
     ensures { IfOk result (IsToldOf workers script) }
 {
@@ -50,7 +52,7 @@ pub fn run_race<R: Threads + Wait + Sync>(
     put_rows(&mut heap, rows);
     let sessions = sessions_of(alloc, steps)?;
     let parts = table_parts(alloc, heap)?;
-    run_named::<Brand, R>(rt, alloc, parts, planned, sessions, records)
+    run_named::<Brand, R, V>(rt, alloc, parts, planned, sessions, records, watch)
 }
 
 /// The table, ready to be shared.
@@ -66,13 +68,14 @@ fn table_parts(alloc: Global, heap: Heap) -> Result<TableParts, Fault> {
 }
 
 /// The same on a table with a name. Sessions may write so many records.
-fn run_named<T: Opened + Send + Sync, R: Threads + Wait + Sync>(
+fn run_named<T: Opened + Send + Sync, R: Threads + Wait + Sync, V: Watch + Send + Drop>(
     rt: &R,
     alloc: Global,
     parts: TableParts,
     planned: Result<Planned, Fault>,
     sessions: Vec<SessionScript>,
     records: usize,
+    watch: V,
 ) -> Result<Told, Fault>
     requires word { parts.word ≡ T.table }
     requires pages { parts.parts.pages ≡ T.pages }
@@ -88,16 +91,17 @@ fn run_named<T: Opened + Send + Sync, R: Threads + Wait + Sync>(
     let handles = Vec::with_capacity(alloc, sessions.len())?;
     let ended = Vec::with_capacity(alloc, sessions.len())?;
     Ok(run_reserved(
-        rt, alloc, parts, planned, sessions, handles, ended, gathered,
+        rt, alloc, parts, planned, watch, sessions, handles, ended, gathered,
     ))
 }
 
 /// The same with room for the threads, and for what the sessions leave.
-fn run_reserved<T: Opened + Send + Sync, R: Threads + Wait + Sync>(
+fn run_reserved<T: Opened + Send + Sync, R: Threads + Wait + Sync, V: Watch + Send + Drop>(
     rt: &R,
     alloc: Global,
     parts: TableParts,
     planned: Result<Planned, Fault>,
+    watch: V,
     sessions: Vec<SessionScript>,
     handles: Vec<PromisedHandle<Ended<T>, EachCounted>>,
     ended: Vec<Ended<T>>,
@@ -117,7 +121,7 @@ fn run_reserved<T: Opened + Send + Sync, R: Threads + Wait + Sync>(
 {
     let (table, ends) = parts.open::<T>();
     let (built, mut gathered) = run_beside(
-        rt, alloc, &table, ends, planned, sessions, handles, ended, gathered,
+        rt, alloc, &table, ends, planned, watch, sessions, handles, ended, gathered,
     );
     let Built {
         build,

@@ -3,6 +3,7 @@ ghost use Rattle.std.specs.Prelude.{◌≡◌, ◌≤◌, ◌+◌, ◌++◌, [],
 ghost use Rattle.race.specs.Builds.{EndsPlanned, IsLeased};
 ghost use Rattle.race.specs.Sessions.{line_count, script_count};
 
+use crate::Watch;
 use crate::builder::run_build;
 use crate::built::Built;
 use crate::each_counted::EachCounted;
@@ -119,13 +120,19 @@ fn gather<T: Opened, R: Threads>(
     }
 }
 
-/// Runs each session in a thread of its own, and the build in this one.
-pub fn run_beside<'e, T: Opened + Send + Sync + 'e, R: Threads + Wait + Sync>(
+/// Runs each session in a thread of its own, and the build in this one, which is shown to who watches.
+pub fn run_beside<
+    'e,
+    T: Opened + Send + Sync + 'e,
+    R: Threads + Wait + Sync,
+    V: Watch + Send + Drop,
+>(
     rt: &'e R,
     alloc: Global,
     table: &'e Table<T>,
     ends: Ends<T>,
     planned: Result<Planned, Fault>,
+    watch: V,
     scripts: Vec<SessionScript>,
     handles: Vec<PromisedHandle<Ended<T>, EachCounted>>,
     ended: Vec<Ended<T>>,
@@ -151,7 +158,7 @@ pub fn run_beside<'e, T: Opened + Send + Sync + 'e, R: Threads + Wait + Sync>(
             ensures lines { map line_count result.1.lines.items ≡ map script_count scripts.items }
         {
             let (handles, ended) = start(scope, rt, alloc, table, scripts, handles, ended);
-            let built = run_build(rt, alloc, table, ends, planned);
+            let built = run_build(rt, alloc, table, ends, planned, watch);
             let mut gathered = gathered;
             gather(rt, handles, ended, &mut gathered);
             (built, gathered)

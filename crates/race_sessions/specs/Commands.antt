@@ -25,12 +25,12 @@ abbrev pub Undoes : ℕ → SessionState → SessionState → Type 0
 Undoes txn old new = (receipt : List LogRec) × (new.receipts ≡ old.receipts ++ receipt ∷ []) × Undid old.log txn receipt new.log
 
 -- no receipt was kept, and what the session knows of the log only grew
-abbrev pub WritesNothing : SessionState → SessionState → Type 0
-WritesNothing old new = (new.receipts ≡ old.receipts) × IsPrefix old.log new.log
+abbrev pub OnlySees : SessionState → SessionState → Type 0
+OnlySees old new = (new.receipts ≡ old.receipts) × IsPrefix old.log new.log
 
 -- an undo step of the transaction, of which a write stood or none did
 abbrev pub StepsBack : ℕ → SessionState → SessionState → Type 0
-StepsBack txn old new = Undoes txn old new ⊎ (WritesNothing old new × (newest_standing new.log txn ≡ None))
+StepsBack txn old new = Undoes txn old new ⊎ (OnlySees old new × (newest_standing new.log txn ≡ None))
 
 -- the transaction that the label names does something
 abbrev pub ByNamed : Labels → List ℕ → (ℕ → Type 0) → Type 0
@@ -38,7 +38,7 @@ ByNamed labels label Does = (txn : ℕ) × (named labels label ≡ Some txn) × 
 
 -- the command was accepted, where labels named these transactions before
 abbrev pub Obeys : SessionCommand → Labels → SessionState → SessionState → Type 0
-Obeys (Begin label) labels old new = WritesNothing old new
+Obeys (Begin label) labels old new = OnlySees old new
 Obeys (Insert label cells) labels old new = ByNamed labels label (λ txn. (rid : Rid) × Records (Write txn rid (Some cells.items)) old new)
 Obeys (Update label rid cells) labels old new = ByNamed labels label (λ txn. Records (Write txn rid (Some cells.items)) old new)
 Obeys (Delete label rid) labels old new = ByNamed labels label (λ txn. Records (Write txn rid None) old new)
@@ -46,5 +46,5 @@ Obeys (Undo label) labels old new = ByNamed labels label (λ txn. StepsBack txn 
 Obeys (Commit label) labels old new = ByNamed labels label (λ txn. Records (Committed txn) old new)
 
 -- what the session knows of the log only grew, and it lost no receipt
-abbrev pub GoesOn : SessionState → SessionState → Type 0
-GoesOn old new = IsPrefix old.log new.log × IsPrefix old.receipts new.receipts
+abbrev pub LosesNothing : SessionState → SessionState → Type 0
+LosesNothing old new = IsPrefix old.log new.log × IsPrefix old.receipts new.receipts

@@ -1,5 +1,5 @@
 ghost use Rattle.std.specs.Prelude.{◌≡◌, [], OnOk, OnErr};
-ghost use Rattle.race_sessions.specs.Commands.{GoesOn, Obeys, StepsBack, WritesNothing};
+ghost use Rattle.race_sessions.specs.Commands.{LosesNothing, Obeys, StepsBack, OnlySees};
 
 use crew::{Opened, Receipt, Session, UndoStep};
 use keybytes::{Cell, Fault, Rid, Row};
@@ -44,7 +44,7 @@ impl<T: Opened> Running<T> {
     ) -> Result<(), Fault>
         ensures ok { OnOk result (Obeys command self.old.labels
             (record { log = session.old; receipts = self.old.receipts.items }) (record { log = session.new; receipts = self.new.receipts.items })) }
-        ensures refused { OnErr result (WritesNothing
+        ensures refused { OnErr result (OnlySees
             (record { log = session.old; receipts = self.old.receipts.items }) (record { log = session.new; receipts = self.new.receipts.items })) }
     {
         match command {
@@ -66,7 +66,7 @@ impl<T: Opened> Running<T> {
         session: &mut Session<'_, T>,
         label: &Label,
     ) -> Result<(), Fault>
-        ensures { WritesNothing
+        ensures { OnlySees
             (record { log = session.old; receipts = self.old.receipts.items }) (record { log = session.new; receipts = self.new.receipts.items }) }
     {
         self.labels.forget(label)?;
@@ -86,7 +86,7 @@ impl<T: Opened> Running<T> {
     ) -> Result<(), Fault>
         ensures ok { OnOk result (Obeys (SessionCommand.Insert label.now cells) self.old.labels
             (record { log = session.old; receipts = self.old.receipts.items }) (record { log = session.new; receipts = self.new.receipts.items })) }
-        ensures refused { OnErr result (WritesNothing
+        ensures refused { OnErr result (OnlySees
             (record { log = session.old; receipts = self.old.receipts.items }) (record { log = session.new; receipts = self.new.receipts.items })) }
     {
         let row = Row::new(cells)?;
@@ -107,7 +107,7 @@ impl<T: Opened> Running<T> {
     ) -> Result<(), Fault>
         ensures ok { OnOk result (Obeys (SessionCommand.Update label.now rid cells) self.old.labels
             (record { log = session.old; receipts = self.old.receipts.items }) (record { log = session.new; receipts = self.new.receipts.items })) }
-        ensures refused { OnErr result (WritesNothing
+        ensures refused { OnErr result (OnlySees
             (record { log = session.old; receipts = self.old.receipts.items }) (record { log = session.new; receipts = self.new.receipts.items })) }
     {
         let row = Row::new(cells)?;
@@ -127,7 +127,7 @@ impl<T: Opened> Running<T> {
     ) -> Result<(), Fault>
         ensures ok { OnOk result (Obeys (SessionCommand.Delete label.now rid) self.old.labels
             (record { log = session.old; receipts = self.old.receipts.items }) (record { log = session.new; receipts = self.new.receipts.items })) }
-        ensures refused { OnErr result (WritesNothing
+        ensures refused { OnErr result (OnlySees
             (record { log = session.old; receipts = self.old.receipts.items }) (record { log = session.new; receipts = self.new.receipts.items })) }
     {
         let txn = self.labels.txn(label)?;
@@ -145,7 +145,7 @@ impl<T: Opened> Running<T> {
     ) -> Result<(), Fault>
         ensures ok { OnOk result (Obeys (SessionCommand.Commit label.now) self.old.labels
             (record { log = session.old; receipts = self.old.receipts.items }) (record { log = session.new; receipts = self.new.receipts.items })) }
-        ensures refused { OnErr result (WritesNothing
+        ensures refused { OnErr result (OnlySees
             (record { log = session.old; receipts = self.old.receipts.items }) (record { log = session.new; receipts = self.new.receipts.items })) }
     {
         let txn = self.labels.txn(label)?;
@@ -165,7 +165,7 @@ impl<T: Opened> Running<T> {
     ) -> Result<(), Fault>
         ensures ok { OnOk result (Obeys (SessionCommand.Undo label.now) self.old.labels
             (record { log = session.old; receipts = self.old.receipts.items }) (record { log = session.new; receipts = self.new.receipts.items })) }
-        ensures refused { OnErr result (WritesNothing
+        ensures refused { OnErr result (OnlySees
             (record { log = session.old; receipts = self.old.receipts.items }) (record { log = session.new; receipts = self.new.receipts.items })) }
     {
         let txn = self.labels.txn(label)?;
@@ -185,7 +185,7 @@ impl<T: Opened> Running<T> {
     ) -> Result<usize, Fault>
         ensures ok { OnOk result (StepsBack txn
             (record { log = session.old; receipts = self.old.receipts.items }) (record { log = session.new; receipts = self.new.receipts.items })) }
-        ensures refused { OnErr result (WritesNothing
+        ensures refused { OnErr result (OnlySees
             (record { log = session.old; receipts = self.old.receipts.items }) (record { log = session.new; receipts = self.new.receipts.items })) }
         ensures labels { self.new.labels ≡ self.old.labels }
     {
@@ -206,7 +206,7 @@ impl<T: Opened> Running<T> {
 
     /// Undoes the transactions that are open, step by step. One for whose steps there is no memory stays open.
     pub fn roll_back_all<R: Wait>(&mut self, rt: &R, session: &mut Session<'_, T>)
-        ensures { GoesOn
+        ensures { LosesNothing
             (record { log = session.old; receipts = self.old.receipts.items }) (record { log = session.new; receipts = self.new.receipts.items }) }
     {
         let open = mem::replace(&mut self.open, Vec::new(self.alloc));
@@ -216,7 +216,7 @@ impl<T: Opened> Running<T> {
     }
 
     fn roll_back<R: Wait>(&mut self, rt: &R, session: &mut Session<'_, T>, txn: u64)
-        ensures { GoesOn
+        ensures { LosesNothing
             (record { log = session.old; receipts = self.old.receipts.items }) (record { log = session.new; receipts = self.new.receipts.items }) }
     {
         for _ in 0..u64::MAX {
@@ -234,7 +234,7 @@ impl<T: Opened> Running<T> {
         session: &mut Session<'_, T>,
         txn: u64,
     ) -> Result<usize, Fault>
-        ensures { GoesOn
+        ensures { LosesNothing
             (record { log = session.old; receipts = self.old.receipts.items }) (record { log = session.new; receipts = self.new.receipts.items }) }
     {
         for _ in 0..RETRIES {

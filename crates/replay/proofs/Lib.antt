@@ -4,4 +4,5 @@ mod Leased
 mod Replies
 mod SharedLines
 mod SpecLists
+pub mod Statuses
 mod TakenBack

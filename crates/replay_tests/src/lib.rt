@@ -24,3 +24,5 @@ mod races;
 mod scripts;
 #[cfg(test)]
 mod spellings;
+#[cfg(test)]
+mod watched_races;

@@ -75,6 +75,6 @@ impl Printed {
     }
 }
 
-fn text(bytes: &[u8]) -> &str {
+pub fn text(bytes: &[u8]) -> &str {
     str::from_utf8(bytes).unwrap_or("(no text)")
 }

@@ -53,15 +53,15 @@ fn name_a_script(rt: HostRuntime) {
 fn name_a_race(rt: HostRuntime) {
     let words = ["sfbuild", "check", "--race", "a"];
     assert!(rt; ask_for(rt.alloc(), words.as_slice(), Task::CheckRace, "a"));
-    let words = ["sfbuild", "race", "--workers", "16", "a"];
-    assert!(rt;
-        ask_for(
-            rt.alloc(),
-            words.as_slice(),
-            Task::Race { workers: 16 },
-            "a"
-        )
-    );
+    for is_shown in [false, true] {
+        let task = Task::Race {
+            workers: 16,
+            is_shown,
+        };
+        let words = ["sfbuild", "race", "--workers", "16", "a", "--progress"];
+        let given = if is_shown { 6 } else { 5 };
+        assert!(rt; ask_for(rt.alloc(), &words[..given], task, "a"));
+    }
 }
 
 fn are_refused(alloc: Global, words: &[&str]) -> bool {

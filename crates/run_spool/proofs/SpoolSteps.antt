@@ -13,7 +13,7 @@ use Rattle.run_spool.specs.Bytes.{pair_size}
 use Rattle.run_spool.specs.Pages.{PageValue, no_page, with_pair}
 use Rattle.run_spool.specs.Frames.{page_in, last_page, with_last}
 use Rattle.run_spool.specs.Runs.{pairs_of, pages_in, HasPairs, without_pairs}
-use Rattle.run_spool.specs.PlainSpools.{SpoolValue, with_freed, without_runs, IsPacked, IsSpool, run_pages}
+use Rattle.run_spool.specs.PlainSpools.{PlainSpoolValue, with_freed, without_runs, IsPacked, IsSpool, run_pages}
 use Rattle.run_spool.specs.Spools.{NoneEmpty}
 use Rattle.run_spool.proofs.Chains.{pages_append, count_append, count_one, count_last}
 use Rattle.run_spool.proofs.RunSteps.{each_without, fewer_pages, without_all, given_more}
@@ -275,7 +275,7 @@ open_ended {account = account} {runs = runs} {chain = chain} {len = len} start g
 
 -- a spool of which pairs of a run were let go
 pub freed_spool :
-    (spool : SpoolValue) (i n : ℕ) (run after : List PageValue) (account : AccountValue)
+    (spool : PlainSpoolValue) (i n : ℕ) (run after : List PageValue) (account : AccountValue)
     → run ≡ get_or spool.runs i [] → after ≡ without_pairs n run → account ≡ with_free spool.account account.free
     → account.free + length after ≡ spool.account.free + length run
     → record { runs = set spool.runs i after; open_run = spool.open_run; account = account } ≡ with_freed spool i n
@@ -284,13 +284,13 @@ freed_spool spool i n run after account is gone kept counted =
     let few = fewer_pages run n in
     let free : account.free ≡ spool.account.free + (length (get_or spool.runs i []) - length (without_pairs n (get_or spool.runs i []))) =
     rw (← is, ← gone) (omega (arith, counted, ap length gone, few)) in
-    let made : List PageValue → AccountValue → SpoolValue = λ pages a. record { runs = set spool.runs i pages; open_run = spool.open_run; account = a } in
+    let made : List PageValue → AccountValue → PlainSpoolValue = λ pages a. record { runs = set spool.runs i pages; open_run = spool.open_run; account = a } in
     ap (λ pages. made pages account) here ∙ ap (made (without_pairs n (get_or spool.runs i []))) (kept ∙ ap (with_free spool.account) free)
 
 pub ended_spool :
-    (spool : SpoolValue) (runs : List (List PageValue)) (chain : List (Option PageValue)) (account : AccountValue)
+    (spool : PlainSpoolValue) (runs : List (List PageValue)) (chain : List (Option PageValue)) (account : AccountValue)
     → runs ≡ [] → pages_in chain ≡ [] → account ≡ with_free spool.account spool.account.quota
     → record { runs = runs; open_run = pages_in chain; account = account } ≡ without_runs spool
 ended_spool spool runs chain account none empty whole =
-    let made : List (List PageValue) → List PageValue → AccountValue → SpoolValue = λ r o a. record { runs = r; open_run = o; account = a } in
+    let made : List (List PageValue) → List PageValue → AccountValue → PlainSpoolValue = λ r o a. record { runs = r; open_run = o; account = a } in
     ap (λ r. made r (pages_in chain) account) none ∙ ap (λ o. made [] o account) empty ∙ ap (made [] []) whole

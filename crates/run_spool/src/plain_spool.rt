@@ -47,9 +47,9 @@ impl Drop for PlainSpool {
 impl Model for PlainSpool {
     ghost use Rattle.std.specs.Prelude.{length, vec_capacity};
     ghost use Rattle.run_spool.specs.Runs.{pages_in};
-    ghost use Rattle.run_spool.specs.PlainSpools.{SpoolValue, IsSpool};
+    ghost use Rattle.run_spool.specs.PlainSpools.{PlainSpoolValue, IsSpool};
 
-    ghost Value = { SpoolValue };
+    ghost Value = { PlainSpoolValue };
 
     ghost view = { λ spool. record { runs = spool.runs.items; open_run = pages_in spool.open_run; account = spool.account } };
 

@@ -4,10 +4,11 @@
 //! `main` only hands the script and the standard streams in.
 #![tactic(auto)]
 
+use race::ProgressLine;
 use replay::Status;
 use script::ScriptError;
 use std::fs::File;
-use std::io::Read;
+use std::io::{IsTerminal, Read};
 use std::process::ExitCode;
 use std::sync::Wait;
 use std::thread::Threads;
@@ -68,13 +69,22 @@ fn run_on<A: Threads + Wait + Sync, R: Read + Drop>(
         Task::Replay => replay::replay(rt.alloc(), script, rt.stdout(), rt.stderr()),
         Task::Check => replay::check(rt.alloc(), script, rt.stdout(), rt.stderr()),
         Task::CheckRace => replay::check_race(rt.alloc(), script, rt.stdout(), rt.stderr()),
-        Task::Race { workers } => race::race(
-            threads,
-            rt.alloc(),
-            workers,
-            script,
-            rt.stdout(),
-            rt.stderr(),
-        ),
+        Task::Race { workers, is_shown } => run_race(rt, threads, workers, is_shown, script),
     }
+}
+
+/// Runs a race, and shows how far its build is where that is asked for.
+fn run_race<A: Threads + Wait + Sync, R: Read + Drop>(
+    rt: &HostRuntime,
+    threads: &A,
+    workers: usize,
+    is_shown: bool,
+    script: R,
+) -> u8 {
+    let (alloc, out, err) = (rt.alloc(), rt.stdout(), rt.stderr());
+    if !is_shown {
+        return race::race(threads, alloc, workers, script, out, err);
+    }
+    let line = ProgressLine::new(*rt, err, err.is_terminal());
+    race::race_watched(threads, alloc, workers, script, out, err, line)
 }

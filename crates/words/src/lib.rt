@@ -55,7 +55,11 @@ pub enum Task {
     /// Looks at a script as that of a race.
     CheckRace,
     /// Runs a race, whose build has so many workers.
-    Race { workers: usize },
+    Race {
+        workers: usize,
+        /// Whether it is shown meanwhile how far the build is.
+        is_shown: bool,
+    },
 }
 
 /// Reads the words, the first of which is the program's name. The error is what to print, and where: a refusal, or
@@ -76,6 +80,7 @@ fn chosen<'a>(matches: &ArgMatches<'a>) -> Option<Choice<'a>> {
         "check" => Task::Check,
         "race" => Task::Race {
             workers: arguments.get_one("workers")?,
+            is_shown: arguments.get_flag("progress"),
         },
         _ => return None,
     };
@@ -122,12 +127,17 @@ fn race_command<'a>(alloc: Global) -> Result<Command<'a>, AllocError> {
         .required(true)
         .value_parser(ValueParser::Unsigned(1, 16))
         .action(ArgAction::Set);
+    let progress = Arg::new(alloc, "progress")
+        .long("progress")
+        .help("Shows on the standard error how far the build is")
+        .action(ArgAction::SetTrue);
     task_command(
         alloc,
         "race",
         "Runs the sessions of a script in threads of their own while a build runs beside them, and prints how it went",
     )?
-    .arg(workers)
+    .arg(workers)?
+    .arg(progress)
 }
 
 /// The command of a task.

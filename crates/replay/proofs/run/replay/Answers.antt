@@ -1,17 +1,12 @@
 use denote.Enum.Declared.{tag_of}
-use Rattle.std.proofs.Common.{◌≡◌, ℕ, List, Option, Some, None, IfSome, inr, refl}
+use Rattle.std.proofs.Common.{◌≡◌, ℕ, List, Option, Some, None, IfSome, inr}
 use Rattle.script.specs.Scripts.{SpellsScript}
 use Rattle.script.specs.declared.script.Script.{Script}
-use Rattle.replay.specs.Sessions.{EndsWith, ExitsWith, number_of}
+use Rattle.replay.proofs.Statuses.{numbered}
+use Rattle.replay.specs.Sessions.{EndsWith, ExitsWith}
 use Rattle.replay.specs.contracts.status.Status.{the_type}
 use Rattle.replay.specs.declared.status.Status.{Status}
-use Rattle.replay.specs.declared.status.Status.TheVariants.{Done, IndexRefused, Failed}
 use Rattle.replay.proofs.run.replay.Goals as goal
-
-numbered : (status : Status) → tag_of the_type status ≡ number_of status
-numbered Done = refl
-numbered IndexRefused = refl
-numbered Failed = refl
 
 -- where the text is known, it is that of the script that was run
 exits : (known : Option (List ℕ)) (script : Script) (status : Status) → IfSome known (λ text. SpellsScript text script)

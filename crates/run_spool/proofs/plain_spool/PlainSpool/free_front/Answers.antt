@@ -2,7 +2,7 @@ use Rattle.std.proofs.Common.{◌≡◌, ◌<◌, ◌∙◌, List, [], get_or, l
 use Rattle.std.proofs.lemmas.List.{get_or_default}
 use Rattle.run_spool.specs.Pages.{PageValue}
 use Rattle.run_spool.specs.Runs.{pages_in}
-use Rattle.run_spool.specs.PlainSpools.{SpoolValue}
+use Rattle.run_spool.specs.PlainSpools.{PlainSpoolValue}
 use Rattle.run_spool.proofs.SpoolSteps.{freed_spool, run_freed}
 use Rattle.run_spool.proofs.plain_spool.PlainSpool.free_front.Goals as goal
 
@@ -10,7 +10,7 @@ pub invariant_of-self : goal.invariant_of-self
 invariant_of-self c =
     let i = c.self.inside in
     let n = c.args.i in
-    let same = ap (λ (s : SpoolValue). s.runs) c.self.view_is in
+    let same = ap (λ (s : PlainSpoolValue). s.runs) c.self.view_is in
     let there : n < length i.runs.items = omega (arith, c.requires.run, ap (λ (runs : List (List PageValue)). length runs) same) in
     let before : List PageValue = c.index_mut-run.result.now in
     let run : before ≡ get_or i.runs.items n [] = c.index_mut-run.ensures.value ∙ get_or_default i.runs.items n before [] there in
@@ -22,8 +22,8 @@ pub returns : goal.returns
 returns c =
     let i = c.self.inside in
     let n = c.args.i in
-    let spool : SpoolValue = record { runs = i.runs.items; open_run = pages_in i.open_run; account = i.account } in
-    let same = ap (λ (s : SpoolValue). s.runs) c.self.view_is in
+    let spool : PlainSpoolValue = record { runs = i.runs.items; open_run = pages_in i.open_run; account = i.account } in
+    let same = ap (λ (s : PlainSpoolValue). s.runs) c.self.view_is in
     let there : n < length i.runs.items = omega (arith, c.requires.run, ap (λ (runs : List (List PageValue)). length runs) same) in
     let before : List PageValue = c.index_mut-run.result.now in
     let run : before ≡ get_or i.runs.items n [] = c.index_mut-run.ensures.value ∙ get_or_default i.runs.items n before [] there in

@@ -1,6 +1,6 @@
 use Rattle.std.proofs.Common.{◌≡◌, ◌∙◌, ◌+◌, ℕ, List, Option, length, ap, sym, subst, rules, arith}
 use Rattle.std.proofs.lemmas.List.{length-map, length-drop}
-use Rattle.run_spool.specs.PlainSpools.{SpoolValue}
+use Rattle.run_spool.specs.PlainSpools.{PlainSpoolValue}
 use Rattle.run_spool.specs.Spools.{NoneEmpty}
 use Rattle.keybytes.specs.declared.pair.Pair.{Pair}
 use Rattle.run_spool.specs.Pages.{PageValue, with_pair}
@@ -34,7 +34,7 @@ invariant_of-self-2 c =
       | then-room_left-bytes+in-Ok w ↦
           let spare_is = i.spare_is in
           let there = w.in-Ok.ensures.exact.0 (search rules) in
-          let some = subst NoneEmpty (sym (ap (λ (s : SpoolValue). s.runs) c.self.view_is)) c.requires in
+          let some = subst NoneEmpty (sym (ap (λ (s : PlainSpoolValue). s.runs) c.self.view_is)) c.requires in
           let left = ap (λ (xs : List (Option PageValue)). length xs) w.add_page.ensures.spare in
           let new = c.push_pair.ensures ∙ ap (λ s. pushed s.open_run) w.self-inside-is in
           rw w.self-inside-is

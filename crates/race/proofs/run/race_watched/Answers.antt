@@ -1,18 +1,12 @@
 use denote.Enum.Declared.{tag_of}
-use Rattle.std.proofs.Common.{◌≡◌, ℕ, List, Option, Some, None, IfSome, inr, refl}
-use Rattle.replay.specs.Sessions.{number_of}
+use Rattle.std.proofs.Common.{◌≡◌, ℕ, List, Option, Some, None, IfSome, inr}
+use Rattle.replay.proofs.Statuses.{numbered}
 use Rattle.replay.specs.contracts.status.Status.{the_type}
 use Rattle.replay.specs.declared.status.Status.{Status}
-use Rattle.replay.specs.declared.status.Status.TheVariants.{Done, IndexRefused, Failed}
 use Rattle.script.specs.RaceScripts.{SpellsRaceScript}
 use Rattle.script.specs.declared.race.script.RaceScript.{RaceScript}
 use Rattle.race.specs.Races.{EndsWith, ExitsWith}
-use Rattle.race.proofs.run.race.Goals as goal
-
-numbered : (status : Status) → tag_of the_type status ≡ number_of status
-numbered Done = refl
-numbered IndexRefused = refl
-numbered Failed = refl
+use Rattle.race.proofs.run.race_watched.Goals as goal
 
 -- where the text is known, it is that of the race that was run
 exits : (workers : ℕ) (known : Option (List ℕ)) (script : RaceScript) (status : Status) → IfSome known (λ text. SpellsRaceScript text script)

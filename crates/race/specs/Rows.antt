@@ -1,0 +1,26 @@
+-- The rows that the table of a race has first.
+use Rattle.std.specs.Global.{Vec}
+use Rattle.std.specs.List.{All}
+use Rattle.std.specs.Prelude.{◌≡◌, ◌≢◌, ◌⊎◌, ℕ, List, [], ◌∷◌, ◌++◌, Some}
+use Rattle.keybytes.specs.declared.cell.Cell.{Cell}
+use Rattle.keybytes.specs.declared.rid.Rid.{Rid}
+use Rattle.heap_log.specs.declared.record.LogRec.{LogRec}
+use Rattle.heap_log.specs.declared.record.LogRec.TheVariants.{Commit, Write}
+
+-- none of these records is a commit
+abbrev pub NoneCommits : List LogRec → Type 0
+NoneCommits records = All (λ rec. (txn : ℕ) → rec ≢ Commit txn) records
+
+-- a transaction of its own put the row in and committed
+abbrev pub HasPut : List Cell → List LogRec → List LogRec → Type 0
+HasPut cells old new = (txn : ℕ) × (rid : Rid) × (new ≡ old ++ Write txn rid (Some cells) ∷ Commit txn ∷ [])
+
+-- nothing was committed
+abbrev pub HasPassedOver : List LogRec → List LogRec → Type 0
+HasPassedOver old new = (records : List LogRec) × NoneCommits records × (new ≡ old ++ records)
+
+-- each of the rows was put in or passed over, one after the other
+abbrev pub HasPutRows : List (Vec Cell) → List LogRec → List LogRec → Type 0
+HasPutRows [] old new = new ≡ old
+HasPutRows (cells ∷ rows) old new =
+    (next : List LogRec) × (HasPut cells.items old next ⊎ HasPassedOver old next) × HasPutRows rows next new
