@@ -1,16 +1,22 @@
 ghost use Rattle.std.specs.Prelude.{◌≡◌, ◌≤◌, ◌<◌, ◌++◌, ◌∷◌, [], IfOk, vec_len, vec_capacity};
 
+use crate::check_line::CheckLine;
 use crate::ended::Ended;
 use crate::session_line::SessionLine;
+use builder_core::INDEXES_MAX;
 use crew::{Opened, Receipt};
 use keybytes::Fault;
 use std::alloc::Global;
 
-/// What the sessions of a race leave: a line for each, and their receipts together.
+/// What the sessions of a race leave: a line for each, and their receipts together. Beside these stands room for what is told in the end.
 #[derive(Drop)]
 pub struct Gathered<T: Opened> {
     pub lines: Vec<SessionLine>,
     pub receipts: Vec<Receipt<T>>,
+    /// An empty list, for a line of each ready index.
+    pub checks: Vec<CheckLine>,
+    ghost none_checked: { checks.items ≡ [] },
+    ghost room_for_checks: { 8 ≤ vec_capacity checks },
 }
 
 impl<T: Opened> Gathered<T> {
@@ -22,6 +28,7 @@ impl<T: Opened> Gathered<T> {
         Ok(Gathered {
             lines: Vec::with_capacity(alloc, lines)?,
             receipts: Vec::with_capacity(alloc, receipts)?,
+            checks: Vec::with_capacity(alloc, INDEXES_MAX)?,
         })
     }
 

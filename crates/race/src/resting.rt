@@ -1,24 +1,21 @@
 //! Whether ready indexes have the pairs of the rows.
-ghost use Rattle.std.specs.Prelude.{◌≡◌, ◌<◌, IfOk, length, true, false};
-ghost use Rattle.race.specs.Resting.{NoneDiffers};
+ghost use Rattle.std.specs.Prelude.{◌≡◌, ◌<◌, ◌≤◌, [], IfOk, length, true, false, vec_capacity};
+ghost use Rattle.race.specs.Resting.{AreChecked};
 
 use crate::check_line::CheckLine;
 use btree::Tree;
-use builder_core::{Live, Table};
+use builder_core::{INDEXES_MAX, Live, Table};
 use keybytes::{Fault, Pair};
-use std::alloc::Global;
 
-/// A line for each ready index, as far as there is memory for them.
-pub fn check_all<T: Table>(alloc: Global, live: &mut Live<T>) -> Vec<CheckLine>
-    ensures { NoneDiffers result.items }
+/// A line for each ready index, of which a build has eight at most. There is room for them.
+pub fn check_all<T: Table>(live: &mut Live<T>, lines: &mut Vec<CheckLine>)
+    requires none { lines.old.items ≡ [] }
+    requires room { 8 ≤ vec_capacity lines.old }
+    ensures { AreChecked (length live.old.state.ready) lines.new.items }
 {
-    let mut lines = Vec::new(alloc);
-    for number in 0..live.ready().len() {
-        if lines.push(check(live, number)).is_err() {
-            return lines;
-        }
+    for number in 0..live.ready().len().min(INDEXES_MAX) {
+        lines.push_reserved(check(live, number));
     }
-    lines
 }
 
 fn check<T: Table>(live: &mut Live<T>, number: usize) -> CheckLine

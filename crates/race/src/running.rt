@@ -131,12 +131,17 @@ fn run_reserved<T: Opened + Send + Sync, R: Threads + Wait + Sync, V: Watch + Se
     if let Some(receipt) = receipt {
         gathered.keep(receipt);
     }
-    let Gathered { lines, receipts } = gathered;
+    let Gathered {
+        lines,
+        receipts,
+        mut checks,
+    } = gathered;
     let Closed { mut live, missing } = table.close(receipts);
+    check_all(&mut live, &mut checks);
     Told {
         build,
         sessions: lines,
-        checks: check_all(alloc, &mut live),
+        checks,
         receipts: missing,
         pages,
     }
