@@ -44,10 +44,10 @@ pub record IsOutcomeOf (specs : List KeySpecValue) (outcome : Outcome) : Type 0 
   pub report : IsReport specs log outcome.verdicts pairs
   pub shared : ListsShared 0 specs outcome.verdicts outcome.shared.items ⊎ (outcome.shared.items ≡ [])
 
--- a planned build was decided or given up; one that was refused is told as it was refused
+-- a planned build was decided or given up; of one that was refused the refusal is told
 abbrev pub EndsPlanned : Result Planned Fault → Result Outcome Fault → Type 0
-EndsPlanned (Ok planned) told = IfOk told (IsOutcomeOf planned.plan.specs.items)
-EndsPlanned (Err fault) told = told ≡ Err fault
+EndsPlanned (Ok planned) ended = IfOk ended (IsOutcomeOf planned.plan.specs.items)
+EndsPlanned (Err fault) ended = ended ≡ Err fault
 
 -- the build that a race asks for was decided, or given up; one that is out of its limits was refused for that
 abbrev pub EndsBuild : ℕ → List Kind → Build → Result Outcome Fault → Type 0

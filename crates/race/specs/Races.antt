@@ -9,27 +9,27 @@ use Rattle.replay.specs.declared.status.Status.TheVariants.{Done, IndexRefused, 
 use Rattle.script.specs.RaceScripts.{SpellsRaceScript}
 use Rattle.script.specs.declared.race.script.RaceScript.{RaceScript}
 use Rattle.race.specs.Builds.{EndsBuild}
-use Rattle.race.specs.Resting.{NoneDiffers}
+use Rattle.race.specs.Resting.{AreChecked}
 use Rattle.race.specs.Sessions.{CountEach}
 use Rattle.race.specs.declared.outcome.Outcome.{Outcome}
-use Rattle.race.specs.declared.told.Told.{Told}
+use Rattle.race.specs.declared.race_report.RaceReport.{RaceReport}
 
 -- done where every index became ready, and refused where one was refused or the build was given up
 abbrev pub status_after : Result Outcome Fault → Status
 status_after (Ok outcome) = if list_any is_refusal outcome.verdicts then IndexRefused else Done
 status_after (Err fault) = IndexRefused
 
--- the race of that script was run with so many workers, and this is told of it
-pub record IsToldOf (workers : ℕ) (script : RaceScript) (told : Told) : Type 0 where
+-- the race of that script was run with so many workers, and this is reported of it
+pub record IsReportOf (workers : ℕ) (script : RaceScript) (report : RaceReport) : Type 0 where
   pub table : table_refusal script.table ≡ None
-  pub build : EndsBuild workers script.table.kinds.items script.build told.build
-  pub sessions : CountEach script.steps.items told.sessions.items
-  pub checks : NoneDiffers told.checks.items
-  pub pages : told.pages ≡ 0
+  pub build : EndsBuild workers script.table.kinds.items script.build report.build
+  pub sessions : CountEach script.steps.items report.sessions.items
+  pub checks : (ready : ℕ) × AreChecked ready report.checks.items
+  pub pages : report.pages ≡ 0
 
 -- the race was run and ended with that status, or something failed
 abbrev pub EndsWith : ℕ → RaceScript → Status → Type 0
-EndsWith workers script status = (status ≡ Failed) ⊎ ((told : Told) × IsToldOf workers script told × (status ≡ status_after told.build))
+EndsWith workers script status = (status ≡ Failed) ⊎ ((report : RaceReport) × IsReportOf workers script report × (status ≡ status_after report.build))
 
 -- the exit status of a text: 2, or that of the race that it spells
 abbrev pub ExitsWith : ℕ → List ℕ → ℕ → Type 0

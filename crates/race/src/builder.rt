@@ -57,10 +57,10 @@ fn run_planned<T: Opened + Send + Sync, R: Threads + Wait + Sync, V: Watch + Sen
         spools,
     } = planned;
     let gate = Watching::new(rt, table, watch);
-    let (_ends, spools, told) = build(rt, alloc, table, ends, &plan, spools, &gate);
+    let (_ends, spools, reported) = build(rt, alloc, table, ends, &plan, spools, &gate);
     gate.end();
     let (_pool, pages) = leases.reclaim(spools);
-    match told {
+    match reported {
         Ok(report) => decided(alloc, &plan, report, pages),
         Err(BuildFault(fault)) => Built {
             build: Err(fault),

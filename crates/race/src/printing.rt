@@ -2,27 +2,27 @@
 
 use crate::check_line::CheckLine;
 use crate::outcome::Outcome;
+use crate::race_report::RaceReport;
 use crate::session_line::SessionLine;
-use crate::told::Told;
 use heap_log::Outcome as Verdict;
 use keybytes::Fault;
 use replay::{Output, OutputFailed, SharedLine};
 use std::io::Write;
 
 /// Prints what became of the indexes, the sessions, the checks, and what is missing.
-pub fn print<W: Write + Drop>(output: &mut Output<W>, told: &Told) -> Result<(), OutputFailed> {
-    match &told.build {
+pub fn print<W: Write + Drop>(output: &mut Output<W>, report: &RaceReport) -> Result<(), OutputFailed> {
+    match &report.build {
         Ok(outcome) => print_outcome(output, outcome)?,
         Err(fault) => print_fault(output, *fault)?,
     }
-    for line in &told.sessions {
+    for line in &report.sessions {
         print_session(output, *line)?;
     }
-    for (number, line) in told.checks.iter().enumerate() {
+    for (number, line) in report.checks.iter().enumerate() {
         print_check(output, number, *line)?;
     }
-    print_count(output, "receipts", told.receipts)?;
-    print_count(output, "pages", told.pages)
+    print_count(output, "receipts", report.receipts)?;
+    print_count(output, "pages", report.pages)
 }
 
 fn print_outcome<W: Write + Drop>(

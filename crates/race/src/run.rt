@@ -94,9 +94,9 @@ where
 {
     let number = script.table_number;
     match run_race(rt, alloc, workers, script, watch) {
-        Ok(told) => {
-            print(output, &told)?;
-            Ok(told.status())
+        Ok(report) => {
+            print(output, &report)?;
+            Ok(report.status())
         }
         Err(fault) => refuse_table(number, fault, output),
     }

@@ -1,8 +1,8 @@
 //! The course of a race.
-ghost use Rattle.std.specs.Prelude.{◌≡◌, ◌≤◌, [], map, IfOk, vec_len, vec_capacity};
+ghost use Rattle.std.specs.Prelude.{◌≡◌, ◌≤◌, ℕ, [], map, IfOk, vec_len, vec_capacity};
 ghost use Rattle.race.specs.Builds.{EndsPlanned, IsLeased};
-ghost use Rattle.race.specs.Races.{IsToldOf};
-ghost use Rattle.race.specs.Resting.{NoneDiffers};
+ghost use Rattle.race.specs.Races.{IsReportOf};
+ghost use Rattle.race.specs.Resting.{AreChecked};
 ghost use Rattle.race.specs.Sessions.{line_count, script_count};
 
 use crate::Watch;
@@ -11,12 +11,12 @@ use crate::each_counted::EachCounted;
 use crate::ended::Ended;
 use crate::gathered::Gathered;
 use crate::planned::{Planned, plan_build};
+use crate::race_report::RaceReport;
 use crate::resting::check_all;
 use crate::rows::put_rows;
 use crate::session_script::SessionScript;
 use crate::splitting::sessions_of;
 use crate::threads::run_beside;
-use crate::told::Told;
 use builder_core::Parts;
 use crew::{Closed, Opened, TableParts};
 use heap_table::Heap;
@@ -35,8 +35,8 @@ pub fn run_race<R: Threads + Wait + Sync, V: Watch + Send + Drop>(
     workers: usize,
     script: RaceScript,
     watch: V,
-) -> Result<Told, Fault>
-    ensures { IfOk result (IsToldOf workers script) }
+) -> Result<RaceReport, Fault>
+    ensures { IfOk result (IsReportOf workers script) }
 {
     let RaceScript {
         table,
@@ -76,16 +76,16 @@ fn run_named<T: Opened + Send + Sync, R: Threads + Wait + Sync, V: Watch + Send 
     sessions: Vec<SessionScript>,
     records: usize,
     watch: V,
-) -> Result<Told, Fault>
+) -> Result<RaceReport, Fault>
     requires word { parts.word ≡ T.table }
     requires pages { parts.parts.pages ≡ T.pages }
     requires sides { parts.parts.sides ≡ T.sides }
     requires opening { parts.parts.heap.log ≡ T.opening }
     requires leased { IfOk planned IsLeased }
-    ensures pages { IfOk result (λ told. told.pages ≡ 0) }
-    ensures build { IfOk result (λ told. EndsPlanned planned told.build) }
-    ensures lines { IfOk result (λ told. map line_count told.sessions.items ≡ map script_count sessions.items) }
-    ensures checks { IfOk result (λ told. NoneDiffers told.checks.items) }
+    ensures pages { IfOk result (λ report. report.pages ≡ 0) }
+    ensures build { IfOk result (λ report. EndsPlanned planned report.build) }
+    ensures lines { IfOk result (λ report. map line_count report.sessions.items ≡ map script_count sessions.items) }
+    ensures checks { IfOk result (λ report. (ready : ℕ) × AreChecked ready report.checks.items) }
 {
     let gathered = Gathered::<T>::new(alloc, sessions.len(), records.saturating_add(1))?;
     let handles = Vec::with_capacity(alloc, sessions.len())?;
@@ -106,7 +106,7 @@ fn run_reserved<T: Opened + Send + Sync, R: Threads + Wait + Sync, V: Watch + Se
     handles: Vec<PromisedHandle<Ended<T>, EachCounted>>,
     ended: Vec<Ended<T>>,
     gathered: Gathered<T>,
-) -> Told
+) -> RaceReport
     requires word { parts.word ≡ T.table }
     requires rings { parts.parts.pages ≡ T.pages }
     requires sides { parts.parts.sides ≡ T.sides }
@@ -117,7 +117,7 @@ fn run_reserved<T: Opened + Send + Sync, R: Threads + Wait + Sync, V: Watch + Se
     ensures pages { result.pages ≡ 0 }
     ensures build { EndsPlanned planned result.build }
     ensures lines { map line_count result.sessions.items ≡ map script_count sessions.items }
-    ensures checks { NoneDiffers result.checks.items }
+    ensures checks { (ready : ℕ) × AreChecked ready result.checks.items }
 {
     let (table, ends) = parts.open::<T>();
     let (built, mut gathered) = run_beside(
@@ -138,7 +138,7 @@ fn run_reserved<T: Opened + Send + Sync, R: Threads + Wait + Sync, V: Watch + Se
     } = gathered;
     let Closed { mut live, missing } = table.close(receipts);
     check_all(&mut live, &mut checks);
-    Told {
+    RaceReport {
         build,
         sessions: lines,
         checks,

@@ -9,7 +9,7 @@ use replay::{Status, has_refused};
 
 /// How a race went.
 #[derive(Drop)]
-pub struct Told {
+pub struct RaceReport {
     /// What became of the indexes, or why the build was given up.
     pub build: Result<Outcome, Fault>,
     /// Of each session that did something, in their order.
@@ -22,7 +22,7 @@ pub struct Told {
     pub pages: usize,
 }
 
-impl Told {
+impl RaceReport {
     /// Done where every index became ready.
     pub fn status(&self) -> Status
         ensures { result ≡ status_after self.now.build }
