@@ -152,11 +152,11 @@ impl<S: Spool, T: Table> WithoutLoads<S, T> {
         ensures { result ≡ without_loads self.was }
     {
         let WithoutLoads {
-            building,
+            building: spoiled,
             room: _,
             was: _,
             lent: _,
         } = self;
-        building
+        spoiled
     }
 }
