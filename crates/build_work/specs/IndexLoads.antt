@@ -1,6 +1,7 @@
 -- Loads of a build's indexes, each by itself.
 use Rattle.std.specs.Prelude.{◌≡◌, ◌⊎◌, ℕ, suc, ◌*◌, ◌<◌, Bool, is_some, List, [], ◌∷◌, length, map, true, Option, Some, None, IfSome, IsPermutation}
-use Rattle.std.specs.List.{All, AllZip, slice_get}
+use Rattle.std.specs.List.{All, slice_get}
+use Rattle.std.specs.Option.{option_map}
 use Rattle.keybytes.specs.Faults.{first_cause}
 use Rattle.keybytes.specs.Pairs.{AreOrdered}
 use Rattle.keybytes.specs.declared.fault.Fault.{Fault}
@@ -94,23 +95,25 @@ pub record CanLoadAll (building : BuildingValue) : Type 0 where
   pub loads : work.handed ≡ true
   pub none : All (λ index. index.built ≡ None) work.indexes
 
--- the loads of all indexes are lent, with all spools; until they are back the work is spoiled
-pub record AreLent (old : BuildingValue) (loads : List IndexLoadValue) (new : BuildingValue) : Type 0 where
+-- the loads of all indexes of a build that goes on are lent, with all its spools
+pub record AreLent (building : BuildingValue) (loads : List IndexLoadValue) : Type 0 where
   pub work : WorkValue
-  pub runs : old.work ≡ Some work
+  pub runs : building.work ≡ Some work
   pub fine : work.spoiled ≡ None
   pub going : work.handed ≡ true
   pub none : All (λ index. index.built ≡ None) work.indexes
-  pub kept : IsKept old.workers old.sides old.spools work
+  pub kept : IsKept building.workers building.sides building.spools work
   pub many : length loads ≡ length work.specs
-  pub each : (index : ℕ) → index < length work.specs → slice_get loads index ≡ Some (load_at work old.spools index)
-  pub left : new ≡ record old { spools = []; work = Some (record work { spoiled = Some Memory }) }
+  pub each : (index : ℕ) → index < length work.specs → slice_get loads index ≡ Some (load_at work building.spools index)
 
--- those that were lent went on and are back, in their order
-pub record AreBackFrom (old : BuildingValue) (loads : List IndexLoadValue) (now : BuildingValue) : Type 0 where
-  pub lent : List IndexLoadValue
-  pub were : AreLent old lent now
-  pub ran : AllZip HasRun lent loads
+-- what is left of that build meanwhile: it has no spool, and is spoiled
+abbrev pub without_loads : BuildingValue → BuildingValue
+without_loads building = record building { spools = []; work = option_map (λ (work : WorkValue). record work { spoiled = Some Memory }) building.work }
+
+-- a build whose loads are lent: as it was then, and the loads as they were then
+pub record WithoutLoadsValue : Type 0 where
+  pub was : BuildingValue
+  pub loads : List IndexLoadValue
 
 -- from an index on, the indexes of the work with these pairs in order
 abbrev pub loaded_from : WorkValue → ℕ → List (List Pair) → List IndexValue

@@ -1,7 +1,8 @@
 //! The loads of a build's indexes in threads of their own.
-ghost use Rattle.std.specs.Prelude.{◌≡◌, ◌≤◌, ◌+◌, [], List, length, map, IfErr, IfSome, OnOk, vec_len, vec_capacity};
+ghost use Rattle.std.specs.Prelude.{◌≡◌, ◌≤◌, ◌+◌, [], List, length, map, IfErr, IfOk, IfSome, OnOk, vec_len, vec_capacity};
 ghost use Rattle.keybytes.specs.declared.fault.Fault.{Fault};
 ghost use Rattle.std.specs.List.{AllZip};
+ghost use Rattle.build_work.specs.Equipped.{HasRoomFor};
 ghost use Rattle.build_work.specs.IndexLoads.{CanLoadAll, HasLoadedAll, HasRun, IndexLoadValue, LoadsStopped};
 ghost use Rattle.crew.specs.Loading.{AreLoadsOf};
 ghost use Rattle.crew.specs.Seats.{GoesOnWith, stakes_beside};
@@ -131,28 +132,50 @@ fn tell_loaded<S: Spool, T: Opened, G: Gate, R: Wait>(
     }
 }
 
+/// Room for so many threads, and for the loads that come back from them.
+fn rooms<S: Spool>(
+    alloc: Global,
+    count: usize,
+) -> Result<
+    (
+        Vec<PromisedHandle<IndexLoad<S>, LoadRan<S>>>,
+        Vec<IndexLoad<S>>,
+    ),
+    Fault,
+>
+    ensures room { IfOk result (λ rooms. HasRoomFor count rooms.0 × HasRoomFor count rooms.1) }
+    ensures memory { IfErr result (λ fault. fault ≡ Fault.Memory) }
+{
+    let handles = Vec::with_capacity(alloc, count)?;
+    let back = Vec::with_capacity(alloc, count)?;
+    Ok((handles, back))
+}
+
 /// Puts the pairs of all indexes in order, side by side. There is room for the threads, and for the loads that come back.
 fn load_reserved<S: Spool + Send, T: Opened, G: Gate, R: Threads + Wait + Sync>(
     rt: &R,
     alloc: Global,
     table: &Table<T>,
     gate: &G,
-    building: &mut Building<S, T>,
+    building: Building<S, T>,
     handles: Vec<PromisedHandle<IndexLoad<S>, LoadRan<S>>>,
     back: Vec<IndexLoad<S>>,
-) -> Result<(), Fault>
-    requires loads { CanLoadAll building.old }
+) -> (Building<S, T>, Result<(), Fault>)
+    requires loads { CanLoadAll building }
     requires none { (handles.items ≡ []) × (back.items ≡ []) }
-    requires room { IfSome building.old.work (λ w. (length w.specs ≤ vec_capacity handles) × (length w.specs ≤ vec_capacity back)) }
-    ensures loaded { OnOk result (HasLoadedAll building.old building.new) }
-    ensures spoiled { IfErr result (λ fault. LoadsStopped building.old fault building.new) }
-    ensures memory { IfErr result (λ fault. fault ≡ Fault.Memory) }
+    requires room { IfSome building.work (λ w. (length w.specs ≤ vec_capacity handles) × (length w.specs ≤ vec_capacity back)) }
+    ensures loaded { OnOk result.1 (HasLoadedAll building result.0) }
+    ensures spoiled { IfErr result.1 (λ fault. LoadsStopped building fault result.0) }
+    ensures memory { IfErr result.1 (λ fault. fault ≡ Fault.Memory) }
 {
-    let was = Snapshot::of(&*building);
-    let (loads, room) = building.lend_loads(alloc)?;
-    let loads = run_all(rt, loads, handles, back);
-    tell_loaded(rt, table, gate, &loads);
-    building.gather_loads(was, loads, room)
+    match building.lend_loads(alloc) {
+        Ok((loads, rest)) => {
+            let loads = run_all(rt, loads, handles, back);
+            tell_loaded(rt, table, gate, &loads);
+            rest.gather(loads)
+        }
+        Err((building, fault)) => (building, Err(fault)),
+    }
 }
 
 /// Puts the pairs of all indexes in order, side by side.
@@ -162,15 +185,16 @@ pub(crate) fn load_all<S: Spool + Send, T: Opened, G: Gate, R: Threads + Wait + 
     table: &Table<T>,
     plan: &Plan,
     gate: &G,
-    building: &mut Building<S, T>,
-) -> Result<(), Fault>
-    requires goes_on { GoesOnWith 0 plan.now.specs.items building.old }
-    requires loads { CanLoadAll building.old }
-    ensures goes_on { OnOk result (GoesOnWith (length plan.now.specs.items) plan.now.specs.items building.new) }
-    ensures stakes { stakes_beside building.new ≡ stakes_beside building.old }
-    ensures memory { IfErr result (λ fault. fault ≡ Fault.Memory) }
+    building: Building<S, T>,
+) -> (Building<S, T>, Result<(), Fault>)
+    requires goes_on { GoesOnWith 0 plan.now.specs.items building }
+    requires loads { CanLoadAll building }
+    ensures goes_on { OnOk result.1 (GoesOnWith (length plan.now.specs.items) plan.now.specs.items result.0) }
+    ensures stakes { stakes_beside result.0 ≡ stakes_beside building }
+    ensures memory { IfErr result.1 (λ fault. fault ≡ Fault.Memory) }
 {
-    let handles = Vec::with_capacity(alloc, plan.specs.len())?;
-    let back = Vec::with_capacity(alloc, plan.specs.len())?;
-    load_reserved(rt, alloc, table, gate, building, handles, back)
+    match rooms(alloc, plan.specs.len()) {
+        Ok((handles, back)) => load_reserved(rt, alloc, table, gate, building, handles, back),
+        Err(fault) => (building, Err(fault)),
+    }
 }

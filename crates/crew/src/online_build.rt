@@ -111,32 +111,39 @@ where
 {
     let (workers, rest) = building.lend();
     let (workers, scanned) = scan_all(rt, alloc, table, plan, gate, workers);
-    let mut building = rest.gather(workers);
+    let building = rest.gather(workers);
     if let Err(fault) = scanned {
         return (building, Err(fault));
     }
-    let told = finish(rt, alloc, table, plan, gate, &mut building);
-    (building, told)
+    finish(rt, alloc, table, plan, gate, building)
 }
 
-/// The rest of a build whose pages were scanned.
+/// The rest of a build whose pages were scanned: the loads of its indexes are lent to threads, and come back for the turns.
 fn finish<S: Spool + Send, T: Opened, G: Gate, R: Threads + Wait + Sync>(
     rt: &R,
     alloc: Global,
     table: &Table<T>,
     plan: &Plan,
     gate: &G,
-    building: &mut Building<S, T>,
-) -> Result<Report<T>, Fault>
-    requires goes_on { GoesOnWith 0 plan.now.specs.items building.old }
-    requires scans { StillScans building.old }
-    ensures report { IfOk result (λ report. IsReport plan.now.specs.items report.receipt report.verdicts (lists_in report.pairs)) }
-    ensures ends { IfErr result (EndsFor plan.now.specs.items) }
-    ensures stakes { stakes_beside building.new ≡ stakes_beside building.old }
+    building: Building<S, T>,
+) -> (Building<S, T>, Result<Report<T>, Fault>)
+    requires goes_on { GoesOnWith 0 plan.now.specs.items building }
+    requires scans { StillScans building }
+    ensures report { IfOk result.1 (λ report. IsReport plan.now.specs.items report.receipt report.verdicts (lists_in report.pairs)) }
+    ensures ends { IfErr result.1 (EndsFor plan.now.specs.items) }
+    ensures stakes { stakes_beside result.0 ≡ stakes_beside building }
 {
-    table.lock().lock(rt).end_scan(building)?;
-    load_all(rt, alloc, table, plan, gate, building)?;
-    take_turns(rt, alloc, table, plan, gate, building)
+    let mut building = building;
+    let ended = table.lock().lock(rt).end_scan(&mut building);
+    if let Err(fault) = ended {
+        return (building, Err(fault));
+    }
+    let (mut building, loaded) = load_all(rt, alloc, table, plan, gate, building);
+    if let Err(fault) = loaded {
+        return (building, Err(fault));
+    }
+    let told = take_turns(rt, alloc, table, plan, gate, &mut building);
+    (building, told)
 }
 
 /// Takes turns until the switch decides, or the last turn has to wait as well. Other threads run in between.

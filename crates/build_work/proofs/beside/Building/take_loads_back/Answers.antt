@@ -8,22 +8,22 @@ use Rattle.build_work.specs.Holding.{all_spools}
 use Rattle.build_work.specs.IndexLoads.{AreHome, HasLoadedAll, IndexLoadValue, LoadsStopped, index_from, without_spools}
 use Rattle.build_work.specs.Keeping.{KeepsWork}
 use Rattle.build_work.proofs.LoadsApart.{lent_whole}
-use Rattle.build_work.proofs.LoadsLent.{after_many, loaded, others_there, own_back, same_indexes, same_room, spools_fit, stopped, wants, work_kept}
-use Rattle.build_work.proofs.beside.Building.gather_loads.Given as given
-use Rattle.build_work.proofs.beside.Building.gather_loads.Goals as goal
-use Rattle.build_work.proofs.beside.Building.gather_loads.Goals.{After-take_home-work-inside}
+use Rattle.build_work.proofs.LoadsLent.{after_many, left_there, loaded, others_there, own_back, same_indexes, same_room, spools_fit, stopped, wants, work_kept}
+use Rattle.build_work.proofs.beside.Building.take_loads_back.Given as given
+use Rattle.build_work.proofs.beside.Building.take_loads_back.Goals as goal
+use Rattle.build_work.proofs.beside.Building.take_loads_back.Goals.{After-take_home-work-inside}
 
 pub take_home-work-inside-requires-clause-own : goal.take_home-work-inside-requires-clause-own
 take_home-work-inside-requires-clause-own g c =
-    let same = c.len.ensures ∙ c.self.inside.workers.ok.0 ∙ ap (λ (b : BuildingValue). length b.workers) (c.self.view_is ∙ c.requires.back.were.left) in
+    let same = c.len.ensures ∙ c.self.inside.workers.ok.0 ∙ ap (λ (b : BuildingValue). length b.workers) (c.self.view_is ∙ c.requires.left) in
     subst (λ (n : ℕ). All (λ (load : IndexLoadValue). length load.spools ≡ n) c.deref_mut.result.now) (sym same)
     (subst (All (λ (load : IndexLoadValue). length load.spools ≡ length c.args.was.value.workers)) (sym c.deref_mut.ensures.value)
-    (own_back c.args.was.value c.args.self.now c.args.loads.items c.requires.back))
+    (own_back c.args.was.value c.args.lent.value.items c.args.loads.items c.requires.lent c.requires.ran))
 
 pub take_home-work-inside-requires-clause-room : goal.take_home-work-inside-requires-clause-room
 take_home-work-inside-requires-clause-room g c =
-    let same = c.len.ensures ∙ c.self.inside.workers.ok.0 ∙ ap (λ (b : BuildingValue). length b.workers) (c.self.view_is ∙ c.requires.back.were.left) in
-    let room = same_room c.args.was.value c.args.self.now c.args.loads.items c.requires.back in
+    let same = c.len.ensures ∙ c.self.inside.workers.ok.0 ∙ ap (λ (b : BuildingValue). length b.workers) (c.self.view_is ∙ c.requires.left) in
+    let room = same_room c.args.was.value c.args.lent.value.items c.args.loads.items c.requires.lent c.requires.ran in
     rw (same, c.deref_mut.ensures.value) (omega (arith, room, c.requires.room.room))
 
 -- what is there once the spools are back
@@ -38,8 +38,8 @@ module _ (g : given.Over) (c : After-take_home-work-inside g) where
     work = c.self.inside.work;
   }
 
-  lent : seen ≡ record c.args.was.value { spools = []; work = Some (record c.requires.back.were.work { spoiled = Some Memory }) }
-  lent = c.self.view_is ∙ c.requires.back.were.left
+  lent : seen ≡ record c.args.was.value { spools = []; work = Some (record c.requires.lent.work { spoiled = Some Memory }) }
+  lent = c.self.view_is ∙ c.requires.left ∙ left_there c.args.was.value c.requires.lent.work c.requires.lent.runs
 
   same_workers : c.len.result ≡ length c.args.was.value.workers
   same_workers = c.len.ensures ∙ c.self.inside.workers.ok.0 ∙ ap (λ (b : BuildingValue). length b.workers) lent
@@ -61,7 +61,7 @@ module _ (g : given.Over) (c : After-take_home-work-inside g) where
 
   fit : length (all_spools c.self.inside.workers.items back) ≤ vec_capacity c.take_home-work-inside.new.spools
   fit =
-      let many = spools_fit its c.args.self.now c.args.loads.items c.requires.back after c.take_home-work-inside.result back home in
+      let many = spools_fit its c.args.lent.value.items c.args.loads.items c.requires.lent c.requires.ran after c.take_home-work-inside.result back home in
       let same : length (all_spools c.self.inside.workers.items back) ≡ length (all_spools its.workers back) =
       ap (λ (b : BuildingValue). length (all_spools b.workers back)) lent in
       omega (arith, many, same, c.requires.room.room, c.take_home-work-inside.ensures.capacity)
@@ -85,19 +85,19 @@ invariant_of-self g c =
 pub returns-in-Some-spoiled-clause-memory : goal.returns-in-Some-spoiled-clause-memory
 returns-in-Some-spoiled-clause-memory g c =
     let at = (goal.at.returns-in-Some-spoiled-clause-memory g c).After-take_home-work-inside in
-    wants c.args.was.value c.args.self.now c.args.loads.items c.requires.back (after g at) c.take_home-work-inside.result (back g at) (home g at) c.in-Some-spoiled.fault
+    wants c.args.was.value c.args.lent.value.items c.args.loads.items c.requires.lent c.requires.ran (after g at) c.take_home-work-inside.result (back g at) (home g at) c.in-Some-spoiled.fault
     c.in-Some-spoiled.is
 
 pub returns-in-Some-spoiled-clause-spoiled : goal.returns-in-Some-spoiled-clause-spoiled
 returns-in-Some-spoiled-clause-spoiled g c =
     let at = (goal.at.returns-in-Some-spoiled-clause-spoiled g c).After-take_home-work-inside in
     let was = c.args.was.value in
-    let w = c.requires.back.were.work in
+    let w = c.requires.lent.work in
     let there = others_there was (seen g at) w c.in-Some.work _ (lent g at) c.in-Some.is c.work.view_is (back g at) c.work.inside.indexes.items
     c.take_home-work-inside.result in
     let same = same_indexes was (seen g at) w c.in-Some.work _ (lent g at) c.in-Some.is c.work.view_is in
     subst (LoadsStopped was c.in-Some-spoiled.fault) (sym (there ∙ ap (λ (l : List IndexValue). record was { spools = back g at; work = Some (record w { indexes = l; spoiled = c.take_home-work-inside.result }) }) same))
-    (stopped was c.args.self.now c.args.loads.items c.requires.back (after g at) c.take_home-work-inside.result (back g at) (home g at) c.in-Some-spoiled.fault
+    (stopped was c.args.lent.value.items c.args.loads.items c.requires.lent c.requires.ran (after g at) c.take_home-work-inside.result (back g at) (home g at) c.in-Some-spoiled.fault
     c.in-Some-spoiled.is)
 
 pub returns-in-Some-spoiled-clause-first : goal.returns-in-Some-spoiled-clause-first
@@ -109,21 +109,21 @@ pub install-requires : goal.install-requires
 install-requires g c =
     let at = (goal.at.install-requires g c).After-take_home-work-inside in
     let was = c.args.was.value in
-    let w = c.requires.back.were.work in
+    let w = c.requires.lent.work in
     let same = same_indexes was (seen g at) w c.in-Some.work _ (lent g at) c.in-Some.is c.work.view_is in
-    ap length (now g at) ∙ after_many was c.args.self.now c.args.loads.items c.requires.back (after g at) c.take_home-work-inside.result (back g at) (home g at)
+    ap length (now g at) ∙ after_many was c.args.lent.value.items c.args.loads.items c.requires.lent c.requires.ran (after g at) c.take_home-work-inside.result (back g at) (home g at)
     ∙ ap length (sym same)
 
 pub invariant_of-self-2 : goal.invariant_of-self-2
 invariant_of-self-2 g c =
     let at = (goal.at.invariant_of-self-2 g c).After-take_home-work-inside in
     let was = c.args.was.value in
-    let w = c.requires.back.were.work in
+    let w = c.requires.lent.work in
     let lost = lent g at in
     let there = others_there was (seen g at) w c.in-Some.work _ lost c.in-Some.is c.work.view_is (back g at) c.install.new.indexes.items
     c.take_home-work-inside.result in
     let Kept : BuildingValue → Type 0 = λ b. KeepsWork b.workers b.sides b.spools b.work in
-    let kept = work_kept was c.args.self.now c.args.loads.items c.requires.back (after g at) c.take_home-work-inside.result (back g at) (home g at)
+    let kept = work_kept was c.args.lent.value.items c.args.loads.items c.requires.lent c.requires.ran (after g at) c.take_home-work-inside.result (back g at) (home g at)
     c.in_default-spoiled.is c.install.new.indexes.items (c.install.ensures ∙ ap (map index_from) (now g at)) in (
       c.self.invariant.0,
       c.self.invariant.1,
@@ -138,9 +138,9 @@ pub returns-clause-loaded : goal.returns-clause-loaded
 returns-clause-loaded g c =
     let at = (goal.at.returns-clause-loaded g c).After-take_home-work-inside in
     let was = c.args.was.value in
-    let w = c.requires.back.were.work in
+    let w = c.requires.lent.work in
     let there = others_there was (seen g at) w c.in-Some.work _ (lent g at) c.in-Some.is c.work.view_is (back g at) c.install.new.indexes.items
     c.take_home-work-inside.result in
     subst (HasLoadedAll was) (sym there)
-    (loaded was c.args.self.now c.args.loads.items c.requires.back (after g at) c.take_home-work-inside.result (back g at) (home g at) c.in_default-spoiled.is
+    (loaded was c.args.lent.value.items c.args.loads.items c.requires.lent c.requires.ran (after g at) c.take_home-work-inside.result (back g at) (home g at) c.in_default-spoiled.is
     c.install.new.indexes.items (c.install.ensures ∙ ap (map index_from) (now g at)))

@@ -2,8 +2,8 @@ use Rattle.std.proofs.Common.{◌≡◌, ◌∙◌, ◌++◌, List, [], length, 
 use Rattle.keybytes.specs.declared.fault.Fault.TheVariants.{Memory}
 use Rattle.building.specs.SpoolValue.{SpoolValue, spool_value, stakes_of}
 use Rattle.build_work.proofs.LoadedAll.{can_load_all, loads_stopped}
-use Rattle.build_work.proofs.LoadsLent.{none_with}
-use Rattle.build_work.proofs.beside.Building.lend_loads.Goals as goal
+use Rattle.build_work.proofs.LoadsLent.{left_seen, none_with}
+use Rattle.build_work.proofs.beside.Building.give_loads.Goals as goal
 
 pub invariant_of-self : goal.invariant_of-self
 invariant_of-self g c =
@@ -27,3 +27,9 @@ returns-in-Err-clause-spoiled g c =
     let after = c.take_loads-loads.new.spools.items in
     let same = ap (λ v. stakes_of (map value v.items)) c.in-Err.ensures.unchanged in
     rw c.in-Err.ensures.memory (loads_stopped c.args.self.now _ c.in-Some.work _ c.self.view_is c.in-Some.is c.work.view_is Memory (map value after) same)
+
+pub returns-in-Ok-clause-left : goal.returns-in-Ok-clause-left
+returns-in-Ok-clause-left g c =
+    let value = spool_value g.S.Spool.runs g.S.Spool.open_run g.S.Spool.stake in
+    let none : map value c.replace.new.dest.items ≡ [] = ap (map value) (ap (λ v. v.items) c.replace.ensures.after ∙ c.new.ensures.items) in
+    left_seen c.args.self.now _ c.in-Some.work _ c.self.view_is c.in-Some.is c.work.view_is (map value c.replace.new.dest.items) none
