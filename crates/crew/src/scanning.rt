@@ -9,6 +9,7 @@ use crate::working::{scan_range, seal};
 use crate::{Gate, Opened, Table};
 use builder_core::{Dealing, Plan, Worker};
 use keybytes::Fault;
+use run_maker::StdSort;
 use run_spool::Spool;
 use std::alloc::Global;
 use std::sync::Wait;
@@ -106,7 +107,7 @@ fn scan_rest<S: Spool, T: Opened, G: Gate, R: Wait>(
         return Ok(());
     }
     for range in 0..ranges {
-        scan_range(rt, alloc, table, gate, &mut workers[0], range)?;
+        scan_range(rt, alloc, table, gate, &mut workers[0], range, &mut StdSort)?;
     }
     Ok(())
 }
@@ -118,7 +119,7 @@ fn seal_all<S: Spool, T: Opened>(workers: &mut Vec<Worker<S, T>>) -> Result<(), 
     ensures other { IfErr result IsOther }
 {
     for number in 0..workers.len() {
-        seal(&mut workers[number])?;
+        seal(&mut workers[number], &mut StdSort)?;
     }
     Ok(())
 }

@@ -10,6 +10,7 @@ use crate::working::work;
 use crate::{Gate, Opened, Table};
 use builder_core::Worker;
 use keybytes::Fault;
+use run_maker::ParSort;
 use run_spool::Spool;
 use std::alloc::Global;
 use std::snapshot::Snapshot;
@@ -17,8 +18,8 @@ use std::sync::Wait;
 use std::thread;
 use std::thread::{PromisedHandle, Scope, Threads};
 
-/// What a thread does with its worker.
-fn run<S: Spool, T: Opened, G: Gate, R: Wait>(
+/// What a thread does with its worker. Its runs are sorted in threads that share the runtime, where they are long enough for that.
+fn run<S: Spool, T: Opened, G: Gate, R: Threads + Wait + Sync>(
     rt: &R,
     alloc: Global,
     table: &Table<T>,
@@ -29,7 +30,8 @@ fn run<S: Spool, T: Opened, G: Gate, R: Wait>(
     ensures same { seat_of result.worker ≡ seat_of worker }
     ensures other { IfSome result.fault IsOther }
 {
-    let fault = work(rt, alloc, table, queue, gate, &mut worker).err();
+    let mut sort = ParSort::new(rt);
+    let fault = work(rt, alloc, table, queue, gate, &mut worker, &mut sort).err();
     Returned { worker, fault }
 }
 
