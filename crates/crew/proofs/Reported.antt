@@ -17,6 +17,7 @@ use Rattle.build_events.proofs.SharedKeys.{shared_keys}
 use Rattle.build_events.specs.BuildSteps.{AreKeyed}
 use Rattle.build_events.specs.Verdicts.{HaveSharedKeys, accepted, outcomes, verdict_on}
 use Rattle.ready_indexes.specs.Indexes.{ReadyValue, index_now}
+use Rattle.crew.specs.MadeReady.{HasMadeReady}
 use Rattle.crew.specs.Reports.{ArePairsAtRest, IsReport}
 
 -- what maps do one after the other
@@ -63,13 +64,15 @@ module _ (log : List LogRec) (said : List Outcome) where
   copies_are ready all specs are (Some lists) copies = copies ∙ at_rest_are ready all specs are
 
   pub is_report :
-      (ready all : List ReadyValue) (specs : List KeySpecValue) (pairs : Option (List (List Pair)))
-      → said ≡ outcomes (length ready) (map (verdict_on log) specs) → AreKeyed log specs → all ≡ ready ++ map (index_now log) (accepted log specs)
-      → IfSome pairs (λ lists. lists ≡ map (λ (it : ReadyValue). it.pairs) (drop (length ready) all)) → IsReport specs after said pairs
-  is_report ready all specs pairs is keyed are copies = record {
-    switched = (log, refl);
-    ready = length ready;
-    right = is ∙ ap (outcomes (length ready)) (sym (same_verdicts specs));
+      (opening : List LogRec) (ready all : List ReadyValue) (specs : List KeySpecValue) (pairs : Option (List (List Pair)))
+      → HasMadeReady opening log (length ready) → said ≡ outcomes (length ready) (map (verdict_on log) specs) → AreKeyed log specs
+      → all ≡ ready ++ map (index_now log) (accepted log specs)
+      → IfSome pairs (λ lists. lists ≡ map (λ (it : ReadyValue). it.pairs) (drop (length ready) all))
+      → IsReport opening specs after said pairs
+  is_report opening ready all specs pairs had is keyed are copies = record {
+    earlier = had.since;
+    switched = ap (λ (l : List LogRec). l ++ Switch said ∷ []) had.goes_on;
+    right = is ∙ ap₂ outcomes had.counted (sym (same_verdicts specs));
     keyed = subst (HaveSharedKeys specs) (sym is) (shared_keys log (length ready) specs keyed);
     at_rest = copies_are ready all specs are pairs copies;
   }

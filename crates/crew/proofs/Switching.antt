@@ -11,6 +11,7 @@ use Rattle.build_halves.specs.Builds.{LiveValue, core_state}
 use Rattle.build_halves.specs.Switching.{IsPartOf, RefusesSwitch}
 use Rattle.build_work.specs.BuildingValue.{BuildingValue, WorkValue}
 use Rattle.ready_indexes.specs.Indexes.{ReadyValue}
+use Rattle.crew.specs.MadeReady.{HasMadeReady}
 use Rattle.crew.specs.Reports.{EndsFor, IsReport}
 use Rattle.crew.proofs.Reported.{is_report}
 use Rattle.crew.proofs.Steps.{has_switched, switch_ends}
@@ -23,7 +24,8 @@ of_work (Some w) P each = each w refl
 module _
     (live new_live : LiveValue) (building new : BuildingValue) (number : ℕ) (verdicts : List Outcome) (rec : LogRec) (known receipt : List LogRec)
     (part : IsPartOf live building) (does : Switches (core_state live building) (number, verdicts) (core_state new_live new)) (its : rec ≡ Switch verdicts)
-    (knows : known ≡ live.state.heap.log) (told : receipt ≡ known ++ rec ∷ []) where
+    (knows : known ≡ live.state.heap.log) (told : receipt ≡ known ++ rec ∷ [])
+    (opening : List LogRec) (had : HasMadeReady opening live.state.heap.log (length live.state.ready)) where
   receipt_is : receipt ≡ live.state.heap.log ++ Switch verdicts ∷ []
   receipt_is =
       told ∙ ap (λ (log : List LogRec). log ++ rec ∷ []) knows ∙ ap (λ (r : LogRec). live.state.heap.log ++ r ∷ []) its
@@ -31,12 +33,13 @@ module _
   pub switched_report :
       (first : ℕ) (pairs : Option (List (List Pair))) → first ≡ length live.state.ready
       → IfSome pairs (λ lists. lists ≡ map (λ (it : ReadyValue). it.pairs) (drop first new_live.state.ready))
-      → IfSome building.work (λ w. IsReport w.specs receipt verdicts pairs)
-  switched_report first pairs from copies = of_work building.work (λ w. IsReport w.specs receipt verdicts pairs) (λ w runs.
+      → IfSome building.work (λ w. IsReport opening w.specs receipt verdicts pairs)
+  switched_report first pairs from copies = of_work building.work (λ w. IsReport opening w.specs receipt verdicts pairs) (λ w runs.
       let switched = has_switched live new_live building new w (number, verdicts) runs part does in
       let behind = subst (λ n. IfSome pairs (λ lists. lists ≡ map (λ (it : ReadyValue). it.pairs) (drop n new_live.state.ready))) from copies in
-      subst (λ (log : List LogRec). IsReport w.specs log verdicts pairs) (sym receipt_is)
-      (is_report live.state.heap.log verdicts live.state.ready new_live.state.ready w.specs pairs switched.right switched.keyed switched.ready behind))
+      subst (λ (log : List LogRec). IsReport opening w.specs log verdicts pairs) (sym receipt_is)
+      (is_report live.state.heap.log verdicts opening live.state.ready new_live.state.ready w.specs pairs had
+      switched.right switched.keyed switched.ready behind))
 
 -- why it is refused
 pub switch_ends_for :

@@ -93,7 +93,7 @@ impl<T: Opened> Locked<T> {
         building: &mut Building<S, T>,
     ) -> Result<Report<T>, Fault>
         ensures report { IfOk result (λ report. IfSome building.old.work
-            (λ w. IsReport w.specs report.receipt report.verdicts (lists_in report.pairs))) }
+            (λ w. IsReport T.opening w.specs report.receipt report.verdicts (lists_in report.pairs))) }
         ensures log { IfOk result (λ report. report.receipt ≡ self.new.state.heap.log) }
         ensures same { OnErr result (self.new.state.heap.log ≡ self.old.state.heap.log) }
         ensures stakes { stakes_beside building.new ≡ stakes_beside building.old }

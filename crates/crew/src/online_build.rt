@@ -42,7 +42,7 @@ where
     T: Opened + Send + Sync,
     G: Gate + Sync,
     R: Threads + Wait + Sync,
-    ensures report { IfOk result.2 (λ report. IsReport plan.now.specs.items report.receipt report.verdicts (lists_in report.pairs)) }
+    ensures report { IfOk result.2 (λ report. IsReport T.opening plan.now.specs.items report.receipt report.verdicts (lists_in report.pairs)) }
     ensures not_empty { IfErr result.2 (λ fault. fault.0 ≡ Fault.SpoolNotEmpty
         → All (λ spool. (S.runs spool ≡ []) × (S.open_run spool ≡ [])) spools.items → ⊥) }
     ensures busy { IfErr result.2 (λ fault. (count : ℕ) → fault.0 ≡ Fault.Busy count → HasUnique plan.now.specs.items) }
@@ -72,7 +72,7 @@ where
     T: Opened + Send + Sync,
     G: Gate + Sync,
     R: Threads + Wait + Sync,
-    ensures report { IfOk result.1 (λ report. IsReport plan.now.specs.items report.receipt report.verdicts (lists_in report.pairs)) }
+    ensures report { IfOk result.1 (λ report. IsReport T.opening plan.now.specs.items report.receipt report.verdicts (lists_in report.pairs)) }
     ensures not_empty { IfErr result.1 (λ fault. fault ≡ Fault.SpoolNotEmpty → HasPairsLeft building) }
     ensures busy { IfErr result.1 (λ fault. (count : ℕ) → fault ≡ Fault.Busy count → HasUnique plan.now.specs.items) }
     ensures stakes { stakes_beside result.0 ≡ stakes_beside building }
@@ -105,7 +105,7 @@ where
     R: Threads + Wait + Sync,
     requires lendable { CanLend building }
     requires goes_on { GoesOnWith 0 plan.now.specs.items building }
-    ensures report { IfOk result.1 (λ report. IsReport plan.now.specs.items report.receipt report.verdicts (lists_in report.pairs)) }
+    ensures report { IfOk result.1 (λ report. IsReport T.opening plan.now.specs.items report.receipt report.verdicts (lists_in report.pairs)) }
     ensures ends { IfErr result.1 (EndsFor plan.now.specs.items) }
     ensures stakes { stakes_beside result.0 ≡ stakes_beside building }
 {
@@ -129,7 +129,7 @@ fn finish<S: Spool + Send, T: Opened, G: Gate, R: Threads + Wait + Sync>(
 ) -> (Building<S, T>, Result<Report<T>, Fault>)
     requires goes_on { GoesOnWith 0 plan.now.specs.items building }
     requires scans { StillScans building }
-    ensures report { IfOk result.1 (λ report. IsReport plan.now.specs.items report.receipt report.verdicts (lists_in report.pairs)) }
+    ensures report { IfOk result.1 (λ report. IsReport T.opening plan.now.specs.items report.receipt report.verdicts (lists_in report.pairs)) }
     ensures ends { IfErr result.1 (EndsFor plan.now.specs.items) }
     ensures stakes { stakes_beside result.0 ≡ stakes_beside building }
 {
@@ -156,7 +156,7 @@ fn take_turns<S: Spool, T: Opened, G: Gate, R: Wait>(
     building: &mut Building<S, T>,
 ) -> Result<Report<T>, Fault>
     requires { GoesOnWith (length plan.now.specs.items) plan.now.specs.items building.old }
-    ensures report { IfOk result (λ report. IsReport plan.now.specs.items report.receipt report.verdicts (lists_in report.pairs)) }
+    ensures report { IfOk result (λ report. IsReport T.opening plan.now.specs.items report.receipt report.verdicts (lists_in report.pairs)) }
     ensures ends { IfErr result (EndsFor plan.now.specs.items) }
     ensures stakes { stakes_beside building.new ≡ stakes_beside building.old }
 {
@@ -180,7 +180,7 @@ fn take_turn<S: Spool, T: Opened, G: Gate, R: Wait>(
     n: u32,
 ) -> Result<Report<T>, Fault>
     requires { GoesOnWith (length plan.now.specs.items) plan.now.specs.items building.old }
-    ensures report { IfOk result (λ report. IsReport plan.now.specs.items report.receipt report.verdicts (lists_in report.pairs)) }
+    ensures report { IfOk result (λ report. IsReport T.opening plan.now.specs.items report.receipt report.verdicts (lists_in report.pairs)) }
     ensures goes_on { IfErr result (λ fault. fault ≢ Fault.Memory
         → GoesOnWith (length plan.now.specs.items) plan.now.specs.items building.new) }
     ensures ends { IfErr result (EndsFor plan.now.specs.items) }

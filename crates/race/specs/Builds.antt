@@ -39,9 +39,11 @@ PlansBuild workers schema build (Err fault) = IsInLimits workers build ⊎ (faul
 -- a build of these indexes was decided so: the verdicts are those on the rows that stood when it was, and the lines tell of the refused indexes, if there
 -- are any lines
 pub record IsOutcomeOf (specs : List KeySpecValue) (outcome : Outcome) : Type 0 where
+  -- the log with which the table was opened
+  pub opening : List LogRec
   pub log : List LogRec
   pub pairs : Option (List (List Pair))
-  pub report : IsReport specs log outcome.verdicts pairs
+  pub report : IsReport opening specs log outcome.verdicts pairs
   pub shared : ListsShared 0 specs outcome.verdicts outcome.shared.items ⊎ (outcome.shared.items ≡ [])
 
 -- a planned build was decided or given up; of one that was refused the refusal is told

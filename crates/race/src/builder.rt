@@ -72,7 +72,7 @@ fn run_planned<T: Opened + Send + Sync, R: Threads + Wait + Sync, V: Watch + Sen
 
 /// What a build that decided gave.
 fn decided<T: Opened>(alloc: Global, plan: &Plan, report: Report<T>, pages: usize) -> Built<T>
-    requires { IsReport plan.now.specs.items report.receipt report.verdicts (lists_in report.pairs) }
+    requires { IsReport T.opening plan.now.specs.items report.receipt report.verdicts (lists_in report.pairs) }
     ensures pages { result.pages ≡ pages }
     ensures build { IfOk result.build (IsOutcomeOf plan.now.specs.items) }
 {

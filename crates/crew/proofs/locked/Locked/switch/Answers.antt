@@ -1,4 +1,5 @@
-use Rattle.std.proofs.Common.{length, ap, ◌∙◌}
+use Rattle.std.proofs.Common.{length, sym, ap, ◌∙◌, rules}
+use Rattle.crew.proofs.MadeReady.{switched_more}
 use Rattle.crew.proofs.Steps.{still_goes_on, switch_left}
 use Rattle.crew.specs.Reports.{lists_in}
 use Rattle.crew.proofs.Switching.{switch_ends_for, switched_report}
@@ -8,7 +9,7 @@ pub returns-in-Ok-clause-report : goal.returns-in-Ok-clause-report
 returns-in-Ok-clause-report g c =
     switched_report c.self.inside.live c.switch_in.new.self c.args.building.now c.switch_in.new.building c.in-Ok.switched.number c.in-Ok.switched.verdicts c.in-Ok.switched.record
     c.self.inside.keeper c.new-receipt.result c.in-Ok.ensures.all.0 c.in-Ok.ensures.switched c.in-Ok.ensures.record c.self.invariant.0
-    (c.new-receipt.ensures ∙ c.tell.ensures.told ∙ c.append.ensures)
+    (c.new-receipt.ensures ∙ c.tell.ensures.told ∙ c.append.ensures) g.T.Opened.opening c.self.invariant.2
     c.len-first.result (lists_in c.pairs_from-pairs.result) (c.len-first.ensures ∙ ap length c.ready.ensures.ready) c.pairs_from-pairs.ensures
 
 pub returns-in-Err-clause-stakes : goal.returns-in-Err-clause-stakes
@@ -22,3 +23,10 @@ returns-in-Err-clause-goes_on g c =
 pub returns-in-Err-clause-ends : goal.returns-in-Err-clause-ends
 returns-in-Err-clause-ends g c =
     switch_ends_for c.self.inside.live c.switch_in.new.self c.args.building.now c.switch_in.new.building c.in-Err.fault c.in-Err.ensures.refused
+
+pub invariant_of-self : goal.invariant_of-self
+invariant_of-self g c =
+    let made =
+    switched_more g.T.Opened.opening c.self.inside.live c.switch_in.new.self c.args.building.now c.switch_in.new.building
+    (c.in-Ok.switched.number, c.in-Ok.switched.verdicts) c.in-Ok.ensures.switched c.self.invariant.2 in
+    (search rules, (made.since, sym made.goes_on), made)
