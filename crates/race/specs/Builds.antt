@@ -36,22 +36,20 @@ abbrev pub PlansBuild : ℕ → List Kind → Build → Result Planned Fault →
 PlansBuild workers schema build (Ok planned) = IsPlanOf workers schema build planned
 PlansBuild workers schema build (Err fault) = IsInLimits workers build ⊎ (fault ≡ BadCount)
 
--- a build of these indexes was decided so: the verdicts are those on the rows that stood when it was, and the lines tell of the refused indexes, if there
--- are any lines
-pub record IsOutcomeOf (specs : List KeySpecValue) (outcome : Outcome) : Type 0 where
-  -- the log with which the table was opened
-  pub opening : List LogRec
+-- a build of these indexes on a table with that log at first was decided so: the verdicts are those on the rows that stood when it was, and the lines
+-- tell of the refused indexes, if there are any lines
+pub record IsOutcomeOf (opening : List LogRec) (specs : List KeySpecValue) (outcome : Outcome) : Type 0 where
   pub log : List LogRec
   pub pairs : Option (List (List Pair))
   pub report : IsReport opening specs log outcome.verdicts pairs
   pub shared : ListsShared 0 specs outcome.verdicts outcome.shared.items ⊎ (outcome.shared.items ≡ [])
 
 -- a planned build was decided or given up; of one that was refused the refusal is told
-abbrev pub EndsPlanned : Result Planned Fault → Result Outcome Fault → Type 0
-EndsPlanned (Ok planned) ended = IfOk ended (IsOutcomeOf planned.plan.specs.items)
-EndsPlanned (Err fault) ended = ended ≡ Err fault
+abbrev pub EndsPlanned : List LogRec → Result Planned Fault → Result Outcome Fault → Type 0
+EndsPlanned opening (Ok planned) ended = IfOk ended (IsOutcomeOf opening planned.plan.specs.items)
+EndsPlanned opening (Err fault) ended = ended ≡ Err fault
 
 -- the build that a race asks for was decided, or given up; one that is out of its limits was refused for that
-abbrev pub EndsBuild : ℕ → List Kind → Build → Result Outcome Fault → Type 0
-EndsBuild workers schema build (Ok outcome) = IsInLimits workers build × IsOutcomeOf (map (key_spec_of schema) build.specs.items) outcome
-EndsBuild workers schema build (Err fault) = IsInLimits workers build ⊎ (fault ≡ BadCount)
+abbrev pub EndsBuild : List LogRec → ℕ → List Kind → Build → Result Outcome Fault → Type 0
+EndsBuild opening workers schema build (Ok outcome) = IsInLimits workers build × IsOutcomeOf opening (map (key_spec_of schema) build.specs.items) outcome
+EndsBuild opening workers schema build (Err fault) = IsInLimits workers build ⊎ (fault ≡ BadCount)

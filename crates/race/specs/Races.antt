@@ -1,7 +1,8 @@
 -- How a race ends.
-use Rattle.std.specs.Prelude.{◌≡◌, ◌⊎◌, ℕ, List, Result, Ok, Err, None, if◌then◌else◌}
+use Rattle.std.specs.Prelude.{◌≡◌, ◌⊎◌, ℕ, List, [], Result, Ok, Err, None, if◌then◌else◌}
 use Rattle.std.specs.List.{list_any}
 use Rattle.keybytes.specs.declared.fault.Fault.{Fault}
+use Rattle.heap_log.specs.declared.record.LogRec.{LogRec}
 use Rattle.replay.specs.Limits.{is_refusal, table_refusal}
 use Rattle.replay.specs.Sessions.{number_of}
 use Rattle.replay.specs.declared.status.Status.{Status}
@@ -9,7 +10,8 @@ use Rattle.replay.specs.declared.status.Status.TheVariants.{Done, IndexRefused, 
 use Rattle.script.specs.RaceScripts.{SpellsRaceScript}
 use Rattle.script.specs.declared.race.script.RaceScript.{RaceScript}
 use Rattle.race.specs.Builds.{EndsBuild}
-use Rattle.race.specs.Resting.{AreChecked}
+use Rattle.race.specs.Resting.{AreCheckedBehind}
+use Rattle.race.specs.Rows.{HasPutRows}
 use Rattle.race.specs.Sessions.{CountEach}
 use Rattle.race.specs.declared.outcome.Outcome.{Outcome}
 use Rattle.race.specs.declared.race_report.RaceReport.{RaceReport}
@@ -22,9 +24,12 @@ status_after (Err fault) = IndexRefused
 -- the race of that script was run with so many workers, and this is reported of it
 pub record IsReportOf (workers : ℕ) (script : RaceScript) (report : RaceReport) : Type 0 where
   pub table : table_refusal script.table ≡ None
-  pub build : EndsBuild workers script.table.kinds.items script.build report.build
+  -- the log that the table had when sessions and build began
+  pub opening : List LogRec
+  pub rows : HasPutRows script.rows.items [] opening
+  pub build : EndsBuild opening workers script.table.kinds.items script.build report.build
   pub sessions : CountEach script.steps.items report.sessions.items
-  pub checks : (ready : ℕ) × AreChecked ready report.checks.items
+  pub checks : AreCheckedBehind opening report.checks.items
   pub pages : report.pages ≡ 0
 
 -- the race was run and ended with that status, or something failed

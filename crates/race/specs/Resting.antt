@@ -1,6 +1,8 @@
 -- What is told of ready indexes.
 use Rattle.std.specs.Prelude.{◌≡◌, ℕ, List, length, min}
 use Rattle.std.specs.List.{All}
+use Rattle.heap_log.specs.declared.record.LogRec.{LogRec}
+use Rattle.crew.specs.MadeReady.{HasMadeReady}
 use Rattle.race.specs.declared.check_line.CheckLine.{CheckLine}
 use Rattle.race.specs.declared.check_line.CheckLine.TheVariants.{Differs}
 
@@ -8,3 +10,10 @@ use Rattle.race.specs.declared.check_line.CheckLine.TheVariants.{Differs}
 pub record AreChecked (ready : ℕ) (lines : List CheckLine) : Type 0 where
   pub many : length lines ≡ min ready 8
   pub same : All (λ line. ¬ (line ≡ Differs)) lines
+
+-- so it is of the indexes that a log which goes on from that one made ready
+pub record AreCheckedBehind (opening : List LogRec) (lines : List CheckLine) : Type 0 where
+  pub log : List LogRec
+  pub ready : ℕ
+  pub made : HasMadeReady opening log ready
+  pub checked : AreChecked ready lines

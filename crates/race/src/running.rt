@@ -1,8 +1,8 @@
 //! The course of a race.
-ghost use Rattle.std.specs.Prelude.{◌≡◌, ◌≤◌, ℕ, [], map, IfOk, vec_len, vec_capacity};
+ghost use Rattle.std.specs.Prelude.{◌≡◌, ◌≤◌, [], map, IfOk, vec_len, vec_capacity};
 ghost use Rattle.race.specs.Builds.{EndsPlanned, IsLeased};
 ghost use Rattle.race.specs.Races.{IsReportOf};
-ghost use Rattle.race.specs.Resting.{AreChecked};
+ghost use Rattle.race.specs.Resting.{AreCheckedBehind};
 ghost use Rattle.race.specs.Sessions.{line_count, script_count};
 
 use crate::Watch;
@@ -56,7 +56,9 @@ pub fn run_race<R: Threads + Wait + Sync, V: Watch + Send + Drop>(
 }
 
 /// The table, ready to be shared.
-fn table_parts(alloc: Global, heap: Heap) -> Result<TableParts, Fault> {
+fn table_parts(alloc: Global, heap: Heap) -> Result<TableParts, Fault>
+    ensures { IfOk result (λ made. made.parts.heap ≡ heap.state) }
+{
     let parts = match Parts::new(alloc, heap) {
         Ok(parts) => parts,
         Err((_, fault)) => return Err(fault),
@@ -83,9 +85,9 @@ fn run_named<T: Opened + Send + Sync, R: Threads + Wait + Sync, V: Watch + Send 
     requires opening { parts.parts.heap.log ≡ T.opening }
     requires leased { IfOk planned IsLeased }
     ensures pages { IfOk result (λ report. report.pages ≡ 0) }
-    ensures build { IfOk result (λ report. EndsPlanned planned report.build) }
+    ensures build { IfOk result (λ report. EndsPlanned T.opening planned report.build) }
     ensures lines { IfOk result (λ report. map line_count report.sessions.items ≡ map script_count sessions.items) }
-    ensures checks { IfOk result (λ report. (ready : ℕ) × AreChecked ready report.checks.items) }
+    ensures checks { IfOk result (λ report. AreCheckedBehind T.opening report.checks.items) }
 {
     let gathered = Gathered::<T>::new(alloc, sessions.len(), records.saturating_add(1))?;
     let handles = Vec::with_capacity(alloc, sessions.len())?;
@@ -115,9 +117,9 @@ fn run_reserved<T: Opened + Send + Sync, R: Threads + Wait + Sync, V: Watch + Se
     requires none { (handles.items ≡ []) × (ended.items ≡ []) × (gathered.lines.items ≡ []) }
     requires room { (vec_len sessions ≤ vec_capacity handles) × (vec_len sessions ≤ vec_capacity ended) × (vec_len sessions ≤ vec_capacity gathered.lines) }
     ensures pages { result.pages ≡ 0 }
-    ensures build { EndsPlanned planned result.build }
+    ensures build { EndsPlanned T.opening planned result.build }
     ensures lines { map line_count result.sessions.items ≡ map script_count sessions.items }
-    ensures checks { (ready : ℕ) × AreChecked ready result.checks.items }
+    ensures checks { AreCheckedBehind T.opening result.checks.items }
 {
     let (table, ends) = parts.open::<T>();
     let (built, mut gathered) = run_beside(

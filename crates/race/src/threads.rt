@@ -142,7 +142,7 @@ pub fn run_beside<
     requires none { (handles.items ≡ []) × (ended.items ≡ []) × (gathered.lines.items ≡ []) }
     requires room { (vec_len scripts ≤ vec_capacity handles) × (vec_len scripts ≤ vec_capacity ended) × (vec_len scripts ≤ vec_capacity gathered.lines) }
     ensures pages { result.0.pages ≡ 0 }
-    ensures build { EndsPlanned planned result.0.build }
+    ensures build { EndsPlanned T.opening planned result.0.build }
     ensures lines { map line_count result.1.lines.items ≡ map script_count scripts.items }
 {
     thread::scope(
@@ -154,7 +154,7 @@ pub fn run_beside<
             requires room { (vec_len scripts ≤ vec_capacity handles) × (vec_len scripts ≤ vec_capacity ended)
                 × (vec_len scripts ≤ vec_capacity gathered.lines) }
             ensures pages { result.0.pages ≡ 0 }
-            ensures build { EndsPlanned planned result.0.build }
+            ensures build { EndsPlanned T.opening planned result.0.build }
             ensures lines { map line_count result.1.lines.items ≡ map script_count scripts.items }
         {
             let (handles, ended) = start(scope, rt, alloc, table, scripts, handles, ended);
