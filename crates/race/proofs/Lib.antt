@@ -1,1 +1,3 @@
+mod Crosses
+mod PassedOver
 pub mod Whole
