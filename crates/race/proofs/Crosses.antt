@@ -14,8 +14,7 @@ module _ (T R W : RattleType) (o : opened.Ghosts T.Denot) (n : named.Ghosts T.De
   -- they share the runtime and the table, and its lock hands the one who watches from thread to thread
   pub watching_sync : IsSync R → IsSend W → (κ : NamedLft) → IsSync (Watching.the_row κ T R W o n t)
   watching_sync sync send κ =
-      declared_sync (Watching.the_type κ T R W o n t)
-      (
+      declared_sync (Watching.the_type κ T R W o n t) (
         search (sync, sendable) depth 20,
         (search (table_sync, sendable) depth 20, (search (send, sendable, crosses) depth 20, tt)),
       )

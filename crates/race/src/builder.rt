@@ -3,9 +3,9 @@ ghost use Rattle.std.specs.Prelude.{◌≡◌, IfOk};
 ghost use Rattle.crew.specs.Reports.{IsReport, lists_in};
 ghost use Rattle.race.specs.Builds.{EndsPlanned, IsLeased, IsOutcomeOf};
 
+use crate::Watch;
 use crate::built::Built;
 use crate::outcome::Outcome;
-use crate::Watch;
 use crate::planned::Planned;
 use crate::watching::Watching;
 use builder_core::{Ends, Plan};

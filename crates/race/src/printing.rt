@@ -10,7 +10,10 @@ use replay::{Output, OutputFailed, SharedLine};
 use std::io::Write;
 
 /// Prints what became of the indexes, the sessions, the checks, and what is missing.
-pub fn print<W: Write + Drop>(output: &mut Output<W>, report: &RaceReport) -> Result<(), OutputFailed> {
+pub fn print<W: Write + Drop>(
+    output: &mut Output<W>,
+    report: &RaceReport,
+) -> Result<(), OutputFailed> {
     match &report.build {
         Ok(outcome) => print_outcome(output, outcome)?,
         Err(fault) => print_fault(output, *fault)?,
