@@ -10,7 +10,7 @@ pub struct Progress {
     pub pages: u32,
     /// How many of these are copied.
     pub scanned: u32,
-    /// How many indexes have their pairs in order.
+    /// How many indexes have their pairs in order, which is counted once the loads of all are done.
     pub loaded: usize,
     /// How many pairs that were, in all these indexes together.
     pub pairs: usize,

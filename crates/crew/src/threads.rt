@@ -18,7 +18,7 @@ use std::sync::Wait;
 use std::thread;
 use std::thread::{PromisedHandle, Scope, Threads};
 
-/// What a thread does with its worker. Its runs are sorted in threads that share the runtime, where they are long enough for that.
+/// What a thread does with its worker. The sort that it makes would use more threads only for longer runs than a worker has.
 fn run<S: Spool, T: Opened, G: Gate, R: Threads + Wait + Sync>(
     rt: &R,
     alloc: Global,

@@ -209,7 +209,22 @@ fn answered<T: Opened + Send + Sync, R: Threads + Wait + Sync>(
     }
     match told {
         Ok(report) => told_by(alloc, table, report),
-        Err(BuildFault(fault)) => Ok(Told::GivenUp(fault)),
+        Err(BuildFault(fault)) => left_by(rt, alloc, table, fault),
+    }
+}
+
+/// What a build that was given up left, if no build runs any more, none of its indexes is ready, and a transaction may begin.
+fn left_by<T: Opened, R: Wait>(
+    rt: &R,
+    alloc: Global,
+    table: Table<T>,
+    fault: Fault,
+) -> Result<Told, Fault> {
+    let begun = table.session(rt).begin(rt);
+    let closed = table.close(Vec::new(alloc));
+    match (begun, closed.live.specs(), closed.live.ready().len()) {
+        (Ok(_), None, 0) => Ok(Told::GivenUp(fault)),
+        _ => Err(Fault::BuildRunning),
     }
 }
 

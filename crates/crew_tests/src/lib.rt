@@ -25,3 +25,5 @@ mod stories;
 mod tables;
 #[cfg(test)]
 mod two_sessions;
+#[cfg(test)]
+mod waiting;

@@ -36,8 +36,8 @@ abbrev pub PlansBuild : ℕ → List Kind → Build → Result Planned Fault →
 PlansBuild workers schema build (Ok planned) = IsPlanOf workers schema build planned
 PlansBuild workers schema build (Err fault) = IsInLimits workers build ⊎ (fault ≡ BadCount)
 
--- a build of these indexes on a table with that log at first was decided so: the verdicts are those on the rows that stood when it was, and the lines
--- tell of the refused indexes, if there are any lines
+-- a build of these indexes was decided so: the verdicts are those on the rows of some log that goes on from that one, and the lines tell of the refused
+-- indexes, if there are any lines
 pub record IsOutcomeOf (opening : List LogRec) (specs : List KeySpecValue) (outcome : Outcome) : Type 0 where
   pub log : List LogRec
   pub pairs : Option (List (List Pair))

@@ -11,7 +11,7 @@ pub record AreChecked (ready : ℕ) (lines : List CheckLine) : Type 0 where
   pub many : length lines ≡ min ready 8
   pub same : All (λ line. ¬ (line ≡ Differs)) lines
 
--- so it is of the indexes that a log which goes on from that one made ready
+-- so it is of as many indexes as some log that goes on from that one made ready
 pub record AreCheckedBehind (opening : List LogRec) (lines : List CheckLine) : Type 0 where
   pub log : List LogRec
   pub ready : ℕ

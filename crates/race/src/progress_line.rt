@@ -48,7 +48,7 @@ impl<C: Clock + Drop, W: Write + Drop> ProgressLine<C, W> {
 }
 
 impl<C: Clock + Drop, W: Write + Drop> Watch for ProgressLine<C, W> {
-    /// A phase that begins is due at once, any other line once the last one has stood for a while.
+    /// An index in order and the first turn are due at once, any other line once the last one has stood for a while.
     fn is_due(&mut self, point: Point) -> bool {
         if let Point::Loaded { .. } | Point::Try { n: 1 } = point {
             return true;

@@ -24,7 +24,7 @@ impl Clock for Stopped {
 
 const SCRIPT: &[u8] = b"table,2,int\nrow,5\nrow,6\nrow,7\nbuild,4,even:1,n:0,u:0\ngo\n";
 
-/// What is shown of it where each line stays: the first page, and then each phase that begins.
+/// What is shown of it where each line stays: the first page, each index that is in order, and the first turn.
 const LINES: &str = "\
 scanning, pages: 1 of 2, changes left: 0
 loading, indexes: 1, pairs: 3, changes left: 0
