@@ -1,5 +1,5 @@
 -- What a session of a race does for its commands.
-use Rattle.std.specs.Prelude.{◌≡◌, ◌⊎◌, ℕ, List, [], ◌∷◌, ◌++◌, Some, None}
+use Rattle.std.specs.Prelude.{◌≡◌, ◌⊎◌, ℕ, ◌+◌, List, [], ◌∷◌, ◌++◌, Some, None}
 use mathlib.Core.List.{IsPrefix}
 use Rattle.keybytes.specs.declared.rid.Rid.{Rid}
 use Rattle.heap_log.specs.Standing.{newest_standing}
@@ -48,3 +48,22 @@ Obeys (Commit label) labels old new = ByNamed labels label (λ txn. Records (Com
 -- what the session knows of the log only grew, and it lost no receipt
 abbrev pub LosesNothing : SessionState → SessionState → Type 0
 LosesNothing old new = IsPrefix old.log new.log × IsPrefix old.receipts new.receipts
+
+-- the command was accepted, where some labels named its transaction, or refused; with it so many commands were accepted
+abbrev pub Takes : SessionCommand → ℕ → SessionState → ℕ → SessionState → Type 0
+Takes command before old after new =
+    ((after ≡ before + 1) × ((labels : Labels) × Obeys command labels old new)) ⊎ ((after ≡ before) × OnlySees old new)
+
+-- so the commands were taken one after the other
+abbrev pub TakesAll : List SessionCommand → ℕ → SessionState → ℕ → SessionState → Type 0
+TakesAll [] before old after new = (after ≡ before) × (new ≡ old)
+TakesAll (command ∷ commands) before old after new =
+    (count : ℕ) × (next : SessionState) × Takes command before old count next × TakesAll commands count next after new
+
+-- a session that knew that log took the commands, accepted so many, and then undid what was open; it has these receipts
+pub record HasEnded (commands : List SessionCommand) (log : List LogRec) (accepted : ℕ) (receipts : List (List LogRec)) : Type 0 where
+  pub taken : SessionState
+  pub takes : TakesAll commands 0 (record { log = log; receipts = [] }) accepted taken
+  pub ended : SessionState
+  pub undoes : LosesNothing taken ended
+  pub kept : receipts ≡ ended.receipts

@@ -1,4 +1,5 @@
 ghost use Rattle.std.specs.Prelude.{◌≡◌, ◌≤◌, ◌+◌, length};
+ghost use Rattle.race_sessions.specs.Commands.{HasEnded, TakesAll};
 
 use crate::SessionEnd;
 use crate::running::Running;
@@ -15,7 +16,8 @@ pub fn run_session<T: Opened, R: Wait>(
     mut session: Session<'_, T>,
     commands: Vec<SessionCommand>,
 ) -> SessionEnd<T>
-    ensures { result.accepted + result.refused ≡ length commands.items }
+    ensures each { result.accepted + result.refused ≡ length commands.items }
+    ensures ended { HasEnded commands.items session result.accepted result.receipts.items }
 {
     let total = commands.len();
     let mut running = Running::new(alloc);
@@ -35,7 +37,9 @@ fn obey_all<T: Opened, R: Wait>(
     session: &mut Session<'_, T>,
     commands: Vec<SessionCommand>,
 ) -> usize
-    ensures { result ≤ length commands.items }
+    ensures some { result ≤ length commands.items }
+    ensures takes { TakesAll commands.items 0 (record { log = session.old; receipts = running.old.receipts.items })
+        result (record { log = session.new; receipts = running.new.receipts.items }) }
 {
     let mut accepted = 0;
     for command in commands {
