@@ -1,5 +1,5 @@
 use denote.Enum.Declared.{tag_of}
-use Rattle.std.proofs.Common.{◌≡◌, ℕ, List, Option, Some, None, IfSome, inr}
+use Rattle.std.proofs.Common.{ℕ, List, Option, Some, None, IfSome, inr}
 use Rattle.replay.proofs.Statuses.{numbered}
 use Rattle.replay.specs.contracts.status.Status.{the_type}
 use Rattle.replay.specs.declared.status.Status.{Status}

@@ -1,5 +1,5 @@
 use denote.Enum.Declared.{tag_of}
-use Rattle.std.proofs.Common.{◌≡◌, ℕ, List, Option, Some, None, IfSome, inr}
+use Rattle.std.proofs.Common.{ℕ, List, Option, Some, None, IfSome, inr}
 use Rattle.script.specs.Scripts.{SpellsScript}
 use Rattle.script.specs.declared.script.Script.{Script}
 use Rattle.replay.proofs.Statuses.{numbered}
