@@ -11,7 +11,7 @@ use Rattle.heap_log.specs.declared.record.LogRec.TheVariants.{Commit, Write}
 abbrev pub NoneCommits : List LogRec → Type 0
 NoneCommits records = All (λ rec. (txn : ℕ) → rec ≢ Commit txn) records
 
--- a transaction of its own put the row in and committed
+-- a transaction put the row in and committed, with no record between
 abbrev pub HasPut : List Cell → List LogRec → List LogRec → Type 0
 HasPut cells old new = (txn : ℕ) × (rid : Rid) × (new ≡ old ++ Write txn rid (Some cells) ∷ Commit txn ∷ [])
 

@@ -60,7 +60,7 @@ TakesAll [] before old after new = (after ≡ before) × (new ≡ old)
 TakesAll (command ∷ commands) before old after new =
     (count : ℕ) × (next : SessionState) × Takes command before old count next × TakesAll commands count next after new
 
--- a session that knew that log took the commands, accepted so many, and then undid what was open; it has these receipts
+-- a session that knew that log took the commands, accepted so many, and from then on lost no receipt; in the end it has these
 pub record HasEnded (commands : List SessionCommand) (log : List LogRec) (accepted : ℕ) (receipts : List (List LogRec)) : Type 0 where
   pub taken : SessionState
   pub takes : TakesAll commands 0 (record { log = log; receipts = [] }) accepted taken
