@@ -21,7 +21,7 @@ use Rattle.side_file.specs.Ends.{PutEnd}
 use Rattle.side_file.specs.declared.entry.Entry.{Entry}
 use Rattle.std.specs.List.{slice_get}
 use Rattle.std.proofs.lemmas.Option.{get_or_from_slice_get}
-use Rattle.build_scan.proofs.Places.{below, there_is, map_at}
+use Rattle.building.proofs.Places.{below, there_is, map_at}
 use Rattle.build_work.proofs.Applying.{stays_built}
 use Rattle.build_events.specs.BuildSteps.{OnBuild, Applies, AppliesSome, MayTakeMemory, build_cause, cause_if, apply_refusal, index_refusal, next_applied, after_apply}
 use Rattle.build_events.specs.Steps.{refusal}

@@ -23,7 +23,7 @@ use Rattle.build_events.specs.Steps.{refusal}
 use Rattle.build_events.specs.Workers.{all_entries, all_unapplied, fed_to, index_at, unapplied}
 use Rattle.build_events.specs.declared.event.Event.TheVariants.{Apply}
 use Rattle.build_halves.proofs.FedBeside.{indexes_seen}
-use Rattle.build_scan.proofs.Places.{below, here_set, map_at, there_is}
+use Rattle.building.proofs.Places.{below, here_set, map_at, there_is}
 use Rattle.build_halves.proofs.IndexFurther.{at_is}
 
 -- all indexes of a build, as far as they are

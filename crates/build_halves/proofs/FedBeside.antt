@@ -15,7 +15,7 @@ use Rattle.build_scan.specs.SideFiles.{side_refusal}
 use Rattle.side_file.specs.Ends.{PutEnd}
 use Rattle.side_file.specs.declared.entry.Entry.{Entry}
 use Rattle.std.proofs.lemmas.Option.{same_Some, get_or_from_slice_get}
-use Rattle.build_scan.proofs.Places.{there_is, map_at}
+use Rattle.building.proofs.Places.{there_is, map_at}
 use Rattle.build_scan.proofs.SideEnds.{index_below}
 use Rattle.build_events.specs.BuildSteps.{OnBuild, Feeds, build_cause, index_refusal, next_fed, after_feed}
 use Rattle.build_events.specs.Workers.{fed_to, in_ring, index_at, unfed}

@@ -14,7 +14,7 @@ use Rattle.build_work.specs.BuildingValue.{BuildingValue, WorkValue}
 use Rattle.build_work.specs.WorkOn.{WorkMatches, WorkersFollow}
 use Rattle.build_events.specs.CoreState.{BuildState}
 use Rattle.build_scan.specs.SideFiles.{IsFed, HasEntries}
-use Rattle.build_scan.proofs.Places.{at_set}
+use Rattle.building.proofs.Places.{at_set}
 use Rattle.build_events.specs.BuildSteps.{after_feed}
 use Rattle.build_events.specs.Workers.{fed_to}
 use Rattle.build_scan.proofs.Feeding.{fed_other, ring_fed}

@@ -36,16 +36,16 @@ use Rattle.build_events.specs.Workers.{put_to, worker_at}
 use Rattle.build_events.specs.declared.scan.Scan.{Scan}
 use Rattle.keybytes.specs.declared.fault.Fault.TheVariants.{NoPage}
 use Rattle.side_file.specs.Ends.{RingId}
+use Rattle.index_load.proofs.SpoolPlaces.{flat_at}
 use Rattle.build_work.specs.Keeping.{KeepsLaws}
 use Rattle.build_halves.proofs.LoadCauses.{opened_of}
 use Rattle.build_halves.proofs.Refusals.{worker_there}
 use Rattle.build_halves.proofs.RunsToClose.{run_to_close}
 use Rattle.build_halves.proofs.Waits.{begun_is, next_copied, waits}
-use Rattle.build_scan.proofs.Places.{all_at, at_map, below, map_at, there_is}
+use Rattle.building.proofs.Places.{all_at, at_map, below, map_at, there_is}
 use Rattle.build_work.specs.BuildingValue.{BuildingValue, WorkValue, worker_state}
 use Rattle.build_work.specs.Holding.{all_spools, workers_spools}
 use Rattle.build_work.specs.Rings.{IsWorkerOf, all_sent}
-use Rattle.build_work.proofs.SpoolPlaces.{flat_at}
 use Rattle.build_halves.specs.Builds.{IsRunning, LiveValue, SeesRing, core_state}
 use Rattle.build_halves.specs.FullSpools.{HasRunToClose, WasFull, WorkerWasFull, pairs_put_to, turn_scans}
 use Rattle.build_halves.specs.Rings.{ArePut}

@@ -19,7 +19,7 @@ use Rattle.build_work.specs.Holding.{all_spools, workers_spools, spools_state}
 use Rattle.build_work.specs.Rings.{all_sent, AreSealed, IsSealed, IsWorkerOf}
 use Rattle.build_work.specs.Working.{CanHandOver, HasHandedOver, handed_over}
 use Rattle.build_work.specs.Keeping.{HaveEachOnce, IsClosed}
-use Rattle.build_scan.proofs.Places.{all_at, all_from, at_map, below, map_at, mapped, there_is}
+use Rattle.building.proofs.Places.{all_at, all_from, at_map, below, map_at, mapped, there_is}
 use Rattle.build_halves.proofs.Refusals.{state_is}
 use Rattle.build_work.proofs.HandedKept.{HasItsSpools, lent_columns}
 use Rattle.build_work.proofs.Works.{loading_work_on}

@@ -26,7 +26,7 @@ use Rattle.catch_up.specs.Built.{BuiltValue}
 use Rattle.keybytes.specs.Keys.{KeySpecValue}
 use Rattle.side_file.specs.Ends.{PutEnd}
 use Rattle.std.specs.List.{slice_get}
-use Rattle.build_scan.proofs.Places.{at_map, at_set, set_there, set_elsewhere, below, map_at}
+use Rattle.building.proofs.Places.{at_map, at_set, set_there, set_elsewhere, below, map_at}
 use Rattle.build_work.proofs.Unloaded.{open_fewer, unloaded_before}
 use Rattle.build_work.proofs.Works.{set_work_on}
 use Rattle.build_events.specs.CoreState.{BuildState, IndexState, WorkState, scanning_of}

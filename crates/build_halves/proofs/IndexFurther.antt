@@ -18,7 +18,7 @@ use Rattle.build_events.specs.Workers.{all_entries, fed_to, in_ring, index_at, u
 use Rattle.build_events.specs.declared.event.Event.TheVariants.{Apply}
 use Rattle.build_halves.proofs.FedBeside.{indexes_seen}
 use Rattle.build_halves.proofs.IndexApplied.{AppliesNext}
-use Rattle.build_scan.proofs.Places.{below, here_set, map_at, set_same}
+use Rattle.building.proofs.Places.{below, here_set, map_at, set_same}
 
 -- what stands in a place of a list of indexes
 pub at_is : (indexes : List IndexState) (index : ℕ) (it : IndexState) → slice_get indexes index ≡ Some it → index_at indexes index ≡ it

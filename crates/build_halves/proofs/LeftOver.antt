@@ -20,7 +20,7 @@ use Rattle.build_scan.proofs.Feeding.{left_unfed, fed_entries_there}
 use Rattle.build_halves.proofs.Refusals.{running}
 use Rattle.build_events.specs.Workers.{all_entries, all_unapplied, fed_to, index_at, unapplied, unfed}
 use Rattle.build_halves.proofs.FedBeside.{indexes_seen}
-use Rattle.build_scan.proofs.Places.{at_index, map_at, there_is}
+use Rattle.building.proofs.Places.{at_index, map_at, there_is}
 use Rattle.build_halves.proofs.IndexFurther.{at_is}
 
 -- numbers added up, and all but the first

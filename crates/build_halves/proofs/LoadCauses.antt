@@ -27,7 +27,7 @@ use Rattle.build_halves.specs.Rings.{ArePut}
 use Rattle.build_events.specs.BuildSteps.{cause_if, build_cause, load_refusal}
 use Rattle.build_events.specs.Workers.{is_sealed, worker_at, unsealed_worker}
 use Rattle.build_events.proofs.NextPages.{first_left, none_left}
-use Rattle.build_scan.proofs.Places.{all_at, all_from, there_is, map_at}
+use Rattle.building.proofs.Places.{all_at, all_from, there_is, map_at}
 use Rattle.build_halves.proofs.Refusals.{state_is, worker_there}
 use Rattle.build_halves.proofs.Waits.{sealed_is, from_is_sealed}
 use Rattle.build_work.proofs.AtWork.{opened_in}

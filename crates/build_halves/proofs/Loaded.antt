@@ -12,6 +12,10 @@ use Rattle.keybytes.specs.declared.fault.Fault.{Fault}
 use Rattle.keybytes.specs.declared.pair.Pair.{Pair}
 use Rattle.side_file.specs.Ends.{PutEnd}
 use Rattle.building.specs.declared.copied.Copied.{Copied}
+use Rattle.index_load.specs.Columns.{column, ended_column}
+use Rattle.index_load.specs.IndexLoad.{AreEachOnce}
+use Rattle.index_load.proofs.Columns.{every_elsewhere, kept_changed, length-changed}
+use Rattle.index_load.proofs.SpoolPlaces.{column_many}
 use Rattle.build_halves.specs.Builds.{LiveValue, IsRunning, StandsBeside}
 use Rattle.build_work.specs.BuildingValue.{BuildingValue, WorkValue, IndexValue, IsUnloaded, with_index, with_pairs, work_state, index_state}
 use Rattle.build_work.specs.WorkOn.{IsIndexOn, AreFed}
@@ -21,8 +25,7 @@ use Rattle.building.specs.Holding.{HoldsPairs}
 use Rattle.building.specs.SpoolValue.{SpoolValue, ended_spool, pairs_in, runs_of}
 use Rattle.building.specs.Taking.{received_images}
 use Rattle.keybytes.specs.declared.kind.Kind.{Kind}
-use Rattle.build_work.specs.Columns.{column}
-use Rattle.build_work.specs.Holding.{HaveColumns, all_spools, ended_column, workers_spools, spools_state}
+use Rattle.build_work.specs.Holding.{HaveColumns, all_spools, workers_spools, spools_state}
 use Rattle.run_spool.specs.Spools.{AreSorted, all_pairs}
 use Rattle.std.specs.Prelude.{All, map}
 use Rattle.build_events.specs.Ranges.{open_range}
@@ -32,19 +35,17 @@ use Rattle.build_events.specs.BuildSteps.{OnBuild, Loads, pairs_copied, after_lo
 use Rattle.build_scan.specs.SideFiles.{IsFed}
 use Rattle.build_events.specs.Workers.{put_to, fed_to, index_at}
 use Rattle.catch_up.specs.Built.{BuiltValue}
-use Rattle.build_work.specs.Keeping.{AreEachOnce, HaveEachOnce}
+use Rattle.build_work.specs.Keeping.{HaveEachOnce}
 use Rattle.build_work.specs.Working.{CanLoad, HasLoaded, HasSorted}
 use Rattle.build_work.proofs.Spoiled.{IsSpoiled}
 use Rattle.build_work.specs.Rings.{AreSealed, all_sent}
 use Rattle.building.specs.WorkerValue.{IsHolding}
 use Rattle.build_events.specs.declared.scan.Scan.{Scan}
-use Rattle.build_work.proofs.Columns.{every_elsewhere, kept_changed, length-changed}
 use Rattle.build_halves.proofs.HandedOver.{all_lent, handed_run, left as left_over, spec_is}
-use Rattle.build_work.proofs.SpoolPlaces.{column_many}
 use Rattle.build_halves.proofs.Partition.{parts_together}
 use Rattle.build_work.proofs.LoadedKept.{pairs_by_spool}
 use Rattle.build_work.proofs.Unloaded.{not_this, unloaded_before}
-use Rattle.build_scan.proofs.Places.{there_is, at_set, set_same, map_at, below, all_at}
+use Rattle.building.proofs.Places.{there_is, at_set, set_same, map_at, below, all_at}
 use Rattle.build_halves.proofs.Refusals.{state_of, state_is, works_with}
 use Rattle.build_halves.proofs.Takes.{spoiled_works, put_of}
 use Rattle.build_halves.proofs.Waits.{waits, held_pairs}

@@ -18,7 +18,7 @@ use Rattle.side_file.specs.Ends.{PutEnd, RingId}
 use Rattle.side_file.specs.declared.entry.Entry.{Entry}
 use Rattle.std.specs.List.{AllZip}
 use Rattle.build_scan.proofs.LookedEnds.{all_unlooked}
-use Rattle.build_scan.proofs.Places.{as_long}
+use Rattle.building.proofs.Places.{as_long}
 use Rattle.keybytes.specs.declared.kind.Kind.{Kind}
 use Rattle.build_work.proofs.Looked.{columns_looked, lent_looked, states_looked}
 

@@ -26,7 +26,7 @@ use Rattle.build_events.specs.Ranges.{next_page, open_range}
 use Rattle.build_work.specs.Rings.{all_sent, AreOfBuilds, AreSealed, AreTaking, IsWorkerOf}
 use Rattle.build_halves.specs.Rings.{ArePut, ArePutEnds, HasPut}
 use Rattle.build_events.specs.BuildSteps.{OnBuild}
-use Rattle.build_scan.proofs.Places.{kept, all_at}
+use Rattle.building.proofs.Places.{kept, all_at}
 use Rattle.building.proofs.Taking.{put_taking}
 use Rattle.build_work.proofs.AtWork.{taking_put}
 use Rattle.build_halves.proofs.Puts.{put_scanned}

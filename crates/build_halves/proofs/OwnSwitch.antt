@@ -15,7 +15,7 @@ use Rattle.build_scan.specs.TableBuilds.{BuildFollows}
 use Rattle.build_work.specs.BuildingValue.{BuildingValue, WorkValue, work_state}
 use Rattle.build_work.specs.Keeping.{IsKept, KeepsWork}
 use Rattle.build_work.specs.WorkOn.{WorkMatches}
-use Rattle.build_scan.proofs.Places.{map_at, there_is}
+use Rattle.building.proofs.Places.{map_at, there_is}
 use Rattle.build_halves.specs.Builds.{IsRunning, LiveValue, StandsBeside, core_state}
 use Rattle.build_halves.specs.Switching.{HasLeftCopy, HaveAll, IsForeign, IsPartOf, KeepsOut, RefusesSwitch, early_cause}
 use Rattle.build_halves.proofs.EarlyCauses.{early_is, first_unloaded, switch_refused}

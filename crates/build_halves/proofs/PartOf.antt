@@ -21,7 +21,7 @@ use Rattle.build_scan.specs.SideFiles.{HasEntries, IsFed, SeesSide, SidesFollow,
 use Rattle.build_scan.specs.TableBuilds.{BuildFollows, IsBuildOf}
 use Rattle.build_scan.proofs.Feeding.{waiting_in_ring}
 use Rattle.build_scan.proofs.LookedEnds.{all_looked_twice, all_unlooked, same_looked, one_looked as end_looked}
-use Rattle.build_scan.proofs.Places.{at_index, below, map_at, same_at, there_is}
+use Rattle.building.proofs.Places.{at_index, below, map_at, same_at, there_is}
 use Rattle.build_work.specs.BuildingValue.{BuildingValue, IndexValue, WorkValue}
 use Rattle.build_work.specs.WorkOn.{AreFed, IsIndexFed, WorkersFollow}
 use Rattle.build_halves.specs.Builds.{LiveValue, SeesSideAt, SideIsLooked, StandsBeside, core_state}

@@ -10,7 +10,7 @@ use Rattle.std.proofs.lemmas.List.Elements.{All-head, All-tail}
 use Rattle.std.proofs.lemmas.List.Sorted.{IsPermutation-refl, IsPermutation-trans, IsPermutation-append_left, IsPermutation-append_right}
 use Rattle.std.proofs.lemmas.List.Sorted.{IsPermutation-append_comm}
 use Rattle.std.proofs.lemmas.Option.{get_or_from_slice_get}
-use Rattle.build_scan.proofs.Places.{there_is}
+use Rattle.building.proofs.Places.{there_is}
 
 -- a part that comes behind others may come before them
 moved_up : {Y : Type 0} (a b c ys : List Y) → IsPermutation (a ++ b) c → IsPermutation (a ++ (ys ++ b)) (ys ++ c)

@@ -18,7 +18,7 @@ use Rattle.build_events.specs.Workers.{put_to}
 use Rattle.build_events.specs.declared.scan.Scan.{Scan}
 use Rattle.build_halves.proofs.AllImages.{all-append, all_none, all_one}
 use Rattle.build_events.proofs.Copies.{copies_kept, copies_scan}
-use Rattle.build_scan.proofs.Places.{at_set, all_at}
+use Rattle.building.proofs.Places.{at_set, all_at}
 use Rattle.build_events.proofs.ScanSteps.{no_spec, scan_now}
 
 -- the log grows

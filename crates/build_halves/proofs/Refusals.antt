@@ -21,7 +21,7 @@ use Rattle.build_events.specs.CoreState.{BuildState, WorkState}
 use Rattle.build_work.specs.Rings.{all_sent}
 use Rattle.build_halves.specs.Rings.{ArePut}
 use Rattle.build_events.specs.Workers.{put_to, waiting, worker_at}
-use Rattle.build_scan.proofs.Places.{map_at}
+use Rattle.building.proofs.Places.{map_at}
 use Rattle.build_halves.proofs.Waits.{waits}
 
 pub running :

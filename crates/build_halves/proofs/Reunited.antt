@@ -45,7 +45,7 @@ use Rattle.build_events.specs.declared.scan.Scan.{Scan}
 use Rattle.build_scan.specs.SideFiles.{AreFedEntries, EachEntryOnce, IsFed, own_entries}
 use Rattle.build_scan.specs.TableBuilds.{IsBuildOf}
 use Rattle.build_scan.proofs.OwnEntries.{all_own_entries, own_all}
-use Rattle.build_scan.proofs.Places.{all_at, all_from, below, map_at, there_is}
+use Rattle.building.proofs.Places.{all_at, all_from, below, map_at, there_is}
 use Rattle.build_work.specs.BuildingValue.{BuildingValue, IndexValue, WorkValue}
 use Rattle.build_work.specs.Keeping.{HasHanded, IsIndexOf, IsKept, KeepsLaws, all_received}
 use Rattle.build_work.specs.Rings.{AreSealed, IsSealed, IsWorkerOf, all_sent}

@@ -16,7 +16,7 @@ use Rattle.build_events.specs.Steps.{refusal}
 use Rattle.build_events.specs.Workers.{waiting}
 use Rattle.build_events.specs.declared.event.Event.TheVariants.{Scan}
 use Rattle.build_halves.proofs.Looked.{runs_looked, state_looked}
-use Rattle.build_scan.proofs.Places.{map_at}
+use Rattle.building.proofs.Places.{map_at}
 use Rattle.build_halves.proofs.Refusals.{state_is, waiting_is}
 use Rattle.build_halves.proofs.Takes.{put_of}
 

@@ -11,7 +11,7 @@ use Rattle.build_events.specs.BuildSteps.{OnBuild}
 use Rattle.build_events.specs.CoreState.{BuildState, CoreState, LiveState}
 use Rattle.build_events.specs.Workers.{all_entries, fed_to, index_at, unfed}
 use Rattle.build_scan.proofs.LookedEnds.{looked_on}
-use Rattle.build_scan.proofs.Places.{below}
+use Rattle.building.proofs.Places.{below}
 use Rattle.build_work.specs.BuildingValue.{BuildingValue}
 use Rattle.build_halves.specs.Builds.{LiveValue, core_state}
 use Rattle.build_halves.specs.CatchingUp.{left_at, unapplied_at}

@@ -20,7 +20,7 @@ use Rattle.build_events.specs.Workers.{fed_to}
 use Rattle.build_scan.specs.SideFiles.{side_refusal}
 use Rattle.build_scan.specs.TableBuilds.{BuildFollows, IsBuildOf}
 use Rattle.build_scan.proofs.LookedEnds.{all_looked_twice, looked_on, unlooked}
-use Rattle.build_scan.proofs.Places.{once_set, there_is}
+use Rattle.building.proofs.Places.{once_set, there_is}
 use Rattle.build_scan.proofs.SideEnds.{index_below}
 use Rattle.build_work.specs.BuildingValue.{BuildingValue}
 use Rattle.build_halves.specs.Builds.{HasFed, LiveValue, SideIsLooked, next_entries}

@@ -11,7 +11,7 @@ use Rattle.build_work.specs.BuildingValue.{BuildingValue}
 use Rattle.build_halves.specs.Rings.{ArePutEnds}
 use Rattle.build_work.specs.Working.{SideIsSeen}
 use Rattle.build_scan.specs.SideFiles.{put_ends}
-use Rattle.build_scan.proofs.Places.{at_index, below, here_set, kept, map_at, mapped}
+use Rattle.building.proofs.Places.{at_index, below, here_set, kept, map_at, mapped}
 
 -- the ends stay those of the table's rings
 pub put_ends_stay :

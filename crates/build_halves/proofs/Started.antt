@@ -29,7 +29,7 @@ use Rattle.build_halves.specs.Rings.{ArePutEnds}
 use Rattle.build_scan.specs.SideFiles.{side_rings, drained_end}
 use Rattle.scan_range.specs.declared.dealing.Dealing.{Dealing}
 use Rattle.build_work.proofs.AtWork.{started_taking}
-use Rattle.build_scan.proofs.Places.{as_long, at_map, replicate_at}
+use Rattle.building.proofs.Places.{as_long, at_map, replicate_at}
 use Rattle.build_halves.proofs.Refusals.{works_with}
 use Rattle.build_halves.proofs.Starts.{dealt_are_cuts}
 use Rattle.build_scan.proofs.TableBuilds.{started_build}

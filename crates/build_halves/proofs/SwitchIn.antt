@@ -24,7 +24,7 @@ use Rattle.std.proofs.lemmas.List.Elements.{All-cons, All-head, All-nil, All-tai
 use Rattle.std.proofs.lemmas.Option.{same_Some}
 use Rattle.build_halves.proofs.ApplyCauses.{fine_by}
 use Rattle.build_work.proofs.Applying.{stays_built}
-use Rattle.build_scan.proofs.Places.{below, map_at}
+use Rattle.building.proofs.Places.{below, map_at}
 use Rattle.build_events.specs.CoreState.{BuildState, IndexState, LiveState, CoreState, SpoolsState, idle}
 use Rattle.ready_indexes.specs.Indexes.{IsIndex, ReadyValue, index_now}
 use Rattle.build_work.specs.Holding.{all_spools, spools_state}

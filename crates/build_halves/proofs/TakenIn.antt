@@ -16,7 +16,7 @@ use Rattle.build_events.specs.CoreState.{BuildState, LiveState}
 use Rattle.build_events.specs.Ranges.{open_range}
 use Rattle.build_scan.specs.SideFiles.{EachEntryOnce}
 use Rattle.build_scan.specs.TableBuilds.{BuildFollows, IsBuildOf}
-use Rattle.build_scan.proofs.Places.{all_at, all_from, as_long, same_at}
+use Rattle.building.proofs.Places.{all_at, all_from, as_long, same_at}
 use Rattle.build_work.specs.BuildingValue.{BuildingValue, WorkValue}
 use Rattle.build_work.specs.Keeping.{IsKept, KeepsLaws, KeepsWork}
 use Rattle.build_work.specs.Working.{HasHandedOver}

@@ -25,7 +25,7 @@ use Rattle.build_halves.specs.Rings.{ArePut, HasPut, PagesFollow}
 use Rattle.build_events.specs.Steps.{spoiled_by}
 use Rattle.build_work.proofs.Spoiled.{IsSpoiled}
 use Rattle.build_work.proofs.AtWork.{taking_set}
-use Rattle.build_scan.proofs.Places.{at_set}
+use Rattle.building.proofs.Places.{at_set}
 use Rattle.build_halves.proofs.Refusals.{works_with}
 use Rattle.build_work.proofs.Works.{spoiled_work_on}
 use Rattle.build_work.proofs.Stakes.{all_stakes}

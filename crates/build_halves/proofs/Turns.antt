@@ -45,7 +45,7 @@ use Rattle.build_halves.proofs.Refusals.{state_is, waiting_is, worker_there}
 use Rattle.build_work.proofs.Stakes.{as_many}
 use Rattle.build_work.proofs.Stepping.{stopped_spoils}
 use Rattle.build_halves.proofs.Takes.{goes_on, going_on, spoiled_state, spoiled_works, spools_are, states_set}
-use Rattle.build_scan.proofs.Places.{map_at, no_pair, all_at}
+use Rattle.building.proofs.Places.{map_at, no_pair, all_at}
 use Rattle.build_halves.proofs.AllImages.{all_own}
 
 -- where it sees no copy, it takes none

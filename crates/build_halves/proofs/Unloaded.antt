@@ -23,7 +23,7 @@ use Rattle.build_halves.proofs.ApplyCauses.{inside_of}
 use Rattle.keybytes.proofs.FirstCause.{both_none}
 use Rattle.build_halves.proofs.LeftOver.{indexes_many}
 use Rattle.build_halves.proofs.Refusals.{state_of, state_is}
-use Rattle.build_scan.proofs.Places.{there_is}
+use Rattle.building.proofs.Places.{there_is}
 use Rattle.build_work.proofs.Positions.{all_fail, position_of}
 
 -- callers see that index too

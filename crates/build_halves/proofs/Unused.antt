@@ -8,7 +8,7 @@ use Rattle.side_file.specs.declared.entry.Entry.{Entry}
 use Rattle.catch_up.specs.Built.{told_to}
 use Rattle.building.specs.TakeEnd.{TakeEnd}
 use Rattle.build_scan.specs.SideFiles.{EntriesAreOfBuilds, drained_end}
-use Rattle.build_scan.proofs.Places.{all_at, mapped_of}
+use Rattle.building.proofs.Places.{all_at, mapped_of}
 
 -- entries of earlier builds tell a build nothing
 none_told : (build : ℕ) (entries : List Entry) → All (λ entry. entry.build < build) entries → told_to build entries ≡ []

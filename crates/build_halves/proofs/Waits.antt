@@ -34,7 +34,7 @@ use Rattle.build_events.specs.declared.scan.Scan.{Scan}
 use Rattle.build_halves.proofs.AllImages.{all_own}
 use Rattle.build_events.proofs.Copies.{copies_count}
 use Rattle.build_halves.proofs.CopyPairs.{copies_pairs}
-use Rattle.build_scan.proofs.Places.{all_at, there_is, no_pair, no_pairs}
+use Rattle.building.proofs.Places.{all_at, there_is, no_pair, no_pairs}
 
 -- all that was sent is received, and no run is open
 pub record IsDone (sent : List Copied) (intake : IntakeValue) (maker : MakerValue) : Type 0 where

@@ -5,7 +5,7 @@ use Rattle.side_file.specs.SideFileValue.{SideFileValue}
 use Rattle.side_file.specs.declared.entry.Entry.{Entry}
 use Rattle.building.specs.TakeEnd.{TakeEnd}
 use Rattle.build_scan.specs.SideFiles.{drained_end, put_ends}
-use Rattle.build_scan.proofs.Places.{at_set, set_there, set_elsewhere, all_from, there_is, below}
+use Rattle.building.proofs.Places.{at_set, set_there, set_elsewhere, all_from, there_is, below}
 
 -- an empty side-file with an end that took all
 pub record IsEmptied (side : SideFileValue) (end : TakeEnd Entry) : Type 0 where

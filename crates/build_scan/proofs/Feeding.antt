@@ -22,7 +22,7 @@ use Rattle.build_scan.specs.TableBuilds.{IsBuildOf}
 use Rattle.build_events.specs.CoreState.{BuildState, scanning_of}
 use Rattle.build_scan.specs.SideFiles.{IsFed, EachEntryOnce, HasEntries, HaveEntries, SidesFollow, AreFedEntries, SeesSide, own_entries, put_ends}
 use Rattle.build_scan.proofs.OwnEntries.{next_are_own, own_all}
-use Rattle.build_scan.proofs.Places.{at_set, at_map}
+use Rattle.building.proofs.Places.{at_set, at_map}
 use Rattle.build_events.specs.BuildSteps.{after_feed}
 use Rattle.build_events.specs.Workers.{fed_to, unfed}
 

@@ -4,7 +4,6 @@ pub mod LookedEnds
 pub mod Noting
 pub mod OwnEntries
 pub mod Performed
-pub mod Places
 pub mod RangeScans
 pub mod ScanExamples
 pub mod SideEnds

@@ -12,7 +12,7 @@ use Rattle.visibility.specs.declared.change.Change.{Change}
 use Rattle.build_scan.specs.SideFiles.{noted}
 use Rattle.build_scan.specs.Noting.{without_room, IsChangeOf, AreChangesOf, IsLonger, HaveAppended, HaveNoted, OthersStay, change_entries}
 use Rattle.build_events.specs.CoreState.{BuildState}
-use Rattle.build_scan.proofs.Places.{at_set, below, same_at, there_is}
+use Rattle.building.proofs.Places.{at_set, below, same_at, there_is}
 
 -- the place behind a list, and those of the list
 pub last_at : {X : Type 0} (xs : List X) (x : X) (i : ℕ) → i ≡ length xs → slice_get (xs ++ x ∷ []) i ≡ Some x

@@ -17,7 +17,7 @@ use Rattle.build_events.specs.CoreState.{BuildState, scanning_of}
 use Rattle.build_events.specs.SideEntries.{side_entries}
 use Rattle.build_events.specs.Workers.{fed_to}
 use Rattle.build_scan.specs.SideFiles.{EntriesAreOfBuilds, HasEntries, own_entries, put_ends}
-use Rattle.build_scan.proofs.Places.{all_at, map_at}
+use Rattle.building.proofs.Places.{all_at, map_at}
 use Rattle.build_scan.proofs.SideKept.{left_of}
 
 -- where all are of the build, they are its own

@@ -33,7 +33,7 @@ use Rattle.build_scan.specs.SideFiles.{noted, own_entries, HasEntries, SidesFoll
 use Rattle.build_scan.specs.Noting.{IsLonger, HaveNoted, FitsBuild}
 use Rattle.ready_indexes.proofs.Follow.{schema_stays}
 use Rattle.ready_indexes.specs.Following.{FitsColumns}
-use Rattle.build_scan.proofs.Places.{below, there_is}
+use Rattle.building.proofs.Places.{below, there_is}
 use Rattle.side_file.specs.declared.entry.Entry.{Entry}
 use Rattle.side_file.specs.Ends.{PutEnd}
 use Rattle.side_file.specs.Kept.{last_ones}

@@ -13,7 +13,7 @@ use Rattle.side_file.specs.declared.entry.Entry.{Entry}
 use Rattle.building.specs.TakeEnd.{TakeEnd, take_end}
 use Rattle.heap_log.specs.declared.record.LogRec.{LogRec}
 use Rattle.build_scan.specs.SideFiles.{side_rings, taken_rings, SidesFollow, put_ends, side_refusal}
-use Rattle.build_scan.proofs.Places.{as_long, at_index, at_set, both_at, kept, mapped}
+use Rattle.building.proofs.Places.{as_long, at_index, at_set, both_at, kept, mapped}
 use Rattle.build_scan.proofs.SideKept.{stays_one}
 
 -- an index that isn't refused is one of the build

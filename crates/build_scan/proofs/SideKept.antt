@@ -24,7 +24,7 @@ use Rattle.build_events.specs.SideEntries.{entries_of, side_entries}
 use Rattle.build_scan.specs.Noting.{without_room}
 use Rattle.build_scan.specs.SideFiles.{HasEntries, HaveEntries, SidesFollow, AreEntriesLeft, EntriesAreOfBuilds, HaveEntryKeys, NoneAhead, own_entries, put_ends, side_refusal}
 use Rattle.build_events.specs.Workers.{fed_to}
-use Rattle.build_scan.proofs.Places.{all_at, map_at, same_at, below, there_is}
+use Rattle.building.proofs.Places.{all_at, map_at, same_at, below, there_is}
 use Rattle.std.specs.Prelude.{get_or, IfSome}
 use Rattle.std.proofs.Math.ListN.{drop_of_length-le}
 use Rattle.build_events.proofs.EntrySteps.{opened_entries, more_entries, same_entries, commit_entries}

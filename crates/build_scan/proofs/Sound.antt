@@ -24,7 +24,7 @@ use Rattle.build_events.specs.Scanning.{Scanning, is_by, is_visible, scanned_at}
 use Rattle.visibility.specs.SideEntries.{SideEntry, delete, insert, changes}
 use Rattle.build_events.specs.SideEntries.{entries_for, entries_of, entries_from, side_entries}
 use Rattle.build_events.proofs.SideFollows.{leaves_visible, entries_have_effect}
-use Rattle.build_scan.proofs.Places.{all_from}
+use Rattle.building.proofs.Places.{all_from}
 
 by_later : (count n : ℕ) (o : Option ℕ) → count ≤ n → is_by count o ≡ true → is_by n o ≡ true
 by_later count n None more e = absurd (false≢true e)

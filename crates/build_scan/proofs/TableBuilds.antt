@@ -12,7 +12,7 @@ use Rattle.scan_range.specs.Cuts.{are_cuts}
 use Rattle.build_events.specs.Ranges.{next_page}
 use Rattle.std.proofs.lemmas.List.{length-map}
 use Rattle.build_events.proofs.ScanSteps.{no_spec, opened_scanned, more_scanned, scan_now, scan_scanned, pages_grow}
-use Rattle.build_scan.proofs.Places.{all_at}
+use Rattle.building.proofs.Places.{all_at}
 use Rattle.build_events.proofs.NextPages.{next_below, next_unscanned}
 use Rattle.heap_table.specs.HeapState.{HeapState, after_commit}
 use Rattle.heap_log.specs.declared.record.LogRec.TheVariants.{Commit}

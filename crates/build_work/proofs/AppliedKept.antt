@@ -20,7 +20,7 @@ use Rattle.building.specs.WorkerValue.{WorkerValue}
 use Rattle.build_work.specs.BuildingValue.{IndexValue, IsUnloaded, WorkValue}
 use Rattle.build_work.specs.Keeping.{ArePairsOf, IsIndexOf, KeepsWork}
 use Rattle.build_work.proofs.Unloaded.{open_fewer, unloaded_before, with_tree}
-use Rattle.build_scan.proofs.Places.{all_at, at_set, below, set_elsewhere, set_there}
+use Rattle.building.proofs.Places.{all_at, at_set, below, set_elsewhere, set_there}
 
 -- to pairs with entries applied more are applied
 applied_pairs :

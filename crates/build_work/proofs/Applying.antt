@@ -23,7 +23,7 @@ use Rattle.building.specs.SpoolValue.{SpoolValue}
 use Rattle.building.specs.WorkerValue.{WorkerValue}
 use Rattle.build_work.specs.Keeping.{KeepsWork}
 use Rattle.build_work.proofs.AppliedKept.{applied_kept}
-use Rattle.build_scan.proofs.Places.{at_index, below, here_set, map_at, set_same}
+use Rattle.building.proofs.Places.{at_index, below, here_set, map_at, set_same}
 use Rattle.std.specs.Prelude.{is_some}
 use Rattle.std.proofs.lemmas.Bool.{false≢true}
 

@@ -20,7 +20,7 @@ use Rattle.build_work.specs.Equipped.{HasOwnSpools}
 use Rattle.build_work.specs.Keeping.{AreWorkers}
 use Rattle.build_work.specs.Holding.{fresh_maker}
 use Rattle.build_work.specs.Rings.{all_sent, begun_on, unseen, AreOfBuilds, AreTaking, IsWorkerOf}
-use Rattle.build_scan.proofs.Places.{at_set, all_at, at_map, map_at, same_at, mapped}
+use Rattle.building.proofs.Places.{at_set, all_at, at_map, map_at, same_at, mapped}
 
 -- what a worker takes doesn't depend on what it has seen of its ring
 module _ (build : ℕ) (kinds : List Kind) (specs : List KeySpecValue) (handed : Bool) (sent : List Copied) (worker : WorkerValue) where

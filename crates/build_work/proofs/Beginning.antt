@@ -18,7 +18,7 @@ use Rattle.building.specs.WorkerValue.{WorkerValue}
 use Rattle.run_maker.specs.Making.{MakerValue}
 use Rattle.keybytes.specs.declared.pair.Pair.{Pair}
 use Rattle.build_scan.specs.SideFiles.{drained_end, side_rings, taken_rings}
-use Rattle.build_scan.proofs.Places.{all_at, all_from, as_long, at_map, map_at, mapped}
+use Rattle.building.proofs.Places.{all_at, all_from, as_long, at_map, map_at, mapped}
 use Rattle.build_work.proofs.AtWork.{intake_at}
 use Rattle.std.proofs.lemmas.List.Elements.{All-weaker}
 use Rattle.build_events.specs.declared.plan.Plan.{Plan}

@@ -14,7 +14,7 @@ use Rattle.build_work.specs.BuildingValue.{intakes}
 use Rattle.build_work.specs.Holding.{all_spools, workers_spools}
 use Rattle.build_work.specs.Rings.{AreTakeEnds}
 use Rattle.build_work.specs.Working.{handed_over}
-use Rattle.build_scan.proofs.Places.{mapped}
+use Rattle.building.proofs.Places.{mapped}
 
 -- a worker's spools are among those of all
 pub own_within : (workers : List WorkerValue) (k : ℕ) (worker : WorkerValue) → slice_get workers k ≡ Some worker → length worker.spools ≤ length (workers_spools workers)

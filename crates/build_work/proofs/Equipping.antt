@@ -14,7 +14,7 @@ use Rattle.build_work.specs.BuildingValue.{intakes}
 use Rattle.build_work.specs.Keeping.{AreWorkers, IsWorkerAt}
 use Rattle.build_work.specs.Holding.{workers_spools}
 use Rattle.build_work.specs.Rings.{take_rings}
-use Rattle.build_scan.proofs.Places.{map_at}
+use Rattle.building.proofs.Places.{map_at}
 
 -- the next one is taken from a list, of which n were taken before
 pub one_taken :

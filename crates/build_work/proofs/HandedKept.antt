@@ -15,15 +15,15 @@ use Rattle.building.specs.SpoolValue.{SpoolValue, runs_of}
 use Rattle.building.specs.TakeEnd.{TakeEnd}
 use Rattle.building.specs.Taking.{received_images, unsealed_images}
 use Rattle.building.specs.WorkerValue.{IsHolding, WorkerValue}
+use Rattle.index_load.specs.Columns.{column}
+use Rattle.index_load.proofs.SpoolPlaces.{column_is, column_there, flat_at, flat_many}
 use Rattle.build_work.specs.BuildingValue.{BuildingValue, IndexValue, IsUnloaded, WorkValue}
-use Rattle.build_work.specs.Columns.{column}
 use Rattle.build_work.specs.Holding.{HaveColumns, all_spools, workers_spools}
 use Rattle.build_work.specs.Keeping.{AreWorkers, HasHanded, HaveEachOnce, IsClosed, IsWorkerAt, KeepsLaws, KeepsWork}
 use Rattle.build_work.specs.Working.{CanHandOver, handed_over}
 use Rattle.build_work.proofs.Kept.{any_workers}
 use Rattle.build_work.proofs.OneWorker.{its_work, still_scans}
-use Rattle.build_work.proofs.SpoolPlaces.{column_is, column_there, flat_at, flat_many}
-use Rattle.build_scan.proofs.Places.{all_at, all_from, all_mapped, at_map, map_at, mapped_of, no_pair, there_is}
+use Rattle.building.proofs.Places.{all_at, all_from, all_mapped, at_map, map_at, mapped_of, no_pair, there_is}
 
 -- a worker that goes on, and has its spools for these indexes
 pub record HasItsSpools (specs : List KeySpecValue) (worker : WorkerValue) : Type 0 where

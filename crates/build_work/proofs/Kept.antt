@@ -27,7 +27,7 @@ use Rattle.build_work.specs.Holding.{HaveColumns}
 use Rattle.build_work.specs.Keeping.{ArePairsOf, AreWorkers, HasHanded, IsIndexOf, IsKept, KeepsWork}
 use Rattle.build_work.specs.Rings.{unseen}
 use Rattle.build_work.specs.Turns.{spoiled_for}
-use Rattle.build_scan.proofs.Places.{all_at, all_from, at_set, mapped, no_pair, replicate_at, same_at, set_same}
+use Rattle.building.proofs.Places.{all_at, all_from, at_set, mapped, no_pair, replicate_at, same_at, set_same}
 
 -- the images that a worker received
 abbrev pub own_images : WorkerValue → List ImageValue

@@ -12,61 +12,34 @@ use Rattle.building.specs.TakeEnd.{TakeEnd}
 use Rattle.building.specs.WorkerValue.{WorkerValue}
 use Rattle.side_file.specs.declared.entry.Entry.{Entry}
 use Rattle.catch_up.specs.Built.{BuiltValue}
+use Rattle.index_load.specs.Columns.{column, other_columns, ended_column}
+use Rattle.index_load.specs.IndexLoad.{AreEachOnce}
+use Rattle.index_load.proofs.Columns.{all_but_map, every_map}
 use Rattle.build_work.specs.BuildingValue.{BuildingValue, WorkValue, IndexValue, IsUnloaded, with_index, is_unique}
-use Rattle.build_work.specs.Columns.{column, other_columns}
-use Rattle.build_work.specs.Holding.{all_spools, workers_spools, spools_state, ended_column, spools_in}
+use Rattle.build_work.specs.Holding.{all_spools, workers_spools, spools_state, spools_in}
 use Rattle.build_work.specs.Keeping.{IsKept, KeepsWork}
-use Rattle.build_work.specs.Keeping.{AreEachOnce}
 use Rattle.build_work.specs.Working.{CanLoad, LoadStopped}
-use Rattle.build_work.proofs.Columns.{all_but_map, every_map}
 use Rattle.build_work.proofs.OneWorker.{the_work}
 use Rattle.std.proofs.lemmas.Bool.{and_parts, eqb-true}
 use Rattle.std.proofs.lemmas.List.{map-append, nil_from_length}
 use Rattle.std.proofs.lemmas.List.Elements.{All-head, All-tail}
 use Rattle.std.proofs.lemmas.Option.{same_Some}
-use Rattle.build_scan.proofs.Places.{mapped}
+use Rattle.building.proofs.Places.{mapped}
 
 -- a test of each that was taken already
 each_tested : {X : Type 0} (test : X → Bool) (xs : List X) → list_all test xs ≡ list_all (λ is_so. is_so) (map test xs)
 each_tested test [] = refl
 each_tested test (x ∷ xs) = ap (λ rest. test x && rest) (each_tested test xs)
 
--- spools of any kind, as callers of all see them
-module _ {S : Type 0} (runs : S → List (List Pair)) (open_run : S → List Pair) (stake : S → Option Stake) where
-  pub stakes_seen : (spools : List S) → map stake spools ≡ map (λ (s : SpoolValue). s.stake) (map (spool_value runs open_run stake) spools)
-  stakes_seen spools = sym (mapped (spool_value runs open_run stake) (λ (s : SpoolValue). s.stake) spools)
-
-  pub runs_seen : (spools : List S) → map runs spools ≡ map (λ (s : SpoolValue). s.runs) (map (spool_value runs open_run stake) spools)
-  runs_seen spools = sym (mapped (spool_value runs open_run stake) (λ (s : SpoolValue). s.runs) spools)
-
-  -- spools of which only those of an index may be other
-  pub others_seen :
-      (index indexes : ℕ) (a b : List S) → other_columns index indexes a ≡ other_columns index indexes b
-      → other_columns index indexes (map (spool_value runs open_run stake) a) ≡ other_columns index indexes (map (spool_value runs open_run stake) b)
-  others_seen index indexes a b same =
-      let value = spool_value runs open_run stake in
-      all_but_map value (indexes - 1) index a ∙ ap (map value) same ∙ sym (all_but_map value (indexes - 1) index b)
-
-  -- the runs of the spools of an index
-  pub column_seen : (index indexes : ℕ) (spools : List S) → runs_of (column index indexes (map (spool_value runs open_run stake) spools)) ≡ map runs (column index indexes spools)
-  column_seen index indexes spools =
-      ap runs_of (every_map (spool_value runs open_run stake) (indexes - 1) index spools) ∙ sym (runs_seen (column index indexes spools))
-
-  pub same_seen :
-      (a b : List S) → map stake a ≡ map stake b
-      → map (λ (s : SpoolValue). s.stake) (map (spool_value runs open_run stake) a)
-      ≡ map (λ (s : SpoolValue). s.stake) (map (spool_value runs open_run stake) b)
-  same_seen a b same = sym (stakes_seen a) ∙ same ∙ stakes_seen b
-
-  -- spools that no build was given are left for the next one
-  pub left_seen :
-      (given : Bool) (spools : List S) → given ≡ false
-      → list_all (λ (s : S). holds_nothing (runs s) (open_run s)) spools
-      ≡ list_all (λ is_empty. is_empty) (spools_state given (map (spool_value runs open_run stake) spools)).left
-  left_seen given spools none =
-      let empty : SpoolValue → Bool = λ s. holds_nothing s.runs s.open_run in
-      rw none (each_tested (λ (s : S). holds_nothing (runs s) (open_run s)) spools
-      ∙ ap (list_all (λ is_empty. is_empty)) (sym (mapped (spool_value runs open_run stake) empty spools)))
+-- spools that no build was given are left for the next one
+pub left_seen :
+    {S : Type 0} (runs : S → List (List Pair)) (open_run : S → List Pair) (stake : S → Option Stake) (given : Bool) (spools : List S) → given ≡ false
+    → list_all (λ (s : S). holds_nothing (runs s) (open_run s)) spools
+    ≡ list_all (λ is_empty. is_empty) (spools_state given (map (spool_value runs open_run stake) spools)).left
+left_seen runs open_run stake given spools none =
+    let empty : SpoolValue → Bool = λ s. holds_nothing s.runs s.open_run in
+    rw none (each_tested (λ (s : S). holds_nothing (runs s) (open_run s)) spools
+    ∙ ap (list_all (λ is_empty. is_empty)) (sym (mapped (spool_value runs open_run stake) empty spools)))
 
 -- where no worker is, no other spools are
 pub at_home : (workers : List WorkerValue) (spools : List SpoolValue) → workers ≡ [] → all_spools workers spools ≡ spools
@@ -151,22 +124,6 @@ no_tree (Some built) none = absurd (cc)
 pub is_unloaded :
     (work : WorkValue) (index : ℕ) → ((it : IndexValue) → slice_get work.indexes index ≡ Some it → false ≡ is_some it.built) → IsUnloaded index work
 is_unloaded work index none it at = no_tree it.built (none it at)
-
--- spools of any kind that were ended
-pub ended_values :
-    {S : Type 0} (runs : S → List (List Pair)) (open_run : S → List Pair) (stake : S → Option Stake) (old new : List S) → All (λ s. runs s ≡ []) new
-    → All (λ s. open_run s ≡ []) new → map stake new ≡ map stake old
-    → map (spool_value runs open_run stake) new ≡ map ended_spool (map (spool_value runs open_run stake) old)
-ended_values runs open_run stake [] [] none shut same = refl
-ended_values runs open_run stake [] (t ∷ ts) none shut same = absurd (cc)
-ended_values runs open_run stake (s ∷ ss) [] none shut same = absurd (cc)
-ended_values runs open_run stake (s ∷ ss) (t ∷ ts) none shut same =
-    let first : stake t ≡ stake s = cc in
-    let rest : map stake ts ≡ map stake ss = cc in
-    let here : spool_value runs open_run stake t ≡ ended_spool (spool_value runs open_run stake s) =
-    rw (All-head (λ s. runs s ≡ []) t ts none, All-head (λ s. open_run s ≡ []) t ts shut, first) refl in
-    ap₂ ◌∷◌ here
-    (ended_values runs open_run stake ss ts (All-tail (λ s. runs s ≡ []) t ts none) (All-tail (λ s. open_run s ≡ []) t ts shut) rest)
 
 -- spools as they are handed in, while no build has workers
 pub spools_handed :

@@ -13,6 +13,7 @@ use Rattle.building.specs.IntakeValue.{IntakeValue}
 use Rattle.building.specs.SpoolValue.{SpoolValue}
 use Rattle.building.specs.TakeEnd.{TakeEnd}
 use Rattle.building.specs.WorkerValue.{SameWorker, WorkerValue}
+use Rattle.index_load.proofs.SpoolPlaces.{flat_many}
 use Rattle.build_work.specs.BuildingValue.{BuildingValue, WorkValue, intakes}
 use Rattle.build_work.specs.Equipped.{HasOwnSpools}
 use Rattle.build_work.specs.Holding.{all_spools, workers_spools}
@@ -21,8 +22,7 @@ use Rattle.build_work.specs.Lent.{AreBack, CanLend, IsBack, StaysWithout, lowest
 use Rattle.build_work.specs.Rings.{AreTakeEnds, take_rings}
 use Rattle.build_work.proofs.Kept.{scanning_kept}
 use Rattle.build_work.proofs.OneWorker.{still_fine, still_scans, work_kept}
-use Rattle.build_work.proofs.SpoolPlaces.{flat_many}
-use Rattle.build_scan.proofs.Places.{all_at, as_long, at_set, mapped}
+use Rattle.building.proofs.Places.{all_at, as_long, at_set, mapped}
 
 -- the rings of workers and of idle intakes
 rings_of :

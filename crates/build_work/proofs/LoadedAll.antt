@@ -12,12 +12,12 @@ use Rattle.building.specs.SpoolValue.{SpoolValue, ended_spool, pairs_in, stakes_
 use Rattle.building.specs.TakeEnd.{TakeEnd}
 use Rattle.building.specs.WorkerValue.{WorkerValue}
 use Rattle.catch_up.specs.Built.{BuiltValue}
+use Rattle.index_load.specs.Columns.{column, ended_column}
+use Rattle.index_load.specs.IndexLoad.{IndexLoadValue, IsLoadable}
 use Rattle.build_work.specs.BuildingValue.{BuildingValue, IndexValue, IsUnloaded, WorkValue, with_pairs}
-use Rattle.build_work.specs.Columns.{column}
-use Rattle.build_work.specs.Holding.{ended_column}
-use Rattle.build_work.specs.IndexLoads.{AreDone, CanLoadAll, HasLoadedAll, IndexLoadValue, IsDoneAt, IsLoadable, LoadsStopped, index_from, loaded_from}
+use Rattle.build_work.specs.IndexLoads.{AreDone, CanLoadAll, HasLoadedAll, IsDoneAt, LoadsStopped, index_from, loaded_from}
 use Rattle.build_work.specs.Keeping.{IsIndexOf, IsKept, KeepsWork}
-use Rattle.build_scan.proofs.Places.{all_at, all_from, at_map, below, map_at, there_is}
+use Rattle.building.proofs.Places.{all_at, all_from, at_map, below, map_at, there_is}
 use Rattle.build_work.proofs.LoadedKept.{loaded_index}
 use Rattle.build_work.proofs.OneWorker.{the_work}
 

@@ -23,16 +23,17 @@ use Rattle.building.specs.SpoolValue.{SpoolValue, ended_spool, pairs_in, runs_of
 use Rattle.building.specs.TakeEnd.{TakeEnd}
 use Rattle.building.specs.WorkerValue.{WorkerValue}
 use Rattle.building.proofs.ManyPairs.{have_append}
+use Rattle.index_load.specs.Columns.{column, ended_column}
+use Rattle.index_load.specs.IndexLoad.{AreEachOnce}
+use Rattle.index_load.proofs.Columns.{every_elsewhere, length-changed}
+use Rattle.index_load.proofs.SpoolPlaces.{column_many}
 use Rattle.build_work.specs.BuildingValue.{IndexValue, IsUnloaded, WorkValue, is_unique}
-use Rattle.build_work.specs.Columns.{column}
-use Rattle.build_work.specs.Holding.{HaveColumns, ended_column}
-use Rattle.build_work.specs.Keeping.{AreEachOnce, ArePairsOf, IsIndexOf, IsKept, KeepsWork, all_received}
-use Rattle.build_work.proofs.Columns.{every_elsewhere, length-changed}
+use Rattle.build_work.specs.Holding.{HaveColumns}
+use Rattle.build_work.specs.Keeping.{ArePairsOf, IsIndexOf, IsKept, KeepsWork, all_received}
 use Rattle.build_work.proofs.Kept.{own_images}
-use Rattle.build_work.proofs.SpoolPlaces.{column_many}
 use Rattle.build_work.proofs.Unloaded.{not_this, unloaded_before, with_tree}
 use Rattle.build_work.proofs.Works.{same_set}
-use Rattle.build_scan.proofs.Places.{at_set, below}
+use Rattle.building.proofs.Places.{at_set, below}
 
 -- the pairs of all runs of spools, spool by spool
 pub pairs_by_spool : (spools : List SpoolValue) → pairs_in spools ≡ flat_map (λ (s : SpoolValue). all_pairs s.runs) spools

@@ -11,13 +11,13 @@ use Rattle.run_spool.specs.Spools.{AreSorted, all_pairs}
 use Rattle.run_merge.specs.Merging.{all_runs}
 use Rattle.building.specs.SpoolValue.{SpoolValue, runs_of, spool_value}
 use Rattle.catch_up.specs.Built.{BuiltValue}
+use Rattle.index_load.specs.Columns.{column, other_columns}
+use Rattle.index_load.specs.IndexLoad.{IndexLoadValue, IsLoadable, AreEachOnce}
+use Rattle.index_load.proofs.Columns.{all_but_map, every_map}
+use Rattle.index_load.proofs.ColumnsApart.{column_later}
+use Rattle.index_load.proofs.SpoolsSeen.{column_seen}
 use Rattle.build_work.specs.BuildingValue.{IndexValue, WorkValue, is_unique}
-use Rattle.build_work.specs.Columns.{column, other_columns}
-use Rattle.build_work.specs.IndexLoads.{IndexLoadValue, IsLoadable, index_from, load_at}
-use Rattle.build_work.specs.Keeping.{AreEachOnce}
-use Rattle.build_work.proofs.Columns.{all_but_map, every_map}
-use Rattle.build_work.proofs.ColumnsApart.{column_later}
-use Rattle.build_work.proofs.LeftBeside.{column_seen}
+use Rattle.build_work.specs.IndexLoads.{index_from, load_at}
 
 -- the first of the columns that are left is taken out
 module _
@@ -32,11 +32,6 @@ module _
       ap (column j (n - (k + 1))) gone ∙ ap (λ i. column j (n - (k + 1)) (other_columns 0 i left)) one ∙ column_later j (n - (k + 1)) left few
       ∙ ap (λ i. column (suc j) i left) (sym one) ∙ columns (suc j) (omega (arith, few, less))
       ∙ ap (λ i. column i n old) (let e : k + suc j ≡ (k + 1) + j = omega arith in e)
-
--- spools of which there are none
-pub none_loadable : IsLoadable []
-unfolding IsDistinct
-none_loadable = record { sorted = All-nil AreSorted; once = tt }
 
 -- whether an index is unique that has a specification
 pub unique_at : (specs : List KeySpecValue) (k : ℕ) (spec : KeySpecValue) → slice_get specs k ≡ Some spec → spec.unique ≡ is_unique (slice_get specs k)

@@ -10,13 +10,14 @@ use Rattle.keybytes.specs.declared.fault.Fault.{Fault}
 use Rattle.keybytes.specs.declared.fault.Fault.TheVariants.{Memory}
 use Rattle.spool_ledger.specs.Accounts.{Stake}
 use Rattle.building.specs.SpoolValue.{SpoolValue, ended_spool, stakes_of}
+use Rattle.index_load.specs.Columns.{column}
+use Rattle.index_load.specs.IndexLoad.{HasRun, IndexLoadValue, without_spools}
+use Rattle.index_load.proofs.Columns.{every_map}
+use Rattle.index_load.proofs.ColumnsApart.{by_columns}
+use Rattle.index_load.proofs.SpoolPlaces.{column_many}
 use Rattle.build_work.specs.BuildingValue.{WorkValue}
-use Rattle.build_work.specs.Columns.{column}
-use Rattle.build_work.specs.IndexLoads.{AreDone, AreHome, HasRun, IndexLoadValue, first_fault_of, load_at, without_spools}
-use Rattle.build_scan.proofs.Places.{all_at, all_from, at_map, below, there_is}
-use Rattle.build_work.proofs.Columns.{every_map}
-use Rattle.build_work.proofs.ColumnsApart.{by_columns}
-use Rattle.build_work.proofs.SpoolPlaces.{column_many}
+use Rattle.build_work.specs.IndexLoads.{AreDone, AreHome, first_fault_of, load_at}
+use Rattle.building.proofs.Places.{all_at, all_from, at_map, below, there_is}
 use Rattle.build_work.proofs.Stakes.{as_many}
 
 -- two lists whose elements belong together, place by place

@@ -8,9 +8,10 @@ use Rattle.keybytes.specs.declared.fault.Fault.{Fault}
 use Rattle.keybytes.specs.declared.fault.Fault.TheVariants.{Memory}
 use Rattle.building.specs.SpoolValue.{SpoolValue}
 use Rattle.building.specs.WorkerValue.{WorkerValue}
+use Rattle.index_load.specs.IndexLoad.{HasRun, IndexLoadValue}
 use Rattle.build_work.specs.BuildingValue.{BuildingValue, IndexValue, WorkValue}
 use Rattle.build_work.specs.Holding.{all_spools, workers_spools}
-use Rattle.build_work.specs.IndexLoads.{AreDone, AreHome, AreLent, HasLoadedAll, HasRun, IndexLoadValue, LoadsStopped, index_from, without_loads}
+use Rattle.build_work.specs.IndexLoads.{AreDone, AreHome, AreLent, HasLoadedAll, LoadsStopped, index_from, without_loads}
 use Rattle.build_work.specs.Keeping.{HasHanded, KeepsWork}
 use Rattle.build_work.proofs.LoadedAll.{all_kept, all_loaded, loads_stopped}
 use Rattle.build_work.proofs.LoadsDone.{loads_done, loads_many, memory_alone, own_lent, own_ran, same_stakes, spools_ended, zip_long}

@@ -15,7 +15,7 @@ use Rattle.side_file.specs.Ends.{RingId}
 use Rattle.side_file.specs.declared.entry.Entry.{Entry}
 use Rattle.building.specs.IntakeValue.{IntakeValue}
 use Rattle.building.specs.TakeEnd.{TakeEnd}
-use Rattle.build_scan.proofs.Places.{as_long, same_at, set_same}
+use Rattle.building.proofs.Places.{as_long, same_at, set_same}
 use Rattle.std.specs.Prelude.{flat_map}
 use Rattle.building.specs.Holding.{HoldsPairs}
 use Rattle.building.specs.Taking.{received_images}

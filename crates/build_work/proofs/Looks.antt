@@ -13,7 +13,7 @@ use Rattle.build_work.specs.BuildingValue.{intakes}
 use Rattle.build_work.specs.Rings.{put_rings, take_rings, all_sent, unseen, AreLooked, AreSealed, AreTakeEnds, FirstAreSealed, IsSealed}
 use Rattle.build_work.proofs.AtWork.{intake_at}
 use Rattle.build_scan.proofs.LookedEnds.{all_looked_twice, same_looked}
-use Rattle.build_scan.proofs.Places.{as_long, map_at, same_at, mapped}
+use Rattle.building.proofs.Places.{as_long, map_at, same_at, mapped}
 
 pub looked_again :
     (p : List (PutEnd Copied)) (w : List WorkerValue) (p' : List (PutEnd Copied)) (w' : List WorkerValue) (p'' : List (PutEnd Copied)) (w'' : List WorkerValue)

@@ -5,7 +5,7 @@ use Rattle.building.specs.SpoolValue.{SpoolValue, ended_spool}
 use Rattle.build_work.specs.BuildingValue.{BuildingValue, WorkValue, given_up}
 use Rattle.build_work.specs.Holding.{all_spools, spools_state}
 use Rattle.build_work.specs.Keeping.{IsKept, KeepsWork}
-use Rattle.build_scan.proofs.Places.{mapped}
+use Rattle.building.proofs.Places.{mapped}
 
 pub the_work : (o : Option WorkValue) (a b : WorkValue) → o ≡ Some a → o ≡ Some b → a ≡ b
 the_work o a b one other = same_Some a b (sym one ∙ other)

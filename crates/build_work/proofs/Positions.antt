@@ -5,7 +5,7 @@ use Rattle.std.specs.Prelude.{cond, nat_lt}
 use Rattle.std.specs.List.{position, position_or_len, slice_get}
 use Rattle.std.proofs.lemmas.Bool.{cases_lt, false≢true, lt-ltb}
 use Rattle.std.proofs.lemmas.List.{length-map}
-use Rattle.build_scan.proofs.Places.{below}
+use Rattle.building.proofs.Places.{below}
 
 module _ {X : Type 0} (test : X → Bool) where
   first_place :

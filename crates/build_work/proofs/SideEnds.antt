@@ -18,7 +18,7 @@ use Rattle.build_work.specs.Keeping.{KeepsWork}
 use Rattle.build_work.proofs.Kept.{side_looked_kept}
 use Rattle.build_work.specs.Rings.{AreTakeEnds}
 use Rattle.build_work.specs.Working.{HasSeenEntries, SideIsSeen}
-use Rattle.build_scan.proofs.Places.{at_index, kept, map_at, mapped}
+use Rattle.building.proofs.Places.{at_index, kept, map_at, mapped}
 
 abbrev end_with : RingId → List Entry → List Entry → TakeEnd Entry
 end_with ring taken seen = record { ring = ring; received = taken; known = seen }

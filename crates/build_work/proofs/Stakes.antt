@@ -7,7 +7,7 @@ use Rattle.spool_ledger.specs.Accounts.{Stake}
 use Rattle.building.specs.SpoolValue.{SpoolValue, stakes_of}
 use Rattle.building.specs.WorkerValue.{WorkerValue}
 use Rattle.build_work.specs.Holding.{all_spools, workers_spools}
-use Rattle.build_scan.proofs.Places.{as_long}
+use Rattle.building.proofs.Places.{as_long}
 
 -- the stakes of all that workers have, where one of them changed and has the same
 lent_stakes :

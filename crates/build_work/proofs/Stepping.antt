@@ -21,7 +21,7 @@ use Rattle.build_work.specs.Rings.{AreTakeEnds, take_rings}
 use Rattle.build_work.specs.Turns.{WorkerDid, WorkerLooked, WorkerStopped, spoiled_for}
 use Rattle.build_work.proofs.Spoiled.{IsSpoiled}
 use Rattle.build_work.proofs.OneWorker.{the_work}
-use Rattle.build_scan.proofs.Places.{mapped, set_same}
+use Rattle.building.proofs.Places.{mapped, set_same}
 use Rattle.build_work.proofs.Stakes.{all_stakes, as_many}
 
 -- the rings of all, where one worker has the ring that it had

@@ -9,7 +9,7 @@ use Rattle.build_events.proofs.Verdicts.{set_ordered}
 use Rattle.build_work.specs.BuildingValue.{BuildingValue, WorkValue, is_unique, with_pairs}
 use Rattle.build_work.specs.Keeping.{IsIndexOf, IsKept, KeepsWork}
 use Rattle.build_work.specs.Working.{IsTakingEntries}
-use Rattle.build_scan.proofs.Places.{below, there_is}
+use Rattle.building.proofs.Places.{below, there_is}
 
 module _
     (index : ℕ) (building seen : BuildingValue) (same : seen ≡ building) (keeps : KeepsWork seen.workers seen.sides seen.spools seen.work)

@@ -8,7 +8,7 @@ use Rattle.building.specs.SpoolValue.{SpoolValue}
 use Rattle.building.specs.WorkerValue.{WorkerValue}
 use Rattle.build_work.specs.BuildingValue.{IndexValue, IsUnloaded, WorkValue}
 use Rattle.build_work.specs.Holding.{HaveColumns}
-use Rattle.build_scan.proofs.Places.{here_set, stays_there}
+use Rattle.building.proofs.Places.{here_set, stays_there}
 
 -- of fewer indexes the spools hold what they held
 pub open_fewer :

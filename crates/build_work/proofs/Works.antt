@@ -17,7 +17,7 @@ use Rattle.keybytes.specs.Pairs.{AreOrdered, pair_cmp, set_of}
 use Rattle.keybytes.proofs.PairSets.{contains-set_of, same_members}
 use Rattle.build_work.specs.BuildingValue.{WorkValue, IndexValue, with_index, fresh, fresh_index, with_pairs, is_unique}
 use Rattle.build_work.specs.WorkOn.{IsIndexOn, IsWorkOfBuild, IsCaughtUpTo}
-use Rattle.build_scan.proofs.Places.{at_set, replicate_at}
+use Rattle.building.proofs.Places.{at_set, replicate_at}
 use Rattle.build_events.specs.CoreState.{BuildState, scanning_of}
 use Rattle.build_events.specs.Ranges.{open_range}
 use Rattle.build_events.specs.Scanning.{Scanning, scanned_pairs}

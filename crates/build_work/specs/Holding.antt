@@ -11,8 +11,8 @@ use Rattle.building.specs.Holding.{HoldsPairs}
 use Rattle.building.specs.SpoolValue.{SpoolValue, ended_spool, runs_of}
 use Rattle.building.specs.Taking.{received_images}
 use Rattle.building.specs.WorkerValue.{WorkerValue}
-use Rattle.build_work.specs.Columns.{column, with_every}
 use Rattle.build_events.specs.CoreState.{SpoolsState}
+use Rattle.index_load.specs.Columns.{column, with_every}
 
 -- the spools that the workers have, worker by worker
 abbrev pub workers_spools : List WorkerValue → List SpoolValue
@@ -36,10 +36,6 @@ spools_in runs open_run stake spools = record { stakes = map stake spools; left 
 -- a maker that has made nothing
 abbrev pub fresh_maker : List Kind → List KeySpecValue → MakerValue
 fresh_maker kinds specs = record { schema = kinds; specs = specs; begun = map (λ _. []) specs }
-
--- all spools, where those of an index are ended
-abbrev pub ended_column : ℕ → ℕ → List SpoolValue → List SpoolValue
-ended_column index indexes spools = with_every ended_spool (indexes - 1) index spools
 
 -- once they were handed over, the spools of the indexes that pass hold the pairs of the copies that their workers took, in closed runs
 pub record HaveColumns (is_open : ℕ → Type 0) (specs : List KeySpecValue) (workers : List WorkerValue) (spools : List SpoolValue) : Type 0 where

@@ -20,8 +20,8 @@ use Rattle.building.specs.SpoolValue.{SpoolValue, pairs_in}
 use Rattle.building.specs.TakeEnd.{TakeEnd}
 use Rattle.building.specs.Taking.{received_images, unsealed_images}
 use Rattle.building.specs.WorkerValue.{IsCounting, IsHolding, WorkerValue}
+use Rattle.index_load.specs.Columns.{column}
 use Rattle.build_work.specs.BuildingValue.{IndexValue, IsUnloaded, WorkValue}
-use Rattle.build_work.specs.Columns.{column}
 use Rattle.build_work.specs.Holding.{HaveColumns}
 
 -- the images of its build that each worker received, worker after worker
@@ -75,10 +75,6 @@ pub record HasHanded (specs : List KeySpecValue) (worker : WorkerValue) : Type 0
   pub counting : IsCounting worker.intake worker.maker
   pub opened : (i : ℕ) → i < length specs
       → HoldsOpen (spec_at specs i) (unsealed_images worker.maker.schema worker.intake) (get_or worker.maker.begun i [])
-
--- no pair is there twice
-abbrev pub AreEachOnce : List Pair → Type 0
-AreEachOnce pairs = IsDistinct (eq_by_cmp pair_cmp) pairs
 
 -- so it is of the pairs of each index that isn't in order
 abbrev pub HaveEachOnce : WorkValue → List SpoolValue → Type 0

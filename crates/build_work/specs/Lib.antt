@@ -1,5 +1,4 @@
 pub mod BuildingValue
-pub mod Columns
 pub mod Equipped
 pub mod Holding
 pub mod IndexLoads

@@ -11,11 +11,11 @@ use Rattle.catch_up.specs.Built.{BuiltValue, MayWant, told_to}
 use Rattle.building.specs.TakeEnd.{TakeEnd}
 use Rattle.building.specs.SpoolValue.{SpoolValue, pairs_in, stakes_of}
 use Rattle.building.specs.WorkerValue.{WorkerValue}
+use Rattle.index_load.specs.Columns.{column, other_columns, ended_column}
 use Rattle.build_scan.specs.SideFiles.{HasLookedAtSide, SeesSide}
 use Rattle.build_work.specs.BuildingValue.{BuildingValue, WorkValue, IndexValue, with_index, with_pairs}
-use Rattle.build_work.specs.Columns.{column, other_columns}
 use Rattle.build_work.specs.Keeping.{HaveEachOnce, IsClosed}
-use Rattle.build_work.specs.Holding.{all_spools, ended_column, workers_spools}
+use Rattle.build_work.specs.Holding.{all_spools, workers_spools}
 
 -- a worker without its spools
 abbrev pub handed_over : WorkerValue → WorkerValue

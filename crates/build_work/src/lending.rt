@@ -135,7 +135,7 @@ impl<S: Spool, T: Table> WithoutWorkers<S, T> {
 
     /// Gives the work of the build up without its workers: answered with the intakes that no worker had, with the ends of the side-files'
     /// rings, and with an empty list that has room for the spools of all workers. Of a worker that came back [`Worker::into_parts`] takes the
-    /// spools out, which [`crate::end_spools`] ends. Takes no memory.
+    /// spools out, which `index_load::end_spools` ends. Takes no memory.
     pub fn into_parts(self) -> (Vec<Intake>, Vec<Consumer<Entry>>, Vec<S>)
         ensures idle { result.0.items ≡ self.idle }
         ensures rings { 16 ≤ vec_capacity result.0 }

@@ -8,16 +8,13 @@
 #![tactic(auto)]
 
 mod beside;
-mod ending;
 mod ends;
 mod equipment;
-mod index_load;
 mod index_work;
 mod lending;
 mod load_lending;
 mod loads;
 mod looking;
-mod merging;
 mod returning;
 mod rings;
 mod sorted;
@@ -25,10 +22,8 @@ mod turns;
 mod work;
 
 pub use beside::Building;
-pub use ending::end_spools;
 pub use ends::Ends;
 pub use equipment::{Equipment, prepare};
-pub use index_load::IndexLoad;
 pub use index_work::IndexWork;
 pub use lending::WithoutWorkers;
 pub use load_lending::WithoutLoads;

@@ -1,13 +1,14 @@
 //! The loads of a build's indexes, lent to threads.
 ghost use Rattle.std.specs.Prelude.{◌≡◌, length, IfErr, IfOk, OnOk, Some};
 ghost use Rattle.std.specs.List.{AllZip};
+ghost use Rattle.index_load.specs.IndexLoad.{HasRun};
 ghost use Rattle.build_work.specs.Equipped.{HasRoomFor};
-ghost use Rattle.build_work.specs.IndexLoads.{AreLent, CanLoadAll, HasLoadedAll, HasRun, LoadsStopped, first_fault_of, without_loads};
+ghost use Rattle.build_work.specs.IndexLoads.{AreLent, CanLoadAll, HasLoadedAll, LoadsStopped, first_fault_of, without_loads};
 
 use crate::beside::Building;
-use crate::index_load::IndexLoad;
 use crate::loads::{install, take_home, take_loads};
 use building::Table;
+use index_load::IndexLoad;
 use keybytes::Fault;
 use run_spool::Spool;
 use std::alloc::Global;

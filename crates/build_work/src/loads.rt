@@ -1,14 +1,14 @@
 //! The loads of all indexes of a build, each by itself: their spools are taken out of the build's, and come back.
 ghost use Rattle.std.specs.Prelude.{◌≡◌, ℕ, ◌*◌, ◌<◌, ◌≤◌, [], All, length, map, slice_get, Some, IfOk, IfErr, OnOk, OnErr, vec_capacity};
 ghost use Rattle.building.specs.SpoolValue.{spool_value};
-ghost use Rattle.build_work.specs.Columns.{column};
+ghost use Rattle.index_load.specs.Columns.{column};
+ghost use Rattle.index_load.specs.IndexLoad.{IndexLoadValue, IsLoadable, without_spools};
 ghost use Rattle.build_work.specs.Equipped.{HasRoomFor};
-ghost use Rattle.build_work.specs.IndexLoads.{AreHome, IndexLoadValue, IsLoadable, first_fault_of, index_from, load_at, without_spools};
+ghost use Rattle.build_work.specs.IndexLoads.{AreHome, first_fault_of, index_from, load_at};
 
-use crate::index_load::IndexLoad;
 use crate::index_work::IndexWork;
-use crate::merging::{move_out, put_back};
 use crate::work::Work;
+use index_load::{IndexLoad, move_out, put_back};
 use keybytes::Fault;
 use run_spool::Spool;
 use std::alloc::Global;

@@ -5,8 +5,8 @@ ghost use Rattle.build_work.specs.BuildingValue.{intakes};
 ghost use Rattle.build_work.specs.Holding.{all_spools};
 ghost use Rattle.build_work.specs.Working.{handed_over};
 
-use crate::ending::end_spools;
 use building::{Intake, Table, Worker};
+use index_load::end_spools;
 use run_spool::Spool;
 
 /// The workers hand their spools over and give their rings back, and all spools are ended. There is room for both.

@@ -2,15 +2,14 @@ ghost use Rattle.std.specs.Prelude.{◌≡◌, ◌*◌, ◌<◌, ◌≤◌, All,
 ghost use Rattle.keybytes.specs.Pairs.{AreOrdered};
 ghost use Rattle.run_spool.specs.Spools.{AreSorted, all_pairs};
 ghost use Rattle.run_merge.specs.Merging.{all_runs};
+ghost use Rattle.index_load.specs.Columns.{column, other_columns, ended_column};
+ghost use Rattle.index_load.specs.IndexLoad.{AreEachOnce};
 ghost use Rattle.build_work.specs.BuildingValue.{is_unique};
-ghost use Rattle.build_work.specs.Columns.{column, other_columns};
 ghost use Rattle.building.specs.SpoolValue.{spool_value};
-ghost use Rattle.build_work.specs.Holding.{ended_column};
-ghost use Rattle.build_work.specs.Keeping.{AreEachOnce};
 
-use crate::merging::merged_tree;
 use crate::work::Work;
 use catch_up::Built;
+use index_load::merged_tree;
 use keybytes::Fault;
 use run_spool::Spool;
 use std::alloc::Global;

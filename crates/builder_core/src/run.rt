@@ -5,7 +5,7 @@ ghost use Rattle.build_work.specs.Holding.{spools_in};
 ghost use Rattle.build_halves.specs.FullSpools.{WantedPage};
 
 use crate::{Core, Ends, Event, Live, Reply, Table};
-use build_work::end_spools;
+use index_load::end_spools;
 use keybytes::Fault;
 use run_spool::Spool;
 use std::alloc::Global;

@@ -3,6 +3,7 @@ pub mod Holding
 pub mod Keeping
 pub mod ManyPairs
 pub mod PageCopies
+pub mod Places
 pub mod Received
 pub mod Rings
 pub mod SamePairs

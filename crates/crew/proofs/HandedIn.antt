@@ -7,7 +7,8 @@ use Rattle.keybytes.specs.declared.pair.Pair.{Pair}
 use Rattle.spool_ledger.specs.Accounts.{Stake}
 use Rattle.run_spool.specs.Spools.{holds_nothing}
 use Rattle.building.specs.SpoolValue.{SpoolValue, spool_value, stakes_of}
-use Rattle.build_work.proofs.LeftBeside.{at_home, left_seen, stakes_seen}
+use Rattle.index_load.proofs.SpoolsSeen.{stakes_seen}
+use Rattle.build_work.proofs.LeftBeside.{at_home, left_seen}
 use Rattle.build_work.specs.BuildingValue.{BuildingValue}
 use Rattle.build_work.specs.Holding.{all_spools, spools_state}
 use Rattle.crew.specs.Seats.{HasPairsLeft, stakes_beside}

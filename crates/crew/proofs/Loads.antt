@@ -9,7 +9,7 @@ use Rattle.keybytes.specs.declared.fault.Fault.{Fault}
 use Rattle.keybytes.specs.declared.pair.Pair.{Pair}
 use Rattle.building.specs.SpoolValue.{SpoolValue, ended_spool, stakes_of}
 use Rattle.building.specs.WorkerValue.{WorkerValue}
-use Rattle.build_scan.proofs.Places.{at_set}
+use Rattle.building.proofs.Places.{at_set}
 use Rattle.build_work.proofs.OneWorker.{the_work}
 use Rattle.build_work.specs.BuildingValue.{BuildingValue, IndexValue, WorkValue, with_index}
 use Rattle.build_work.specs.Holding.{workers_spools}

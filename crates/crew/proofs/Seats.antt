@@ -5,7 +5,7 @@ use Rattle.std.proofs.lemmas.List.{map-append}
 use Rattle.spool_ledger.specs.Accounts.{Stake}
 use Rattle.building.specs.SpoolValue.{SpoolValue, stakes_of}
 use Rattle.building.specs.WorkerValue.{SameWorker, WorkerValue}
-use Rattle.build_scan.proofs.Places.{as_long, same_at}
+use Rattle.building.proofs.Places.{as_long, same_at}
 use Rattle.build_work.specs.BuildingValue.{BuildingValue}
 use Rattle.build_work.specs.Holding.{all_spools, workers_spools}
 use Rattle.build_work.specs.Lent.{AreBack, IsBack}

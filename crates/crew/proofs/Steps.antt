@@ -21,7 +21,7 @@ use Rattle.build_events.specs.Ranges.{open_range}
 use Rattle.build_events.specs.Verdicts.{accepted, outcomes, verdict_on}
 use Rattle.build_events.specs.Workers.{all_unapplied, unloaded_index}
 use Rattle.build_events.specs.declared.plan.Plan.{Plan}
-use Rattle.build_scan.proofs.Places.{same_at}
+use Rattle.building.proofs.Places.{same_at}
 use Rattle.build_halves.proofs.Starts.{has_counts}
 use Rattle.build_halves.specs.Builds.{LiveValue, StandsBeside, core_state}
 use Rattle.build_halves.specs.Switching.{HandsOver, IsOnlyLookedAt, IsPartOf, KeepsOut, RefusesSwitch}

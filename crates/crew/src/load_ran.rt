@@ -1,4 +1,4 @@
-use build_work::IndexLoad;
+use index_load::IndexLoad;
 use run_spool::Spool;
 use std::snapshot::Snapshot;
 use std::thread::Promise;
@@ -10,7 +10,7 @@ pub(crate) struct LoadRan<S: Spool> {
 }
 
 impl<S: Spool> Promise<IndexLoad<S>> for LoadRan<S> {
-    ghost use Rattle.build_work.specs.IndexLoads.{HasRun};
+    ghost use Rattle.index_load.specs.IndexLoad.{HasRun};
 
     ghost kept_by = { λ promise load. HasRun promise.load.value load };
 }

@@ -2,15 +2,16 @@
 ghost use Rattle.std.specs.Prelude.{◌≡◌, ◌≤◌, ◌+◌, [], List, length, map, IfErr, IfOk, IfSome, OnOk, vec_len, vec_capacity};
 ghost use Rattle.keybytes.specs.declared.fault.Fault.{Fault};
 ghost use Rattle.std.specs.List.{AllZip};
+ghost use Rattle.index_load.specs.IndexLoad.{HasRun, IndexLoadValue};
 ghost use Rattle.build_work.specs.Equipped.{HasRoomFor};
-ghost use Rattle.build_work.specs.IndexLoads.{CanLoadAll, HasLoadedAll, HasRun, IndexLoadValue, LoadsStopped};
+ghost use Rattle.build_work.specs.IndexLoads.{CanLoadAll, HasLoadedAll, LoadsStopped};
 ghost use Rattle.crew.specs.Loading.{AreLoadsOf};
 ghost use Rattle.crew.specs.Seats.{GoesOnWith, stakes_beside};
 
 use crate::load_ran::LoadRan;
 use crate::{Gate, Opened, Point, Table};
-use build_work::IndexLoad;
 use builder_core::{Building, Plan};
+use index_load::IndexLoad;
 use keybytes::Fault;
 use run_spool::Spool;
 use std::alloc::Global;

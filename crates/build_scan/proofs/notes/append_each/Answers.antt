@@ -4,7 +4,7 @@ use Rattle.side_file.specs.SideFileValue.{SideFileValue}
 use Rattle.visibility.specs.declared.change.Change.{Change}
 use Rattle.build_scan.specs.Noting.{HaveAppended}
 use Rattle.build_scan.proofs.Noting.{none_appended, more_appended}
-use Rattle.build_scan.proofs.Places.{as_long, at_index, at_set, kept}
+use Rattle.building.proofs.Places.{as_long, at_index, at_set, kept}
 use Rattle.build_scan.proofs.notes.append_each.Goals as goal
 
 pub loop-change-init : goal.loop-change-init

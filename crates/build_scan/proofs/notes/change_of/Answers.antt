@@ -3,7 +3,7 @@ use Rattle.std.proofs.lemmas.Option.{same_Some}
 use Rattle.visibility.specs.SideEntries.{entries_of_change}
 use Rattle.ready_indexes.specs.Following.{FitsColumns}
 use Rattle.build_scan.specs.SideFiles.{noted}
-use Rattle.build_scan.proofs.Places.{all_at}
+use Rattle.building.proofs.Places.{all_at}
 use Rattle.build_scan.proofs.notes.change_of.Goals as goal
 
 pub key_of-requires : goal.key_of-requires

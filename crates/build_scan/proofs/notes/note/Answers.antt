@@ -3,7 +3,7 @@ use Rattle.std.specs.Prelude.{IfSome}
 use Rattle.side_file.specs.SideFileValue.{SideFileValue}
 use Rattle.build_scan.specs.Noting.{HaveAppended, HaveNoted, OthersStay, sides_used, without_room}
 use Rattle.build_scan.specs.SideFiles.{put_ends}
-use Rattle.build_scan.proofs.Places.{mapped}
+use Rattle.building.proofs.Places.{mapped}
 use Rattle.build_events.specs.CoreState.{BuildState}
 use Rattle.build_scan.proofs.Noting.{all_noted, none_noted, noted_over, others_stay}
 use Rattle.build_scan.proofs.notes.note.Goals as goal

@@ -1,7 +1,7 @@
 use Rattle.std.proofs.Common.{ap, ◌∙◌, arith, inl, inr}
 use Rattle.side_file.specs.SideFileValue.{SideFileValue}
 use Rattle.build_scan.specs.Noting.{without_room}
-use Rattle.build_scan.proofs.Places.{at_set, kept}
+use Rattle.building.proofs.Places.{at_set, kept}
 use Rattle.build_scan.proofs.notes.reserve_each.Goals as goal
 
 pub loop-k-preserved : goal.loop-k-preserved

@@ -2,7 +2,7 @@ use Rattle.std.proofs.Common.{rules, ◌≡◌, ◌∙◌, ℕ, length, refl, ap
 use Rattle.std.proofs.lemmas.List.{length-set}
 use Rattle.side_file.specs.SideFileValue.{SideFileValue}
 use Rattle.build_scan.proofs.Emptied.{AreForgotten, all_forgotten, more_forgotten}
-use Rattle.build_scan.proofs.Places.{kept}
+use Rattle.building.proofs.Places.{kept}
 use Rattle.build_scan.proofs.side_files.reset_all.Goals as goal
 
 pub loop-index-init : goal.loop-index-init

@@ -1,6 +1,6 @@
 use Rattle.std.proofs.Common.{◌≡◌, ◌≤◌, ◌<◌, rules, sym, subst, length}
 use Rattle.std.proofs.Math.Nat.{min-le_right}
-use Rattle.build_scan.proofs.Places.{there_is}
+use Rattle.building.proofs.Places.{there_is}
 use Rattle.build_work.specs.BuildingValue.{WorkValue}
 use Rattle.build_work.proofs.Applying.{can_apply_seen}
 use Rattle.build_tests.proofs.lent.applied_alone.Goals as goal

@@ -1,6 +1,6 @@
 use Rattle.std.proofs.Common.{List, arith}
 use Rattle.building.specs.WorkerValue.{WorkerValue}
-use Rattle.build_scan.proofs.Places.{at_index}
+use Rattle.building.proofs.Places.{at_index}
 use Rattle.build_work.proofs.LentBack.{all_back}
 use Rattle.build_tests.proofs.lent.by_one.Goals as goal
 

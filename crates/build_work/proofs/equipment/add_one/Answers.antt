@@ -5,7 +5,7 @@ use Rattle.building.specs.SpoolValue.{spool_value}
 use Rattle.building.specs.WorkerValue.{WorkerValue}
 use Rattle.build_work.specs.Holding.{workers_spools}
 use Rattle.build_work.proofs.Equipping.{more_lent, next_ring}
-use Rattle.build_scan.proofs.Places.{at_index}
+use Rattle.building.proofs.Places.{at_index}
 use Rattle.build_work.proofs.equipment.add_one.Goals as goal
 
 pub new-requires-clause-ring : goal.new-requires-clause-ring

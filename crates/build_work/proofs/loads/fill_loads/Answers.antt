@@ -2,13 +2,14 @@ use Rattle.std.proofs.Common.{rules, ◌≡◌, ◌∙◌, ℕ, ◌+◌, ◌-◌
 use Rattle.std.specs.List.{slice_get}
 use Rattle.std.proofs.lemmas.List.Elements.{All-pop}
 use Rattle.building.specs.SpoolValue.{spool_value}
+use Rattle.index_load.specs.Columns.{column}
+use Rattle.index_load.specs.IndexLoad.{IsLoadable}
+use Rattle.index_load.proofs.TakenOut.{parted}
 use Rattle.build_work.specs.BuildingValue.{WorkValue}
-use Rattle.build_work.specs.Columns.{column}
 use Rattle.build_work.specs.Equipped.{HasRoomFor}
-use Rattle.build_work.specs.IndexLoads.{IsLoadable, load_at}
+use Rattle.build_work.specs.IndexLoads.{load_at}
 use Rattle.build_work.proofs.LoadsApart.{all_pushed, columns_left, its_column, load_made, once_own, own_values, sorted_own, unique_at}
-use Rattle.build_scan.proofs.Places.{at_index}
-use Rattle.build_work.proofs.TakenOut.{parted}
+use Rattle.building.proofs.Places.{at_index}
 use Rattle.build_work.proofs.loads.fill_loads.Given as given
 use Rattle.build_work.proofs.loads.fill_loads.Goals as goal
 use Rattle.build_work.proofs.loads.fill_loads.Goals.{After-unique-unique}

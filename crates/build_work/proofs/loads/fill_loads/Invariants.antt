@@ -1,7 +1,7 @@
 use Rattle.std.proofs.Common.{◌≡◌, ℕ, ◌+◌, ◌-◌, ◌*◌, ◌<◌, ◌≤◌, All, Some, length, map, vec_capacity}
 use Rattle.std.specs.List.{slice_get}
 use Rattle.building.specs.SpoolValue.{spool_value}
-use Rattle.build_work.specs.Columns.{column}
+use Rattle.index_load.specs.Columns.{column}
 use Rattle.build_work.specs.Equipped.{HasRoomFor}
 use Rattle.build_work.specs.IndexLoads.{load_at}
 use Rattle.build_work.proofs.loads.fill_loads.Given as goal

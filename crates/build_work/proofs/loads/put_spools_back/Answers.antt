@@ -1,10 +1,10 @@
 use Rattle.std.proofs.Common.{◌≡◌, ◌∙◌, ℕ, suc, ◌+◌, ◌-◌, Some, length, map, set, take, drop, ◌++◌, refl, sym, ap, arith}
 use Rattle.std.specs.List.{slice_get}
 use Rattle.building.specs.SpoolValue.{spool_value}
-use Rattle.build_work.specs.Columns.{column}
-use Rattle.build_work.specs.IndexLoads.{IndexLoadValue, without_spools}
+use Rattle.index_load.specs.Columns.{column}
+use Rattle.index_load.specs.IndexLoad.{IndexLoadValue, without_spools}
 use Rattle.build_work.proofs.LoadsApart.{columns_back, one_changed, still_there}
-use Rattle.build_scan.proofs.Places.{at_index, below}
+use Rattle.building.proofs.Places.{at_index, below}
 use Rattle.build_work.proofs.loads.put_spools_back.Goals as goal
 
 pub loop-back-preserved : goal.loop-back-preserved

@@ -1,8 +1,8 @@
 use Rattle.std.proofs.Common.{◌≡◌, ℕ, ◌+◌, ◌-◌, ◌*◌, ◌<◌, ◌≤◌, ◌++◌, Some, length, map, take, drop, vec_capacity}
 use Rattle.std.specs.List.{slice_get}
 use Rattle.building.specs.SpoolValue.{spool_value}
-use Rattle.build_work.specs.Columns.{column}
-use Rattle.build_work.specs.IndexLoads.{IndexLoadValue, without_spools}
+use Rattle.index_load.specs.Columns.{column}
+use Rattle.index_load.specs.IndexLoad.{IndexLoadValue, without_spools}
 use Rattle.build_work.proofs.loads.put_spools_back.Given as goal
 
 abbrev pub invariant-loop-back : goal.invariant-loop-back

@@ -3,7 +3,7 @@ use Rattle.std.proofs.lemmas.List.{length-map, map-append}
 use Rattle.building.specs.SpoolValue.{SpoolValue, spool_value}
 use Rattle.building.specs.WorkerValue.{WorkerValue}
 use Rattle.build_work.specs.Holding.{all_spools}
-use Rattle.build_scan.proofs.Places.{at_index}
+use Rattle.building.proofs.Places.{at_index}
 use Rattle.build_work.proofs.BroughtHome.{all_home, moved_home, one_more, others, room_for}
 use Rattle.build_work.proofs.returning.bring_home.Goals as goal
 

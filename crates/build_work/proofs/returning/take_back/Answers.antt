@@ -1,7 +1,7 @@
 use Rattle.std.proofs.Common.{◌∙◌, map, ap}
 use Rattle.building.specs.SpoolValue.{SpoolValue}
+use Rattle.index_load.proofs.SpoolsSeen.{stakes_seen}
 use Rattle.build_work.proofs.BroughtHome.{rings_kept}
-use Rattle.build_work.proofs.LeftBeside.{stakes_seen}
 use Rattle.build_work.proofs.returning.take_back.Goals as goal
 
 pub returns-clause-idle : goal.returns-clause-idle

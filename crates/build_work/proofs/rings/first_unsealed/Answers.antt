@@ -4,7 +4,7 @@ use Rattle.building.specs.declared.copied.Copied.{Copied}
 use Rattle.build_work.specs.Rings.{all_sent, unseen}
 use Rattle.build_work.proofs.Looks.{at_looked, looked_again, first_looked, same_rings, same_sent, sealed_more}
 use Rattle.build_scan.proofs.LookedEnds.{all_unlooked}
-use Rattle.build_scan.proofs.Places.{as_long, below}
+use Rattle.building.proofs.Places.{as_long, below}
 use Rattle.build_work.proofs.rings.first_unsealed.Goals as goal
 
 pub loop-worker-init : goal.loop-worker-init

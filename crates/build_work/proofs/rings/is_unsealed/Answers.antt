@@ -5,7 +5,7 @@ use Rattle.std.proofs.lemmas.Option.{get_or_from_slice_get}
 use Rattle.side_file.specs.Ends.{PutEnd}
 use Rattle.building.specs.WorkerValue.{WorkerValue}
 use Rattle.building.specs.declared.copied.Copied.{Copied}
-use Rattle.build_scan.proofs.Places.{at_map}
+use Rattle.building.proofs.Places.{at_map}
 use Rattle.build_work.proofs.rings.is_unsealed.Goals as goal
 
 pub returns-then-waiting-gt0-clause-seen : goal.returns-then-waiting-gt0-clause-seen

@@ -7,7 +7,7 @@ use Rattle.building.specs.Work.{at_start}
 use Rattle.building.specs.IntakeValue.{IntakeValue}
 use Rattle.building.specs.declared.copied.Copied.{Copied}
 use Rattle.build_work.specs.Rings.{all_free, begun_on}
-use Rattle.build_scan.proofs.Places.{kept, both_at, as_long}
+use Rattle.building.proofs.Places.{kept, both_at, as_long}
 use Rattle.build_work.proofs.rings.restart_all.Goals as goal
 
 abbrev IsFree : PutEnd Copied → Type 0

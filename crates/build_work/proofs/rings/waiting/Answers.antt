@@ -7,7 +7,7 @@ use Rattle.building.specs.WorkerValue.{WorkerValue}
 use Rattle.building.specs.declared.copied.Copied.{Copied}
 use Rattle.build_work.specs.Rings.{unseen}
 use Rattle.build_scan.proofs.LookedEnds.{all_unlooked, one_looked}
-use Rattle.build_scan.proofs.Places.{at_index, kept, here_set, map_at}
+use Rattle.building.proofs.Places.{at_index, kept, here_set, map_at}
 use Rattle.build_work.proofs.rings.waiting.Goals as goal
 
 pub waiting-requires : goal.waiting-requires

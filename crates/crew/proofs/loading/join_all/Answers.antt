@@ -2,7 +2,7 @@ use Rattle.std.proofs.Common.{◌∙◌, ◌∷◌, ◌++◌, [], List, append_a
 use Rattle.std.proofs.lemmas.List.{nil_from_length}
 use Rattle.std.specs.List.{AllZip}
 use Rattle.std.specs.Vec.Iter.{into_iter_items}
-use Rattle.build_work.specs.IndexLoads.{HasRun, IndexLoadValue}
+use Rattle.index_load.specs.IndexLoad.{HasRun, IndexLoadValue}
 use Rattle.crew.proofs.Placewise.{zip_append}
 use Rattle.crew.proofs.loading.join_all.Goals as goal
 

@@ -1,7 +1,7 @@
 use Rattle.std.proofs.Common.{◌≡◌, ◌++◌, ◌+◌, List, length, map, vec_len, vec_capacity}
 use Rattle.std.specs.List.{AllZip}
 use Rattle.std.specs.Vec.Iter.{into_iter_items}
-use Rattle.build_work.specs.IndexLoads.{HasRun, IndexLoadValue}
+use Rattle.index_load.specs.IndexLoad.{HasRun, IndexLoadValue}
 use Rattle.crew.proofs.loading.join_all.Given as goal
 
 abbrev pub invariant-loop-handle : goal.invariant-loop-handle

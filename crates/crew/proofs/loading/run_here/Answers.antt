@@ -1,6 +1,6 @@
 use Rattle.std.proofs.Common.{subst, sym, arith}
-use Rattle.build_work.specs.IndexLoads.{HasRun, IndexLoadValue}
-use Rattle.build_scan.proofs.Places.{at_index}
+use Rattle.building.proofs.Places.{at_index}
+use Rattle.index_load.specs.IndexLoad.{HasRun, IndexLoadValue}
 use Rattle.crew.proofs.Placewise.{zip_more}
 use Rattle.crew.proofs.loading.run_here.Goals as goal
 

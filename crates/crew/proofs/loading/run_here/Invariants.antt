@@ -1,6 +1,6 @@
 use Rattle.std.proofs.Common.{◌≡◌, drop, take}
 use Rattle.std.specs.List.{AllZip}
-use Rattle.build_work.specs.IndexLoads.{HasRun}
+use Rattle.index_load.specs.IndexLoad.{HasRun}
 use Rattle.crew.proofs.loading.run_here.Given as goal
 
 abbrev pub invariant-loop-load : goal.invariant-loop-load

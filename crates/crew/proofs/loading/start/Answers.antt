@@ -2,8 +2,8 @@ use mathlib.Core.List.{[], ◌∷◌}
 use denote.Param.{param}
 use denote.Param.Send.{IsSend, param_send}
 use denote.Struct.Tuple.{TupleAt}
-use Rattle.build_work.specs.contracts.index_load.IndexLoad as IndexLoad
-use Rattle.build_work.proofs.Crosses.{load_send}
+use Rattle.index_load.specs.contracts.index_load.IndexLoad as IndexLoad
+use Rattle.index_load.proofs.Crosses.{load_send}
 use Rattle.crew.proofs.Crosses.{captured_send}
 use Rattle.crew.proofs.loading.start.Lts as lts
 use Rattle.crew.proofs.loading.start.Goals as goal

@@ -6,7 +6,7 @@ use Rattle.build_scan.specs.TableBuilds.{BuildFollows}
 use Rattle.build_work.specs.WorkOn.{WorkMatches}
 use Rattle.build_halves.specs.Rings.{PagesFollow}
 use Rattle.build_scan.specs.SideFiles.{SidesFollow}
-use Rattle.build_scan.proofs.Places.{as_long}
+use Rattle.building.proofs.Places.{as_long}
 use Rattle.build_scan.proofs.Performed.{schema_is, follows_on, sides_follow_on, fits_build, few_specs}
 use Rattle.build_halves.proofs.Performed.{fits_each, pages_on, works_on}
 use Rattle.build_scan.proofs.SideKept.{sides_stay}

@@ -8,7 +8,7 @@ use Rattle.building.specs.WorkerValue.{WorkerValue}
 use Rattle.build_work.specs.BuildingValue.{BuildingValue, WorkValue}
 use Rattle.build_work.specs.Keeping.{KeepsWork}
 use Rattle.build_work.proofs.Kept.{fresh_kept}
-use Rattle.build_scan.proofs.Places.{all_mapped}
+use Rattle.building.proofs.Places.{all_mapped}
 use Rattle.build_work.proofs.beside.Building.begin.Goals as goal
 
 pub invariant_of-self : goal.invariant_of-self

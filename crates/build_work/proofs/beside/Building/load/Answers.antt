@@ -5,15 +5,16 @@ use Rattle.std.proofs.lemmas.List.{length-map}
 use Rattle.keybytes.specs.declared.pair.Pair.{Pair}
 use Rattle.run_spool.specs.Spools.{AreSorted, all_pairs}
 use Rattle.run_merge.specs.Merging.{all_runs}
+use Rattle.index_load.specs.Columns.{column}
+use Rattle.index_load.specs.IndexLoad.{AreEachOnce}
+use Rattle.index_load.proofs.SpoolsSeen.{column_seen, same_seen, others_seen}
 use Rattle.build_work.specs.BuildingValue.{BuildingValue, WorkValue, IsUnloaded, is_unique}
 use Rattle.std.specs.List.{slice_get}
-use Rattle.build_work.specs.Columns.{column}
 use Rattle.build_work.specs.Keeping.{KeepsWork}
 use Rattle.building.specs.SpoolValue.{SpoolValue, spool_value}
 use Rattle.building.specs.TakeEnd.{take_end}
-use Rattle.build_work.specs.Keeping.{AreEachOnce}
-use Rattle.build_work.proofs.LeftBeside.{column_seen, same_seen, load_stopped, others_seen, stakes_beside, left_sorted, can_load, is_unloaded}
-use Rattle.build_scan.proofs.Places.{there_is}
+use Rattle.build_work.proofs.LeftBeside.{load_stopped, stakes_beside, left_sorted, can_load, is_unloaded}
+use Rattle.building.proofs.Places.{there_is}
 use Rattle.build_work.specs.Holding.{all_spools}
 use Rattle.build_work.proofs.LoadedKept.{loaded_kept}
 use Rattle.build_work.proofs.Stakes.{as_many}

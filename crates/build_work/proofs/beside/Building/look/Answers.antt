@@ -1,6 +1,6 @@
 use Rattle.std.proofs.Common.{◌<◌, List, length, ap, arith}
 use Rattle.building.specs.WorkerValue.{WorkerValue}
-use Rattle.build_scan.proofs.Places.{at_index}
+use Rattle.building.proofs.Places.{at_index}
 use Rattle.build_work.specs.BuildingValue.{BuildingValue}
 use Rattle.build_work.proofs.Looked.{beside_looked, unseen_after}
 use Rattle.build_work.proofs.Stepping.{looked_step}

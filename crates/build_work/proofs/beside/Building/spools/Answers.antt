@@ -1,8 +1,9 @@
 use Rattle.std.proofs.Common.{◌∙◌, ap, map, sym}
+use Rattle.index_load.proofs.SpoolsSeen.{stakes_seen}
 use Rattle.build_work.specs.BuildingValue.{BuildingValue}
 use Rattle.build_work.specs.Holding.{all_spools}
 use Rattle.building.specs.SpoolValue.{SpoolValue, spool_value}
-use Rattle.build_work.proofs.LeftBeside.{at_home, stakes_seen}
+use Rattle.build_work.proofs.LeftBeside.{at_home}
 use Rattle.build_work.proofs.beside.Building.spools.Goals as goal
 
 pub returns-clause-stakes : goal.returns-clause-stakes

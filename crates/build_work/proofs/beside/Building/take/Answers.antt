@@ -4,7 +4,7 @@ use Rattle.building.specs.TakeEnd.{take_end}
 use Rattle.building.specs.WorkerValue.{WorkerValue}
 use Rattle.build_work.specs.BuildingValue.{BuildingValue, WorkValue}
 use Rattle.build_work.specs.Keeping.{KeepsWork}
-use Rattle.build_scan.proofs.Places.{at_index}
+use Rattle.building.proofs.Places.{at_index}
 use Rattle.build_work.proofs.Kept.{turn_kept}
 use Rattle.build_work.proofs.Stepping.{as_many_after, done_step, ends_stay, same_after, stopped_step}
 use Rattle.build_work.proofs.beside.Building.take.Goals as goal

@@ -3,9 +3,10 @@ use Rattle.std.proofs.lemmas.List.{length-map}
 use Rattle.keybytes.specs.declared.fault.Fault.TheVariants.{Memory}
 use Rattle.building.specs.SpoolValue.{SpoolValue, spool_value}
 use Rattle.building.specs.TakeEnd.{take_end}
+use Rattle.index_load.specs.IndexLoad.{IndexLoadValue, without_spools}
 use Rattle.build_work.specs.BuildingValue.{BuildingValue, IndexValue}
 use Rattle.build_work.specs.Holding.{all_spools}
-use Rattle.build_work.specs.IndexLoads.{AreHome, HasLoadedAll, IndexLoadValue, LoadsStopped, index_from, without_spools}
+use Rattle.build_work.specs.IndexLoads.{AreHome, HasLoadedAll, LoadsStopped, index_from}
 use Rattle.build_work.specs.Keeping.{KeepsWork}
 use Rattle.build_work.proofs.LoadsApart.{lent_whole}
 use Rattle.build_work.proofs.LoadsLent.{after_many, left_there, loaded, others_there, own_back, same_indexes, same_room, spools_fit, stopped, wants, work_kept}

@@ -1,7 +1,7 @@
 use Rattle.std.proofs.Common.{◌≡◌, List, length, ap, sym, arith}
 use Rattle.std.specs.Prelude.{not, is_some}
 use Rattle.build_work.specs.BuildingValue.{WorkValue, IndexValue}
-use Rattle.build_scan.proofs.Places.{below, there_is}
+use Rattle.building.proofs.Places.{below, there_is}
 use Rattle.build_work.proofs.Positions.{first_here, none_here}
 use Rattle.build_work.proofs.work.Work.first_unloaded.Goals as goal
 

@@ -20,7 +20,7 @@ use Rattle.build_events.specs.Workers.{unfed, fed_to}
 use Rattle.build_scan.proofs.Feeding.{left_unfed, fed_countable, build_fed, sides_fed}
 use Rattle.build_halves.proofs.Feeding.{follow_fed, work_fed}
 use Rattle.build_scan.proofs.OwnEntries.{sent_at, sent_fed, sent_set}
-use Rattle.build_scan.proofs.Places.{at_index, map_at, there_is}
+use Rattle.building.proofs.Places.{at_index, map_at, there_is}
 use Rattle.build_halves.proofs.SideEnds.{put_ends_stay, eight_sides}
 use Rattle.ready_indexes.specs.Following.{indexes_of}
 use Rattle.live_table.proofs.live.Live.feed.Given as given

@@ -6,7 +6,7 @@ use Rattle.building.specs.declared.copied.Copied.{Copied}
 use Rattle.build_work.specs.Rings.{unseen}
 use Rattle.build_work.proofs.Looks.{same_rings}
 use Rattle.build_halves.proofs.Looked.{follow_looked, of_builds_looked, put_ends_looked}
-use Rattle.build_scan.proofs.Places.{as_long, there_is}
+use Rattle.building.proofs.Places.{as_long, there_is}
 use Rattle.live_table.proofs.live.Live.look.Goals as goal
 
 pub waiting-requires-clause-rings : goal.waiting-requires-clause-rings

@@ -7,7 +7,7 @@ use Rattle.side_file.specs.declared.entry.Entry.{Entry}
 use Rattle.build_scan.specs.SideFiles.{AreFedEntries, put_ends}
 use Rattle.build_scan.proofs.Feeding.{fed_if_running}
 use Rattle.build_scan.proofs.OwnEntries.{sent_at, sent_set}
-use Rattle.build_scan.proofs.Places.{at_index, here_set, map_at}
+use Rattle.building.proofs.Places.{at_index, here_set, map_at}
 use Rattle.build_scan.proofs.SideEnds.{sides_looked}
 use Rattle.build_halves.proofs.SideEnds.{put_ends_stay, eight_sides, side_is_looked, sees_side}
 use Rattle.live_table.proofs.live.Live.look_at_side.Goals as goal

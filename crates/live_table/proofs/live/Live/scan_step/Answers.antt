@@ -19,7 +19,7 @@ use Rattle.build_events.specs.Ranges.{next_page}
 use Rattle.build_scan.specs.SideFiles.{HaveEntries, SidesFollow, put_ends}
 use Rattle.build_events.specs.BuildSteps.{OnBuild}
 use Rattle.build_scan.proofs.LookedEnds.{all_unlooked, one_looked}
-use Rattle.build_scan.proofs.Places.{here_set, map_at}
+use Rattle.building.proofs.Places.{here_set, map_at}
 use Rattle.build_scan.proofs.SideKept.{sides_next}
 use Rattle.build_scan.proofs.TableBuilds.{scanned_next}
 use Rattle.build_halves.proofs.TableBuilds.{work_of_next}

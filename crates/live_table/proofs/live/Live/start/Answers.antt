@@ -20,7 +20,7 @@ use Rattle.building.specs.WorkerValue.{WorkerValue}
 use Rattle.run_maker.specs.Making.{MakerValue}
 use Rattle.build_work.specs.declared.equipment.Equipment.{Equipment}
 use Rattle.build_work.specs.Rings.{all_sent, all_free, AreOfBuilds}
-use Rattle.build_scan.proofs.Places.{as_long}
+use Rattle.building.proofs.Places.{as_long}
 use Rattle.build_scan.specs.SideFiles.{put_ends}
 use Rattle.build_work.proofs.LeftBeside.{at_home}
 use Rattle.build_work.proofs.Beginning.{all_first, all_fresh, as_many_fit, fresh_makers, left_empty, left_for, left_many, their_makers}

@@ -7,7 +7,7 @@ use Rattle.build_work.specs.BuildingValue.{BuildingValue}
 use Rattle.build_halves.proofs.Looked.{ends_looked, state_looked, runs_looked}
 use Rattle.build_halves.proofs.Takes.{put_of}
 use Rattle.build_halves.proofs.Turns.{refused_after, turn_after, works_after_turn}
-use Rattle.build_scan.proofs.Places.{below}
+use Rattle.building.proofs.Places.{below}
 use Rattle.live_table.proofs.live.Live.take.Goals as goal
 
 pub take-requires-clause-there : goal.take-requires-clause-there

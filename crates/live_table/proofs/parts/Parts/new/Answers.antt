@@ -8,7 +8,7 @@ use Rattle.building.specs.IntakeValue.{IntakeValue}
 use Rattle.building.specs.declared.copied.Copied.{Copied}
 use Rattle.std.specs.Prelude.{map}
 use Rattle.build_scan.specs.SideFiles.{put_ends}
-use Rattle.build_scan.proofs.Places.{as_long}
+use Rattle.building.proofs.Places.{as_long}
 use Rattle.live_table.proofs.parts.Parts.new.Goals as goal
 
 pub invariant_of-result : goal.invariant_of-result
