@@ -129,9 +129,9 @@ impl<S: Spool> IndexLoad<S> {
             build: _,
             unique: _,
             spools: _,
-            built,
+            built: index,
             fault: _,
         } = self;
-        built
+        index
     }
 }
