@@ -7,14 +7,13 @@ use Rattle.spool_ledger.specs.Accounts.{Stake}
 use Rattle.keybytes.specs.declared.fault.Fault.{Fault}
 use Rattle.keybytes.specs.declared.pair.Pair.{Pair}
 use Rattle.run_spool.specs.Spools.{AreSorted, holds_nothing}
-use Rattle.building.specs.SpoolValue.{SpoolValue, pairs_in, runs_of, spool_value, stakes_of, ended_spool}
+use Rattle.building.specs.SpoolValue.{SpoolValue, pairs_in, runs_of, spool_value, stakes_of}
 use Rattle.building.specs.TakeEnd.{TakeEnd}
 use Rattle.building.specs.WorkerValue.{WorkerValue}
 use Rattle.side_file.specs.declared.entry.Entry.{Entry}
 use Rattle.catch_up.specs.Built.{BuiltValue}
 use Rattle.index_load.specs.Columns.{column, other_columns, ended_column}
 use Rattle.index_load.specs.IndexLoad.{AreEachOnce}
-use Rattle.index_load.proofs.Columns.{all_but_map, every_map}
 use Rattle.build_work.specs.BuildingValue.{BuildingValue, WorkValue, IndexValue, IsUnloaded, with_index, is_unique}
 use Rattle.build_work.specs.Holding.{all_spools, workers_spools, spools_state, spools_in}
 use Rattle.build_work.specs.Keeping.{IsKept, KeepsWork}
@@ -22,7 +21,6 @@ use Rattle.build_work.specs.Working.{CanLoad, LoadStopped}
 use Rattle.build_work.proofs.OneWorker.{the_work}
 use Rattle.std.proofs.lemmas.Bool.{and_parts, eqb-true}
 use Rattle.std.proofs.lemmas.List.{map-append, nil_from_length}
-use Rattle.std.proofs.lemmas.List.Elements.{All-head, All-tail}
 use Rattle.std.proofs.lemmas.Option.{same_Some}
 use Rattle.building.proofs.Places.{mapped}
 

@@ -8,11 +8,11 @@ use Rattle.spool_ledger.specs.Accounts.{Stake}
 use Rattle.run_spool.specs.Spools.{AreSorted, holds_nothing}
 use Rattle.run_maker.specs.Making.{MakerValue, spec_at}
 use Rattle.building.specs.Holding.{HoldsPairs}
-use Rattle.building.specs.SpoolValue.{SpoolValue, ended_spool, runs_of}
+use Rattle.building.specs.SpoolValue.{SpoolValue, runs_of}
 use Rattle.building.specs.Taking.{received_images}
 use Rattle.building.specs.WorkerValue.{WorkerValue}
 use Rattle.build_events.specs.CoreState.{SpoolsState}
-use Rattle.index_load.specs.Columns.{column, with_every}
+use Rattle.index_load.specs.Columns.{column}
 
 -- the spools that the workers have, worker by worker
 abbrev pub workers_spools : List WorkerValue → List SpoolValue

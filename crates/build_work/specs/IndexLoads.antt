@@ -1,5 +1,5 @@
 -- Loads of a build's indexes, each by itself.
-use Rattle.std.specs.Prelude.{◌≡◌, ◌⊎◌, ℕ, suc, ◌*◌, ◌<◌, Bool, is_some, List, [], ◌∷◌, length, map, true, Option, Some, None, IfSome, IsPermutation}
+use Rattle.std.specs.Prelude.{◌≡◌, ℕ, suc, ◌*◌, ◌<◌, List, [], ◌∷◌, length, map, true, Option, Some, None, IsPermutation}
 use Rattle.std.specs.List.{All, slice_get}
 use Rattle.std.specs.Option.{option_map}
 use Rattle.keybytes.specs.Faults.{first_cause}
@@ -7,11 +7,9 @@ use Rattle.keybytes.specs.Pairs.{AreOrdered}
 use Rattle.keybytes.specs.declared.fault.Fault.{Fault}
 use Rattle.keybytes.specs.declared.fault.Fault.TheVariants.{Memory}
 use Rattle.keybytes.specs.declared.pair.Pair.{Pair}
-use Rattle.run_spool.specs.Spools.{AreSorted}
-use Rattle.building.specs.SpoolValue.{SpoolValue, ended_spool, pairs_in, runs_of, stakes_of}
+use Rattle.building.specs.SpoolValue.{SpoolValue, ended_spool, pairs_in, stakes_of}
 use Rattle.catch_up.specs.Built.{BuiltValue}
 use Rattle.index_load.specs.Columns.{column}
-use Rattle.index_load.specs.IndexLoad.{AreEachOnce}
 use Rattle.build_work.specs.BuildingValue.{BuildingValue, IndexValue, WorkValue, is_unique, with_pairs}
 use Rattle.build_work.specs.Keeping.{IsKept}
 

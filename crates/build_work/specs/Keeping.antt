@@ -2,10 +2,9 @@
 -- and what the rings of its side-files gave is applied to these trees.
 use Rattle.std.specs.Prelude.{◌≡◌, ℕ, ◌<◌, true, false, List, [], get_or, flat_map, length, Bool, Option, Some, None}
 use Rattle.std.specs.FinMap.{keys}
-use Rattle.std.specs.List.{All, IsDistinct, slice_get}
-use Rattle.std.specs.Ordering.{eq_by_cmp}
+use Rattle.std.specs.List.{All, slice_get}
 use Rattle.keybytes.specs.Keys.{KeySpecValue}
-use Rattle.keybytes.specs.Pairs.{pair_cmp, set_of}
+use Rattle.keybytes.specs.Pairs.{set_of}
 use Rattle.keybytes.specs.declared.pair.Pair.{Pair}
 use Rattle.side_file.specs.Ends.{RingId}
 use Rattle.side_file.specs.declared.entry.Entry.{Entry}

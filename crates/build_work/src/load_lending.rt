@@ -18,9 +18,8 @@ use std::snapshot::Snapshot;
 
 /// A [`Building`] whose loads are lent, each with its spools.
 ///
-/// Meanwhile nothing can be asked of it. It is no `Drop`, so nobody lets it go unless he forgets it, with the ends of rings that it has. Where all loads
-/// are back, in the order in which they were lent, [`WithoutLoads::gather`] makes a [`Building`] of it again, also where some were refused. Where one
-/// doesn't come back, the build can only be given up: [`WithoutLoads::give_up`] answers it without its spools.
+/// Meanwhile nothing can be asked of it. It is no `Drop`, so nobody lets it go unless he forgets it, with the ends of rings that it has. Once all loads
+/// are back, in the order in which they were lent, [`WithoutLoads::gather`] makes a [`Building`] of it again, also where some were refused.
 pub struct WithoutLoads<S: Spool, T: Table> {
     /// The same without its spools, and spoiled.
     building: Building<S, T>,
@@ -146,18 +145,5 @@ impl<S: Spool, T: Table> WithoutLoads<S, T> {
         } = self;
         let told = building.take_loads_back(was, lent, loads, room);
         (building, told)
-    }
-
-    /// The build without its loads, whose spools are lost: it is spoiled. Takes no memory.
-    pub fn give_up(self) -> Building<S, T>
-        ensures { result ≡ without_loads self.was }
-    {
-        let WithoutLoads {
-            building: spoiled,
-            room: _,
-            was: _,
-            lent: _,
-        } = self;
-        spoiled
     }
 }

@@ -2,7 +2,7 @@ ghost use Rattle.std.specs.Prelude.{◌≡◌, All, None, length, map};
 ghost use Rattle.std.specs.Option.{option_map};
 ghost use Rattle.run_spool.specs.Spools.{AreSorted, all_pairs};
 ghost use Rattle.run_merge.specs.Merging.{all_runs};
-ghost use Rattle.building.specs.SpoolValue.{spool_value, stakes_of};
+ghost use Rattle.building.specs.SpoolValue.{spool_value};
 ghost use Rattle.index_load.specs.IndexLoad.{HasRun, without_spools, AreEachOnce};
 
 use crate::merging::built_of;
@@ -38,7 +38,7 @@ impl<S: Spool> Drop for IndexLoad<S> {
 }
 
 impl<S: Spool> Model for IndexLoad<S> {
-    ghost use Rattle.std.specs.Prelude.{◌≡◌, None, IfSome, map};
+    ghost use Rattle.std.specs.Prelude.{◌≡◌, None, map};
     ghost use Rattle.building.specs.SpoolValue.{spool_value};
     ghost use Rattle.keybytes.specs.declared.fault.Fault.{Fault};
     ghost use Rattle.index_load.specs.IndexLoad.{IndexLoadValue, IsLoadable};

@@ -1,5 +1,5 @@
 //! The pairs of an index's spools in a tree.
-ghost use Rattle.std.specs.Prelude.{◌≡◌, ℕ, ◌+◌, ◌*◌, ◌<◌, ◌≤◌, [], All, map, length, IfOk, IfErr, OnOk, OnErr, IsPermutation, vec_len, vec_capacity};
+ghost use Rattle.std.specs.Prelude.{◌≡◌, ◌+◌, ◌*◌, ◌<◌, ◌≤◌, [], All, map, length, IfOk, IfErr, OnOk, OnErr, IsPermutation, vec_capacity};
 ghost use Rattle.keybytes.specs.Pairs.{AreOrdered};
 ghost use Rattle.run_spool.specs.Spools.{AreSorted, all_pairs};
 ghost use Rattle.run_merge.specs.Merging.{all_runs};

@@ -1,4 +1,4 @@
-use Rattle.std.proofs.Common.{◌≡◌, ◌≤◌, ◌<◌, rules, sym, subst, length}
+use Rattle.std.proofs.Common.{◌≤◌, ◌<◌, rules, sym, subst, length}
 use Rattle.std.proofs.Math.Nat.{min-le_right}
 use Rattle.building.proofs.Places.{there_is}
 use Rattle.build_work.specs.BuildingValue.{WorkValue}
