@@ -12,8 +12,8 @@ use Rattle.build_work.proofs.OneWorker.{the_work}
 use Rattle.build_work.specs.BuildingValue.{BuildingValue, WorkValue}
 use Rattle.build_work.specs.Holding.{all_spools}
 use Rattle.build_work.specs.Lent.{lowest_fault}
-use Rattle.crew.specs.Seats.{GoesOnWith, StillScans, seats_of, stakes_beside}
-use Rattle.crew.proofs.Seats.{same_stakes}
+use Rattle.crew.specs.Places.{GoesOnWith, StillScans, places_of, stakes_beside}
+use Rattle.crew.proofs.Places.{same_stakes}
 use Rattle.crew.proofs.Steps.{goes_with}
 
 none_stopped : (workers : List WorkerValue) → All (λ (w : WorkerValue). w.fault ≡ None) workers → lowest_fault workers ≡ None
@@ -28,7 +28,7 @@ with_back building back w = record building { workers = back; work = Some (recor
 
 module _
     (building rest new : BuildingValue) (lent back : List WorkerValue) (lent_is : lent ≡ building.workers) (rest_is : rest ≡ record building { workers = [] })
-    (same : seats_of back ≡ seats_of lent) (gathers : IfSome rest.work (λ w. new ≡ with_back rest back w)) (w : WorkValue) (runs : building.work ≡ Some w) where
+    (same : places_of back ≡ places_of lent) (gathers : IfSome rest.work (λ w. new ≡ with_back rest back w)) (w : WorkValue) (runs : building.work ≡ Some w) where
   left : new ≡ with_back building back w
   left =
       subst (λ (o : Option WorkValue). IfSome o (λ x. new ≡ with_back rest back x)) (ap (λ (b : BuildingValue). b.work) rest_is ∙ runs) gathers

@@ -11,7 +11,7 @@ use Rattle.index_load.proofs.SpoolsSeen.{stakes_seen}
 use Rattle.build_work.proofs.LeftBeside.{at_home, left_seen}
 use Rattle.build_work.specs.BuildingValue.{BuildingValue}
 use Rattle.build_work.specs.Holding.{all_spools, spools_state}
-use Rattle.crew.specs.Seats.{HasPairsLeft, stakes_beside}
+use Rattle.crew.specs.Places.{HasPairsLeft, stakes_beside}
 
 module _ {S : Type 0} (runs : S → List (List Pair)) (open_run : S → List Pair) (stake : S → Option Stake) where
   -- what stands beside a table has them, and no workers

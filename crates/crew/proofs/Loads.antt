@@ -18,7 +18,7 @@ use Rattle.build_work.specs.Keeping.{KeepsWork}
 use Rattle.build_work.specs.Working.{HasApplied, HasSeenEntries}
 use Rattle.build_halves.specs.Builds.{LiveValue}
 use Rattle.build_halves.specs.Switching.{HandsOver}
-use Rattle.crew.specs.Seats.{GoesOnWith, stakes_beside}
+use Rattle.crew.specs.Places.{GoesOnWith, stakes_beside}
 use Rattle.crew.proofs.Steps.{goes_same}
 
 -- the same workers, and spools of the same stakes

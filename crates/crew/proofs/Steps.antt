@@ -33,7 +33,7 @@ use Rattle.build_work.specs.Lent.{CanLend}
 use Rattle.build_work.specs.WorkOn.{WorkMatches, IsWorkOfBuild}
 use Rattle.ready_indexes.specs.Indexes.{index_now}
 use Rattle.crew.specs.Reports.{EndsFor, IsOther}
-use Rattle.crew.specs.Seats.{GoesOnWith, stakes_beside}
+use Rattle.crew.specs.Places.{GoesOnWith, stakes_beside}
 use Rattle.crew.proofs.Others.{Holds, ends_all, ends_behind, ends_busy, ends_other, holds_build, holds_first, holds_map, holds_none, other_memory, other_no_build, other_not_loaded, other_not_scanned, other_not_sealed}
 
 -- what holds of the build that runs, and which that is

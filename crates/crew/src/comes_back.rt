@@ -14,7 +14,7 @@ pub(crate) struct ComesBack<S: Spool, T: Opened> {
 impl<S: Spool, T: Opened> Promise<Returned<S, T>> for ComesBack<S, T> {
     ghost use Rattle.std.specs.Prelude.{◌≡◌, IfSome};
     ghost use Rattle.crew.specs.Reports.{IsOther};
-    ghost use Rattle.crew.specs.Seats.{seat_of};
+    ghost use Rattle.crew.specs.Places.{place_of};
 
-    ghost kept_by = { λ promise returned. (seat_of returned.worker ≡ seat_of promise.worker.value) × IfSome returned.fault IsOther };
+    ghost kept_by = { λ promise returned. (place_of returned.worker ≡ place_of promise.worker.value) × IfSome returned.fault IsOther };
 }

@@ -6,7 +6,7 @@ ghost use Rattle.index_load.specs.IndexLoad.{HasRun, IndexLoadValue};
 ghost use Rattle.build_work.specs.Equipped.{HasRoomFor};
 ghost use Rattle.build_work.specs.IndexLoads.{CanLoadAll, HasLoadedAll, LoadsStopped};
 ghost use Rattle.crew.specs.Loading.{AreLoadsOf};
-ghost use Rattle.crew.specs.Seats.{GoesOnWith, stakes_beside};
+ghost use Rattle.crew.specs.Places.{GoesOnWith, stakes_beside};
 
 use crate::load_ran::LoadRan;
 use crate::{Gate, Opened, Point, Table};

@@ -6,7 +6,7 @@ ghost use Rattle.build_work.specs.IndexLoads.{CanLoadAll};
 ghost use Rattle.build_work.specs.Lent.{CanLend};
 ghost use Rattle.ready_indexes.specs.Following.{indexes_of};
 ghost use Rattle.crew.specs.Reports.{EndsFor, IsOther, IsReport, lists_in};
-ghost use Rattle.crew.specs.Seats.{GoesOnWith, HasPairsLeft, StillScans, stakes_beside};
+ghost use Rattle.crew.specs.Places.{GoesOnWith, HasPairsLeft, StillScans, stakes_beside};
 
 use crate::locked::{Locked, copied};
 use crate::{Opened, Progress, Receipt, Report};

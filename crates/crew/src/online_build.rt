@@ -4,7 +4,7 @@ ghost use Rattle.keybytes.specs.Keys.{KeySpecValue};
 ghost use Rattle.keybytes.specs.declared.fault.Fault.{Fault};
 ghost use Rattle.build_work.specs.Lent.{CanLend};
 ghost use Rattle.crew.specs.Reports.{EndsFor, HasUnique, IsOther, IsReport, lists_in};
-ghost use Rattle.crew.specs.Seats.{GoesOnWith, HasPairsLeft, StillScans, stakes_beside};
+ghost use Rattle.crew.specs.Places.{GoesOnWith, HasPairsLeft, StillScans, stakes_beside};
 
 use crate::loading::load_all;
 use crate::scanning::scan_all;

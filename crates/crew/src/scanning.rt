@@ -1,7 +1,7 @@
 //! The scans of a build.
 ghost use Rattle.std.specs.Prelude.{◌≡◌, All, None, IfErr, OnOk};
 ghost use Rattle.crew.specs.Reports.{IsOther};
-ghost use Rattle.crew.specs.Seats.{seats_of};
+ghost use Rattle.crew.specs.Places.{places_of};
 
 use crate::range_queue::RangeQueue;
 use crate::threads::run_all;
@@ -37,7 +37,7 @@ where
     T: Opened + Send + Sync,
     G: Gate + Sync,
     R: Threads + Wait + Sync,
-    ensures back { seats_of result.0.items ≡ seats_of workers.items }
+    ensures back { places_of result.0.items ≡ places_of workers.items }
     ensures fine { OnOk result.1 (All (λ worker. worker.fault ≡ None) result.0.items) }
     ensures other { IfErr result.1 IsOther }
 {
@@ -62,7 +62,7 @@ where
     T: Opened + Send + Sync,
     G: Gate + Sync,
     R: Threads + Wait + Sync,
-    ensures back { seats_of result.0.items ≡ seats_of workers.items }
+    ensures back { places_of result.0.items ≡ places_of workers.items }
     ensures fine { OnOk result.1 (All (λ worker. worker.fault ≡ None) result.0.items) }
     ensures other { IfErr result.1 IsOther }
 {
@@ -83,7 +83,7 @@ fn finish_scan<S: Spool, T: Opened, G: Gate, R: Wait>(
     gate: &G,
     workers: &mut Vec<Worker<S, T>>,
 ) -> Result<(), Fault>
-    ensures back { seats_of workers.new.items ≡ seats_of workers.old.items }
+    ensures back { places_of workers.new.items ≡ places_of workers.old.items }
     ensures fine { OnOk result (All (λ worker. worker.fault ≡ None) workers.new.items) }
     ensures other { IfErr result IsOther }
 {
@@ -100,7 +100,7 @@ fn scan_rest<S: Spool, T: Opened, G: Gate, R: Wait>(
     gate: &G,
     workers: &mut Vec<Worker<S, T>>,
 ) -> Result<(), Fault>
-    ensures back { seats_of workers.new.items ≡ seats_of workers.old.items }
+    ensures back { places_of workers.new.items ≡ places_of workers.old.items }
     ensures other { IfErr result IsOther }
 {
     if workers.is_empty() {
@@ -114,7 +114,7 @@ fn scan_rest<S: Spool, T: Opened, G: Gate, R: Wait>(
 
 /// Closes the runs of all workers.
 fn seal_all<S: Spool, T: Opened>(workers: &mut Vec<Worker<S, T>>) -> Result<(), Fault>
-    ensures back { seats_of workers.new.items ≡ seats_of workers.old.items }
+    ensures back { places_of workers.new.items ≡ places_of workers.old.items }
     ensures fine { OnOk result (All (λ worker. worker.fault ≡ None) workers.new.items) }
     ensures other { IfErr result IsOther }
 {

@@ -1,7 +1,7 @@
 //! The workers of a build in threads of their own.
 ghost use Rattle.std.specs.Prelude.{◌≡◌, ◌≤◌, ◌+◌, ◌++◌, [], map, length, None, Some, IfErr, IfSome, vec_len, vec_capacity};
 ghost use Rattle.crew.specs.Reports.{IsOther};
-ghost use Rattle.crew.specs.Seats.{seat_of, seats_of};
+ghost use Rattle.crew.specs.Places.{place_of, places_of};
 
 use crate::comes_back::ComesBack;
 use crate::range_queue::RangeQueue;
@@ -27,7 +27,7 @@ fn run<S: Spool, T: Opened, G: Gate, R: Threads + Wait + Sync>(
     gate: &G,
     mut worker: Worker<S, T>,
 ) -> Returned<S, T>
-    ensures same { seat_of result.worker ≡ seat_of worker }
+    ensures same { place_of result.worker ≡ place_of worker }
     ensures other { IfSome result.fault IsOther }
 {
     let mut sort = ParSort::new(rt);
@@ -58,7 +58,7 @@ fn start<
 )
     requires none { handles.items ≡ [] }
     requires room { vec_len workers ≤ vec_capacity handles }
-    ensures all { map (λ handle. seat_of handle.promise.worker.value) result.0.items ++ seats_of result.1.items ≡ seats_of workers.items }
+    ensures all { map (λ handle. place_of handle.promise.worker.value) result.0.items ++ places_of result.1.items ≡ places_of workers.items }
     ensures many { vec_len result.0 + vec_len result.1 ≡ vec_len workers }
 {
     while !workers.is_empty() {
@@ -90,7 +90,7 @@ fn join_all<S: Spool, T: Opened, R: Threads>(
 ) -> (Vec<Worker<S, T>>, Result<(), Fault>)
     requires none { back.items ≡ [] }
     requires room { vec_len handles + vec_len rest ≤ vec_capacity back }
-    ensures back { seats_of result.0.items ≡ map (λ handle. seat_of handle.promise.worker.value) handles.items ++ seats_of rest.items }
+    ensures back { places_of result.0.items ≡ map (λ handle. place_of handle.promise.worker.value) handles.items ++ places_of rest.items }
     ensures other { IfErr result.1 IsOther }
 {
     let mut lowest = Ok(());
@@ -143,7 +143,7 @@ pub(crate) fn run_all<
     gate: &'e G,
     workers: Vec<Worker<S, T>>,
 ) -> (Vec<Worker<S, T>>, Result<(), Fault>)
-    ensures back { seats_of result.0.items ≡ seats_of workers.items }
+    ensures back { places_of result.0.items ≡ places_of workers.items }
     ensures other { IfErr result.1 IsOther }
 {
     let Ok(handles) = Vec::with_capacity(alloc, workers.len()) else {
@@ -174,7 +174,7 @@ fn run_reserved<
 ) -> (Vec<Worker<S, T>>, Result<(), Fault>)
     requires none { (handles.items ≡ []) × (back.items ≡ []) }
     requires room { (vec_len workers ≤ vec_capacity handles) × (vec_len workers ≤ vec_capacity back) }
-    ensures back { seats_of result.0.items ≡ seats_of workers.items }
+    ensures back { places_of result.0.items ≡ places_of workers.items }
     ensures other { IfErr result.1 IsOther }
 {
     thread::scope(
@@ -183,7 +183,7 @@ fn run_reserved<
         move |scope| -> (Vec<Worker<S, T>>, Result<(), Fault>)
             requires none { (handles.items ≡ []) × (back.items ≡ []) }
             requires room { (vec_len workers ≤ vec_capacity handles) × (vec_len workers ≤ vec_capacity back) }
-            ensures back { seats_of result.0.items ≡ seats_of workers.items }
+            ensures back { places_of result.0.items ≡ places_of workers.items }
             ensures other { IfErr result.1 IsOther }
         {
             let (handles, rest) = start(scope, rt, alloc, table, queue, gate, workers, handles);

@@ -1,7 +1,7 @@
 //! What a worker does in its thread.
 ghost use Rattle.std.specs.Prelude.{◌≡◌, None, Some, IfErr, IfSome, OnOk};
 ghost use Rattle.crew.specs.Reports.{IsOther};
-ghost use Rattle.crew.specs.Seats.{seat_of};
+ghost use Rattle.crew.specs.Places.{place_of};
 
 use crate::range_queue::RangeQueue;
 use crate::{Gate, Opened, Point, Table};
@@ -23,7 +23,7 @@ fn scan_page<S: Spool, T: Opened, G: Gate, Q: RunSort, R: Wait>(
     range: usize,
     sort: &mut Q,
 ) -> Result<bool, Fault>
-    ensures same { seat_of worker.new ≡ seat_of worker.old }
+    ensures same { place_of worker.new ≡ place_of worker.old }
     ensures other { IfErr result IsOther }
 {
     let image = PageImage::new(alloc)?;
@@ -47,7 +47,7 @@ fn digest<S: Spool, T: Opened, Q: RunSort>(
     worker: &mut Worker<S, T>,
     sort: &mut Q,
 ) -> Result<(), Fault>
-    ensures same { seat_of worker.new ≡ seat_of worker.old }
+    ensures same { place_of worker.new ≡ place_of worker.old }
     ensures other { IfErr result IsOther }
 {
     worker.look();
@@ -60,7 +60,7 @@ pub(crate) fn seal<S: Spool, T: Opened, Q: RunSort>(
     worker: &mut Worker<S, T>,
     sort: &mut Q,
 ) -> Result<(), Fault>
-    ensures same { seat_of worker.new ≡ seat_of worker.old }
+    ensures same { place_of worker.new ≡ place_of worker.old }
     ensures fine { OnOk result (worker.new.fault ≡ None) }
     ensures other { IfErr result IsOther }
 {
@@ -79,7 +79,7 @@ pub(crate) fn scan_range<S: Spool, T: Opened, G: Gate, Q: RunSort, R: Wait>(
     range: usize,
     sort: &mut Q,
 ) -> Result<(), Fault>
-    ensures same { seat_of worker.new ≡ seat_of worker.old }
+    ensures same { place_of worker.new ≡ place_of worker.old }
     ensures other { IfErr result IsOther }
 {
     for _ in rt.forever() {
@@ -100,7 +100,7 @@ pub(crate) fn work<S: Spool, T: Opened, G: Gate, Q: RunSort, R: Wait>(
     worker: &mut Worker<S, T>,
     sort: &mut Q,
 ) -> Result<(), Fault>
-    ensures same { seat_of worker.new ≡ seat_of worker.old }
+    ensures same { place_of worker.new ≡ place_of worker.old }
     ensures other { IfErr result IsOther }
 {
     for _ in rt.forever() {

@@ -3,7 +3,7 @@ use Rattle.std.specs.Prelude.{is_some}
 use Rattle.keybytes.specs.Keys.{KeySpecValue}
 use Rattle.building.proofs.Places.{there_is}
 use Rattle.build_work.proofs.Applying.{can_apply_seen}
-use Rattle.crew.specs.Seats.{GoesOnWith}
+use Rattle.crew.specs.Places.{GoesOnWith}
 use Rattle.crew.proofs.Loads.{applied_goes_on, seen_goes_on}
 use Rattle.crew.proofs.Results.{ok_on}
 use Rattle.crew.proofs.online_build.apply_seen.Goals as goal

@@ -1,7 +1,7 @@
 use Rattle.std.proofs.Common.{◌≡◌}
 use Rattle.keybytes.specs.declared.fault.Fault.TheVariants.{SpoolNotEmpty}
 use Rattle.crew.specs.Reports.{EndsFor}
-use Rattle.crew.specs.Seats.{HasPairsLeft}
+use Rattle.crew.specs.Places.{HasPairsLeft}
 use Rattle.crew.proofs.Results.{err_if}
 use Rattle.crew.proofs.online_build.build_beside.Goals as goal
 

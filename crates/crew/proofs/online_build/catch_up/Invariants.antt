@@ -1,5 +1,5 @@
 use Rattle.std.proofs.Common.{◌≡◌, length}
-use Rattle.crew.specs.Seats.{GoesOnWith, stakes_beside}
+use Rattle.crew.specs.Places.{GoesOnWith, stakes_beside}
 use Rattle.crew.proofs.online_build.catch_up.Given as goal
 
 abbrev pub invariant-loop-index : goal.invariant-loop-index

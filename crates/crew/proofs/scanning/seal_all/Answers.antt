@@ -2,21 +2,21 @@ use Rattle.std.proofs.Common.{◌≡◌, ◌+◌, ◌<◌, ℕ, List, None, ap, 
 use Rattle.std.proofs.lemmas.Bool.{cases_lt}
 use Rattle.building.specs.WorkerValue.{WorkerValue}
 use Rattle.building.proofs.Places.{all_from, at_set, below, kept}
-use Rattle.crew.specs.Seats.{seat_of, seats_of}
+use Rattle.crew.specs.Places.{place_of, places_of}
 use Rattle.crew.proofs.scanning.seal_all.Goals as goal
 
 pub returns-in_err-seal-clause-back : goal.returns-in_err-seal-clause-back
 returns-in_err-seal-clause-back g c =
-    kept seat_of c.loop-number.workers.items (seats_of c.args.workers.now.items) c.loop-number.number c.seal.new.worker c.index_mut.result.now c.loop-number.invariant.back
-    (c.seal.ensures.same ∙ ap seat_of c.index_mut.ensures.value)
+    kept place_of c.loop-number.workers.items (places_of c.args.workers.now.items) c.loop-number.number c.seal.new.worker c.index_mut.result.now c.loop-number.invariant.back
+    (c.seal.ensures.same ∙ ap place_of c.index_mut.ensures.value)
 
 pub loop-number-preserved : goal.loop-number-preserved
 loop-number-preserved g c =
     let workers : List WorkerValue = c.loop-number.workers.items in
     let number = c.loop-number.number in
     record {
-      back = kept seat_of workers (seats_of c.args.workers.now.items) number c.seal.new.worker c.index_mut.result.now c.loop-number.invariant.back
-          (c.seal.ensures.same ∙ ap seat_of c.index_mut.ensures.value);
+      back = kept place_of workers (places_of c.args.workers.now.items) number c.seal.new.worker c.index_mut.result.now c.loop-number.invariant.back
+          (c.seal.ensures.same ∙ ap place_of c.index_mut.ensures.value);
       many = length-set workers number c.seal.new.worker ∙ c.loop-number.invariant.many;
       fine = λ k worker less at. elim (at_set workers number c.seal.new.worker k worker at) [
         | inl this ↦ ap (λ (w : WorkerValue). w.fault) this.1 ∙ c.in_ok-seal.ensures.fine

@@ -9,15 +9,15 @@ use Rattle.build_work.specs.BuildingValue.{BuildingValue, IndexValue, WorkValue}
 use Rattle.build_work.specs.Holding.{all_spools, spools_state}
 
 -- a worker's number, its build with the indexes, whether its spools went to these, and the stakes of its spools
-pub record SeatValue : Type 0 where
+pub record PlaceValue : Type 0 where
   pub number : ℕ
   pub build : ℕ
   pub specs : List KeySpecValue
   pub handed : Bool
   pub stakes : List (Option Stake)
 
-abbrev pub seat_of : WorkerValue → SeatValue
-seat_of worker = record {
+abbrev pub place_of : WorkerValue → PlaceValue
+place_of worker = record {
   number = worker.number;
   build = worker.intake.build;
   specs = worker.maker.specs;
@@ -25,8 +25,8 @@ seat_of worker = record {
   stakes = stakes_of worker.spools;
 }
 
-abbrev pub seats_of : List WorkerValue → List SeatValue
-seats_of workers = map seat_of workers
+abbrev pub places_of : List WorkerValue → List PlaceValue
+places_of workers = map place_of workers
 
 -- the stakes of all spools that stand beside a table, in the order in which they were handed in
 abbrev pub stakes_beside : BuildingValue → List (Option Stake)
