@@ -32,7 +32,7 @@ back_in build specs place old new same back = record {
   own = as_long (λ (s : SpoolValue). s.stake) (λ (s : SpoolValue). s.stake) new.spools old.spools (ap (λ (place : PlaceValue). place.stakes) same) ∙ back.own;
 }
 
--- so are all, in the seats of all
+-- so are all, in the places of all
 pub all_back : (rest : BuildingValue) (old new : List WorkerValue) → places_of new ≡ places_of old → AreBack rest old → AreBack rest new
 all_back rest old new same back = record {
   work = back.work;
@@ -43,7 +43,7 @@ all_back rest old new same back = record {
       back_in back.work.build back.work.specs place it.0 worker (sym it.2) (back.each place it.0 it.1);
 }
 
--- the stakes of what workers have are told by their seats
+-- the stakes of what workers have are told by their places
 stakes_in_places : (workers : List WorkerValue) → stakes_of (workers_spools workers) ≡ flat_map (λ (place : PlaceValue). place.stakes) (places_of workers)
 stakes_in_places [] = refl
 stakes_in_places (w ∷ ws) =
