@@ -1,5 +1,5 @@
 //! A change of a row, noted for each index of the running build: its entries go to the side-files.
-ghost use Rattle.std.specs.Prelude.{◌≡◌, ◌++◌, ◌<◌, ◌≤◌, length, map, slice_get, Some, ℕ, IfSome, IfOk, IfErr, OnOk, OnErr};
+ghost use Rattle.std.specs.Prelude.{◌≡◌, ◌++◌, ◌<◌, ◌≤◌, length, map, slice_get, Some, None, ℕ, IfSome, IfOk, IfErr, IsOk, OnOk, OnErr};
 ghost use Rattle.visibility.specs.SideEntries.{entries_of_change};
 ghost use Rattle.side_file.specs.Entries.{entry_of};
 ghost use Rattle.side_file.specs.SideFileValue.{SideFileValue};
@@ -111,6 +111,7 @@ pub fn note(
     ensures others { OnOk result (OthersStay (sides_used build.now) sides.old.items sides.new.items) }
     ensures unchanged { OnErr result (map without_room sides.new.items ≡ map without_room sides.old.items) }
     ensures ends { put_ends sides.new.items ≡ put_ends sides.old.items }
+    ensures idle { build.now ≡ None → IsOk result × (sides.new.items ≡ sides.old.items) }
     ensures memory { IfErr result (λ fault. fault ≡ Fault.Memory) }
 {
     let Some(build) = build else {

@@ -12,6 +12,7 @@ use side_file::{Entry, SideFile};
 pub fn reset_all(sides: &mut Vec<SideFile>)
     ensures left { All (λ side. (side.left ≡ []) × (side.fed ≡ [])) sides.new.items }
     ensures ends { put_ends sides.new.items ≡ put_ends sides.old.items }
+    ensures room { map (λ side. side.room) sides.new.items ≡ map (λ side. side.room) sides.old.items }
 {
     for index in 0..sides.len() {
         sides[index].reset();
@@ -22,6 +23,7 @@ pub fn reset_all(sides: &mut Vec<SideFile>)
 pub fn empty_all(sides: &mut Vec<SideFile>, ends: &mut Vec<Consumer<Entry>>)
     requires { side_rings (put_ends sides.old.items) ≡ taken_rings (map take_end ends.old.items) }
     ensures left { All (λ side. (side.left ≡ []) × (side.fed ≡ [])) sides.new.items }
+    ensures room { map (λ side. side.room) sides.new.items ≡ map (λ side. side.room) sides.old.items }
     ensures rings { side_rings (put_ends sides.new.items) ≡ side_rings (put_ends sides.old.items) }
     ensures looked { AllZip PutEndLooked (put_ends sides.old.items) (put_ends sides.new.items) }
     ensures drained { map take_end ends.new.items ≡ map drained_end (put_ends sides.new.items) }
@@ -36,6 +38,7 @@ fn empty_side(side: &mut SideFile, end: &mut Consumer<Entry>)
     requires { side.old.end.ring ≡ ring_take end.old }
     ensures left { side.new.left ≡ [] }
     ensures fed { side.new.fed ≡ [] }
+    ensures room { side.new.room ≡ side.old.room }
     ensures ring { side.new.end.ring ≡ side.old.end.ring }
     ensures looked { PutEndLooked side.old.end side.new.end }
     ensures drained { take_end end.new ≡ drained_end side.new.end }

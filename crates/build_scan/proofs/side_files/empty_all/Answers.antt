@@ -5,6 +5,7 @@ use Rattle.side_file.specs.Ends.{PutEnd}
 use Rattle.side_file.specs.SideFileValue.{SideFileValue}
 use Rattle.side_file.specs.declared.entry.Entry.{Entry}
 use Rattle.building.specs.TakeEnd.{PutEndLooked, TakeEnd, take_end}
+use Rattle.building.proofs.Places.{kept}
 use Rattle.build_scan.specs.SideFiles.{taken_rings, put_ends}
 use Rattle.build_scan.proofs.Emptied.{IsEmptied, AreEmptied, more_emptied, all_emptied, all_drained}
 use Rattle.build_scan.proofs.LookedEnds.{all_unlooked, one_looked}
@@ -14,6 +15,7 @@ use Rattle.build_scan.proofs.side_files.empty_all.Goals as goal
 pub loop-index-init : goal.loop-index-init
 loop-index-init c = record {
   emptied = λ k side end less at there. absurd (omega (arith, less));
+  room = refl;
   rings = refl;
   looked = all_unlooked (put_ends c.args.sides.now.items);
   other_rings = c.requires;
@@ -50,6 +52,8 @@ loop-index-preserved c =
     record {
       emptied = subst (AreEmptied (index + 1) (set sides index side)) (sym (map-set take_end ends index end))
           (more_emptied index sides (map take_end ends) side (take_end end) c.loop-index.invariant.emptied emptied);
+      room = kept (λ (s : SideFileValue). s.room) sides _ index side old c.loop-index.invariant.room
+          (c.empty_side.ensures.room ∙ ap (λ (s : SideFileValue). s.room) c.index_mut.ensures.value);
       rings = rings_stay sides _ index old side c.loop-index.invariant.rings c.index_mut.ensures.value c.empty_side.ensures.ring;
       looked =
           subst (λ (es : List (PutEnd Entry)). AllZip PutEndLooked (put_ends c.args.sides.now.items) es) (sym (map-set (λ (s : SideFileValue). s.end) sides index side))

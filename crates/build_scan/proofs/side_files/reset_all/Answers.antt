@@ -6,7 +6,7 @@ use Rattle.building.proofs.Places.{kept}
 use Rattle.build_scan.proofs.side_files.reset_all.Goals as goal
 
 pub loop-index-init : goal.loop-index-init
-loop-index-init c = record { forgotten = λ k side less at. absurd (omega (arith, less)); ends = refl; many = search rules }
+loop-index-init c = record { forgotten = λ k side less at. absurd (omega (arith, less)); ends = refl; room = refl; many = search rules }
 
 pub loop-index-preserved : goal.loop-index-preserved
 loop-index-preserved c = record {
@@ -14,6 +14,8 @@ loop-index-preserved c = record {
       (ap (λ (s : SideFileValue). s.left) c.reset.ensures.reset, ap (λ (s : SideFileValue). s.fed) c.reset.ensures.reset);
   ends = kept (λ (s : SideFileValue). s.end) c.loop-index.sides.items _ c.loop-index.index c.reset.new.self c.index_mut.result.now c.loop-index.invariant.ends
       (ap (λ (s : SideFileValue). s.end) c.reset.ensures.reset ∙ ap (λ (s : SideFileValue). s.end) c.index_mut.ensures.value);
+  room = kept (λ (s : SideFileValue). s.room) c.loop-index.sides.items _ c.loop-index.index c.reset.new.self c.index_mut.result.now c.loop-index.invariant.room
+      (ap (λ (s : SideFileValue). s.room) c.reset.ensures.reset ∙ ap (λ (s : SideFileValue). s.room) c.index_mut.ensures.value);
   many = length-set c.loop-index.sides.items c.loop-index.index c.reset.new.self ∙ c.loop-index.invariant.many;
 }
 

@@ -1,4 +1,5 @@
-use Rattle.std.proofs.Common.{◌≡◌, length}
+use Rattle.std.proofs.Common.{◌≡◌, length, map}
+use Rattle.side_file.specs.SideFileValue.{SideFileValue}
 use Rattle.build_scan.specs.SideFiles.{put_ends}
 use Rattle.build_scan.proofs.Emptied.{AreForgotten}
 use Rattle.build_scan.proofs.side_files.reset_all.Given as goal
@@ -7,5 +8,6 @@ abbrev pub invariant-loop-index : goal.invariant-loop-index
 invariant-loop-index l = record {
   forgotten : AreForgotten l.index l.sides.items;
   ends : put_ends l.sides.items ≡ put_ends l.initial.sides.items;
+  room : map (λ (side : SideFileValue). side.room) l.sides.items ≡ map (λ (side : SideFileValue). side.room) l.initial.sides.items;
   many : length l.sides.items ≡ l.index-end;
 }
