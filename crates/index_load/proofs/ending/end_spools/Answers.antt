@@ -3,7 +3,7 @@ use Rattle.std.proofs.lemmas.List.{take_at}
 use Rattle.building.specs.SpoolValue.{spool_value}
 use Rattle.index_load.proofs.SpoolsSeen.{ended_values}
 use Rattle.building.proofs.Places.{as_long}
-use Rattle.build_work.proofs.ending.end_spools.Goals as goal
+use Rattle.index_load.proofs.ending.end_spools.Goals as goal
 
 pub returns-clause-left : goal.returns-clause-left
 returns-clause-left g c =

@@ -4,7 +4,7 @@ use Rattle.keybytes.specs.declared.pair.Pair.{Pair}
 use Rattle.run_spool.specs.Spools.{all_pairs}
 use Rattle.run_merge.specs.Merging.{all_runs}
 use Rattle.index_load.proofs.Merges.{all_sorted, set_ordered, set_moved, left_in_order}
-use Rattle.build_work.proofs.merging.merge_into_tree.Goals as goal
+use Rattle.index_load.proofs.merging.merge_into_tree.Goals as goal
 
 pub merge-requires : goal.merge-requires
 merge-requires g c = all_sorted (map g.S.Spool.runs c.args.spools.items) c.requires.sorted

@@ -4,7 +4,7 @@ use Rattle.building.specs.SpoolValue.{spool_value, ended_spool}
 use Rattle.index_load.specs.Columns.{ended_column}
 use Rattle.index_load.proofs.Columns.{every_map, every_changed, all_but_changed}
 use Rattle.index_load.proofs.Merges.{put_together}
-use Rattle.build_work.proofs.merging.merged_tree.Goals as goal
+use Rattle.index_load.proofs.merging.merged_tree.Goals as goal
 
 pub returns-clause-stakes : goal.returns-clause-stakes
 returns-clause-stakes g c =

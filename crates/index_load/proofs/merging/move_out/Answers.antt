@@ -1,7 +1,7 @@
 use Rattle.std.proofs.Common.{◌≡◌, ◌∙◌, ◌+◌, ◌*◌, ◌-◌, ◌++◌, [], ap, sym, arith, append-nil}
 use Rattle.index_load.specs.Columns.{every, all_but}
 use Rattle.index_load.proofs.TakenOut.{own_taken, others_taken, none_left, all_left}
-use Rattle.build_work.proofs.merging.move_out.Goals as goal
+use Rattle.index_load.proofs.merging.move_out.Goals as goal
 
 pub loop-worker-preserved : goal.loop-worker-preserved
 loop-worker-preserved g c =

@@ -1,6 +1,6 @@
 use Rattle.std.proofs.Common.{◌≡◌, ◌+◌, ◌-◌, ◌*◌, ◌≤◌, ◌++◌, length, vec_capacity}
 use Rattle.index_load.specs.Columns.{every, all_but, column, other_columns}
-use Rattle.build_work.proofs.merging.move_out.Given as goal
+use Rattle.index_load.proofs.merging.move_out.Given as goal
 
 abbrev pub invariant-loop-worker : goal.invariant-loop-worker
 invariant-loop-worker g l =

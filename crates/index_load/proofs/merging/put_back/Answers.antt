@@ -2,7 +2,7 @@ use Rattle.std.proofs.Common.{◌≡◌, ◌<◌, ◌∙◌, ◌+◌, ◌*◌, �
 use Rattle.std.specs.List.{insert}
 use Rattle.index_load.specs.Columns.{every, all_but}
 use Rattle.index_load.proofs.TakenOut.{own_back, others_back, none_left, all_left}
-use Rattle.build_work.proofs.merging.put_back.Goals as goal
+use Rattle.index_load.proofs.merging.put_back.Goals as goal
 
 pub loop-spool-init : goal.loop-spool-init
 loop-spool-init g c =

@@ -1,6 +1,6 @@
 use Rattle.std.proofs.Common.{◌≡◌, ◌+◌, ◌-◌, ◌*◌, ◌≤◌, ◌++◌, length, vec_capacity}
 use Rattle.index_load.specs.Columns.{every, all_but}
-use Rattle.build_work.proofs.merging.put_back.Given as goal
+use Rattle.index_load.proofs.merging.put_back.Given as goal
 
 abbrev pub invariant-loop-spool : goal.invariant-loop-spool
 invariant-loop-spool g l =

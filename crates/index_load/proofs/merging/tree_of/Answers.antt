@@ -1,6 +1,6 @@
 use Rattle.std.proofs.Common.{◌∙◌}
 use Rattle.index_load.proofs.Merges.{ended_same}
-use Rattle.build_work.proofs.merging.tree_of.Goals as goal
+use Rattle.index_load.proofs.merging.tree_of.Goals as goal
 
 pub returns-clause-ended : goal.returns-clause-ended
 returns-clause-ended g c =

@@ -4,7 +4,7 @@ use Rattle.run_spool.specs.Spools.{AreSorted, all_pairs}
 use Rattle.run_merge.specs.Merging.{all_runs}
 use Rattle.index_load.specs.IndexLoad.{AreEachOnce}
 use Rattle.index_load.proofs.SpoolsSeen.{runs_seen}
-use Rattle.build_work.proofs.index_load.IndexLoad.new.Goals as goal
+use Rattle.index_load.proofs.index_load.IndexLoad.new.Goals as goal
 
 pub invariant_of-result : goal.invariant_of-result
 invariant_of-result g c =

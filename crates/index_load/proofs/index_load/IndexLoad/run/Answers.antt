@@ -11,9 +11,9 @@ use Rattle.catch_up.specs.Built.{BuiltValue}
 use Rattle.index_load.specs.IndexLoad.{HasRun, IndexLoadValue, AreEachOnce}
 use Rattle.index_load.proofs.SpoolsSeen.{runs_seen}
 use Rattle.index_load.proofs.LoadRan.{none_there, ran_ill, ran_well}
-use Rattle.build_work.proofs.index_load.IndexLoad.run.Given as given
-use Rattle.build_work.proofs.index_load.IndexLoad.run.Goals as goal
-use Rattle.build_work.proofs.index_load.IndexLoad.run.Goals.{After-built_of-built, in-Some-1, in-None-1}
+use Rattle.index_load.proofs.index_load.IndexLoad.run.Given as given
+use Rattle.index_load.proofs.index_load.IndexLoad.run.Goals as goal
+use Rattle.index_load.proofs.index_load.IndexLoad.run.Goals.{After-built_of-built, in-Some-1, in-None-1}
 
 pub built_of-built-requires-clause-sorted : goal.built_of-built-requires-clause-sorted
 built_of-built-requires-clause-sorted g c =

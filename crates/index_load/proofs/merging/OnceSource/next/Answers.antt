@@ -3,7 +3,7 @@ use Rattle.std.specs.Prelude.{IfOk, MatchOption}
 use Rattle.std.proofs.lemmas.Result.{IfOk-weaker}
 use Rattle.run_merge.specs.Merging.{all_runs, Gives, MergedValue}
 use Rattle.index_load.proofs.Merges.{first_given, once_after, left_in_order}
-use Rattle.build_work.proofs.merging.OnceSource.next.Goals as goal
+use Rattle.index_load.proofs.merging.OnceSource.next.Goals as goal
 
 pub invariant_of-self : goal.invariant_of-self
 invariant_of-self g c = once_after c.next.result c.self.inside.merged c.next.new.self c.self.invariant c.next.ensures.given c.next.ensures.refused
