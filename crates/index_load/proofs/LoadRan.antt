@@ -1,16 +1,18 @@
 -- A load of an index went on.
-use Rattle.std.proofs.Common.{◌≡◌, ◌∙◌, ℕ, Bool, inl, inr, false, List, map, Option, Some, None, refl, sym, subst}
+use Rattle.std.proofs.Common.{◌≡◌, ◌∙◌, ℕ, Bool, inl, inr, false, List, [], map, Option, Some, None, refl, sym, subst}
+use Rattle.std.specs.List.{IsDistinct}
+use Rattle.std.proofs.lemmas.List.Elements.{All-nil}
 use Rattle.std.specs.Prelude.{IfSome, IsPermutation, is_some}
 use Rattle.keybytes.specs.Pairs.{AreOrdered}
 use Rattle.keybytes.specs.declared.fault.Fault.{Fault}
 use Rattle.keybytes.specs.declared.fault.Fault.TheVariants.{Memory}
 use Rattle.keybytes.specs.declared.pair.Pair.{Pair}
 use Rattle.spool_ledger.specs.Accounts.{Stake}
-use Rattle.run_spool.specs.Spools.{all_pairs}
+use Rattle.run_spool.specs.Spools.{AreSorted, all_pairs}
 use Rattle.run_merge.specs.Merging.{all_runs}
 use Rattle.building.specs.SpoolValue.{ended_spool, spool_value}
 use Rattle.catch_up.specs.Built.{BuiltValue}
-use Rattle.index_load.specs.IndexLoad.{HasRun, IndexLoadValue}
+use Rattle.index_load.specs.IndexLoad.{HasRun, IndexLoadValue, IsLoadable}
 use Rattle.index_load.proofs.SpoolsSeen.{runs_seen, stakes_seen}
 
 pub none_there : {X : Type 0} (one : Option X) → false ≡ is_some one → one ≡ None
