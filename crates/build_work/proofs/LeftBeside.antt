@@ -34,7 +34,7 @@ pub left_seen :
     {S : Type 0} (runs : S → List (List Pair)) (open_run : S → List Pair) (stake : S → Option Stake) (given : Bool) (spools : List S) → given ≡ false
     → list_all (λ (s : S). holds_nothing (runs s) (open_run s)) spools
     ≡ list_all (λ is_empty. is_empty) (spools_state given (map (spool_value runs open_run stake) spools)).left
-left_seen runs open_run stake given spools none =
+left_seen {S = S} runs open_run stake given spools none =
     let empty : SpoolValue → Bool = λ s. holds_nothing s.runs s.open_run in
     rw none (each_tested (λ (s : S). holds_nothing (runs s) (open_run s)) spools
     ∙ ap (list_all (λ is_empty. is_empty)) (sym (mapped (spool_value runs open_run stake) empty spools)))

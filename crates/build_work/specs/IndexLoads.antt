@@ -10,6 +10,7 @@ use Rattle.keybytes.specs.declared.pair.Pair.{Pair}
 use Rattle.building.specs.SpoolValue.{SpoolValue, ended_spool, pairs_in, stakes_of}
 use Rattle.catch_up.specs.Built.{BuiltValue}
 use Rattle.index_load.specs.Columns.{column}
+use Rattle.index_load.specs.IndexLoad.{IndexLoadValue, IsLoadOf, without_spools}
 use Rattle.build_work.specs.BuildingValue.{BuildingValue, IndexValue, WorkValue, is_unique, with_pairs}
 use Rattle.build_work.specs.Keeping.{IsKept}
 
