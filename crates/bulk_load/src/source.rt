@@ -3,7 +3,7 @@ use std::vec::IntoIter;
 
 /// Pairs that come one by one.
 pub trait Source {
-    ghost use Rattle.std.specs.Prelude.{◌≡◌, List, [], ◌∷◌, IfOk, IfErr, MatchOption};
+    ghost use Rattle.std.specs.Prelude.{◌≡◌, List, [], ◌∷◌, IfOk, IfErr, OnErr, MatchOption};
     ghost use Rattle.keybytes.specs.declared.pair.Pair.{Pair};
 
     /// The pairs that are left.
@@ -16,13 +16,14 @@ pub trait Source {
 
     /// The next pair, or none where none is left.
     fn next(&mut self) -> Result<Option<Pair>, Fault>
-        ensures first { IfOk result (λ next. MatchOption next (left self.old ≡ []) (λ pair. left self.old ≡ pair ∷ left self.new)) }
+        ensures first { IfOk result (λ next. MatchOption next ((left self.old ≡ []) × (left self.new ≡ [])) (λ pair. left self.old ≡ pair ∷ left self.new)) }
+        ensures refused { OnErr result (left self.new ≡ left self.old) }
         ensures kept { kept self.new ≡ kept self.old }
         ensures memory { IfErr result (λ fault. fault ≡ Fault.Memory) };
 }
 
 impl Source for IntoIter<Pair> {
-    ghost use Rattle.std.specs.Prelude.{◌≡◌, [], ◌∷◌, IfOk, IfErr, IsOk, MatchOption};
+    ghost use Rattle.std.specs.Prelude.{◌≡◌, [], ◌∷◌, IfOk, IfErr, IsOk, OnErr, MatchOption};
     ghost use Rattle.std.specs.Vec.Iter.{into_iter_items};
 
     ghost left = { into_iter_items };
@@ -34,7 +35,9 @@ impl Source for IntoIter<Pair> {
     /// Takes no memory.
     fn next(&mut self) -> Result<Option<Pair>, Fault>
         ensures first { IfOk result (λ next.
-            MatchOption next (into_iter_items self.old ≡ []) (λ pair. into_iter_items self.old ≡ pair ∷ into_iter_items self.new)) }
+            MatchOption next ((into_iter_items self.old ≡ []) × (into_iter_items self.new ≡ []))
+            (λ pair. into_iter_items self.old ≡ pair ∷ into_iter_items self.new)) }
+        ensures refused { OnErr result (into_iter_items self.new ≡ into_iter_items self.old) }
         ensures memory { IfErr result (λ fault. fault ≡ Fault.Memory) }
         ensures sure { IsOk result }
     {

@@ -12,7 +12,7 @@ const FRONT: usize = 8;
 
 /// The head of a run, or none where the run has no pair left. Contracts see just that.
 #[derive(Drop)]
-pub(crate) struct Head {
+pub struct Head {
     /// The number that the first bytes of the key make. It is 0 where it tells nothing: of no pair, and of a short key.
     front: u64,
     pair: Option<Pair>,
@@ -31,20 +31,20 @@ impl Model for Head {
 }
 
 impl Head {
-    pub(crate) fn new(pair: Option<Pair>) -> Head
+    pub fn new(pair: Option<Pair>) -> Head
         ensures { result ≡ pair }
     {
         let front = front_of(&pair);
         Head { front, pair }
     }
 
-    pub(crate) fn pair(&self) -> &Option<Pair>
+    pub fn pair(&self) -> &Option<Pair>
         ensures { result.now ≡ self.now }
     {
         &self.pair
     }
 
-    pub(crate) fn into_pair(self) -> Option<Pair>
+    pub fn into_pair(self) -> Option<Pair>
         ensures { result ≡ self }
     {
         let Head { front: _, pair } = self;

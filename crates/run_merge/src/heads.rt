@@ -12,7 +12,7 @@ use std::mem;
 /// The heads of some runs in order, each a pair or none where the run has no pair left, and how many comparisons of two pairs
 /// were made so far.
 #[derive(Drop)]
-pub(crate) struct Heads {
+pub struct Heads {
     heads: Vec<Head>,
     nodes: Vec<usize>,
     compares: u64,
@@ -32,7 +32,7 @@ impl Model for Heads {
 
 impl Heads {
     /// Takes the heads, with one comparison fewer than there are heads where each is a pair, and with no more where some are none.
-    pub(crate) fn new(alloc: Global, heads: Vec<Head>) -> Result<Heads, Fault>
+    pub fn new(alloc: Global, heads: Vec<Head>) -> Result<Heads, Fault>
         ensures heads { IfOk result (λ new. new.heads ≡ heads.items) }
         ensures compares { IfOk result (λ new. new.compares ≤ length heads.items - 1) }
         ensures counted { IfOk result (λ new. NoneDone heads.items → new.compares ≡ length heads.items - 1) }
@@ -49,7 +49,7 @@ impl Heads {
     }
 
     /// The place of the head that is given first, or none where no run has a pair left.
-    pub(crate) fn first(&self) -> Option<usize>
+    pub fn first(&self) -> Option<usize>
         ensures { MatchOption result (AllDone self.now.heads) (IsFirst self.now) }
     {
         if self.heads.is_empty() {
@@ -64,7 +64,7 @@ impl Heads {
 
     /// Puts the next head of its run in place of the first one, with at most as many comparisons as the tree has levels, and one
     /// fewer at least where each run has a pair.
-    pub(crate) fn put(&mut self, head: Option<Pair>) -> Option<Pair>
+    pub fn put(&mut self, head: Option<Pair>) -> Option<Pair>
         requires { 0 < length self.old.heads }
         ensures heads { self.new.heads ≡ set self.old.heads self.old.first head }
         ensures given { result ≡ get_or self.old.heads self.old.first None }
@@ -82,7 +82,7 @@ impl Heads {
     }
 
     /// How many comparisons of two pairs were made so far; it stays at the greatest number.
-    pub(crate) fn compares(&self) -> u64
+    pub fn compares(&self) -> u64
         ensures { result ≡ self.now.compares }
     {
         self.compares

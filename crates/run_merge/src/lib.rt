@@ -17,4 +17,6 @@ mod place;
 mod spool_runs;
 mod tournament;
 
+pub use head::Head;
+pub use heads::Heads;
 pub use merged::{Merged, merge};

@@ -1,0 +1,4 @@
+pub mod Dealt
+pub mod Heads
+pub mod InOrder
+pub mod Parts

@@ -1,0 +1,162 @@
+ghost use Rattle.std.specs.Prelude.{◌≡◌, ◌++◌, ◌∷◌, ◌⊎◌, ◌+◌, [], length, None, IfErr, IfOk, IfSome, IfNone, OnErr, true};
+ghost use Rattle.rtrb.specs.Ring.{received, sent, known_free};
+ghost use Rattle.spool_trees.specs.Streams.{stream_at};
+
+use crate::batch::Batch;
+use crate::loading::Loading;
+use bulk_load::Source;
+use keybytes::{Fault, Pair};
+use rtrb::{Consumer, Producer};
+use std::collections::VecDeque;
+use std::marker::Model;
+use std::mem;
+use std::sync::Wait;
+use std::thread;
+
+/// The pairs of a stream, as its batches come.
+#[derive(Drop)]
+pub(crate) struct Stream<'a, R: Wait, T: Loading> {
+    rt: &'a R,
+    number: usize,
+    filled: Consumer<Batch<T>>,
+    spare: Producer<VecDeque<Pair>>,
+    pairs: VecDeque<Pair>,
+    end: usize,
+    last: bool,
+    fault: Option<Fault>,
+}
+
+impl<'a, R: Wait, T: Loading> Model for Stream<'a, R, T> {
+    ghost use Rattle.std.specs.Prelude.{◌≡◌, ◌++◌, [], drop, length, true};
+    ghost use Rattle.rtrb.specs.Ring.{received, sent, known_free};
+    ghost use Rattle.spool_trees.specs.Streams.{StreamValue, first_mark, stream_at};
+
+    ghost Value = { StreamValue };
+
+    ghost view = { λ stream. record {
+      pairs = stream.pairs.items ++ drop stream.end (stream_at T.streams stream.number);
+      received = received stream.filled;
+      returned = length (sent stream.spare);
+      places = known_free stream.spare;
+      fault = stream.fault;
+    } };
+
+    ghost invariant = { λ stream. (stream.last ≡ true → drop stream.end (stream_at T.streams stream.number) ≡ [])
+        × (first_mark (received stream.filled) ≡ stream.fault) };
+}
+
+/// No batch is there: whether one may still come. A sender that is gone put all that it ever puts before it went.
+fn may_come<X: Drop>(filled: &mut Consumer<X>) -> bool
+    ensures { received filled.new ≡ received filled.old }
+{
+    !filled.is_abandoned() || filled.slots() > 0
+}
+
+/// Hands an empty batch back, where a place for it is seen.
+fn hand_back<X: Drop>(spare: &mut Producer<X>, used: X)
+    ensures { (sent spare.new ≡ sent spare.old ++ used ∷ []) ⊎ (known_free spare.new ≡ 0) }
+{
+    if !spare.is_full() {
+        spare.push_reserved(used);
+    }
+}
+
+impl<'a, R: Wait, T: Loading> Stream<'a, R, T> {
+    pub(crate) fn new(
+        rt: &'a R,
+        number: usize,
+        filled: Consumer<Batch<T>>,
+        spare: Producer<VecDeque<Pair>>,
+        empty: VecDeque<Pair>,
+    ) -> Stream<'a, R, T>
+        requires none { empty.items ≡ [] }
+        requires new { received filled ≡ [] }
+        ensures { result.pairs ≡ stream_at T.streams number }
+    {
+        Stream {
+            rt,
+            number,
+            filled,
+            spare,
+            pairs: empty,
+            end: 0,
+            last: false,
+            fault: None,
+        }
+    }
+
+    /// Takes the next batch, if one is there, and hands the one before it back; tells whether pairs are there, or none is left. A sender that is gone before its last batch,
+    /// one that broke off and a batch that doesn't follow are refused for want of memory.
+    fn fetch(&mut self) -> Result<bool, Fault>
+        ensures pairs { self.new.pairs ≡ self.old.pairs }
+        ensures back { IfOk result (λ _. (self.new.received ≡ self.old.received)
+            ⊎ ((self.new.returned ≡ self.old.returned + 1) ⊎ (self.new.places ≡ 0))) }
+        ensures mark { IfOk result (λ _. self.new.fault ≡ None) }
+        ensures memory { IfErr result (λ fault. fault ≡ Fault.Memory) }
+    {
+        if self.fault.is_some() {
+            return Err(Fault::Memory);
+        }
+        if !self.pairs.is_empty() || self.last {
+            return Ok(true);
+        }
+        if self.filled.slots() == 0 {
+            return if may_come(&mut self.filled) {
+                Ok(false)
+            } else {
+                Err(Fault::Memory)
+            };
+        }
+        let batch = self.filled.pop_known();
+        self.fault = batch.fault();
+        if self.fault.is_some() || !batch.follows(self.number, self.end) {
+            return Err(Fault::Memory);
+        }
+        let (pairs, end, last) = batch.into_parts();
+        self.end = end;
+        self.last = last;
+        let used = mem::replace(&mut self.pairs, pairs);
+        hand_back(&mut self.spare, used);
+        Ok(true)
+    }
+
+    /// The next pair of the batch at hand.
+    fn give(&mut self) -> Option<Pair>
+        ensures some { IfSome result (λ pair. self.old.pairs ≡ pair ∷ self.new.pairs) }
+        ensures none { IfNone result (self.new.pairs ≡ self.old.pairs) }
+        ensures fault { self.new.fault ≡ self.old.fault }
+    {
+        self.pairs.pop_front()
+    }
+
+    /// Whether nothing is left.
+    fn is_done(&self) -> bool
+        ensures { result ≡ true → self.now.pairs ≡ [] }
+    {
+        self.last && self.pairs.is_empty()
+    }
+}
+
+impl<'a, R: Wait, T: Loading> Source for Stream<'a, R, T> {
+    ghost left = { λ stream. stream.pairs };
+
+    ghost Kept = { Unit {0} };
+
+    ghost kept = { λ _. tt };
+
+    fn next(&mut self) -> Result<Option<Pair>, Fault> {
+        let rt = self.rt;
+        for _ in rt.forever() {
+            if let Some(pair) = self.give() {
+                return Ok(Some(pair));
+            }
+            if self.is_done() {
+                return Ok(None);
+            }
+            if !self.fetch()? {
+                thread::yield_now();
+            }
+        }
+        unreachable!()
+    }
+}
