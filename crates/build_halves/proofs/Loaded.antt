@@ -13,7 +13,7 @@ use Rattle.keybytes.specs.declared.pair.Pair.{Pair}
 use Rattle.side_file.specs.Ends.{PutEnd}
 use Rattle.building.specs.declared.copied.Copied.{Copied}
 use Rattle.index_load.specs.Columns.{column, ended_column}
-use Rattle.index_load.specs.IndexLoad.{AreEachOnce}
+use Rattle.spool_trees.specs.Each.{AreEachOnce}
 use Rattle.index_load.proofs.Columns.{every_elsewhere, kept_changed, length-changed}
 use Rattle.index_load.proofs.SpoolPlaces.{column_many}
 use Rattle.build_halves.specs.Builds.{LiveValue, IsRunning, StandsBeside}

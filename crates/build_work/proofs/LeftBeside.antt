@@ -13,7 +13,7 @@ use Rattle.building.specs.WorkerValue.{WorkerValue}
 use Rattle.side_file.specs.declared.entry.Entry.{Entry}
 use Rattle.catch_up.specs.Built.{BuiltValue}
 use Rattle.index_load.specs.Columns.{column, other_columns, ended_column}
-use Rattle.index_load.specs.IndexLoad.{AreEachOnce}
+use Rattle.spool_trees.specs.Each.{AreEachOnce}
 use Rattle.build_work.specs.BuildingValue.{BuildingValue, WorkValue, IndexValue, IsUnloaded, with_index, is_unique}
 use Rattle.build_work.specs.Holding.{all_spools, workers_spools, spools_state, spools_in}
 use Rattle.build_work.specs.Keeping.{IsKept, KeepsWork}

@@ -24,7 +24,7 @@ use Rattle.building.specs.TakeEnd.{TakeEnd}
 use Rattle.building.specs.WorkerValue.{WorkerValue}
 use Rattle.building.proofs.ManyPairs.{have_append}
 use Rattle.index_load.specs.Columns.{column, ended_column}
-use Rattle.index_load.specs.IndexLoad.{AreEachOnce}
+use Rattle.spool_trees.specs.Each.{AreEachOnce}
 use Rattle.index_load.proofs.Columns.{every_elsewhere, length-changed}
 use Rattle.index_load.proofs.SpoolPlaces.{column_many}
 use Rattle.build_work.specs.BuildingValue.{IndexValue, IsUnloaded, WorkValue, is_unique}

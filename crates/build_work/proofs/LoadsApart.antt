@@ -11,7 +11,8 @@ use Rattle.run_merge.specs.Merging.{all_runs}
 use Rattle.building.specs.SpoolValue.{SpoolValue, runs_of, spool_value}
 use Rattle.catch_up.specs.Built.{BuiltValue}
 use Rattle.index_load.specs.Columns.{column, other_columns}
-use Rattle.index_load.specs.IndexLoad.{IndexLoadValue, IsLoadable, AreEachOnce}
+use Rattle.spool_trees.specs.Each.{AreEachOnce}
+use Rattle.index_load.specs.IndexLoad.{IndexLoadValue, IsLoadable}
 use Rattle.index_load.proofs.Columns.{all_but_map, every_map}
 use Rattle.index_load.proofs.ColumnsApart.{column_later}
 use Rattle.index_load.proofs.SpoolsSeen.{column_seen}

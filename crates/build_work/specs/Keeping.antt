@@ -20,7 +20,7 @@ use Rattle.building.specs.TakeEnd.{TakeEnd}
 use Rattle.building.specs.Taking.{received_images, unsealed_images}
 use Rattle.building.specs.WorkerValue.{IsCounting, IsHolding, WorkerValue}
 use Rattle.index_load.specs.Columns.{column}
-use Rattle.index_load.specs.IndexLoad.{AreEachOnce}
+use Rattle.spool_trees.specs.Each.{AreEachOnce}
 use Rattle.build_work.specs.BuildingValue.{IndexValue, IsUnloaded, WorkValue}
 use Rattle.build_work.specs.Holding.{HaveColumns}
 

@@ -3,7 +3,7 @@ ghost use Rattle.keybytes.specs.Pairs.{AreOrdered};
 ghost use Rattle.run_spool.specs.Spools.{AreSorted, all_pairs};
 ghost use Rattle.run_merge.specs.Merging.{all_runs};
 ghost use Rattle.index_load.specs.Columns.{column, other_columns, ended_column};
-ghost use Rattle.index_load.specs.IndexLoad.{AreEachOnce};
+ghost use Rattle.spool_trees.specs.Each.{AreEachOnce};
 ghost use Rattle.build_work.specs.BuildingValue.{is_unique};
 ghost use Rattle.building.specs.SpoolValue.{spool_value};
 

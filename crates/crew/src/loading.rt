@@ -1,4 +1,4 @@
-//! The loads of a build's indexes in threads of their own.
+//! The loads of a build's indexes side by side, each in a thread of its own, which has further threads merge the runs of its spools.
 ghost use Rattle.std.specs.Prelude.{◌≡◌, ◌≤◌, ◌+◌, [], List, length, map, IfErr, IfOk, IfSome, OnOk, vec_len, vec_capacity};
 ghost use Rattle.keybytes.specs.declared.fault.Fault.{Fault};
 ghost use Rattle.std.specs.List.{AllZip};
@@ -20,11 +20,11 @@ use std::sync::Wait;
 use std::thread;
 use std::thread::{PromisedHandle, Scope, Threads};
 
-/// What a thread does with its load.
-fn run<S: Spool>(mut load: IndexLoad<S>) -> IndexLoad<S>
+/// What a thread does with its load: it makes the index, while threads of its own merge the runs of each worker's spool.
+fn run<S: Spool + Send, R: Threads + Wait + Sync>(rt: &R, mut load: IndexLoad<S>) -> IndexLoad<S>
     ensures { HasRun load result }
 {
-    load.run();
+    load.run_in_threads(rt);
     load
 }
 
@@ -57,7 +57,7 @@ fn start<'s, 'e, S: Spool + Send + 'e, R: Threads + Wait + Sync>(
         let promise = LoadRan {
             load: Snapshot::of(&load),
         };
-        match scope.spawn_with(promise, move || run(load)) {
+        match scope.spawn_with(promise, move || run(rt, load)) {
             Ok(handle) => handles.push_reserved(handle),
             Err(refused) => {
                 let load = (refused.value)();

@@ -1,69 +1,65 @@
 -- A load of an index went on.
-use Rattle.std.proofs.Common.{◌≡◌, ◌∙◌, ℕ, Bool, inl, inr, false, List, [], map, Option, Some, None, refl, sym, subst}
+use Rattle.std.proofs.Common.{◌≡◌, ◌⊎◌, ℕ, Bool, inl, inr, true, false, List, [], Option, Some, None, refl, sym, subst, ap}
 use Rattle.std.specs.List.{IsDistinct}
 use Rattle.std.proofs.lemmas.List.Elements.{All-nil}
-use Rattle.std.specs.Prelude.{IfSome, IsPermutation, is_some}
-use Rattle.keybytes.specs.Pairs.{AreOrdered}
+use Rattle.std.specs.Prelude.{IfSome, Result, Ok, Err, is_some}
 use Rattle.keybytes.specs.declared.fault.Fault.{Fault}
 use Rattle.keybytes.specs.declared.fault.Fault.TheVariants.{Memory}
-use Rattle.keybytes.specs.declared.pair.Pair.{Pair}
-use Rattle.spool_ledger.specs.Accounts.{Stake}
-use Rattle.run_spool.specs.Spools.{AreSorted, all_pairs}
-use Rattle.run_merge.specs.Merging.{all_runs}
-use Rattle.building.specs.SpoolValue.{ended_spool, spool_value}
+use Rattle.run_spool.specs.Spools.{AreSorted}
+use Rattle.building.specs.SpoolValue.{SpoolValue}
 use Rattle.catch_up.specs.Built.{BuiltValue}
-use Rattle.index_load.specs.IndexLoad.{HasRun, IndexLoadValue, IsLoadable}
-use Rattle.index_load.proofs.SpoolsSeen.{runs_seen, stakes_seen}
+use Rattle.index_load.specs.IndexLoad.{HasRun, IndexLoadValue, IsLoadable, MakesIndex, with_made}
 
-pub none_there : {X : Type 0} (one : Option X) → false ≡ is_some one → one ≡ None
-none_there None none = refl
-none_there (Some x) none = absurd (cc)
+there_is_none : {X : Type 0} (one : Option X) → one ≡ None → is_some one ≡ true → ⊥
+there_is_none None none some = absurd (cc)
+there_is_none (Some x) none some = absurd (cc)
 
-module _
-    {S : Type 0} (runs : S → List (List Pair)) (open_run : S → List Pair) (stake : S → Option Stake) (build : ℕ) (unique : Bool) (tree : Option BuiltValue)
-    (refused : Option Fault) (old new : List S) (same : map stake new ≡ map stake old) where
-  -- as it began, and with other spools, index and fault
-  abbrev pub load_with : List S → Option BuiltValue → Option Fault → IndexLoadValue
-  load_with spools built fault = record { build = build; unique = unique; spools = map (spool_value runs open_run stake) spools; built = built; fault = fault }
+-- one that wasn't done or refused went on
+pub has_run :
+    (old : IndexLoadValue) (result : Result BuiltValue Fault) (spools : List SpoolValue) → old.built ≡ None → old.fault ≡ None
+    → MakesIndex old.build old.unique old.spools result spools → HasRun old (with_made old result spools)
+has_run old (Ok built) spools none fine makes = record {
+  stakes = makes.stakes;
+  again = λ before. elim before [
+    | inl there ↦ absurd (there_is_none old.built none there)
+    | inr told ↦ absurd (there_is_none old.fault fine told)
+  ];
+  done = λ _ _ _. (
+    built,
+    refl,
+    record { build = makes.made.0; unique = makes.made.1; moved = makes.made.2; ordered = makes.made.3 },
+    makes.made.4,
+  );
+  memory = λ _. subst (λ (o : Option Fault). IfSome o (λ fault. fault ≡ Memory)) (sym fine) tt;
+  refused = λ _. subst (λ (o : Option Fault). IfSome o (λ fault. Some built ≡ None)) (sym fine) tt;
+}
+has_run old (Err fault) spools none fine makes = record {
+  stakes = makes.stakes;
+  again = λ before. elim before [
+    | inl there ↦ absurd (there_is_none old.built none there)
+    | inr told ↦ absurd (there_is_none old.fault fine told)
+  ];
+  done = λ _ _ none. absurd (cc);
+  memory = λ _. makes.memory;
+  refused = λ is. is;
+}
 
-  -- it put the pairs in order
-  pub ran_well :
-      (built : BuiltValue) → tree ≡ None → refused ≡ None → built.build ≡ build → built.unique ≡ unique → IsPermutation (all_pairs (all_runs (map runs old))) built.pairs
-      → AreOrdered built.pairs → map (spool_value runs open_run stake) new ≡ map ended_spool (map (spool_value runs open_run stake) old)
-      → HasRun (load_with old tree refused) (load_with new (Some built) refused)
-  ran_well built empty none number tallied moved ordered ended = record {
-    stakes = sym (stakes_seen runs open_run stake new) ∙ same ∙ stakes_seen runs open_run stake old;
-    again = λ before. elim before [
-      | inl there ↦ absurd (cc)
-      | inr told ↦ absurd (cc)
-    ];
-    done = λ _ _ _. (
-      built,
-      refl,
-      record {
-        build = number;
-        unique = tallied;
-        moved = subst (λ (rs : List (List (List Pair))). IsPermutation (all_pairs (all_runs rs)) built.pairs) (runs_seen runs open_run stake old) moved;
-        ordered = ordered;
-      },
-      ended,
-    );
-    memory = λ _. subst (λ (o : Option Fault). IfSome o (λ fault. fault ≡ Memory)) (sym none) tt;
-    refused = λ _. subst (λ (o : Option Fault). IfSome o (λ fault. Some built ≡ None)) (sym none) tt;
-  }
+still_none : (built : Option BuiltValue) (fault : Option Fault) → built ≡ None → IfSome fault (λ f. built ≡ None)
+still_none built None none = tt
+still_none built (Some fault) none = none
 
-  -- it was refused
-  pub ran_ill : (fault : Fault) → tree ≡ None → refused ≡ None → fault ≡ Memory → HasRun (load_with old tree refused) (load_with new tree (Some fault))
-  ran_ill fault empty none memory = record {
-    stakes = sym (stakes_seen runs open_run stake new) ∙ same ∙ stakes_seen runs open_run stake old;
-    again = λ before. elim before [
-      | inl there ↦ absurd (cc)
-      | inr told ↦ absurd (cc)
-    ];
-    done = λ _ _ none. absurd (cc);
-    memory = λ _. memory;
-    refused = λ is. is;
-  }
+-- one that is done or refused stays as it is
+pub stays_over : (load : IndexLoadValue) → (is_some load.built ≡ true) ⊎ (is_some load.fault ≡ true) → HasRun load load
+stays_over load over = record {
+  stakes = refl;
+  again = λ _. refl;
+  done = λ none fine. elim over [
+    | inl there ↦ absurd (there_is_none load.built none there)
+    | inr told ↦ absurd (there_is_none load.fault fine told)
+  ];
+  memory = λ fine. subst (λ (o : Option Fault). IfSome o (λ fault. fault ≡ Memory)) (sym fine) tt;
+  refused = λ none. still_none load.built load.fault none;
+}
 
 -- spools of which there are none
 pub none_loadable : IsLoadable []

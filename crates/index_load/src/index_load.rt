@@ -1,17 +1,20 @@
-ghost use Rattle.std.specs.Prelude.{◌≡◌, All, None, length, map};
+ghost use Rattle.std.specs.Prelude.{◌≡◌, ◌⊎◌, All, None, is_some, true, false, length, map};
 ghost use Rattle.std.specs.Option.{option_map};
 ghost use Rattle.run_spool.specs.Spools.{AreSorted, all_pairs};
 ghost use Rattle.run_merge.specs.Merging.{all_runs};
 ghost use Rattle.building.specs.SpoolValue.{spool_value};
-ghost use Rattle.index_load.specs.IndexLoad.{HasRun, without_spools, AreEachOnce};
+ghost use Rattle.spool_trees.specs.Each.{AreEachOnce};
+ghost use Rattle.index_load.specs.IndexLoad.{HasRun, with_made, without_spools};
 
-use crate::merging::built_of;
+use crate::merging::{built_in_threads, built_of};
 use catch_up::Built;
 use keybytes::Fault;
 use run_spool::Spool;
 use std::alloc::Global;
 use std::marker::Model;
 use std::mem::replace;
+use std::sync::Wait;
+use std::thread::Threads;
 
 /// The load of one index by itself: its spools, one of each worker, and then the index. It has nothing of its build, so the loads of several indexes can go
 /// side by side.
@@ -83,12 +86,38 @@ impl<S: Spool> IndexLoad<S> {
     pub fn run(&mut self)
         ensures { HasRun self.old self.new }
     {
-        if self.built.is_some() || self.fault.is_some() {
+        if self.is_over() {
             return;
         }
-        let own = replace(&mut self.spools, Vec::new(self.alloc));
+        let own = self.take_own();
         let (built, own) = built_of(self.alloc, own, self.build, self.unique);
-        self.spools = own;
+        self.keep(built, own);
+    }
+
+    /// Whether it is done, or was refused.
+    fn is_over(&self) -> bool
+        ensures over { result ≡ true → (is_some self.now.built ≡ true) ⊎ (is_some self.now.fault ≡ true) }
+        ensures goes_on { result ≡ false → (self.now.built ≡ None) × (self.now.fault ≡ None) }
+    {
+        self.built.is_some() || self.fault.is_some()
+    }
+
+    /// The spools of a load that goes on, to put their pairs in order.
+    fn take_own(&mut self) -> Vec<S>
+        requires { (self.old.built ≡ None) × (self.old.fault ≡ None) }
+        ensures spools { map (spool_value S.runs S.open_run S.stake) result.items ≡ self.old.spools }
+        ensures sorted { All AreSorted (map S.runs result.items) }
+        ensures once { AreEachOnce (all_pairs (all_runs (map S.runs result.items))) }
+        ensures left { self.new ≡ without_spools self.old }
+    {
+        replace(&mut self.spools, Vec::new(self.alloc))
+    }
+
+    /// Keeps what was made of its spools, and these.
+    fn keep(&mut self, built: Result<Built, Fault>, spools: Vec<S>)
+        ensures { self.new ≡ with_made self.old built (map (spool_value S.runs S.open_run S.stake) spools.items) }
+    {
+        self.spools = spools;
         match built {
             Ok(built) => self.built = Some(built),
             Err(fault) => self.fault = Some(fault),
@@ -133,5 +162,26 @@ impl<S: Spool> IndexLoad<S> {
             fault: _,
         } = self;
         index
+    }
+}
+
+impl<S: Spool + Send> IndexLoad<S> {
+    /// Puts its pairs in order like [`IndexLoad::run`], with a thread for each spool, which merges that spool's runs while this thread makes the index.
+    /// Where a thread can't be started, or finds no memory, that is want of memory. One spool alone is merged here.
+    ///
+    /// `rt` is the runtime that `main` hands in. It waits for the threads.
+    pub fn run_in_threads<R: Threads + Wait + Sync>(&mut self, rt: &R)
+        ensures { HasRun self.old self.new }
+    {
+        if self.spools.len() <= 1 {
+            self.run();
+            return;
+        }
+        if self.is_over() {
+            return;
+        }
+        let own = self.take_own();
+        let (built, own) = built_in_threads(rt, self.alloc, own, self.build, self.unique);
+        self.keep(built, own);
     }
 }

@@ -1,21 +1,22 @@
 //! The pairs of an index's spools in a tree.
-ghost use Rattle.std.specs.Prelude.{◌≡◌, ◌+◌, ◌*◌, ◌<◌, ◌≤◌, [], All, map, length, IfOk, IfErr, OnOk, OnErr, IsPermutation, vec_capacity};
+ghost use Rattle.std.specs.Prelude.{◌≡◌, List, ◌+◌, ◌*◌, ◌<◌, ◌≤◌, [], All, map, length, IfOk, IfErr, OnOk, OnErr, IsPermutation, vec_capacity};
 ghost use Rattle.keybytes.specs.Pairs.{AreOrdered};
 ghost use Rattle.run_spool.specs.Spools.{AreSorted, all_pairs};
 ghost use Rattle.run_merge.specs.Merging.{all_runs};
 ghost use Rattle.index_load.specs.Columns.{column, other_columns, ended_column};
-ghost use Rattle.building.specs.SpoolValue.{spool_value, ended_spool};
-ghost use Rattle.index_load.specs.IndexLoad.{AreEachOnce};
+ghost use Rattle.building.specs.SpoolValue.{SpoolValue, spool_value, ended_spool, pairs_in, stakes_of};
+ghost use Rattle.spool_trees.specs.Each.{AreEachOnce};
+ghost use Rattle.index_load.specs.IndexLoad.{MakesIndex};
 
 use crate::ending::end_spools;
 use btree::Tree;
-use bulk_load::{Source, load};
 use catch_up::Built;
-use keybytes::{Fault, Pair};
-use run_merge::{Merged, merge};
+use keybytes::Fault;
 use run_spool::Spool;
+use spool_trees::{tree_in_threads, tree_of};
 use std::alloc::Global;
-use std::marker::Model;
+use std::sync::Wait;
+use std::thread::Threads;
 
 /// Makes a tree of the pairs of all closed runs of an index's spools, one of each of so many workers, and then ends these spools;
 /// those of the other indexes stay as they are. Want of memory may lose some of the pairs, and ends no spool.
@@ -40,6 +41,7 @@ pub fn merged_tree<S: Spool>(
 {
     let own = take_out(alloc, spools, index, indexes, workers)?;
     let (tree, own) = tree_of(alloc, own);
+    let (tree, own) = ended(tree, own);
     put_back(spools, own, index, indexes, workers);
     tree
 }
@@ -127,16 +129,44 @@ pub(crate) fn built_of<S: Spool>(
 ) -> (Result<Built, Fault>, Vec<S>)
     requires sorted { All AreSorted (map S.runs spools.items) }
     requires once { AreEachOnce (all_pairs (all_runs (map S.runs spools.items))) }
-    ensures all { IfOk result.0 (λ built. IsPermutation (all_pairs (all_runs (map S.runs spools.items))) built.pairs) }
-    ensures order { IfOk result.0 (λ built. AreOrdered built.pairs) }
-    ensures build { IfOk result.0 (λ built. built.build ≡ build) }
-    ensures unique { IfOk result.0 (λ built. built.unique ≡ unique) }
-    ensures ended { OnOk result.0 (map (spool_value S.runs S.open_run S.stake) result.1.items
-        ≡ map ended_spool (map (spool_value S.runs S.open_run S.stake) spools.items)) }
-    ensures stakes { map S.stake result.1.items ≡ map S.stake spools.items }
-    ensures memory { IfErr result.0 (λ fault. fault ≡ Fault.Memory) }
+    ensures { MakesIndex build unique (map (spool_value S.runs S.open_run S.stake) spools.items) result.0
+        (map (spool_value S.runs S.open_run S.stake) result.1.items) }
 {
     let (tree, back) = tree_of(alloc, spools);
+    made_of(alloc, tree, back, build, unique)
+}
+
+/// The same with a thread for each spool, which merges its runs.
+pub(crate) fn built_in_threads<S: Spool + Send, R: Threads + Wait + Sync>(
+    rt: &R,
+    alloc: Global,
+    spools: Vec<S>,
+    build: u64,
+    unique: bool,
+) -> (Result<Built, Fault>, Vec<S>)
+    requires sorted { All AreSorted (map S.runs spools.items) }
+    requires once { AreEachOnce (all_pairs (all_runs (map S.runs spools.items))) }
+    ensures { MakesIndex build unique (map (spool_value S.runs S.open_run S.stake) spools.items) result.0
+        (map (spool_value S.runs S.open_run S.stake) result.1.items) }
+{
+    let (tree, back) = tree_in_threads(rt, alloc, spools);
+    made_of(alloc, tree, back, build, unique)
+}
+
+/// The index of a tree, if there is one, and the spools whose pairs are in it, ended.
+fn made_of<S: Spool>(
+    alloc: Global,
+    tree: Result<Tree, Fault>,
+    spools: Vec<S>,
+    build: u64,
+    unique: bool,
+) -> (Result<Built, Fault>, Vec<S>)
+    requires memory { IfErr tree (λ fault. fault ≡ Fault.Memory) }
+    ensures { (old : List SpoolValue) → stakes_of old ≡ map S.stake spools.items
+        → IfOk tree (λ tree. IsPermutation (pairs_in old) tree.pairs)
+        → MakesIndex build unique old result.0 (map (spool_value S.runs S.open_run S.stake) result.1.items) }
+{
+    let (tree, back) = ended(tree, spools);
     let built = match tree {
         Ok(tree) => index_of(alloc, tree, build, unique),
         Err(fault) => Err(fault),
@@ -159,75 +189,16 @@ fn index_of(alloc: Global, tree: Tree, build: u64, unique: bool) -> Result<Built
     Ok(Built::new(build, tree))
 }
 
-/// A merge of pairs of which none is there twice. Contracts see the merge.
-struct Once<S: Spool> {
-    merged: Merged<S>,
-}
-
-impl<S: Spool> Model for Once<S> {
-    ghost use Rattle.run_spool.specs.Spools.{all_pairs};
-    ghost use Rattle.run_merge.specs.Merging.{MergedValue, all_runs};
-    ghost use Rattle.index_load.specs.IndexLoad.{AreEachOnce};
-
-    ghost Value = { MergedValue };
-
-    ghost view = { λ once. once.merged };
-
-    ghost invariant = { λ once. AreEachOnce (all_pairs (all_runs once.merged.runs)) };
-}
-
-impl<S: Spool> Source for Once<S> {
-    ghost use Rattle.std.specs.Prelude.{List, Option};
-    ghost use Rattle.std.specs.FinMap.{keys};
-    ghost use Rattle.spool_ledger.specs.Accounts.{Stake};
-    ghost use Rattle.keybytes.specs.Pairs.{set_of};
-    ghost use Rattle.run_spool.specs.Spools.{all_pairs};
-    ghost use Rattle.run_merge.specs.Merging.{all_runs};
-
-    ghost left = { λ once. keys (set_of (all_pairs (all_runs once.runs))) };
-
-    ghost Kept = { List (Option Stake) };
-
-    ghost kept = { λ once. once.stakes };
-
-    fn next(&mut self) -> Result<Option<Pair>, Fault> {
-        self.merged.next()
-    }
-}
-
-/// Makes a tree of the pairs of all closed runs of the spools, which are handed back, ended if there is a tree.
-fn tree_of<S: Spool>(alloc: Global, spools: Vec<S>) -> (Result<Tree, Fault>, Vec<S>)
-    requires sorted { All AreSorted (map S.runs spools.items) }
-    requires once { AreEachOnce (all_pairs (all_runs (map S.runs spools.items))) }
-    ensures all { IfOk result.0 (λ tree. IsPermutation (all_pairs (all_runs (map S.runs spools.items))) tree.pairs) }
-    ensures ended { OnOk result.0 (map (spool_value S.runs S.open_run S.stake) result.1.items
+/// Ends the spools if their pairs are in a tree.
+fn ended<S: Spool>(tree: Result<Tree, Fault>, spools: Vec<S>) -> (Result<Tree, Fault>, Vec<S>)
+    ensures tree { result.0 ≡ tree }
+    ensures ended { OnOk tree (map (spool_value S.runs S.open_run S.stake) result.1.items
         ≡ map ended_spool (map (spool_value S.runs S.open_run S.stake) spools.items)) }
     ensures stakes { map S.stake result.1.items ≡ map S.stake spools.items }
-    ensures memory { IfErr result.0 (λ fault. fault ≡ Fault.Memory) }
 {
-    let (tree, mut back) = merge_into_tree(alloc, spools);
-    let tree = match tree {
-        Ok(tree) => tree,
-        Err(fault) => return (Err(fault), back),
-    };
-    end_spools(&mut back);
-    (Ok(tree), back)
-}
-
-/// Merges the pairs of all closed runs of the spools, which are handed back, and makes a tree of them as they come.
-fn merge_into_tree<S: Spool>(alloc: Global, spools: Vec<S>) -> (Result<Tree, Fault>, Vec<S>)
-    requires sorted { All AreSorted (map S.runs spools.items) }
-    requires once { AreEachOnce (all_pairs (all_runs (map S.runs spools.items))) }
-    ensures all { IfOk result.0 (λ tree. IsPermutation (all_pairs (all_runs (map S.runs spools.items))) tree.pairs) }
-    ensures stakes { map S.stake result.1.items ≡ map S.stake spools.items }
-    ensures memory { IfErr result.0 (λ fault. fault ≡ Fault.Memory) }
-{
-    let merged = match merge(alloc, spools) {
-        Ok(merged) => merged,
-        Err((spools, fault)) => return (Err(fault), spools),
-    };
-    let mut once = Once { merged };
-    let tree = load(alloc, &mut once);
-    let Once { merged } = once;
-    (tree, merged.into_spools())
+    let mut spools = spools;
+    if tree.is_ok() {
+        end_spools(&mut spools);
+    }
+    (tree, spools)
 }

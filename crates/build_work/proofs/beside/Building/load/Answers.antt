@@ -6,7 +6,7 @@ use Rattle.keybytes.specs.declared.pair.Pair.{Pair}
 use Rattle.run_spool.specs.Spools.{AreSorted, all_pairs}
 use Rattle.run_merge.specs.Merging.{all_runs}
 use Rattle.index_load.specs.Columns.{column}
-use Rattle.index_load.specs.IndexLoad.{AreEachOnce}
+use Rattle.spool_trees.specs.Each.{AreEachOnce}
 use Rattle.index_load.proofs.SpoolsSeen.{column_seen, same_seen, others_seen}
 use Rattle.build_work.specs.BuildingValue.{BuildingValue, WorkValue, IsUnloaded, is_unique}
 use Rattle.std.specs.List.{slice_get}
