@@ -110,7 +110,8 @@ impl<S: Spool> IndexLoad<S> {
         ensures once { AreEachOnce (all_pairs (all_runs (map S.runs result.items))) }
         ensures left { self.new ≡ without_spools self.old }
     {
-        replace(&mut self.spools, Vec::new(self.alloc))
+        let none = Vec::new(self.alloc);
+        replace(&mut self.spools, none)
     }
 
     /// Keeps what was made of its spools, and these.

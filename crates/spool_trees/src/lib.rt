@@ -15,7 +15,6 @@ mod dealing;
 mod loading;
 mod merged_sources;
 mod once;
-mod one_thread;
 mod rings;
 mod seat;
 mod sender;
@@ -23,4 +22,4 @@ mod stream;
 mod threads;
 
 pub use dealing::tree_in_threads;
-pub use one_thread::tree_of;
+pub use once::tree_of;

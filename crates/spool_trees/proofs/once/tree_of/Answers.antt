@@ -5,7 +5,7 @@ use Rattle.run_spool.specs.Spools.{all_pairs}
 use Rattle.run_merge.specs.Merging.{all_runs}
 use Rattle.spool_trees.specs.Each.{in_order}
 use Rattle.spool_trees.proofs.InOrder.{all_sorted, set_ordered, set_moved}
-use Rattle.spool_trees.proofs.one_thread.tree_of.Goals as goal
+use Rattle.spool_trees.proofs.once.tree_of.Goals as goal
 
 pub new-requires-clause-sorted : goal.new-requires-clause-sorted
 new-requires-clause-sorted g c = all_sorted (map g.S.Spool.runs c.args.spools.items) c.requires.sorted
