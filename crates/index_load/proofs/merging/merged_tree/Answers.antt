@@ -29,5 +29,5 @@ returns-clause-ended g c =
     (c.put_back.ensures.others ∙ c.in_ok-own.ensures.others) (ended_column a.index a.indexes (map value all))
     (every_changed ended_spool between a.index (map value all) ∙ ap (map ended_spool) (every_map value between a.index all)
     ∙ sym (ended ∙ ended_same spool.runs spool.open_run spool.stake c.tree_of-tree.result.1.items c.in_ok-own.own.items c.tree_of-tree.ensures.stakes
-      ∙ ap (λ own. map ended_spool (map value own)) c.in_ok-own.ensures.own))
+    ∙ ap (λ own. map ended_spool (map value own)) c.in_ok-own.ensures.own))
     (all_but_changed ended_spool between a.index (map value all))) c.ended-tree.ensures.ended)

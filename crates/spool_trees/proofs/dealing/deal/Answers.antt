@@ -69,10 +69,10 @@ loop-rings-preserved g c =
       names = ap (λ (n : ℕ). drop n streams) c.push_reserved-in-loop-rings.ensures.len ∙ behind_head streams number its others left;
       streams = ap (λ l. map (λ (s : StreamValue). s.pairs) l ++ others) c.push_reserved-in-loop-rings-2.ensures.items
           ∙ moved (λ (s : StreamValue). s.pairs) c.loop-rings.streams.items c.new-in-loop-rings.result its others streams
-            (ap (λ l. map (λ (s : StreamValue). s.pairs) c.loop-rings.streams.items ++ map in_order (map g.S.Spool.runs l)) (sym first) ∙ inv.streams) stream;
+          (ap (λ l. map (λ (s : StreamValue). s.pairs) c.loop-rings.streams.items ++ map in_order (map g.S.Spool.runs l)) (sym first) ∙ inv.streams) stream;
       seats = ap (λ l. l ++ map (λ spool. g.S.Spool.stake spool ∷ []) rest) c.push_reserved-in-loop-rings.ensures.items
           ∙ moved_on seats c.new.result (g.S.Spool.stake own ∷ []) (map (λ spool. g.S.Spool.stake spool ∷ []) rest) (map (λ spool. g.S.Spool.stake spool ∷ []) c.args.spools.items)
-            (ap (λ l. seats ++ map (λ spool. g.S.Spool.stake spool ∷ []) l) (sym first) ∙ inv.seats) (c.new.ensures ∙ ap (map g.S.Spool.stake) alone);
+          (ap (λ l. seats ++ map (λ spool. g.S.Spool.stake spool ∷ []) l) (sym first) ∙ inv.seats) (c.new.ensures ∙ ap (map g.S.Spool.stake) alone);
       sorted = All-tail AreSorted (g.S.Spool.runs own) (map g.S.Spool.runs rest) (subst (λ l. All AreSorted (map g.S.Spool.runs l)) first inv.sorted);
       once = All-tail P (g.S.Spool.runs own) (map g.S.Spool.runs rest) (subst (λ l. All P (map g.S.Spool.runs l)) first inv.once);
       all = search rules;

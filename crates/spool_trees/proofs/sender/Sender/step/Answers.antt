@@ -27,9 +27,9 @@ invariant_of-self-2 g c =
     let left = next_left s count c.len.result old pairs new c.self.invariant.0 c.fill_counted-told.ensures.all long in (
       left,
       begins_more s count (count + c.len.result) (sent c.self.inside.filled) (sent c.is_full.new.self) (sent c.push_reserved.new.self) c.new.result pairs c.self.invariant.1 same put
-      is (is_part s count c.len.result old pairs new c.self.invariant.0 c.fill_counted-told.ensures.all long),
+          is (is_part s count c.len.result old pairs new c.self.invariant.0 c.fill_counted-told.ensures.all long),
       all_put c.fill_counted-told.result c.mark-last.result.0 c.mark-last.result.1 c.mark-last.result.2 new (drop (count + c.len.result) s) c.mark-last.ensures.last
-      c.mark-last.ensures.done c.fill_counted-told.ensures.last left,
+          c.mark-last.ensures.done c.fill_counted-told.ensures.last left,
       ap first_mark put ∙ mark_more (sent c.is_full.new.self) c.new.result (ap first_mark same ∙ c.self.invariant.3 ∙ none) ∙ mark,
       c.mark-last.ensures.broken,
     )

@@ -12,7 +12,7 @@ invariant_of-self-then-is_some-2 g c =
     let none : c.self.inside.fault ≡ None = is_none c.self.inside.fault (search rules) in (
       c.self.invariant.0,
       ap first_mark c.pop_known-batch.ensures.received.0 ∙ mark_more (received c.slots.new.self) c.pop_known-batch.result (ap first_mark same ∙ c.self.invariant.1 ∙ none)
-      ∙ sym c.fault-self-inside.ensures,
+          ∙ sym c.fault-self-inside.ensures,
     )
 
 pub invariant_of-self-2 : goal.invariant_of-self-2
@@ -24,7 +24,7 @@ invariant_of-self-2 g c =
     let end : c.into_parts-pairs.result.1 ≡ c.pop_known-batch.result.end = c.into_parts-pairs.ensures.end in (
       (λ is. ap₂ (λ (n k : ℕ). drop n (stream_at g.T.Loading.streams k)) end (sym number) ∙ c.into_parts-pairs.ensures.last (sym last ∙ is)),
       ap first_mark c.pop_known-batch.ensures.received.0 ∙ mark_more (received c.slots.new.self) c.pop_known-batch.result (ap first_mark same ∙ c.self.invariant.1 ∙ none)
-      ∙ sym c.fault-self-inside.ensures,
+          ∙ sym c.fault-self-inside.ensures,
     )
 
 pub returns-clause-pairs : goal.returns-clause-pairs
