@@ -88,11 +88,12 @@ static STAGES: [&str; 9] = [
     "build",
 ];
 
-/// A run whose rows come by three sessions, and whose two indexes are built by two workers beside two writers.
+/// A run whose rows come by three sessions, and whose two indexes are built by two workers beside two writers. Each worker has more pairs than the
+/// batches of a load have room for.
 static BESIDE: [&str; 13] = [
     "sfbench",
     "--rows",
-    "3000",
+    "12000",
     "--columns",
     "int,text:20",
     "--indexes",
