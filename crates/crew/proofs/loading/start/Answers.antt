@@ -13,8 +13,8 @@ use Rattle.crew.proofs.loading.start.Goals as goal
 -- `search` doesn't see what the closure has taken, so the list of it is written out.
 pub spawn_with-requires-send-F : goal.spawn_with-requires-send-F
 spawn_with-requires-send-F g c = λ κs known.
-    let s : IsSend (TupleAt [] (ShrRef (named 6) κs.1.1.1.0 (param 1 g.row.R) ∷ IndexLoad.the_row (param 0 g.row.S) g.S.Spool ∷ [])) =
-    captured_send [] (ShrRef (named 6) κs.1.1.1.0 (param 1 g.row.R) ∷ IndexLoad.the_row (param 0 g.row.S) g.S.Spool ∷ [])
+    let s : IsSend (TupleAt [] (ShrRef (named 6) κs.1.1.1.1.1.1.0 (param 1 g.row.R) ∷ IndexLoad.the_row (param 0 g.row.S) g.S.Spool ∷ [])) =
+    captured_send [] (ShrRef (named 6) κs.1.1.1.1.1.1.0 (param 1 g.row.R) ∷ IndexLoad.the_row (param 0 g.row.S) g.S.Spool ∷ [])
     (search (c.type_bounds.sync-R, sendable) depth 10, (load_send (param 0 g.row.S) g.S.Spool c.type_bounds.send-S, tt)) in
     param_send 2
     (lts.arg-3-2 g.row.S g.row.R g.S.laws g.R.laws g.S.Spool g.S.Spool-dict g.R.Threads g.R.Threads-dict g.R.Wait g.R.Wait-dict g.S.Destruct-dict κs)
