@@ -9,7 +9,7 @@ use Rattle.index_load.proofs.SpoolsSeen.{runs_seen}
 use Rattle.index_load.proofs.index_load.IndexLoad.take_own.Goals as goal
 
 pub invariant_of-self : goal.invariant_of-self
-invariant_of-self g c = λ _ _. rw (c.replace.ensures.after, c.new.ensures.items) none_loadable
+invariant_of-self g c = λ _ _. rw (c.replace.ensures.after, c.new-none.ensures.items) none_loadable
 
 pub returns-clause-sorted : goal.returns-clause-sorted
 returns-clause-sorted g c =
