@@ -1,6 +1,6 @@
 //! A tree of 1,000 pairs that came in no order, and one that is loaded from them.
 
-use crate::copies::Copies;
+use crate::copies::copies_of;
 use crate::fixtures::{key, mixed, pair, rid};
 use btree::Tree;
 use bulk_load::load;
@@ -75,7 +75,7 @@ fn has_range(alloc: Global, tree: &Tree) -> Result<bool, Fault> {
 /// Whether a tree that is loaded from the pairs has them too.
 fn loads(alloc: Global, tree: &Tree) -> Result<bool, Fault> {
     tree.laws();
-    let loaded = load(alloc, &mut Copies::of(tree))?;
+    let loaded = load(alloc, &mut copies_of(alloc, tree)?.into_iter())?;
     has_all(alloc, &loaded)
 }
 
