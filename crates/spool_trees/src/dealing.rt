@@ -48,12 +48,14 @@ fn deal<'e, S: Spool, T: Loading, R: Wait>(
             spare,
             empty,
             first,
+            waiting,
+            sender,
             mut spool,
         } = own;
         let number = seats.len();
         spool.push_reserved(spools.remove(0));
-        seats.push_reserved(Seat::new(number, spool, filled, empty));
-        streams.push_reserved(Stream::new(rt, number, full, spare, first));
+        seats.push_reserved(Seat::new(number, spool, filled, empty, waiting));
+        streams.push_reserved(Stream::new(rt, number, full, spare, first, sender));
     }
     (seats, streams)
 }

@@ -3,6 +3,7 @@ ghost use Rattle.rtrb.specs.Ring.{received, sent};
 
 use crate::batch::Batch;
 use crate::loading::Loading;
+use crossbeam_utils::sync::{Parker, Unparker};
 use keybytes::{Fault, Pair};
 use rtrb::{Consumer, Producer, RingBuffer};
 use run_spool::Spool;
@@ -15,7 +16,7 @@ const BATCHES: usize = 16;
 /// How many pairs a batch has room for.
 const PAIRS: usize = 256;
 
-/// What a seat and its stream need: the two rings between them, all batches that these ever carry, empty, of which one is with the stream, and
+/// What a seat and its stream need: the two rings between them, what wakes the seat's thread, all batches that these ever carry, empty, of which one is with the stream, and
 /// room for the seat's spool.
 #[derive(Drop)]
 pub(crate) struct Rings<S: Spool, T: Loading> {
@@ -24,6 +25,8 @@ pub(crate) struct Rings<S: Spool, T: Loading> {
     pub(crate) spare: Producer<VecDeque<Pair>>,
     pub(crate) empty: Consumer<VecDeque<Pair>>,
     pub(crate) first: VecDeque<Pair>,
+    pub(crate) waiting: Parker,
+    pub(crate) sender: Unparker,
     pub(crate) spool: Vec<S>,
     ghost new: { (sent filled ≡ []) × (received full ≡ []) × (first.items ≡ []) × (spool.items ≡ []) × (1 ≤ vec_capacity spool) },
 }
@@ -47,12 +50,16 @@ fn new_rings<S: Spool, T: Loading>(alloc: Global) -> Result<Rings<S, T>, Fault>
     let (filled, full) = RingBuffer::new(alloc, BATCHES)?;
     let (mut spare, empty) = RingBuffer::new(alloc, BATCHES)?;
     stock(alloc, &mut spare)?;
+    let waiting = Parker::new(alloc)?;
+    let sender = waiting.unparker().clone()?;
     Ok(Rings {
         filled,
         full,
         spare,
         empty,
         first: VecDeque::with_capacity(alloc, PAIRS)?,
+        waiting,
+        sender,
         spool: Vec::with_capacity(alloc, 1)?,
     })
 }

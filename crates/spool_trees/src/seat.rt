@@ -9,6 +9,7 @@ use crate::batch::Batch;
 use crate::loading::Loading;
 use crate::once::Once;
 use crate::sender::Sender;
+use crossbeam_utils::sync::Parker;
 use keybytes::{Fault, Pair};
 use rtrb::{Consumer, Producer};
 use run_spool::Spool;
@@ -24,6 +25,7 @@ pub(crate) struct Seat<S: Spool, T: Loading> {
     spools: Vec<S>,
     filled: Producer<Batch<T>>,
     spare: Consumer<VecDeque<Pair>>,
+    waiting: Parker,
 }
 
 impl<S: Spool, T: Loading> Model for Seat<S, T> {
@@ -67,6 +69,7 @@ impl<S: Spool, T: Loading> Seat<S, T> {
         spools: Vec<S>,
         filled: Producer<Batch<T>>,
         spare: Consumer<VecDeque<Pair>>,
+        waiting: Parker,
     ) -> Seat<S, T>
         requires sorted { AreSorted (all_runs (map S.runs spools.items)) }
         requires once { AreEachOnce (all_pairs (all_runs (map S.runs spools.items))) }
@@ -79,6 +82,7 @@ impl<S: Spool, T: Loading> Seat<S, T> {
             spools,
             filled,
             spare,
+            waiting,
         }
     }
 
@@ -91,6 +95,7 @@ impl<S: Spool, T: Loading> Seat<S, T> {
             spools,
             filled: _,
             spare: _,
+            waiting: _,
         } = self;
         spools
     }
@@ -104,10 +109,11 @@ impl<S: Spool, T: Loading> Seat<S, T> {
             spools,
             mut filled,
             spare,
+            waiting,
         } = self;
         match Once::new(alloc, spools) {
             Ok(once) => {
-                let mut sender = Sender::new(number, once, filled, spare);
+                let mut sender = Sender::new(number, once, filled, spare, waiting);
                 sender.run(rt);
                 sender.into_spools()
             }

@@ -9,13 +9,13 @@ use crate::batch::Batch;
 use crate::loading::Loading;
 use crate::once::Once;
 use bulk_load::Source;
+use crossbeam_utils::sync::Parker;
 use keybytes::{Fault, Pair};
 use rtrb::{Consumer, Producer};
 use run_spool::Spool;
 use std::collections::VecDeque;
 use std::marker::Model;
 use std::sync::Wait;
-use std::thread;
 
 /// Merges, and puts what it merges into a ring, batch after batch. Empty batches come back by another ring.
 pub(crate) struct Sender<S: Spool, T: Loading> {
@@ -24,6 +24,7 @@ pub(crate) struct Sender<S: Spool, T: Loading> {
     count: usize,
     filled: Producer<Batch<T>>,
     spare: Consumer<VecDeque<Pair>>,
+    waiting: Parker,
     done: bool,
     fault: Option<Fault>,
 }
@@ -111,6 +112,7 @@ impl<S: Spool, T: Loading> Sender<S, T> {
         once: Once<S>,
         filled: Producer<Batch<T>>,
         spare: Consumer<VecDeque<Pair>>,
+        waiting: Parker,
     ) -> Sender<S, T>
         requires stream { in_order (all_runs once.runs) ≡ stream_at T.streams number }
         requires new { sent filled ≡ [] }
@@ -122,6 +124,7 @@ impl<S: Spool, T: Loading> Sender<S, T> {
             count: 0,
             filled,
             spare,
+            waiting,
             done: false,
             fault: None,
         }
@@ -152,7 +155,7 @@ impl<S: Spool, T: Loading> Sender<S, T> {
         true
     }
 
-    /// Puts all that is left, and ends where the end that takes is gone.
+    /// Puts all that is left, and ends where the end that takes is gone. It sleeps while no batch or no place is free: who takes wakes it.
     pub(crate) fn run<R: Wait>(&mut self, rt: &R)
         ensures number { self.new.number ≡ self.old.number }
         ensures stakes { self.new.stakes ≡ self.old.stakes }
@@ -162,7 +165,7 @@ impl<S: Spool, T: Loading> Sender<S, T> {
                 return;
             }
             if !self.step() {
-                thread::yield_now();
+                self.waiting.park(rt);
             }
         }
     }
@@ -177,6 +180,7 @@ impl<S: Spool, T: Loading> Sender<S, T> {
             count: _,
             filled: _,
             spare: _,
+            waiting: _,
             done: _,
             fault: _,
         } = self;

@@ -5,6 +5,7 @@ ghost use Rattle.spool_trees.specs.Streams.{stream_at};
 use crate::batch::Batch;
 use crate::loading::Loading;
 use bulk_load::Source;
+use crossbeam_utils::sync::Unparker;
 use keybytes::{Fault, Pair};
 use rtrb::{Consumer, Producer};
 use std::collections::VecDeque;
@@ -12,8 +13,10 @@ use std::marker::Model;
 use std::sync::Wait;
 use std::{mem, thread};
 
+/// How many batches are handed back until their sender is woken for them.
+const WOKEN_FOR: usize = 8;
+
 /// The pairs of a stream, as its batches come.
-#[derive(Drop)]
 pub(crate) struct Stream<'a, R: Wait, T: Loading> {
     rt: &'a R,
     number: usize,
@@ -23,6 +26,29 @@ pub(crate) struct Stream<'a, R: Wait, T: Loading> {
     end: usize,
     last: bool,
     fault: Option<Fault>,
+    sender: Unparker,
+    batches: usize,
+}
+
+/// A sender that sleeps is woken, and finds that nobody takes any more.
+impl<'a, R: Wait, T: Loading> Drop for Stream<'a, R, T> {
+    fn drop(self) {
+        let Stream {
+            rt: _,
+            number: _,
+            filled,
+            spare,
+            pairs: _,
+            end: _,
+            last: _,
+            fault: _,
+            sender,
+            batches: _,
+        } = self;
+        drop(filled);
+        drop(spare);
+        sender.unpark();
+    }
 }
 
 impl<'a, R: Wait, T: Loading> Model for Stream<'a, R, T> {
@@ -60,6 +86,13 @@ fn hand_back<X: Drop>(spare: &mut Producer<X>, used: X)
     }
 }
 
+/// Wakes the sender, once so many batches were handed back that it is worth it.
+fn wake(sender: &Unparker, batches: usize) {
+    if batches % WOKEN_FOR == 0 {
+        sender.unpark();
+    }
+}
+
 impl<'a, R: Wait, T: Loading> Stream<'a, R, T> {
     pub(crate) fn new(
         rt: &'a R,
@@ -67,6 +100,7 @@ impl<'a, R: Wait, T: Loading> Stream<'a, R, T> {
         filled: Consumer<Batch<T>>,
         spare: Producer<VecDeque<Pair>>,
         empty: VecDeque<Pair>,
+        sender: Unparker,
     ) -> Stream<'a, R, T>
         requires none { empty.items ≡ [] }
         requires new { received filled ≡ [] }
@@ -81,6 +115,8 @@ impl<'a, R: Wait, T: Loading> Stream<'a, R, T> {
             end: 0,
             last: false,
             fault: None,
+            sender,
+            batches: 0,
         }
     }
 
@@ -100,6 +136,7 @@ impl<'a, R: Wait, T: Loading> Stream<'a, R, T> {
             return Ok(true);
         }
         if self.filled.slots() == 0 {
+            self.sender.unpark();
             return if may_come(&mut self.filled) {
                 Ok(false)
             } else {
@@ -116,6 +153,8 @@ impl<'a, R: Wait, T: Loading> Stream<'a, R, T> {
         self.last = last;
         let used = mem::replace(&mut self.pairs, pairs);
         hand_back(&mut self.spare, used);
+        self.batches = self.batches.wrapping_add(1);
+        wake(&self.sender, self.batches);
         Ok(true)
     }
 
