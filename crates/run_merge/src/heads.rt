@@ -49,6 +49,7 @@ impl Heads {
     }
 
     /// The place of the head that is given first, or none where no run has a pair left.
+    #[inline]
     pub fn first(&self) -> Option<usize>
         ensures { MatchOption result (AllDone self.now.heads) (IsFirst self.now) }
     {
@@ -64,6 +65,7 @@ impl Heads {
 
     /// Puts the next head of its run in place of the first one, with at most as many comparisons as the tree has levels, and one
     /// fewer at least where each run has a pair.
+    #[inline]
     pub fn put(&mut self, head: Option<Pair>) -> Option<Pair>
         requires { 0 < length self.old.heads }
         ensures heads { self.new.heads ≡ set self.old.heads self.old.first head }

@@ -78,6 +78,7 @@ impl Lanes {
     }
 
     /// Gives the first of all pairs, and frees it in its run.
+    #[inline]
     pub(crate) fn step<S: Spool>(&mut self, spools: &mut [S]) -> Result<Option<Pair>, Fault>
         requires merge { IsMerge (all_runs (map S.runs spools.old)) self.old.runs self.old.heads }
         requires seconds { AreSeconds (all_runs (map S.runs spools.old)) self.old.runs self.old.seconds }

@@ -24,6 +24,7 @@ fn game(heads: &[Head], one: usize, other: usize) -> (usize, usize, u64)
 }
 
 // Plays the games on the way from a leaf to the root, and tells how many comparisons of pairs they took.
+#[inline]
 pub(crate) fn replay(nodes: &mut [usize], heads: &[Head], leaf: usize) -> u64
     requires leaf { leaf < length heads.now }
     requires replay { IsReplay heads.now nodes.old (length heads.now + leaf) leaf }

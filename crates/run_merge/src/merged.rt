@@ -63,6 +63,7 @@ pub fn merge<S: Spool>(alloc: Global, mut spools: Vec<S>) -> Result<Merged<S>, (
 impl<S: Spool> Merged<S> {
     /// The next pair, which is freed in its run, or none where no run has a pair left. After an `Err` nothing was given or freed,
     /// and it can be called again.
+    #[inline]
     pub fn next(&mut self) -> Result<Option<Pair>, Fault>
         ensures given { IfOk result (λ given. Gives (all_runs self.old.runs) given (all_runs self.new.runs)) }
         ensures refused { OnErr result (self.new ≡ self.old) }

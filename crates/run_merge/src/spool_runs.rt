@@ -59,6 +59,7 @@ pub(crate) fn read<S: Spool>(
 }
 
 /// Frees the first pair of a run. Answers the one that is second then, if there is one; an `Err` frees none.
+#[inline]
 pub(crate) fn advance<S: Spool>(
     alloc: Global,
     spools: &mut [S],

@@ -48,6 +48,7 @@ impl<S: Spool> Source for Once<S> {
 
     ghost kept = { λ once. once.stakes };
 
+    #[inline]
     fn next(&mut self) -> Result<Option<Pair>, Fault> {
         self.merged.next()
     }
