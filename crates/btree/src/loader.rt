@@ -60,6 +60,7 @@ impl Loader {
     }
 
     /// Takes the next pair, which stands behind those so far. An `Err` leaves all as it was.
+    #[inline(always)]
     pub fn push(&mut self, pair: Pair) -> Result<(), Fault>
         requires { AreOrdered (self.old ++ pair ∷ []) }
         ensures ok { OnOk result (self.new ≡ self.old ++ pair ∷ []) }

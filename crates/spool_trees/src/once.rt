@@ -48,7 +48,7 @@ impl<S: Spool> Source for Once<S> {
 
     ghost kept = { λ once. once.stakes };
 
-    #[inline]
+    #[inline(always)]
     fn next(&mut self) -> Result<Option<Pair>, Fault> {
         self.merged.next()
     }
