@@ -1,5 +1,5 @@
 -- Spools whose pairs are put in order, and that are then ended.
-use Rattle.std.proofs.Common.{◌≡◌, ℕ, ◌-◌, List, [], ◌∷◌, map, Option, None, Some, sym, ap, ap₂, subst, ◌∙◌}
+use Rattle.std.proofs.Common.{◌≡◌, ℕ, ◌-◌, List, [], map, Option, sym, ap, subst, ◌∙◌}
 use Rattle.std.specs.Prelude.{Bool, IfOk, IfErr, IsPermutation, Result, Ok, Err}
 use Rattle.keybytes.specs.Pairs.{AreOrdered}
 use Rattle.keybytes.specs.declared.fault.Fault.{Fault}

@@ -4,7 +4,6 @@ use Rattle.std.specs.List.{All}
 use Rattle.keybytes.specs.Pairs.{AreOrdered}
 use Rattle.keybytes.specs.declared.fault.Fault.{Fault}
 use Rattle.keybytes.specs.declared.fault.Fault.TheVariants.{Memory}
-use Rattle.keybytes.specs.declared.pair.Pair.{Pair}
 use Rattle.run_spool.specs.Spools.{AreSorted}
 use Rattle.building.specs.SpoolValue.{SpoolValue, ended_spool, pairs_in, runs_of, stakes_of}
 use Rattle.spool_trees.specs.Each.{AreEachOnce}

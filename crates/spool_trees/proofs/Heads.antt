@@ -1,7 +1,6 @@
 -- The heads of sources that are merged.
-use Rattle.std.proofs.Common.{◌≡◌, ◌≢◌, ℕ, zero, suc, ◌+◌, ◌<◌, ◌≤◌, ◌==◌, true, false, List, [], ◌∷◌, ◌++◌, All, length, get_or, set, drop, Option, Some, None, refl, sym, ap, ap₂, ◌∙◌, subst, inl, inr, arith}
+use Rattle.std.proofs.Common.{◌≡◌, ℕ, zero, suc, ◌+◌, ◌<◌, ◌==◌, true, false, List, [], ◌∷◌, ◌++◌, All, length, get_or, set, drop, Option, Some, None, refl, sym, ap, ◌∙◌, subst, inl, arith}
 use Rattle.std.specs.Prelude.{MatchOption, slice_get}
-use Rattle.std.specs.List.{list_any}
 use Rattle.std.specs.Ordering.{is_lt}
 use Rattle.std.specs.List.Sorted.{IsSorted}
 use Rattle.std.proofs.lemmas.List.{length-set}
@@ -10,15 +9,14 @@ use Rattle.std.proofs.lemmas.Bool.Decides.{nat_tests}
 use Rattle.std.proofs.lemmas.List.Elements.{All-head, All-tail, All-nil, All-cons}
 use Rattle.keybytes.specs.Pairs.{AreOrdered, pair_cmp}
 use Rattle.keybytes.specs.declared.pair.Pair.{Pair}
-use Rattle.run_spool.specs.Spools.{AreSorted, all_pairs}
+use Rattle.run_spool.specs.Spools.{AreSorted}
 use Rattle.run_merge.specs.Leading.{HeadsValue, IsFirst, MayLead}
 use Rattle.run_merge.specs.Merging.{Gives, IsMerge, head_of}
 use Rattle.run_merge.proofs.Order.{before_order}
 use Rattle.run_merge.proofs.Steps.{step_gives, step_leaves}
-use Rattle.tree_nodes.specs.Lists.{In, IsRising}
+use Rattle.tree_nodes.specs.Lists.{IsRising}
 use Rattle.tree_nodes.specs.Order.{is_before}
 use Rattle.btree.proofs.Sets.{rises_of}
-use Rattle.spool_trees.specs.Each.{AreEachOnce}
 use Rattle.spool_trees.specs.Headed.{AreHeadsOf, numbers_from, with_head, with_heads}
 use Rattle.spool_trees.proofs.InOrder.{once_left}
 

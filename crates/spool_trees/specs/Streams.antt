@@ -1,5 +1,5 @@
 -- The streams of a load: what each sender puts into its ring, in batches.
-use Rattle.std.specs.Prelude.{◌≡◌, ℕ, Bool, List, [], ◌∷◌, ◌++◌, get_or, drop, length, Option, Some, None}
+use Rattle.std.specs.Prelude.{◌≡◌, ℕ, Bool, List, [], ◌∷◌, ◌++◌, get_or, drop, Option, None}
 use Rattle.std.specs.List.{flat_map}
 use Rattle.keybytes.specs.Faults.{first_cause}
 use Rattle.keybytes.specs.declared.fault.Fault.{Fault}

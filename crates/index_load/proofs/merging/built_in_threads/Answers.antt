@@ -1,4 +1,4 @@
-use Rattle.std.proofs.Common.{◌≡◌, ◌∙◌, List, map, sym, subst}
+use Rattle.std.proofs.Common.{◌∙◌, List, map, sym, subst}
 use Rattle.std.specs.Prelude.{IfOk, IsPermutation}
 use Rattle.btree.specs.TreeValue.{TreeValue}
 use Rattle.building.specs.SpoolValue.{spool_value}

@@ -1,9 +1,8 @@
-use Rattle.std.proofs.Common.{rules, ◌≡◌, ◌<◌, ◌+◌, ◌++◌, ◌∷◌, [], All, List, ℕ, Option, length, map, drop, get_or, vec_len, refl, sym, ap, ◌∙◌, subst, arith}
+use Rattle.std.proofs.Common.{rules, ◌≡◌, ◌++◌, ◌∷◌, [], All, List, ℕ, map, drop, vec_len, sym, ap, ◌∙◌, subst}
 use Rattle.std.proofs.lemmas.List.Elements.{All-head, All-tail}
 use Rattle.keybytes.specs.declared.pair.Pair.{Pair}
 use Rattle.run_merge.specs.Merging.{all_runs}
 use Rattle.run_spool.specs.Spools.{AreSorted, all_pairs}
-use Rattle.spool_ledger.specs.Accounts.{Stake}
 use Rattle.spool_trees.specs.Each.{AreEachOnce, in_order}
 use Rattle.spool_trees.specs.Streams.{StreamValue, stream_at}
 use Rattle.spool_trees.proofs.Dealt.{behind_head, first_taken, head_at, moved, moved_on, one_spool}

@@ -1,4 +1,4 @@
-use Rattle.std.proofs.Common.{◌≡◌, ◌++◌, ◌+◌, ◌≤◌, ◌∷◌, [], All, map, length, drop, vec_len, vec_capacity}
+use Rattle.std.proofs.Common.{◌≡◌, ◌++◌, ◌+◌, ◌≤◌, ◌∷◌, [], All, map, drop, vec_len, vec_capacity}
 use Rattle.run_spool.specs.Spools.{AreSorted, all_pairs}
 use Rattle.spool_trees.specs.Each.{AreEachOnce, in_order}
 use Rattle.spool_trees.proofs.dealing.deal.Given as goal

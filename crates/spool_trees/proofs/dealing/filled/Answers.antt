@@ -1,5 +1,3 @@
-use Rattle.std.proofs.Common.{sym, ap, subst}
-use Rattle.keybytes.specs.Pairs.{AreOrdered}
 use Rattle.run_spool.specs.Spools.{all_pairs}
 use Rattle.spool_trees.proofs.InOrder.{set_ordered}
 use Rattle.spool_trees.proofs.dealing.filled.Goals as goal

@@ -1,4 +1,4 @@
-use Rattle.std.proofs.Common.{◌≡◌, ◌≢◌, ◌<◌, ◌≤◌, ◌+◌, ◌++◌, ℕ, List, [], ◌∷◌, length, map, get_or, set, Option, None, refl, sym, ap, ap₂, ◌∙◌, subst, inl, inr, arith, length-append}
+use Rattle.std.proofs.Common.{◌≡◌, ◌<◌, ◌++◌, ℕ, List, [], ◌∷◌, length, map, get_or, Option, None, sym, ap, ap₂, ◌∙◌, subst, inl, inr, arith, length-append}
 use Rattle.std.proofs.lemmas.Bool.{cases_eq}
 use Rattle.std.proofs.lemmas.List.{get_or-map, get_or-set_other, get_or_append_left, get_or_push, length-map, length-set, map-set}
 use Rattle.std.proofs.lemmas.Result.{IfOk-weaker}
@@ -7,7 +7,7 @@ use Rattle.run_spool.specs.Spools.{all_pairs}
 use Rattle.run_merge.specs.Leading.{HeadsValue}
 use Rattle.run_merge.specs.Merging.{IsMerge, head_of}
 use Rattle.spool_trees.specs.Each.{AreEachOnce}
-use Rattle.spool_trees.specs.Headed.{AreHeadsOf, numbers_from, with_head, with_heads}
+use Rattle.spool_trees.specs.Headed.{AreHeadsOf, numbers_from, with_heads}
 use Rattle.spool_trees.proofs.Heads.{all_sorted_of, more_heads, next_is, starts_merge}
 use Rattle.spool_trees.proofs.merged_sources.take_heads.Goals as goal
 

@@ -1,5 +1,4 @@
-use Rattle.std.proofs.Common.{◌≡◌, ◌≤◌, ◌<◌, ℕ, List, length, map, get_or, None, [], vec_capacity}
-use Rattle.keybytes.specs.declared.pair.Pair.{Pair}
+use Rattle.std.proofs.Common.{◌≡◌, ◌≤◌, ◌<◌, ℕ, length, map, get_or, None, [], vec_capacity}
 use Rattle.run_merge.specs.Merging.{head_of}
 use Rattle.spool_trees.specs.Headed.{with_heads}
 use Rattle.spool_trees.proofs.merged_sources.take_heads.Given as goal

@@ -2,7 +2,6 @@ use Rattle.std.proofs.Common.{◌≡◌, ◌<◌, ℕ, List, [], ◌∷◌, leng
 use Rattle.std.specs.Prelude.{MatchOption, Result, Ok, Err, OnErr}
 use Rattle.std.proofs.lemmas.List.{get_or-map, length-map, map-set, set-get_or}
 use Rattle.keybytes.specs.declared.pair.Pair.{Pair}
-use Rattle.run_merge.specs.Merging.{Gives}
 use Rattle.run_merge.proofs.Steps.{none_left}
 use Rattle.spool_trees.specs.Each.{in_order}
 use Rattle.spool_trees.specs.Headed.{AreHeadsOf, numbers_from, with_heads}

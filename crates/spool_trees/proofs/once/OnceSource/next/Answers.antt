@@ -1,5 +1,5 @@
-use Rattle.std.proofs.Common.{◌≡◌, [], ◌∷◌, ap, subst}
-use Rattle.std.specs.Prelude.{IfOk, OnErr, MatchOption}
+use Rattle.std.proofs.Common.{◌≡◌, [], ◌∷◌, subst}
+use Rattle.std.specs.Prelude.{IfOk, MatchOption}
 use Rattle.std.proofs.lemmas.Result.{IfOk-weaker}
 use Rattle.run_merge.specs.Merging.{all_runs, Gives, MergedValue}
 use Rattle.spool_trees.specs.Each.{in_order}

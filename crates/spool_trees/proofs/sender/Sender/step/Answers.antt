@@ -1,8 +1,8 @@
-use Rattle.std.proofs.Common.{rules, ◌≡◌, ◌+◌, length, drop, None, sym, ap, ◌∙◌}
+use Rattle.std.proofs.Common.{rules, ◌≡◌, ◌+◌, length, drop, None, ap, ◌∙◌}
 use Rattle.rtrb.specs.Ring.{sent}
 use Rattle.run_merge.specs.Merging.{all_runs}
 use Rattle.spool_trees.specs.Each.{in_order}
-use Rattle.spool_trees.specs.Streams.{BatchValue, first_mark, stream_at, IsPart}
+use Rattle.spool_trees.specs.Streams.{BatchValue, first_mark, stream_at}
 use Rattle.spool_trees.proofs.Parts.{next_left, is_part, begins_more, all_put, mark_more}
 use Rattle.spool_trees.proofs.sender.Sender.step.Goals as goal
 

@@ -1,6 +1,6 @@
-use Rattle.std.proofs.Common.{rules, ◌≡◌, ◌++◌, ◌∷◌, ◌+◌, ◌⊎◌, [], drop, length, true, false, None, List, ℕ, sym, ap, ap₂, ◌∙◌, subst, inl, inr, arith, length-append}
+use Rattle.std.proofs.Common.{rules, ◌≡◌, ◌++◌, ◌∷◌, ◌+◌, [], drop, length, None, List, ℕ, sym, ap, ap₂, ◌∙◌, inl, inr, length-append}
 use Rattle.std.proofs.lemmas.List.{nil_from_length}
-use Rattle.rtrb.specs.Ring.{received, sent, known_free}
+use Rattle.rtrb.specs.Ring.{received, sent}
 use Rattle.keybytes.specs.declared.pair.Pair.{Pair}
 use Rattle.spool_trees.specs.Streams.{StreamValue, first_mark, stream_at}
 use Rattle.spool_trees.proofs.Parts.{is_none, mark_more}
