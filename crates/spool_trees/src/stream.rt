@@ -120,8 +120,8 @@ impl<'a, R: Wait, T: Loading> Stream<'a, R, T> {
         }
     }
 
-    /// Takes the next batch, if one is there, and hands the one before it back; tells whether pairs are there, or none is left. A sender that is gone before its last
-    /// batch, one that broke off and a batch that doesn't follow are refused for want of memory.
+    /// Takes the next batch, if one is there, and hands the one before it back; tells whether pairs are there, or none is left. A sender that is gone before
+    /// its last batch, one that broke off and a batch that doesn't follow are refused for want of memory.
     fn fetch(&mut self) -> Result<bool, Fault>
         ensures pairs { self.new.pairs ≡ self.old.pairs }
         ensures back { IfOk result (λ _. (self.new.received ≡ self.old.received)
