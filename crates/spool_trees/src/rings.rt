@@ -16,8 +16,8 @@ const BATCHES: usize = 16;
 /// How many pairs a batch has room for.
 const PAIRS: usize = 256;
 
-/// What a seat and its stream need: the two rings between them, what wakes the seat's thread, all batches that these ever carry, empty, of which one is with the stream, and
-/// room for the seat's spool.
+/// What a seat and its stream need: the two rings between them, all batches that these ever carry, empty, of which one is with the stream,
+/// what wakes the seat's thread, and room for the seat's spool.
 #[derive(Drop)]
 pub(crate) struct Rings<S: Spool, T: Loading> {
     pub(crate) filled: Producer<Batch<T>>,

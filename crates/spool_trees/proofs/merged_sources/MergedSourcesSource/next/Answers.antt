@@ -26,31 +26,28 @@ returns-in_default-clause-first g c =
     let none = none_left runs (numbers_from 0 (length lefts)) heads c.self.invariant.merge c.in_default.ensures in
     subst (λ (rs : List (List Pair)). (in_order rs ≡ []) × (in_order rs ≡ [])) c.self.view_is (first_given runs None runs c.self.invariant.once (none, refl))
 
+-- a refused call leaves what is left of each source
+module _ (g : given.Over) (c : goal.After-from_residual g) where
+  lefts_stay :
+      map g.X.Source.left (set c.self.inside.sources.items c.in-Some.place c.next.new.self) ≡ map g.X.Source.left c.self.inside.sources.items
+  lefts_stay =
+      let sources = c.self.inside.sources.items in
+      let lefts = map g.X.Source.left sources in
+      let place : ℕ = c.in-Some.place in
+      let now = c.index_mut.result.now in
+      let many = length-map sources g.X.Source.left in
+      let inside : place < length sources = omega (arith, c.in-Some.ensures.inside, c.self.invariant.long, many) in
+      let at : get_or lefts place [] ≡ g.X.Source.left now =
+      get_or-map g.X.Source.left sources place now [] inside ∙ ap g.X.Source.left (sym c.index_mut.ensures.value) in
+      map-set g.X.Source.left sources place c.next.new.self ∙ ap (set lefts place) (c.in_err-next.ensures.refused ∙ sym at) ∙ set-get_or lefts place []
+
 pub invariant_of-self : goal.invariant_of-self
-invariant_of-self g c =
-    let sources = c.self.inside.sources.items in
-    let lefts = map g.X.Source.left sources in
-    let place : ℕ = c.in-Some.place in
-    let now = c.index_mut.result.now in
-    let many = length-map sources g.X.Source.left in
-    let inside : place < length sources = omega (arith, c.in-Some.ensures.inside, c.self.invariant.long, many) in
-    let at : get_or lefts place [] ≡ g.X.Source.left now = get_or-map g.X.Source.left sources place now [] inside ∙ ap g.X.Source.left (sym c.index_mut.ensures.value) in
-    let same : map g.X.Source.left (set sources place c.next.new.self) ≡ lefts =
-    map-set g.X.Source.left sources place c.next.new.self ∙ ap (set lefts place) (c.in_err-next.ensures.refused ∙ sym at) ∙ set-get_or lefts place [] in
-    subst (AreHeadsOf c.self.inside.heads.heads) (sym same) c.self.invariant
+invariant_of-self g c = subst (AreHeadsOf c.self.inside.heads.heads) (sym (lefts_stay g c)) c.self.invariant
 
 pub returns-in_err-next-clause-refused : goal.returns-in_err-next-clause-refused
 returns-in_err-next-clause-refused g c =
-    let sources = c.self.inside.sources.items in
-    let lefts = map g.X.Source.left sources in
-    let place : ℕ = c.in-Some.place in
-    let now = c.index_mut.result.now in
-    let many = length-map sources g.X.Source.left in
-    let inside : place < length sources = omega (arith, c.in-Some.ensures.inside, c.self.invariant.long, many) in
-    let at : get_or lefts place [] ≡ g.X.Source.left now = get_or-map g.X.Source.left sources place now [] inside ∙ ap g.X.Source.left (sym c.index_mut.ensures.value) in
-    let same : map g.X.Source.left (set sources place c.next.new.self) ≡ lefts =
-    map-set g.X.Source.left sources place c.next.new.self ∙ ap (set lefts place) (c.in_err-next.ensures.refused ∙ sym at) ∙ set-get_or lefts place [] in
-    on_err c.from_residual.result (ap (λ (ls : List (List Pair)). in_order (with_heads c.self.inside.heads.heads ls)) same ∙ ap in_order c.self.view_is)
+    on_err c.from_residual.result
+    (ap (λ (ls : List (List Pair)). in_order (with_heads c.self.inside.heads.heads ls)) (lefts_stay g c) ∙ ap in_order c.self.view_is)
 
 -- what a step leaves
 module _ (g : given.Over) (c : goal.After-put g) where
