@@ -12,6 +12,9 @@ use std::marker::Model;
 use std::mem;
 use tree_nodes::{LEAF_MAX, Leaf};
 
+/// For how many leaves memory is asked for at once.
+const LEAVES_AHEAD: usize = 32;
+
 /// Leaves that are full, as a tree, and the pair between them and the leaf behind them.
 #[derive(Drop)]
 pub struct Full {
@@ -79,7 +82,7 @@ impl Loader {
             key: pair.key.clone()?,
             rid: pair.rid,
         };
-        let mut leaf = Leaf::new(self.alloc)?;
+        let mut leaf = next_leaf(self.alloc, self.count)?;
         fill_fans(&mut self.spare.fans, self.alloc, self.height)?;
         leaf.push(pair);
         let full = mem::replace(&mut self.leaf, leaf);
@@ -110,4 +113,22 @@ impl Loader {
         let Raised { root, deeper } = append_under(full, leaf, &mut spare);
         Ok(Tree::of(alloc, root, height + one_if(deeper), count, spare))
     }
+}
+
+/// A leaf for what comes behind so many pairs.
+fn next_leaf(alloc: Global, pairs: usize) -> Result<Leaf, Fault>
+    ensures empty { IfOk result (λ leaf. leaf ≡ []) }
+    ensures memory { IfErr result (λ fault. fault ≡ Fault.Memory) }
+{
+    if pairs % (LEAVES_AHEAD * LEAF_MAX) == 0 {
+        take_ahead(alloc);
+    }
+    Leaf::new(alloc)
+}
+
+/// Takes memory for the next leaves in one piece, and gives it back, so that the allocator has it at hand. glibc's asks the system for each page otherwise,
+/// in every thread but the first, and such a call stops the other threads' first use of their pages. Where it is refused nothing is lost.
+fn take_ahead(alloc: Global) {
+    let ahead: Result<Vec<Pair>, _> = Vec::with_capacity(alloc, LEAVES_AHEAD * LEAF_MAX);
+    drop(ahead);
 }
