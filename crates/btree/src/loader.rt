@@ -1,5 +1,6 @@
-ghost use Rattle.std.specs.Prelude.{◌≡◌, [], ◌∷◌, ◌++◌, length, IfOk, IfErr, OnOk, OnErr};
+ghost use Rattle.std.specs.Prelude.{◌≡◌, ◌≤◌, [], ◌∷◌, ◌++◌, true, length, IfOk, IfErr, OnOk, OnErr};
 ghost use Rattle.keybytes.specs.Pairs.{AreOrdered};
+ghost use Rattle.btree.specs.Splits.{IsTidy};
 ghost use Rattle.btree.specs.TreeValue.{AreFilled, AreFilledAbove};
 
 use crate::node::Node;
@@ -62,6 +63,24 @@ impl Loader {
         })
     }
 
+    /// Whether the next pair begins a leaf behind a full one.
+    pub fn wants_leaf(&self) -> bool
+        ensures { result ≡ true → 32 ≤ length self.now }
+    {
+        self.leaf.pairs().len() == LEAF_MAX
+    }
+
+    /// Gives it an empty leaf, which it takes when it begins the next one. Any other leaf is let go.
+    pub fn stock(&mut self, leaf: Option<Leaf>)
+        ensures { self.new ≡ self.old }
+    {
+        if let Some(leaf) = leaf
+            && leaf.pairs().is_empty()
+        {
+            self.spare.leaf = Some(leaf);
+        }
+    }
+
     /// Takes the next pair, which stands behind those so far. An `Err` leaves all as it was.
     #[inline(always)]
     pub fn push(&mut self, pair: Pair) -> Result<(), Fault>
@@ -82,7 +101,7 @@ impl Loader {
             key: pair.key.clone()?,
             rid: pair.rid,
         };
-        let mut leaf = next_leaf(self.alloc, self.count)?;
+        let mut leaf = next_leaf(&mut self.spare, self.alloc, self.count)?;
         fill_fans(&mut self.spare.fans, self.alloc, self.height)?;
         leaf.push(pair);
         let full = mem::replace(&mut self.leaf, leaf);
@@ -115,11 +134,16 @@ impl Loader {
     }
 }
 
-/// A leaf for what comes behind so many pairs.
-fn next_leaf(alloc: Global, pairs: usize) -> Result<Leaf, Fault>
+/// The leaf for what comes behind so many pairs: the spare one, if there is one.
+fn next_leaf(spare: &mut Spare, alloc: Global, pairs: usize) -> Result<Leaf, Fault>
+    requires { IsTidy spare.old }
+    ensures tidy { IsTidy spare.new }
     ensures empty { IfOk result (λ leaf. leaf ≡ []) }
     ensures memory { IfErr result (λ fault. fault ≡ Fault.Memory) }
 {
+    if let Some(leaf) = spare.leaf.take() {
+        return Ok(leaf);
+    }
     if pairs % (LEAVES_AHEAD * LEAF_MAX) == 0 {
         take_ahead(alloc);
     }

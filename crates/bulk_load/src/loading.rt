@@ -19,6 +19,9 @@ pub fn load<S: Source>(alloc: Global, source: &mut S) -> Result<Tree, Fault>
 {
     let mut loader = Loader::new(alloc)?;
     while let Some(pair) = source.next()? {
+        if loader.wants_leaf() {
+            loader.stock(source.leaf());
+        }
         loader.push(pair)?;
     }
     loader.finish()

@@ -1,5 +1,6 @@
 use keybytes::{Fault, Pair};
 use std::vec::IntoIter;
+use tree_nodes::Leaf;
 
 /// Pairs that come one by one.
 pub trait Source {
@@ -20,6 +21,15 @@ pub trait Source {
         ensures refused { OnErr result (left self.new ≡ left self.old) }
         ensures kept { kept self.new ≡ kept self.old }
         ensures memory { IfErr result (λ fault. fault ≡ Fault.Memory) };
+
+    /// An empty leaf that it has at hand for the tree, if any. Where other threads put the pairs in order, they make leaves too, since the first use of
+    /// memory takes as long as putting its pairs there.
+    fn leaf(&mut self) -> Option<Leaf>
+        ensures left { left self.new ≡ left self.old }
+        ensures kept { kept self.new ≡ kept self.old }
+    {
+        None
+    }
 }
 
 impl Source for IntoIter<Pair> {
