@@ -11,10 +11,7 @@ use keybytes::{Fault, Pair};
 use std::alloc::Global;
 use std::marker::Model;
 use std::mem;
-use tree_nodes::{LEAF_MAX, Leaf};
-
-/// For how many leaves memory is asked for at once.
-const LEAVES_AHEAD: usize = 32;
+use tree_nodes::{LEAF_MAX, LEAVES_AHEAD, Leaf};
 
 /// Leaves that are full, as a tree, and the pair between them and the leaf behind them.
 #[derive(Drop)]
@@ -145,14 +142,7 @@ fn next_leaf(spare: &mut Spare, alloc: Global, pairs: usize) -> Result<Leaf, Fau
         return Ok(leaf);
     }
     if pairs % (LEAVES_AHEAD * LEAF_MAX) == 0 {
-        take_ahead(alloc);
+        Leaf::take_ahead(alloc);
     }
     Leaf::new(alloc)
-}
-
-/// Takes memory for the next leaves in one piece, and gives it back, so that the allocator has it at hand. glibc's asks the system for each page otherwise,
-/// in every thread but the first, and such a call stops the other threads' first use of their pages. Where it is refused nothing is lost.
-fn take_ahead(alloc: Global) {
-    let ahead: Result<Vec<Pair>, _> = Vec::with_capacity(alloc, LEAVES_AHEAD * LEAF_MAX);
-    drop(ahead);
 }

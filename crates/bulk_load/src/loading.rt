@@ -19,10 +19,20 @@ pub fn load<S: Source>(alloc: Global, source: &mut S) -> Result<Tree, Fault>
 {
     let mut loader = Loader::new(alloc)?;
     while let Some(pair) = source.next()? {
-        if loader.wants_leaf() {
-            loader.stock(source.leaf());
-        }
+        stock(&mut loader, source);
         loader.push(pair)?;
     }
     loader.finish()
+}
+
+/// Hands an empty leaf of the source's on, where the tree's next pair begins one.
+#[inline]
+fn stock<S: Source>(loader: &mut Loader, source: &mut S)
+    ensures loader { loader.new ≡ loader.old }
+    ensures left { S.left source.new ≡ S.left source.old }
+    ensures kept { S.kept source.new ≡ S.kept source.old }
+{
+    if loader.wants_leaf() {
+        loader.stock(source.leaf());
+    }
 }

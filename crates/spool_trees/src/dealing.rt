@@ -15,12 +15,14 @@ use crate::threads::{ComesBack, join_all, start, take_rest};
 use btree::Tree;
 use bulk_load::{Source, load};
 use keybytes::Fault;
+use rtrb::Consumer;
 use run_spool::Spool;
 use std::alloc::Global;
 use std::marker::Brand;
 use std::sync::Wait;
 use std::thread;
 use std::thread::{PromisedHandle, Threads};
+use tree_nodes::Leaf;
 
 /// A seat and a stream for each spool. Takes no memory.
 fn deal<'e, S: Spool, T: Loading, R: Wait>(
@@ -51,23 +53,28 @@ fn deal<'e, S: Spool, T: Loading, R: Wait>(
             waiting,
             sender,
             mut spool,
+            leaves,
         } = own;
         let number = seats.len();
         spool.push_reserved(spools.remove(0));
-        seats.push_reserved(Seat::new(number, spool, filled, empty, waiting));
+        seats.push_reserved(Seat::new(number, spool, filled, empty, waiting, leaves));
         streams.push_reserved(Stream::new(rt, number, full, spare, first, sender));
     }
     (seats, streams)
 }
 
 /// The tree of all pairs of the sources, which are let go.
-fn filled<X: Source + Drop>(alloc: Global, sources: Vec<X>) -> Result<Tree, Fault>
+fn filled<X: Source + Drop>(
+    alloc: Global,
+    sources: Vec<X>,
+    stocks: Vec<Consumer<Leaf>>,
+) -> Result<Tree, Fault>
     requires sorted { All AreOrdered (map X.left sources.items) }
     requires once { AreEachOnce (all_pairs (map X.left sources.items)) }
     ensures all { IfOk result (λ tree. tree.pairs ≡ in_order (map X.left sources.items)) }
     ensures memory { IfErr result (λ fault. fault ≡ Fault.Memory) }
 {
-    let mut merged = MergedSources::new(alloc, sources)?;
+    let mut merged = MergedSources::new(alloc, sources, stocks)?;
     load(alloc, &mut merged)
 }
 
@@ -77,6 +84,7 @@ fn load_dealt<'e, S: Spool + Send + 'e, T: Loading + Send + Sync + 'e, R: Thread
     alloc: Global,
     seats: Vec<Seat<S, T>>,
     streams: Vec<Stream<'e, R, T>>,
+    stocks: Vec<Consumer<Leaf>>,
     handles: Vec<PromisedHandle<Vec<S>, ComesBack<S, T>>>,
     home: Vec<S>,
 ) -> (Result<Tree, Fault>, Vec<S>)
@@ -103,7 +111,7 @@ fn load_dealt<'e, S: Spool + Send + 'e, T: Loading + Send + Sync + 'e, R: Thread
             let (handles, told) = start(scope, rt, alloc, seats, streams, handles);
             match told {
                 Ok(streams) => {
-                    let tree = filled(alloc, streams);
+                    let tree = filled(alloc, streams, stocks);
                     (tree, join_all(rt, handles, home))
                 }
                 Err((spools, rest)) => {
@@ -118,6 +126,7 @@ fn load_dealt<'e, S: Spool + Send + 'e, T: Loading + Send + Sync + 'e, R: Thread
 /// All lists that a load of so many spools needs.
 struct Rooms<'e, S: Spool, T: Loading, R: Wait> {
     rings: Vec<Rings<S, T>>,
+    stocks: Vec<Consumer<Leaf>>,
     seats: Vec<Seat<S, T>>,
     streams: Vec<Stream<'e, R, T>>,
     handles: Vec<PromisedHandle<Vec<S>, ComesBack<S, T>>>,
@@ -134,8 +143,10 @@ fn new_rooms<'e, S: Spool, T: Loading, R: Wait>(
         × (count ≤ vec_capacity rooms.handles) × (count ≤ vec_capacity rooms.home)) }
     ensures memory { IfErr result (λ fault. fault ≡ Fault.Memory) }
 {
+    let mut stocks = Vec::with_capacity(alloc, count)?;
     Ok(Rooms {
-        rings: all_rings(alloc, count)?,
+        rings: all_rings(alloc, count, &mut stocks)?,
+        stocks,
         seats: Vec::with_capacity(alloc, count)?,
         streams: Vec::with_capacity(alloc, count)?,
         handles: Vec::with_capacity(alloc, count)?,
@@ -159,6 +170,7 @@ fn load_named<S: Spool + Send, T: Loading + Send + Sync, R: Threads + Wait + Syn
     let made: Result<Rooms<S, T, R>, Fault> = new_rooms(alloc, spools.len());
     let Rooms {
         rings,
+        stocks,
         seats,
         streams,
         handles,
@@ -168,7 +180,7 @@ fn load_named<S: Spool + Send, T: Loading + Send + Sync, R: Threads + Wait + Syn
         Err(fault) => return (Err(fault), spools),
     };
     let (seats, streams) = deal(rt, spools, rings, seats, streams);
-    load_dealt(rt, alloc, seats, streams, handles, home)
+    load_dealt(rt, alloc, seats, streams, stocks, handles, home)
 }
 
 /// Makes a tree of the pairs of all closed runs of the spools, which are handed back. A thread for each spool merges its runs, while this one fills the

@@ -18,6 +18,7 @@ mod once;
 mod rings;
 mod seat;
 mod sender;
+mod stock;
 mod stream;
 mod threads;
 

@@ -6,15 +6,19 @@ ghost use Rattle.spool_trees.specs.Headed.{AreHeadsOf, with_heads};
 
 use bulk_load::Source;
 use keybytes::{Fault, Pair};
+use rtrb::Consumer;
 use run_merge::{Head, Heads};
 use std::alloc::Global;
 use std::marker::Model;
+use tree_nodes::Leaf;
 
-/// Sources whose pairs are merged. Contracts see, source by source, the pairs that are left.
+/// Sources whose pairs are merged, and rings of empty leaves, which give them by turns. Contracts see, source by source, the pairs that are left.
 #[derive(Drop)]
 pub(crate) struct MergedSources<X: Source + Drop> {
     sources: Vec<X>,
     heads: Heads,
+    stocks: Vec<Consumer<Leaf>>,
+    turn: usize,
 }
 
 impl<X: Source + Drop> Model for MergedSources<X> {
@@ -45,6 +49,17 @@ impl<X: Source + Drop> Source for MergedSources<X> {
         let next = self.sources[place].next()?;
         Ok(self.heads.put(next))
     }
+
+    fn leaf(&mut self) -> Option<Leaf>
+        ensures { self.new ≡ self.old }
+    {
+        let stocks = self.stocks.len();
+        if stocks == 0 {
+            return None;
+        }
+        self.turn = (self.turn % stocks) + 1;
+        self.stocks[self.turn - 1].pop().ok()
+    }
 }
 
 /// Takes the head of each source.
@@ -64,13 +79,22 @@ fn take_heads<X: Source + Drop>(alloc: Global, sources: &mut Vec<X>) -> Result<H
 
 impl<X: Source + Drop> MergedSources<X> {
     /// The merge of the sources, each of which is in order.
-    pub(crate) fn new(alloc: Global, mut sources: Vec<X>) -> Result<MergedSources<X>, Fault>
+    pub(crate) fn new(
+        alloc: Global,
+        mut sources: Vec<X>,
+        stocks: Vec<Consumer<Leaf>>,
+    ) -> Result<MergedSources<X>, Fault>
         requires sorted { All AreOrdered (map X.left sources.items) }
         requires once { AreEachOnce (all_pairs (map X.left sources.items)) }
         ensures all { IfOk result (λ merged. merged ≡ map X.left sources.items) }
         ensures memory { IfErr result (λ fault. fault ≡ Fault.Memory) }
     {
         let heads = take_heads(alloc, &mut sources)?;
-        Ok(MergedSources { sources, heads })
+        Ok(MergedSources {
+            sources,
+            heads,
+            stocks,
+            turn: 0,
+        })
     }
 }

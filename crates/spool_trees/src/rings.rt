@@ -3,12 +3,14 @@ ghost use Rattle.rtrb.specs.Ring.{received, sent};
 
 use crate::batch::Batch;
 use crate::loading::Loading;
+use crate::stock::LEAVES;
 use crossbeam_utils::sync::{Parker, Unparker};
 use keybytes::{Fault, Pair};
 use rtrb::{Consumer, Producer, RingBuffer};
 use run_spool::Spool;
 use std::alloc::Global;
 use std::collections::VecDeque;
+use tree_nodes::Leaf;
 
 /// How many batches a ring has room for.
 const BATCHES: usize = 16;
@@ -28,6 +30,7 @@ pub(crate) struct Rings<S: Spool, T: Loading> {
     pub(crate) waiting: Parker,
     pub(crate) sender: Unparker,
     pub(crate) spool: Vec<S>,
+    pub(crate) leaves: Producer<Leaf>,
     ghost new: { (sent filled ≡ []) × (received full ≡ []) × (first.items ≡ []) × (spool.items ≡ []) × (1 ≤ vec_capacity spool) },
 }
 
@@ -44,7 +47,10 @@ fn stock(alloc: Global, spare: &mut Producer<VecDeque<Pair>>) -> Result<(), Faul
     Ok(())
 }
 
-fn new_rings<S: Spool, T: Loading>(alloc: Global) -> Result<Rings<S, T>, Fault>
+fn new_rings<S: Spool, T: Loading>(
+    alloc: Global,
+    leaves: Producer<Leaf>,
+) -> Result<Rings<S, T>, Fault>
     ensures memory { IfErr result (λ fault. fault ≡ Fault.Memory) }
 {
     let (filled, full) = RingBuffer::new(alloc, BATCHES)?;
@@ -61,20 +67,24 @@ fn new_rings<S: Spool, T: Loading>(alloc: Global) -> Result<Rings<S, T>, Fault>
         waiting,
         sender,
         spool: Vec::with_capacity(alloc, 1)?,
+        leaves,
     })
 }
 
-/// So many pairs of rings.
+/// So many pairs of rings, and behind those that are there the ends that take of as many rings of empty leaves.
 pub(crate) fn all_rings<S: Spool, T: Loading>(
     alloc: Global,
     count: usize,
+    stocks: &mut Vec<Consumer<Leaf>>,
 ) -> Result<Vec<Rings<S, T>>, Fault>
     ensures many { IfOk result (λ rings. vec_len rings ≡ count) }
     ensures memory { IfErr result (λ fault. fault ≡ Fault.Memory) }
 {
     let mut rings = Vec::with_capacity(alloc, count)?;
     for _ in 0..count {
-        rings.push_reserved(new_rings(alloc)?);
+        let (leaves, stock) = RingBuffer::new(alloc, LEAVES)?;
+        stocks.push(stock)?;
+        rings.push_reserved(new_rings(alloc, leaves)?);
     }
     Ok(rings)
 }

@@ -17,8 +17,9 @@ use std::alloc::Global;
 use std::collections::VecDeque;
 use std::marker::Model;
 use std::sync::Wait;
+use tree_nodes::Leaf;
 
-/// What a thread of a load gets: the spools whose runs it merges, and its ends of two rings. Contracts see the stakes of the spools.
+/// What a thread of a load gets: the spools whose runs it merges, and its ends of three rings. Contracts see the stakes of the spools.
 #[derive(Drop)]
 pub(crate) struct Seat<S: Spool, T: Loading> {
     number: usize,
@@ -26,6 +27,7 @@ pub(crate) struct Seat<S: Spool, T: Loading> {
     filled: Producer<Batch<T>>,
     spare: Consumer<VecDeque<Pair>>,
     waiting: Parker,
+    leaves: Producer<Leaf>,
 }
 
 impl<S: Spool, T: Loading> Model for Seat<S, T> {
@@ -70,6 +72,7 @@ impl<S: Spool, T: Loading> Seat<S, T> {
         filled: Producer<Batch<T>>,
         spare: Consumer<VecDeque<Pair>>,
         waiting: Parker,
+        leaves: Producer<Leaf>,
     ) -> Seat<S, T>
         requires sorted { AreSorted (all_runs (map S.runs spools.items)) }
         requires once { AreEachOnce (all_pairs (all_runs (map S.runs spools.items))) }
@@ -83,6 +86,7 @@ impl<S: Spool, T: Loading> Seat<S, T> {
             filled,
             spare,
             waiting,
+            leaves,
         }
     }
 
@@ -96,6 +100,7 @@ impl<S: Spool, T: Loading> Seat<S, T> {
             filled: _,
             spare: _,
             waiting: _,
+            leaves: _,
         } = self;
         spools
     }
@@ -110,11 +115,12 @@ impl<S: Spool, T: Loading> Seat<S, T> {
             mut filled,
             spare,
             waiting,
+            leaves,
         } = self;
         match Once::new(alloc, spools) {
             Ok(once) => {
-                let mut sender = Sender::new(number, once, filled, spare, waiting);
-                sender.run(rt);
+                let mut sender = Sender::new(number, once, filled, spare, waiting, leaves);
+                sender.run(rt, alloc);
                 sender.into_spools()
             }
             Err((spools, fault)) => {

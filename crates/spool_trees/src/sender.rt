@@ -8,14 +8,17 @@ ghost use Rattle.spool_trees.specs.Streams.{first_mark, pairs_of, stream_at};
 use crate::batch::Batch;
 use crate::loading::Loading;
 use crate::once::Once;
+use crate::stock::stock;
 use bulk_load::Source;
 use crossbeam_utils::sync::Parker;
 use keybytes::{Fault, Pair};
 use rtrb::{Consumer, Producer};
 use run_spool::Spool;
+use std::alloc::Global;
 use std::collections::VecDeque;
 use std::marker::Model;
 use std::sync::Wait;
+use tree_nodes::Leaf;
 
 /// Merges, and puts what it merges into a ring, batch after batch. Empty batches come back by another ring.
 pub(crate) struct Sender<S: Spool, T: Loading> {
@@ -25,6 +28,7 @@ pub(crate) struct Sender<S: Spool, T: Loading> {
     filled: Producer<Batch<T>>,
     spare: Consumer<VecDeque<Pair>>,
     waiting: Parker,
+    leaves: Producer<Leaf>,
     done: bool,
     fault: Option<Fault>,
 }
@@ -113,6 +117,7 @@ impl<S: Spool, T: Loading> Sender<S, T> {
         filled: Producer<Batch<T>>,
         spare: Consumer<VecDeque<Pair>>,
         waiting: Parker,
+        leaves: Producer<Leaf>,
     ) -> Sender<S, T>
         requires stream { in_order (all_runs once.runs) ≡ stream_at T.streams number }
         requires new { sent filled ≡ [] }
@@ -125,6 +130,7 @@ impl<S: Spool, T: Loading> Sender<S, T> {
             filled,
             spare,
             waiting,
+            leaves,
             done: false,
             fault: None,
         }
@@ -156,7 +162,7 @@ impl<S: Spool, T: Loading> Sender<S, T> {
     }
 
     /// Puts all that is left, and ends where the end that takes is gone. It sleeps while no batch or no place is free: who takes wakes it.
-    pub(crate) fn run<R: Wait>(&mut self, rt: &R)
+    pub(crate) fn run<R: Wait>(&mut self, rt: &R, alloc: Global)
         ensures number { self.new.number ≡ self.old.number }
         ensures stakes { self.new.stakes ≡ self.old.stakes }
     {
@@ -164,6 +170,7 @@ impl<S: Spool, T: Loading> Sender<S, T> {
             if self.done || self.filled.is_abandoned() {
                 return;
             }
+            stock(alloc, &mut self.leaves);
             if !self.step() {
                 self.waiting.park(rt);
             }
@@ -181,6 +188,7 @@ impl<S: Spool, T: Loading> Sender<S, T> {
             filled: _,
             spare: _,
             waiting: _,
+            leaves: _,
             done: _,
             fault: _,
         } = self;

@@ -12,6 +12,9 @@ use std::marker::Model;
 /// The greatest number of pairs in a leaf.
 pub const LEAF_MAX: usize = 32;
 
+/// For how many leaves memory is asked for at once.
+pub const LEAVES_AHEAD: usize = 32;
+
 /// At most [`LEAF_MAX`] pairs in order, none twice. Contracts see the list of the pairs.
 #[derive(Drop)]
 pub struct Leaf {
@@ -39,6 +42,13 @@ impl Leaf {
         Ok(Leaf {
             pairs: Vec::with_capacity(alloc, LEAF_MAX)?,
         })
+    }
+
+    /// Takes the memory of [`LEAVES_AHEAD`] leaves in one piece, and gives it back, so that the allocator has it at hand. glibc's asks the system for each page
+    /// otherwise, in every thread but the first, and such a call stops the first use of memory by all threads. Where it is refused nothing is lost.
+    pub fn take_ahead(alloc: Global) {
+        let ahead: Result<Vec<Pair>, _> = Vec::with_capacity(alloc, LEAVES_AHEAD * LEAF_MAX);
+        drop(ahead);
     }
 
     /// The pairs in order.

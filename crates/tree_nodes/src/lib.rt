@@ -11,5 +11,5 @@ mod order;
 mod room;
 
 pub use fan::{FAN_MAX, Fan};
-pub use leaf::{LEAF_MAX, Leaf};
+pub use leaf::{LEAF_MAX, LEAVES_AHEAD, Leaf};
 pub use order::{is_after, is_before};
