@@ -1,4 +1,4 @@
-ghost use Rattle.std.specs.Prelude.{◌≡◌, ◌++◌, ◌∷◌, ◌⊎◌, ◌+◌, [], length, None, IfErr, IfOk, IfSome, IfNone, OnErr, true};
+ghost use Rattle.std.specs.Prelude.{◌≡◌, ◌++◌, ◌∷◌, ◌⊎◌, ◌+◌, [], length, None, IfErr, IfOk, IfSome, IfNone, MatchOption, OnErr, true};
 ghost use Rattle.rtrb.specs.Ring.{received, sent, known_free};
 ghost use Rattle.spool_trees.specs.Streams.{stream_at};
 
@@ -167,6 +167,28 @@ impl<'a, R: Wait, T: Loading> Stream<'a, R, T> {
         self.pairs.pop_front()
     }
 
+    /// The next pair, of the batch at hand or of one that it waits for.
+    fn wait_for_next(&mut self) -> Result<Option<Pair>, Fault>
+        ensures first { IfOk result (λ next.
+            MatchOption next ((self.old.pairs ≡ []) × (self.new.pairs ≡ [])) (λ pair. self.old.pairs ≡ pair ∷ self.new.pairs)) }
+        ensures refused { OnErr result (self.new.pairs ≡ self.old.pairs) }
+        ensures memory { IfErr result (λ fault. fault ≡ Fault.Memory) }
+    {
+        let rt = self.rt;
+        for _ in rt.forever() {
+            if let Some(pair) = self.give() {
+                return Ok(Some(pair));
+            }
+            if self.is_done() {
+                return Ok(None);
+            }
+            if !self.fetch()? {
+                thread::yield_now();
+            }
+        }
+        unreachable!()
+    }
+
     /// Whether nothing is left.
     fn is_done(&self) -> bool
         ensures { result ≡ true → self.now.pairs ≡ [] }
@@ -182,19 +204,12 @@ impl<'a, R: Wait, T: Loading> Source for Stream<'a, R, T> {
 
     ghost kept = { λ _. tt };
 
+    /// Mostly the next pair of the batch at hand: so much stands where it is called.
+    #[inline(always)]
     fn next(&mut self) -> Result<Option<Pair>, Fault> {
-        let rt = self.rt;
-        for _ in rt.forever() {
-            if let Some(pair) = self.give() {
-                return Ok(Some(pair));
-            }
-            if self.is_done() {
-                return Ok(None);
-            }
-            if !self.fetch()? {
-                thread::yield_now();
-            }
+        match self.give() {
+            Some(pair) => Ok(Some(pair)),
+            None => self.wait_for_next(),
         }
-        unreachable!()
     }
 }
