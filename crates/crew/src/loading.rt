@@ -1,4 +1,4 @@
-//! The loads of a build's indexes side by side, each in a thread of its own, which has further threads merge the runs of its spools.
+//! The loads of a build's indexes side by side, each in a thread of its own, which may have further threads merge the runs of its spools.
 ghost use Rattle.std.specs.Prelude.{◌≡◌, ◌≤◌, ◌+◌, [], List, length, map, IfErr, IfOk, IfSome, OnOk, vec_len, vec_capacity};
 ghost use Rattle.keybytes.specs.declared.fault.Fault.{Fault};
 ghost use Rattle.std.specs.List.{AllZip};
@@ -20,11 +20,19 @@ use std::sync::Wait;
 use std::thread;
 use std::thread::{PromisedHandle, Scope, Threads};
 
-/// What a thread does with its load: it makes the index, while threads of its own merge the runs of each worker's spool.
-fn run<S: Spool + Send, R: Threads + Wait + Sync>(rt: &R, mut load: IndexLoad<S>) -> IndexLoad<S>
+/// What a thread does with its load: it makes the index, while threads of its own merge the runs of each worker's spool where it is to have helpers.
+fn run<S: Spool + Send, R: Threads + Wait + Sync>(
+    rt: &R,
+    helpers: bool,
+    mut load: IndexLoad<S>,
+) -> IndexLoad<S>
     ensures { HasRun load result }
 {
-    load.run_in_threads(rt);
+    if helpers {
+        load.run_in_threads(rt);
+    } else {
+        load.run();
+    }
     load
 }
 
@@ -41,6 +49,7 @@ fn run_here<S: Spool>(loads: &mut [IndexLoad<S>])
 fn start<'s, 'e, S: Spool + Send + 'e, R: Threads + Wait + Sync>(
     scope: &'s Scope<'s, &'e ()>,
     rt: &'e R,
+    helpers: bool,
     mut loads: Vec<IndexLoad<S>>,
     mut handles: Vec<PromisedHandle<IndexLoad<S>, LoadRan<S>>>,
 ) -> (
@@ -57,7 +66,7 @@ fn start<'s, 'e, S: Spool + Send + 'e, R: Threads + Wait + Sync>(
         let promise = LoadRan {
             load: Snapshot::of(&load),
         };
-        match scope.spawn_with(promise, move || run(rt, load)) {
+        match scope.spawn_with(promise, move || run(rt, helpers, load)) {
             Ok(handle) => handles.push_reserved(handle),
             Err(refused) => {
                 let load = (refused.value)();
@@ -93,9 +102,11 @@ fn join_all<S: Spool, R: Threads>(
     back
 }
 
-/// Lets all loads run side by side, each in a thread of its own where one can be started. There is room for the threads, and for the loads that come back.
+/// Lets all loads run side by side, each in a thread of its own where one can be started, with helpers or without. There is room for the threads, and for the
+/// loads that come back.
 fn run_all<'e, S: Spool + Send + 'e, R: Threads + Wait + Sync>(
     rt: &'e R,
+    helpers: bool,
     loads: Vec<IndexLoad<S>>,
     handles: Vec<PromisedHandle<IndexLoad<S>, LoadRan<S>>>,
     back: Vec<IndexLoad<S>>,
@@ -112,7 +123,7 @@ fn run_all<'e, S: Spool + Send + 'e, R: Threads + Wait + Sync>(
             requires room { (vec_len loads ≤ vec_capacity handles) × (vec_len loads ≤ vec_capacity back) }
             ensures { AllZip HasRun loads.items result.items }
         {
-            let (handles, rest) = start(scope, rt, loads, handles);
+            let (handles, rest) = start(scope, rt, helpers, loads, handles);
             join_all(rt, handles, rest, back)
         },
     )
@@ -158,6 +169,7 @@ fn load_reserved<S: Spool + Send, T: Opened, G: Gate, R: Threads + Wait + Sync>(
     alloc: Global,
     table: &Table<T>,
     gate: &G,
+    helpers: bool,
     building: Building<S, T>,
     handles: Vec<PromisedHandle<IndexLoad<S>, LoadRan<S>>>,
     back: Vec<IndexLoad<S>>,
@@ -171,12 +183,18 @@ fn load_reserved<S: Spool + Send, T: Opened, G: Gate, R: Threads + Wait + Sync>(
 {
     match building.lend_loads(alloc) {
         Ok((loads, rest)) => {
-            let loads = run_all(rt, loads, handles, back);
+            let loads = run_all(rt, helpers, loads, handles, back);
             tell_loaded(rt, table, gate, &loads);
             rest.gather(loads)
         }
         Err((building, fault)) => (building, Err(fault)),
     }
+}
+
+/// Whether the loads of so many indexes have threads that merge for them: with fewer than two workers for an index the loads themselves keep as many processors busy,
+/// and handing pairs on costs more than it brings.
+fn have_helpers(indexes: usize, workers: usize) -> bool {
+    indexes <= workers / 2
 }
 
 /// Puts the pairs of all indexes in order, side by side.
@@ -195,7 +213,10 @@ pub(crate) fn load_all<S: Spool + Send, T: Opened, G: Gate, R: Threads + Wait + 
     ensures memory { IfErr result.1 (λ fault. fault ≡ Fault.Memory) }
 {
     match rooms(alloc, plan.specs.len()) {
-        Ok((handles, back)) => load_reserved(rt, alloc, table, gate, building, handles, back),
+        Ok((handles, back)) => {
+            let helpers = have_helpers(plan.specs.len(), plan.workers);
+            load_reserved(rt, alloc, table, gate, helpers, building, handles, back)
+        }
         Err(fault) => (building, Err(fault)),
     }
 }

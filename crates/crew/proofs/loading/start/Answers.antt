@@ -1,4 +1,5 @@
 use mathlib.Core.List.{[], ◌∷◌}
+use denote.Builtin as builtin
 use denote.Param.{param}
 use mir.Syntax.{named}
 use denote.Ref.{ShrRef}
@@ -13,9 +14,9 @@ use Rattle.crew.proofs.loading.start.Goals as goal
 -- `search` doesn't see what the closure has taken, so the list of it is written out.
 pub spawn_with-requires-send-F : goal.spawn_with-requires-send-F
 spawn_with-requires-send-F g c = λ κs known.
-    let s : IsSend (TupleAt [] (ShrRef (named 6) κs.1.1.1.1.1.1.0 (param 1 g.row.R) ∷ IndexLoad.the_row (param 0 g.row.S) g.S.Spool ∷ [])) =
-    captured_send [] (ShrRef (named 6) κs.1.1.1.1.1.1.0 (param 1 g.row.R) ∷ IndexLoad.the_row (param 0 g.row.S) g.S.Spool ∷ [])
-    (search (c.type_bounds.sync-R, sendable) depth 10, (load_send (param 0 g.row.S) g.S.Spool c.type_bounds.send-S, tt)) in
+    let s : IsSend (TupleAt [] (ShrRef (named 6) κs.1.1.1.1.1.1.0 (param 1 g.row.R) ∷ builtin.bool ∷ IndexLoad.the_row (param 0 g.row.S) g.S.Spool ∷ [])) =
+    captured_send [] (ShrRef (named 6) κs.1.1.1.1.1.1.0 (param 1 g.row.R) ∷ builtin.bool ∷ IndexLoad.the_row (param 0 g.row.S) g.S.Spool ∷ [])
+    (search (c.type_bounds.sync-R, sendable) depth 10, (search (sendable) depth 10, (load_send (param 0 g.row.S) g.S.Spool c.type_bounds.send-S, tt))) in
     param_send 2
     (lts.arg-3-2 g.row.S g.row.R g.S.laws g.R.laws g.S.Spool g.S.Spool-dict g.R.Threads g.R.Threads-dict g.R.Wait g.R.Wait-dict g.S.Destruct-dict κs)
     (record { owned = s.owned; leaving = s.leaving })
