@@ -1,5 +1,7 @@
 pub mod Counts
 pub mod Fronts
+pub mod Headed
+pub mod Heads
 pub mod LeafFacts
 pub mod Moves
 pub mod Places
