@@ -31,7 +31,6 @@ sound_with fan i child f =
       few = omega (arith, e, f.few);
       between = f.between ∙ sym e;
       children_room = f.children_room;
-      separators_room = f.separators_room;
     }
 
 -- another child of the same height

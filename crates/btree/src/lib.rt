@@ -2,7 +2,7 @@
 //!
 //! All pairs stand in leaves, and all leaves at one depth. Between two children of an inner node stands a pair that separates
 //! them. An insert into a full leaf splits it; what comes in order fills its leaves. A removal joins no nodes, so a leaf may be
-//! empty. A look-up, an insert and a removal go down one path and bisect in each node.
+//! empty. A look-up, an insert and a removal go down one path and search in each node.
 //!
 //! [`Tree::make_room`] takes the memory that one insert may need and changes nothing else; [`Tree::insert`] then can't fail.
 //! A [`Loader`] makes a tree of pairs that come in order.

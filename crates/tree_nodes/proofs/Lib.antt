@@ -1,6 +1,9 @@
 pub mod Counts
 pub mod Fronts
+pub mod Headed
+pub mod Heads
 pub mod LeafFacts
+pub mod Moves
 pub mod Places
 pub mod Rising
 pub mod Strict

@@ -6,6 +6,7 @@ ghost use Rattle.tree_nodes.specs.Order.{is_before, PairsRise};
 
 use crate::order::count_up_to;
 use crate::room::{insert_reserved, move_tail};
+use crate::separators::Separators;
 use keybytes::{Fault, Key, Pair, Rid};
 use std::alloc::Global;
 
@@ -17,7 +18,7 @@ pub const FAN_MAX: usize = 32;
 #[derive(Drop)]
 pub struct Fan<C> {
     children: Vec<C>,
-    separators: Vec<Pair>,
+    separators: Separators,
 }
 
 impl<C: Drop> Fan<C> {
@@ -31,7 +32,7 @@ impl<C: Drop> Fan<C> {
     {
         Ok(Fan {
             children: Vec::with_capacity(alloc, FAN_MAX)?,
-            separators: Vec::with_capacity(alloc, FAN_MAX)?,
+            separators: Separators::new(alloc)?,
         })
     }
 
@@ -64,7 +65,7 @@ impl<C: Drop> Fan<C> {
         requires { place < length (separators_of self.now) }
         ensures { result.now ≡ slice_index_or (separators_of self.now) place result.now }
     {
-        &self.separators[place]
+        &self.separators.pairs()[place]
     }
 
     /// The place of the child that the pair of that key and RID belongs to.
@@ -72,7 +73,9 @@ impl<C: Drop> Fan<C> {
         requires { PairsRise (separators_of self.now) }
         ensures { result ≡ front_count (λ pair. not (is_before (record { key = key.now; rid = rid }) pair)) (separators_of self.now) }
     {
-        count_up_to(self.separators.as_slice(), key, rid)
+        let low = self.separators.count_lesser(key);
+        let high = self.separators.count_to_greater(low, key);
+        count_up_to(self.separators.pairs(), low, high, key, rid)
     }
 
     /// Gives a new fan its first child.
@@ -95,7 +98,7 @@ impl<C: Drop> Fan<C> {
         ensures separators { separators_of self.new ≡ insert (separators_of self.old) place separator }
     {
         insert_reserved(&mut self.children, place + 1, child);
-        insert_reserved(&mut self.separators, place, separator);
+        self.separators.insert(place, separator);
     }
 
     /// Takes out the child behind the one at that place, with the pair between the two.
@@ -128,10 +131,7 @@ impl<C: Drop> Fan<C> {
         ensures between { result ≡ slice_index_or (separators_of self.old) (kept - 1) result }
     {
         move_tail(&mut self.children, &mut into.children, kept);
-        move_tail(&mut self.separators, &mut into.separators, kept);
-        match self.separators.pop() {
-            Some(separator) => separator,
-            None => unreachable!(),
-        }
+        self.separators.split(kept, &mut into.separators);
+        self.separators.remove(kept - 1)
     }
 }

@@ -1,5 +1,5 @@
 //! Lists that are filled within their room.
-ghost use Rattle.std.specs.Prelude.{◌≡◌, ◌<◌, ◌≤◌, ◌+◌, ◌++◌, length, take, drop, vec_len, vec_capacity};
+ghost use Rattle.std.specs.Prelude.{◌≡◌, ◌<◌, ◌≤◌, ◌+◌, [], length, take, drop, vec_len, vec_capacity};
 ghost use Rattle.std.specs.List.{insert};
 
 /// Puts a value at that place.
@@ -13,18 +13,20 @@ pub fn insert_reserved<T: Drop>(into: &mut Vec<T>, place: usize, value: T)
     let _ = into.insert(place, value);
 }
 
-/// Moves what stands from that place on behind what `into` has.
+/// Moves what stands from that place on to a list that has nothing. What is moved is taken from the end, so nothing else moves.
 pub fn move_tail<T>(from: &mut Vec<T>, into: &mut Vec<T>, place: usize)
     requires within { place ≤ length from.old.items }
-    requires room { length into.old.items + length from.old.items ≤ vec_capacity into.old + place }
+    requires empty { into.old.items ≡ [] }
+    requires room { length from.old.items ≤ vec_capacity into.old + place }
     ensures kept { from.new.items ≡ take place from.old.items }
-    ensures moved { into.new.items ≡ into.old.items ++ drop place from.old.items }
+    ensures moved { into.new.items ≡ drop place from.old.items }
     ensures kept_len { length from.new.items ≡ place }
-    ensures moved_len { length into.new.items + place ≡ length into.old.items + length from.old.items }
+    ensures moved_len { length into.new.items + place ≡ length from.old.items }
     ensures from_room { vec_capacity from.new ≡ vec_capacity from.old }
     ensures into_room { vec_capacity into.new ≡ vec_capacity into.old }
 {
     while from.len() > place {
-        into.push_reserved(from.remove(place));
+        into.push_reserved(from.take_last());
     }
+    into.reverse();
 }

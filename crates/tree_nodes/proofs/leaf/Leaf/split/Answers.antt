@@ -1,5 +1,4 @@
-use Rattle.std.proofs.Common.{◌≡◌, ◌++◌, List, length, drop, ap, sym, ◌∙◌, subst, arith}
-use Rattle.keybytes.specs.declared.pair.Pair.{Pair}
+use Rattle.std.proofs.Common.{◌≡◌, length, drop, ap, sym, subst, arith}
 use Rattle.tree_nodes.specs.Order.{PairsRise}
 use Rattle.tree_nodes.proofs.LeafFacts.{rise_take, rise_drop}
 use Rattle.tree_nodes.proofs.leaf.Leaf.split.Goals as goal
@@ -13,11 +12,9 @@ invariant_of-self c = record {
 
 pub invariant_of-into : goal.invariant_of-into
 invariant_of-into c =
-    let none : length c.into.inside.pairs.items ≡ 0 = ap length (c.into.view_is ∙ c.requires.empty) in
-    let moved : drop c.args.kept c.self.inside.pairs.items ≡ c.move_tail.new.into.items =
-    sym (c.move_tail.ensures.moved ∙ ap (λ (ps : List Pair). ps ++ drop c.args.kept c.self.inside.pairs.items) (c.into.view_is ∙ c.requires.empty)) in
+    let moved : drop c.args.kept c.self.inside.pairs.items ≡ c.move_tail.new.into.items = sym c.move_tail.ensures.moved in
     record {
       rise = subst PairsRise moved (rise_drop c.args.kept _ c.self.invariant.rise);
-      few = omega (arith, none, c.self.invariant.few, c.move_tail.ensures.moved_len);
+      few = omega (arith, c.self.invariant.few, c.move_tail.ensures.moved_len);
       room = omega (arith, c.into.invariant.room, c.move_tail.ensures.into_room);
     }
