@@ -63,6 +63,12 @@ impl Separators {
         if number == NOTHING || self.alike {
             return 0;
         }
+        if let Some(last) = self.heads.len().checked_sub(1) {
+            // Pairs that come in order go behind all that are there.
+            if self.heads[last] < number {
+                return last + 1;
+            }
+        }
         let mut count = 0;
         for place in 0..self.heads.len() {
             if self.heads[place] < number {
