@@ -170,7 +170,10 @@ impl<S: Spool, T: Loading> Sender<S, T> {
             if self.done || self.filled.is_abandoned() {
                 return;
             }
-            stock(alloc, &mut self.leaves);
+            if self.count > 0 {
+                // (a stream of one batch needs so few leaves that none are made ahead)
+                stock(alloc, &mut self.leaves);
+            }
             if !self.step() {
                 self.waiting.park(rt);
             }
