@@ -191,8 +191,8 @@ fn load_reserved<S: Spool + Send, T: Opened, G: Gate, R: Threads + Wait + Sync>(
     }
 }
 
-/// Whether the loads of so many indexes have threads that merge for them: with fewer than two workers for an index the loads themselves keep as many processors busy,
-/// and handing pairs on costs more than it brings.
+/// Whether the loads of so many indexes have threads that merge for them. With fewer than two workers for an index the loads alone
+/// keep as many processors busy, and handing pairs on costs more than it brings.
 fn have_helpers(indexes: usize, workers: usize) -> bool {
     indexes <= workers / 2
 }
