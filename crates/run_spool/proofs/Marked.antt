@@ -1,13 +1,15 @@
 -- Pages by their marks.
-use Rattle.std.proofs.Common.{◌≡◌, ℕ, ◌+◌, ◌-◌, ◌≤◌, ◌<◌, List, [], ◌∷◌, ◌++◌, length, get_or, drop, sym, ap, ◌∙◌, subst, arith, Result, Ok, Err, IfOk}
+use Rattle.std.proofs.Common.{◌≡◌, ℕ, ◌+◌, ◌-◌, ◌≤◌, ◌<◌, List, [], ◌∷◌, ◌++◌, length, get_or, drop, refl, sym, ap, ◌∙◌, subst, arith, Result, Ok, Err, IfOk}
 use Rattle.std.proofs.lemmas.List.{drop-append-le, length-append, length-drop}
+use Rattle.std.proofs.lemmas.List.Elements.{All-nil}
 use Rattle.keybytes.specs.declared.rid.Rid.{Rid}
 use Rattle.keybytes.specs.declared.fault.Fault.{Fault}
 use Rattle.keybytes.specs.declared.pair.Pair.{Pair}
 use Rattle.run_spool.specs.declared.marks.Marks.{Marks}
 use Rattle.keybytes.specs.Writes.{overwritten}
 use Rattle.run_spool.specs.Bytes.{pair_bytes, pair_size, first_length, first_pair, read_pairs, IsPair, Stored}
-use Rattle.run_spool.specs.Pages.{PageValue, page_value, pairs_at, IsPage, IsPairAt}
+use Rattle.run_spool.specs.Pages.{PageValue, IsPairAt}
+use Rattle.run_spool.specs.PlainPages.{page_value, pairs_at, IsPage}
 use Rattle.run_spool.proofs.Stores.{length_read, stored_read, stored_size, count_le, push, step_at}
 
 -- so many pairs, read where they stand
@@ -62,6 +64,29 @@ pub pushed : {bytes : List ℕ} {m : Marks} (p : Pair) (new : List ℕ) (size : 
     new ≡ overwritten m.end (pair_bytes p) bytes → size ≡ pair_size p → IsPage bytes m → Pushed bytes new m size p
 pushed {bytes = bytes} {m = m} p new size good fits e n h =
     subst (λ (s : ℕ). Pushed bytes new m s p) (sym n) (subst (λ (xs : List ℕ). Pushed bytes xs m (pair_size p) p) (sym e) (pushed_at p good fits h))
+
+-- the marks of a page with just one pair
+abbrev pub first_marks : ℕ → Marks
+first_marks size = record { start = 0; end = size; count = 1; cursor = 0; offset = 0 }
+
+-- the fields of a page with just one pair
+pub record Made (new : List ℕ) (size : ℕ) (p : Pair) : Type 0 where
+  pub page : IsPage new (first_marks size)
+  pub pairs : pairs_at new (first_marks size) ≡ p ∷ []
+
+pub made : (bytes new : List ℕ) (size : ℕ) (p : Pair) → length bytes ≡ 4096 → IsPair p → new ≡ overwritten 0 (pair_bytes p) bytes → size ≡ pair_size p →
+    Made new size p
+made bytes new size p long good is n =
+    let short = good.0 in
+    let none : Stored bytes 0 0 [] = record { long = long; order = omega arith; within = omega arith; are = refl; each = All-nil IsPair } in
+    let there : Stored (overwritten 0 (pair_bytes p) bytes) 0 (0 + pair_size p) (p ∷ []) = push p good (omega arith) none in
+    let end : 0 + pair_size p ≡ size = omega arith in
+    let one : Stored new 0 size (p ∷ []) =
+    subst (λ (xs : List ℕ). Stored xs 0 size (p ∷ [])) (sym is) (subst (λ (k : ℕ). Stored (overwritten 0 (pair_bytes p) bytes) 0 k (p ∷ [])) end there) in
+    record {
+      page = page_of (first_marks size) (p ∷ []) refl (omega arith) one one;
+      pairs = read_here 1 refl one;
+    }
 
 -- the pairs of a page take some of its bytes
 pub count_small : {bytes : List ℕ} {m : Marks} → IsPage bytes m → m.count ≤ 4096

@@ -1,42 +1,41 @@
 -- The steps of a walk over the pages of a run.
 use Rattle.std.proofs.Common.{◌≡◌, ℕ, ◌+◌, ◌-◌, ◌≤◌, ◌<◌, List, [], ◌∷◌, ◌++◌, length, take, drop, refl, sym, ap, ◌∙◌, subst, arith, append_assoc}
-use Rattle.std.proofs.Common.{Option, ltb, inl, inr}
+use Rattle.std.proofs.Common.{ltb, inl, inr}
 use Rattle.std.specs.List.{All}
 use Rattle.std.proofs.lemmas.Bool.{lt-ltb, le-ltb, cond-true, cases_lt}
-use Rattle.std.proofs.lemmas.List.{take-append-drop, length-append, length-map, length-drop, length-take-le, drop_all, drop_at, drop-drop, drop-append-le}
+use Rattle.std.proofs.lemmas.List.{take-append-drop, length-append, length-drop, length-take-le, drop_all, drop_at, drop-drop, drop-append-le}
 use Rattle.std.proofs.lemmas.List.Elements.{All-head, All-tail, All-cons}
 use Rattle.spool_ledger.specs.Accounts.{AccountValue, with_free}
 use Rattle.run_spool.specs.Pages.{PageValue, without_first}
-use Rattle.run_spool.specs.Frames.{page_in, first_page, last_page, with_first}
-use Rattle.run_spool.specs.Runs.{pairs_of, pages_in, HasPairs, without_pairs, IsRun}
+use Rattle.run_spool.specs.Runs.{pairs_of, first_of, last_of, with_first, HasPairs, without_pairs, IsRun}
 use Rattle.run_spool.proofs.Chains.{count_append, count_first, count_last, count_one}
 
 -- the same frames, parted elsewhere
-pub parted : {passed ahead : List (Option PageValue)} {before len : ℕ} (p a : List (Option PageValue)) (n : ℕ) → IsRun passed ahead before len →
-    p ++ a ≡ passed ++ ahead → n ≡ length (pairs_of (pages_in p)) → IsRun p a n len
+pub parted : {passed ahead : List PageValue} {before len : ℕ} (p a : List PageValue) (n : ℕ) → IsRun passed ahead before len →
+    p ++ a ≡ passed ++ ahead → n ≡ length (pairs_of p) → IsRun p a n len
 parted {passed = passed} {ahead = ahead} p a n run same is =
     let small = run.small in
     let long = ap length same in
     record {
       before_is = is;
-      len_is = run.len_is ∙ ap (λ (xs : List (Option PageValue)). length (pairs_of (pages_in xs))) (sym same);
-      each = subst (λ (xs : List (Option PageValue)). All HasPairs (pages_in xs)) (sym same) run.each;
+      len_is = run.len_is ∙ ap (λ (xs : List PageValue). length (pairs_of xs)) (sym same);
+      each = subst (λ (xs : List PageValue). All HasPairs xs) (sym same) run.each;
       small = omega (arith, long, length-append p a, length-append passed ahead);
     }
 
 -- a step back, over the last page that was passed
-pub record Back (passed ahead : List (Option PageValue)) (before len : ℕ) : Type 0 where
+pub record Back (passed ahead : List PageValue) (before len : ℕ) : Type 0 where
   pub there : 0 < length passed
-  pub fewer : length (last_page passed).pairs ≤ before
+  pub fewer : length (last_of passed).pairs ≤ before
   pub same : take (length passed - 1) passed ++ (drop (length passed - 1) passed ++ ahead) ≡ passed ++ ahead
-  pub run : IsRun (take (length passed - 1) passed) (drop (length passed - 1) passed ++ ahead) (before - length (last_page passed).pairs) len
+  pub run : IsRun (take (length passed - 1) passed) (drop (length passed - 1) passed ++ ahead) (before - length (last_of passed).pairs) len
   pub nearer : length (take (length passed - 1) passed) < length passed
 
-some_passed : (passed : List (Option PageValue)) (before : ℕ) → before ≡ length (pairs_of (pages_in passed)) → 0 < before → 0 < length passed
+some_passed : (passed : List PageValue) (before : ℕ) → before ≡ length (pairs_of passed) → 0 < before → 0 < length passed
 some_passed [] before is lt = absurd (omega arith)
 some_passed (x ∷ xs) before is lt = omega arith
 
-pub back : {passed ahead : List (Option PageValue)} {before len : ℕ} → IsRun passed ahead before len → 0 < before → Back passed ahead before len
+pub back : {passed ahead : List PageValue} {before len : ℕ} → IsRun passed ahead before len → 0 < before → Back passed ahead before len
 back {passed = passed} {ahead = ahead} {before = before} run lt =
     let is = run.before_is in
     let there : 0 < length passed = some_passed passed before is lt in
@@ -44,23 +43,23 @@ back {passed = passed} {ahead = ahead} {before = before} run lt =
     let last : k + 1 ≡ length passed = omega arith in
     let count = count_last passed k last in
     let same : take k passed ++ (drop k passed ++ ahead) ≡ passed ++ ahead =
-    sym (append_assoc (take k passed) (drop k passed) ahead) ∙ ap (λ (xs : List (Option PageValue)). xs ++ ahead) (take-append-drop k passed) in
+    sym (append_assoc (take k passed) (drop k passed) ahead) ∙ ap (λ (xs : List PageValue). xs ++ ahead) (take-append-drop k passed) in
     record {
       there = there;
       fewer = omega arith;
       same = same;
-      run = parted (take k passed) (drop k passed ++ ahead) (before - length (last_page passed).pairs) run same (omega arith);
+      run = parted (take k passed) (drop k passed ++ ahead) (before - length (last_of passed).pairs) run same (omega arith);
       nearer = omega (arith, length-take-le k passed (omega arith));
     }
 
 -- a step on, over the first page ahead
-pub record Forth (passed ahead : List (Option PageValue)) (before len : ℕ) : Type 0 where
+pub record Forth (passed ahead : List PageValue) (before len : ℕ) : Type 0 where
   pub there : 0 < length ahead
   pub same : (passed ++ take 1 ahead) ++ drop 1 ahead ≡ passed ++ ahead
-  pub run : IsRun (passed ++ take 1 ahead) (drop 1 ahead) (before + length (first_page ahead).pairs) len
+  pub run : IsRun (passed ++ take 1 ahead) (drop 1 ahead) (before + length (first_of ahead).pairs) len
   pub nearer : length (drop 1 ahead) < length ahead
 
-pub forth : {passed : List (Option PageValue)} {before len : ℕ} (ahead : List (Option PageValue)) → IsRun passed ahead before len → before < len
+pub forth : {passed : List PageValue} {before len : ℕ} (ahead : List PageValue) → IsRun passed ahead before len → before < len
     → Forth passed ahead before len
 forth {passed = passed} {before = before} {len = len} [] run lt =
     let is = run.before_is in
@@ -72,7 +71,7 @@ forth {passed = passed} {before = before} {len = len} (x ∷ xs) run lt =
     record {
       there = omega arith;
       same = same;
-      run = parted (passed ++ x ∷ []) xs (before + length (page_in x).pairs) run same (omega (arith, count_append passed (x ∷ []), count_one x));
+      run = parted (passed ++ x ∷ []) xs (before + length x.pairs) run same (omega (arith, count_append passed (x ∷ []), count_one x));
       nearer = omega arith;
     }
 
@@ -83,33 +82,32 @@ without_none (p ∷ ps) each =
     cond-true (ltb 0 (length p.pairs)) (p ∷ ps) (without_pairs (0 - length p.pairs) ps) (lt-ltb 0 (length p.pairs) (All-head HasPairs p ps each))
 
 -- the last step of letting pairs go, on a page that keeps some
-pub free_part : (chain : List (Option PageValue)) (left : ℕ) → left < length (first_page chain).pairs →
-    pages_in (with_first chain (without_first (first_page chain) left)) ≡ without_pairs left (pages_in chain)
+pub free_part : (chain : List PageValue) (left : ℕ) → left < length (first_of chain).pairs →
+    with_first chain (without_first (first_of chain) left) ≡ without_pairs left chain
 free_part [] left lt = absurd (omega arith)
-free_part (x ∷ xs) left lt =
-    let page = page_in x in
-    let less = without_pairs (left - length page.pairs) (pages_in xs) in
-    sym (cond-true (ltb left (length page.pairs)) (without_first page left ∷ pages_in xs) less (lt-ltb left (length page.pairs) lt))
+free_part (page ∷ run) left lt =
+    let less = without_pairs (left - length page.pairs) run in
+    sym (cond-true (ltb left (length page.pairs)) (without_first page left ∷ run) less (lt-ltb left (length page.pairs) lt))
 
 -- a step of letting pairs go, by a whole page
-pub record FreeWhole (chain : List (Option PageValue)) (left : ℕ) : Type 0 where
+pub record FreeWhole (chain : List PageValue) (left : ℕ) : Type 0 where
   pub there : 0 < length chain
-  pub some : 0 < length (first_page chain).pairs
-  pub pages : without_pairs (left - length (first_page chain).pairs) (pages_in (drop 1 chain)) ≡ without_pairs left (pages_in chain)
-  pub within : left - length (first_page chain).pairs ≤ length (pairs_of (pages_in (drop 1 chain)))
-  pub each : All HasPairs (pages_in (drop 1 chain))
+  pub some : 0 < length (first_of chain).pairs
+  pub pages : without_pairs (left - length (first_of chain).pairs) (drop 1 chain) ≡ without_pairs left chain
+  pub within : left - length (first_of chain).pairs ≤ length (pairs_of (drop 1 chain))
+  pub each : All HasPairs (drop 1 chain)
   pub shorter : length (drop 1 chain) + 1 ≡ length chain
 
-pub free_whole : (chain : List (Option PageValue)) (left : ℕ) → 0 < left → length (first_page chain).pairs ≤ left →
-    left ≤ length (pairs_of (pages_in chain)) →
-    All HasPairs (pages_in chain) → FreeWhole chain left
+pub free_whole : (chain : List PageValue) (left : ℕ) → 0 < left → length (first_of chain).pairs ≤ left →
+    left ≤ length (pairs_of chain) →
+    All HasPairs chain → FreeWhole chain left
 free_whole [] left lt le all each = absurd (omega arith)
 free_whole (x ∷ xs) left lt le all each = record {
   there = omega arith;
-  some = All-head HasPairs (page_in x) (pages_in xs) each;
-  pages = (let e = le-ltb left (length (page_in x).pairs) le in rw e refl);
+  some = All-head HasPairs x xs each;
+  pages = (let e = le-ltb left (length x.pairs) le in rw e refl);
   within = omega (arith, count_first x xs);
-  each = All-tail HasPairs (page_in x) (pages_in xs) each;
+  each = All-tail HasPairs x xs each;
   shorter = omega arith;
 }
 
@@ -152,22 +150,22 @@ pub given_more : (a b c : AccountValue) (n : ℕ) → c ≡ with_free b n → b 
 given_more a b c n e f = e ∙ ap (λ (x : AccountValue). with_free x n) f ∙ ap (with_free a) (sym (ap (λ (x : AccountValue). x.free) e))
 
 -- a run without its first n pairs, which has all its pages ahead
-pub freed_run : {passed ahead : List (Option PageValue)} {before len : ℕ} (n : ℕ) (none chain : List (Option PageValue))
+pub freed_run : {passed ahead : List PageValue} {before len : ℕ} (n : ℕ) (none chain : List PageValue)
     → IsRun passed ahead before len → n ≤ len →
-    none ≡ [] → pages_in chain ≡ without_pairs n (pages_in (passed ++ ahead)) → IsRun none chain 0 (len - n)
+    none ≡ [] → chain ≡ without_pairs n (passed ++ ahead) → IsRun none chain 0 (len - n)
 freed_run {passed = passed} {ahead = ahead} {len = len} n none chain run le is_none pages =
     let small = run.small in
     let all = run.len_is in
-    let e = ap length (pairs_without (pages_in (passed ++ ahead)) n) in
+    let e = ap length (pairs_without (passed ++ ahead) n) in
     let short : length chain ≤ length (passed ++ ahead) =
-    omega (arith, ap length pages, fewer_pages (pages_in (passed ++ ahead)) n, length-map chain page_in, length-map (passed ++ ahead) page_in) in
+    omega (arith, ap length pages, fewer_pages (passed ++ ahead) n) in
     let parts = length-append passed ahead in
-    let count : len - n ≡ length (pairs_of (pages_in chain)) =
-    rw pages (omega (arith, e, length-drop n (pairs_of (pages_in (passed ++ ahead))))) in
+    let count : len - n ≡ length (pairs_of chain) =
+    rw pages (omega (arith, e, length-drop n (pairs_of (passed ++ ahead)))) in
     rw is_none (record {
       before_is = refl;
       len_is = count;
-      each = rw pages (each_without (pages_in (passed ++ ahead)) n run.each);
+      each = rw pages (each_without (passed ++ ahead) n run.each);
       small = omega arith;
     })
 

@@ -1,6 +1,7 @@
 pub mod Bytes
 pub mod Frames
+pub mod PagedSpools
 pub mod Pages
-pub mod PlainSpools
+pub mod PlainPages
 pub mod Runs
 pub mod Spools

@@ -1,28 +1,12 @@
--- A page of pairs.
-use Rattle.std.specs.Prelude.{ℕ, ◌-◌, ◌≤◌, ◌≡◌, List, [], ◌∷◌, ◌++◌, drop, get_or}
+-- Pages of pairs, whatever their bytes look like.
+use Rattle.std.specs.Prelude.{ℕ, ◌+◌, ◌-◌, ◌≡◌, List, [], ◌∷◌, ◌++◌, drop, get_or}
 use Rattle.keybytes.specs.declared.rid.Rid.{Rid}
 use Rattle.keybytes.specs.declared.pair.Pair.{Pair}
-use Rattle.run_spool.specs.declared.marks.Marks.{Marks}
-use Rattle.run_spool.specs.Bytes.{read_pairs, Stored, pair_size}
 
 -- the pairs on a page, and how many bytes behind them are free
 pub record PageValue : Type 0 where
   pub pairs : List Pair
   pub room : ℕ
-
--- the pairs that the marks speak of
-abbrev pub pairs_at : List ℕ → Marks → List Pair
-pairs_at bytes m = read_pairs m.count (drop m.start bytes)
-
--- the pairs stand from `start` to `end`, and that with the cursor's number begins at the offset
-pub record IsPage (bytes : List ℕ) (m : Marks) : Type 0 where
-  pub stored : Stored bytes m.start m.end (pairs_at bytes m)
-  pub reached : m.cursor ≤ m.count
-  pub ahead : Stored bytes m.offset m.end (drop m.cursor (pairs_at bytes m))
-
--- what the fields of a page stand for
-abbrev pub page_value : List ℕ → Marks → PageValue
-page_value bytes m = record { pairs = pairs_at bytes m; room = 4096 - m.end }
 
 -- pair n has that key and that RID
 abbrev pub IsPairAt : List Pair → ℕ → List ℕ → Rid → Type 0
@@ -32,10 +16,36 @@ IsPairAt pairs n key rid = let pair : Pair = record { key = key; rid = rid } in 
 abbrev pub no_page : PageValue
 no_page = record { pairs = []; room = 0 }
 
+-- the key of the last of some pairs, or the one before them where there is none
+abbrev pub last_behind : List ℕ → List Pair → List ℕ
+last_behind before [] = before
+last_behind before (p ∷ ps) = last_behind p.key ps
+
+-- the key of the last of a page's pairs, or the empty one
+abbrev pub last_key : List Pair → List ℕ
+last_key ps = last_behind [] ps
+
+-- how many bytes a page needs for one pair more, where `size` tells how many a pair takes behind a key
+abbrev pub size_on : (List ℕ → Pair → ℕ) → PageValue → Pair → ℕ
+size_on size page pair = size (last_key page.pairs) pair
+
+-- a page with just one pair
+abbrev pub page_with : (List ℕ → Pair → ℕ) → Pair → PageValue
+page_with size pair = record { pairs = pair ∷ []; room = 4096 - size [] pair }
+
 -- a page with one pair more
-abbrev pub with_pair : PageValue → Pair → PageValue
-with_pair page pair = record { pairs = page.pairs ++ pair ∷ []; room = page.room - pair_size pair }
+abbrev pub with_pair : (List ℕ → Pair → ℕ) → PageValue → Pair → PageValue
+with_pair size page pair = record { pairs = page.pairs ++ pair ∷ []; room = page.room - size_on size page pair }
 
 -- a page without its first n pairs
 abbrev pub without_first : PageValue → ℕ → PageValue
 without_first page n = record { pairs = drop n page.pairs; room = page.room }
+
+-- how many bytes pairs take, of which the first stands behind a key
+abbrev pub pairs_size : (List ℕ → Pair → ℕ) → List ℕ → List Pair → ℕ
+pairs_size size before [] = 0
+pairs_size size before (p ∷ ps) = size before p + pairs_size size p.key ps
+
+-- the pairs of a page and what is free behind them are the whole page
+abbrev pub IsPacked : (List ℕ → Pair → ℕ) → PageValue → Type 0
+IsPacked size page = pairs_size size [] page.pairs + page.room ≡ 4096

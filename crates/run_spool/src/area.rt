@@ -3,7 +3,7 @@
 
 ghost use Rattle.std.specs.Prelude.{◌≡◌, ◌+◌, ◌-◌, ◌<◌, ◌≤◌, ◌++◌, ◌∷◌, [], length, drop, take, get_or, IfOk, IfErr};
 ghost use Rattle.byteorder.specs.Endian.{big_bytes};
-ghost use Rattle.run_spool.specs.Pages.{IsPage, pairs_at};
+ghost use Rattle.run_spool.specs.PlainPages.{IsPage, pairs_at};
 ghost use Rattle.keybytes.specs.Writes.{overwritten};
 ghost use Rattle.run_spool.specs.Bytes.{pair_bytes, pair_size, first_pair, first_length, read_pairs, Stored, IsPair};
 

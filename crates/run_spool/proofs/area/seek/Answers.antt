@@ -1,7 +1,7 @@
 use Rattle.std.proofs.Common.{◌≡◌, ◌+◌, ◌-◌, ℕ, drop, subst, sym, ap, ◌∙◌, arith}
 use Rattle.std.proofs.lemmas.List.{drop-drop}
 use Rattle.run_spool.specs.Bytes.{read_pairs, Stored}
-use Rattle.run_spool.specs.Pages.{pairs_at}
+use Rattle.run_spool.specs.PlainPages.{pairs_at}
 use Rattle.run_spool.proofs.Marked.{from_cursor}
 use Rattle.run_spool.proofs.area.seek.Goals as goal
 

@@ -1,27 +1,27 @@
-use Rattle.std.proofs.Common.{◌≡◌, ◌+◌, ℕ, List, length, take, drop, ap, sym, ◌∙◌, arith, Option}
+use Rattle.std.proofs.Common.{◌≡◌, ◌+◌, ℕ, List, length, take, drop, ap, sym, ◌∙◌, arith}
 use Rattle.std.proofs.lemmas.List.{length-append}
 use Rattle.spool_ledger.specs.Accounts.{AccountValue}
 use Rattle.run_spool.specs.Pages.{PageValue}
-use Rattle.run_spool.specs.Runs.{pages_in, without_pairs}
+use Rattle.run_spool.specs.Runs.{without_pairs}
 use Rattle.run_spool.proofs.RunSteps.{free_whole, without_none, given_more}
 use Rattle.run_spool.proofs.run.free_first.Goals as goal
 
 pub loop-left-preserved : goal.loop-left-preserved
-loop-left-preserved c =
+loop-left-preserved g c =
     let chain = c.loop-left.chain in
     let i = c.loop-left.invariant in
     let first = c.first_len-first.ensures in
     let test = c.if-left-first.false in
     let f = free_whole chain c.loop-left.left c.loop-left-test.true (omega arith) i.within i.each in
-    let e : c.move_first.new.from ≡ drop 1 chain = c.move_first.ensures.from ∙ ap (λ (xs : List (Option PageValue)). drop 1 xs) c.take_page.ensures.chain in
+    let e : c.move_first.new.self ≡ drop 1 chain = c.move_first.ensures.from ∙ ap (λ (xs : List PageValue). drop 1 xs) c.take_page.ensures.chain in
     let given = i.given in
     let frames = i.frames in
     let shorter = f.shorter in
     let free = ap (λ (a : AccountValue). a.free) c.give_back.ensures in
-    let from : length c.move_first.new.from ≡ length (drop 1 chain) = ap (λ (xs : List (Option PageValue)). length xs) e in
-    let one : length (take 1 c.take_page.new.chain) ≡ 1 = ap (λ (xs : List (Option PageValue)). length (take 1 xs)) c.take_page.ensures.chain in
-    let to : length c.move_first.new.to ≡ length c.loop-left.spare + length (take 1 c.take_page.new.chain) =
-    ap (λ (xs : List (Option PageValue)). length xs) c.move_first.ensures.to ∙ length-append c.loop-left.spare (take 1 c.take_page.new.chain) in
+    let from : length c.move_first.new.self ≡ length (drop 1 chain) = ap (λ (xs : List PageValue). length xs) e in
+    let one : length (take 1 c.take_page.new.self) ≡ 1 = ap (λ (xs : List PageValue). length (take 1 xs)) c.take_page.ensures.chain in
+    let to : length c.move_first.new.to ≡ length c.loop-left.spare + length (take 1 c.take_page.new.self) =
+    ap (λ (xs : List PageValue). length xs) c.move_first.ensures.to ∙ length-append c.loop-left.spare (take 1 c.take_page.new.self) in
     record {
       within = rw (e, first) f.within;
       each = rw e f.each;
@@ -32,8 +32,8 @@ loop-left-preserved c =
     }
 
 pub returns-clause-chain : goal.returns-clause-chain
-returns-clause-chain c =
-    let pages = pages_in c.loop-left.chain in
+returns-clause-chain g c =
+    let pages = c.loop-left.chain in
     let i = c.loop-left.invariant in
     let test = c.loop-left-test.false in
     let z : 0 ≡ c.loop-left.left = omega arith in

@@ -1,7 +1,0 @@
-use Rattle.std.proofs.Common.{◌∙◌, ap}
-use Rattle.run_spool.specs.PlainSpools.{runs_of}
-use Rattle.run_spool.proofs.PairRuns.{freed_runs}
-use Rattle.run_spool.proofs.plain_spool.PlainSpoolSpool.free_front.Goals as goal
-
-pub returns-clause-runs : goal.returns-clause-runs
-returns-clause-runs c = ap runs_of c.free_front.ensures ∙ freed_runs c.args.self.now.runs c.args.i c.args.n
