@@ -1,13 +1,20 @@
 -- Pages in frames, where `value` tells what a page is.
-use Rattle.std.proofs.Common.{◌≡◌, ℕ, ◌+◌, ◌-◌, ◌<◌, List, [], ◌∷◌, ◌++◌, length, get_or, set, take, drop, sym, ap, ◌∙◌, arith, Bool, true, false, if◌then◌else◌, Option, None}
+use Rattle.std.proofs.Common.{◌≡◌, ℕ, ◌-◌, ◌<◌, List, [], ◌∷◌, ◌++◌, length, get_or, set, take, drop, sym, ap, ◌∙◌, arith, Bool, true, false, if◌then◌else◌, Option, None}
 use Rattle.std.specs.List.{take-map, drop-map}
 use Rattle.std.proofs.Math.ListN.{get_or-map}
-use Rattle.std.proofs.lemmas.List.{get_or_default, length-map, map-set}
+use Rattle.std.proofs.lemmas.List.{get_or_default, length-map, map-append, map-set}
 use Rattle.keybytes.specs.declared.pair.Pair.{Pair}
 use Rattle.run_spool.specs.Pages.{PageValue, no_page, with_pair}
 use Rattle.run_spool.specs.Frames.{page_in, pages_in}
 use Rattle.run_spool.specs.Runs.{last_of, with_last, on_last}
 use Rattle.run_spool.proofs.Chains.{set_last, same_last}
+
+-- frames behind others
+pub joined_in : {P : Type 0} (value : P → PageValue) (a b all : List (Option P)) (xs ys : List PageValue) → pages_in value a ≡ xs → pages_in value b ≡ ys
+    → all ≡ a ++ b → pages_in value all ≡ xs ++ ys
+joined_in value a b all xs ys first second are =
+    ap (pages_in value) are ∙ map-append (page_in value) a b ∙ ap (λ (ps : List PageValue). ps ++ pages_in value b) first
+    ∙ ap (λ (ps : List PageValue). xs ++ ps) second
 
 module _ {P : Type 0} (value : P → PageValue) (frames : List (Option P)) (pages : List PageValue) (are : pages_in value frames ≡ pages) where
   -- as many pages as frames

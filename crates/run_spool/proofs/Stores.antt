@@ -8,37 +8,40 @@ use Rattle.byteorder.specs.Numbers.{big_number-reads_back}
 use Rattle.keybytes.specs.declared.rid.Rid.{Rid}
 use Rattle.keybytes.specs.declared.pair.Pair.{Pair}
 use Rattle.keybytes.specs.Writes.{overwritten}
-use Rattle.run_spool.specs.Bytes.{pair_bytes, pair_size, first_length, first_pair, read_pairs, IsPair, Stored}
+use Rattle.run_spool.specs.Bytes.{rid_bytes, first_rid, pair_bytes, pair_size, first_length, first_pair, read_pairs, IsPair, Stored}
 use Rattle.keybytes.proofs.Writes.{length-overwritten, drop-overwritten}
 use Rattle.run_spool.proofs.Writes.{overwritten-thrice}
 
--- the bytes of a row's place
-rid_bytes : Rid → List ℕ
-rid_bytes rid = big_bytes 4 rid.page ++ big_bytes 2 rid.slot
+-- a RID is read back from its bytes
+pub rid_back : (p : Pair) (rest : List ℕ) → IsPair p → first_rid (rid_bytes p.rid ++ rest) ≡ p.rid
+rid_back p rest h =
+    let page_fits = h.1 in
+    let slot_fits = h.2 in
+    let make : ℕ → ℕ → Rid = λ page slot. record { page = page; slot = slot } in
+    let slot = big_bytes 2 p.rid.slot in
+    ap (λ (n : ℕ). make n (big_number 2 (slot ++ rest))) (big_number-reads_back 4 p.rid.page (slot ++ rest) page_fits)
+    ∙ ap (make p.rid.page) (big_number-reads_back 2 p.rid.slot rest slot_fits)
 
 pub length_pair : (p : Pair) → length (pair_bytes p) ≡ pair_size p
-length_pair p = omega (arith, length-append p.key (big_bytes 4 p.rid.page ++ big_bytes 2 p.rid.slot))
+length_pair p = omega (arith, length-append p.key (rid_bytes p.rid))
 
 -- a key's length is read back from the bytes of its pair
 pub length_back : (p : Pair) (rest : List ℕ) → IsPair p → first_length (pair_bytes p ++ rest) ≡ length p.key
 length_back p rest h =
     let short = h.0 in
-    big_number-reads_back 2 (length p.key) ((p.key ++ (big_bytes 4 p.rid.page ++ big_bytes 2 p.rid.slot)) ++ rest) (omega arith)
+    big_number-reads_back 2 (length p.key) ((p.key ++ rid_bytes p.rid) ++ rest) (omega arith)
 
 -- what stands behind a key in the bytes of its pair
-behind_key : (p : Pair) (rest : List ℕ) → drop (2 + length p.key) (pair_bytes p ++ rest) ≡ (big_bytes 4 p.rid.page ++ big_bytes 2 p.rid.slot) ++ rest
+behind_key : (p : Pair) (rest : List ℕ) → drop (2 + length p.key) (pair_bytes p ++ rest) ≡ rid_bytes p.rid ++ rest
 behind_key p rest =
-    let t = big_bytes 4 p.rid.page ++ big_bytes 2 p.rid.slot in
+    let t = rid_bytes p.rid in
     sym (drop-drop (length p.key) 2 (pair_bytes p ++ rest))
     ∙ ap (drop (length p.key)) (append_assoc p.key t rest)
     ∙ drop_at p.key (t ++ rest) (length p.key) refl
 
 -- a pair with its length given
 pair_with : ℕ → List ℕ → Pair
-pair_with n bytes = record {
-  key = take n (drop 2 bytes);
-  rid = record { page = big_number 4 (drop (2 + n) bytes); slot = big_number 2 (drop (6 + n) bytes) };
-}
+pair_with n bytes = record { key = take n (drop 2 bytes); rid = first_rid (drop (2 + n) bytes) }
 
 -- a pair is read back from its bytes
 pub first_back : (p : Pair) (rest : List ℕ) → IsPair p → first_pair (pair_bytes p ++ rest) ≡ p
@@ -46,20 +49,12 @@ unfolding pair_with
 first_back p rest h =
     let b = pair_bytes p ++ rest in
     let n = length p.key in
-    let t = big_bytes 4 p.rid.page ++ big_bytes 2 p.rid.slot in
-    let fits = h.1 in
-    let fits2 = h.2 in
+    let t = rid_bytes p.rid in
     let k : take n (drop 2 b) ≡ p.key = ap (take n) (append_assoc p.key t rest) ∙ take_at p.key (t ++ rest) n refl in
-    let a : big_number 4 (drop (2 + n) b) ≡ p.rid.page =
-    ap (big_number 4) (behind_key p rest) ∙ big_number-reads_back 4 p.rid.page (big_bytes 2 p.rid.slot ++ rest) fits in
-    let six : (2 + n) + 4 ≡ 6 + n = omega arith in
-    let d : drop (6 + n) b ≡ big_bytes 2 p.rid.slot ++ rest =
-    ap (λ (m : ℕ). drop m b) (sym six) ∙ sym (drop-drop 4 (2 + n) b) ∙ ap (drop 4) (behind_key p rest) in
-    let s : big_number 2 (drop (6 + n) b) ≡ p.rid.slot = ap (big_number 2) d ∙ big_number-reads_back 2 p.rid.slot rest fits2 in
+    let r : first_rid (drop (2 + n) b) ≡ p.rid = ap first_rid (behind_key p rest) ∙ rid_back p rest h in
     let e : first_pair b ≡ pair_with n b = ap (λ (m : ℕ). pair_with m b) (length_back p rest h) in
-    let mk : List ℕ → ℕ → ℕ → Pair = λ key page slot. record { key = key; rid = record { page = page; slot = slot } } in
-    e ∙ ap (λ (x : List ℕ). mk x (big_number 4 (drop (2 + n) b)) (big_number 2 (drop (6 + n) b))) k
-    ∙ ap (λ (x : ℕ). mk p.key x (big_number 2 (drop (6 + n) b))) a ∙ ap (mk p.key p.rid.page) s
+    let make : List ℕ → Rid → Pair = λ key rid. record { key = key; rid = rid } in
+    e ∙ ap (λ (x : List ℕ). make x (first_rid (drop (2 + n) b))) k ∙ ap (make p.key) r
 
 -- pairs are read back from their bytes
 pub read_back : (ps : List Pair) (rest : List ℕ) → All IsPair ps → read_pairs (length ps) (flat_map pair_bytes ps ++ rest) ≡ ps
@@ -170,15 +165,15 @@ push {bytes = bytes} {at = at} {end = end} {ps = ps} p good fits h =
 
 -- three writes that are one write of a pair
 pub pair_written : (p : Pair) (at : ℕ) (bytes one two three length_bytes key rid : List ℕ) → at + pair_size p ≤ length bytes → key ≡ p.key →
-    length_bytes ≡ big_bytes 2 (length key) → rid ≡ big_bytes 4 p.rid.page ++ big_bytes 2 p.rid.slot →
+    length_bytes ≡ big_bytes 2 (length key) → rid ≡ rid_bytes p.rid →
     one ≡ overwritten at length_bytes bytes → two ≡ overwritten (at + 2) key one → three ≡ overwritten (at + 2 + length key) rid two →
     three ≡ overwritten at (pair_bytes p) bytes
-unfolding rid_bytes
 pair_written p at bytes one two three length_bytes key rid fits k l r first second third =
     let n = ap length k in
-    let all = overwritten-thrice at (big_bytes 2 (length key)) key (big_bytes 4 p.rid.page ++ big_bytes 2 p.rid.slot) bytes (omega arith) in
+    let t = rid_bytes p.rid in
+    let all = overwritten-thrice at (big_bytes 2 (length key)) key t bytes (omega arith) in
     third ∙ ap (overwritten (at + 2 + length key) rid) (second ∙ ap (overwritten (at + 2) key) first)
     ∙ ap (λ (xs : List ℕ). overwritten (at + 2 + length key) xs (overwritten (at + 2) key (overwritten at length_bytes bytes))) r
-    ∙ ap (λ (xs : List ℕ). overwritten (at + 2 + length key) (rid_bytes p.rid) (overwritten (at + 2) key (overwritten at xs bytes))) l
+    ∙ ap (λ (xs : List ℕ). overwritten (at + 2 + length key) t (overwritten (at + 2) key (overwritten at xs bytes))) l
     ∙ all
-    ∙ ap (λ (xs : List ℕ). overwritten at (big_bytes 2 (length xs) ++ (xs ++ (big_bytes 4 p.rid.page ++ big_bytes 2 p.rid.slot))) bytes) k
+    ∙ ap (λ (xs : List ℕ). overwritten at (big_bytes 2 (length xs) ++ (xs ++ t)) bytes) k

@@ -2,11 +2,20 @@
 use Rattle.std.specs.Prelude.{ℕ, zero, suc, ◌+◌, ◌^◌, ◌≤◌, ◌<◌, ◌≡◌, List, [], ◌∷◌, ◌++◌, length, take, drop}
 use Rattle.std.specs.List.{All, flat_map}
 use Rattle.byteorder.specs.Endian.{big_bytes, big_number}
+use Rattle.keybytes.specs.declared.rid.Rid.{Rid}
 use Rattle.keybytes.specs.declared.pair.Pair.{Pair}
 
--- the bytes of a pair: the key's length, the key, the row's page and its slot
+-- the bytes of a RID: its page and its slot
+abbrev pub rid_bytes : Rid → List ℕ
+rid_bytes rid = big_bytes 4 rid.page ++ big_bytes 2 rid.slot
+
+-- the RID that stands first in bytes
+abbrev pub first_rid : List ℕ → Rid
+first_rid bytes = record { page = big_number 4 bytes; slot = big_number 2 (drop 4 bytes) }
+
+-- the bytes of a pair: the key's length, the key and the RID
 abbrev pub pair_bytes : Pair → List ℕ
-pair_bytes p = big_bytes 2 (length p.key) ++ (p.key ++ (big_bytes 4 p.rid.page ++ big_bytes 2 p.rid.slot))
+pair_bytes p = big_bytes 2 (length p.key) ++ (p.key ++ rid_bytes p.rid)
 
 -- how many bytes a pair takes
 abbrev pub pair_size : Pair → ℕ
@@ -20,7 +29,7 @@ first_length bytes = big_number 2 bytes
 abbrev pub first_pair : List ℕ → Pair
 first_pair bytes = record {
   key = take (first_length bytes) (drop 2 bytes);
-  rid = record { page = big_number 4 (drop (2 + first_length bytes) bytes); slot = big_number 2 (drop (6 + first_length bytes) bytes) };
+  rid = first_rid (drop (2 + first_length bytes) bytes);
 }
 
 -- the first n pairs in bytes

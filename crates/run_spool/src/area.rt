@@ -8,6 +8,7 @@ ghost use Rattle.keybytes.specs.Writes.{overwritten};
 ghost use Rattle.run_spool.specs.Bytes.{pair_bytes, pair_size, first_pair, first_length, read_pairs, Stored, IsPair};
 
 use crate::marks::Marks;
+use crate::places::{number_at, rid_at, rid_to_bytes, write_at};
 use byteorder::{BigEndian, ByteOrder};
 use keybytes::{Fault, Key, Pair, Rid};
 use spool_ledger::PAGE_SIZE;
@@ -17,24 +18,6 @@ pub(crate) const FIXED_SIZE: usize = 8;
 
 /// Where the key begins in a pair.
 const KEY_AT: usize = 2;
-
-/// Writes `new` over the bytes that stand at a place.
-fn write_at(bytes: &mut [u8; PAGE_SIZE], at: usize, new: &[u8])
-    requires { at + length new.now ≤ PAGE_SIZE }
-    ensures { bytes.new ≡ overwritten at new.now bytes.old }
-{
-    bytes[at..at + new.len()].copy_from_slice(new);
-}
-
-/// The six bytes of a RID.
-fn rid_to_bytes(page: u32, slot: u16) -> [u8; 6]
-    ensures { result ≡ big_bytes 4 page ++ big_bytes 2 slot }
-{
-    let mut bytes = [0; 6];
-    BigEndian::write_u32(&mut bytes, page);
-    BigEndian::write_u16(&mut bytes[4..], slot);
-    bytes
-}
 
 /// Writes a pair at a place.
 pub(crate) fn write_pair(bytes: &mut [u8; PAGE_SIZE], at: usize, pair: &Pair)
@@ -56,7 +39,7 @@ fn key_length(bytes: &[u8; PAGE_SIZE], at: usize) -> usize
     requires { at + 2 ≤ PAGE_SIZE }
     ensures { result ≡ first_length (drop at bytes.now) }
 {
-    BigEndian::read_u16(&bytes[at..]) as usize
+    number_at(bytes, at)
 }
 
 /// Where the pair with number `n` of those from `start` on begins, or the end of the pairs if there are just `n`.
@@ -93,11 +76,8 @@ pub(crate) fn read_pair(bytes: &[u8; PAGE_SIZE], at: usize, key: &mut Key) -> Re
     ensures key { IfOk result (λ _. key.new ≡ (first_pair (drop at bytes.now)).key) }
     ensures memory { IfErr result (λ fault. fault ≡ Fault.Memory) }
 {
-    let rid_at = at + KEY_AT + key_length(bytes, at);
+    let behind = at + KEY_AT + key_length(bytes, at);
     key.cut(0);
-    key.add(&bytes[at + KEY_AT..rid_at])?;
-    Ok(Rid {
-        page: BigEndian::read_u32(&bytes[rid_at..]),
-        slot: BigEndian::read_u16(&bytes[rid_at + 4..]),
-    })
+    key.add(&bytes[at + KEY_AT..behind])?;
+    Ok(rid_at(bytes, behind))
 }

@@ -21,6 +21,7 @@ mod many;
 mod marks;
 mod page_of_pairs;
 mod paged_spool;
+pub mod places;
 mod plain_page;
 mod run;
 mod spool;

@@ -1,8 +1,7 @@
 use Rattle.std.proofs.Common.{◌≡◌, ◌-◌, ◌++◌, ℕ, List, length, take, drop, ap, ◌∙◌, arith}
-use Rattle.std.proofs.lemmas.List.{map-append}
 use Rattle.run_spool.specs.Pages.{PageValue}
-use Rattle.run_spool.specs.Frames.{page_in, pages_in}
-use Rattle.run_spool.proofs.Frames.{count_in, taken_in, dropped_in}
+use Rattle.run_spool.specs.Frames.{pages_in}
+use Rattle.run_spool.proofs.Frames.{count_in, taken_in, dropped_in, joined_in}
 use Rattle.run_spool.proofs.chain.Chain.move_last.Goals as goal
 
 pub returns-clause-from : goal.returns-clause-from
@@ -21,7 +20,5 @@ returns-clause-to g c =
     let n : c.len-last.result - 1 ≡ length pages - 1 = omega (arith, c.len-last.ensures.value, count_in value frames pages c.self.view_is) in
     let last : pages_in value c.in-Ok.chain ≡ drop (length pages - 1) pages =
     ap (pages_in value) c.in-Ok.ensures.tail ∙ dropped_in value frames pages c.self.view_is (c.len-last.result - 1) ∙ ap (λ (k : ℕ). drop k pages) n in
-    ap (pages_in value) (c.swap.ensures.x_after ∙ c.in-Ok-append.ensures.items)
-    ∙ map-append (page_in value) c.in-Ok.chain c.to.inside.frames
-    ∙ ap (λ (ps : List PageValue). ps ++ pages_in value c.to.inside.frames) last
-    ∙ ap (λ (ps : List PageValue). drop (length pages - 1) pages ++ ps) c.to.view_is
+    let all : c.swap.new.x ≡ c.in-Ok.chain ++ c.to.inside.frames = c.swap.ensures.x_after ∙ c.in-Ok-append.ensures.items in
+    joined_in value c.in-Ok.chain c.to.inside.frames c.swap.new.x (drop (length pages - 1) pages) c.args.to.now last c.to.view_is all

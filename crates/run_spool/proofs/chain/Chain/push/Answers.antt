@@ -1,4 +1,4 @@
-use Rattle.std.proofs.Common.{◌∙◌, ◌≡◌, ◌<◌, ◌-◌, length, get_or, refl}
+use Rattle.std.proofs.Common.{refl}
 use Rattle.run_spool.proofs.Frames.{pushed_in}
 use Rattle.run_spool.proofs.chain.Chain.push.Goals.{in-Some, in-None}
 use Rattle.run_spool.proofs.chain.Chain.push.Goals as goal

@@ -1,4 +1,4 @@
-use Rattle.std.proofs.Common.{◌≡◌, ◌++◌, ◌∷◌, [], List, vec_capacity, ap, ◌∙◌, rules, arith}
+use Rattle.std.proofs.Common.{◌++◌, ◌∷◌, [], List, vec_capacity, ap, ◌∙◌, rules}
 use Rattle.run_spool.specs.Pages.{PageValue}
 use Rattle.run_spool.proofs.SpoolSteps.{run_closed}
 use Rattle.run_spool.proofs.paged_spool.PagedSpool.end_run.Goals as goal

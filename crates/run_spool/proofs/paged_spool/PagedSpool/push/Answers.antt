@@ -1,4 +1,4 @@
-use Rattle.std.proofs.Common.{◌≡◌, ◌∙◌, ◌++◌, ◌∷◌, [], ℕ, List, length, ap, sym, subst, rules, arith}
+use Rattle.std.proofs.Common.{◌≡◌, ◌∙◌, ◌++◌, ◌∷◌, [], List, length, ap, sym, subst, rules, arith}
 use Rattle.std.proofs.lemmas.List.{length-drop}
 use Rattle.keybytes.specs.declared.pair.Pair.{Pair}
 use Rattle.run_spool.specs.Pages.{PageValue, last_key, page_with}

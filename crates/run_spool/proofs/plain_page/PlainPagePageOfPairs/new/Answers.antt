@@ -1,9 +1,8 @@
-use Rattle.std.proofs.Common.{◌≡◌, ◌+◌, ◌-◌, ◌∷◌, [], ℕ, List, length, ap, ◌∙◌}
+use Rattle.std.proofs.Common.{◌+◌, ◌-◌, ◌∷◌, [], ℕ, List, length, ap, ◌∙◌}
 use Rattle.keybytes.specs.declared.pair.Pair.{Pair}
 use Rattle.keybytes.specs.Writes.{overwritten}
-use Rattle.run_spool.specs.Bytes.{pair_bytes, pair_size}
+use Rattle.run_spool.specs.Bytes.{pair_bytes}
 use Rattle.run_spool.specs.Pages.{PageValue}
-use Rattle.run_spool.specs.PlainPages.{plain_size}
 use Rattle.run_spool.proofs.Marked.{Made, made}
 use Rattle.run_spool.proofs.plain_page.PlainPagePageOfPairs.new.Goals as goal
 use Rattle.run_spool.proofs.plain_page.PlainPagePageOfPairs.new.Goals.{After-write_pair}
