@@ -1,0 +1,3 @@
+pub mod SharedFronts
+pub mod Stands
+pub mod Marked
