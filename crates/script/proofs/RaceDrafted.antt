@@ -8,7 +8,7 @@ use Rattle.script.specs.RaceDrafts.{HasReadRace, IsMissing, IsRaceDraft, IsWhole
 use Rattle.script.specs.RaceExplanations.{ExplainsRace}
 use Rattle.script.specs.RaceOrder.{AreWhole, MayStand, has, name_at, name_of_line, names}
 use Rattle.script.specs.RaceScripts.{AreGoodOfRace, IsFirstBadOfRace, RecordSpellsRace, SpellsRaceScript, StandsBehindRace}
-use Rattle.script.specs.RaceScripts.{build_at, row_at, step_at, table_at}
+use Rattle.script.specs.RaceScripts.{build_at, choice_at, choice_of, row_at, step_at, table_at}
 use Rattle.script.specs.RaceStops.{TakesRaceLine}
 use Rattle.script.specs.Records.{records_of}
 use Rattle.script.specs.declared.race.check_error.RaceCheckError.TheVariants.{Bad}
@@ -17,7 +17,7 @@ use Rattle.script.specs.declared.race.line.RaceLine.{RaceLine}
 use Rattle.script.specs.declared.race.name.RaceName.{RaceName}
 use Rattle.script.specs.declared.race.name.RaceName.TheVariants as name
 use Rattle.script.specs.declared.race.script.RaceScript.{RaceScript}
-use Rattle.script.proofs.RaceGathered.{has_build, has_table, in_order_more, none_some, pushed, some_append}
+use Rattle.script.proofs.RaceGathered.{has_build, has_spools, has_table, in_order_more, none_some, pushed, some_append}
 use Rattle.script.proofs.Zips.{zip_push}
 
 -- the draft with one more line
@@ -28,6 +28,7 @@ drafted_more draft lines number line is drafted =
     record {
       tables = pushed table_at lines line number draft.tables is drafted.tables;
       rows = pushed row_at lines line number draft.rows is drafted.rows;
+      choices = pushed choice_at lines line number draft.choices is drafted.choices;
       builds = pushed build_at lines line number draft.builds is drafted.builds;
       steps = pushed step_at lines line number draft.steps is drafted.steps;
       begun = ap is_some_list named ∙ some_append (names lines) (name_at number line) ∙ rw drafted.begun refl;
@@ -38,6 +39,9 @@ drafted_more draft lines number line is drafted =
 built : (draft : RaceDraftValue) (lines : List RaceLine) → IsRaceDraft draft lines → has name.Build (names lines) ≡ is_some_list draft.builds
 built draft lines drafted = has_build lines ∙ ap is_some_list drafted.builds
 
+chosen : (draft : RaceDraftValue) (lines : List RaceLine) → IsRaceDraft draft lines → has name.Spools (names lines) ≡ is_some_list draft.choices
+chosen draft lines drafted = has_spools lines ∙ ap is_some_list drafted.choices
+
 tabled : (draft : RaceDraftValue) (lines : List RaceLine) → IsRaceDraft draft lines → has name.Table (names lines) ≡ is_some_list draft.tables
 tabled draft lines drafted = has_table lines ∙ ap is_some_list drafted.tables
 
@@ -46,6 +50,7 @@ pub may_stand : (draft : RaceDraftValue) (lines : List RaceLine) (named : Option
 may_stand draft lines None drafted may = tt
 may_stand draft lines (Some name.Table) drafted may = none_some (names lines) (drafted.begun ∙ may)
 may_stand draft lines (Some name.Row) drafted may = drafted.gone ∙ may
+may_stand draft lines (Some name.Spools) drafted may = (drafted.gone ∙ may.0, chosen draft lines drafted ∙ may.1)
 may_stand draft lines (Some name.Build) drafted may = (drafted.gone ∙ may.0, built draft lines drafted ∙ may.1)
 may_stand draft lines (Some name.Go) drafted may = drafted.gone ∙ may
 may_stand draft lines (Some name.In) drafted may = drafted.gone ∙ may
@@ -54,6 +59,7 @@ pub may_come : (draft : RaceDraftValue) (lines : List RaceLine) (named : Option 
 may_come draft lines None drafted may = tt
 may_come draft lines (Some name.Table) drafted may = sym drafted.begun ∙ ap is_some_list may
 may_come draft lines (Some name.Row) drafted may = sym drafted.gone ∙ may
+may_come draft lines (Some name.Spools) drafted may = (sym drafted.gone ∙ may.0, sym (chosen draft lines drafted) ∙ may.1)
 may_come draft lines (Some name.Build) drafted may = (sym drafted.gone ∙ may.0, sym (built draft lines drafted) ∙ may.1)
 may_come draft lines (Some name.Go) drafted may = sym drafted.gone ∙ may
 may_come draft lines (Some name.In) drafted may = sym drafted.gone ∙ may
@@ -93,9 +99,10 @@ whole draft lines drafted is = (tabled draft lines drafted ∙ is.0, built draft
 
 -- no record is left, and the draft is the script
 pub good_end : (text : List ℕ) (draft : RaceDraftValue) (number : ℕ) (script : RaceScript) → HasReadRace text [] draft number
-    → draft.tables ≡ (script.table_number, script.table) ∷ [] → draft.rows ≡ script.rows.items → draft.builds ≡ script.build ∷ []
-    → draft.steps ≡ script.steps.items → draft.gone ≡ true → SpellsRaceScript text script
-good_end text draft number script read table rows build steps gone =
+    → draft.tables ≡ (script.table_number, script.table) ∷ [] → draft.rows ≡ script.rows.items
+    → choice_of draft.choices ≡ script.choice → draft.builds ≡ script.build ∷ [] → draft.steps ≡ script.steps.items → draft.gone ≡ true
+    → SpellsRaceScript text script
+good_end text draft number script read table rows choice build steps gone =
     let lines = read.0 in
     let drafted = read.2 in (
       lines,
@@ -104,6 +111,7 @@ good_end text draft number script read table rows build steps gone =
       record {
         table = drafted.tables ∙ table;
         rows = drafted.rows ∙ rows;
+        choice = ap choice_of drafted.choices ∙ choice;
         build = drafted.builds ∙ build;
         steps = drafted.steps ∙ steps;
       },
@@ -115,6 +123,7 @@ missed draft lines name.Table drafted none = tabled draft lines drafted ∙ ap i
 missed draft lines name.Build drafted none = built draft lines drafted ∙ ap is_some_list none
 missed draft lines name.Go drafted none = drafted.gone ∙ none
 missed draft lines name.Row drafted none = absurd none
+missed draft lines name.Spools drafted none = absurd none
 missed draft lines name.In drafted none = absurd none
 
 not_whole : (lines : List RaceLine) (draft : RaceDraftValue) (one : RaceName) → IsRaceDraft draft lines → IsMissing draft one → AreWhole (names lines) → ⊥
@@ -122,6 +131,7 @@ not_whole lines draft name.Table drafted none is = let both = sym (missed draft 
 not_whole lines draft name.Build drafted none is = let both = sym (missed draft lines name.Build drafted none) ∙ is.1 in cc
 not_whole lines draft name.Go drafted none is = let both = sym (missed draft lines name.Go drafted none) ∙ is.2 in cc
 not_whole lines draft name.Row drafted none is = absurd none
+not_whole lines draft name.Spools drafted none is = absurd none
 not_whole lines draft name.In drafted none is = absurd none
 
 pub bad_end : (text : List ℕ) (draft : RaceDraftValue) (number : ℕ) (one : RaceName) → HasReadRace text [] draft number → IsMissing draft one

@@ -5,9 +5,9 @@ use Rattle.std.proofs.lemmas.List.Folds.{list_any-append}
 use Rattle.std.specs.List.{list_any}
 use Rattle.script.specs.RaceDrafts.{is_some_list}
 use Rattle.script.specs.RaceOrder.{AreInOrder, MayStand, gathered, has, name_at, name_of_line, names}
-use Rattle.script.specs.RaceScripts.{build_at, table_at}
+use Rattle.script.specs.RaceScripts.{build_at, choice_at, table_at}
 use Rattle.script.specs.declared.race.line.RaceLine.{RaceLine}
-use Rattle.script.specs.declared.race.line.RaceLine.TheVariants.{PassedOver, Table, Row, Build, Go, In}
+use Rattle.script.specs.declared.race.line.RaceLine.TheVariants.{PassedOver, Table, Row, Spools, Build, Go, In}
 use Rattle.script.specs.declared.race.name.RaceName.{RaceName}
 use Rattle.script.specs.declared.race.name.RaceName.TheVariants as name
 
@@ -54,20 +54,34 @@ table_named : (number : ℕ) (line : RaceLine) → has name.Table (name_at numbe
 table_named number PassedOver = refl
 table_named number (Table table) = refl
 table_named number (Row cells) = refl
+table_named number (Spools choice) = refl
 table_named number (Build build) = refl
 table_named number Go = refl
 table_named number (In session command) = refl
+
+choice_named : (number : ℕ) (line : RaceLine) → has name.Spools (name_at number line) ≡ is_some_list (choice_at number line)
+choice_named number PassedOver = refl
+choice_named number (Table table) = refl
+choice_named number (Row cells) = refl
+choice_named number (Spools choice) = refl
+choice_named number (Build build) = refl
+choice_named number Go = refl
+choice_named number (In session command) = refl
 
 build_named : (number : ℕ) (line : RaceLine) → has name.Build (name_at number line) ≡ is_some_list (build_at number line)
 build_named number PassedOver = refl
 build_named number (Table table) = refl
 build_named number (Row cells) = refl
+build_named number (Spools choice) = refl
 build_named number (Build build) = refl
 build_named number Go = refl
 build_named number (In session command) = refl
 
 pub has_table : (lines : List RaceLine) → has name.Table (names lines) ≡ is_some_list (gathered table_at 1 lines)
 has_table lines = linked _ table_at table_named 1 lines
+
+pub has_spools : (lines : List RaceLine) → has name.Spools (names lines) ≡ is_some_list (gathered choice_at 1 lines)
+has_spools lines = linked _ choice_at choice_named 1 lines
 
 pub has_build : (lines : List RaceLine) → has name.Build (names lines) ≡ is_some_list (gathered build_at 1 lines)
 has_build lines = linked _ build_at build_named 1 lines

@@ -7,10 +7,11 @@ use Rattle.script.specs.RaceLines.{SpellBuild, SpellIn, SpellRaceLine, as_comman
 use Rattle.script.specs.RaceOrder.{name_of_line}
 use Rattle.script.specs.RaceShapes.{FitsRace, HasRaceShape}
 use Rattle.script.specs.Shapes.{IsRemark, is_of_session}
+use Rattle.script.specs.declared.command.Command.TheVariants as command
 use Rattle.script.specs.declared.part.Part.TheVariants as part
 use Rattle.script.specs.declared.race.build.Build.{Build}
 use Rattle.script.specs.declared.race.line.RaceLine.{RaceLine}
-use Rattle.script.specs.declared.race.line.RaceLine.TheVariants.{PassedOver, Table, Row, Build as BuildLine, Go, In}
+use Rattle.script.specs.declared.race.line.RaceLine.TheVariants.{PassedOver, Table, Row, Spools, Build as BuildLine, Go, In}
 use Rattle.script.specs.declared.race.name.RaceName.{RaceName}
 use Rattle.script.specs.declared.race.name.RaceName.TheVariants as name
 use Rattle.script.specs.declared.race.session_command.SessionCommand.{SessionCommand}
@@ -48,12 +49,14 @@ pub race_line_shape : (fields : List (List ℕ)) (line : RaceLine) → SpellRace
 race_line_shape [] PassedOver spelled = spelled
 race_line_shape [] (Table table) spelled = spelled
 race_line_shape [] (Row cells) spelled = spelled
+race_line_shape [] (Spools choice) spelled = spelled
 race_line_shape [] (BuildLine build) spelled = spelled
 race_line_shape [] Go spelled = spelled
 race_line_shape [] (In session command) spelled = spelled
 race_line_shape (f ∷ fs) PassedOver spelled = inl spelled
 race_line_shape (f ∷ fs) (Table table) spelled = inr (name.Table, spelled.0, table_fits fs table spelled.1)
 race_line_shape (f ∷ fs) (Row cells) spelled = inr (name.Row, spelled.0, each_fits SpellsCell part.Cell cell_part fs cells.items spelled.1)
+race_line_shape (f ∷ fs) (Spools choice) spelled = inr (name.Spools, spelled.0, command_fits fs (command.Spools choice) spelled.1)
 race_line_shape (f ∷ fs) (BuildLine build) spelled = inr (name.Build, spelled.0, build_fits fs build spelled.1)
 race_line_shape (f ∷ fs) Go spelled = inr (name.Go, spelled.0, none_fit fs spelled.1)
 race_line_shape (f ∷ fs) (In session command) spelled = inr (name.In, spelled.0, in_fits fs session command spelled.1)
@@ -63,6 +66,7 @@ named : List ℕ → RaceName
 named text =
     if bytes_eq text (codes "table") then name.Table
     else if bytes_eq text (codes "row") then name.Row
+    else if bytes_eq text (codes "spools") then name.Spools
     else if bytes_eq text (codes "build") then name.Build
     else if bytes_eq text (codes "go") then name.Go
     else name.In
@@ -71,6 +75,7 @@ named_written : (one : RaceName) → named (race_written one) ≡ one
 unfolding named
 named_written name.Table = refl
 named_written name.Row = refl
+named_written name.Spools = refl
 named_written name.Build = refl
 named_written name.Go = refl
 named_written name.In = refl
@@ -83,6 +88,7 @@ same_name one other same = sym (named_written one) ∙ ap named same ∙ named_w
 begins_plain : (one : RaceName) → (slice_index (race_written one) 0 == 35) ≡ false
 begins_plain name.Table = refl
 begins_plain name.Row = refl
+begins_plain name.Spools = refl
 begins_plain name.Build = refl
 begins_plain name.Go = refl
 begins_plain name.In = refl
@@ -101,6 +107,7 @@ unfolding BeginsAs
 begins_as first rest PassedOver spelled = spelled
 begins_as first rest (Table table) spelled = spelled.0
 begins_as first rest (Row cells) spelled = spelled.0
+begins_as first rest (Spools choice) spelled = spelled.0
 begins_as first rest (BuildLine build) spelled = spelled.0
 begins_as first rest Go spelled = spelled.0
 begins_as first rest (In session command) spelled = spelled.0
@@ -118,6 +125,7 @@ pub same_line_name : (fields : List (List ℕ)) (one other : RaceLine) → Spell
 same_line_name [] PassedOver other spelled also = absurd spelled
 same_line_name [] (Table table) other spelled also = absurd spelled
 same_line_name [] (Row cells) other spelled also = absurd spelled
+same_line_name [] (Spools choice) other spelled also = absurd spelled
 same_line_name [] (BuildLine build) other spelled also = absurd spelled
 same_line_name [] Go other spelled also = absurd spelled
 same_line_name [] (In session command) other spelled also = absurd spelled

@@ -2,12 +2,12 @@
 use Rattle.std.proofs.Common.{◌≡◌, ◌==◌, ℕ, true, false, List, [], ◌∷◌, slice_index, codes, if◌then◌else◌, Some, None, arith, inl, inr, ap, refl, sym, ◌∙◌}
 use Rattle.std.specs.List.{AllZip}
 use Rattle.std.specs.Str.{bytes_eq}
-use Rattle.script.specs.Fields.{SpellEach, SpellsCell, SpellsKind, SpellsNumber, SpellsRid, SpellsSpec}
+use Rattle.script.specs.Fields.{SpellEach, SpellsCell, SpellsKind, SpellsNumber, SpellsRid, SpellsSpec, SpellsSpools}
 use Rattle.script.specs.Lines.{SpellLine, SpellParts, SpellTable, SpellsLabel, name_of}
 use Rattle.script.specs.Shapes.{Fit, HasShape, IsRemark, IsSpelled, parts_of, repeated_of, written}
 use Rattle.script.specs.declared.command.Command.{Command}
 use Rattle.script.specs.declared.command.Command.TheVariants.{Row, Begin, Insert, Update, Delete, Undo, Commit, Get, Start as StartCommand, Scan, Digest, Seal}
-use Rattle.script.specs.declared.command.Command.TheVariants.{Load, Feed, Apply, Fence, Switch, Abandon, Side, Pairs, Rest}
+use Rattle.script.specs.declared.command.Command.TheVariants.{Load, Feed, Apply, Fence, Switch, Abandon, Side, Pairs, Rest, Spools}
 use Rattle.script.specs.declared.command_name.CommandName.{CommandName}
 use Rattle.script.specs.declared.command_name.CommandName.TheVariants as name
 use Rattle.script.specs.declared.line.Line.{Line}
@@ -37,6 +37,9 @@ kind_part text kind spelled = (kind, spelled)
 
 pub spec_part : SpellsPart SpellsSpec part.Spec
 spec_part text spec spelled = (spec, spelled)
+
+spools_part : SpellsPart SpellsSpools part.Spools
+spools_part text choice spelled = (choice, spelled)
 
 -- one text for one value, two for two, and one or more
 one_fits : {A : Type 0} (Spells : List ℕ → A → Type 0) (one : Part) → SpellsPart Spells one → (fields : List (List ℕ)) (value : A)
@@ -83,6 +86,7 @@ command_fits (f ∷ fs) (Delete label rid) spelled = (spelled.0.1, one_fits Spel
 command_fits fields (Undo label) spelled = one_fits SpellsLabel part.Label label_part fields label spelled
 command_fits fields (Commit label) spelled = one_fits SpellsLabel part.Label label_part fields label spelled
 command_fits fields (Get rid) spelled = one_fits SpellsRid part.Rid rid_part fields rid spelled
+command_fits fields (Spools choice) spelled = one_fits SpellsSpools part.Spools spools_part fields choice spelled
 command_fits [] (StartCommand start) spelled = spelled
 command_fits (f ∷ []) (StartCommand start) spelled = absurd spelled.1
 command_fits (f ∷ g ∷ []) (StartCommand start) spelled = absurd spelled.1.1
@@ -126,6 +130,7 @@ named text =
     else if bytes_eq text (codes "undo") then name.Undo
     else if bytes_eq text (codes "commit") then name.Commit
     else if bytes_eq text (codes "get") then name.Get
+    else if bytes_eq text (codes "spools") then name.Spools
     else if bytes_eq text (codes "start") then name.Start
     else if bytes_eq text (codes "scan") then name.Scan
     else if bytes_eq text (codes "digest") then name.Digest
@@ -151,6 +156,7 @@ named_written name.Delete = refl
 named_written name.Undo = refl
 named_written name.Commit = refl
 named_written name.Get = refl
+named_written name.Spools = refl
 named_written name.Start = refl
 named_written name.Scan = refl
 named_written name.Digest = refl
@@ -180,6 +186,7 @@ begins_plain name.Delete = refl
 begins_plain name.Undo = refl
 begins_plain name.Commit = refl
 begins_plain name.Get = refl
+begins_plain name.Spools = refl
 begins_plain name.Start = refl
 begins_plain name.Scan = refl
 begins_plain name.Digest = refl
@@ -208,6 +215,7 @@ not_table (Delete label rid) is = cc
 not_table (Undo label) is = cc
 not_table (Commit label) is = cc
 not_table (Get rid) is = cc
+not_table (Spools choice) is = cc
 not_table (StartCommand start) is = cc
 not_table (Scan range worker) is = cc
 not_table (Digest worker) is = cc

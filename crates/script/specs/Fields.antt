@@ -13,6 +13,8 @@ use Rattle.keybytes.specs.declared.rid.Rid.{Rid}
 use Rattle.scan_range.specs.declared.dealing.Dealing.{Dealing}
 use Rattle.scan_range.specs.declared.dealing.Dealing.TheVariants.{Ends, Even}
 use Rattle.script.specs.declared.spec.Spec.{Spec}
+use Rattle.script.specs.declared.spool_choice.SpoolChoice.{SpoolChoice}
+use Rattle.script.specs.declared.spool_choice.SpoolChoice.TheVariants.{Plain, Prefix, Mixed}
 
 -- one or more characters, all of them decimal digits
 abbrev pub is_digits : List ℕ → Bool
@@ -86,6 +88,12 @@ spec_front unique = if unique then codes "u:" else codes "n:"
 -- the text spells the key specification
 abbrev pub SpellsSpec : List ℕ → Spec → Type 0
 SpellsSpec text spec = (columns : List ℕ) × (text ≡ spec_front spec.unique ++ columns) × SpellsNumbers columns spec.columns.items
+
+-- the text spells the kind of the spools of builds
+abbrev pub SpellsSpools : List ℕ → SpoolChoice → Type 0
+SpellsSpools text Plain = text ≡ codes "plain"
+SpellsSpools text Prefix = text ≡ codes "prefix"
+SpellsSpools text Mixed = text ≡ codes "mixed"
 
 -- the text spells how pages are dealt into ranges
 abbrev pub SpellsDealing : List ℕ → Dealing → Type 0

@@ -3,13 +3,13 @@ use Rattle.std.specs.Prelude.{◌≡◌, ℕ, true, List, [], ◌∷◌}
 use Rattle.std.specs.List.{AllZip}
 use Rattle.keybytes.specs.declared.cell.Cell.{Cell}
 use Rattle.keybytes.specs.declared.rid.Rid.{Rid}
-use Rattle.script.specs.Fields.{is_label, SpellEach, SpellsCell, SpellsDealing, SpellsKind, SpellsNumber, SpellsRid, SpellsSpec}
+use Rattle.script.specs.Fields.{is_label, SpellEach, SpellsCell, SpellsDealing, SpellsKind, SpellsNumber, SpellsRid, SpellsSpec, SpellsSpools}
 use Rattle.script.specs.Shapes.{IsRemark, written}
 use Rattle.script.specs.declared.line.Line.{Line}
 use Rattle.script.specs.declared.line.Line.TheVariants.{PassedOver, Table as TableLine, Command as CommandLine}
 use Rattle.script.specs.declared.command.Command.{Command}
 use Rattle.script.specs.declared.command.Command.TheVariants.{Row, Begin, Insert, Update, Delete, Undo, Commit, Get, Start as StartCommand, Scan, Digest, Seal}
-use Rattle.script.specs.declared.command.Command.TheVariants.{Load, Feed, Apply, Fence, Switch, Abandon, Side, Pairs, Rest}
+use Rattle.script.specs.declared.command.Command.TheVariants.{Load, Feed, Apply, Fence, Switch, Abandon, Side, Pairs, Rest, Spools}
 use Rattle.script.specs.declared.command_name.CommandName.{CommandName}
 use Rattle.script.specs.declared.command_name.CommandName.TheVariants as name
 use Rattle.script.specs.declared.start.Start.{Start}
@@ -59,6 +59,7 @@ name_of (Delete label rid) = name.Delete
 name_of (Undo label) = name.Undo
 name_of (Commit label) = name.Commit
 name_of (Get rid) = name.Get
+name_of (Spools choice) = name.Spools
 name_of (StartCommand start) = name.Start
 name_of (Scan range worker) = name.Scan
 name_of (Digest worker) = name.Digest
@@ -83,6 +84,7 @@ SpellParts fields (Delete label rid) = SpellLabelAndRid fields label rid
 SpellParts fields (Undo label) = AllZip SpellsLabel fields (label ∷ [])
 SpellParts fields (Commit label) = AllZip SpellsLabel fields (label ∷ [])
 SpellParts fields (Get rid) = AllZip SpellsRid fields (rid ∷ [])
+SpellParts fields (Spools choice) = AllZip SpellsSpools fields (choice ∷ [])
 SpellParts fields (StartCommand start) = SpellStart fields start
 SpellParts fields (Scan range worker) = AllZip SpellsNumber fields (range ∷ worker ∷ [])
 SpellParts fields (Digest worker) = AllZip SpellsNumber fields (worker ∷ [])

@@ -4,7 +4,7 @@ use Rattle.std.specs.Global.{Vec}
 use Rattle.std.specs.Option.{option_to_list}
 use Rattle.keybytes.specs.declared.cell.Cell.{Cell}
 use Rattle.script.specs.RaceOrder.{gathered, has, name_of_line, names}
-use Rattle.script.specs.RaceScripts.{StandsBehindRace, build_at, row_at, step_at, table_at}
+use Rattle.script.specs.RaceScripts.{StandsBehindRace, build_at, choice_at, row_at, step_at, table_at}
 use Rattle.script.specs.declared.race.build.Build.{Build}
 use Rattle.script.specs.declared.race.cause.RaceCause.{RaceCause}
 use Rattle.script.specs.declared.race.cause.RaceCause.TheVariants.{CannotRead, Misplaced, Misspelled, NoMemory, NotText}
@@ -12,12 +12,15 @@ use Rattle.script.specs.declared.race.line.RaceLine.{RaceLine}
 use Rattle.script.specs.declared.race.name.RaceName.{RaceName}
 use Rattle.script.specs.declared.race.name.RaceName.TheVariants as name
 use Rattle.script.specs.declared.race.session_step.SessionStep.{SessionStep}
+use Rattle.script.specs.declared.spool_choice.SpoolChoice.{SpoolChoice}
 use Rattle.script.specs.declared.table.Table.{Table}
 
 pub record RaceDraftValue : Type 0 where
   -- the record `table` and its number, if it was read
   pub tables : List (ℕ × Table)
   pub rows : List (Vec Cell)
+  -- the kind of the record `spools`, if it was read
+  pub choices : List SpoolChoice
   -- the record `build`, if it was read
   pub builds : List Build
   pub steps : List SessionStep
@@ -36,6 +39,7 @@ abbrev pub MayComeNext : RaceDraftValue → Option RaceName → Type 0
 MayComeNext draft None = ⊤
 MayComeNext draft (Some name.Table) = draft.begun ≡ false
 MayComeNext draft (Some name.Row) = draft.gone ≡ false
+MayComeNext draft (Some name.Spools) = (draft.gone ≡ false) × (is_some_list draft.choices ≡ false)
 MayComeNext draft (Some name.Build) = (draft.gone ≡ false) × (is_some_list draft.builds ≡ false)
 MayComeNext draft (Some name.Go) = draft.gone ≡ false
 MayComeNext draft (Some name.In) = draft.gone ≡ true
@@ -53,6 +57,7 @@ abbrev pub with_race_line : RaceDraftValue → ℕ → RaceLine → RaceDraftVal
 with_race_line draft number line = record {
   tables = draft.tables ++ table_at number line;
   rows = draft.rows ++ row_at number line;
+  choices = draft.choices ++ choice_at number line;
   builds = draft.builds ++ build_at number line;
   steps = draft.steps ++ step_at number line;
   begun = draft.begun || is_some_list (option_to_list (name_of_line line));
@@ -63,6 +68,7 @@ with_race_line draft number line = record {
 pub record IsRaceDraft (draft : RaceDraftValue) (lines : List RaceLine) : Type 0 where
   pub tables : gathered table_at 1 lines ≡ draft.tables
   pub rows : gathered row_at 1 lines ≡ draft.rows
+  pub choices : gathered choice_at 1 lines ≡ draft.choices
   pub builds : gathered build_at 1 lines ≡ draft.builds
   pub steps : gathered step_at 1 lines ≡ draft.steps
   pub begun : is_some_list (names lines) ≡ draft.begun
@@ -78,6 +84,7 @@ IsMissing draft name.Table = draft.tables ≡ []
 IsMissing draft name.Build = draft.builds ≡ []
 IsMissing draft name.Go = draft.gone ≡ false
 IsMissing draft name.Row = ⊥
+IsMissing draft name.Spools = ⊥
 IsMissing draft name.In = ⊥
 
 -- nothing is missing

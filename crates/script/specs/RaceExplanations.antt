@@ -21,7 +21,7 @@ use Rattle.script.specs.declared.race.line.RaceLine.{RaceLine}
 use Rattle.script.specs.declared.race.misfit.RaceMisfit.{RaceMisfit}
 use Rattle.script.specs.declared.race.misfit.RaceMisfit.TheVariants.{Behind, InSession, UnknownCommand}
 use Rattle.script.specs.declared.race.name.RaceName.{RaceName}
-use Rattle.script.specs.declared.race.name.RaceName.TheVariants.{Table, Row, Build, Go, In}
+use Rattle.script.specs.declared.race.name.RaceName.TheVariants.{Table, Row, Spools, Build, Go, In}
 use Rattle.script.specs.declared.race.stop.RaceStop.{RaceStop}
 use Rattle.script.specs.declared.unfit.Unfit.{Unfit}
 use Rattle.script.specs.declared.unfit.Unfit.TheVariants.{TooFew, TooMany, Misspelled}
@@ -34,6 +34,7 @@ IsUnknownInRace text = ((name : RaceName) → ¬ (text ≡ race_written name)) �
 abbrev pub TellsBehind : RaceName → List (List ℕ) → Unfit → Type 0
 TellsBehind Table fields unfit = TellsUnfit (race_parts Table) (race_repeated Table) fields unfit
 TellsBehind Row fields unfit = TellsUnfit (race_parts Row) (race_repeated Row) fields unfit
+TellsBehind Spools fields unfit = TellsUnfit (race_parts Spools) (race_repeated Spools) fields unfit
 TellsBehind Build fields unfit = TellsUnfit (race_parts Build) (race_repeated Build) fields unfit
 TellsBehind Go fields unfit = TellsUnfit (race_parts Go) (race_repeated Go) fields unfit
 TellsBehind In fields TooMany = ⊥

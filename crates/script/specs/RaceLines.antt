@@ -1,6 +1,7 @@
 -- What the fields of a race script's record ask for.
-use Rattle.std.specs.Prelude.{◌≡◌, ℕ, List, [], codes}
-use Rattle.script.specs.Fields.{SpellEach, SpellsCell, SpellsDealing, SpellsNumber, SpellsSession, SpellsSpec}
+use Rattle.std.specs.Prelude.{◌≡◌, ℕ, List, [], ◌∷◌, codes}
+use Rattle.std.specs.List.{AllZip}
+use Rattle.script.specs.Fields.{SpellEach, SpellsCell, SpellsDealing, SpellsNumber, SpellsSession, SpellsSpec, SpellsSpools}
 use Rattle.script.specs.Lines.{AtFirst, SpellLine, SpellTable}
 use Rattle.script.specs.Shapes.{IsRemark}
 use Rattle.script.specs.declared.command.Command.{Command}
@@ -8,7 +9,7 @@ use Rattle.script.specs.declared.command.Command.TheVariants as command
 use Rattle.script.specs.declared.line.Line.TheVariants as line
 use Rattle.script.specs.declared.race.build.Build.{Build}
 use Rattle.script.specs.declared.race.line.RaceLine.{RaceLine}
-use Rattle.script.specs.declared.race.line.RaceLine.TheVariants.{PassedOver, Table, Row, Build as BuildLine, Go, In}
+use Rattle.script.specs.declared.race.line.RaceLine.TheVariants.{PassedOver, Table, Row, Spools, Build as BuildLine, Go, In}
 use Rattle.script.specs.declared.race.name.RaceName.{RaceName}
 use Rattle.script.specs.declared.race.name.RaceName.TheVariants as name
 use Rattle.script.specs.declared.race.session_command.SessionCommand.{SessionCommand}
@@ -18,6 +19,7 @@ use Rattle.script.specs.declared.race.session_command.SessionCommand.TheVariants
 abbrev pub race_written : RaceName → List ℕ
 race_written name.Table = codes "table"
 race_written name.Row = codes "row"
+race_written name.Spools = codes "spools"
 race_written name.Build = codes "build"
 race_written name.Go = codes "go"
 race_written name.In = codes "in"
@@ -46,6 +48,7 @@ abbrev pub SpellRaceLine : List (List ℕ) → RaceLine → Type 0
 SpellRaceLine fields PassedOver = AtFirst (λ first rest. IsRemark first) fields
 SpellRaceLine fields (Table table) = AtFirst (λ first parts. (first ≡ race_written name.Table) × SpellTable parts table) fields
 SpellRaceLine fields (Row cells) = AtFirst (λ first parts. (first ≡ race_written name.Row) × SpellEach SpellsCell parts cells.items) fields
+SpellRaceLine fields (Spools choice) = AtFirst (λ first parts. (first ≡ race_written name.Spools) × AllZip SpellsSpools parts (choice ∷ [])) fields
 SpellRaceLine fields (BuildLine build) = AtFirst (λ first parts. (first ≡ race_written name.Build) × SpellBuild parts build) fields
 SpellRaceLine fields Go = AtFirst (λ first parts. (first ≡ race_written name.Go) × (parts ≡ [])) fields
 SpellRaceLine fields (In session command) = AtFirst (λ first parts. (first ≡ race_written name.In) × SpellIn parts session command) fields

@@ -3,7 +3,7 @@ use Rattle.std.specs.Prelude.{◌≡◌, ◌==◌, ℕ, ◌+◌, Bool, true, fal
 use Rattle.std.specs.List.{list_any}
 use Rattle.std.specs.Option.{option_to_list}
 use Rattle.script.specs.declared.race.line.RaceLine.{RaceLine}
-use Rattle.script.specs.declared.race.line.RaceLine.TheVariants.{PassedOver, Table, Row, Build, Go, In}
+use Rattle.script.specs.declared.race.line.RaceLine.TheVariants.{PassedOver, Table, Row, Spools, Build, Go, In}
 use Rattle.script.specs.declared.race.name.RaceName.{RaceName}
 use Rattle.script.specs.declared.race.name.RaceName.TheVariants as name
 
@@ -12,6 +12,7 @@ abbrev pub name_of_line : RaceLine → Option RaceName
 name_of_line PassedOver = None
 name_of_line (Table table) = Some name.Table
 name_of_line (Row cells) = Some name.Row
+name_of_line (Spools choice) = Some name.Spools
 name_of_line (Build build) = Some name.Build
 name_of_line Go = Some name.Go
 name_of_line (In session command) = Some name.In
@@ -33,9 +34,10 @@ names lines = gathered name_at 1 lines
 abbrev pub rank : RaceName → ℕ
 rank name.Table = 0
 rank name.Row = 1
-rank name.Build = 2
-rank name.Go = 3
-rank name.In = 4
+rank name.Spools = 2
+rank name.Build = 3
+rank name.Go = 4
+rank name.In = 5
 
 -- one of the names is this one
 abbrev pub has : RaceName → List RaceName → Bool
@@ -45,6 +47,7 @@ has one some = list_any (λ other. rank other == rank one) some
 abbrev pub MayCome : List RaceName → RaceName → Type 0
 MayCome before name.Table = before ≡ []
 MayCome before name.Row = has name.Go before ≡ false
+MayCome before name.Spools = (has name.Go before ≡ false) × (has name.Spools before ≡ false)
 MayCome before name.Build = (has name.Go before ≡ false) × (has name.Build before ≡ false)
 MayCome before name.Go = has name.Go before ≡ false
 MayCome before name.In = has name.Go before ≡ true

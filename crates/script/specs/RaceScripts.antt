@@ -9,9 +9,11 @@ use Rattle.script.specs.RaceOrder.{AreInOrder, AreWhole, MayStand, gathered, nam
 use Rattle.script.specs.Records.{records_of}
 use Rattle.script.specs.declared.race.build.Build.{Build}
 use Rattle.script.specs.declared.race.line.RaceLine.{RaceLine}
-use Rattle.script.specs.declared.race.line.RaceLine.TheVariants.{PassedOver, Table as TableLine, Row, Build as BuildLine, Go, In}
+use Rattle.script.specs.declared.race.line.RaceLine.TheVariants.{PassedOver, Table as TableLine, Row, Spools, Build as BuildLine, Go, In}
 use Rattle.script.specs.declared.race.script.RaceScript.{RaceScript}
 use Rattle.script.specs.declared.race.session_step.SessionStep.{SessionStep}
+use Rattle.script.specs.declared.spool_choice.SpoolChoice.{SpoolChoice}
+use Rattle.script.specs.declared.spool_choice.SpoolChoice.TheVariants.{Plain}
 use Rattle.script.specs.declared.table.Table.{Table}
 
 -- a record spells a line where its fields are text and ask for that line
@@ -27,6 +29,7 @@ abbrev pub table_at : ℕ → RaceLine → List (ℕ × Table)
 table_at number (TableLine table) = (number, table) ∷ []
 table_at number PassedOver = []
 table_at number (Row cells) = []
+table_at number (Spools choice) = []
 table_at number (BuildLine build) = []
 table_at number Go = []
 table_at number (In session command) = []
@@ -36,9 +39,20 @@ abbrev pub row_at : ℕ → RaceLine → List (Vec Cell)
 row_at number (Row cells) = cells ∷ []
 row_at number PassedOver = []
 row_at number (TableLine table) = []
+row_at number (Spools choice) = []
 row_at number (BuildLine build) = []
 row_at number Go = []
 row_at number (In session command) = []
+
+-- the kind of spools that a line is
+abbrev pub choice_at : ℕ → RaceLine → List SpoolChoice
+choice_at number (Spools choice) = choice ∷ []
+choice_at number PassedOver = []
+choice_at number (TableLine table) = []
+choice_at number (Row cells) = []
+choice_at number (BuildLine build) = []
+choice_at number Go = []
+choice_at number (In session command) = []
 
 -- the build that a line is
 abbrev pub build_at : ℕ → RaceLine → List Build
@@ -46,6 +60,7 @@ build_at number (BuildLine build) = build ∷ []
 build_at number PassedOver = []
 build_at number (TableLine table) = []
 build_at number (Row cells) = []
+build_at number (Spools choice) = []
 build_at number Go = []
 build_at number (In session command) = []
 
@@ -55,13 +70,20 @@ step_at number (In session command) = record { number = number; session = sessio
 step_at number PassedOver = []
 step_at number (TableLine table) = []
 step_at number (Row cells) = []
+step_at number (Spools choice) = []
 step_at number (BuildLine build) = []
 step_at number Go = []
 
--- the script has the one table of the lines, their rows, their one build and what sessions do
+-- the kind of the record `spools`, or plain where there is none
+abbrev pub choice_of : List SpoolChoice → SpoolChoice
+choice_of [] = Plain
+choice_of (choice ∷ more) = choice
+
+-- the script has the one table of the lines, their rows, their kind of spools, their one build and what sessions do
 pub record IsRaceScript (lines : List RaceLine) (script : RaceScript) : Type 0 where
   pub table : gathered table_at 1 lines ≡ (script.table_number, script.table) ∷ []
   pub rows : gathered row_at 1 lines ≡ script.rows.items
+  pub choice : choice_of (gathered choice_at 1 lines) ≡ script.choice
   pub build : gathered build_at 1 lines ≡ script.build ∷ []
   pub steps : gathered step_at 1 lines ≡ script.steps.items
 

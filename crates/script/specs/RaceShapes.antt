@@ -8,12 +8,13 @@ use Rattle.script.specs.declared.command_name.CommandName.TheVariants as command
 use Rattle.script.specs.declared.part.Part.{Part}
 use Rattle.script.specs.declared.part.Part.TheVariants as part
 use Rattle.script.specs.declared.race.name.RaceName.{RaceName}
-use Rattle.script.specs.declared.race.name.RaceName.TheVariants.{Table, Row, Build, Go, In}
+use Rattle.script.specs.declared.race.name.RaceName.TheVariants.{Table, Row, Spools, Build, Go, In}
 
 -- what the fields behind a name spell, one part each; of `in`, up to the name of the session's command
 abbrev pub race_parts : RaceName → List Part
 race_parts Table = parts_of command.Table
 race_parts Row = parts_of command.Row
+race_parts Spools = parts_of command.Spools
 race_parts Build = part.Number ∷ part.Dealing ∷ part.Spec ∷ []
 race_parts Go = []
 race_parts In = part.Session ∷ part.SessionCommand ∷ []
@@ -22,6 +23,7 @@ race_parts In = part.Session ∷ part.SessionCommand ∷ []
 abbrev pub race_repeated : RaceName → Option Part
 race_repeated Table = repeated_of command.Table
 race_repeated Row = repeated_of command.Row
+race_repeated Spools = repeated_of command.Spools
 race_repeated Build = Some part.Spec
 race_repeated Go = None
 race_repeated In = None
@@ -35,6 +37,7 @@ FitCommand fields =
 abbrev pub FitsRace : RaceName → List (List ℕ) → Type 0
 FitsRace Table fields = Fit (race_parts Table) (race_repeated Table) fields
 FitsRace Row fields = Fit (race_parts Row) (race_repeated Row) fields
+FitsRace Spools fields = Fit (race_parts Spools) (race_repeated Spools) fields
 FitsRace Build fields = Fit (race_parts Build) (race_repeated Build) fields
 FitsRace Go fields = Fit (race_parts Go) (race_repeated Go) fields
 FitsRace In fields = AtFirst (λ session more. IsSpelled part.Session session × FitCommand more) fields

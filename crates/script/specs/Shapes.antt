@@ -4,14 +4,15 @@ use Rattle.std.specs.Option.{option_or}
 use Rattle.keybytes.specs.declared.cell.Cell.{Cell}
 use Rattle.keybytes.specs.declared.kind.Kind.{Kind}
 use Rattle.keybytes.specs.declared.rid.Rid.{Rid}
-use Rattle.script.specs.Fields.{is_label, SpellsCell, SpellsDealing, SpellsKind, SpellsNumber, SpellsRid, SpellsSession, SpellsSpec}
+use Rattle.script.specs.Fields.{is_label, SpellsCell, SpellsDealing, SpellsKind, SpellsNumber, SpellsRid, SpellsSession, SpellsSpec, SpellsSpools}
 use Rattle.script.specs.declared.command_name.CommandName.{CommandName}
 use Rattle.script.specs.declared.command_name.CommandName.TheVariants.{Table, Row, Begin, Insert, Update, Delete, Undo, Commit, Get, Start, Scan, Digest, Seal}
-use Rattle.script.specs.declared.command_name.CommandName.TheVariants.{Load, Feed, Apply, Fence, Switch, Abandon, Side, Pairs, Rest}
+use Rattle.script.specs.declared.command_name.CommandName.TheVariants.{Load, Feed, Apply, Fence, Switch, Abandon, Side, Pairs, Rest, Spools}
 use Rattle.scan_range.specs.declared.dealing.Dealing.{Dealing}
 use Rattle.script.specs.declared.part.Part.{Part}
 use Rattle.script.specs.declared.part.Part.TheVariants as part
 use Rattle.script.specs.declared.spec.Spec.{Spec}
+use Rattle.script.specs.declared.spool_choice.SpoolChoice.{SpoolChoice}
 
 -- how the names of commands are written
 abbrev pub written : CommandName → List ℕ
@@ -24,6 +25,7 @@ written Delete = codes "delete"
 written Undo = codes "undo"
 written Commit = codes "commit"
 written Get = codes "get"
+written Spools = codes "spools"
 written Start = codes "start"
 written Scan = codes "scan"
 written Digest = codes "digest"
@@ -49,6 +51,7 @@ is_of_session Delete = true
 is_of_session Undo = true
 is_of_session Commit = true
 is_of_session Get = false
+is_of_session Spools = false
 is_of_session Start = false
 is_of_session Scan = false
 is_of_session Digest = false
@@ -74,6 +77,7 @@ parts_of Delete = part.Label ∷ part.Rid ∷ []
 parts_of Undo = part.Label ∷ []
 parts_of Commit = part.Label ∷ []
 parts_of Get = part.Rid ∷ []
+parts_of Spools = part.Spools ∷ []
 parts_of Start = part.Number ∷ part.Number ∷ part.Dealing ∷ part.Spec ∷ []
 parts_of Scan = part.Number ∷ part.Number ∷ []
 parts_of Digest = part.Number ∷ []
@@ -100,6 +104,7 @@ repeated_of Delete = None
 repeated_of Undo = None
 repeated_of Commit = None
 repeated_of Get = None
+repeated_of Spools = None
 repeated_of Scan = None
 repeated_of Digest = None
 repeated_of Seal = None
@@ -122,6 +127,7 @@ IsSpelled part.Cell text = (cell : Cell) × SpellsCell text cell
 IsSpelled part.Kind text = (kind : Kind) × SpellsKind text kind
 IsSpelled part.Dealing text = (dealing : Dealing) × SpellsDealing text dealing
 IsSpelled part.Spec text = (spec : Spec) × SpellsSpec text spec
+IsSpelled part.Spools text = (choice : SpoolChoice) × SpellsSpools text choice
 IsSpelled part.Session text = (session : ℕ) × SpellsSession text session
 IsSpelled part.SessionCommand text = (name : CommandName) × (is_of_session name ≡ true) × (text ≡ written name)
 

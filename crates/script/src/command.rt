@@ -1,4 +1,4 @@
-use crate::{Label, Spec, Start};
+use crate::{Label, Spec, SpoolChoice, Start};
 use keybytes::{Cell, Rid};
 
 /// A line of a script that is run on the table.
@@ -35,6 +35,10 @@ pub enum Command {
     /// Asks for the row at a RID.
     Get {
         rid: Rid,
+    },
+    /// Says of which kind the spools of the builds are that start from then on.
+    Spools {
+        choice: SpoolChoice,
     },
     /// Starts a build.
     Start(Start),

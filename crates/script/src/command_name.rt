@@ -16,6 +16,7 @@ pub enum CommandName {
     Undo,
     Commit,
     Get,
+    Spools,
     Start,
     Scan,
     Digest,
@@ -31,43 +32,37 @@ pub enum CommandName {
     Rest,
 }
 
-/// How each is written.
-static NAMES: [(&str, CommandName); 22] = [
-    ("table", CommandName::Table),
-    ("row", CommandName::Row),
-    ("begin", CommandName::Begin),
-    ("insert", CommandName::Insert),
-    ("update", CommandName::Update),
-    ("delete", CommandName::Delete),
-    ("undo", CommandName::Undo),
-    ("commit", CommandName::Commit),
-    ("get", CommandName::Get),
-    ("start", CommandName::Start),
-    ("scan", CommandName::Scan),
-    ("digest", CommandName::Digest),
-    ("seal", CommandName::Seal),
-    ("load", CommandName::Load),
-    ("feed", CommandName::Feed),
-    ("apply", CommandName::Apply),
-    ("fence", CommandName::Fence),
-    ("switch", CommandName::Switch),
-    ("abandon", CommandName::Abandon),
-    ("side", CommandName::Side),
-    ("pairs", CommandName::Pairs),
-    ("rest", CommandName::Rest),
-];
-
 impl CommandName {
     pub fn read(text: &str) -> Option<CommandName>
         ensures known { IfSome result (λ name. text.now ≡ written name) }
         ensures unknown { IfNone result ((name : Name) → text.now ≡ written name → ⊥) }
     {
-        for (written, name) in &NAMES {
-            if *written == text {
-                return Some(*name);
-            }
+        match text {
+            "table" => Some(CommandName::Table),
+            "row" => Some(CommandName::Row),
+            "begin" => Some(CommandName::Begin),
+            "insert" => Some(CommandName::Insert),
+            "update" => Some(CommandName::Update),
+            "delete" => Some(CommandName::Delete),
+            "undo" => Some(CommandName::Undo),
+            "commit" => Some(CommandName::Commit),
+            "get" => Some(CommandName::Get),
+            "spools" => Some(CommandName::Spools),
+            "start" => Some(CommandName::Start),
+            "scan" => Some(CommandName::Scan),
+            "digest" => Some(CommandName::Digest),
+            "seal" => Some(CommandName::Seal),
+            "load" => Some(CommandName::Load),
+            "feed" => Some(CommandName::Feed),
+            "apply" => Some(CommandName::Apply),
+            "fence" => Some(CommandName::Fence),
+            "switch" => Some(CommandName::Switch),
+            "abandon" => Some(CommandName::Abandon),
+            "side" => Some(CommandName::Side),
+            "pairs" => Some(CommandName::Pairs),
+            "rest" => Some(CommandName::Rest),
+            _ => None,
         }
-        None
     }
 
     /// The same, of a name that a session's command may have.
@@ -106,6 +101,7 @@ impl CommandName {
             CommandName::Update => &[Part::Label, Part::Rid, Part::Cell],
             CommandName::Delete => &[Part::Label, Part::Rid],
             CommandName::Get => &[Part::Rid],
+            CommandName::Spools => &[Part::Spools],
             CommandName::Start => &[Part::Number, Part::Number, Part::Dealing, Part::Spec],
             CommandName::Scan | CommandName::Feed | CommandName::Apply => &[
                 Part::Number,
@@ -145,6 +141,7 @@ impl CommandName {
             CommandName::Undo => "undo,A",
             CommandName::Commit => "commit,A",
             CommandName::Get => "get,RID",
+            CommandName::Spools => "spools,KIND",
             CommandName::Start => "start,W,Q,DEALING,SPEC,..",
             CommandName::Scan => "scan,R,W",
             CommandName::Digest => "digest,W",

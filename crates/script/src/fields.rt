@@ -5,13 +5,14 @@ ghost use Rattle.keybytes.specs.declared.kind.Kind.{Kind as KindValue};
 ghost use Rattle.keybytes.specs.declared.rid.Rid.{Rid as RidValue};
 ghost use Rattle.scan_range.specs.declared.dealing.Dealing.{Dealing as DealingValue};
 ghost use Rattle.script.specs.declared.spec.Spec.{Spec as SpecValue};
+ghost use Rattle.script.specs.declared.spool_choice.SpoolChoice.{SpoolChoice as SpoolChoiceValue};
 ghost use Rattle.script.specs.declared.part.Part.TheVariants as part;
 ghost use Rattle.script.specs.Shapes.{Fit};
 ghost use Rattle.script.specs.Fields.{number_of, int_of, slot_of, texts, SpellEach, SpellsCell, SpellsDealing, SpellsKind, SpellsNumbers, SpellsRid};
-ghost use Rattle.script.specs.Fields.{SpellsSession, SpellsSpec};
+ghost use Rattle.script.specs.Fields.{SpellsSession, SpellsSpec, SpellsSpools};
 
-use crate::Spec;
 use crate::record_error::RecordError;
+use crate::{Spec, SpoolChoice};
 use keybytes::{Cell, Kind, Rid, Text};
 use scan_range::Dealing;
 use std::alloc::Global;
@@ -210,5 +211,18 @@ pub fn dealing(alloc: Global, text: &str) -> Result<Dealing, RecordError>
     match text.strip_prefix("even:") {
         Some(ranges) => Ok(Dealing::Even(count(ranges)?)),
         None => Ok(Dealing::Ends(ends(alloc, text)?)),
+    }
+}
+
+/// The kind of the spools of builds.
+pub fn spools(text: &str) -> Option<SpoolChoice>
+    ensures some { IfSome result (λ choice. SpellsSpools text.now choice) }
+    ensures none { IfNone result ((choice : SpoolChoiceValue) → SpellsSpools text.now choice → ⊥) }
+{
+    match text {
+        "plain" => Some(SpoolChoice::Plain),
+        "prefix" => Some(SpoolChoice::Prefix),
+        "mixed" => Some(SpoolChoice::Mixed),
+        _ => None,
     }
 }

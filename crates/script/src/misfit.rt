@@ -25,7 +25,8 @@ pub enum Misfit {
 
 /// The names of all commands.
 const NAMES: &str =
-    "table, row, begin, insert, update, delete, undo, commit, get, start, scan, digest, seal, load, feed, apply, fence, switch, abandon, side, pairs or rest";
+    "table, row, begin, insert, update, delete, undo, commit, get, spools, start, scan, digest, seal, load, feed, \
+    apply, fence, switch, abandon, side, pairs or rest";
 
 impl fmt::Display for Misfit {
     fn fmt<W: fmt::Write>(&self, f: &mut fmt::Formatter<W>) -> fmt::Result {

@@ -2,17 +2,17 @@
 ghost use Rattle.std.specs.Prelude.{◌≡◌, ◌⊎◌, ℕ, List, [], ◌∷◌, Some, None, IfOk, IfErr};
 ghost use Rattle.std.specs.List.{AllZip};
 ghost use Rattle.csv.specs.Records.{fields_of};
-ghost use Rattle.script.specs.Fields.{texts, SpellEach, SpellsCell, SpellsNumber, SpellsRid, SpellsSpec};
+ghost use Rattle.script.specs.Fields.{texts, SpellEach, SpellsCell, SpellsNumber, SpellsRid, SpellsSpec, SpellsSpools};
 ghost use Rattle.script.specs.Lines.{name_of, SpellLine, SpellParts, SpellStart, SpellTable, SpellsLabel};
 ghost use Rattle.script.specs.Shapes.{Fit, Fits, HasShape, written};
 ghost use Rattle.script.specs.declared.command_name.CommandName.TheVariants as name;
 ghost use Rattle.script.specs.declared.part.Part.{Part as PartValue};
 ghost use Rattle.script.specs.declared.part.Part.TheVariants as part;
 
-use crate::fields::{cells, count, dealing, kinds, number, rid, spec, specs};
+use crate::fields::{cells, count, dealing, kinds, number, rid, spec, specs, spools};
 use crate::line::Line;
 use crate::record_error::RecordError;
-use crate::{Command, CommandName, Label, Spec, Start, Table};
+use crate::{Command, CommandName, Label, Spec, SpoolChoice, Start, Table};
 use csv::StringRecord;
 use keybytes::{Cell, Rid};
 use std::alloc::Global;
@@ -96,6 +96,9 @@ pub fn named(alloc: Global, name: CommandName, fields: &[&str]) -> Result<Line, 
         CommandName::Delete => delete(alloc, fields)?,
         CommandName::Get => Command::Get {
             rid: only_rid(fields)?,
+        },
+        CommandName::Spools => Command::Spools {
+            choice: only_spools(fields)?,
         },
         CommandName::Start => Command::Start(start(alloc, fields)?),
         CommandName::Rest => Command::Rest {
@@ -255,6 +258,13 @@ fn only_spec(alloc: Global, fields: &[&str]) -> Result<Spec, RecordError>
     ensures refused { result ≡ Err RecordError.Misspelled → ¬ (Fits name.Rest (texts fields.now)) }
 {
     spec(alloc, only(fields)?)
+}
+
+pub fn only_spools(fields: &[&str]) -> Result<SpoolChoice, RecordError>
+    ensures ok { IfOk result (λ choice. AllZip SpellsSpools (texts fields.now) (choice ∷ [])) }
+    ensures refused { result ≡ Err RecordError.Misspelled → ¬ (Fits name.Spools (texts fields.now)) }
+{
+    spools(only(fields)?).ok_or(RecordError::Misspelled)
 }
 
 /// The workers, the quota, the dealing and the indexes of a build.

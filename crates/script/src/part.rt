@@ -2,7 +2,7 @@ ghost use Rattle.std.specs.Prelude.{◌≡◌, IfOk, IsOk, true, false};
 ghost use Rattle.script.specs.Shapes.{IsSpelled};
 
 use crate::CommandName;
-use crate::fields::{cell, dealing, kind, number, rid, session, spec};
+use crate::fields::{cell, dealing, kind, number, rid, session, spec, spools};
 use crate::label::is_label;
 use crate::record_error::RecordError;
 use std::alloc::Global;
@@ -18,6 +18,7 @@ pub enum Part {
     Kind,
     Dealing,
     Spec,
+    Spools,
     Session,
     /// The name of a command that a session may have.
     SessionCommand,
@@ -37,6 +38,7 @@ impl Part {
             Part::Kind => Ok(kind(text).is_some()),
             Part::Dealing => is_good(dealing(alloc, text)),
             Part::Spec => is_good(spec(alloc, text)),
+            Part::Spools => Ok(spools(text).is_some()),
             Part::Session => Ok(session(text).is_some()),
             Part::SessionCommand => Ok(CommandName::read_of_session(text).is_some()),
         }
@@ -65,6 +67,7 @@ impl fmt::Display for Part {
             Part::Kind => "kind (int, text or flag)",
             Part::Dealing => "dealing (ends of ranges, as 4;8, or their number, as even:2)",
             Part::Spec => "spec (n: or u: and columns, as n:0;2)",
+            Part::Spools => "kind of spools (plain, prefix or mixed)",
             Part::Session => "session (1 to 8)",
             Part::SessionCommand => {
                 "command of a session (begin, insert, update, delete, commit or undo)"

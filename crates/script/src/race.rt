@@ -1,4 +1,4 @@
-//! Scripts of races: a table, its rows and a build, and for each session what it does while the build runs.
+//! Scripts of races: a table, its rows, the kind of spools and a build, and for each session what it does while the build runs.
 
 mod build;
 mod cause;

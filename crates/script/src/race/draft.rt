@@ -1,11 +1,12 @@
 ghost use Rattle.std.specs.Prelude.{◌≡◌, [], ◌∷◌, true, false, Some, IfOk, IfErr, IfNone, IfSome, OnOk};
 ghost use Rattle.script.specs.RaceDrafts.{IsMissing, IsNotPut, IsRaceDraft, IsWholeDraft, MayComeNext, with_race_line};
 ghost use Rattle.script.specs.RaceOrder.{name_of_line};
+ghost use Rattle.script.specs.RaceScripts.{choice_of};
 
-use crate::Table;
 use crate::race::cause::RaceCause;
 use crate::race::line::RaceLine;
 use crate::race::{Build, RaceName, RaceScript, SessionStep};
+use crate::{SpoolChoice, Table};
 use keybytes::Cell;
 use std::alloc::Global;
 use std::marker::Model;
@@ -15,6 +16,7 @@ use std::marker::Model;
 pub struct RaceDraft {
     table: Option<(usize, Table)>,
     rows: Vec<Vec<Cell>>,
+    choice: Option<SpoolChoice>,
     build: Option<Build>,
     steps: Vec<SessionStep>,
     /// Whether a record was read that isn't passed over.
@@ -33,6 +35,7 @@ impl Model for RaceDraft {
     ghost view = { λ draft. record {
       tables = option_to_list draft.table;
       rows = draft.rows.items;
+      choices = option_to_list draft.choice;
       builds = option_to_list draft.build;
       steps = draft.steps.items;
       begun = draft.has_begun;
@@ -49,6 +52,7 @@ impl RaceDraft {
         RaceDraft {
             table: None,
             rows: Vec::new(alloc),
+            choice: None,
             build: None,
             steps: Vec::new(alloc),
             has_begun: false,
@@ -78,6 +82,7 @@ impl RaceDraft {
         match name {
             RaceName::Table => !self.has_begun,
             RaceName::Row | RaceName::Go => !self.has_gone,
+            RaceName::Spools => !self.has_gone && self.choice.is_none(),
             RaceName::Build => !self.has_gone && self.build.is_none(),
             RaceName::In => self.has_gone,
         }
@@ -93,6 +98,7 @@ impl RaceDraft {
             RaceLine::PassedOver => return Ok(()),
             RaceLine::Table(table) => self.table = Some((number, table)),
             RaceLine::Row { cells } => self.rows.push(cells)?,
+            RaceLine::Spools { choice } => self.choice = Some(choice),
             RaceLine::Build(build) => self.build = Some(build),
             RaceLine::Go => self.has_gone = true,
             RaceLine::In { session, command } => self.steps.push(SessionStep {
@@ -126,6 +132,7 @@ impl RaceDraft {
     pub fn finish(self) -> Result<RaceScript, RaceName>
         ensures table { IfOk result (λ script. self.tables ≡ (script.table_number, script.table) ∷ []) }
         ensures rows { IfOk result (λ script. self.rows ≡ script.rows.items) }
+        ensures choice { IfOk result (λ script. choice_of self.choices ≡ script.choice) }
         ensures build { IfOk result (λ script. self.builds ≡ script.build ∷ []) }
         ensures steps { IfOk result (λ script. self.steps ≡ script.steps.items) }
         ensures gone { OnOk result (self.gone ≡ true) }
@@ -137,6 +144,7 @@ impl RaceDraft {
         let RaceDraft {
             table,
             rows,
+            choice,
             build,
             steps,
             has_begun: _,
@@ -147,6 +155,7 @@ impl RaceDraft {
                 table_number,
                 table,
                 rows,
+                choice: choice.unwrap_or(SpoolChoice::Plain),
                 build,
                 steps,
             }),

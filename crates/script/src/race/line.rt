@@ -1,8 +1,8 @@
 ghost use Rattle.std.specs.Prelude.{◌≡◌};
 ghost use Rattle.script.specs.RaceOrder.{name_of_line};
 
-use crate::Table;
 use crate::race::{Build, RaceName, SessionCommand};
+use crate::{SpoolChoice, Table};
 use keybytes::Cell;
 
 /// What a record of a race script turned out to be.
@@ -13,6 +13,9 @@ pub enum RaceLine {
     Table(Table),
     Row {
         cells: Vec<Cell>,
+    },
+    Spools {
+        choice: SpoolChoice,
     },
     Build(Build),
     Go,
@@ -31,6 +34,7 @@ impl RaceLine {
             RaceLine::PassedOver => None,
             RaceLine::Table(_) => Some(RaceName::Table),
             RaceLine::Row { .. } => Some(RaceName::Row),
+            RaceLine::Spools { .. } => Some(RaceName::Spools),
             RaceLine::Build(_) => Some(RaceName::Build),
             RaceLine::Go => Some(RaceName::Go),
             RaceLine::In { .. } => Some(RaceName::In),

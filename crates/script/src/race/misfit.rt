@@ -15,7 +15,7 @@ pub enum RaceMisfit {
 }
 
 /// The names of all commands.
-const NAMES: &str = "table, row, build, go or in";
+const NAMES: &str = "table, row, spools, build, go or in";
 
 impl fmt::Display for RaceMisfit {
     fn fmt<W: fmt::Write>(&self, f: &mut fmt::Formatter<W>) -> fmt::Result {

@@ -10,6 +10,7 @@ use crate::{CommandName, Part};
 pub enum RaceName {
     Table,
     Row,
+    Spools,
     Build,
     Go,
     In,
@@ -23,6 +24,7 @@ impl RaceName {
         match text {
             "table" => Some(RaceName::Table),
             "row" => Some(RaceName::Row),
+            "spools" => Some(RaceName::Spools),
             "build" => Some(RaceName::Build),
             "go" => Some(RaceName::Go),
             "in" => Some(RaceName::In),
@@ -37,6 +39,7 @@ impl RaceName {
         match self {
             RaceName::Table => CommandName::Table.parts(),
             RaceName::Row => CommandName::Row.parts(),
+            RaceName::Spools => CommandName::Spools.parts(),
             RaceName::Build => &[Part::Number, Part::Dealing, Part::Spec],
             RaceName::Go => &[],
             RaceName::In => &[Part::Session, Part::SessionCommand],
@@ -50,6 +53,7 @@ impl RaceName {
         match self {
             RaceName::Table => CommandName::Table.repeated(),
             RaceName::Row => CommandName::Row.repeated(),
+            RaceName::Spools => CommandName::Spools.repeated(),
             RaceName::Build => Some(Part::Spec),
             RaceName::Go | RaceName::In => None,
         }
@@ -60,6 +64,7 @@ impl RaceName {
         match self {
             RaceName::Table => "table,L,KIND,..",
             RaceName::Row => "row,CELL,..",
+            RaceName::Spools => "spools,KIND",
             RaceName::Build => "build,Q,DEALING,SPEC,..",
             RaceName::Go => "go",
             RaceName::In => "in,S,COMMAND,..",
@@ -71,6 +76,7 @@ impl RaceName {
         match self {
             RaceName::Table => "a table comes first, and only once",
             RaceName::Row => "rows come before go",
+            RaceName::Spools => "the kind of spools comes before go, and only once",
             RaceName::Build => "a build comes before go, and only once",
             RaceName::Go => "go comes only once",
             RaceName::In => "what sessions do comes behind go",

@@ -12,7 +12,7 @@ ghost use Rattle.script.specs.declared.race.name.RaceName.TheVariants as race_na
 use crate::CommandName;
 use crate::fields::{cells, count, dealing, session, specs};
 use crate::line::Line;
-use crate::parse::{fields, first, none, table};
+use crate::parse::{fields, first, none, only_spools, table};
 use crate::race::line::RaceLine;
 use crate::race::{Build, RaceName, SessionCommand};
 use crate::record_error::RecordError;
@@ -51,6 +51,9 @@ fn named(alloc: Global, name: RaceName, fields: &[&str]) -> Result<RaceLine, Rec
         RaceName::Table => RaceLine::Table(table(alloc, fields)?),
         RaceName::Row => RaceLine::Row {
             cells: cells(alloc, fields)?,
+        },
+        RaceName::Spools => RaceLine::Spools {
+            choice: only_spools(fields)?,
         },
         RaceName::Build => RaceLine::Build(build(alloc, fields)?),
         RaceName::Go => {

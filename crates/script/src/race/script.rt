@@ -12,13 +12,13 @@ use crate::race::fitting::misfit;
 use crate::race::reading::read_lines;
 use crate::race::stop::RaceStop;
 use crate::race::{Build, RaceCheckError, RaceExplanation, SessionStep};
-use crate::{ScriptError, Table, read_text};
+use crate::{ScriptError, SpoolChoice, Table, read_text};
 use csv::StringRecord;
 use keybytes::Cell;
 use std::alloc::Global;
 use std::io::Read;
 
-/// A race that can be run: a table, its rows and a build, and what sessions do while it runs.
+/// A race that can be run: a table, its rows, the kind of spools and a build, and what sessions do while it runs.
 #[derive(Drop)]
 pub struct RaceScript {
     /// The number of the record `table`.
@@ -26,6 +26,8 @@ pub struct RaceScript {
     pub table: Table,
     /// The rows that the table has first.
     pub rows: Vec<Vec<Cell>>,
+    /// The kind of the spools of the build: plain where no record says another.
+    pub choice: SpoolChoice,
     pub build: Build,
     /// What sessions do, in the order of the records; each session does its own in this order.
     pub steps: Vec<SessionStep>,

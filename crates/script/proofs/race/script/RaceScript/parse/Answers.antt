@@ -7,7 +7,7 @@ use Rattle.script.proofs.race.script.RaceScript.parse.Goals as goal
 pub returns-in-Ok-finish-clause-good : goal.returns-in-Ok-finish-clause-good
 returns-in-Ok-finish-clause-good c =
     let e = c.in-Ok-finish.ensures in
-    good_end c.args.text.now c.read_lines.new.draft c.in-Ok.number c.in-Ok-finish.script c.in-Ok.ensures.ended e.table e.rows e.build e.steps e.gone
+    good_end c.args.text.now c.read_lines.new.draft c.in-Ok.number c.in-Ok-finish.script c.in-Ok.ensures.ended e.table e.rows e.choice e.build e.steps e.gone
 
 pub returns-in-Ok-finish-clause-none_bad : goal.returns-in-Ok-finish-clause-none_bad
 returns-in-Ok-finish-clause-none_bad c = λ number bad.
