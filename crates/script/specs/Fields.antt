@@ -13,8 +13,8 @@ use Rattle.keybytes.specs.declared.rid.Rid.{Rid}
 use Rattle.scan_range.specs.declared.dealing.Dealing.{Dealing}
 use Rattle.scan_range.specs.declared.dealing.Dealing.TheVariants.{Ends, Even}
 use Rattle.script.specs.declared.spec.Spec.{Spec}
-use Rattle.script.specs.declared.spool_choice.SpoolChoice.{SpoolChoice}
-use Rattle.script.specs.declared.spool_choice.SpoolChoice.TheVariants.{Plain, Prefix, Mixed}
+use Rattle.spool_choice.specs.declared.choice.SpoolChoice.{SpoolChoice}
+use Rattle.spool_choice.specs.declared.choice.SpoolChoice.TheVariants.{Plain, Prefix, Mixed}
 
 -- one or more characters, all of them decimal digits
 abbrev pub is_digits : List ℕ → Bool

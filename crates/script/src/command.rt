@@ -1,5 +1,6 @@
-use crate::{Label, Spec, SpoolChoice, Start};
+use crate::{Label, Spec, Start};
 use keybytes::{Cell, Rid};
+use spool_choice::SpoolChoice;
 
 /// A line of a script that is run on the table.
 #[derive(Drop)]

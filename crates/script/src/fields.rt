@@ -5,16 +5,17 @@ ghost use Rattle.keybytes.specs.declared.kind.Kind.{Kind as KindValue};
 ghost use Rattle.keybytes.specs.declared.rid.Rid.{Rid as RidValue};
 ghost use Rattle.scan_range.specs.declared.dealing.Dealing.{Dealing as DealingValue};
 ghost use Rattle.script.specs.declared.spec.Spec.{Spec as SpecValue};
-ghost use Rattle.script.specs.declared.spool_choice.SpoolChoice.{SpoolChoice as SpoolChoiceValue};
+ghost use Rattle.spool_choice.specs.declared.choice.SpoolChoice.{SpoolChoice as SpoolChoiceValue};
 ghost use Rattle.script.specs.declared.part.Part.TheVariants as part;
 ghost use Rattle.script.specs.Shapes.{Fit};
 ghost use Rattle.script.specs.Fields.{number_of, int_of, slot_of, texts, SpellEach, SpellsCell, SpellsDealing, SpellsKind, SpellsNumbers, SpellsRid};
 ghost use Rattle.script.specs.Fields.{SpellsSession, SpellsSpec, SpellsSpools};
 
+use crate::Spec;
 use crate::record_error::RecordError;
-use crate::{Spec, SpoolChoice};
 use keybytes::{Cell, Kind, Rid, Text};
 use scan_range::Dealing;
+use spool_choice::SpoolChoice;
 use std::alloc::Global;
 
 /// How many sessions a race may have.

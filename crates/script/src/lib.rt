@@ -28,7 +28,6 @@ mod records;
 mod script;
 mod script_error;
 mod spec;
-mod spool_choice;
 mod start;
 mod stop;
 mod table;
@@ -49,7 +48,6 @@ pub use race::{
 pub use script::{Script, read_text};
 pub use script_error::ScriptError;
 pub use spec::Spec;
-pub use spool_choice::SpoolChoice;
 pub use start::Start;
 pub use table::Table;
 pub use unfit::Unfit;

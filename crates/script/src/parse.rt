@@ -12,9 +12,10 @@ ghost use Rattle.script.specs.declared.part.Part.TheVariants as part;
 use crate::fields::{cells, count, dealing, kinds, number, rid, spec, specs, spools};
 use crate::line::Line;
 use crate::record_error::RecordError;
-use crate::{Command, CommandName, Label, Spec, SpoolChoice, Start, Table};
+use crate::{Command, CommandName, Label, Spec, Start, Table};
 use csv::StringRecord;
 use keybytes::{Cell, Rid};
+use spool_choice::SpoolChoice;
 use std::alloc::Global;
 
 /// What a record of a script asks for.

@@ -3,11 +3,12 @@ ghost use Rattle.script.specs.RaceDrafts.{IsMissing, IsNotPut, IsRaceDraft, IsWh
 ghost use Rattle.script.specs.RaceOrder.{name_of_line};
 ghost use Rattle.script.specs.RaceScripts.{choice_of};
 
+use crate::Table;
 use crate::race::cause::RaceCause;
 use crate::race::line::RaceLine;
 use crate::race::{Build, RaceName, RaceScript, SessionStep};
-use crate::{SpoolChoice, Table};
 use keybytes::Cell;
+use spool_choice::SpoolChoice;
 use std::alloc::Global;
 use std::marker::Model;
 

@@ -1,9 +1,10 @@
 ghost use Rattle.std.specs.Prelude.{◌≡◌};
 ghost use Rattle.script.specs.RaceOrder.{name_of_line};
 
+use crate::Table;
 use crate::race::{Build, RaceName, SessionCommand};
-use crate::{SpoolChoice, Table};
 use keybytes::Cell;
+use spool_choice::SpoolChoice;
 
 /// What a record of a race script turned out to be.
 #[derive(Drop)]

@@ -12,9 +12,10 @@ use crate::race::fitting::misfit;
 use crate::race::reading::read_lines;
 use crate::race::stop::RaceStop;
 use crate::race::{Build, RaceCheckError, RaceExplanation, SessionStep};
-use crate::{ScriptError, SpoolChoice, Table, read_text};
+use crate::{ScriptError, Table, read_text};
 use csv::StringRecord;
 use keybytes::Cell;
+use spool_choice::SpoolChoice;
 use std::alloc::Global;
 use std::io::Read;
 
