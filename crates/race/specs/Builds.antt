@@ -7,10 +7,13 @@ use Rattle.keybytes.specs.declared.kind.Kind.{Kind}
 use Rattle.keybytes.specs.declared.pair.Pair.{Pair}
 use Rattle.heap_log.specs.declared.record.LogRec.{LogRec}
 use Rattle.crew.specs.Reports.{IsReport}
-use Rattle.replay.specs.Leasing.{AreOf, new_spools, plain_spools, plain_stake}
+use Rattle.replay.specs.Leasing.{AreOf, new_spools, spools_of_kinds, stake_in}
 use Rattle.replay.specs.Limits.{is_in_limits}
 use Rattle.replay.specs.Listings.{ListsShared, key_spec_of}
 use Rattle.script.specs.declared.race.build.Build.{Build}
+use Rattle.spool_choice.specs.Choices.{kinds_from}
+use Rattle.spool_choice.specs.declared.choice.SpoolChoice.{SpoolChoice}
+use Rattle.spool_kinds.specs.Kinds.{kind_of}
 use Rattle.race.specs.declared.outcome.Outcome.{Outcome}
 use Rattle.race.specs.declared.planned.Planned.{Planned}
 
@@ -20,21 +23,23 @@ IsInLimits workers build = is_in_limits workers (vec_len build.specs) build.quot
 
 -- the pages of its spools are leased from its pool
 abbrev pub IsLeased : Planned → Type 0
-IsLeased planned = AreOf planned.leases (map plain_stake planned.spools.items)
+IsLeased planned = AreOf planned.leases (map stake_in planned.spools.items)
 
--- the build that is asked for may start with so many workers, over new spools whose pages it leases, one for each worker and index
-pub record IsPlanOf (workers : ℕ) (schema : List Kind) (build : Build) (planned : Planned) : Type 0 where
+-- the build that is asked for may start with so many workers, over new spools of the kinds that are chosen, whose pages it leases, one for each
+-- worker and index
+pub record IsPlanOf (workers : ℕ) (schema : List Kind) (choice : SpoolChoice) (build : Build) (planned : Planned) : Type 0 where
   pub limits : IsInLimits workers build
   pub specs : planned.plan.specs.items ≡ map (key_spec_of schema) build.specs.items
   pub workers_are : planned.plan.workers ≡ workers
   pub dealing : planned.plan.dealing ≡ build.dealing
   pub leased : IsLeased planned
-  pub spools : plain_spools planned.spools.items ≡ new_spools (workers * vec_len build.specs) build.quota
+  pub spools : spools_of_kinds planned.spools.items ≡ new_spools (workers * vec_len build.specs) build.quota
+  pub kinds : map kind_of planned.spools.items ≡ kinds_from choice 0 (workers * vec_len build.specs)
 
 -- the build is planned, or refused; one that is out of its limits is refused for that
-abbrev pub PlansBuild : ℕ → List Kind → Build → Result Planned Fault → Type 0
-PlansBuild workers schema build (Ok planned) = IsPlanOf workers schema build planned
-PlansBuild workers schema build (Err fault) = IsInLimits workers build ⊎ (fault ≡ BadCount)
+abbrev pub PlansBuild : ℕ → List Kind → SpoolChoice → Build → Result Planned Fault → Type 0
+PlansBuild workers schema choice build (Ok planned) = IsPlanOf workers schema choice build planned
+PlansBuild workers schema choice build (Err fault) = IsInLimits workers build ⊎ (fault ≡ BadCount)
 
 -- a build of these indexes was decided so: the verdicts are those on the rows of some log that goes on from that one, and the lines tell of the refused
 -- indexes, if there are any lines

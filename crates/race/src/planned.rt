@@ -4,8 +4,9 @@ ghost use Rattle.race.specs.Builds.{PlansBuild};
 use builder_core::Plan;
 use keybytes::{Fault, Schema};
 use replay::{Leases, is_in_limits, key_specs};
-use run_spool::PlainSpool;
 use script::Build;
+use spool_choice::SpoolChoice;
+use spool_kinds::SpoolOfKind;
 use std::alloc::Global;
 
 /// How many turns a build of a race may take.
@@ -16,17 +17,19 @@ const TRIES: u32 = 1_000_000;
 pub struct Planned {
     pub plan: Plan,
     pub leases: Leases,
-    pub spools: Vec<PlainSpool>,
+    pub spools: Vec<SpoolOfKind>,
 }
 
-/// The plan of a record `build` on a table with these columns, with its spools. [`Fault::BadCount`], then [`Fault::BadColumn`].
+/// The plan of a record `build` on a table with these columns, with its spools, of the kinds that are chosen.
+/// [`Fault::BadCount`], then [`Fault::BadColumn`].
 pub fn plan_build(
     alloc: Global,
     schema: &Schema,
     workers: usize,
+    choice: SpoolChoice,
     build: Build,
 ) -> Result<Planned, Fault>
-    ensures { PlansBuild workers schema.now build result }
+    ensures { PlansBuild workers schema.now choice build result }
 {
     if !is_in_limits(workers, build.specs.len(), build.quota) {
         return Err(Fault::BadCount);
@@ -38,7 +41,8 @@ pub fn plan_build(
         tries: TRIES,
         keep_pairs: false,
     };
-    let (leases, spools) = Leases::new(alloc, workers * plan.specs.len(), build.quota)?;
+    let spools = workers * plan.specs.len();
+    let (leases, spools) = Leases::new(alloc, choice, spools, build.quota)?;
     Ok(Planned {
         plan,
         leases,

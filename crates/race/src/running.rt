@@ -41,6 +41,7 @@ pub fn run_race<R: Threads + Wait + Sync, V: Watch + Send + Drop>(
     let RaceScript {
         table,
         rows,
+        choice,
         build,
         steps,
         ..
@@ -48,7 +49,7 @@ pub fn run_race<R: Threads + Wait + Sync, V: Watch + Send + Drop>(
     // A command writes one record at most, and its undo another.
     let records = 2 * steps.len();
     let mut heap = table_heap(alloc, table)?;
-    let planned = plan_build(alloc, heap.schema(), workers, build);
+    let planned = plan_build(alloc, heap.schema(), workers, choice, build);
     put_rows(&mut heap, rows);
     let sessions = sessions_of(alloc, steps)?;
     let parts = table_parts(alloc, heap)?;

@@ -8,9 +8,14 @@ use Rattle.std.specs.Prelude.{sum}
 use Rattle.std.specs.List.{All, sum_by}
 use Rattle.spool_ledger.specs.Accounts.{AccountValue, IsWhole, Stake, new_account, stake_of}
 use Rattle.spool_ledger.specs.Pools.{PoolValue, after_reclaim, free_of, new_pool, quota_of, with_out}
-use Rattle.run_spool.specs.PlainSpools.{PlainSpoolValue, new_spool}
-use Rattle.run_spool.specs.Spools.{stakes_in}
-use Rattle.replay.specs.Leasing.{AreOf, LeasesValue, new_spools, pages_of, plain_spools, plain_stake}
+use Rattle.run_spool.specs.PagedSpools.{PagedSpoolValue, new_spool, runs_of}
+use Rattle.run_spool.specs.Runs.{pairs_of}
+use Rattle.run_spool.specs.Spools.{holds_nothing, stakes_in}
+use Rattle.spool_kinds.specs.Kinds.{inside}
+use Rattle.spool_kinds.specs.declared.either.SpoolOfKind.{SpoolOfKind}
+use Rattle.build_events.specs.CoreState.{SpoolsState}
+use Rattle.build_work.specs.Holding.{spools_in}
+use Rattle.replay.specs.Leasing.{AreOf, LeasesValue, new_spools, pages_of, spools_of_kinds, stake_in}
 
 -- that number, so many times, comes to the product
 pub sum_of_equals : (count quota : ℕ) → sum (replicate count quota) ≡ count * quota
@@ -24,36 +29,42 @@ new_are_whole pool (quota ∷ quotas) = All-cons IsWhole (new_account pool quota
 pub are_whole : (pool : ℕ) (quotas : List ℕ) (accounts : List AccountValue) → accounts ≡ map (new_account pool) quotas → All IsWhole accounts
 are_whole pool quotas accounts each = subst (All IsWhole) (sym each) (new_are_whole pool quotas)
 
--- one spool more is made
-pub made_more : (spools now all : List PlainSpoolValue) (left rest : List AccountValue) (account : AccountValue) (spool : PlainSpoolValue)
-    → spools ++ map new_spool left ≡ all → left ≡ account ∷ rest → spool ≡ new_spool account → now ≡ spools ++ spool ∷ []
-    → now ++ map new_spool rest ≡ all
-made_more spools now all left rest account spool before first made added =
-    ap (λ (xs : List PlainSpoolValue). xs ++ map new_spool rest) added
-    ∙ append_assoc spools (spool ∷ []) (map new_spool rest)
-    ∙ ap (λ (one : PlainSpoolValue). spools ++ one ∷ map new_spool rest) made
-    ∙ ap (λ (xs : List AccountValue). spools ++ map new_spool xs) (sym first)
-    ∙ before
+-- pool and quota of the account behind runs on pages
+abbrev stake_behind : PagedSpoolValue → Option Stake
+stake_behind spool = Some (stake_of spool.account)
 
-abbrev over : ℕ → List ℕ → List PlainSpoolValue
+-- runs on pages as the core sees them
+abbrev paged_spools : List PagedSpoolValue → SpoolsState
+paged_spools spools = spools_in runs_of (λ spool. pairs_of spool.open_run) stake_behind spools
+
+-- of a spool the core sees its runs, whatever the kind
+seen_inside : (spools : List SpoolOfKind) → spools_of_kinds spools ≡ paged_spools (map inside spools)
+seen_inside [] = refl
+seen_inside (spool ∷ spools) =
+    ap (λ (rest : SpoolsState). record {
+      stakes = stake_in spool ∷ rest.stakes;
+      left = holds_nothing (runs_of (inside spool)) (pairs_of (inside spool).open_run) ∷ rest.left;
+    }) (seen_inside spools)
+
+abbrev over : ℕ → List ℕ → List PagedSpoolValue
 over pool quotas = map new_spool (map (new_account pool) quotas)
 
-stakes_of_new : (count quota : ℕ) → map plain_stake (over 0 (replicate count quota)) ≡ (new_spools count quota).stakes
+stakes_of_new : (count quota : ℕ) → map stake_behind (over 0 (replicate count quota)) ≡ (new_spools count quota).stakes
 stakes_of_new zero quota = refl
-stakes_of_new (suc count) quota = ap (λ rest. plain_stake (new_spool (new_account 0 quota)) ∷ rest) (stakes_of_new count quota)
+stakes_of_new (suc count) quota = ap (λ rest. stake_behind (new_spool (new_account 0 quota)) ∷ rest) (stakes_of_new count quota)
 
-left_of_new : (count quota : ℕ) → (plain_spools (over 0 (replicate count quota))).left ≡ (new_spools count quota).left
+left_of_new : (count quota : ℕ) → (paged_spools (over 0 (replicate count quota))).left ≡ (new_spools count quota).left
 left_of_new zero quota = refl
 left_of_new (suc count) quota = ap (λ rest. true ∷ rest) (left_of_new count quota)
 
 -- new spools over new accounts are empty, each with its quota
-pub new_are_new : (count quota : ℕ) (quotas : List ℕ) (accounts : List AccountValue) (spools : List PlainSpoolValue) → quotas ≡ replicate count quota
-    → accounts ≡ map (new_account 0) quotas → spools ≡ map new_spool accounts → plain_spools spools ≡ new_spools count quota
+pub new_are_new : (count quota : ℕ) (quotas : List ℕ) (accounts : List AccountValue) (spools : List SpoolOfKind) → quotas ≡ replicate count quota
+    → accounts ≡ map (new_account 0) quotas → map inside spools ≡ map new_spool accounts → spools_of_kinds spools ≡ new_spools count quota
 new_are_new count quota quotas accounts spools equal each made =
-    let are : spools ≡ over 0 (replicate count quota) =
+    let are : map inside spools ≡ over 0 (replicate count quota) =
     made ∙ ap (λ (xs : List AccountValue). map new_spool xs) (each ∙ ap (λ (xs : List ℕ). map (new_account 0) xs) equal) in
-    ap plain_spools are
-    ∙ ap (λ (stakes : List (Option Stake)). record { stakes = stakes; left = (plain_spools (over 0 (replicate count quota))).left }) (stakes_of_new count quota)
+    seen_inside spools ∙ ap paged_spools are
+    ∙ ap (λ (stakes : List (Option Stake)). record { stakes = stakes; left = (paged_spools (over 0 (replicate count quota))).left }) (stakes_of_new count quota)
     ∙ ap (λ (left : List Bool). record { stakes = (new_spools count quota).stakes; left = left }) (left_of_new count quota)
 
 abbrev equal_stakes : ℕ → ℕ → List (Option Stake)
@@ -108,21 +119,21 @@ account_pages (account ∷ accounts) =
     ∙ ap (λ rest. account.quota + rest) (account_pages accounts)
     ∙ sym (sum_by-cons quota_of account accounts)
 
-stakes_back : (spools : List PlainSpoolValue) (before after : List AccountValue) → before ≡ []
-    → map stake_of after ≡ map stake_of before ++ stakes_in (map plain_stake spools) → map stake_of after ≡ stakes_in (map plain_stake spools)
-stakes_back spools before after none are = are ∙ ap (λ (xs : List AccountValue). map stake_of xs ++ stakes_in (map plain_stake spools)) none
+stakes_back : (spools : List SpoolOfKind) (before after : List AccountValue) → before ≡ []
+    → map stake_of after ≡ map stake_of before ++ stakes_in (map stake_in spools) → map stake_of after ≡ stakes_in (map stake_in spools)
+stakes_back spools before after none are = are ∙ ap (λ (xs : List AccountValue). map stake_of xs ++ stakes_in (map stake_in spools)) none
 
 -- the accounts behind spools that were given up are of their pool
-pub back_own : (leases : LeasesValue) (spools : List PlainSpoolValue) (before after : List AccountValue) → before ≡ []
-    → map stake_of after ≡ map stake_of before ++ stakes_in (map plain_stake spools) → AreOf leases (map plain_stake spools)
+pub back_own : (leases : LeasesValue) (spools : List SpoolOfKind) (before after : List AccountValue) → before ≡ []
+    → map stake_of after ≡ map stake_of before ++ stakes_in (map stake_in spools) → AreOf leases (map stake_in spools)
     → All (λ account. account.pool ≡ leases.pool.number) after
 back_own leases spools before after none are of =
     own_accounts leases.pool.number after
     (subst (All (λ (stake : Stake). stake.pool ≡ leases.pool.number)) (sym (stakes_back spools before after none are)) of.own)
 
 -- and have together the pages that it has split off
-pub back_out : (leases : LeasesValue) (spools : List PlainSpoolValue) (before after : List AccountValue) → before ≡ []
-    → map stake_of after ≡ map stake_of before ++ stakes_in (map plain_stake spools) → AreOf leases (map plain_stake spools)
+pub back_out : (leases : LeasesValue) (spools : List SpoolOfKind) (before after : List AccountValue) → before ≡ []
+    → map stake_of after ≡ map stake_of before ++ stakes_in (map stake_in spools) → AreOf leases (map stake_in spools)
     → sum_by quota_of after ≡ leases.pool.out
 back_out leases spools before after none are of =
     sym (account_pages after) ∙ ap (sum_by pages_of) (stakes_back spools before after none are) ∙ of.out

@@ -21,7 +21,7 @@ use Rattle.build_events.specs.declared.plan.Plan.{Plan}
 use Rattle.build_events.specs.declared.reply.Reply.{Reply}
 use Rattle.build_events.specs.declared.reply.Reply.TheVariants as reply
 use Rattle.script.specs.declared.command.Command.{Command}
-use Rattle.script.specs.declared.command.Command.TheVariants.{Row, Begin, Insert, Update, Delete, Undo, Commit, Get, Start as StartCommand, Scan, Digest}
+use Rattle.script.specs.declared.command.Command.TheVariants.{Row, Begin, Insert, Update, Delete, Undo, Commit, Get, Start as StartCommand, Spools, Scan, Digest}
 use Rattle.script.specs.declared.command.Command.TheVariants.{Seal, Load, Feed, Apply, Fence, Switch, Abandon, Side, Pairs, Rest}
 use Rattle.script.specs.declared.start.Start.{Start}
 use Rattle.replay.specs.Labels.{named}
@@ -160,6 +160,7 @@ CarriesOut labels (Undo label) old given new = OnTxn (named labels label) (λ tx
 CarriesOut labels (Commit label) old given new = OnTxn (named labels label) (λ txn. Happens (event.Commit txn)) old given new
 CarriesOut labels (Get rid) old given new = GivesRow rid old given new
 CarriesOut labels (StartCommand start) old given new = Unless (planning_refusal old start) (StartsBuild start) old given new
+CarriesOut labels (Spools choice) old given new = (given ≡ answer.Done) × (new ≡ old)
 CarriesOut labels (Scan range worker) old given new = Happens (event.Scan range worker) old given new
 CarriesOut labels (Digest worker) old given new = Happens (event.Digest worker) old given new
 CarriesOut labels (Seal worker) old given new = Happens (event.Seal worker) old given new

@@ -3,9 +3,11 @@ use Rattle.std.specs.Prelude.{◌≡◌, ◌⊎◌, ℕ, ◌*◌, ◌≤◌, tru
 use Rattle.std.specs.List.{All, sum_by}
 use Rattle.spool_ledger.specs.Accounts.{Stake, stake_of}
 use Rattle.spool_ledger.specs.Pools.{PoolValue}
-use Rattle.run_spool.specs.PlainSpools.{PlainSpoolValue, runs_of}
+use Rattle.run_spool.specs.PagedSpools.{runs_of}
 use Rattle.run_spool.specs.Runs.{pairs_of}
 use Rattle.run_spool.specs.Spools.{stakes_in}
+use Rattle.spool_kinds.specs.Kinds.{inside}
+use Rattle.spool_kinds.specs.declared.either.SpoolOfKind.{SpoolOfKind}
 use Rattle.keybytes.specs.declared.fault.Fault.{Fault}
 use Rattle.keybytes.specs.declared.fault.Fault.TheVariants.{Memory}
 use Rattle.build_events.specs.CoreState.{CoreState, SpoolsState, idle, opening}
@@ -22,13 +24,13 @@ pub record LeasesValue : Type 0 where
   pub pool : PoolValue
   pub room : ℕ
 
--- pool and quota of the account behind a plain spool
-abbrev pub plain_stake : PlainSpoolValue → Option Stake
-plain_stake spool = Some (stake_of spool.account)
+-- pool and quota of the account behind a spool
+abbrev pub stake_in : SpoolOfKind → Option Stake
+stake_in spool = Some (stake_of (inside spool).account)
 
--- plain spools as the core sees them
-abbrev pub plain_spools : List PlainSpoolValue → SpoolsState
-plain_spools spools = spools_in runs_of (λ spool. pairs_of spool.open_run) plain_stake spools
+-- spools of either kind as the core sees them
+abbrev pub spools_of_kinds : List SpoolOfKind → SpoolsState
+spools_of_kinds spools = spools_in (λ spool. runs_of (inside spool)) (λ spool. pairs_of (inside spool).open_run) stake_in spools
 
 -- there is none
 abbrev pub no_spools : SpoolsState

@@ -6,8 +6,10 @@ use Rattle.keybytes.specs.declared.fault.Fault.{Fault}
 use Rattle.heap_table.specs.HeapState.{HeapState, empty_heap}
 use Rattle.heap_table.specs.Limits.{pages_most}
 use Rattle.build_events.specs.CoreState.{CoreState, LiveState, opening}
+use Rattle.spool_choice.specs.declared.choice.SpoolChoice.{SpoolChoice}
+use Rattle.spool_choice.specs.declared.choice.SpoolChoice.TheVariants.{Plain}
 use Rattle.script.specs.declared.command.Command.{Command}
-use Rattle.script.specs.declared.command.Command.TheVariants.{Row, Begin, Insert, Update, Delete, Undo, Commit, Get, Start as StartCommand, Scan, Digest}
+use Rattle.script.specs.declared.command.Command.TheVariants.{Row, Begin, Insert, Update, Delete, Undo, Commit, Get, Start as StartCommand, Spools, Scan, Digest}
 use Rattle.script.specs.declared.command.Command.TheVariants.{Seal, Load, Feed, Apply, Fence, Switch, Abandon, Side, Pairs, Rest}
 use Rattle.script.specs.declared.numbered_command.NumberedCommand.{NumberedCommand}
 use Rattle.script.specs.Scripts.{SpellsScript}
@@ -32,19 +34,21 @@ empty_heap_of table = empty_heap table.kinds.items table.slot_limit pages_most
 abbrev pub bare_table : HeapState → LiveState
 bare_table heap = record { heap = heap; ready = []; builds = 0; build = None }
 
--- a table, the transactions on it that a script has named, and how the script has gone so far
+-- a table, the transactions on it that a script has named, the kind of spools that it has chosen, and how it has gone so far
 pub record ScriptState : Type 0 where
   pub core : CoreState
   pub labels : Labels
+  pub choice : SpoolChoice
   pub status : Status
 
 -- the same of a table and a session on it
 abbrev pub state_of : CoreState → Session → ScriptState
-state_of core session = record { core = core; labels = session.labels; status = session.status }
+state_of core session = record { core = core; labels = session.labels; choice = session.choice; status = session.status }
 
--- nothing has happened yet
+-- nothing has happened yet, and spools are plain
 pub record IsNew (session : Session) : Type 0 where
   pub labels : NamesNone session.labels
+  pub choice : session.choice ≡ Plain
   pub status : session.status ≡ Done
 
 -- a begin leaves the label with the transaction that has begun, or with none where it is refused
@@ -64,6 +68,7 @@ NotesCommand old (Undo label) given new = new ≡ old
 NotesCommand old (Commit label) given new = new ≡ old
 NotesCommand old (Get rid) given new = new ≡ old
 NotesCommand old (StartCommand start) given new = new ≡ old
+NotesCommand old (Spools choice) given new = new ≡ old
 NotesCommand old (Scan range worker) given new = new ≡ old
 NotesCommand old (Digest worker) given new = new ≡ old
 NotesCommand old (Seal worker) given new = new ≡ old
@@ -76,6 +81,31 @@ NotesCommand old Abandon given new = new ≡ old
 NotesCommand old (Side index) given new = new ≡ old
 NotesCommand old (Pairs number) given new = new ≡ old
 NotesCommand old (Rest spec) given new = new ≡ old
+
+-- the kind of spools of the builds that start after a command: that of the last record `spools`
+abbrev pub choice_after : SpoolChoice → Command → SpoolChoice
+choice_after chosen (Spools choice) = choice
+choice_after chosen (Row cells) = chosen
+choice_after chosen (Begin label) = chosen
+choice_after chosen (Insert label cells) = chosen
+choice_after chosen (Update label rid cells) = chosen
+choice_after chosen (Delete label rid) = chosen
+choice_after chosen (Undo label) = chosen
+choice_after chosen (Commit label) = chosen
+choice_after chosen (Get rid) = chosen
+choice_after chosen (StartCommand start) = chosen
+choice_after chosen (Scan range worker) = chosen
+choice_after chosen (Digest worker) = chosen
+choice_after chosen (Seal worker) = chosen
+choice_after chosen (Load index) = chosen
+choice_after chosen (Feed index most) = chosen
+choice_after chosen (Apply index most) = chosen
+choice_after chosen Fence = chosen
+choice_after chosen Switch = chosen
+choice_after chosen Abandon = chosen
+choice_after chosen (Side index) = chosen
+choice_after chosen (Pairs number) = chosen
+choice_after chosen (Rest spec) = chosen
 
 -- how the script has gone after an answer: a switch may have refused an index
 abbrev pub status_after : Status → Answer → Status
@@ -96,6 +126,7 @@ status_after status (answer.Refused fault) = status
 pub record Runs (old : ScriptState) (command : Command) (given : Answer) (new : ScriptState) : Type 0 where
   pub core : CarriesOut old.labels command old.core given new.core
   pub labels : NotesCommand old.labels command given new.labels
+  pub choice : new.choice ≡ choice_after old.choice command
   pub status : new.status ≡ status_after old.status given
 
 -- the command is run, and answered as the result says

@@ -8,7 +8,7 @@ ghost use Rattle.build_events.specs.CoreState.{opening, with_heap};
 ghost use Rattle.build_events.specs.BuildSteps.{OnBuild};
 ghost use Rattle.build_events.specs.Steps.{AnswersBy, Step};
 ghost use Rattle.build_events.specs.Verdicts.{HaveSharedKeys};
-ghost use Rattle.replay.specs.Leasing.{AreLeased, EndsBuild, FailsToStart, KeepsBuild, StartsOver, no_spools, plain_stake};
+ghost use Rattle.replay.specs.Leasing.{AreLeased, EndsBuild, FailsToStart, KeepsBuild, StartsOver, no_spools, stake_in};
 ghost use Rattle.replay.specs.Listings.{OnlyVisits};
 
 use crate::leases::Leases;
@@ -16,7 +16,8 @@ use builder_core::{Core, Ends, Event, Live, Plan, Reply, Table};
 use heap_log::Verdicts;
 use heap_table::Undone;
 use keybytes::{Fault, KeySpec, Pair, Rid, Row};
-use run_spool::PlainSpool;
+use spool_choice::SpoolChoice;
+use spool_kinds::SpoolOfKind;
 use std::alloc::Global;
 use std::marker::Model;
 
@@ -26,7 +27,7 @@ use std::marker::Model;
 /// It is no `Drop`: [`Bench::close`] gives the pages back.
 pub struct Bench<T: Table> {
     alloc: Global,
-    core: Core<PlainSpool, T>,
+    core: Core<SpoolOfKind, T>,
     leases: Option<Leases>,
 }
 
@@ -67,7 +68,7 @@ impl<T: Table> Bench<T> {
     }
 
     /// The table and its build, to be looked at.
-    pub fn core(&self) -> &Core<PlainSpool, T>
+    pub fn core(&self) -> &Core<SpoolOfKind, T>
         ensures { result.now ≡ self.now }
     {
         &self.core
@@ -109,9 +110,9 @@ impl<T: Table> Bench<T> {
         self.core.step(event)
     }
 
-    /// Starts a build over new spools, each with its quota of pages, and answers how many pages of the table it reads. Where that
-    /// is refused the spools are given up again.
-    pub fn start(&mut self, quota: usize, plan: Plan) -> Result<u32, Fault>
+    /// Starts a build over new spools of the kinds that are chosen, each with its quota of pages, and answers how many pages of the
+    /// table it reads. Where that is refused the spools are given up again.
+    pub fn start(&mut self, choice: SpoolChoice, quota: usize, plan: Plan) -> Result<u32, Fault>
         requires resting { self.old.live.build ≡ None }
         requires workers { plan.workers ≤ 16 }
         requires indexes { vec_len plan.specs ≤ 8 }
@@ -121,7 +122,7 @@ impl<T: Table> Bench<T> {
         ensures unchanged { OnErr result (self.new ≡ self.old) }
     {
         let spools = plan.workers * plan.specs.len();
-        let (leases, spools) = Leases::new(self.alloc, spools, quota)?;
+        let (leases, spools) = Leases::new(self.alloc, choice, spools, quota)?;
         let _none = self.core.exchange_spools(spools);
         match self.core.start(&plan) {
             Ok(pages) => {
@@ -184,7 +185,7 @@ impl<T: Table> Bench<T> {
 /// Takes the spools out of the core and gives them up, and answers how many of their pages are missing.
 fn end_build<T: Table>(
     alloc: Global,
-    core: &mut Core<PlainSpool, T>,
+    core: &mut Core<SpoolOfKind, T>,
     leases: Option<Leases>,
 ) -> usize
     requires { AreLeased leases core.old.spools.stakes }
@@ -196,8 +197,8 @@ fn end_build<T: Table>(
 }
 
 /// Gives spools up, and answers how many of their pages are missing. Where nothing is leased none is.
-fn reclaim(leases: Option<Leases>, spools: Vec<PlainSpool>) -> usize
-    requires { AreLeased leases (map plain_stake spools.items) }
+fn reclaim(leases: Option<Leases>, spools: Vec<SpoolOfKind>) -> usize
+    requires { AreLeased leases (map stake_in spools.items) }
     ensures { result ≡ 0 }
 {
     match leases {

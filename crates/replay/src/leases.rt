@@ -1,10 +1,12 @@
 ghost use Rattle.std.specs.Prelude.{◌≡◌, ◌≤◌, ◌<◌, ◌^◌, All, map, replicate, IfOk, IfErr};
-ghost use Rattle.spool_ledger.specs.Accounts.{IsWhole};
-ghost use Rattle.run_spool.specs.PlainSpools.{new_spool};
-ghost use Rattle.replay.specs.Leasing.{AreOf, new_spools, plain_spools, plain_stake};
+ghost use Rattle.spool_choice.specs.Choices.{kinds_from};
+ghost use Rattle.spool_kinds.specs.Kinds.{kind_of};
+ghost use Rattle.replay.specs.Leasing.{AreOf, new_spools, spools_of_kinds, stake_in};
 
 use keybytes::Fault;
-use run_spool::{PlainSpool, give_up_all};
+use run_spool::give_up_all;
+use spool_choice::SpoolChoice;
+use spool_kinds::{SpoolOfKind, spools_over};
 use spool_ledger::{Account, Pool};
 use std::alloc::Global;
 use std::marker::Model;
@@ -29,16 +31,18 @@ impl Model for Leases {
 }
 
 impl Leases {
-    /// A pool of as many pages as that many spools may lease, each up to its quota, and these spools.
+    /// A pool of as many pages as that many spools may lease, each up to its quota, and these spools, of the kinds that are chosen.
     pub fn new(
         alloc: Global,
+        choice: SpoolChoice,
         spools: usize,
         quota: usize,
-    ) -> Result<(Leases, Vec<PlainSpool>), Fault>
+    ) -> Result<(Leases, Vec<SpoolOfKind>), Fault>
         requires spools { spools ≤ 128 }
         requires quota { quota ≤ 1024 }
-        ensures leased { IfOk result (λ made. AreOf made.0 (map plain_stake made.1.items)) }
-        ensures fresh { IfOk result (λ made. plain_spools made.1.items ≡ new_spools spools quota) }
+        ensures leased { IfOk result (λ made. AreOf made.0 (map stake_in made.1.items)) }
+        ensures fresh { IfOk result (λ made. spools_of_kinds made.1.items ≡ new_spools spools quota) }
+        ensures kinds { IfOk result (λ made. map kind_of made.1.items ≡ kinds_from choice 0 spools) }
         ensures memory { IfErr result (λ fault. fault ≡ Fault.Memory) }
     {
         let quotas = quotas(alloc, spools, quota as u32)?;
@@ -48,12 +52,12 @@ impl Leases {
             pool,
             accounts: Vec::with_capacity(alloc, spools)?,
         };
-        Ok((leases, spools_over(alloc, accounts)?))
+        Ok((leases, spools_over(alloc, choice, accounts)?))
     }
 
     /// Gives the spools up, and hands the pool back, with how many of its pages are missing. It takes no memory.
-    pub fn reclaim(self, spools: Vec<PlainSpool>) -> (Pool, usize)
-        requires { AreOf self (map plain_stake spools.items) }
+    pub fn reclaim(self, spools: Vec<SpoolOfKind>) -> (Pool, usize)
+        requires { AreOf self (map stake_in spools.items) }
         ensures pool { result.0.out ≡ 0 }
         ensures missing { result.1 ≡ 0 }
     {
@@ -81,20 +85,4 @@ fn quotas(alloc: Global, count: usize, quota: u32) -> Result<Vec<u32>, Fault>
         quotas.push_reserved(quota);
     }
     Ok(quotas)
-}
-
-/// A new spool over each account.
-fn spools_over(alloc: Global, accounts: Vec<Account>) -> Result<Vec<PlainSpool>, Fault>
-    requires { All IsWhole accounts.items }
-    ensures made { IfOk result (λ spools. spools.items ≡ map new_spool accounts.items) }
-    ensures memory { IfErr result (λ fault. fault ≡ Fault.Memory) }
-{
-    let mut spools = Vec::with_capacity(alloc, accounts.len())?;
-    for account in accounts {
-        match PlainSpool::new(alloc, account) {
-            Ok(spool) => spools.push_reserved(spool),
-            Err((_, fault)) => return Err(fault),
-        }
-    }
-    Ok(spools)
 }

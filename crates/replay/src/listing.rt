@@ -15,7 +15,7 @@ use btree::Tree;
 use builder_core::{Core, Entry, Pair, Table};
 use heap_log::Outcome;
 use keybytes::{Fault, KeySpec, copied_specs};
-use run_spool::PlainSpool;
+use spool_kinds::SpoolOfKind;
 use std::alloc::Global;
 use std::collections::vec_deque::Iter;
 
@@ -123,7 +123,7 @@ fn add_shared(
 /// Copies of what makes the keys of the indexes that are being built.
 pub fn build_specs<T: Table>(
     alloc: Global,
-    core: &Core<PlainSpool, T>,
+    core: &Core<SpoolOfKind, T>,
 ) -> Result<Vec<KeySpec>, Fault>
     ensures ok { IfOk result (λ specs. IfSome core.now.live.build (λ b. specs.items ≡ b.specs)) }
     ensures memory { IfErr result (λ fault. fault ≡ Fault.Memory) }

@@ -23,15 +23,17 @@ use crate::txn::{begin, put, take_back};
 use builder_core::{Core, Event, Plan, Reply, Table};
 use heap_log::{Outcome, Verdicts};
 use keybytes::{Cell, Fault, KeySpec, Rid, Row};
-use run_spool::PlainSpool;
 use script::{Command, Label, Spec, Start};
+use spool_choice::SpoolChoice;
+use spool_kinds::SpoolOfKind;
 use std::alloc::Global;
 
-/// The transactions on a table that a script has named, and how the script has gone so far.
+/// The transactions on a table that a script has named, the kind of spools that it has chosen, and how it has gone so far.
 #[derive(Drop)]
 pub struct Session {
     alloc: Global,
     labels: Labels,
+    choice: SpoolChoice,
     status: Status,
 }
 
@@ -43,6 +45,7 @@ impl Session {
         Session {
             alloc,
             labels: Labels::new(alloc),
+            choice: SpoolChoice::Plain,
             status: Status::Done,
         }
     }
@@ -77,6 +80,7 @@ impl Session {
             Command::Commit { label } => self.commit_named(bench, &label),
             Command::Get { rid } => self.get(bench, rid),
             Command::Start(start) => self.start(bench, start),
+            Command::Spools { choice } => Ok(self.choose(choice)),
             Command::Scan { range, worker } => step(bench, Event::Scan { range, worker }),
             Command::Digest { worker } => step(bench, Event::Digest { worker }),
             Command::Seal { worker } => step(bench, Event::Seal { worker }),
@@ -203,15 +207,25 @@ impl Session {
             tries: 1,
             keep_pairs: false,
         };
-        let pages = bench.start(start.quota, plan)?;
+        let pages = bench.start(self.choice, start.quota, plan)?;
         Ok(Answer::Number {
             number: u64::from(pages),
         })
     }
 
+    /// Notes the kind of the spools of the builds that start from here on.
+    fn choose(&mut self, choice: SpoolChoice) -> Answer
+        ensures answer { result ≡ Answer.Done }
+        ensures choice { self.new.choice ≡ choice }
+        ensures others { (self.new.labels ≡ self.old.labels) × (self.new.status ≡ self.old.status) }
+    {
+        self.choice = choice;
+        Answer::Done
+    }
+
     fn key_specs<T: Table>(
         &self,
-        core: &Core<PlainSpool, T>,
+        core: &Core<SpoolOfKind, T>,
         specs: Vec<Spec>,
     ) -> Result<Vec<KeySpec>, Fault>
         ensures ok { IfOk result (λ made. made.items ≡ map (key_spec_of core.now.live.heap.schema) specs.items) }
@@ -251,7 +265,7 @@ impl Session {
         Ok(Answer::Abandoned { pages })
     }
 
-    fn side<T: Table>(&self, core: &Core<PlainSpool, T>, index: usize) -> Result<Answer, Fault>
+    fn side<T: Table>(&self, core: &Core<SpoolOfKind, T>, index: usize) -> Result<Answer, Fault>
         ensures { Answers (state_of core.now self.now) (Command.Side index) result (state_of core.now self.now) }
     {
         let lines = self.side_lines(core, index)?;
@@ -261,7 +275,7 @@ impl Session {
     /// The entries that are left in the side-file of an index that is being built.
     fn side_lines<T: Table>(
         &self,
-        core: &Core<PlainSpool, T>,
+        core: &Core<SpoolOfKind, T>,
         index: usize,
     ) -> Result<Vec<EntryLine>, Fault>
         ensures lists { IfOk result (λ lines. ListsLeft core.now index (Answer.Entries lines)) }
@@ -274,7 +288,7 @@ impl Session {
         Ok(lines)
     }
 
-    fn pairs<T: Table>(&self, core: &Core<PlainSpool, T>, number: usize) -> Result<Answer, Fault>
+    fn pairs<T: Table>(&self, core: &Core<SpoolOfKind, T>, number: usize) -> Result<Answer, Fault>
         ensures { Answers (state_of core.now self.now) (Command.Pairs number) result (state_of core.now self.now) }
     {
         let index = core.ready(number)?;
@@ -292,7 +306,7 @@ impl Session {
     }
 
     /// The key specification, of the table's columns.
-    fn key_spec<T: Table>(&self, core: &Core<PlainSpool, T>, spec: Spec) -> Result<KeySpec, Fault>
+    fn key_spec<T: Table>(&self, core: &Core<SpoolOfKind, T>, spec: Spec) -> Result<KeySpec, Fault>
         ensures table { IfOk result (λ made. made.kinds ≡ core.now.live.heap.schema) }
         ensures columns { IfOk result (λ made. made.columns ≡ spec.columns.items) }
         ensures unique { IfOk result (λ made. made.unique ≡ spec.unique) }

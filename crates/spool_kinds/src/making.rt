@@ -1,8 +1,9 @@
 //! New spools, each of the kind that is chosen for it.
-ghost use Rattle.std.specs.Prelude.{◌≡◌, All, IfOk, IfErr};
+ghost use Rattle.std.specs.Prelude.{◌≡◌, All, map, length, IfOk, IfErr};
 ghost use Rattle.spool_ledger.specs.Accounts.{IsWhole};
 ghost use Rattle.run_spool.specs.PagedSpools.{new_spool as new_value};
-ghost use Rattle.spool_kinds.specs.Kinds.{chosen_from, of_kind};
+ghost use Rattle.spool_choice.specs.Choices.{kinds_from};
+ghost use Rattle.spool_kinds.specs.Kinds.{inside, kind_of};
 
 use crate::SpoolOfKind;
 use keybytes::Fault;
@@ -19,7 +20,8 @@ pub fn new_spool(
     account: Account,
 ) -> Result<SpoolOfKind, (Account, Fault)>
     requires { IsWhole account }
-    ensures made { IfOk result (λ spool. spool ≡ of_kind kind (new_value account)) }
+    ensures made { IfOk result (λ spool. inside spool ≡ new_value account) }
+    ensures kind { IfOk result (λ spool. kind_of spool ≡ kind) }
     ensures back { IfErr result (λ refused. (refused.0 ≡ account) × (refused.1 ≡ Fault.Memory)) }
 {
     match kind {
@@ -41,7 +43,8 @@ pub fn spools_over(
     accounts: Vec<Account>,
 ) -> Result<Vec<SpoolOfKind>, Fault>
     requires { All IsWhole accounts.items }
-    ensures made { IfOk result (λ spools. spools.items ≡ chosen_from choice 0 accounts.items) }
+    ensures made { IfOk result (λ spools. map inside spools.items ≡ map new_value accounts.items) }
+    ensures kinds { IfOk result (λ spools. map kind_of spools.items ≡ kinds_from choice 0 (length accounts.items)) }
     ensures memory { IfErr result (λ fault. fault ≡ Fault.Memory) }
 {
     let mut spools = Vec::with_capacity(alloc, accounts.len())?;

@@ -1,11 +1,7 @@
-use Rattle.std.proofs.Common.{All, rules, subst, ap, ◌∙◌}
+use Rattle.std.proofs.Common.{All, rules, subst, ◌∙◌}
 use Rattle.std.proofs.lemmas.List.Elements.{All-tail}
 use Rattle.spool_ledger.specs.Accounts.{IsWhole}
-use Rattle.run_spool.specs.PagedSpools.{new_spool}
-use Rattle.spool_choice.specs.Choices.{kind_at}
-use Rattle.spool_choice.specs.declared.kind.SpoolKind.{SpoolKind}
-use Rattle.spool_kinds.specs.Kinds.{of_kind}
-use Rattle.spool_kinds.proofs.Chosen.{made_more}
+use Rattle.spool_kinds.proofs.Chosen.{kind_more, made_more}
 use Rattle.spool_kinds.proofs.making.spools_over.Goals as goal
 
 pub loop-account-preserved : goal.loop-account-preserved
@@ -15,9 +11,8 @@ loop-account-preserved c =
       next = search rules;
       finite = search rules;
       whole = All-tail IsWhole c.in-Some.account _ (subst (All IsWhole) first c.loop-account.invariant.whole);
-      made = made_more _ _ _ _ _ _ c.in-Some.account c.in-Ok.spool c.loop-account.invariant.made first
-          (c.in-Ok.ensures.made ∙ ap (λ (kind : SpoolKind). of_kind kind (new_spool c.in-Some.account))
-          (c.kind_at.ensures ∙ ap (kind_at c.args.choice) (c.len-in-loop-account.ensures ∙ search rules)))
-          c.push_reserved.ensures.items;
+      made = made_more _ _ _ _ _ c.in-Some.account c.in-Ok.spool c.loop-account.invariant.made first c.in-Ok.ensures.made c.push_reserved.ensures.items;
+      kinds = kind_more _ _ _ _ _ _ c.in-Some.account c.in-Ok.spool _ c.loop-account.invariant.kinds first (c.len-in-loop-account.ensures ∙ search rules)
+          (c.in-Ok.ensures.kind ∙ c.kind_at.ensures) c.push_reserved.ensures.items;
       room = search rules;
     }

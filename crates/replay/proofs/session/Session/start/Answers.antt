@@ -50,6 +50,7 @@ pub returns : goal.returns
 returns g c = record {
   core = by_plan g (goal.at.returns g c).After-start (Number c.from.result) (inl (c.in_ok-pages.pages, ap Number c.from.ensures, c.in_ok-pages.ensures.started));
   labels = refl;
+  choice = search rules;
   status = refl;
 }
 
@@ -58,5 +59,6 @@ returns-in_err-pages g c = record {
   core = by_plan g (goal.at.returns-in_err-pages g c).After-start (answer_of c.from_residual-in_err-pages.result)
       (inr (c.in_err-pages.field-0.0, c.in_err-pages.ensures.refused, (search rules, search rules)));
   labels = search rules;
+  choice = search rules;
   status = search rules;
 }
