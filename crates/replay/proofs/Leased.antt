@@ -8,7 +8,7 @@ use Rattle.std.specs.Prelude.{sum}
 use Rattle.std.specs.List.{All, sum_by}
 use Rattle.spool_ledger.specs.Accounts.{AccountValue, IsWhole, Stake, new_account, stake_of}
 use Rattle.spool_ledger.specs.Pools.{PoolValue, after_reclaim, free_of, new_pool, quota_of, with_out}
-use Rattle.run_spool.specs.PlainSpools.{PlainSpoolValue, new_spool}
+use Rattle.run_spool.specs.PagedSpools.{PagedSpoolValue, new_spool}
 use Rattle.run_spool.specs.Spools.{stakes_in}
 use Rattle.replay.specs.Leasing.{AreOf, LeasesValue, new_spools, pages_of, plain_spools, plain_stake}
 
@@ -25,17 +25,17 @@ pub are_whole : (pool : ℕ) (quotas : List ℕ) (accounts : List AccountValue) 
 are_whole pool quotas accounts each = subst (All IsWhole) (sym each) (new_are_whole pool quotas)
 
 -- one spool more is made
-pub made_more : (spools now all : List PlainSpoolValue) (left rest : List AccountValue) (account : AccountValue) (spool : PlainSpoolValue)
+pub made_more : (spools now all : List PagedSpoolValue) (left rest : List AccountValue) (account : AccountValue) (spool : PagedSpoolValue)
     → spools ++ map new_spool left ≡ all → left ≡ account ∷ rest → spool ≡ new_spool account → now ≡ spools ++ spool ∷ []
     → now ++ map new_spool rest ≡ all
 made_more spools now all left rest account spool before first made added =
-    ap (λ (xs : List PlainSpoolValue). xs ++ map new_spool rest) added
+    ap (λ (xs : List PagedSpoolValue). xs ++ map new_spool rest) added
     ∙ append_assoc spools (spool ∷ []) (map new_spool rest)
-    ∙ ap (λ (one : PlainSpoolValue). spools ++ one ∷ map new_spool rest) made
+    ∙ ap (λ (one : PagedSpoolValue). spools ++ one ∷ map new_spool rest) made
     ∙ ap (λ (xs : List AccountValue). spools ++ map new_spool xs) (sym first)
     ∙ before
 
-abbrev over : ℕ → List ℕ → List PlainSpoolValue
+abbrev over : ℕ → List ℕ → List PagedSpoolValue
 over pool quotas = map new_spool (map (new_account pool) quotas)
 
 stakes_of_new : (count quota : ℕ) → map plain_stake (over 0 (replicate count quota)) ≡ (new_spools count quota).stakes
@@ -47,7 +47,7 @@ left_of_new zero quota = refl
 left_of_new (suc count) quota = ap (λ rest. true ∷ rest) (left_of_new count quota)
 
 -- new spools over new accounts are empty, each with its quota
-pub new_are_new : (count quota : ℕ) (quotas : List ℕ) (accounts : List AccountValue) (spools : List PlainSpoolValue) → quotas ≡ replicate count quota
+pub new_are_new : (count quota : ℕ) (quotas : List ℕ) (accounts : List AccountValue) (spools : List PagedSpoolValue) → quotas ≡ replicate count quota
     → accounts ≡ map (new_account 0) quotas → spools ≡ map new_spool accounts → plain_spools spools ≡ new_spools count quota
 new_are_new count quota quotas accounts spools equal each made =
     let are : spools ≡ over 0 (replicate count quota) =
@@ -108,12 +108,12 @@ account_pages (account ∷ accounts) =
     ∙ ap (λ rest. account.quota + rest) (account_pages accounts)
     ∙ sym (sum_by-cons quota_of account accounts)
 
-stakes_back : (spools : List PlainSpoolValue) (before after : List AccountValue) → before ≡ []
+stakes_back : (spools : List PagedSpoolValue) (before after : List AccountValue) → before ≡ []
     → map stake_of after ≡ map stake_of before ++ stakes_in (map plain_stake spools) → map stake_of after ≡ stakes_in (map plain_stake spools)
 stakes_back spools before after none are = are ∙ ap (λ (xs : List AccountValue). map stake_of xs ++ stakes_in (map plain_stake spools)) none
 
 -- the accounts behind spools that were given up are of their pool
-pub back_own : (leases : LeasesValue) (spools : List PlainSpoolValue) (before after : List AccountValue) → before ≡ []
+pub back_own : (leases : LeasesValue) (spools : List PagedSpoolValue) (before after : List AccountValue) → before ≡ []
     → map stake_of after ≡ map stake_of before ++ stakes_in (map plain_stake spools) → AreOf leases (map plain_stake spools)
     → All (λ account. account.pool ≡ leases.pool.number) after
 back_own leases spools before after none are of =
@@ -121,7 +121,7 @@ back_own leases spools before after none are of =
     (subst (All (λ (stake : Stake). stake.pool ≡ leases.pool.number)) (sym (stakes_back spools before after none are)) of.own)
 
 -- and have together the pages that it has split off
-pub back_out : (leases : LeasesValue) (spools : List PlainSpoolValue) (before after : List AccountValue) → before ≡ []
+pub back_out : (leases : LeasesValue) (spools : List PagedSpoolValue) (before after : List AccountValue) → before ≡ []
     → map stake_of after ≡ map stake_of before ++ stakes_in (map plain_stake spools) → AreOf leases (map plain_stake spools)
     → sum_by quota_of after ≡ leases.pool.out
 back_out leases spools before after none are of =

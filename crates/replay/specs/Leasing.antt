@@ -3,7 +3,7 @@ use Rattle.std.specs.Prelude.{◌≡◌, ◌⊎◌, ℕ, ◌*◌, ◌≤◌, tru
 use Rattle.std.specs.List.{All, sum_by}
 use Rattle.spool_ledger.specs.Accounts.{Stake, stake_of}
 use Rattle.spool_ledger.specs.Pools.{PoolValue}
-use Rattle.run_spool.specs.PlainSpools.{PlainSpoolValue, runs_of}
+use Rattle.run_spool.specs.PagedSpools.{PagedSpoolValue, runs_of}
 use Rattle.run_spool.specs.Runs.{pairs_of}
 use Rattle.run_spool.specs.Spools.{stakes_in}
 use Rattle.keybytes.specs.declared.fault.Fault.{Fault}
@@ -23,11 +23,11 @@ pub record LeasesValue : Type 0 where
   pub room : ℕ
 
 -- pool and quota of the account behind a plain spool
-abbrev pub plain_stake : PlainSpoolValue → Option Stake
+abbrev pub plain_stake : PagedSpoolValue → Option Stake
 plain_stake spool = Some (stake_of spool.account)
 
 -- plain spools as the core sees them
-abbrev pub plain_spools : List PlainSpoolValue → SpoolsState
+abbrev pub plain_spools : List PagedSpoolValue → SpoolsState
 plain_spools spools = spools_in runs_of (λ spool. pairs_of spool.open_run) plain_stake spools
 
 -- there is none

@@ -1,6 +1,6 @@
 ghost use Rattle.std.specs.Prelude.{◌≡◌, ◌≤◌, ◌<◌, ◌^◌, All, map, replicate, IfOk, IfErr};
 ghost use Rattle.spool_ledger.specs.Accounts.{IsWhole};
-ghost use Rattle.run_spool.specs.PlainSpools.{new_spool};
+ghost use Rattle.run_spool.specs.PagedSpools.{new_spool};
 ghost use Rattle.replay.specs.Leasing.{AreOf, new_spools, plain_spools, plain_stake};
 
 use keybytes::Fault;

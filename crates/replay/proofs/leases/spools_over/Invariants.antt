@@ -1,7 +1,7 @@
 use Rattle.std.proofs.Common.{◌≡◌, ◌≤◌, ◌+◌, ◌++◌, All, map, length, vec_len, vec_capacity}
 use Rattle.std.specs.Vec.Iter.{into_iter_items}
 use Rattle.spool_ledger.specs.Accounts.{IsWhole}
-use Rattle.run_spool.specs.PlainSpools.{new_spool}
+use Rattle.run_spool.specs.PagedSpools.{new_spool}
 use Rattle.replay.proofs.leases.spools_over.Given as goal
 
 abbrev pub invariant-loop-account : goal.invariant-loop-account
