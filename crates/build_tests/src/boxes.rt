@@ -2,11 +2,11 @@
 ghost use Rattle.std.specs.Prelude.{◌≡◌};
 
 use crate::made::list_spool;
-use crate::pools::{QUOTA, new_pool, plain_spool, room};
+use crate::pools::{QUOTA, new_pool, paged_spool, room};
 use crate::stories::{Other, Story, other_reply, run_on, table};
 use builder_core::{Event, Parts, Reply, Table};
 use keybytes::Fault;
-use run_spool::{Spool, give_up_all};
+use run_spool::{PlainPage, Spool, give_up_all};
 use spool_ledger::Pool;
 use std::alloc::Global;
 use std::marker::Brand;
@@ -55,7 +55,7 @@ fn other_beside<S: Spool>(alloc: Global, spools: Vec<S>, events: &[Event], story
 
 /// The first worker's spool is a plain one, the second's keeps its runs in lists.
 fn other_over(alloc: Global, pool: &mut Pool, events: &[Event], story: &Story) -> Other {
-    let plain: Box<dyn Spool + Send> = Box::new(alloc, plain_spool(alloc, pool, QUOTA)?)?;
+    let plain: Box<dyn Spool + Send> = Box::new(alloc, paged_spool::<PlainPage>(alloc, pool, QUOTA)?)?;
     let list: Box<dyn Spool + Send> = Box::new(alloc, list_spool(alloc)?)?;
     other_beside(alloc, vec![in alloc; plain, list]?, events, story)
 }

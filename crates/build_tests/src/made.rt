@@ -3,9 +3,9 @@ ghost use Rattle.std.specs.Prelude.{map, IfOk};
 ghost use Rattle.build_tests.specs.Owing.{IsOwed};
 
 use crate::list_spool::ListSpool;
-use crate::pools::{new_pool, plain_spools};
+use crate::pools::{new_pool, paged_spools};
 use keybytes::Fault;
-use run_spool::{PlainSpool, Spool};
+use run_spool::{PageOfPairs, PagedSpool, Spool};
 use spool_ledger::Pool;
 use std::alloc::Global;
 
@@ -26,9 +26,9 @@ pub trait Made: Spool {
 }
 
 /// As many as are asked for.
-impl Made for PlainSpool {
-    fn made(alloc: Global, pool: &mut Pool, stock: Stock) -> Result<Vec<PlainSpool>, Fault> {
-        plain_spools(alloc, pool, stock)
+impl<P: PageOfPairs> Made for PagedSpool<P> {
+    fn made(alloc: Global, pool: &mut Pool, stock: Stock) -> Result<Vec<PagedSpool<P>>, Fault> {
+        paged_spools(alloc, pool, stock)
     }
 }
 

@@ -2,12 +2,12 @@
 ghost use Rattle.std.specs.Prelude.{◌≡◌, ◌≤◌, [], Some, map, IfOk, IfErr, OnOk, vec_len, vec_capacity};
 ghost use Rattle.spool_ledger.specs.Accounts.{new_account, stake_of};
 ghost use Rattle.spool_ledger.specs.Pools.{with_out, with_back};
-ghost use Rattle.run_spool.specs.PlainSpools.{new_spool};
+ghost use Rattle.run_spool.specs.PagedSpools.{new_spool};
 ghost use Rattle.build_tests.specs.Owing.{IsOwed, pages_owed};
 
 use crate::made::Stock;
 use keybytes::{Fault, Key, Pair, Rid};
-use run_spool::{PlainSpool, Spool, give_up_all};
+use run_spool::{PageOfPairs, PagedSpool, Spool, give_up_all};
 use spool_ledger::{Account, Pool};
 use std::alloc::Global;
 
@@ -22,26 +22,34 @@ pub fn new_pool(alloc: Global) -> Result<Pool, Fault> {
     Pool::new(alloc, 1, PAGES)
 }
 
-/// A plain spool of that many pages of the pool.
-pub fn plain_spool(alloc: Global, pool: &mut Pool, quota: u32) -> Result<PlainSpool, Fault>
+/// A spool of that many pages of the pool.
+pub fn paged_spool<P: PageOfPairs>(
+    alloc: Global,
+    pool: &mut Pool,
+    quota: u32,
+) -> Result<PagedSpool<P>, Fault>
     ensures made { IfOk result (λ spool. spool ≡ new_spool (new_account pool.old.number quota)) }
     ensures out { OnOk result (pool.new ≡ with_out pool.old quota) }
 {
     let Some(account) = pool.split(alloc, &[quota])?.pop() else {
         return Err(Fault::Memory);
     };
-    match PlainSpool::new(alloc, account) {
+    match PagedSpool::new(alloc, account) {
         Ok(spool) => Ok(spool),
         Err((_, fault)) => Err(fault),
     }
 }
 
 /// The same, with a pair in its open run where that is asked for.
-fn one_spool(alloc: Global, pool: &mut Pool, stock: Stock) -> Result<PlainSpool, Fault>
+fn one_spool<P: PageOfPairs>(
+    alloc: Global,
+    pool: &mut Pool,
+    stock: Stock,
+) -> Result<PagedSpool<P>, Fault>
     ensures stake { IfOk result (λ spool. stake_of spool.account ≡ record { pool = pool.old.number; quota = stock.quota }) }
     ensures out { OnOk result (pool.new ≡ with_out pool.old stock.quota) }
 {
-    let mut spool = plain_spool(alloc, pool, stock.quota)?;
+    let mut spool = paged_spool(alloc, pool, stock.quota)?;
     if !stock.is_used {
         return Ok(spool);
     }
@@ -56,7 +64,11 @@ fn one_spool(alloc: Global, pool: &mut Pool, stock: Stock) -> Result<PlainSpool,
 }
 
 /// As many of them as are asked for.
-pub fn plain_spools(alloc: Global, pool: &mut Pool, stock: Stock) -> Result<Vec<PlainSpool>, Fault>
+pub fn paged_spools<P: PageOfPairs>(
+    alloc: Global,
+    pool: &mut Pool,
+    stock: Stock,
+) -> Result<Vec<PagedSpool<P>>, Fault>
     ensures owed { IfOk result (λ spools. IsOwed pool.new (map (λ spool. Some (stake_of spool.account)) spools.items)) }
 {
     let mut spools = Vec::with_capacity(alloc, stock.count)?;

@@ -28,13 +28,14 @@ impl Spool for HeldSpool<'_> {
     ghost use Rattle.std.specs.Prelude.{Some, ◌≡◌, []};
     ghost use Rattle.spool_ledger.specs.Accounts.{IsWhole, stake_of};
     ghost use Rattle.run_spool.specs.Runs.{pairs_of};
-    ghost use Rattle.run_spool.specs.PlainSpools.{IsFullSpool, runs_of, leased_pages};
+    ghost use Rattle.run_spool.specs.PagedSpools.{IsFullSpool, runs_of, leased_pages};
+    ghost use Rattle.run_spool.specs.PlainPages.{plain_size};
 
     ghost runs = { λ held. runs_of held.spool };
 
     ghost open_run = { λ held. pairs_of held.spool.open_run };
 
-    ghost is_full = { λ held pair. IsFullSpool held.spool pair };
+    ghost is_full = { λ held pair. IsFullSpool plain_size held.spool pair };
 
     ghost ended = { λ held. (held.spool.runs ≡ []) × (held.spool.open_run ≡ []) × IsWhole held.spool.account };
 

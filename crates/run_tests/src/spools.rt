@@ -1,7 +1,7 @@
 //! What spools keep, for plain ones and for those in a box.
 ghost use Rattle.std.specs.Prelude.{◌≡◌, ◌<◌, length, IfOk};
 ghost use Rattle.spool_ledger.specs.Accounts.{new_account};
-ghost use Rattle.run_spool.specs.PlainSpools.{new_spool};
+ghost use Rattle.run_spool.specs.PagedSpools.{new_spool};
 ghost use Rattle.run_spool.specs.Spools.{NoneEmpty};
 
 use keybytes::{Fault, Key, Pair, Rid};

@@ -1,7 +1,7 @@
 //! A worker over the pages of a small table.
 ghost use Rattle.std.specs.Prelude.{◌≡◌, [], IfOk, OnOk, length, map};
 ghost use Rattle.spool_ledger.specs.Accounts.{new_account};
-ghost use Rattle.run_spool.specs.PlainSpools.{new_spool};
+ghost use Rattle.run_spool.specs.PagedSpools.{new_spool};
 ghost use Rattle.run_maker.specs.Making.{AreReady};
 
 use building::{Copied, Intake, PagePutter, page_ring};

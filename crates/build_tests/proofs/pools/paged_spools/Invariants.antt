@@ -1,10 +1,10 @@
 use Rattle.std.proofs.Common.{◌≡◌, Some, map, length, vec_capacity}
 use Rattle.spool_ledger.specs.Accounts.{stake_of}
 use Rattle.build_tests.specs.Owing.{IsOwed}
-use Rattle.build_tests.proofs.pools.plain_spools.Given as goal
+use Rattle.build_tests.proofs.pools.paged_spools.Given as goal
 
 abbrev pub invariant-loop : goal.invariant-loop
-invariant-loop l = record {
+invariant-loop g l = record {
   owed : IsOwed l.pool (map (λ spool. Some (stake_of spool.account)) l.spools.items);
   count : length l.spools.items ≡ l.counter;
   room : vec_capacity l.spools ≡ l.fn.stock.count;
