@@ -13,22 +13,23 @@ use Rattle.race.specs.Resting.{AreCheckedBehind}
 use Rattle.race.specs.Rows.{HasPutRows}
 use Rattle.race.specs.Sessions.{AreSessionsOf, line_count, script_count}
 use Rattle.race.specs.declared.outcome.Outcome.{Outcome}
+use Rattle.spool_choice.specs.declared.choice.SpoolChoice.{SpoolChoice}
 use Rattle.race.specs.declared.planned.Planned.{Planned}
 use Rattle.race.specs.declared.session_script.SessionScript.{SessionScript}
 use Rattle.race.specs.declared.race_report.RaceReport.{RaceReport}
 
 -- a planned build ends as the build that was asked for
-pub ends_build : (opening : List LogRec) (workers : ℕ) (schema : List Kind) (build : Build) (planned : Result Planned Fault) (ended : Result Outcome Fault)
-    → PlansBuild workers schema build planned → EndsPlanned opening planned ended → EndsBuild opening workers schema build ended
-ends_build opening workers schema build (Ok planned) (Ok outcome) plan ends =
+pub ends_build : (opening : List LogRec) (workers : ℕ) (schema : List Kind) (choice : SpoolChoice) (build : Build) (planned : Result Planned Fault) (ended : Result Outcome Fault)
+    → PlansBuild workers schema choice build planned → EndsPlanned opening planned ended → EndsBuild opening workers schema build ended
+ends_build opening workers schema choice build (Ok planned) (Ok outcome) plan ends =
     (plan.limits, subst (λ specs. IsOutcomeOf opening specs outcome) plan.specs ends)
-ends_build opening workers schema build (Ok planned) (Err fault) plan ends = inl plan.limits
-ends_build opening workers schema build (Err fault) ended plan ends = subst (EndsBuild opening workers schema build) (sym ends) plan
+ends_build opening workers schema choice build (Ok planned) (Err fault) plan ends = inl plan.limits
+ends_build opening workers schema choice build (Err fault) ended plan ends = subst (EndsBuild opening workers schema build) (sym ends) plan
 
 -- what holds of each part of a report holds of all
 pub whole_report :
     (workers : ℕ) (script : RaceScript) (opening : List LogRec) (planned : Result Planned Fault) (sessions : List SessionScript) (result : Result RaceReport Fault)
-    → table_refusal script.table ≡ None → HasPutRows script.rows.items [] opening → PlansBuild workers script.table.kinds.items script.build planned
+    → table_refusal script.table ≡ None → HasPutRows script.rows.items [] opening → PlansBuild workers script.table.kinds.items script.choice script.build planned
     → AreSessionsOf script.steps.items sessions
     → IfOk result (λ report. report.pages ≡ 0)
     → IfOk result (λ report. EndsPlanned opening planned report.build)
@@ -40,7 +41,7 @@ whole_report workers script opening planned sessions (Ok report) table rows plan
   table = table;
   opening = opening;
   rows = rows;
-  build = ends_build opening workers script.table.kinds.items script.build planned report.build plan build;
+  build = ends_build opening workers script.table.kinds.items script.choice script.build planned report.build plan build;
   sessions = (sessions, of, lines);
   checks = checks;
   pages = pages;

@@ -55,8 +55,8 @@ static EXPLAINED: [(&[u8], &str); 29] = [
     ),
     (
         b"table,2,int\nfly\n",
-        "script: record 2 is bad: field 1, \"fly\", is no command (table, row, begin, insert, update, delete, undo, commit, get, start, \
-            scan, digest, seal, load, feed, apply, fence, switch, abandon, side, pairs or rest)\n",
+        "script: record 2 is bad: field 1, \"fly\", is no command (table, row, begin, insert, update, delete, undo, commit, get, spools, \
+            start, scan, digest, seal, load, feed, apply, fence, switch, abandon, side, pairs or rest)\n",
     ),
     (
         b"table,2,int\nupdate,A,0.0\n",

@@ -9,6 +9,8 @@ mod explanations;
 #[cfg(test)]
 mod faulty;
 #[cfg(test)]
+mod filled_pages;
+#[cfg(test)]
 mod many_entries;
 #[cfg(test)]
 mod measured_runs;

@@ -106,7 +106,7 @@ fn write_updates(alloc: Global, script: &mut String, updates: u32) -> Result<(),
 }
 
 /// A record that ends with a number.
-fn write_numbered(
+pub fn write_numbered(
     alloc: Global,
     script: &mut String,
     record: &str,

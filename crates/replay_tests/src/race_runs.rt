@@ -21,7 +21,27 @@ struct Race {
     status: u8,
 }
 
-const RACES: [Race; 9] = [
+const RACES: [Race; 10] = [
+    Race {
+        name: "a row beside a build with spools of both kinds",
+        begin: "table,4,int\nspools,mixed\n",
+        rows: 0,
+        rest: "build,4,even:2,n:0
+go
+in,1,begin,A
+in,1,insert,A,5
+in,1,commit,A
+",
+        workers: 2,
+        out: "verdict,0,ready:0
+session,1,3,0
+check,0,same
+receipts,0
+pages,0
+",
+        err: "",
+        status: 0,
+    },
     Race {
         name: "a row beside a build",
         begin: "table,4,int\n",

@@ -9,7 +9,7 @@ static GOOD: &[u8] =
     in,1,update,A,0.0,~\nin,8,delete,A,0.1\nin,8,undo,A\nin,1,commit,A\n";
 
 /// Bad scripts of races, each with what a check says of it.
-static EXPLAINED: [(&[u8], &str); 24] = [
+static EXPLAINED: [(&[u8], &str); 26] = [
     (
         b"table,4,int\nbuild,4,even:1,n:0\nbuild,4,even:1,n:0\ngo\n",
         "script: record 3 is bad: a build comes before go, and only once\n",
@@ -100,7 +100,15 @@ static EXPLAINED: [(&[u8], &str); 24] = [
     ),
     (
         b"table,4,int\nbuild,4,even:1,n:0\ngo\nspools,mixed\n",
-        "script: record 4 is bad: field 1, \"spools\", is no command (table, row, build, go or in)\n",
+        "script: record 4 is bad: the kind of spools comes before go, and only once\n",
+    ),
+    (
+        b"table,4,int\nspools,mixed\nrow,1\nspools,mixed\nbuild,4,even:1,n:0\ngo\n",
+        "script: record 4 is bad: the kind of spools comes before go, and only once\n",
+    ),
+    (
+        b"table,4,int\nbuild,4,even:1,n:0\nspools,flat\ngo\n",
+        "script: record 3 is bad: field 2, \"flat\", is no kind of spools (plain, prefix or mixed)\n",
     ),
     (
         b"table,4,int\nbuild,4,even:1,n:0\ngo\nin,1,insert,A,=\xff\n",
@@ -112,11 +120,11 @@ static EXPLAINED: [(&[u8], &str); 24] = [
 static EXPLAINED_AS_RACES: [(&[u8], &str); 4] = [
     (
         b"table,4,int\nfly\n",
-        "script: record 2 is bad: field 1, \"fly\", is no command (table, row, build, go or in)\n",
+        "script: record 2 is bad: field 1, \"fly\", is no command (table, row, spools, build, go or in)\n",
     ),
     (
         b"table,4,int\nstart,1,4,even:1,n:0\n",
-        "script: record 2 is bad: field 1, \"start\", is no command (table, row, build, go or in)\n",
+        "script: record 2 is bad: field 1, \"start\", is no command (table, row, spools, build, go or in)\n",
     ),
     (
         b"table,4,int\nrow,1\n",

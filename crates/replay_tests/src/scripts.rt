@@ -5,6 +5,7 @@ mod builds;
 mod catching_up;
 mod several_indexes;
 mod spelled;
+mod spools;
 mod tables;
 mod transactions;
 mod unique_indexes;
@@ -14,7 +15,7 @@ use crate::case::Case;
 use crate::printed::Printed;
 use std::alloc::Global;
 
-fn cases() -> [&'static [Case]; 9] {
+fn cases() -> [&'static [Case]; 10] {
     [
         &tables::CASES,
         &transactions::CASES,
@@ -25,6 +26,7 @@ fn cases() -> [&'static [Case]; 9] {
         &unique_indexes::CASES,
         &bad_scripts::CASES,
         &spelled::CASES,
+        &spools::CASES,
     ]
 }
 

@@ -12,7 +12,7 @@ fly,1
         err: "script: record 2 is bad\n",
         status: 2,
         check: "script: record 2 is bad: field 1, \"fly\", is no command (table, row, begin, insert, update, delete, undo, commit, \
-            get, start, scan, digest, seal, load, feed, apply, fence, switch, abandon, side, pairs or rest)\n",
+            get, spools, start, scan, digest, seal, load, feed, apply, fence, switch, abandon, side, pairs or rest)\n",
     },
     Case {
         name: "no records",

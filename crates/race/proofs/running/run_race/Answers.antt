@@ -10,7 +10,7 @@ pub returns : goal.returns
 returns g c =
     let script = c.args.script in
     let schema = c.schema.ensures ∙ ap (λ (state : HeapState). state.schema) c.in_ok-heap.ensures.empty in
-    let plan = subst (λ schema. PlansBuild c.args.workers schema script.build c.plan_build-planned.result) schema c.plan_build-planned.ensures in
+    let plan = subst (λ schema. PlansBuild c.args.workers schema script.choice script.build c.plan_build-planned.result) schema c.plan_build-planned.ensures in
     let empty = ap (λ (state : HeapState). state.log) c.in_ok-heap.ensures.empty in
     let opening = ap (λ (state : HeapState). state.log) c.in_ok-parts.ensures in
     let put = subst (λ (log : List LogRec). HasPutRows script.rows.items log c.put_rows.new.heap.state.log) empty c.put_rows.ensures in
