@@ -1,5 +1,6 @@
 -- Pairs that stand in bytes, each behind the one before it.
-use Rattle.std.proofs.Common.{◌≡◌, ℕ, ◌+◌, ◌-◌, ◌≤◌, ◌<◌, zero, suc, List, [], ◌∷◌, ◌++◌, length, get_or, take, drop, refl, sym, ap, ◌∙◌, subst, arith, append_assoc}
+use Rattle.std.proofs.Common.{◌≡◌, ℕ, ◌+◌, ◌-◌, ◌≤◌, ◌<◌, zero, suc, refl, sym, ap, ◌∙◌, subst, arith}
+use Rattle.std.proofs.Common.{List, [], ◌∷◌, ◌++◌, length, get_or, take, drop, append_assoc}
 use Rattle.std.specs.List.{All}
 use Rattle.std.proofs.lemmas.List.{take_at, drop_at, drop-drop, drop-take, drop-append-le, length-append, length-drop, length-take-le, append-nil}
 use Rattle.std.proofs.lemmas.List.Elements.{All-head, All-tail, All-push}
@@ -13,7 +14,8 @@ use Rattle.run_spool.specs.Bytes.{rid_bytes, first_rid, IsPair}
 use Rattle.run_spool.specs.Pages.{last_behind}
 use Rattle.run_spool.proofs.Stores.{rid_back}
 use Rattle.run_spool.proofs.Writes.{overwritten-thrice}
-use Rattle.prefix_spool.specs.PrefixBytes.{shared, bytes_sharing, size_sharing, bytes_behind, prefix_size, all_behind, first_shared, first_more, first_key, first_behind, read_behind, StandsBehind}
+use Rattle.prefix_spool.specs.PrefixBytes.{shared, bytes_sharing, size_sharing, bytes_behind, prefix_size, all_behind, StandsBehind}
+use Rattle.prefix_spool.specs.PrefixBytes.{first_shared, first_more, first_key, first_behind, read_behind}
 use Rattle.prefix_spool.proofs.SharedFronts.{shared_le, shared_within, key_back}
 
 pub length_sharing : (n : ℕ) (p : Pair) → length (bytes_sharing n p) ≡ size_sharing n p

@@ -2,8 +2,8 @@
 //! with, how many bytes more it has, those, the page of the RID in four bytes and its slot in two. The first two numbers take
 //! two bytes each, and numbers have their high byte first.
 
-ghost use Rattle.std.specs.Prelude.{◌≡◌, ◌+◌, ◌-◌, ◌<◌, ◌≤◌, ◌++◌, length, drop, take, IfOk, IfErr, OnOk};
-ghost use Rattle.byteorder.specs.Endian.{big_bytes, big_number};
+ghost use Rattle.std.specs.Prelude.{◌≡◌, ◌+◌, ◌≤◌, ◌++◌, length, drop, take, IfOk, IfErr, OnOk};
+ghost use Rattle.byteorder.specs.Endian.{big_bytes};
 ghost use Rattle.keybytes.specs.Writes.{overwritten};
 ghost use Rattle.run_spool.specs.Bytes.{IsPair};
 ghost use Rattle.prefix_spool.specs.PrefixBytes.{shared, bytes_sharing, size_sharing};

@@ -1,5 +1,3 @@
-ghost use Rattle.std.specs.Prelude.{◌≡◌, ◌+◌, ◌-◌, ◌<◌, ◌≤◌, length};
-
 use crate::area::{read_pair, seek, shared_with, size_of_pair, write_pair};
 use crate::marks::Marks;
 use keybytes::{Fault, Key, Pair, Rid};

@@ -58,7 +58,8 @@ some_chain : (chain : List PageValue) → 0 < (last_of chain).room → 0 < lengt
 some_chain [] lt = absurd (omega arith)
 some_chain (x ∷ xs) lt = omega arith
 
-last_of_chain : (size : List ℕ → Pair → ℕ) (chain : List PageValue) → 0 < (last_of chain).room → All HasPairs chain → All (IsPacked size) chain → Last size chain
+last_of_chain : (size : List ℕ → Pair → ℕ) (chain : List PageValue) → 0 < (last_of chain).room → All HasPairs chain → All (IsPacked size) chain →
+    Last size chain
 last_of_chain size chain lt each packed =
     let there = some_chain chain lt in
     let k = length chain - 1 in
@@ -235,7 +236,8 @@ run_ended {runs = runs} {chain = chain} given left rest run after room n s is sa
     }
 
 -- a spool that has ended
-pub record Ended (size : List ℕ → Pair → ℕ) (last : List ℕ) (start given : AccountValue) (left : ℕ) (runs : List (List PageValue)) (room : ℕ) (chain : List PageValue) : Type 0 where
+pub record Ended (size : List ℕ → Pair → ℕ) (last : List ℕ) (start given : AccountValue) (left : ℕ) (runs : List (List PageValue)) (room : ℕ)
+    (chain : List PageValue) : Type 0 where
   pub spool : IsSpool size given left runs room chain 0 last
   pub none : runs ≡ []
   pub chain_is : chain ≡ []
@@ -252,7 +254,8 @@ pub open_ended : {size : List ℕ → Pair → ℕ} {account : AccountValue} {sp
     length runs ≡ 0 → runs ≡ rest ++ [] → room ≡ places → account ≡ with_free start account.free →
     new ≡ without_pairs len chain → given.free + length new ≡ account.free + length chain →
     given ≡ with_free account given.free → left + length new ≡ spare + length chain → Ended size last start given left rest room new
-open_ended {size = size} {account = account} {runs = runs} {chain = chain} {len = len} start given left new rest room s no_runs runs_is room_is from gone count kept frames =
+open_ended {size = size} {account = account} {runs = runs} {chain = chain} {len = len} start given left new rest room s no_runs runs_is room_is from gone count
+    kept frames =
     let none : new ≡ [] = gone ∙ without_all chain len s.open_len_is in
     let long = ap (λ (xs : List PageValue). length xs) none in
     let empty : runs ≡ [] = none_left runs no_runs in

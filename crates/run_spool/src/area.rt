@@ -1,8 +1,7 @@
 //! Pairs in the bytes of a page, one after the other: the length of the key in two bytes, the key, the page of the RID
 //! in four bytes and its slot in two. Numbers have their high byte first.
 
-ghost use Rattle.std.specs.Prelude.{◌≡◌, ◌+◌, ◌-◌, ◌<◌, ◌≤◌, ◌++◌, ◌∷◌, [], length, drop, take, get_or, IfOk, IfErr};
-ghost use Rattle.byteorder.specs.Endian.{big_bytes};
+ghost use Rattle.std.specs.Prelude.{◌≡◌, ◌+◌, ◌≤◌, drop, IfOk, IfErr};
 ghost use Rattle.run_spool.specs.PlainPages.{IsPage, pairs_at};
 ghost use Rattle.keybytes.specs.Writes.{overwritten};
 ghost use Rattle.run_spool.specs.Bytes.{pair_bytes, pair_size, first_pair, first_length, read_pairs, Stored, IsPair};

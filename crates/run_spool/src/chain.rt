@@ -1,8 +1,8 @@
 //! Chains of frames. A frame has a page or none; it is made once, and is moved from chain to chain, so that no memory is taken
 //! for it again.
 
-ghost use Rattle.std.specs.Prelude.{◌≡◌, ◌+◌, ◌-◌, ◌^◌, ◌<◌, ◌≤◌, ◌++◌, ◌∷◌, ◌↔◌, ◌==◌, [], Some};
-ghost use Rattle.std.specs.Prelude.{length, drop, take, if◌then◌else◌, IfOk, IfErr, IsTrue, IsSome};
+ghost use Rattle.std.specs.Prelude.{◌≡◌, ◌+◌, ◌-◌, ◌^◌, ◌<◌, ◌≤◌, ◌++◌, ◌∷◌, ◌↔◌, ◌==◌, []};
+ghost use Rattle.std.specs.Prelude.{length, drop, take, if◌then◌else◌, Some, IfOk, IfErr, IsTrue, IsSome};
 ghost use Rattle.run_spool.specs.Pages.{IsPairAt, no_page, last_key, size_on, page_with, with_pair, without_first};
 ghost use Rattle.run_spool.specs.Frames.{page_in};
 ghost use Rattle.run_spool.specs.Runs.{first_of, last_of, with_first, on_last};

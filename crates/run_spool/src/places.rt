@@ -1,7 +1,7 @@
 //! Numbers and RIDs at places of a page. Numbers have their high byte first.
 
-ghost use Rattle.std.specs.Prelude.{◌≡◌, ◌+◌, ◌≤◌, ◌++◌, length, drop};
-ghost use Rattle.byteorder.specs.Endian.{big_bytes, big_number};
+ghost use Rattle.std.specs.Prelude.{◌≡◌, ◌+◌, ◌≤◌, length, drop};
+ghost use Rattle.byteorder.specs.Endian.{big_number};
 ghost use Rattle.keybytes.specs.Writes.{overwritten};
 ghost use Rattle.run_spool.specs.Bytes.{rid_bytes, first_rid};
 

@@ -1,6 +1,3 @@
-ghost use Rattle.std.specs.Prelude.{◌≡◌, ◌+◌, ◌-◌, ◌<◌, ◌≤◌, ◌++◌, ◌∷◌, [], length, drop, IfOk, IfErr};
-ghost use Rattle.run_spool.specs.Pages.{PageValue, IsPairAt, with_pair, without_first};
-
 use crate::PageOfPairs;
 use crate::area::{FIXED_SIZE, read_pair, seek, write_pair};
 use crate::marks::Marks;

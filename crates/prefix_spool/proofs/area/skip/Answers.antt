@@ -39,6 +39,7 @@ loop-preserved c =
     let ps = read_behind c.args.count c.args.before.now (drop c.args.start b) in
     let e : suc c.loop.counter ≡ c.loop.counter + 1 = omega arith in
     subst (λ (n : ℕ). StandsBehind b (c.loop.at + n) c.args.end c.pass_pair.new.before (drop (c.loop.counter + 1) ps)) (sym c.in_ok-at.ensures.size)
-    (subst (λ (k : List ℕ). StandsBehind b (c.loop.at + (10 + first_more (drop c.loop.at b))) c.args.end k (drop (c.loop.counter + 1) ps)) (sym c.in_ok-at.ensures.key)
+    (subst (λ (k : List ℕ). StandsBehind b (c.loop.at + (10 + first_more (drop c.loop.at b))) c.args.end k (drop (c.loop.counter + 1) ps))
+    (sym c.in_ok-at.ensures.key)
     (subst (λ (n : ℕ). StandsBehind b (c.loop.at + (10 + first_more (drop c.loop.at b))) c.args.end (first_key c.loop.before (drop c.loop.at b)) (drop n ps)) e
     (found (goal.at.loop-preserved c).In-loop).next))

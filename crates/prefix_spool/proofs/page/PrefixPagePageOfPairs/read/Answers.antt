@@ -45,4 +45,5 @@ returns-clause-pair c =
     let all = written_at c.self.inside.page.bytes.value c.self.inside.marks in
     let bytes = drop c.in-Ok.offset c.deref-bytes.result.now in
     rw (← e)
-    (pair_read all c.self.inside.marks.freed c.args.n c.seek.new.before bytes c.read_pair.new.key c.read_pair.result f.pair c.read_pair.ensures.rid c.read_pair.ensures.key)
+    (pair_read all c.self.inside.marks.freed c.args.n c.seek.new.before bytes c.read_pair.new.key c.read_pair.result f.pair
+    c.read_pair.ensures.rid c.read_pair.ensures.key)

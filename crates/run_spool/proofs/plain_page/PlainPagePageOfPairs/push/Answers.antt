@@ -14,7 +14,9 @@ overflow_add-self-2 c = let small = count_small c.self.invariant in omega arith
 key_is : (c : After-write_pair) → 8 + length c.bytes.result.now ≡ pair_size c.args.pair.now
 key_is c = ap (λ (k : List ℕ). 8 + length k) c.bytes.ensures.bytes
 
-written : (c : After-write_pair) → Pushed c.self.inside.page.bytes.value c.write_pair.new.bytes c.self.inside.marks (8 + length c.bytes.result.now) c.args.pair.now
+written :
+    (c : After-write_pair)
+    → Pushed c.self.inside.page.bytes.value c.write_pair.new.bytes c.self.inside.marks (8 + length c.bytes.result.now) c.args.pair.now
 written c =
     let m = c.self.inside.marks in
     let within = c.self.invariant.stored.within in
