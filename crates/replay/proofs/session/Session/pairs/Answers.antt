@@ -16,6 +16,6 @@ returns g c =
     record {
       core = (refl, inl (subst (λ (found : Option ReadyValue). ListsReady found (Pairs lines)) (sym c.in_ok-index.ensures.index) (lines, refl, listed)));
       labels = refl;
-      choice = search rules;
+      choice = refl;
       status = refl;
     }

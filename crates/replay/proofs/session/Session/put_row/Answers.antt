@@ -13,7 +13,7 @@ returns-in-Ok g c =
       core = subst (λ (cause : Option Fault). Unless cause (AddsRow c.args.cells.items) core (Row c.in-Ok.rid) left) (sym c.in_ok-row.ensures.accepted)
           (inl (c.in_ok-txn.txn, c.begin.new.bench, c.in-Ok.rid, refl, c.in_ok-txn.ensures.ok, puts));
       labels = refl;
-      choice = search rules;
+      choice = refl;
       status = refl;
     }
 
@@ -27,6 +27,6 @@ returns-in-Err g c =
       core = subst (λ (cause : Option Fault). Unless cause (AddsRow c.args.cells.items) core given left) (sym c.in_ok-row.ensures.accepted)
           (inr (inl (c.in_ok-txn.txn, c.begin.new.bench, c.in-Err.fault, c.put.new.bench, c.take_back.ensures.0, refl, c.in_ok-txn.ensures.ok, failed, c.take_back.ensures.1)));
       labels = refl;
-      choice = search rules;
+      choice = refl;
       status = refl;
     }

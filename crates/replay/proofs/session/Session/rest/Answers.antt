@@ -19,7 +19,7 @@ returns g c =
     record {
       core = (c.rest.ensures.rows, inl (lines, refl, listed_by asked made (pairs_at_rest asked core.live.heap.log) _ lines.items named pairs c.in_ok-lines.ensures.lists));
       labels = refl;
-      choice = search rules;
+      choice = refl;
       status = refl;
     }
 
@@ -30,6 +30,6 @@ returns-in_err-lines g c =
     rw (told.1) (record {
       core = (c.rest.ensures.rows, inr (told.0, refl, inr (accepted, told.2 ∙ c.in_err-lines.ensures.memory)));
       labels = refl;
-      choice = search rules;
+      choice = refl;
       status = refl;
     })
