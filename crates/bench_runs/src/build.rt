@@ -1,15 +1,15 @@
 //! What is made for the core: a table to measure on, and the spools and the plan of a build.
-ghost use Rattle.std.specs.Prelude.{◌≡◌, ◌<◌, ◌∷◌, [], ◌%◌, length, IfOk, All};
-ghost use Rattle.spool_ledger.specs.Accounts.{IsWhole};
+ghost use Rattle.std.specs.Prelude.{◌≡◌, ◌<◌, ◌∷◌, [], ◌%◌, length, IfOk};
 
 use crate::column::Column;
+use crate::counted_spool::CountedSpool;
 use crate::options::Options;
 use crate::spool_pages::quota;
 use builder_core::{Dealing, INDEXES_MAX, Parts, Plan, WORKERS_MAX};
 use heap_table::{Heap, PAGES_MAX, SLOTS_MAX};
 use keybytes::{Fault, KeySpec, Kind, Schema};
-use run_spool::PlainSpool;
-use spool_ledger::{Account, Pool};
+use spool_kinds::{SpoolOfKind, spools_over};
+use spool_ledger::Pool;
 use std::alloc::{AllocError, Global};
 
 /// No build has more workers, each with a spool for each of its indexes.
@@ -39,8 +39,8 @@ fn kinds(alloc: Global, columns: &[Column]) -> Result<Vec<Kind>, AllocError> {
     Ok(kinds)
 }
 
-/// A spool for each worker and index, with as many pages as the pairs of one of so many parts take.
-pub fn spools(alloc: Global, options: &Options, parts: usize) -> Result<Vec<PlainSpool>, Fault>
+/// A spool of the kind that is chosen for each worker and index, with as many plain pages as the pairs of one of so many parts take.
+pub fn spools(alloc: Global, options: &Options, parts: usize) -> Result<Vec<SpoolOfKind>, Fault>
     requires { 0 < parts }
 {
     let quota = quota(options.rows, options.key_size(), parts);
@@ -51,20 +51,20 @@ pub fn spools(alloc: Global, options: &Options, parts: usize) -> Result<Vec<Plai
     let quotas = vec![in alloc; quota as u32; count]?;
     let mut pool = Pool::new(alloc, 0, (count * quota) as u32)?;
     let accounts = pool.split(alloc, quotas.as_slice())?;
-    spools_over(alloc, accounts)
+    spools_over(alloc, options.spools, accounts)
 }
 
-fn spools_over(alloc: Global, accounts: Vec<Account>) -> Result<Vec<PlainSpool>, Fault>
-    requires { All IsWhole accounts.items }
-{
-    let mut spools = Vec::with_capacity(alloc, accounts.len())?;
-    for account in accounts {
-        match PlainSpool::new(alloc, account) {
-            Ok(spool) => spools.push(spool)?,
-            Err((_, fault)) => return Err(fault),
-        }
+/// The same, each with a count of its pages.
+pub fn counted_spools(
+    alloc: Global,
+    options: &Options,
+) -> Result<Vec<CountedSpool<SpoolOfKind>>, Fault> {
+    let spools = spools(alloc, options, options.workers)?;
+    let mut counted = Vec::with_capacity(alloc, spools.len())?;
+    for spool in spools {
+        counted.push(CountedSpool::new(spool))?;
     }
-    Ok(spools)
+    Ok(counted)
 }
 
 /// What the build of a table of these columns is to do.

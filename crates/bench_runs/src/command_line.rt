@@ -7,6 +7,7 @@ use builder_core::WORKERS_MAX;
 use clap::builder::ValueParser;
 use clap::error::ErrorKind;
 use clap::{Arg, ArgAction, ArgMatches, Command, Error};
+use spool_choice::SpoolChoice;
 use std::alloc::{AllocError, Global};
 use std::convert::AsStr;
 
@@ -71,7 +72,7 @@ const FLAG: Word = Word {
     parser: ValueParser::String,
 };
 
-static WORDS: [Word; 12] = [
+static WORDS: [Word; 13] = [
     Word {
         name: "rows",
         help: "How many rows the table has",
@@ -82,7 +83,7 @@ static WORDS: [Word; 12] = [
     },
     Word {
         name: "columns",
-        help: "The columns, up to 12: `int`, or `text:N` for texts of N bytes; as int,text:20",
+        help: "The columns, up to 12: `int`, `int:N` for numbers below N, `text:N` for texts of N bytes, or `text:N:M` where the first M are the same in all; as int,text:20",
         value: Some("LIST"),
         default: Some("int"),
         delimiter: Some(','),
@@ -114,6 +115,13 @@ static WORDS: [Word; 12] = [
         value: Some("M"),
         default: Some("0"),
         parser: ValueParser::Signed(0, 4_294_967_295),
+        ..FLAG
+    },
+    Word {
+        name: "spools",
+        help: "Where workers keep their sorted runs: on `plain` pages, on `prefix` pages, which keep of each key what differs from the key before it, or `mixed`",
+        value: Some("KIND"),
+        default: Some("plain"),
         ..FLAG
     },
     Word {
@@ -162,6 +170,7 @@ static WORDS: [Word; 12] = [
 #[derive(Clone, Copy)]
 enum Refusal {
     Column,
+    Spools,
     Rows,
     Writes,
     Memory,
@@ -181,7 +190,9 @@ pub fn read<'a, S: AsStr>(alloc: Global, words: &'a [S]) -> Result<Options, Erro
 /// What is printed where nothing can be run.
 fn told(alloc: Global, refusal: Refusal) -> Result<Error, AllocError> {
     let message = match refusal {
-        Refusal::Column => "a column is `int`, or `text:` with a number from 1 to 100",
+        Refusal::Column =>
+            "a column is `int`, `int:` with a number from 1, or `text:` with a number from 1 to 100",
+        Refusal::Spools => "spools are `plain`, `prefix` or `mixed`",
         Refusal::Rows => "so many rows find no room in the spools of 16 workers",
         Refusal::Writes => "with threads `--writers` write, and `--writes` is of builds without",
         Refusal::Memory => return Err(AllocError),
@@ -196,6 +207,12 @@ fn choose(matches: &ArgMatches<'_>, options: &mut Options) -> Result<(), Refusal
     options.indexes = number(matches, "indexes") as usize;
     options.unique = matches.get_flag("unique");
     options.writes = number(matches, "writes");
+    options.spools = match matches.get_str("spools") {
+        Some("prefix") => SpoolChoice::Prefix,
+        Some("mixed") => SpoolChoice::Mixed,
+        Some("plain") | None => SpoolChoice::Plain,
+        Some(_) => return Err(Refusal::Spools),
+    };
     choose_threads(matches, options)?;
     options.seed = matches.get_one("seed").unwrap_or(0);
     options.csv = matches.get_flag("csv");

@@ -8,6 +8,7 @@ mod bench;
 mod build;
 mod column;
 mod command_line;
+mod counted_spool;
 mod dealing;
 mod failure;
 mod figure;

@@ -3,6 +3,7 @@ ghost use Rattle.bench_runs.specs.Columns.{key_size};
 ghost use Rattle.bench_runs.specs.declared.column.Column.{Column as ColumnValue};
 
 use crate::column::Column;
+use spool_choice::SpoolChoice;
 use std::alloc::Global;
 
 /// What is to be measured.
@@ -19,6 +20,8 @@ pub struct Options {
     pub workers: usize,
     /// How many updates are made before the build, and as many while its pages are copied.
     pub writes: u32,
+    /// Where the runs of their pairs are kept.
+    pub spools: SpoolChoice,
     /// What the rows are drawn by.
     pub seed: u64,
     /// Whether the workers are in threads of their own.
@@ -44,6 +47,7 @@ impl Drop for Options {
             unique: _,
             workers: _,
             writes: _,
+            spools: _,
             seed: _,
             threads: _,
             sessions: _,
@@ -64,6 +68,7 @@ impl Options {
             unique: false,
             workers: 1,
             writes: 0,
+            spools: SpoolChoice::Plain,
             seed: 0,
             threads: false,
             sessions: 1,

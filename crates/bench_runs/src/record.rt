@@ -11,6 +11,8 @@ use std::time::{Duration, Instant};
 #[derive(Clone, Copy)]
 pub struct Figures {
     pub(crate) lines: [Figure; PHASES],
+    /// How many pages the spools leased at most, each counted for itself.
+    pub(crate) pages: usize,
 }
 
 /// What was measured so far, and the failure that ended the run, if one did.
@@ -80,13 +82,16 @@ impl Record {
         }
     }
 
-    /// What was measured, or why nothing is told of it.
-    pub fn told(&self) -> Result<Figures, Failure>
+    /// What was measured, with spools that leased so many pages, or why nothing is told of it.
+    pub fn told(&self, pages: usize) -> Result<Figures, Failure>
         ensures measured { OnOk result (self.now.failure ≡ None) }
         ensures failed { IfErr result (λ failure. self.now.failure ≡ Some failure) }
     {
         match self.failure {
-            None => Ok(Figures { lines: self.lines }),
+            None => Ok(Figures {
+                lines: self.lines,
+                pages,
+            }),
             Some(failure) => Err(failure),
         }
     }

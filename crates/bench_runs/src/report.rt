@@ -41,7 +41,15 @@ fn add_all(text: &mut String, options: &Options, figures: &Figures) -> Result<()
     if options.csv {
         return Ok(());
     }
+    add_pages(text, figures.pages)?;
     text.push_str(END)
+}
+
+/// How many pages the spools had.
+fn add_pages(text: &mut String, pages: usize) -> Result<(), AllocError> {
+    text.push_str("the spools leased ")?;
+    add_number(text, Some(pages as u128), 4, 0)?;
+    text.push_str(" pages at most\n")
 }
 
 /// What was asked for, and the titles of the table.
@@ -66,11 +74,7 @@ fn add_asked(text: &mut String, options: &Options) -> Result<(), AllocError> {
 fn add_columns(text: &mut String, columns: &[Column]) -> Result<(), AllocError> {
     for (place, column) in columns.iter().enumerate() {
         let comma = if place == 0 { "" } else { "," };
-        let added = match column {
-            Column::Int => write!(text, "{comma}int"),
-            Column::Text(length) => write!(text, "{comma}text:{length}"),
-        };
-        added?;
+        write!(text, "{comma}{column}")?;
     }
     Ok(())
 }

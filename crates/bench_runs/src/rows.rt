@@ -3,7 +3,7 @@ use keybytes::{Cell, Fault, Rid, Row, Text};
 use rand::distr::{Alphanumeric, SampleString};
 use rand::rngs::SmallRng;
 use rand::{RngExt, SeedableRng};
-use std::alloc::Global;
+use std::alloc::{AllocError, Global};
 
 /// A row of random values, and the place whose row it is to replace; one without a place is a new row.
 #[derive(Drop)]
@@ -87,6 +87,23 @@ pub fn random_row(alloc: Global, rng: &mut SmallRng, columns: &[Column]) -> Resu
     Row::new(cells)
 }
 
+/// So many letters and digits, of which so many at the front are always the same.
+fn random_text(
+    alloc: Global,
+    rng: &mut SmallRng,
+    length: u8,
+    front: u8,
+) -> Result<String, AllocError> {
+    let mut text = String::new(alloc);
+    for _ in 0..front {
+        text.push('a')?;
+    }
+    let more = length.saturating_sub(front);
+    let behind = Alphanumeric.sample_string(alloc, rng, usize::from(more))?;
+    text.push_str(behind.as_str())?;
+    Ok(text)
+}
+
 fn add_cells(
     alloc: Global,
     rng: &mut SmallRng,
@@ -96,9 +113,9 @@ fn add_cells(
     for column in columns {
         let cell = match column {
             Column::Int => Cell::Int(rng.random()),
-            Column::Text(length) => {
-                let text = Alphanumeric.sample_string(alloc, rng, usize::from(*length))?;
-                Cell::Text(Text::new(text))
+            Column::IntBelow(limit) => Cell::Int(i64::from(rng.random_range(0..(*limit).max(1)))),
+            Column::Text { length, front } => {
+                Cell::Text(Text::new(random_text(alloc, rng, *length, *front)?))
             }
         };
         cells.push(cell)?;

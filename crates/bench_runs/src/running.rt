@@ -3,6 +3,7 @@ ghost use Rattle.std.specs.Prelude.{◌≡◌};
 
 use crate::bench::{Bench, ROWS_OF_A_TRANSACTION};
 use crate::build::parts;
+use crate::counted_spool::CountedSpool;
 use crate::failure::Failure;
 use crate::options::Options;
 use crate::phase::Phase;
@@ -12,6 +13,7 @@ use crate::rows::Rows;
 use crate::subject::Subject;
 use builder_core::{Core, Parts, Table};
 use heap_table::PAGES_MAX;
+use spool_kinds::SpoolOfKind;
 use std::marker::Brand;
 
 /// With the indexes ready, one row of so many is inserted, and one updated.
@@ -38,17 +40,22 @@ fn run_on<T: Table>(rt: &HostRuntime, parts: Parts, options: &Options) -> Result
 {
     let (live, ends) = parts.open::<T>();
     let mut core = Core::new(live, ends, Vec::new(rt.alloc()));
-    let told = run_over(rt, options, &mut core);
-    let (_, _, _) = core.into_live();
-    told
+    let record = run_over(rt, options, &mut core);
+    let (_, _, spools) = core.into_live();
+    record.told(pages_of(spools.as_slice()))
+}
+
+/// How many pages these spools have leased, each at most.
+fn pages_of(spools: &[CountedSpool<SpoolOfKind>]) -> usize {
+    let mut pages = 0usize;
+    for spool in spools {
+        pages = pages.saturating_add(spool.pages());
+    }
+    pages
 }
 
 /// The same with the core.
-fn run_over<'a, C: Subject>(
-    rt: &'a HostRuntime,
-    options: &'a Options,
-    core: &'a mut C,
-) -> Result<Figures, Failure> {
+fn run_over<'a, C: Subject>(rt: &'a HostRuntime, options: &'a Options, core: &'a mut C) -> Record {
     let mut bench = Bench {
         rt,
         options,
@@ -57,12 +64,13 @@ fn run_over<'a, C: Subject>(
         progress: Progress::new(rt),
         rows: Rows::new(rt.alloc(), options.seed),
     };
-    bench.measure()
+    bench.measure();
+    bench.record
 }
 
 impl<C: Subject> Bench<'_, C> {
-    /// Measures the phases in their order. Nothing is told of an index that isn't what the table gives.
-    fn measure(&mut self) -> Result<Figures, Failure> {
+    /// Measures the phases in their order. A run fails whose index isn't what the table gives.
+    fn measure(&mut self) {
         let (rows, writes) = (self.options.rows, self.options.writes);
         let later = rows.div_ceil(SHARE).min(ROWS_MAX);
         self.insert_rows(Phase::Fill, rows);
@@ -89,7 +97,6 @@ impl<C: Subject> Bench<'_, C> {
         );
         self.compare();
         self.progress.announce(self.rt, "");
-        self.record.told()
     }
 
     /// Compares each index with what the table gives.

@@ -1,6 +1,7 @@
 //! What is measured: a table with the build of its indexes, and all that is asked of it.
 
-use crate::build::{plan, spec, spools};
+use crate::build::{counted_spools, plan, spec};
+use crate::counted_spool::CountedSpool;
 use crate::failure::Failure;
 use crate::look_ups::{first_difference, look_in};
 use crate::options::Options;
@@ -10,7 +11,7 @@ use builder_core::{Core, Event, Reply, Table};
 use heap_log::Outcome;
 use keybytes::Fault;
 use rand::rngs::SmallRng;
-use run_spool::PlainSpool;
+use spool_kinds::SpoolOfKind;
 use std::alloc::Global;
 
 /// What is measured. The phases know no more of the core than this, so that their proofs do without what it keeps.
@@ -29,7 +30,7 @@ pub trait Subject {
     fn compare(&mut self, alloc: Global, index: usize) -> Result<Option<usize>, Fault>;
 }
 
-impl<T: Table> Subject for Core<PlainSpool, T> {
+impl<T: Table> Subject for Core<CountedSpool<SpoolOfKind>, T> {
     fn ask(&mut self, record: &mut Record, step: &'static str, event: Event) -> u64 {
         if record.failure.is_some() {
             return 0;
@@ -40,7 +41,7 @@ impl<T: Table> Subject for Core<PlainSpool, T> {
 
     fn start(&mut self, rt: &HostRuntime, record: &mut Record, options: &Options) {
         record.begin(rt);
-        match spools(rt.alloc(), options, options.workers) {
+        match counted_spools(rt.alloc(), options) {
             Ok(spools) => {
                 self.exchange_spools(spools);
             }

@@ -16,7 +16,7 @@ use builder_core::{Dealing, Ends, Live, Plan};
 use crew::{BuildFault, Opened, Report, Table, TableParts, build};
 use heap_log::Outcome;
 use keybytes::Fault;
-use run_spool::PlainSpool;
+use spool_kinds::SpoolOfKind;
 use std::alloc::Global;
 use std::marker::Brand;
 use std::rt::Runtime;
@@ -40,7 +40,7 @@ const PARTS_OF_A_SPOOL: usize = 4;
 #[derive(Drop)]
 struct Work {
     plan: Plan,
-    spools: Vec<PlainSpool>,
+    spools: Vec<SpoolOfKind>,
 }
 
 /// Measures what is asked for, on a table of its own.
