@@ -26,7 +26,7 @@ static PHASES: [&str; 15] = [
     "updates ready",
 ];
 
-/// Runs on two columns by two workers, of eight indexes in one scan, and of a unique index on random numbers, which differ.
+/// Runs on two columns by two workers, of eight indexes in one scan and spools of both kinds, and of a unique index on random numbers, which differ.
 static RUNS: [&[&str]; 3] = [
     &[
         "sfbench",
@@ -47,9 +47,11 @@ static RUNS: [&[&str]; 3] = [
         "--rows",
         "600",
         "--columns",
-        "int,text:3",
+        "int:500,text:3:2",
         "--indexes",
         "8",
+        "--spools",
+        "mixed",
         "--writes",
         "50",
         "--csv",
@@ -60,13 +62,17 @@ static RUNS: [&[&str]; 3] = [
 ];
 
 /// Words that ask for nothing that can be run.
-static REFUSED: [&[&str]; 12] = [
+static REFUSED: [&[&str]; 16] = [
     &["sfbench", "fast"],
     &["sfbench", "--rows", "0"],
     &["sfbench", "--rows", "100000000"],
     &["sfbench", "--columns", "real"],
     &["sfbench", "--columns", "text:0"],
     &["sfbench", "--columns", "int,text:101"],
+    &["sfbench", "--columns", "int:0"],
+    &["sfbench", "--columns", "text:5:6"],
+    &["sfbench", "--columns", "text:5:"],
+    &["sfbench", "--spools", "flat"],
     &["sfbench", "--workers", "17"],
     &["sfbench", "--indexes", "0"],
     &["sfbench", "--indexes", "9"],
