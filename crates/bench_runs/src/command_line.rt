@@ -83,7 +83,7 @@ static WORDS: [Word; 13] = [
     },
     Word {
         name: "columns",
-        help: "The columns, up to 12: `int`, `int:N` for numbers below N, `text:N` for texts of N bytes, or `text:N:M` where the first M are the same in all; as int,text:20",
+        help: "The columns, up to 12: `int`, `int:N` (numbers below N), `text:N` (texts of N bytes) or `text:N:M` (the first M all the same)",
         value: Some("LIST"),
         default: Some("int"),
         delimiter: Some(','),
@@ -119,7 +119,7 @@ static WORDS: [Word; 13] = [
     },
     Word {
         name: "spools",
-        help: "Where workers keep their sorted runs: on `plain` pages, on `prefix` pages, which keep of each key what differs from the key before it, or `mixed`",
+        help: "Where sorted runs are kept: on `plain` pages, on `prefix` ones, which leave out what a key shares with the one before, or `mixed`",
         value: Some("KIND"),
         default: Some("plain"),
         ..FLAG
