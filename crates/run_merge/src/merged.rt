@@ -102,9 +102,10 @@ impl<S: Spool> Merged<S> {
         self.lanes.compares()
     }
 
-    /// The spools, with the pairs that weren't given.
+    /// The spools, with the pairs that weren't given, whose runs can be merged again.
     pub fn into_spools(self) -> Vec<S>
         ensures runs { map S.runs result.items ≡ self.runs }
+        ensures sorted { AreSorted (all_runs self.runs) }
         ensures open_runs { map S.open_run result.items ≡ self.open_runs }
         ensures stakes { map S.stake result.items ≡ self.stakes }
     {
