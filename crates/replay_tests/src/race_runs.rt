@@ -23,10 +23,10 @@ struct Race {
 
 const RACES: [Race; 10] = [
     Race {
-        name: "a row beside a build with spools of both kinds",
+        name: "two indexes with spools of both kinds",
         begin: "table,4,int\nspools,mixed\n",
-        rows: 0,
-        rest: "build,4,even:2,n:0
+        rows: 300,
+        rest: "build,4,even:2,n:0,n:0
 go
 in,1,begin,A
 in,1,insert,A,5
@@ -34,8 +34,10 @@ in,1,commit,A
 ",
         workers: 2,
         out: "verdict,0,ready:0
+verdict,1,ready:1
 session,1,3,0
 check,0,same
+check,1,same
 receipts,0
 pages,0
 ",
