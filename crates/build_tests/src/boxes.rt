@@ -55,7 +55,10 @@ fn other_beside<S: Spool>(alloc: Global, spools: Vec<S>, events: &[Event], story
 
 /// The first worker's spool is a plain one, the second's keeps its runs in lists.
 fn other_over(alloc: Global, pool: &mut Pool, events: &[Event], story: &Story) -> Other {
-    let plain: Box<dyn Spool + Send> = Box::new(alloc, paged_spool::<PlainPage>(alloc, pool, QUOTA)?)?;
+    let plain: Box<dyn Spool + Send> = Box::new(
+        alloc,
+        paged_spool::<PlainPage>(alloc, pool, QUOTA)?,
+    )?;
     let list: Box<dyn Spool + Send> = Box::new(alloc, list_spool(alloc)?)?;
     other_beside(alloc, vec![in alloc; plain, list]?, events, story)
 }

@@ -32,6 +32,6 @@ kind_more choice spools now all left rest account spool at before first number i
     ∙ ap (λ (xs : List SpoolKind). xs ++ kinds_from choice (suc (length spools)) (length rest)) (map-append kind_of spools (spool ∷ []))
     ∙ append_assoc (map kind_of spools) (kind_of spool ∷ []) (kinds_from choice (suc (length spools)) (length rest))
     ∙ ap (λ (one : SpoolKind). map kind_of spools ++ one ∷ kinds_from choice (suc (length spools)) (length rest))
-      (is ∙ ap (kind_at choice) number)
+    (is ∙ ap (kind_at choice) number)
     ∙ ap (λ (xs : List AccountValue). map kind_of spools ++ kinds_from choice (length spools) (length xs)) (sym first)
     ∙ before
