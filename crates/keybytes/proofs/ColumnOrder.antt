@@ -41,7 +41,7 @@ all_below (p ∷ ps) e (suc i) (suc j) d less inside =
 -- a pair below another has the lesser columns, or the same and the lesser RID
 by_columns : (spec : KeySpecValue) (p q : Pair) → are_key_columns spec.kinds spec.columns ≡ true → is_lt (pair_cmp p q) ≡ true → IsBefore spec p q
 by_columns spec p q held less = λ a b is_a is_b key_a key_b.
-    let order : slice_cmp nat_cmp p.key q.key ≡ columns_cmp (key_columns spec a) (key_columns spec b) =
+    let order : slice_cmp nat_cmp p.key q.key ≡ columns_cmp spec.columns (key_columns spec a) (key_columns spec b) =
     ap (λ k. slice_cmp nat_cmp k q.key) (sym key_a) ∙ ap (λ k. slice_cmp nat_cmp (key_of spec a) k) (sym key_b) ∙ (key_of-laws spec a held is_a).order b is_b in
     ap (λ o. ordering_then o (rid_cmp p.rid q.rid)) (sym order) ∙ is_less (pair_cmp p q) less
 

@@ -1,6 +1,7 @@
 -- Keys written out: the definition of their bytes, at values that a reader can check by hand.
 use Rattle.std.proofs.Common.{◌≡◌, pos, negsuc, true, false, [], ◌∷◌, length, replicate, refl}
-use Rattle.keybytes.specs.Keys.{cell_key, key_bytes}
+use Rattle.keybytes.specs.Keys.{cell_key, column_key, key_bytes}
+use Rattle.keybytes.specs.declared.key_col.KeyCol.{KeyCol}
 use Rattle.keybytes.specs.declared.cell.Cell.TheVariants.{Null, Int, Text, Flag}
 
 -- -5
@@ -20,10 +21,16 @@ minus_one = refl
 zero_number : cell_key (Int (pos 0)) ≡ 1 ∷ 0x80 ∷ 0 ∷ 0 ∷ 0 ∷ 0 ∷ 0 ∷ 0 ∷ 0 ∷ []
 zero_number = refl
 
-two_columns : key_bytes (Null ∷ Flag false ∷ []) ≡ 0 ∷ 1 ∷ 0 ∷ []
+abbrev up : KeyCol
+up = record { column = 0; descending = false }
+
+abbrev down : KeyCol
+down = record { column = 0; descending = true }
+
+two_columns : key_bytes (up ∷ up ∷ []) (Null ∷ Flag false ∷ []) ≡ 0 ∷ 1 ∷ 0 ∷ []
 two_columns = refl
 
-flag_true : key_bytes (Flag true ∷ []) ≡ 1 ∷ 1 ∷ []
+flag_true : key_bytes (up ∷ []) (Flag true ∷ []) ≡ 1 ∷ 1 ∷ []
 flag_true = refl
 
 -- the texts '', 'a', 'a' with a byte 0, and 'ab'
@@ -43,5 +50,24 @@ text_ab = refl
 zeros : length (cell_key (Text (replicate 100 0))) ≡ 203
 zeros = refl
 
-longest : length (key_bytes (replicate 4 (Text (replicate 100 0)))) ≡ 812
+longest : length (key_bytes (replicate 4 down) (replicate 4 (Text (replicate 100 0)))) ≡ 812
 longest = refl
+
+-- descending columns: Null, 5, 'a', the empty text, true and false
+null_down : column_key true Null ≡ 0xFF ∷ []
+null_down = refl
+
+five_down : column_key true (Int (pos 5)) ≡ 0xFE ∷ 0x7F ∷ 0xFF ∷ 0xFF ∷ 0xFF ∷ 0xFF ∷ 0xFF ∷ 0xFF ∷ 0xFA ∷ []
+five_down = refl
+
+a_down : column_key true (Text (0x61 ∷ [])) ≡ 0xFE ∷ 0x9E ∷ 0xFF ∷ 0xFE ∷ []
+a_down = refl
+
+empty_down : column_key true (Text []) ≡ 0xFE ∷ 0xFF ∷ 0xFE ∷ []
+empty_down = refl
+
+true_down : column_key true (Flag true) ≡ 0xFE ∷ 0xFE ∷ []
+true_down = refl
+
+false_down : column_key true (Flag false) ≡ 0xFE ∷ 0xFF ∷ []
+false_down = refl

@@ -1,5 +1,5 @@
 -- The bytes of keys compare as the columns do.
-use Rattle.std.proofs.Common.{◌≡◌, ℕ, zero, suc, ◌+◌, ◌*◌, ◌/◌, ◌%◌, ◌^◌, ◌<◌, ◌<ℤ◌, ℤ, pos, negsuc, true, false, List, [], ◌∷◌, ◌++◌, FitsSigned, w64, nat_cmp}
+use Rattle.std.proofs.Common.{◌≡◌, ℕ, zero, suc, ◌+◌, ◌*◌, ◌/◌, ◌%◌, ◌^◌, ◌<◌, ◌<ℤ◌, ℤ, pos, negsuc, Bool, true, false, List, [], ◌∷◌, ◌++◌, length, FitsSigned, w64, nat_cmp}
 use Rattle.std.proofs.Common.{int_cmp, Ordering, Less, Equal, Greater, refl, sym, ap, ap₂, ◌∙◌, arith, append_assoc, pow-suc, mod-eq_of_lt, div-one, lit<}
 use Rattle.std.specs.List.{All}
 use Rattle.std.specs.Int.{bytes_high_first, byte_at, to_be_bytes}
@@ -14,12 +14,14 @@ use Rattle.std.proofs.lemmas.Cmp.{ranked}
 use Rattle.std.proofs.lemmas.Int.{ints}
 use Rattle.std.proofs.lemmas.List.Elements.{All-head, All-tail}
 use Rattle.std.proofs.lemmas.Nat.{mul-add-lt, mod_below}
-use Rattle.keybytes.specs.Cells.{IsCell, fits, fits_kind, cell_cmp, columns_cmp}
-use Rattle.keybytes.specs.Keys.{raised_number, text_key, cell_key, key_bytes}
+use Rattle.keybytes.specs.Cells.{IsCell, fits, fits_kind, cell_cmp, directed, columns_cmp}
+use Rattle.keybytes.specs.Keys.{raised_number, text_key, cell_key, column_key, key_bytes}
 use Rattle.keybytes.specs.declared.cell.Cell.{Cell}
 use Rattle.keybytes.specs.declared.cell.Cell.TheVariants.{Null, Int, Text, Flag}
+use Rattle.keybytes.specs.declared.key_col.KeyCol.{KeyCol}
 use Rattle.keybytes.specs.declared.kind.Kind.{Kind}
 use Rattle.keybytes.specs.declared.kind.Kind.TheVariants.{Int as IntKind, Text as TextKind, Flag as FlagKind}
+use Rattle.keybytes.proofs.Complements.{bytes-cell_key, complement-order}
 
 -- ---- orders, one after the other
 
@@ -39,7 +41,7 @@ tied_first Less b tied = cc
 tied_first Equal b tied = refl
 tied_first Greater b tied = cc
 
-tied_second : (a b : Ordering) → ordering_then a b ≡ Equal → b ≡ Equal
+pub tied_second : (a b : Ordering) → ordering_then a b ≡ Equal → b ≡ Equal
 tied_second Less b tied = cc
 tied_second Equal b tied = tied
 tied_second Greater b tied = cc
@@ -183,18 +185,30 @@ cell_key-order IntKind a b xs ys fits_a fits_b is_a is_b = cc
 cell_key-order TextKind a b xs ys fits_a fits_b is_a is_b = cc
 cell_key-order FlagKind a b xs ys fits_a fits_b is_a is_b = cc
 
+-- the same of columns: each compares in its direction
+pub column_key-order : (descending : Bool) (kind : Kind) (a b : Cell) (xs ys : List ℕ) → fits_kind kind a ≡ true → fits_kind kind b ≡ true
+    → IsCell a → IsCell b → slice_cmp nat_cmp (column_key descending a ++ xs) (column_key descending b ++ ys)
+    ≡ ordering_then (directed descending (cell_cmp a b)) (slice_cmp nat_cmp xs ys)
+column_key-order false kind a b xs ys fits_a fits_b is_a is_b = cell_key-order kind a b xs ys fits_a fits_b is_a is_b
+column_key-order true kind a b xs ys fits_a fits_b is_a is_b =
+    complement-order (cell_key a) (cell_key b) (cell_cmp a b) (bytes-cell_key a is_a) (bytes-cell_key b is_b)
+    (λ xs ys. cell_key-order kind a b xs ys fits_a fits_b is_a is_b) xs ys
+
 -- the keys of two lists of columns compare as the lists do, and then what follows them
-pub key_bytes-order : (kinds : List Kind) (us bs : List Cell) (xs ys : List ℕ) → fits kinds us ≡ true → fits kinds bs ≡ true → All IsCell us → All IsCell bs
-    → slice_cmp nat_cmp (key_bytes us ++ xs) (key_bytes bs ++ ys) ≡ ordering_then (columns_cmp us bs) (slice_cmp nat_cmp xs ys)
-key_bytes-order [] [] [] xs ys fits_as fits_bs are_as are_bs = refl
-key_bytes-order [] [] (b ∷ bs) xs ys fits_as fits_bs are_as are_bs = cc
-key_bytes-order [] (a ∷ us) bs xs ys fits_as fits_bs are_as are_bs = cc
-key_bytes-order (kind ∷ kinds) [] bs xs ys fits_as fits_bs are_as are_bs = cc
-key_bytes-order (kind ∷ kinds) (a ∷ us) [] xs ys fits_as fits_bs are_as are_bs = cc
-key_bytes-order (kind ∷ kinds) (a ∷ us) (b ∷ bs) xs ys fits_as fits_bs are_as are_bs =
+pub key_bytes-order : (columns : List KeyCol) (kinds : List Kind) (us bs : List Cell) (xs ys : List ℕ) → length columns ≡ length kinds
+    → fits kinds us ≡ true → fits kinds bs ≡ true → All IsCell us → All IsCell bs
+    → slice_cmp nat_cmp (key_bytes columns us ++ xs) (key_bytes columns bs ++ ys) ≡ ordering_then (columns_cmp columns us bs) (slice_cmp nat_cmp xs ys)
+key_bytes-order [] kinds us bs xs ys many fits_as fits_bs are_as are_bs = refl
+key_bytes-order (column ∷ columns) [] us bs xs ys many fits_as fits_bs are_as are_bs = absurd (omega (arith, many))
+key_bytes-order (column ∷ columns) (kind ∷ kinds) [] bs xs ys many fits_as fits_bs are_as are_bs = cc
+key_bytes-order (column ∷ columns) (kind ∷ kinds) (a ∷ us) [] xs ys many fits_as fits_bs are_as are_bs = cc
+key_bytes-order (column ∷ columns) (kind ∷ kinds) (a ∷ us) (b ∷ bs) xs ys many fits_as fits_bs are_as are_bs =
     let parts_a = and_parts (fits_kind kind a) (fits kinds us) fits_as in
     let parts_b = and_parts (fits_kind kind b) (fits kinds bs) fits_bs in
-    ap₂ (slice_cmp nat_cmp) (append_assoc (cell_key a) (key_bytes us) xs) (append_assoc (cell_key b) (key_bytes bs) ys)
-    ∙ cell_key-order kind a b (key_bytes us ++ xs) (key_bytes bs ++ ys) parts_a.0 parts_b.0 (All-head IsCell a us are_as) (All-head IsCell b bs are_bs)
-    ∙ ap (ordering_then (cell_cmp a b)) (key_bytes-order kinds us bs xs ys parts_a.1 parts_b.1 (All-tail IsCell a us are_as) (All-tail IsCell b bs are_bs))
-    ∙ ordering_then-assoc (cell_cmp a b) (columns_cmp us bs) (slice_cmp nat_cmp xs ys)
+    let descending = column.descending in
+    ap₂ (slice_cmp nat_cmp) (append_assoc (column_key descending a) (key_bytes columns us) xs) (append_assoc (column_key descending b) (key_bytes columns bs) ys)
+    ∙ column_key-order descending kind a b (key_bytes columns us ++ xs) (key_bytes columns bs ++ ys) parts_a.0 parts_b.0 (All-head IsCell a us are_as)
+    (All-head IsCell b bs are_bs)
+    ∙ ap (ordering_then (directed descending (cell_cmp a b)))
+    (key_bytes-order columns kinds us bs xs ys (omega (arith, many)) parts_a.1 parts_b.1 (All-tail IsCell a us are_as) (All-tail IsCell b bs are_bs))
+    ∙ ordering_then-assoc (directed descending (cell_cmp a b)) (columns_cmp columns us bs) (slice_cmp nat_cmp xs ys)

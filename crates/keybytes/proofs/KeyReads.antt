@@ -1,5 +1,5 @@
 -- What is left of a key while its columns are read back.
-use Rattle.std.proofs.Common.{subst, ◌≡◌, ℕ, zero, suc, ◌+◌, ◌-◌, ◌%◌, ◌^◌, ◌≤◌, ℤ, pos, negsuc, Bool, true, false, List, [], ◌∷◌, ◌++◌, length, take, drop}
+use Rattle.std.proofs.Common.{subst, ◌≡◌, ℕ, zero, suc, ◌+◌, ◌-◌, ◌%◌, ◌^◌, ◌≤◌, ℤ, pos, negsuc, Bool, true, false, List, [], ◌∷◌, ◌++◌, map, length, take, drop}
 use Rattle.std.proofs.Common.{get_or, not, eqb, FitsSigned, IsUtf8, w64, if◌then◌else◌, refl, sym, ap, ◌∙◌, arith, append_assoc, append-nil, get_or-drop}
 use Rattle.std.proofs.Common.{drop-drop, drop_at, length-append, length-drop}
 use Rattle.std.specs.List.{All}
@@ -7,15 +7,18 @@ use Rattle.std.specs.Int.{to_be_bytes, cast_signed, cast_unsigned}
 use Rattle.std.proofs.lemmas.Int.{to_z-of_z}
 use Rattle.std.proofs.lemmas.Bool.{and_parts}
 use Rattle.std.proofs.lemmas.List.Elements.{All-head, All-tail}
-use Rattle.std.proofs.lemmas.List.{take_rest}
+use Rattle.std.proofs.lemmas.List.{take_rest, map-append}
 use Rattle.byteorder.specs.Endian.{big_number}
 use Rattle.byteorder.specs.Numbers.{big_number-reads_back}
 use Rattle.keybytes.specs.Cells.{IsCell, fits, fits_kind}
-use Rattle.keybytes.specs.Keys.{raised_number, text_key, cell_key, key_bytes, BeginsWithCellKey}
+use Rattle.keybytes.specs.Keys.{raised_number, text_key, cell_key, column_key, complement, key_bytes, BeginsWithCellKey, BeginsWithColumnKey}
 use Rattle.keybytes.specs.declared.cell.Cell.{Cell}
 use Rattle.keybytes.specs.declared.cell.Cell.TheVariants.{Null, Int, Text, Flag}
+use Rattle.keybytes.specs.declared.key_col.KeyCol.{KeyCol}
 use Rattle.keybytes.specs.declared.kind.Kind.{Kind}
 use Rattle.keybytes.specs.declared.kind.Kind.TheVariants.{Int as IntKind, Text as TextKind, Flag as FlagKind}
+use Rattle.keybytes.proofs.Complements.{bytes-cell_key, complement-twice}
+use Rattle.keybytes.proofs.KeyLaws.{length-column_key}
 use Rattle.keybytes.proofs.KeyOrder.{raised_number-lt}
 
 -- ---- what stands at a place
@@ -148,24 +151,41 @@ pub flag_front : (kind : Kind) (cell : Cell) (rest bytes : List ℕ) → kind �
     → FlagFront cell rest bytes
 flag_front kind cell rest bytes is_kind begins apart = flag_front_at cell (rw is_kind at begins.of_kind) begins.valid begins.front apart
 
+-- ---- a column
+
+-- a descending column's bytes, complemented, are those of its cell
+pub turned_front : (kind : Kind) (cell : Cell) (rest bytes : List ℕ) → BeginsWithColumnKey true kind cell rest bytes
+    → BeginsWithCellKey kind cell (map complement rest) (map complement bytes)
+turned_front kind cell rest bytes begins = record {
+  of_kind = begins.of_kind;
+  valid = begins.valid;
+  front = ap (map complement) begins.front
+      ∙ map-append complement (map complement (cell_key cell)) rest
+      ∙ ap (λ (xs : List ℕ). xs ++ map complement rest) (complement-twice (cell_key cell) (bytes-cell_key cell begins.valid));
+}
+
+-- a column that doesn't descend has its cell's bytes
+pub plain_front : (kind : Kind) (cell : Cell) (rest bytes : List ℕ) → BeginsWithColumnKey false kind cell rest bytes → BeginsWithCellKey kind cell rest bytes
+plain_front kind cell rest bytes begins = record { of_kind = begins.of_kind; valid = begins.valid; front = begins.front }
+
 -- ---- the columns
 
--- what is left of columns whose first cells are read, with the kinds and the bytes of those
-pub record ColumnsLeft (columns read : List Cell) (kinds : List Kind) (bytes : List ℕ) (at : ℕ) : Type 0 where
+-- what is left of a key's columns whose first cells are read: their cells, with the kinds and the bytes of those
+pub record ColumnsLeft (cells read : List Cell) (columns : List KeyCol) (kinds : List Kind) (bytes : List ℕ) (at : ℕ) : Type 0 where
   pub left : List Cell
-  pub whole : columns ≡ read ++ left
+  pub whole : cells ≡ read ++ left
   pub fits_kinds : fits kinds left ≡ true
   pub each : All IsCell left
-  pub behind : drop at bytes ≡ key_bytes left
+  pub behind : drop at bytes ≡ key_bytes columns left
   pub within : at ≤ length bytes
 
-module _ (columns read : List Cell) (kind : Kind) (kinds : List Kind) (bytes : List ℕ) (at : ℕ) where
-  begins_at : (left : List Cell) → fits (kind ∷ kinds) left ≡ true → All IsCell left → drop at bytes ≡ key_bytes left
-      → (cell : Cell) × (rest : List ℕ) × BeginsWithCellKey kind cell rest (drop at bytes)
+module _ (cells read : List Cell) (column : KeyCol) (columns : List KeyCol) (kind : Kind) (kinds : List Kind) (bytes : List ℕ) (at : ℕ) where
+  begins_at : (left : List Cell) → fits (kind ∷ kinds) left ≡ true → All IsCell left → drop at bytes ≡ key_bytes (column ∷ columns) left
+      → (cell : Cell) × (rest : List ℕ) × BeginsWithColumnKey column.descending kind cell rest (drop at bytes)
   begins_at [] fit each behind = absurd cc
   begins_at (cell ∷ left) fit each behind = (
     cell,
-    key_bytes left,
+    key_bytes columns left,
     record {
       of_kind = (and_parts (fits_kind kind cell) (fits kinds left) fit).0;
       valid = All-head IsCell cell left each;
@@ -173,35 +193,40 @@ module _ (columns read : List Cell) (kind : Kind) (kinds : List Kind) (bytes : L
     },
   )
 
-  columns_more_at : (left : List Cell) → columns ≡ read ++ left → fits (kind ∷ kinds) left ≡ true → All IsCell left → drop at bytes ≡ key_bytes left
-      → at ≤ length bytes → (next : Cell) (len : ℕ)
-      → ((cell : Cell) (rest : List ℕ) → BeginsWithCellKey kind cell rest (drop at bytes) → (next ≡ cell) × (len ≡ length (cell_key cell)))
-      → ColumnsLeft columns (read ++ next ∷ []) kinds bytes (at + len)
+  columns_more_at : (left : List Cell) → cells ≡ read ++ left → fits (kind ∷ kinds) left ≡ true → All IsCell left
+      → drop at bytes ≡ key_bytes (column ∷ columns) left → at ≤ length bytes → (next : Cell) (len : ℕ)
+      → ((cell : Cell) (rest : List ℕ) → BeginsWithColumnKey column.descending kind cell rest (drop at bytes)
+      → (next ≡ cell) × (len ≡ length (cell_key cell)))
+      → ColumnsLeft cells (read ++ next ∷ []) columns kinds bytes (at + len)
   columns_more_at [] whole fit each behind within next len tells = absurd cc
   columns_more_at (cell ∷ left) whole fit each behind within next len tells =
       let parts = and_parts (fits_kind kind cell) (fits kinds left) fit in
-      let told = tells cell (key_bytes left) (record { of_kind = parts.0; valid = All-head IsCell cell left each; front = behind }) in
-      let long : length bytes - at ≡ length (cell_key cell) + length (key_bytes left) =
-      sym (length-drop at bytes) ∙ ap length behind ∙ length-append (cell_key cell) (key_bytes left) in
+      let own = column_key column.descending cell in
+      let told = tells cell (key_bytes columns left) (record { of_kind = parts.0; valid = All-head IsCell cell left each; front = behind }) in
+      let same : len ≡ length own = told.1 ∙ sym (length-column_key column.descending cell) in
+      let long : length bytes - at ≡ length own + length (key_bytes columns left) =
+      sym (length-drop at bytes) ∙ ap length behind ∙ length-append own (key_bytes columns left) in
       record {
         left = left;
         whole = whole ∙ sym (append_assoc read (cell ∷ []) left) ∙ ap (λ (x : Cell). (read ++ x ∷ []) ++ left) (sym told.0);
         fits_kinds = parts.1;
         each = All-tail IsCell cell left each;
-        behind = sym (drop-drop len at bytes) ∙ ap (drop len) behind ∙ drop_at (cell_key cell) (key_bytes left) len (sym told.1);
-        within = omega (arith, told.1);
+        behind = sym (drop-drop len at bytes) ∙ ap (drop len) behind ∙ drop_at own (key_bytes columns left) len (sym same);
+        within = omega (arith, same);
       }
 
-pub columns_begin : (columns read : List Cell) (kind : Kind) (kinds : List Kind) (bytes : List ℕ) (at : ℕ) → ColumnsLeft columns read (kind ∷ kinds) bytes at
-    → (cell : Cell) × (rest : List ℕ) × BeginsWithCellKey kind cell rest (drop at bytes)
-columns_begin columns read kind kinds bytes at was = begins_at columns read kind kinds bytes at was.left was.fits_kinds was.each was.behind
+pub columns_begin : (cells read : List Cell) (column : KeyCol) (columns : List KeyCol) (kind : Kind) (kinds : List Kind) (bytes : List ℕ) (at : ℕ)
+    → ColumnsLeft cells read (column ∷ columns) (kind ∷ kinds) bytes at
+    → (cell : Cell) × (rest : List ℕ) × BeginsWithColumnKey column.descending kind cell rest (drop at bytes)
+columns_begin cells read column columns kind kinds bytes at was = begins_at cells read column columns kind kinds bytes at was.left was.fits_kinds was.each was.behind
 
 -- one more cell is read
-pub columns_more : (columns read : List Cell) (kind : Kind) (kinds : List Kind) (bytes : List ℕ) (at : ℕ) → ColumnsLeft columns read (kind ∷ kinds) bytes at
-    → (next : Cell) (len : ℕ) → ((cell : Cell) (rest : List ℕ) → BeginsWithCellKey kind cell rest (drop at bytes)
-    → (next ≡ cell) × (len ≡ length (cell_key cell))) → ColumnsLeft columns (read ++ next ∷ []) kinds bytes (at + len)
-columns_more columns read kind kinds bytes at was next len tells =
-    columns_more_at columns read kind kinds bytes at was.left was.whole was.fits_kinds was.each was.behind was.within next len tells
+pub columns_more : (cells read : List Cell) (column : KeyCol) (columns : List KeyCol) (kind : Kind) (kinds : List Kind) (bytes : List ℕ) (at : ℕ)
+    → ColumnsLeft cells read (column ∷ columns) (kind ∷ kinds) bytes at → (next : Cell) (len : ℕ)
+    → ((cell : Cell) (rest : List ℕ) → BeginsWithColumnKey column.descending kind cell rest (drop at bytes)
+    → (next ≡ cell) × (len ≡ length (cell_key cell))) → ColumnsLeft cells (read ++ next ∷ []) columns kinds bytes (at + len)
+columns_more cells read column columns kind kinds bytes at was next len tells =
+    columns_more_at cells read column columns kind kinds bytes at was.left was.whole was.fits_kinds was.each was.behind was.within next len tells
 
 -- ---- what is read behind a tag
 
@@ -224,9 +249,9 @@ pub read-flag : (cell : Cell) (rest bytes : List ℕ) → FlagFront cell rest by
 read-flag cell rest bytes front = flag-read front.flag _ rest (take_rest bytes 1 ∙ front.behind) ∙ sym front.is_cell
 
 -- all cells are read
-pub columns_done : (columns read : List Cell) (kinds : List Kind) (bytes : List ℕ) (at : ℕ) → kinds ≡ [] → ColumnsLeft columns read kinds bytes at
-    → columns ≡ read
-columns_done columns read kinds bytes at none was =
+pub columns_done : (cells read : List Cell) (columns : List KeyCol) (kinds : List Kind) (bytes : List ℕ) (at : ℕ) → kinds ≡ []
+    → ColumnsLeft cells read columns kinds bytes at → cells ≡ read
+columns_done cells read columns kinds bytes at none was =
     was.whole ∙ ap (λ (xs : List Cell). read ++ xs) (nothing was.left (subst (λ (ks : List Kind). fits ks was.left ≡ true) none was.fits_kinds))
     ∙ append-nil read where
       nothing : (left : List Cell) → fits [] left ≡ true → left ≡ []

@@ -1,4 +1,5 @@
 pub mod ColumnOrder
+pub mod Complements
 pub mod FirstCause
 pub mod Heads
 pub mod KeyExamples
@@ -10,6 +11,7 @@ pub mod PairSets
 pub mod Reading
 pub mod RowExamples
 pub mod RowFacts
+pub mod SameColumns
 pub mod SameKinds
 pub mod SameRids
 pub mod Spelling

@@ -1,8 +1,9 @@
 -- Rows, RIDs and cells written out: their definitions at values that a reader can check by hand.
-use Rattle.std.proofs.Common.{◌≡◌, pos, negsuc, true, false, [], ◌∷◌, replicate, Some, Less, refl}
+use Rattle.std.proofs.Common.{◌≡◌, pos, negsuc, true, false, [], ◌∷◌, replicate, Some, Less, Greater, refl}
 use Rattle.keybytes.specs.Rids.{rid_cmp}
 use Rattle.keybytes.specs.Cells.{cell_cmp, columns_cmp}
 use Rattle.keybytes.specs.Rows.{cell_bytes, row_bytes, row_refusal}
+use Rattle.keybytes.specs.declared.key_col.KeyCol.{KeyCol}
 use Rattle.keybytes.specs.declared.cell.Cell.TheVariants.{Null, Int, Text, Flag}
 use Rattle.keybytes.specs.declared.fault.Fault.TheVariants.{RowShape, TextTooLong}
 
@@ -32,5 +33,21 @@ null_first = refl
 front_first : cell_cmp (Text (0x61 ∷ [])) (Text (0x61 ∷ 0 ∷ [])) ≡ Less
 front_first = refl
 
-first_column : columns_cmp (Int (negsuc 0) ∷ Flag true ∷ []) (Int (pos 0) ∷ Flag false ∷ []) ≡ Less
+abbrev up : KeyCol
+up = record { column = 0; descending = false }
+
+abbrev down : KeyCol
+down = record { column = 0; descending = true }
+
+first_column : columns_cmp (up ∷ up ∷ []) (Int (negsuc 0) ∷ Flag true ∷ []) (Int (pos 0) ∷ Flag false ∷ []) ≡ Less
 first_column = refl
+
+-- in a descending column the greater number stands first and Null last, and what stands behind it decides as before
+greatest_first : columns_cmp (down ∷ []) (Int (pos 9) ∷ []) (Int (pos 5) ∷ []) ≡ Less
+greatest_first = refl
+
+null_last : columns_cmp (down ∷ []) (Null ∷ []) (Int (negsuc 4) ∷ []) ≡ Greater
+null_last = refl
+
+second_column : columns_cmp (down ∷ up ∷ []) (Null ∷ Flag false ∷ []) (Null ∷ Flag true ∷ []) ≡ Less
+second_column = refl

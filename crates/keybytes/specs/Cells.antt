@@ -1,12 +1,13 @@
--- Cells: which ones a row may hold, which columns take them, and the order of a column's cells.
+-- Cells: which ones a row may hold, which columns take them, and the order of a column's cells and of a key's columns.
 use Rattle.std.specs.Prelude.{◌≤◌, nat_le, Bool, true, false, ◌&&◌, List, [], ◌∷◌, length, FitsSigned, IsUtf8}
 use Rattle.std.specs.Int.{w64}
 use Rattle.std.specs.declared.cmp.Ordering.{Ordering}
 use Rattle.std.specs.declared.cmp.Ordering.TheVariants.{Less, Equal, Greater}
-use Rattle.std.specs.Ordering.{nat_cmp, int_cmp, bool_cmp}
+use Rattle.std.specs.Ordering.{nat_cmp, int_cmp, bool_cmp, ordering_then, ordering_reverse}
 use Rattle.std.specs.Cmp.Lexicographic.{slice_cmp}
 use Rattle.keybytes.specs.declared.cell.Cell.{Cell}
 use Rattle.keybytes.specs.declared.cell.Cell.TheVariants.{Null, Int, Text, Flag}
+use Rattle.keybytes.specs.declared.key_col.KeyCol.{KeyCol}
 use Rattle.keybytes.specs.declared.kind.Kind.{Kind}
 use Rattle.keybytes.specs.declared.kind.Kind.TheVariants.{Int as IntKind, Text as TextKind, Flag as FlagKind}
 
@@ -63,6 +64,15 @@ cell_cmp (Flag a) (Int n) = Greater
 cell_cmp (Flag a) (Text t) = Greater
 cell_cmp (Flag a) (Flag b) = bool_cmp a b
 
--- the order of lists of columns: by the first that differs
-abbrev pub columns_cmp : List Cell → List Cell → Ordering
-columns_cmp xs ys = slice_cmp cell_cmp xs ys
+-- an order, turned round where a column descends
+abbrev pub directed : Bool → Ordering → Ordering
+directed false order = order
+directed true order = ordering_reverse order
+
+-- the order of two rows' cells in the columns of a key: by the first column in which they differ, each in its own direction
+abbrev pub columns_cmp : List KeyCol → List Cell → List Cell → Ordering
+columns_cmp [] xs ys = Equal
+columns_cmp (column ∷ columns) [] [] = Equal
+columns_cmp (column ∷ columns) [] (y ∷ ys) = Less
+columns_cmp (column ∷ columns) (x ∷ xs) [] = Greater
+columns_cmp (column ∷ columns) (x ∷ xs) (y ∷ ys) = ordering_then (directed column.descending (cell_cmp x y)) (columns_cmp columns xs ys)

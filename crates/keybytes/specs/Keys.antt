@@ -1,5 +1,5 @@
 -- The key of an index: which columns make it, its bytes, and how the bytes stand for the columns.
-use Rattle.std.specs.Prelude.{◌≡◌, ℕ, zero, suc, ◌+◌, ◌-◌, ◌^◌, nat_eq, nat_lt, nat_le, Bool, true, not, ◌&&◌, ℤ, pos, negsuc, List, [], ◌∷◌, ◌++◌, map, length}
+use Rattle.std.specs.Prelude.{◌≡◌, ℕ, zero, suc, ◌+◌, ◌-◌, ◌^◌, nat_eq, nat_lt, nat_le, Bool, true, false, not, ◌&&◌, ℤ, pos, negsuc, List, [], ◌∷◌, ◌++◌, map, length}
 use Rattle.std.specs.Prelude.{slice_index_or, IsUtf8, Option, Some, None, if◌then◌else◌}
 use Rattle.std.specs.List.{All, list_any, list_all, flat_map}
 use Rattle.std.specs.Int.{w64, to_be_bytes}
@@ -9,36 +9,37 @@ use Rattle.keybytes.specs.Cells.{IsCell, fits, fits_kind, columns_cmp}
 use Rattle.keybytes.specs.Rows.{IsRow}
 use Rattle.keybytes.specs.declared.cell.Cell.{Cell}
 use Rattle.keybytes.specs.declared.cell.Cell.TheVariants.{Null, Int, Text, Flag}
+use Rattle.keybytes.specs.declared.key_col.KeyCol.{KeyCol}
 use Rattle.keybytes.specs.declared.kind.Kind.{Kind}
 use Rattle.keybytes.specs.declared.kind.Kind.TheVariants.{Int as IntKind}
 use Rattle.keybytes.specs.declared.fault.Fault.{Fault}
 use Rattle.keybytes.specs.declared.fault.Fault.TheVariants.{BadColumn}
 
--- the kinds of a table's columns, which of the columns make the key, in order, and whether two rows may not share one
+-- the kinds of a table's columns, which of the columns make the key, in order and each with its direction, and whether two rows may not share one
 pub record KeySpecValue : Type 0 where
   pub kinds : List Kind
-  pub columns : List ℕ
+  pub columns : List KeyCol
   pub unique : Bool
 
 -- whether no column is named twice
-abbrev pub are_distinct : List ℕ → Bool
+abbrev pub are_distinct : List KeyCol → Bool
 are_distinct [] = true
-are_distinct (column ∷ columns) = not (list_any (λ other. nat_eq other column) columns) && are_distinct columns
+are_distinct (named ∷ columns) = not (list_any (λ other. nat_eq other.column named.column) columns) && are_distinct columns
 
 -- whether the columns are of a table with these kinds
-abbrev pub are_there : List Kind → List ℕ → Bool
-are_there kinds columns = list_all (λ column. nat_lt column (length kinds)) columns
+abbrev pub are_there : List Kind → List KeyCol → Bool
+are_there kinds columns = list_all (λ named. nat_lt named.column (length kinds)) columns
 
 -- whether there are as many columns as a key may have
-abbrev pub has_key_length : List ℕ → Bool
+abbrev pub has_key_length : List KeyCol → Bool
 has_key_length columns = nat_lt 0 (length columns) && nat_le (length columns) 4
 
 -- whether these make a key: 1 to 4 of the table's columns, each once
-abbrev pub are_key_columns : List Kind → List ℕ → Bool
+abbrev pub are_key_columns : List Kind → List KeyCol → Bool
 are_key_columns kinds columns = has_key_length columns && (are_distinct columns && are_there kinds columns)
 
 -- why a table of these kinds has no key of these columns
-abbrev pub key_columns_refusal : List Kind → List ℕ → Option Fault
+abbrev pub key_columns_refusal : List Kind → List KeyCol → Option Fault
 key_columns_refusal kinds columns = if are_key_columns kinds columns then None else Some BadColumn
 
 -- the number moved up by 2^63, so that the least of 64 bits is 0
@@ -55,34 +56,45 @@ escaped_byte (suc n) = suc n ∷ []
 abbrev pub text_key : List ℕ → List ℕ
 text_key bytes = flat_map escaped_byte bytes ++ 0 ∷ 1 ∷ []
 
--- the bytes of a column in a key: a tag, and what follows it
+-- the bytes of a cell in a key: a tag, and what follows it
 abbrev pub cell_key : Cell → List ℕ
 cell_key Null = 0 ∷ []
 cell_key (Int number) = 1 ∷ to_be_bytes w64 (raised_number number)
 cell_key (Text bytes) = 1 ∷ text_key bytes
 cell_key (Flag flag) = 1 ∷ (if flag then 1 else 0) ∷ []
 
+-- a byte with each of its bits turned
+abbrev pub complement : ℕ → ℕ
+complement byte = 255 - byte
+
+-- the bytes of a column in a key: those of its cell, each complemented where the column descends
+abbrev pub column_key : Bool → Cell → List ℕ
+column_key false cell = cell_key cell
+column_key true cell = map complement (cell_key cell)
+
 -- the bytes of a key: its columns', one after the other
-abbrev pub key_bytes : List Cell → List ℕ
-key_bytes columns = flat_map cell_key columns
+abbrev pub key_bytes : List KeyCol → List Cell → List ℕ
+key_bytes [] cells = []
+key_bytes (column ∷ columns) [] = []
+key_bytes (column ∷ columns) (cell ∷ cells) = column_key column.descending cell ++ key_bytes columns cells
 
 -- the kinds of the key's columns, in order
 abbrev pub key_kinds : KeySpecValue → List Kind
-key_kinds spec = map (λ column. slice_index_or spec.kinds column IntKind) spec.columns
+key_kinds spec = map (λ named. slice_index_or spec.kinds named.column IntKind) spec.columns
 
 -- the key's columns of a row, in order
 abbrev pub key_columns : KeySpecValue → List Cell → List Cell
-key_columns spec row = map (λ column. slice_index_or row column Null) spec.columns
+key_columns spec row = map (λ named. slice_index_or row named.column Null) spec.columns
 
 -- the key of a row
 abbrev pub key_of : KeySpecValue → List Cell → List ℕ
-key_of spec row = key_bytes (key_columns spec row)
+key_of spec row = key_bytes spec.columns (key_columns spec row)
 
 -- the columns fit the key's kinds, a row may hold each, and these are their bytes
 pub record HasKey (spec : KeySpecValue) (key : List ℕ) (columns : List Cell) : Type 0 where
   pub fits_kinds : fits (key_kinds spec) columns ≡ true
   pub each : All IsCell columns
-  pub bytes : key_bytes columns ≡ key
+  pub bytes : key_bytes spec.columns columns ≡ key
 
 -- a row of the table that the key is about
 pub record IsRowOf (spec : KeySpecValue) (row : List Cell) : Type 0 where
@@ -96,7 +108,8 @@ IsKeyOf spec key = (row : List Cell) × (IsRowOf spec row × (key_of spec row �
 -- how a row's key stands to the key of any other row of the table
 pub record StandsForColumns (spec : KeySpecValue) (row : List Cell) (key : List ℕ) : Type 0 where
   -- the bytes compare as the columns do
-  pub order : (other : List Cell) → IsRowOf spec other → slice_cmp nat_cmp key (key_of spec other) ≡ columns_cmp (key_columns spec row) (key_columns spec other)
+  pub order : (other : List Cell) → IsRowOf spec other
+      → slice_cmp nat_cmp key (key_of spec other) ≡ columns_cmp spec.columns (key_columns spec row) (key_columns spec other)
   -- one key, one list of columns
   pub tells_apart : (other : List Cell) → IsRowOf spec other → key_of spec other ≡ key → key_columns spec other ≡ key_columns spec row
   -- a key that begins another is that other
@@ -107,6 +120,12 @@ pub record BeginsWithCellKey (kind : Kind) (cell : Cell) (rest bytes : List ℕ)
   pub of_kind : fits_kind kind cell ≡ true
   pub valid : IsCell cell
   pub front : bytes ≡ cell_key cell ++ rest
+
+-- the bytes begin with the key of a cell that a column of that kind and direction takes
+pub record BeginsWithColumnKey (descending : Bool) (kind : Kind) (cell : Cell) (rest bytes : List ℕ) : Type 0 where
+  pub of_kind : fits_kind kind cell ≡ true
+  pub valid : IsCell cell
+  pub front : bytes ≡ column_key descending cell ++ rest
 
 -- the bytes begin with the key bytes of a text
 pub record BeginsWithTextKey (text rest bytes : List ℕ) : Type 0 where

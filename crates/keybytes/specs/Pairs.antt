@@ -49,7 +49,7 @@ HaveKeysOf spec pairs = All (λ pair. IsKeyOf spec pair.key) pairs
 abbrev pub IsBefore : KeySpecValue → Pair → Pair → Type 0
 IsBefore spec p q =
     (a b : List Cell) → IsRowOf spec a → IsRowOf spec b → key_of spec a ≡ p.key → key_of spec b ≡ q.key
-    → ordering_then (columns_cmp (key_columns spec a) (key_columns spec b)) (rid_cmp p.rid q.rid) ≡ Less
+    → ordering_then (columns_cmp spec.columns (key_columns spec a) (key_columns spec b)) (rid_cmp p.rid q.rid) ≡ Less
 
 -- the pairs stand in the order of their columns, then of their RIDs
 abbrev pub AreInColumnOrder : KeySpecValue → List Pair → Type 0

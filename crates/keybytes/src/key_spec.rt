@@ -1,11 +1,12 @@
-ghost use Rattle.std.specs.Prelude.{◌≡◌, ◌≤◌, ◌↔◌, List, [], IsTrue, IsOk, IfOk, IfErr, OnOk, true, None, length};
+ghost use Rattle.std.specs.Prelude.{◌≡◌, ◌≤◌, ◌↔◌, List, [], IsTrue, IsOk, IfOk, IfErr, OnOk, true, None, length, nat_eq};
+ghost use Rattle.std.specs.List.{list_any};
 ghost use Rattle.keybytes.specs.Cells.{fits};
 ghost use Rattle.keybytes.specs.Faults.{RefusedFor};
 ghost use Rattle.keybytes.specs.Keys.{are_key_columns, key_columns, key_columns_refusal, key_of, HasKey, IsKeyOf, IsRowOf, StandsForColumns};
 ghost use Rattle.keybytes.specs.declared.cell.Cell.{Cell};
 
-use crate::key_cell::{add_cell, read_cell};
-use crate::{Cell, Fault, Key, KeyInPlace, Kind, Row, Schema};
+use crate::key_column::{add_column, read_column};
+use crate::{Cell, Fault, Key, KeyCol, KeyInPlace, Kind, Row, Schema};
 use smallvec::SmallVec;
 use std::alloc::Global;
 use std::marker::Model;
@@ -15,10 +16,10 @@ pub const KEY_COLUMNS_MAX: usize = 4;
 
 /// Which columns of a table make the key of an index, and whether the index is unique.
 ///
-/// Keys of one specification compare as their columns do, and none begins another.
+/// Keys of one specification compare as their columns do, each in its direction, and none begins another.
 pub struct KeySpec {
     kinds: Vec<Kind>,
-    columns: Vec<usize>,
+    columns: Vec<KeyCol>,
     unique: bool,
 }
 
@@ -49,7 +50,7 @@ impl KeySpec {
     pub fn new(
         alloc: Global,
         schema: &Schema,
-        columns: Vec<usize>,
+        columns: Vec<KeyCol>,
         unique: bool,
     ) -> Result<KeySpec, Fault>
         ensures kinds { IfOk result (λ spec. spec.kinds ≡ schema.now) }
@@ -69,8 +70,8 @@ impl KeySpec {
         })
     }
 
-    /// The places of the key's columns among the table's, in the key's order.
-    pub fn columns(&self) -> &[usize]
+    /// The key's columns, in the key's order.
+    pub fn columns(&self) -> &[KeyCol]
         ensures columns { result.now ≡ self.now.columns }
         ensures key { are_key_columns self.now.kinds self.now.columns ≡ true }
     {
@@ -89,6 +90,15 @@ impl KeySpec {
         ensures { IsTrue result ↔ (self.now.kinds ≡ schema.now) }
     {
         self.kinds.as_slice() == schema.kinds()
+    }
+
+    /// Whether it makes the same keys of tables of the same columns, and asks as much of them.
+    pub fn is_same(&self, other: &KeySpec) -> bool
+        ensures { IsTrue result ↔ (self.now ≡ other.now) }
+    {
+        are_same_kinds(self.kinds.as_slice(), other.kinds.as_slice())
+            && are_same_columns(self.columns.as_slice(), other.columns.as_slice())
+            && self.unique == other.unique
     }
 
     /// A copy, or [`Fault::Memory`].
@@ -146,7 +156,7 @@ impl KeySpec {
     {
         let cells = row.cells();
         for column in &self.columns {
-            add_cell(bytes, &cells[*column])?;
+            add_column(bytes, column.descending, &cells[column.column])?;
         }
         Ok(())
     }
@@ -165,7 +175,8 @@ impl KeySpec {
         let mut at = 0;
         let mut cells = Vec::with_capacity(alloc, self.columns.len())?;
         for column in &self.columns {
-            let (cell, len) = read_cell(alloc, self.kinds[*column], &bytes[at..])?;
+            let kind = self.kinds[column.column];
+            let (cell, len) = read_column(alloc, kind, column.descending, &bytes[at..])?;
             cells.push(cell)?;
             at += len;
         }
@@ -173,16 +184,40 @@ impl KeySpec {
     }
 }
 
-fn are_key_columns(kinds: &[Kind], columns: &[usize]) -> bool
+fn are_key_columns(kinds: &[Kind], columns: &[KeyCol]) -> bool
     ensures { result ≡ are_key_columns kinds.now columns.now }
 {
     if columns.is_empty() || columns.len() > KEY_COLUMNS_MAX {
         return false;
     }
     for (place, column) in columns.iter().enumerate() {
-        if *column >= kinds.len() || columns[place + 1..].contains(column) {
+        if column.column >= kinds.len() || is_named(column.column, &columns[place + 1..]) {
             return false;
         }
     }
     true
+}
+
+/// Whether that column of the table is one of these.
+fn is_named(column: usize, columns: &[KeyCol]) -> bool
+    ensures { result ≡ list_any (λ other. nat_eq other.column column) columns.now }
+{
+    for other in columns {
+        if other.column == column {
+            return true;
+        }
+    }
+    false
+}
+
+fn are_same_kinds(one: &[Kind], other: &[Kind]) -> bool
+    ensures { IsTrue result ↔ (one.now ≡ other.now) }
+{
+    one == other
+}
+
+fn are_same_columns(one: &[KeyCol], other: &[KeyCol]) -> bool
+    ensures { IsTrue result ↔ (one.now ≡ other.now) }
+{
+    one == other
 }

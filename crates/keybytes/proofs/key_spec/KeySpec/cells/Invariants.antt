@@ -6,4 +6,5 @@ use Rattle.keybytes.proofs.key_spec.KeySpec.cells.Given as goal
 
 abbrev pub invariant-loop-column : goal.invariant-loop-column
 invariant-loop-column l =
-    (columns : List Cell) → HasKey l.self l.key columns → ColumnsLeft columns l.cells.items (drop l.column-index (key_kinds l.self)) l.bytes l.at
+    (columns : List Cell) → HasKey l.self l.key columns
+    → ColumnsLeft columns l.cells.items (drop l.column-index l.self.columns) (drop l.column-index (key_kinds l.self)) l.bytes l.at
