@@ -7,7 +7,7 @@ use crate::options::Options;
 use crate::spool_pages::quota;
 use builder_core::{Dealing, INDEXES_MAX, Parts, Plan, WORKERS_MAX};
 use heap_table::{Heap, PAGES_MAX, SLOTS_MAX};
-use keybytes::{Fault, KeySpec, Kind, Schema};
+use keybytes::{Fault, KeyCol, KeySpec, Kind, Schema};
 use spool_kinds::{SpoolOfKind, spools_over};
 use spool_ledger::Pool;
 use std::alloc::{AllocError, Global};
@@ -99,9 +99,12 @@ fn add_specs(
 /// What makes the keys of the index of that number, from 0.
 pub fn spec(alloc: Global, schema: &Schema, index: usize, unique: bool) -> Result<KeySpec, Fault>
     ensures kinds { IfOk result (λ spec. spec.kinds ≡ schema.now) }
-    ensures columns { IfOk result (λ spec. spec.columns ≡ index % length schema.now ∷ []) }
+    ensures columns { IfOk result (λ spec. spec.columns ≡ record { column = index % length schema.now; descending = false } ∷ []) }
     ensures unique { IfOk result (λ spec. spec.unique ≡ unique) }
 {
-    let column = index % schema.kinds().len();
+    let column = KeyCol {
+        column: index % schema.kinds().len(),
+        descending: false,
+    };
     KeySpec::new(alloc, schema, vec![in alloc; column]?, unique)
 }

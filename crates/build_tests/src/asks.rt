@@ -1,11 +1,17 @@
 //! What is asked of a table and its index build, and the numbers in the answers.
 
 use builder_core::{Dealing, Event, Plan, Reply};
-use keybytes::{Cell, Fault, KeySpec, Kind, Rid, Row, Schema};
+use keybytes::{Cell, Fault, KeyCol, KeySpec, Kind, Rid, Row, Schema};
 use std::alloc::Global;
 
 /// Where the first row stands.
 pub const FIRST: Rid = Rid { page: 0, slot: 0 };
+
+/// A table's one column as a key's.
+pub const COLUMN: KeyCol = KeyCol {
+    column: 0,
+    descending: false,
+};
 
 /// A table's one column, of numbers.
 pub fn schema(alloc: Global) -> Result<Schema, Fault> {
@@ -14,7 +20,7 @@ pub fn schema(alloc: Global) -> Result<Schema, Fault> {
 
 /// An index on it.
 pub fn spec(alloc: Global, unique: bool) -> Result<KeySpec, Fault> {
-    KeySpec::new(alloc, &schema(alloc)?, vec![in alloc; 0]?, unique)
+    KeySpec::new(alloc, &schema(alloc)?, vec![in alloc; COLUMN]?, unique)
 }
 
 /// A row of that number.

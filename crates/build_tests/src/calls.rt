@@ -1,6 +1,6 @@
 //! Calls, and whether they are answered as they should be.
 
-use crate::asks::{Ask, event, in_turn, is_told, numbers_in};
+use crate::asks::{Ask, COLUMN, event, in_turn, is_told, numbers_in};
 use crate::entries::{are_entries, has_pairs};
 use crate::made::Made;
 use crate::pools::QUOTA;
@@ -166,7 +166,7 @@ fn number_at<S: Made, T: Table>(stand: &mut Stand<S, T>, rid: Rid) -> Result<i64
 /// Whether that index is on the table's column, and has these pairs.
 fn has<S: Spool, T: Table>(core: &Core<S, T>, number: usize, pairs: &[Pair]) -> bool {
     match core.ready(number) {
-        Ok(index) => index.spec().columns() == &[0][..] && has_pairs(index.tree(), pairs),
+        Ok(index) => index.spec().columns() == &[COLUMN][..] && has_pairs(index.tree(), pairs),
         Err(_) => false,
     }
 }

@@ -5,7 +5,7 @@ use crate::tables::{Rows, table_of};
 use builder_core::{Dealing, Live, Plan};
 use crew::{BuildFault, Gate, Opened, Point, Report, Table, TableParts, build};
 use heap_log::Outcome;
-use keybytes::{Fault, Key, KeySpec, Kind, Pair, Rid, Schema};
+use keybytes::{Fault, Key, KeyCol, KeySpec, Kind, Pair, Rid, Schema};
 use run_spool::{PlainSpool, Spool};
 use spool_ledger::Pool;
 use std::alloc::Global;
@@ -74,9 +74,15 @@ impl Gate for Silent {
 /// Lets all ranges through.
 pub const SILENT: Silent = Silent { is_dealt: true };
 
+/// The table's one column as a key's.
+pub const COLUMN: KeyCol = KeyCol {
+    column: 0,
+    descending: false,
+};
+
 fn spec(alloc: Global, unique: bool) -> Result<KeySpec, Fault> {
     let schema = Schema::new(vec![in alloc; Kind::Int]?)?;
-    KeySpec::new(alloc, &schema, vec![in alloc; 0]?, unique)
+    KeySpec::new(alloc, &schema, vec![in alloc; COLUMN]?, unique)
 }
 
 pub fn plan(alloc: Global, asked: Asked) -> Result<Plan, Fault> {

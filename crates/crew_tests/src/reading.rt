@@ -1,7 +1,7 @@
 //! A session that reads and writes an index which a build made ready.
 ghost use Rattle.std.specs.Prelude.{◌≡◌};
 
-use crate::builds::{Asked, SILENT, WHOLE, plan, spools};
+use crate::builds::{Asked, COLUMN, SILENT, WHOLE, plan, spools};
 use crate::tables::{Rows, number_row, table_of};
 use builder_core::Plan;
 use crew::{Opened, Session, TableParts, build};
@@ -54,7 +54,7 @@ fn has_index<T: Opened, R: Wait>(
     slots: &[u16],
 ) -> Result<bool, Fault> {
     let (spec, pairs) = session.pairs(rt, alloc, number)?;
-    let is_asked_for = spec.columns() == [0].as_slice() && spec.unique() == unique;
+    let is_asked_for = spec.columns() == [COLUMN].as_slice() && spec.unique() == unique;
     Ok(is_asked_for && are_in_slots(pairs.as_slice(), slots))
 }
 

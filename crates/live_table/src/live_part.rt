@@ -1,12 +1,12 @@
 //! Whether what stands beside a table is of the build that runs on it.
-ghost use Rattle.std.specs.Prelude.{◌≡◌, ◌<◌, ◌↔◌, All, IsTrue, length, true, false, None, Some, IfErr, IfSome, OnOk, MatchResult};
+ghost use Rattle.std.specs.Prelude.{◌≡◌, ◌<◌, ◌↔◌, IsTrue, length, true, false, None, Some, IfErr, IfSome, OnOk, MatchResult};
 ghost use Rattle.build_events.specs.BuildSteps.{OnBuild};
 ghost use Rattle.build_halves.specs.Builds.{core_state, SideIsLooked, SeesSideAt, StandsBeside};
 ghost use Rattle.build_halves.specs.Switching.{IsUnspoiled, IsFedAt, IsOfBuild, IsPartOf, IsScannedWhole, IsTakenIn, SidesAreLooked};
 ghost use Rattle.build_halves.specs.Switching.{early_cause, HaveAll, IsOnlyLookedAt, KeepsOut};
 
 use crate::{Building, Live, Table};
-use keybytes::{Fault, KeySpec, Schema};
+use keybytes::{Fault, KeySpec};
 use run_spool::Spool;
 
 impl<T: Table> Live<T> {
@@ -76,7 +76,7 @@ impl<T: Table> Live<T> {
         if work.indexes().len() != build.indexes() {
             return false;
         }
-        are_same(build.specs(), work.specs(), self.heap.schema())
+        are_same(build.specs(), work.specs())
     }
 
     /// Whether of each index just the entries that were fed and not applied wait in its ring.
@@ -156,26 +156,17 @@ impl<T: Table> Live<T> {
     }
 }
 
-/// Whether these make the same keys of a table of those columns, for as many indexes, of which the same are unique.
-fn are_same(one: &[KeySpec], other: &[KeySpec], schema: &Schema) -> bool
-    requires { All (λ spec. spec.kinds ≡ schema.now) one.now }
+/// Whether these make the same keys, for as many indexes, of which the same are unique.
+fn are_same(one: &[KeySpec], other: &[KeySpec]) -> bool
     ensures { IsTrue result ↔ (one.now ≡ other.now) }
 {
     if one.len() != other.len() {
         return false;
     }
     for index in 0..one.len() {
-        if !is_same(&one[index], &other[index], schema) {
+        if !one[index].is_same(&other[index]) {
             return false;
         }
     }
     true
-}
-
-/// The same of one index.
-fn is_same(one: &KeySpec, other: &KeySpec, schema: &Schema) -> bool
-    requires { one.now.kinds ≡ schema.now }
-    ensures { IsTrue result ↔ (one.now ≡ other.now) }
-{
-    other.is_of(schema) && one.unique() == other.unique() && one.columns() == other.columns()
 }

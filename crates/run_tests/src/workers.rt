@@ -4,6 +4,7 @@ ghost use Rattle.spool_ledger.specs.Accounts.{new_account};
 ghost use Rattle.run_spool.specs.PagedSpools.{new_spool};
 ghost use Rattle.run_maker.specs.Making.{AreReady};
 
+use crate::table::COLUMN;
 use building::{Copied, Intake, PagePutter, page_ring};
 use heap_table::{Heap, PageImage};
 use keybytes::{Cell, Fault, Key, KeySpec, Kind, Rid, Row, Schema};
@@ -89,7 +90,7 @@ fn one_maker(alloc: Global, schema: &Schema) -> Result<Maker, Fault>
     ensures schema { IfOk result (λ maker. maker.schema ≡ schema.now) }
     ensures specs { IfOk result (λ maker. length maker.specs ≡ 1) }
 {
-    let spec = KeySpec::new(alloc, schema, vec![in alloc; 0]?, false)?;
+    let spec = KeySpec::new(alloc, schema, vec![in alloc; COLUMN]?, false)?;
     Maker::new(alloc, schema.clone()?, vec![in alloc; spec]?)
 }
 

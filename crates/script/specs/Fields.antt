@@ -1,12 +1,13 @@
 -- How the fields of a record are spelled.
 use denote.Ref.{Bor}
-use Rattle.std.specs.Prelude.{◌≡◌, ◌==◌, ℕ, ◌+◌, ◌^◌, ◌<◌, ◌≤◌, map, ℤ, pos, neg_ℤ, nat_lt, nat_le, slice_index, Bool, ◌&&◌, List, ◌∷◌, ◌++◌, length, drop, codes}
+use Rattle.std.specs.Prelude.{◌≡◌, ◌==◌, ℕ, ◌+◌, ◌^◌, ◌<◌, ◌≤◌, map, ℤ, pos, neg_ℤ, nat_lt, nat_le, slice_index, Bool, ◌&&◌, List, [], ◌∷◌, ◌++◌, length, drop, codes}
 use Rattle.std.specs.Prelude.{Option, option_map, Some, None, if◌then◌else◌}
 use Rattle.std.specs.Char.{is_ascii_alphanumeric, is_ascii_digit}
 use Rattle.std.specs.List.{list_all, slice_split, AllZip}
 use Rattle.std.specs.Str.Parse.{digits_value}
 use Rattle.keybytes.specs.declared.cell.Cell.{Cell}
 use Rattle.keybytes.specs.declared.cell.Cell.TheVariants.{Null, Int, Text, Flag}
+use Rattle.keybytes.specs.declared.key_col.KeyCol.{KeyCol}
 use Rattle.keybytes.specs.declared.kind.Kind.{Kind}
 use Rattle.keybytes.specs.declared.kind.Kind.TheVariants.{Int as IntKind, Text as TextKind, Flag as FlagKind}
 use Rattle.keybytes.specs.declared.rid.Rid.{Rid}
@@ -81,13 +82,25 @@ SpellsRid text rid =
 abbrev pub SpellsNumbers : List ℕ → List ℕ → Type 0
 SpellsNumbers text numbers = AllZip SpellsNumber (slice_split (λ c. c == 59) text) numbers
 
+-- what stands behind the number of a key's column
+abbrev pub direction : Bool → List ℕ
+direction descending = if descending then codes "d" else []
+
+-- the text spells the column of a key: its number, and behind it a `d` where it descends
+abbrev pub SpellsColumn : List ℕ → KeyCol → Type 0
+SpellsColumn text named = (number : List ℕ) × (text ≡ number ++ direction named.descending) × SpellsNumber number named.column
+
+-- the text spells the columns of a key, with `;` between them
+abbrev pub SpellsColumns : List ℕ → List KeyCol → Type 0
+SpellsColumns text columns = AllZip SpellsColumn (slice_split (λ c. c == 59) text) columns
+
 -- what stands before the columns of a key specification
 abbrev pub spec_front : Bool → List ℕ
 spec_front unique = if unique then codes "u:" else codes "n:"
 
 -- the text spells the key specification
 abbrev pub SpellsSpec : List ℕ → Spec → Type 0
-SpellsSpec text spec = (columns : List ℕ) × (text ≡ spec_front spec.unique ++ columns) × SpellsNumbers columns spec.columns.items
+SpellsSpec text spec = (columns : List ℕ) × (text ≡ spec_front spec.unique ++ columns) × SpellsColumns columns spec.columns.items
 
 -- the text spells the kind of the spools of builds
 abbrev pub SpellsSpools : List ℕ → SpoolChoice → Type 0

@@ -1,6 +1,7 @@
 //! How the fields of a record are spelled.
 ghost use Rattle.std.specs.Prelude.{◌≡◌, ℕ, List, [], ◌∷◌, IfOk, IfErr, IfSome, IfNone, Some, None};
 ghost use Rattle.keybytes.specs.declared.cell.Cell.{Cell as CellValue};
+ghost use Rattle.keybytes.specs.declared.key_col.KeyCol.{KeyCol as KeyColValue};
 ghost use Rattle.keybytes.specs.declared.kind.Kind.{Kind as KindValue};
 ghost use Rattle.keybytes.specs.declared.rid.Rid.{Rid as RidValue};
 ghost use Rattle.scan_range.specs.declared.dealing.Dealing.{Dealing as DealingValue};
@@ -9,11 +10,11 @@ ghost use Rattle.spool_choice.specs.declared.choice.SpoolChoice.{SpoolChoice as 
 ghost use Rattle.script.specs.declared.part.Part.TheVariants as part;
 ghost use Rattle.script.specs.Shapes.{Fit};
 ghost use Rattle.script.specs.Fields.{number_of, int_of, slot_of, texts, SpellEach, SpellsCell, SpellsDealing, SpellsKind, SpellsNumbers, SpellsRid};
-ghost use Rattle.script.specs.Fields.{SpellsSession, SpellsSpec, SpellsSpools};
+ghost use Rattle.script.specs.Fields.{SpellsColumn, SpellsColumns, SpellsSession, SpellsSpec, SpellsSpools};
 
 use crate::Spec;
 use crate::record_error::RecordError;
-use keybytes::{Cell, Kind, Rid, Text};
+use keybytes::{Cell, KeyCol, Kind, Rid, Text};
 use scan_range::Dealing;
 use spool_choice::SpoolChoice;
 use std::alloc::Global;
@@ -149,19 +150,42 @@ pub fn kinds(alloc: Global, fields: &[&str]) -> Result<Vec<Kind>, RecordError>
     Ok(kinds)
 }
 
-/// Numbers of columns, joined by `;`.
-fn columns(alloc: Global, text: &str) -> Result<Vec<usize>, RecordError>
-    ensures ok { IfOk result (λ columns. SpellsNumbers text.now columns.items) }
-    ensures refused { result ≡ Err RecordError.Misspelled → (columns : List ℕ) → SpellsNumbers text.now columns → ⊥ }
+/// The column of a key: its number, and behind it a `d` where it descends.
+fn column(text: &str) -> Result<KeyCol, RecordError>
+    ensures ok { IfOk result (λ named. SpellsColumn text.now named) }
+    ensures refused { IfErr result (λ error. (error ≡ RecordError.Misspelled) × ((named : KeyColValue) → SpellsColumn text.now named → ⊥)) }
+{
+    if let Some(column) = number(text) {
+        return Ok(KeyCol {
+            column: column as usize,
+            descending: false,
+        });
+    }
+    let Some(digits) = text.strip_suffix('d') else {
+        return Err(RecordError::Misspelled);
+    };
+    match number(digits) {
+        Some(column) => Ok(KeyCol {
+            column: column as usize,
+            descending: true,
+        }),
+        None => Err(RecordError::Misspelled),
+    }
+}
+
+/// The columns of a key, joined by `;`.
+fn columns(alloc: Global, text: &str) -> Result<Vec<KeyCol>, RecordError>
+    ensures ok { IfOk result (λ columns. SpellsColumns text.now columns.items) }
+    ensures refused { result ≡ Err RecordError.Misspelled → (columns : List KeyColValue) → SpellsColumns text.now columns → ⊥ }
 {
     let mut columns = Vec::new(alloc);
-    for column in text.split(';') {
-        columns.push(count(column)?)?;
+    for part in text.split(';') {
+        columns.push(column(part)?)?;
     }
     Ok(columns)
 }
 
-/// A key specification: `n:` or, for a unique one, `u:`, and the numbers of its columns joined by `;`.
+/// A key specification: `n:` or, for a unique one, `u:`, and its columns joined by `;`.
 pub fn spec(alloc: Global, text: &str) -> Result<Spec, RecordError>
     ensures ok { IfOk result (λ spec. SpellsSpec text.now spec) }
     ensures refused { result ≡ Err RecordError.Misspelled → (spec : SpecValue) → SpellsSpec text.now spec → ⊥ }

@@ -1,90 +1,169 @@
 //! Rows and keys, their bytes, and refusals as scripts know them.
 
 use crate::fixtures::schema;
-use keybytes::{Cell, Fault, KeySpec, Kind, Rid, Row, Schema, Text};
+use keybytes::{Cell, Fault, KeyCol, KeySpec, Kind, Rid, Row, Schema, Text};
 use std::alloc::{AllocError, Global};
 use std::test::Fail;
 
 /// The bytes of a row, and of its key by all columns.
 struct Keyed {
     kinds: &'static [Kind],
-    columns: &'static [usize],
+    columns: &'static [KeyCol],
     row: &'static [u8],
     key: &'static [u8],
 }
+
+/// The first column, from the least cell to the greatest.
+const UP: KeyCol = KeyCol {
+    column: 0,
+    descending: false,
+};
+
+/// The first column, from the greatest to the least.
+const DOWN: KeyCol = KeyCol {
+    column: 0,
+    descending: true,
+};
 
 const INT: &[Kind] = &[Kind::Int];
 
 const TEXT: &[Kind] = &[Kind::Text];
 
+const FLAG: &[Kind] = &[Kind::Flag];
+
 const MIXED: &[Kind] = &[Kind::Int, Kind::Text, Kind::Int, Kind::Flag];
 
-const KEYED: [Keyed; 10] = [
+const KEYED: [Keyed; 18] = [
     // -5, the least number, -1, 0 and the greatest number
     Keyed {
         kinds: INT,
-        columns: &[0],
+        columns: &[UP],
         row: b"\x01\xFF\xFF\xFF\xFF\xFF\xFF\xFF\xFB",
         key: b"\x01\x7F\xFF\xFF\xFF\xFF\xFF\xFF\xFB",
     },
     Keyed {
         kinds: INT,
-        columns: &[0],
+        columns: &[UP],
         row: b"\x01\x80\0\0\0\0\0\0\0",
         key: b"\x01\0\0\0\0\0\0\0\0",
     },
     Keyed {
         kinds: INT,
-        columns: &[0],
+        columns: &[UP],
         row: b"\x01\xFF\xFF\xFF\xFF\xFF\xFF\xFF\xFF",
         key: b"\x01\x7F\xFF\xFF\xFF\xFF\xFF\xFF\xFF",
     },
     Keyed {
         kinds: INT,
-        columns: &[0],
+        columns: &[UP],
         row: b"\x01\0\0\0\0\0\0\0\0",
         key: b"\x01\x80\0\0\0\0\0\0\0",
     },
     Keyed {
         kinds: INT,
-        columns: &[0],
+        columns: &[UP],
         row: b"\x01\x7F\xFF\xFF\xFF\xFF\xFF\xFF\xFF",
         key: b"\x01\xFF\xFF\xFF\xFF\xFF\xFF\xFF\xFF",
     },
     Keyed {
         kinds: TEXT,
-        columns: &[0],
+        columns: &[UP],
         row: b"\x01\0",
         key: b"\x01\0\x01",
     },
     Keyed {
         kinds: TEXT,
-        columns: &[0],
+        columns: &[UP],
         row: b"\x01\x01a",
         key: b"\x01a\0\x01",
     },
     Keyed {
         kinds: TEXT,
-        columns: &[0],
+        columns: &[UP],
         row: b"\x01\x02a\0",
         key: b"\x01a\0\xFF\0\x01",
     },
     Keyed {
         kinds: TEXT,
-        columns: &[0],
+        columns: &[UP],
         row: b"\x01\x02ab",
         key: b"\x01ab\0\x01",
     },
     // 5, "ab", Null, true
     Keyed {
         kinds: MIXED,
-        columns: &[0, 1, 2, 3],
+        columns: &[
+            UP,
+            KeyCol { column: 1, ..UP },
+            KeyCol { column: 2, ..UP },
+            KeyCol { column: 3, ..UP },
+        ],
         row: b"\x01\0\0\0\0\0\0\0\x05\x01\x02ab\0\x01\x01",
         key: b"\x01\x80\0\0\0\0\0\0\x05\x01ab\0\x01\0\x01\x01",
     },
+    // from the greatest to the least: Null, 5, "a", "", true and false
+    Keyed {
+        kinds: INT,
+        columns: &[DOWN],
+        row: b"\0",
+        key: b"\xff",
+    },
+    Keyed {
+        kinds: INT,
+        columns: &[DOWN],
+        row: b"\x01\0\0\0\0\0\0\0\x05",
+        key: b"\xfe\x7f\xff\xff\xff\xff\xff\xff\xfa",
+    },
+    Keyed {
+        kinds: TEXT,
+        columns: &[DOWN],
+        row: b"\x01\x01a",
+        key: b"\xfe\x9e\xff\xfe",
+    },
+    Keyed {
+        kinds: TEXT,
+        columns: &[DOWN],
+        row: b"\x01\0",
+        key: b"\xfe\xff\xfe",
+    },
+    Keyed {
+        kinds: FLAG,
+        columns: &[DOWN],
+        row: b"\x01\x01",
+        key: b"\xfe\xfe",
+    },
+    Keyed {
+        kinds: FLAG,
+        columns: &[DOWN],
+        row: b"\x01\0",
+        key: b"\xfe\xff",
+    },
+    // 5 the one way, "a" the other, Null the one way, true the other; and the same the other way round
+    Keyed {
+        kinds: MIXED,
+        columns: &[
+            UP,
+            KeyCol { column: 1, ..DOWN },
+            KeyCol { column: 2, ..UP },
+            KeyCol { column: 3, ..DOWN },
+        ],
+        row: b"\x01\0\0\0\0\0\0\0\x05\x01\x01a\0\x01\x01",
+        key: b"\x01\x80\0\0\0\0\0\0\x05\xfe\x9e\xff\xfe\0\xfe\xfe",
+    },
+    Keyed {
+        kinds: MIXED,
+        columns: &[
+            DOWN,
+            KeyCol { column: 1, ..UP },
+            KeyCol { column: 2, ..DOWN },
+            KeyCol { column: 3, ..UP },
+        ],
+        row: b"\x01\0\0\0\0\0\0\0\x05\x01\x01a\0\x01\x01",
+        key: b"\xfe\x7f\xff\xff\xff\xff\xff\xff\xfa\x01a\0\x01\xff\x01\x01",
+    },
 ];
 
-fn spec(alloc: Global, schema: &Schema, columns: &[usize]) -> Result<KeySpec, Fault> {
+fn spec(alloc: Global, schema: &Schema, columns: &[KeyCol]) -> Result<KeySpec, Fault> {
     KeySpec::new(alloc, schema, columns.to_vec(alloc)?, true)?.clone()
 }
 
@@ -156,34 +235,46 @@ fn bytes_that_are_no_row(rt: HostRuntime) {
 }
 
 /// The specification of these columns of five.
-fn spec_of_five(alloc: Global, columns: &[usize]) -> Result<KeySpec, Fault> {
+fn spec_of_five(alloc: Global, columns: &[KeyCol]) -> Result<KeySpec, Fault> {
     spec(alloc, &schema(alloc, &[Kind::Int; 5])?, columns)
 }
 
-const REFUSED: [&[usize]; 4] = [&[], &[0, 1, 2, 3, 4], &[1, 1], &[5]];
+const REFUSED: [&[KeyCol]; 5] = [
+    &[],
+    &[
+        UP,
+        KeyCol { column: 1, ..UP },
+        KeyCol { column: 2, ..UP },
+        KeyCol { column: 3, ..UP },
+        KeyCol { column: 4, ..UP },
+    ],
+    &[KeyCol { column: 1, ..UP }, KeyCol { column: 1, ..UP }],
+    &[KeyCol { column: 1, ..UP }, KeyCol { column: 1, ..DOWN }],
+    &[KeyCol { column: 5, ..UP }],
+];
 
-/// The first of these columns that make a key, or are refused for something else.
-fn taken(alloc: Global) -> Option<&'static [usize]> {
-    for columns in &REFUSED {
-        if spec_of_five(alloc, columns).err() != Some(Fault::BadColumn) {
-            return Some(*columns);
+/// The number of the first of these lists of columns that makes a key, or is refused for something else.
+fn taken(alloc: Global) -> Option<usize> {
+    for number in 0..REFUSED.len() {
+        if spec_of_five(alloc, REFUSED[number]).err() != Some(Fault::BadColumn) {
+            return Some(number);
         }
     }
     None
 }
 
-fn has_columns(spec: &KeySpec, columns: &[usize]) -> bool {
+fn has_columns(spec: &KeySpec, columns: &[KeyCol]) -> bool {
     spec.columns() == columns && spec.unique()
 }
 
 /// Whether a key of these columns is made, a unique one.
-fn are_taken(alloc: Global, columns: &[usize]) -> Result<bool, Fault> {
+fn are_taken(alloc: Global, columns: &[KeyCol]) -> Result<bool, Fault> {
     Ok(has_columns(&spec_of_five(alloc, columns)?, columns))
 }
 
 #[test]
 fn columns_of_keys(rt: HostRuntime) {
-    assert!(rt; are_taken(rt.alloc(), &[2, 0]) == Ok(true));
+    assert!(rt; are_taken(rt.alloc(), &[KeyCol { column: 2, ..UP }, DOWN]) == Ok(true));
     assert_eq!(rt; taken(rt.alloc()), None);
 }
 
