@@ -3,6 +3,7 @@
 mod bad_scripts;
 mod builds;
 mod catching_up;
+mod descending;
 mod several_indexes;
 mod spelled;
 mod spools;
@@ -15,7 +16,7 @@ use crate::case::Case;
 use crate::printed::Printed;
 use std::alloc::Global;
 
-fn cases() -> [&'static [Case]; 10] {
+fn cases() -> [&'static [Case]; 11] {
     [
         &tables::CASES,
         &transactions::CASES,
@@ -27,6 +28,7 @@ fn cases() -> [&'static [Case]; 10] {
         &bad_scripts::CASES,
         &spelled::CASES,
         &spools::CASES,
+        &descending::CASES,
     ]
 }
 
