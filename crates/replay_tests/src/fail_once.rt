@@ -18,6 +18,8 @@ pub struct FailOnce<S: Drop> {
     well: usize,
     failure: Failure,
     has_failed: bool,
+    /// Whether the call that failed isn't made again.
+    is_broken: bool,
     /// Whether bytes were written since the last flush.
     is_unsent: bool,
 }
@@ -30,12 +32,19 @@ impl<S: Drop> FailOnce<S> {
             well,
             failure,
             has_failed: false,
+            is_broken: false,
             is_unsent: false,
         }
     }
 
+    /// Whether a call failed.
     pub fn has_failed(&self) -> bool {
         self.has_failed
+    }
+
+    /// Whether one failed that isn't made again. A read or a write that was interrupted is, a flush isn't.
+    pub fn is_broken(&self) -> bool {
+        self.is_broken
     }
 
     pub fn inner(&self) -> &S {
@@ -52,7 +61,9 @@ impl<S: Drop> FailOnce<S> {
         !self.has_failed
     }
 
-    fn fail(&self) -> io::Error {
+    /// How a read or a write fails.
+    fn fail(&mut self) -> io::Error {
+        self.is_broken = self.failure.kind != io::ErrorKind::Interrupted;
         io::Error::from(self.failure.kind)
     }
 }
@@ -80,7 +91,8 @@ impl<S: Write + Drop> Write for FailOnce<S> {
     /// Where nothing was written since the last flush there is nothing to do, and nothing fails.
     fn flush(&mut self) -> io::Result<()> {
         if self.is_unsent && !self.goes_well() {
-            return Err(self.fail());
+            self.is_broken = true;
+            return Err(io::Error::from(self.failure.kind));
         }
         self.is_unsent = false;
         self.inner.flush()

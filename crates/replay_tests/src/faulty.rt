@@ -1,7 +1,6 @@
 //! Streams of which one call fails, each call in turn: of the script, of the answers, and of what is said of a bad script.
 
 use crate::fail_once::{FailOnce, Failure};
-use crate::many_entries::{write_answers, write_script};
 use crate::printed::text;
 use crate::stories::{STORIES, Story, Task};
 use std::alloc::{AllocError, Global};
@@ -10,7 +9,7 @@ use std::sync::Wait;
 use std::test::Fail;
 use std::thread::Threads;
 
-/// How a call fails, and what is said of a script whose reading does. A call that was interrupted is made again, and nothing is said.
+/// How a call fails, and what is said of a script whose reading does. A reading that was interrupted goes on.
 static FAILURES: [(Failure, &str); 4] = [
     (
         Failure {
@@ -92,8 +91,14 @@ impl<'a> Streams<'a> {
         }
     }
 
+    /// Whether a call failed.
     fn has_failed(&self) -> bool {
         self.script.has_failed() || self.out.has_failed() || self.err.has_failed()
+    }
+
+    /// Whether one failed that isn't made again.
+    fn is_broken(&self) -> bool {
+        self.script.is_broken() || self.out.is_broken() || self.err.is_broken()
     }
 
     /// What was printed on both streams.
@@ -108,7 +113,7 @@ impl<'a> Streams<'a> {
 /// the printing failed, and all of it otherwise.
 fn is_right(streams: &Streams, story: &Story, place: Place, status: u8) -> bool {
     let (out, err) = streams.printed();
-    if !streams.has_failed() || place.said.is_empty() {
+    if !streams.is_broken() {
         (out, err, status) == (story.out, story.err, story.status)
     } else if place.stream == Stream::Script {
         (out, err, status) == ("", place.said, 2)
@@ -215,10 +220,33 @@ fn an_output_that_fails(rt: HostRuntime) {
     assert_eq!(rt; told_otherwise(&rt, rt.alloc(), Stream::Refusal), None);
 }
 
-/// So many updates have 8,851 bytes of answers, more than are kept back before they are written.
-const UPDATES: u32 = 600;
+/// A cell of 100 bytes with its comma.
+const CELL: &str =
+    ",=a text of ninety-eight bytes: a row of twelve such texts is asked for eight times; no quotes neede";
 
-/// The fewest calls of a long output, of 256 bytes at most, that can fail in one of the ways.
+/// A record of 12 such fields.
+fn write_record(record: &mut String, front: &str, field: &str) -> Result<(), AllocError> {
+    record.push_str(front)?;
+    for _ in 0..12 {
+        record.push_str(field)?;
+    }
+    record.push_str("\n")
+}
+
+/// A script whose answers have 9,655 bytes, more than are kept back before they are written.
+fn write_long(alloc: Global, script: &mut String, out: &mut String) -> Result<(), AllocError> {
+    write_record(script, "table,1", ",text")?;
+    write_record(script, "row", CELL)?;
+    out.push_str("1,ok\n2,ok,0.0\n")?;
+    for number in 3..11 {
+        script.push_str("get,0.0\n")?;
+        let front = format!(in alloc; "{number},ok")?;
+        write_record(out, front.as_str(), CELL)?;
+    }
+    Ok(())
+}
+
+/// The fewest calls of its output, of 256 bytes at most, that can fail in one of the ways.
 fn fewest_calls<A: Threads + Wait + Sync>(
     rt: &A,
     alloc: Global,
@@ -241,17 +269,12 @@ fn fewest_calls<A: Threads + Wait + Sync>(
     fewest
 }
 
-fn write_long(alloc: Global, script: &mut String, out: &mut String) -> Result<(), AllocError> {
-    write_script(alloc, script, 1, UPDATES, "")?;
-    write_answers(alloc, out, UPDATES, "")
-}
-
 #[test]
 fn a_long_output_that_fails_in_its_midst(rt: HostRuntime) -> Result<(), Fail> {
     let mut script = String::new(rt.alloc());
     let mut out = String::new(rt.alloc());
     write_long(rt.alloc(), &mut script, &mut out)?;
     let fewest = fewest_calls(&rt, rt.alloc(), script.as_str(), out.as_str());
-    assert!(rt; fewest >= Some(35));
+    assert!(rt; fewest >= Some(38));
     Ok(())
 }

@@ -3,6 +3,7 @@
 mod bad_scripts;
 mod builds;
 mod catching_up;
+mod odd_bytes;
 mod several_indexes;
 mod spelled;
 mod spools;
@@ -15,7 +16,7 @@ use crate::case::Case;
 use crate::printed::Printed;
 use std::alloc::Global;
 
-fn cases() -> [&'static [Case]; 10] {
+fn cases() -> [&'static [Case]; 11] {
     [
         &tables::CASES,
         &transactions::CASES,
@@ -26,6 +27,7 @@ fn cases() -> [&'static [Case]; 10] {
         &unique_indexes::CASES,
         &bad_scripts::CASES,
         &spelled::CASES,
+        &odd_bytes::CASES,
         &spools::CASES,
     ]
 }
