@@ -1,7 +1,7 @@
-//! A script that is cut at each of its bytes: each beginning runs, or its one bad record is named.
+//! Scripts that are cut off: each beginning runs, or its one bad record is named.
 
 use crate::cut::Cut;
-use crate::many_entries::{ONE_TOO_MANY, write_answers, write_script};
+use crate::many_entries::{FEW, ONE_TOO_MANY, write_answers, write_script};
 use crate::printed::Printed;
 use std::alloc::{AllocError, Global};
 use std::test::Fail;
@@ -56,33 +56,57 @@ fn is_checked(alloc: Global, script: &str, beginning: &str) -> bool {
     cut.is_checked(&Printed::by_check(alloc, beginning.as_bytes()))
 }
 
-/// The length of the first beginning that is answered otherwise.
-fn first_otherwise(alloc: Global, script: &str, answers: &str) -> Option<usize> {
-    for length in 0..script.len().saturating_add(1) {
-        let beginning = script.get(..length).unwrap_or("");
-        if !is_replayed(alloc, script, beginning, answers)
-            || !is_checked(alloc, script, beginning)
-        {
-            return Some(length);
-        }
-    }
-    None
+/// Whether the beginning of that length is answered and checked as it has to be.
+fn is_right(alloc: Global, script: &str, answers: &str, length: usize) -> bool {
+    let beginning = script.get(..length).unwrap_or("");
+    is_replayed(alloc, script, beginning, answers) && is_checked(alloc, script, beginning)
 }
 
-/// The script, and its answers with the number of the record that would come next.
-fn write_both(alloc: Global, script: &mut String, answers: &mut String) -> Result<(), AllocError> {
-    let (indexes, updates, behind, end) = ONE_TOO_MANY;
+/// How many beginnings there are whose lengths are multiples of that one; nothing where one of them is answered otherwise.
+fn beginnings(alloc: Global, script: &str, answers: &str, apart: usize) -> Option<usize> {
+    let mut count: usize = 0;
+    for length in 0..script.len().saturating_add(1) {
+        if length.checked_rem(apart) == Some(0) {
+            if !is_right(alloc, script, answers, length) {
+                return None;
+            }
+            count = count.saturating_add(1);
+        }
+    }
+    Some(count)
+}
+
+/// A script of updates, and its answers with the number of the record that would come next.
+fn write_both(
+    alloc: Global,
+    script: &mut String,
+    answers: &mut String,
+    case: (u32, u32, &str, &str),
+    next: &str,
+) -> Result<(), AllocError> {
+    let (indexes, updates, behind, end) = case;
     write_script(alloc, script, indexes, updates, behind)?;
     write_answers(alloc, answers, updates, end)?;
-    answers.push_str("527,")
+    answers.push_str(next)
 }
 
 #[test]
 fn run_or_name_a_bad_record(rt: HostRuntime) -> Result<(), Fail> {
     let mut script = String::new(rt.alloc());
     let mut answers = String::new(rt.alloc());
-    write_both(rt.alloc(), &mut script, &mut answers)?;
-    let other = first_otherwise(rt.alloc(), script.as_str(), answers.as_str());
-    assert_eq!(rt; (script.len(), other), (8722, None));
+    write_both(rt.alloc(), &mut script, &mut answers, FEW, "25,")?;
+    let count = beginnings(rt.alloc(), script.as_str(), answers.as_str(), 1);
+    assert_eq!(rt; count, Some(296));
+    Ok(())
+}
+
+/// Where the updates are many each beginning takes long; `tools/cut-script` runs them all.
+#[test]
+fn of_many_records_run_or_name_a_bad_one(rt: HostRuntime) -> Result<(), Fail> {
+    let mut script = String::new(rt.alloc());
+    let mut answers = String::new(rt.alloc());
+    write_both(rt.alloc(), &mut script, &mut answers, ONE_TOO_MANY, "527,")?;
+    let count = beginnings(rt.alloc(), script.as_str(), answers.as_str(), 149);
+    assert_eq!(rt; count, Some(59));
     Ok(())
 }

@@ -29,8 +29,30 @@ pairs,0
 ",
 );
 
+/// One index and a few updates.
+pub const FEW: (u32, u32, &str, &str) = (
+    1,
+    12,
+    "insert,A,0
+feed,0,9
+apply,0,4
+switch
+pairs,0
+",
+    "20,ok,15,0.1
+21,ok,9
+22,ok,4
+23,ok,16,ready:0
+23,pages,0
+24,ok,2
+24,pair,0,0.1
+24,pair,12,0.0
+",
+);
+
 /// How many indexes and updates there are, the records behind them, and how their answers end.
-static CASES: [(u32, u32, &str, &str); 3] = [
+static CASES: [(u32, u32, &str, &str); 4] = [
+    FEW,
     (
         1,
         129,
