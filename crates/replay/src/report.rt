@@ -7,7 +7,7 @@ use crate::status::Status;
 use script::{RaceScript, Script, read_text};
 use std::alloc::Global;
 use std::fmt;
-use std::io::{Read, Write};
+use std::io::{self, Read, Write};
 
 /// Looks at the script that the reader gives, and runs nothing: a script to be replayed, or a race where it has a record `build` or `go`.
 /// Says on `out` how many records it has where all are good, or on `err` what is wrong with the first bad one. Answers the exit status.
@@ -72,7 +72,7 @@ fn check_race_text<W: Write + Drop, E: Write + Drop>(
 fn approve<W: Write + Drop>(count: usize, mut out: W) -> u8
     ensures { (result ≡ 0) ⊎ (result ≡ 2) }
 {
-    match writeln!(out, "script: {count} records, all good") {
+    match write_approval(count, &mut out) {
         Ok(()) => Status::Done as u8,
         Err(_) => Status::Failed as u8,
     }
@@ -84,4 +84,9 @@ pub fn refuse<D: fmt::Display + Drop, E: Write + Drop>(error: D, mut err: E) -> 
 {
     let _ = writeln!(err, "script: {error}");
     Status::Failed as u8
+}
+
+fn write_approval<W: Write>(count: usize, out: &mut W) -> io::Result<()> {
+    writeln!(out, "script: {count} records, all good")?;
+    out.flush()
 }

@@ -1,11 +1,19 @@
-//! Tests of the libraries `replay` and `script`: whole scripts with what they print, what is said of bad ones, and readers and writers
-//! that fail; of `words`: those that `sfbuild` takes; and of `bench_runs` and `bench_threads`: small runs with what they print.
+//! Tests of the libraries `replay` and `script`: whole scripts with what they print, what is said of bad ones, scripts that are cut off,
+//! and readers and writers that fail; of `words`: those that `sfbuild` takes; and of `bench_runs` and `bench_threads`: small runs with what they print.
 #![tactic(auto)]
 
 #[cfg(test)]
 mod case;
 #[cfg(test)]
+mod cut;
+#[cfg(test)]
+mod cut_races;
+#[cfg(test)]
+mod cut_scripts;
+#[cfg(test)]
 mod explanations;
+#[cfg(test)]
+mod fail_once;
 #[cfg(test)]
 mod faulty;
 #[cfg(test)]
@@ -26,5 +34,7 @@ mod races;
 mod scripts;
 #[cfg(test)]
 mod spellings;
+#[cfg(test)]
+mod stories;
 #[cfg(test)]
 mod watched_races;

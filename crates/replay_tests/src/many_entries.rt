@@ -1,10 +1,58 @@
 //! Scripts of many updates of one row beside a build that has scanned it: each leaves two entries for each index.
+
 use crate::printed::Printed;
 use std::alloc::{AllocError, Global};
 use std::test::Fail;
 
+/// One index and 512 updates. With the insert behind them their entries are one more than a switch takes.
+pub const ONE_TOO_MANY: (u32, u32, &str, &str) = (
+    1,
+    512,
+    "insert,A,0
+switch
+feed,0,1
+switch
+apply,0,1
+switch
+pairs,0
+",
+    "520,ok,515,0.1
+521,refused,49,Behind,1025
+522,ok,1
+523,refused,49,Behind,1025
+524,ok,1
+525,ok,516,ready:0
+525,pages,0
+526,ok,2
+526,pair,0,0.1
+526,pair,512,0.0
+",
+);
+
+/// One index and a few updates.
+pub const FEW: (u32, u32, &str, &str) = (
+    1,
+    12,
+    "insert,A,0
+feed,0,9
+apply,0,4
+switch
+pairs,0
+",
+    "20,ok,15,0.1
+21,ok,9
+22,ok,4
+23,ok,16,ready:0
+23,pages,0
+24,ok,2
+24,pair,0,0.1
+24,pair,12,0.0
+",
+);
+
 /// How many indexes and updates there are, the records behind them, and how their answers end.
-static CASES: [(u32, u32, &str, &str); 3] = [
+static CASES: [(u32, u32, &str, &str); 4] = [
+    FEW,
     (
         1,
         129,
@@ -29,29 +77,7 @@ pairs,0
 144,pair,129,0.0
 ",
     ),
-    (
-        1,
-        512,
-        "insert,A,0
-switch
-feed,0,1
-switch
-apply,0,1
-switch
-pairs,0
-",
-        "520,ok,515,0.1
-521,refused,49,Behind,1025
-522,ok,1
-523,refused,49,Behind,1025
-524,ok,1
-525,ok,516,ready:0
-525,pages,0
-526,ok,2
-526,pair,0,0.1
-526,pair,512,0.0
-",
-    ),
+    ONE_TOO_MANY,
     (
         2,
         257,
@@ -116,7 +142,8 @@ pub fn write_numbered(
     script.push_str(end.as_str())
 }
 
-fn write_script(
+/// The records of a build, so many updates and the records behind them.
+pub fn write_script(
     alloc: Global,
     script: &mut String,
     indexes: u32,
@@ -126,6 +153,23 @@ fn write_script(
     write_build(alloc, script, indexes)?;
     write_updates(alloc, script, updates)?;
     script.push_str(behind)
+}
+
+/// The answers to a build of one index and so many updates, at most 1,000, and how they end. The build has one page and one pair; the row
+/// made log records 1 and 2.
+pub fn write_answers(
+    alloc: Global,
+    answers: &mut String,
+    updates: u32,
+    end: &str,
+) -> Result<(), AllocError> {
+    answers.push_str("1,ok\n2,ok,0.0\n3,ok,1\n4,ok,0\n5,ok,1\n6,ok,1\n7,ok,2\n")?;
+    for update in 0..updates.min(1_000) {
+        let (number, record) = (8 + update, 3 + update);
+        let answer = format!(in alloc; "{number},ok,{record},0.0\n")?;
+        answers.push_str(answer.as_str())?;
+    }
+    answers.push_str(end)
 }
 
 /// Whether the script of a loaded build, of so many updates and of the records behind them ends so.

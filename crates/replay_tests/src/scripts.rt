@@ -4,6 +4,7 @@ mod bad_scripts;
 mod builds;
 mod catching_up;
 mod descending;
+mod odd_bytes;
 mod several_indexes;
 mod spelled;
 mod spools;
@@ -16,7 +17,7 @@ use crate::case::Case;
 use crate::printed::Printed;
 use std::alloc::Global;
 
-fn cases() -> [&'static [Case]; 11] {
+fn cases() -> [&'static [Case]; 12] {
     [
         &tables::CASES,
         &transactions::CASES,
@@ -27,6 +28,7 @@ fn cases() -> [&'static [Case]; 11] {
         &unique_indexes::CASES,
         &bad_scripts::CASES,
         &spelled::CASES,
+        &odd_bytes::CASES,
         &spools::CASES,
         &descending::CASES,
     ]
