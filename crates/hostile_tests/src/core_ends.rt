@@ -1,6 +1,7 @@
 //! How a core stands behind a story.
 
 use crate::asks::{Ask, Told};
+use crate::stand::Stand;
 use crate::stories::Story;
 use crate::telling::told;
 use builder_core::{Core, Table};
@@ -22,11 +23,11 @@ const WORK: [Ask; 6] = [
 fn is_all_refused<S: Spool, T: Table>(
     alloc: Global,
     story: &Story,
-    core: &mut Core<S, T>,
+    stand: &mut Stand<S, T>,
     fault: Fault,
 ) -> bool {
     for ask in WORK {
-        if told(alloc, story, core, ask) != Err(fault) {
+        if told(alloc, story, stand, ask) != Err(fault) {
             return false;
         }
     }
@@ -37,37 +38,42 @@ fn is_all_refused<S: Spool, T: Table>(
 fn are_told<S: Spool, T: Table>(
     alloc: Global,
     story: &Story,
-    core: &mut Core<S, T>,
+    stand: &mut Stand<S, T>,
     asked: &[(Ask, Told)],
 ) -> bool {
     for (ask, own) in asked {
-        if told(alloc, story, core, *ask) != *own {
+        if told(alloc, story, stand, *ask) != *own {
             return false;
         }
     }
     true
 }
 
+/// Whether a build runs or not, as it is said, and no index is ready.
+fn runs_unready<S: Spool, T: Table>(core: &Core<S, T>, runs: bool) -> bool {
+    core.is_building() == runs && core.ready(0).is_err()
+}
+
 /// Whether the build is spoiled by that fault until it is abandoned, and no index is ready before or behind that.
 pub fn is_spoiled<S: Spool, T: Table>(
     alloc: Global,
     story: &Story,
-    core: &mut Core<S, T>,
+    stand: &mut Stand<S, T>,
     fault: Fault,
 ) -> bool {
-    let refused = is_all_refused(alloc, story, core, fault);
-    let runs = core.is_building() && core.ready(0).is_err();
+    let refused = is_all_refused(alloc, story, stand, fault);
+    let runs = runs_unready(stand.core(), true);
     let given_up = are_told(
         alloc,
         story,
-        core,
+        stand,
         &[
             (Ask::Abandon, Ok((0, 0))),
             (Ask::Abandon, Err(Fault::NoBuild)),
         ],
     );
-    let over = is_all_refused(alloc, story, core, Fault::NoBuild);
-    refused && runs && given_up && over && !core.is_building() && core.ready(0).is_err()
+    let over = is_all_refused(alloc, story, stand, Fault::NoBuild);
+    refused && runs && given_up && over && runs_unready(stand.core(), false)
 }
 
 /// Whether the build has decided, and so many indexes are ready.

@@ -14,6 +14,8 @@ mod pools;
 #[cfg(test)]
 mod rows;
 #[cfg(test)]
+mod stand;
+#[cfg(test)]
 mod stops;
 #[cfg(test)]
 mod stories;

@@ -2,10 +2,11 @@
 
 use crate::core_ends::{has_decided, is_spoiled};
 use crate::faults::{Place, Planned};
+use crate::stand::Stand;
 use crate::stories::{STORIES, Story, Turn, turns_of};
 use crate::telling::{Telling, tell_all, tell_beside};
 use crate::wrong::Wrong;
-use builder_core::{Core, Table};
+use builder_core::Table;
 use keybytes::Fault;
 use run_spool::Spool;
 use std::alloc::Global;
@@ -23,15 +24,15 @@ struct Faulted<'t> {
 fn is_over<S: Spool, T: Table>(
     alloc: Global,
     story: &Story,
-    core: &mut Core<S, T>,
+    stand: &mut Stand<S, T>,
     planned: Planned,
 ) -> bool {
     match planned {
         Planned {
             place: Some(place),
             came: true,
-        } => is_spoiled(alloc, story, core, place.fault()),
-        _ => has_decided(core, story.ready),
+        } => is_spoiled(alloc, story, stand, place.fault()),
+        _ => has_decided(stand.core(), story.ready),
     }
 }
 
@@ -40,17 +41,17 @@ impl Telling for Faulted<'_> {
         &mut self,
         alloc: Global,
         story: &Story,
-        core: &mut Core<S, T>,
+        stand: &mut Stand<S, T>,
     ) -> Result<(), Wrong> {
         let mut planned = Planned {
             place: Some(self.place),
             came: false,
         };
-        tell_all(alloc, story, core, self.turns, &mut planned)?;
+        tell_all(alloc, story, stand, self.turns, &mut planned)?;
         if planned.came != self.is_reached {
             return Err(Wrong::Spoiled);
         }
-        if !is_over(alloc, story, core, planned) {
+        if !is_over(alloc, story, stand, planned) {
             return Err(Wrong::Left);
         }
         Ok(())

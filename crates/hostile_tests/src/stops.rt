@@ -2,10 +2,11 @@
 
 use crate::asks::Ask;
 use crate::faults::Planned;
+use crate::stand::Stand;
 use crate::stories::{STORIES, Story, Turn, turns_of};
 use crate::telling::{Telling, tell_all, tell_beside, told};
 use crate::wrong::Wrong;
-use builder_core::{Core, Table};
+use builder_core::Table;
 use keybytes::Fault;
 use run_spool::Spool;
 use std::alloc::Global;
@@ -23,22 +24,22 @@ impl Telling for Stopped<'_> {
         &mut self,
         alloc: Global,
         story: &Story,
-        core: &mut Core<S, T>,
+        stand: &mut Stand<S, T>,
     ) -> Result<(), Wrong> {
         let mut planned = Planned {
             place: None,
             came: false,
         };
-        tell_all(alloc, story, core, self.turns, &mut planned)?;
+        tell_all(alloc, story, stand, self.turns, &mut planned)?;
         let own = if self.is_running {
             Ok((0, 0))
         } else {
             Err(Fault::NoBuild)
         };
-        if told(alloc, story, core, Ask::Abandon) != own {
+        if told(alloc, story, stand, Ask::Abandon) != own {
             return Err(Wrong::Answer(self.turns.len()));
         }
-        if core.is_building() {
+        if stand.core().is_building() {
             return Err(Wrong::Left);
         }
         Ok(())

@@ -4,11 +4,12 @@ ghost use Rattle.hostile_tests.specs.Owing.{IsOwed};
 
 use crate::asks::{Ask, Told, event, told_by};
 use crate::faults::{Place, Planned, faults_of};
-use crate::pools::{come_back, faulty_spools, new_pool};
+use crate::pools::{faulty_spools, new_pool};
 use crate::rows::schema;
+use crate::stand::Stand;
 use crate::stories::{Story, Turn};
 use crate::wrong::Wrong;
-use builder_core::{Core, Parts, Table};
+use builder_core::{Parts, Table};
 use heap_table::Heap;
 use keybytes::Fault;
 use run_spool::Spool;
@@ -21,12 +22,12 @@ const QUOTA: u32 = 8;
 
 /// What is done to a core, which is then given up.
 pub trait Telling {
-    /// Whether the core did as it should.
+    /// Whether it did as it should.
     fn tell<S: Spool, T: Table>(
         &mut self,
         alloc: Global,
         story: &Story,
-        core: &mut Core<S, T>,
+        stand: &mut Stand<S, T>,
     ) -> Result<(), Wrong>;
 }
 
@@ -34,23 +35,23 @@ pub trait Telling {
 pub fn told<S: Spool, T: Table>(
     alloc: Global,
     story: &Story,
-    core: &mut Core<S, T>,
+    stand: &mut Stand<S, T>,
     ask: Ask,
 ) -> Told {
-    told_by(&core.step(event(alloc, story, ask)?))
+    told_by(&stand.step(event(alloc, story, ask)?))
 }
 
 /// Tells these events, with the fault that may come.
 pub fn tell_all<S: Spool, T: Table>(
     alloc: Global,
     story: &Story,
-    core: &mut Core<S, T>,
+    stand: &mut Stand<S, T>,
     turns: &[Turn],
     planned: &mut Planned,
 ) -> Result<(), Wrong> {
     for number in 0..turns.len() {
         let turn = turns[number];
-        let told = told(alloc, story, core, turn.ask);
+        let told = told(alloc, story, stand, turn.ask);
         if !planned.is_answer(story, turn, told) {
             return Err(Wrong::Answer(number));
         }
@@ -87,13 +88,9 @@ fn tell_on<S: Spool, T: Table, A: Telling>(
     requires owed { IsOwed pool (map S.stake spools.items) }
 {
     let (live, ends) = parts.open::<T>();
-    let mut core = Core::new(live, ends, spools);
-    let told = telling.tell(alloc, story, &mut core);
-    let (_, _, spools) = core.into_live();
-    told_of_back(
-        told,
-        come_back(alloc, QUOTA, story.pairs.len(), spools, pool),
-    )
+    let mut stand = Stand::new(live, ends, pool, spools);
+    let told = telling.tell(alloc, story, &mut stand);
+    told_of_back(told, stand.end(alloc, QUOTA, story.pairs.len()))
 }
 
 /// The same with spools of which one may fail.
