@@ -3,11 +3,6 @@ use Rattle.std.specs.Prelude.{◌≡◌, ◌-◌, nat_eq, if◌then◌else◌}
 use Rattle.faulty_spool.specs.declared.coming.Coming.{Coming}
 use Rattle.faulty_spool.specs.declared.coming.Coming.TheVariants.{Nothing, FullBehind, MemoryBehind}
 
--- the spool inside, and the fault
-pub record FaultyValue (S : Type 0) : Type 0 where
-  pub spool : S
-  pub coming : Coming
-
 -- no push is left before the fault
 abbrev pub IsFullNow : Coming → Type 0
 IsFullNow coming = coming ≡ FullBehind 0

@@ -5,14 +5,13 @@ use crate::Coming;
 use keybytes::{Fault, Key, Pair, Rid};
 use run_spool::Spool;
 use spool_ledger::Account;
-use std::marker::Model;
 
 /// A spool with a fault to come. Its runs, its pages and its account are those of the spool inside.
 ///
 /// Whether it is full is told by its value alone: it is, for each pair, where no push is left before its fault, and else where the spool inside is.
 pub struct FaultySpool<S: Spool> {
-    spool: S,
-    coming: Coming,
+    pub spool: S,
+    pub coming: Coming,
 }
 
 impl<S: Spool> Drop for FaultySpool<S> {
@@ -24,18 +23,11 @@ impl<S: Spool> Drop for FaultySpool<S> {
     }
 }
 
-impl<S: Spool> Model for FaultySpool<S> {
-    ghost use Rattle.faulty_spool.specs.Faulty.{FaultyValue};
-
-    ghost Value = { FaultyValue S };
-
-    ghost view = { λ faulty. record { spool = faulty.spool; coming = faulty.coming } };
-}
-
 impl<S: Spool> FaultySpool<S> {
     /// That spool with that fault to come.
     pub fn new(spool: S, coming: Coming) -> FaultySpool<S>
-        ensures { result ≡ record { spool = spool; coming = coming } }
+        ensures spool { result.spool ≡ spool }
+        ensures coming { result.coming ≡ coming }
     {
         FaultySpool { spool, coming }
     }
@@ -50,7 +42,8 @@ impl<S: Spool> FaultySpool<S> {
 
     /// The spool inside took a pair.
     fn note_push(&mut self)
-        ensures { self.new ≡ record self.old { coming = after_push self.old.coming } }
+        ensures spool { self.new.spool ≡ self.old.spool }
+        ensures counted { self.new.coming ≡ after_push self.old.coming }
     {
         if let Coming::FullBehind(pushes) = self.coming {
             self.coming = Coming::FullBehind(pushes.saturating_sub(1));
@@ -59,7 +52,8 @@ impl<S: Spool> FaultySpool<S> {
 
     /// A read is asked for. Says whether it is the one that is refused.
     fn note_read(&mut self) -> bool
-        ensures counted { self.new ≡ record self.old { coming = after_read self.old.coming } }
+        ensures spool { self.new.spool ≡ self.old.spool }
+        ensures counted { self.new.coming ≡ after_read self.old.coming }
         ensures refused { IsTrue result ↔ IsRefused self.old.coming }
     {
         match self.coming {
