@@ -57,8 +57,8 @@ const SCANNED: Seen = Seen {
     tries: 0,
 };
 
-/// What a build has to come to where that place is met: the worker whose push is refused closes no run, the other one does, and all pages are copied; where a read is
-/// refused, the other index is loaded.
+/// What a build has to come to where that place is met: the worker whose push is refused closes no run, the other one does, and all pages are
+/// copied; where a read is refused, the other index is loaded.
 fn wanted(built: Built, place: Place) -> Came {
     let indexes = built.indexes.len().max(1);
     let (worker, index) = (place.spool / indexes, place.spool % indexes);
