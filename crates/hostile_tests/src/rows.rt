@@ -1,6 +1,6 @@
 //! The columns and rows of the tables that the tests begin with.
 
-use keybytes::{Cell, Fault, KeySpec, Kind, Row, Schema};
+use keybytes::{Cell, Fault, KeyCol, KeySpec, Kind, Row, Schema};
 use std::alloc::Global;
 
 /// What a row has in its columns, of which a table has one or two.
@@ -37,13 +37,13 @@ pub fn row(alloc: Global, columns: usize, numbers: Numbers) -> Result<Row, Fault
 }
 
 /// The specification of an index.
-pub fn spec(alloc: Global, columns: usize, on: On) -> Result<KeySpec, Fault> {
-    KeySpec::new(
-        alloc,
-        &schema(alloc, columns)?,
-        vec![in alloc; on.column]?,
-        on.is_unique,
-    )
+pub fn spec(alloc: Global, width: usize, on: On) -> Result<KeySpec, Fault> {
+    let column = KeyCol {
+        column: on.column,
+        descending: false,
+    };
+    let columns = vec![in alloc; column]?;
+    KeySpec::new(alloc, &schema(alloc, width)?, columns, on.is_unique)
 }
 
 fn add_specs(
