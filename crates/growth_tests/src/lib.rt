@@ -1,0 +1,27 @@
+//! Tests of what is left where memory runs out: each allocation of a story is refused in turn.
+//!
+//! A story is a list of calls on a table and its build, each with its answer. Where a call is refused for want of memory all is compared
+//! with what was there before, and the call is made again; where that spoils a build it is given up. The gate tells the stories with ample
+//! memory; `tools/refuse-each` refuses their allocations, one in each run.
+#![tactic(auto)]
+
+#[cfg(test)]
+mod asks;
+#[cfg(test)]
+mod calls;
+#[cfg(test)]
+mod course;
+#[cfg(test)]
+mod entries;
+#[cfg(test)]
+mod refused;
+#[cfg(test)]
+mod seen;
+#[cfg(test)]
+mod stand;
+#[cfg(test)]
+mod stories;
+#[cfg(test)]
+mod sums;
+#[cfg(test)]
+mod telling;
