@@ -130,7 +130,7 @@ pub fn event(alloc: Global, ask: Ask) -> Result<Event, Fault> {
 }
 
 /// How many indexes are ready, if they are numbered from 0; else more than a build has.
-fn ready_in(verdicts: &[Outcome]) -> usize {
+pub fn ready_in(verdicts: &[Outcome]) -> usize {
     for number in 0..verdicts.len() {
         if !matches!(&verdicts[number], Outcome::Ready(ready) if *ready == number) {
             return usize::MAX;

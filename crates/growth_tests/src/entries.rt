@@ -4,17 +4,21 @@ use btree::Tree;
 use builder_core::{Entry, Op, Pair};
 use keybytes::{Key, Rid};
 
-/// Whether the key is that of a number: a byte that tells a number from none, and its eight bytes from the greatest on, with the least number
-/// at 0.
-pub fn is_key_of(key: &Key, number: i64) -> bool {
-    let Some((first, rest)) = key.bytes().split_first() else {
-        return false;
-    };
+/// The number whose key that is: a byte that tells a number from none, and its eight bytes from the greatest on, with the least number at 0.
+pub fn number_of(key: &Key) -> Option<i64> {
+    let (first, rest) = key.bytes().split_first()?;
     let mut sum: u64 = 0;
     for byte in rest {
         sum = sum.wrapping_mul(256).wrapping_add(*byte as u64);
     }
-    *first == 1 && rest.len() == 8 && sum == (number as u64).wrapping_add(1 << 63)
+    if *first != 1 || rest.len() != 8 {
+        return None;
+    }
+    Some(sum.wrapping_sub(1 << 63) as i64)
+}
+
+fn is_key_of(key: &Key, number: i64) -> bool {
+    number_of(key) == Some(number)
 }
 
 fn is_entry(entry: &Entry, told: &(Op, i64, Rid)) -> bool {

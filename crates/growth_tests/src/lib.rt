@@ -8,6 +8,8 @@
 #[cfg(test)]
 mod asks;
 #[cfg(test)]
+mod building;
+#[cfg(test)]
 mod calls;
 #[cfg(test)]
 mod course;
@@ -25,3 +27,5 @@ mod stories;
 mod sums;
 #[cfg(test)]
 mod telling;
+#[cfg(test)]
+mod writing;

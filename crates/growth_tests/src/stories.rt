@@ -2,7 +2,7 @@
 
 use crate::asks::{Answer, Ask, Index};
 use crate::calls::Call;
-use crate::telling::{Story, Told, other_where_memory_may_run_out, told};
+use crate::telling::{Story, Told, other_where_short, told};
 use builder_core::Op;
 use keybytes::{Fault, Rid};
 use std::alloc::Global;
@@ -274,65 +274,41 @@ fn are_told_as_they_should_be(rt: HostRuntime) {
 // Each of those below is run by itself, with each of its allocations refused in turn.
 
 #[test]
-fn inserted_ahead(rt: HostRuntime) {
-    assert_eq!(rt;
-        other_where_memory_may_run_out(rt.alloc(), &INSERTED_AHEAD),
-        None
-    );
+fn inserted_ahead_where_memory_may_run_out(rt: HostRuntime) {
+    assert_eq!(rt; other_where_short(rt.alloc(), &INSERTED_AHEAD), None);
 }
 
 #[test]
-fn shared_for_a_while(rt: HostRuntime) {
-    assert_eq!(rt;
-        other_where_memory_may_run_out(rt.alloc(), &SHARED_FOR_A_WHILE),
-        None
-    );
+fn shared_for_a_while_where_memory_may_run_out(rt: HostRuntime) {
+    assert_eq!(rt; other_where_short(rt.alloc(), &SHARED_FOR_A_WHILE), None);
 }
 
 #[test]
-fn many_left(rt: HostRuntime) {
-    assert_eq!(rt;
-        other_where_memory_may_run_out(rt.alloc(), &MANY_LEFT),
-        None
-    );
+fn many_left_where_memory_may_run_out(rt: HostRuntime) {
+    assert_eq!(rt; other_where_short(rt.alloc(), &MANY_LEFT), None);
 }
 
 #[test]
-fn undone_after(rt: HostRuntime) {
-    assert_eq!(rt;
-        other_where_memory_may_run_out(rt.alloc(), &UNDONE_AFTER),
-        None
-    );
+fn undone_after_where_memory_may_run_out(rt: HostRuntime) {
+    assert_eq!(rt; other_where_short(rt.alloc(), &UNDONE_AFTER), None);
 }
 
 #[test]
-fn two_indexes(rt: HostRuntime) {
-    assert_eq!(rt;
-        other_where_memory_may_run_out(rt.alloc(), &TWO_INDEXES),
-        None
-    );
+fn two_indexes_where_memory_may_run_out(rt: HostRuntime) {
+    assert_eq!(rt; other_where_short(rt.alloc(), &TWO_INDEXES), None);
 }
 
 #[test]
-fn three_writes_back(rt: HostRuntime) {
-    assert_eq!(rt;
-        other_where_memory_may_run_out(rt.alloc(), &THREE_WRITES_BACK),
-        None
-    );
+fn three_writes_back_where_memory_may_run_out(rt: HostRuntime) {
+    assert_eq!(rt; other_where_short(rt.alloc(), &THREE_WRITES_BACK), None);
 }
 
 #[test]
-fn ring_full(rt: HostRuntime) {
-    assert_eq!(rt;
-        other_where_memory_may_run_out(rt.alloc(), &RING_FULL),
-        None
-    );
+fn ring_full_where_memory_may_run_out(rt: HostRuntime) {
+    assert_eq!(rt; other_where_short(rt.alloc(), &RING_FULL), None);
 }
 
 #[test]
-fn grows_behind(rt: HostRuntime) {
-    assert_eq!(rt;
-        other_where_memory_may_run_out(rt.alloc(), &GROWS_BEHIND),
-        None
-    );
+fn grows_behind_where_memory_may_run_out(rt: HostRuntime) {
+    assert_eq!(rt; other_where_short(rt.alloc(), &GROWS_BEHIND), None);
 }

@@ -70,7 +70,7 @@ pub fn told(alloc: Global, story: &Story) -> Told {
 }
 
 /// The same where memory may run out once: a story that wasn't begun is told again.
-pub fn other_where_memory_may_run_out(alloc: Global, story: &Story) -> Option<usize> {
+pub fn other_where_short(alloc: Global, story: &Story) -> Option<usize> {
     let once = match told(alloc, story) {
         Err(_) => told(alloc, story),
         once => once,
