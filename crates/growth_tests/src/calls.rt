@@ -3,8 +3,8 @@
 use crate::asks::{Answer, Ask, Index};
 use crate::course::Course;
 use crate::entries::{are_entries, has_pairs, has_told};
-use crate::refused::{Went, answer, goes_on, look_at_sides, on_if};
-use crate::seen::look;
+use crate::refused::{Sides, Went, answer, goes_on, look_at_sides, on_if};
+use crate::seen::{Seen, look};
 use crate::stand::Stand;
 use builder_core::{Core, Op, Pair, Table};
 use keybytes::{Fault, Rid};
@@ -29,6 +29,24 @@ pub enum Call {
     Follows(usize, Index, usize),
 }
 
+/// An event, and what is left where it wants memory. The entries of the side-files are told for those that may hand some on.
+fn stepped<T: Table>(
+    stand: &mut Stand<T>,
+    course: &mut Course,
+    alloc: Global,
+    asked: (Ask, Answer),
+    before: (&Seen, Option<&Sides>),
+) -> Result<Went, Fault> {
+    let ask = course.ask(asked.0);
+    match answer(stand, alloc, ask)? {
+        Answer::Refused(Fault::Memory) => Ok(goes_on(stand, course, alloc, asked, before)),
+        told => {
+            course.note(ask, told);
+            Ok(on_if(told == course.answer(asked.0, asked.1)))
+        }
+    }
+}
+
 fn event_goes<T: Table>(
     stand: &mut Stand<T>,
     course: &mut Course,
@@ -36,17 +54,11 @@ fn event_goes<T: Table>(
     asked: (Ask, Answer),
 ) -> Result<Went, Fault> {
     let before = look(stand, alloc)?;
-    let entries = look_at_sides(stand, alloc)?;
-    let ask = course.ask(asked.0);
-    match answer(stand, alloc, ask)? {
-        Answer::Refused(Fault::Memory) => {
-            Ok(goes_on(stand, course, alloc, asked, (&before, &entries)))
-        }
-        told => {
-            course.note(ask, told);
-            Ok(on_if(told == course.answer(asked.0, asked.1)))
-        }
+    if !matches!(asked.0, Ask::Apply(..) | Ask::Switch) {
+        return stepped(stand, course, alloc, asked, (&before, None));
     }
+    let entries = look_at_sides(stand, alloc)?;
+    stepped(stand, course, alloc, asked, (&before, Some(&entries)))
 }
 
 /// One event.

@@ -2,9 +2,20 @@
 //!
 //! A story is a list of calls on a table and its build, each with its answer. Where a call is refused for want of memory all is compared
 //! with what was there before, and the call is made again; where that spoils a build it is given up. The gate tells the stories with ample
-//! memory; `tools/refuse-each` refuses their allocations, one in each run.
+//! memory; `tools/refuse-each` refuses their allocations, one in each run. A further test calls what may be refused for want of memory, crate by crate, and
+//! finds that nothing is while there is enough.
 #![tactic(auto)]
 
+#[cfg(test)]
+mod ample;
+#[cfg(test)]
+mod ample_builds;
+#[cfg(test)]
+mod ample_heaps;
+#[cfg(test)]
+mod ample_indexes;
+#[cfg(test)]
+mod ample_rows;
 #[cfg(test)]
 mod asks;
 #[cfg(test)]

@@ -138,10 +138,10 @@ fn half_done<T: Table>(
     course: &mut Course,
     alloc: Global,
     asked: (Ask, Answer),
-    before: (&Seen, &Sides),
+    before: (&Seen, Option<&Sides>),
 ) -> Went {
-    let is_like = match (look(stand, alloc), look_at_sides(stand, alloc)) {
-        (Ok(now), Ok(left)) => now.is_like(before.0) && left.end(before.1),
+    let is_like = match (look(stand, alloc), look_at_sides(stand, alloc), before.1) {
+        (Ok(now), Ok(left), Some(entries)) => now.is_like(before.0) && left.end(entries),
         _ => false,
     };
     if !is_like || !is_fenced_so(stand, course, alloc) {
@@ -160,7 +160,7 @@ pub fn goes_on<T: Table>(
     course: &mut Course,
     alloc: Global,
     asked: (Ask, Answer),
-    before: (&Seen, &Sides),
+    before: (&Seen, Option<&Sides>),
 ) -> Went {
     course.refusals = course.refusals.saturating_add(1);
     if course.refusals > 1 {
