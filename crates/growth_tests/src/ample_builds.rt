@@ -60,7 +60,8 @@ fn table_of<T: Table>(alloc: Global, parts: Parts, spec: &KeySpec) -> Result<(),
 
 pub fn tables(alloc: Global) -> Result<(), Fault> {
     let spec = spec(alloc, INDEX)?;
-    table_of::<Brand>(alloc, parts(alloc)?, &spec)
+    let parts = parts(alloc)?;
+    table_of::<Brand>(alloc, parts, &spec)
 }
 
 fn plan(alloc: Global) -> Result<Plan, Fault> {
@@ -150,7 +151,8 @@ fn build_on<S: Spool, T: Table>(
 pub fn build(alloc: Global) -> Result<(), Fault> {
     let (_leases, spools) = Leases::new(alloc, SpoolChoice::Plain, 1, 4)?;
     let plan = plan(alloc)?;
-    build_on::<_, Brand>(alloc, parts(alloc)?, spools, &plan)
+    let parts = parts(alloc)?;
+    build_on::<_, Brand>(alloc, parts, spools, &plan)
 }
 
 fn run<T: Table>(alloc: Global, parts: Parts, events: &[Event]) -> Result<(), Fault>
@@ -176,5 +178,6 @@ fn run_on<T: Table>(alloc: Global, parts: Parts) -> Result<(), Fault>
 }
 
 pub fn events(alloc: Global) -> Result<(), Fault> {
-    run_on::<Brand>(alloc, parts(alloc)?)
+    let parts = parts(alloc)?;
+    run_on::<Brand>(alloc, parts)
 }

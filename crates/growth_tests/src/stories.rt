@@ -2,7 +2,7 @@
 
 use crate::asks::{Answer, Ask, Index};
 use crate::calls::Call;
-use crate::telling::{Story, Told, other_where_short, told};
+use crate::telling::{Story, Told, other_where_short, tell};
 use builder_core::Op;
 use keybytes::{Fault, Rid};
 use std::alloc::Global;
@@ -257,7 +257,7 @@ fn first_other(alloc: Global) -> Option<(&'static str, Told)> {
         &GROWS_BEHIND,
     ];
     for story in all {
-        let went = told(alloc, story);
+        let went = tell(alloc, story);
         if went != Ok((None, 0)) {
             return Some((story.name, went));
         }

@@ -65,14 +65,14 @@ fn told_beside(alloc: Global, parts: Parts, story: &Story) -> Told {
 }
 
 /// Tells a story. Where the table or its spools can't be made for want of memory, it isn't begun.
-pub fn told(alloc: Global, story: &Story) -> Told {
+pub fn tell(alloc: Global, story: &Story) -> Told {
     told_beside(alloc, table(alloc, story.slots)?, story)
 }
 
 /// The same where memory may run out once: a story that wasn't begun is told again.
 pub fn other_where_short(alloc: Global, story: &Story) -> Option<usize> {
-    let once = match told(alloc, story) {
-        Err(_) => told(alloc, story),
+    let once = match tell(alloc, story) {
+        Err(_) => tell(alloc, story),
         once => once,
     };
     match once {

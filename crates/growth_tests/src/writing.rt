@@ -68,7 +68,7 @@ fn undo<T: Opened, R: Wait>(
     Ok(left)
 }
 
-fn deed_once<T: Opened, R: Wait>(
+fn do_deed_once<T: Opened, R: Wait>(
     rt: &R,
     alloc: Global,
     session: &mut Session<'_, T>,
@@ -93,7 +93,7 @@ fn deed_once<T: Opened, R: Wait>(
 }
 
 /// The same; what is refused for want of memory has changed nothing, and is asked for once more.
-fn deed<T: Opened, R: Wait>(
+fn do_deed<T: Opened, R: Wait>(
     rt: &R,
     alloc: Global,
     session: &mut Session<'_, T>,
@@ -101,8 +101,8 @@ fn deed<T: Opened, R: Wait>(
     txn: u64,
     deed: Deed,
 ) -> Result<usize, Fault> {
-    match deed_once(rt, alloc, session, receipts, txn, deed) {
-        Err(Fault::Memory) => deed_once(rt, alloc, session, receipts, txn, deed),
+    match do_deed_once(rt, alloc, session, receipts, txn, deed) {
+        Err(Fault::Memory) => do_deed_once(rt, alloc, session, receipts, txn, deed),
         told => told,
     }
 }
@@ -115,9 +115,9 @@ fn take_back<T: Opened, R: Wait>(
     receipts: &mut Receipts<T>,
     txn: u64,
 ) -> Result<bool, Fault> {
-    let left = deed(rt, alloc, session, receipts, txn, Deed::Undo)?;
-    let between = deed(rt, alloc, session, receipts, txn, Deed::Insert);
-    let last = deed(rt, alloc, session, receipts, txn, Deed::Undo)?;
+    let left = do_deed(rt, alloc, session, receipts, txn, Deed::Undo)?;
+    let between = do_deed(rt, alloc, session, receipts, txn, Deed::Insert);
+    let last = do_deed(rt, alloc, session, receipts, txn, Deed::Undo)?;
     Ok(left == 1 && last == 0 && between == Err(Fault::TxnEnding))
 }
 
@@ -130,14 +130,14 @@ pub fn turn<T: Opened, R: Wait>(
     turn: u64,
 ) -> Result<bool, Fault> {
     let txn = begin(rt, session)?;
-    deed(rt, alloc, session, receipts, txn, Deed::Insert)?;
-    deed(rt, alloc, session, receipts, txn, Deed::Update)?;
+    do_deed(rt, alloc, session, receipts, txn, Deed::Insert)?;
+    do_deed(rt, alloc, session, receipts, txn, Deed::Update)?;
     let is_next = txn == turn.saturating_add(2);
     if txn % 2 == 1 {
         let is_back = take_back(rt, alloc, session, receipts, txn)?;
         return Ok(is_next && is_back);
     }
-    deed(rt, alloc, session, receipts, txn, Deed::Commit)?;
+    do_deed(rt, alloc, session, receipts, txn, Deed::Commit)?;
     Ok(is_next)
 }
 
