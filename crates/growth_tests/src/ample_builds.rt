@@ -18,6 +18,11 @@ const INDEX: Index = Index {
     unique: true,
 };
 
+const OTHER: Index = Index {
+    column: 1,
+    unique: false,
+};
+
 fn parts(alloc: Global) -> Result<Parts, Fault> {
     match Parts::new(alloc, Heap::new(alloc, schema(alloc)?, 2, 100)?) {
         Ok(parts) => Ok(parts),
@@ -66,7 +71,7 @@ pub fn tables(alloc: Global) -> Result<(), Fault> {
 
 fn plan(alloc: Global) -> Result<Plan, Fault> {
     Ok(Plan {
-        specs: vec![in alloc; spec(alloc, INDEX)?]?,
+        specs: vec![in alloc; spec(alloc, INDEX)?, spec(alloc, OTHER)?]?,
         workers: 1,
         dealing: Dealing::Even(1),
         tries: 1,
@@ -102,6 +107,7 @@ fn scan<S: Spool, T: Table>(core: &mut Core<S, T>, pages: u32) -> Result<(), Fau
     }
     core.seal(0)?;
     core.load(0)?;
+    core.load(1)?;
     Ok(())
 }
 
@@ -113,7 +119,7 @@ fn pairs<S: Spool, T: Table>(core: &mut Core<S, T>, spec: &KeySpec) -> Result<()
     Ok(())
 }
 
-/// A whole build, beside which rows come and change, and go on to do so behind it.
+/// A whole build over a plain spool and a prefix spool, beside which rows come and change, and go on to do so behind it.
 fn built<S: Spool, T: Table>(
     alloc: Global,
     core: &mut Core<S, T>,
@@ -149,7 +155,7 @@ fn build_on<S: Spool, T: Table>(
 }
 
 pub fn build(alloc: Global) -> Result<(), Fault> {
-    let (_leases, spools) = Leases::new(alloc, SpoolChoice::Plain, 1, 4)?;
+    let (_leases, spools) = Leases::new(alloc, SpoolChoice::Mixed, 2, 4)?;
     let plan = plan(alloc)?;
     let parts = parts(alloc)?;
     build_on::<_, Brand>(alloc, parts, spools, &plan)

@@ -1,6 +1,4 @@
 //! Tables: changes at once and made ready before, reads, and copies of pages.
-ghost use Rattle.std.specs.Prelude.{IfOk};
-ghost use Rattle.heap_table.specs.Ready.{IsReady};
 
 use crate::asks::{Index, row, schema, spec};
 use heap_table::{Heap, PageImage, Ready};

@@ -1,7 +1,4 @@
 //! Nodes, trees, tallies, entries that are applied, and guards.
-ghost use Rattle.std.specs.Prelude.{◌≡◌};
-ghost use Rattle.keybytes.specs.Pairs.{set_of};
-ghost use Rattle.unique_verdict.specs.Shared.{shared_of};
 
 use crate::ample_rows::long_key;
 use btree::Tree;
@@ -58,23 +55,19 @@ pub fn trees(alloc: Global) -> Result<(), Fault> {
     read(&tree, &long_key(alloc)?)
 }
 
-/// Keeps a tally of a tree through a change.
-fn keep(tree: &mut Tree, tally: &mut Tally, key: Key) -> Result<(), Fault>
-    requires { tally.old ≡ shared_of (set_of tree.old.pairs) }
-{
-    tree.make_room(&key)?;
-    tally.added(tree, &key, at(COUNT))?;
-    tree.insert(key.clone()?, at(COUNT));
-    tally.removed(tree, &key, at(COUNT))?;
+/// A tally of a tree that is told of a pair that comes, and one that is told of a pair that goes.
+fn tell(alloc: Global, tree: &Tree, key: &Key) -> Result<(), Fault> {
+    let mut tally = Tally::of(alloc, tree)?;
+    tally.added(tree, key, at(COUNT))?;
     tally.verdict()?;
-    Ok(())
+    let mut tally = Tally::of(alloc, tree)?;
+    tally.removed(tree, key, at(0))
 }
 
 pub fn tallies(alloc: Global) -> Result<(), Fault> {
     let mut tree = Tree::new(alloc);
     fill(alloc, &mut tree)?;
-    let mut tally = Tally::of(alloc, &tree)?;
-    keep(&mut tree, &mut tally, long_key(alloc)?)
+    tell(alloc, &tree, &long_key(alloc)?)
 }
 
 fn append(alloc: Global, side: &mut SideFile) -> Result<(), Fault> {

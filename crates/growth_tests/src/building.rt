@@ -86,7 +86,10 @@ fn insert_rows(heap: &mut Heap) -> Result<(), Fault> {
     let txn = heap.begin()?;
     for number in 0..ROWS {
         let number = number as i64;
-        heap.insert(txn, row(heap.allocator(), number, 1000 + number)?)?;
+        heap.insert(
+            txn,
+            row(heap.allocator(), number, number.saturating_add(1000))?,
+        )?;
     }
     heap.commit(txn)?;
     Ok(())
@@ -156,8 +159,8 @@ fn built<T: Opened + Send + Sync, R: Threads + Wait + Sync>(
 }
 
 /// How many transactions the session has committed before the record of that number.
-fn committed<T: Opened>(receipts: &[crew::Receipt<T>], switch: usize) -> i64 {
-    let mut count: i64 = 0;
+fn committed<T: Opened>(receipts: &[crew::Receipt<T>], switch: usize) -> u32 {
+    let mut count: u32 = 0;
     for receipt in receipts {
         if receipt.number() < switch && matches!(receipt.rec(), LogRec::Commit { .. }) {
             count = count.saturating_add(1);
@@ -166,21 +169,26 @@ fn committed<T: Opened>(receipts: &[crew::Receipt<T>], switch: usize) -> i64 {
     count
 }
 
-/// Whether that number is a row's once so many transactions were committed, each second one of the session's: the first of them changed the row 0, and
-/// so on, and each put a row in.
-fn is_row(number: i64, commits: i64) -> bool {
-    let last = commits.saturating_sub(1).saturating_mul(2);
+/// How many rows there are once so many transactions were committed, each of which put one in.
+fn rows_after(commits: u32) -> usize {
+    (commits as usize).saturating_add(ROWS as usize)
+}
+
+/// Whether that number is a row's once so many transactions were committed, those with the numbers 2, 4 and so on: each put a row in whose number is 100 more,
+/// and made the row 0 one whose number is 200 more.
+fn is_row(number: i64, commits: u32) -> bool {
+    let last = (commits as i64).saturating_mul(2);
     match number {
         0 => commits == 0,
         1..=6 => true,
-        100..=199 => number % 2 == 0 && number.saturating_sub(100) <= last,
-        200..=299 => commits > 0 && number.saturating_sub(200) == last,
+        101..=199 => number % 2 == 0 && number.saturating_sub(100) <= last,
+        201..=299 => number.saturating_sub(200) == last,
         _ => false,
     }
 }
 
 /// Whether the pairs are those of the rows then, of a column whose numbers are by so much greater: each is one of theirs, they are in order, and as many.
-fn are_then(pairs: &[Pair], more: i64, commits: i64) -> bool {
+fn are_then(pairs: &[Pair], more: i64, commits: u32) -> bool {
     let mut before: i64 = -1;
     for pair in pairs {
         let Some(number) = number_of(&pair.key) else {
@@ -191,11 +199,11 @@ fn are_then(pairs: &[Pair], more: i64, commits: i64) -> bool {
         }
         before = number;
     }
-    pairs.len() as i64 == commits.saturating_add(ROWS as i64)
+    pairs.len() == rows_after(commits)
 }
 
 /// Whether a report's pairs are those at its switch. Where no memory was left for them, there are none.
-fn are_reported(pairs: &Option<Vec<Vec<Pair>>>, commits: i64) -> bool {
+fn are_reported(pairs: &Option<Vec<Vec<Pair>>>, commits: u32) -> bool {
     match pairs {
         None => true,
         Some(pairs) => match pairs.as_slice() {
@@ -225,12 +233,12 @@ fn follow_once<T: Opened>(
     alloc: Global,
     live: &mut Live<T>,
     ready: usize,
-    rows: i64,
+    rows: usize,
 ) -> Result<bool, Fault> {
     for number in 0..INDEXES.len() {
         let rest = rest_of(alloc, live, INDEXES[number])?;
         let has = number >= ready || has_rest(live, number, &rest);
-        if !has || rest.len() as i64 != rows {
+        if !has || rest.len() != rows {
             return Ok(false);
         }
     }
@@ -238,7 +246,7 @@ fn follow_once<T: Opened>(
 }
 
 /// The same; what is refused for want of memory is looked at once more.
-fn follow<T: Opened>(alloc: Global, live: &mut Live<T>, ready: usize, rows: i64) -> bool {
+fn follow<T: Opened>(alloc: Global, live: &mut Live<T>, ready: usize, rows: usize) -> bool {
     match follow_once(alloc, live, ready, rows) {
         Err(_) => follow_once(alloc, live, ready, rows) == Ok(true),
         told => told == Ok(true),
@@ -265,8 +273,7 @@ fn closed<T: Opened>(
 ) -> Told {
     let commits = committed(&receipts, usize::MAX);
     let mut closed = table.close(receipts);
-    let rows = commits.saturating_add(ROWS as i64);
-    let follow = follow(alloc, &mut closed.live, ready, rows);
+    let follow = follow(alloc, &mut closed.live, ready, rows_after(commits));
     let wrongs = [
         (closed.missing != 0, Wrong::Receipts),
         (closed.live.specs().is_some(), Wrong::Left),
@@ -276,7 +283,7 @@ fn closed<T: Opened>(
 }
 
 /// What a report tells that isn't so.
-fn reported(verdicts: &[Outcome], pairs: &Option<Vec<Vec<Pair>>>, commits: i64) -> Told {
+fn reported(verdicts: &[Outcome], pairs: &Option<Vec<Vec<Pair>>>, commits: u32) -> Told {
     let wrongs = [
         (
             verdicts.len() != 2 || ready_in(verdicts) != 2,

@@ -4,17 +4,18 @@ use btree::Tree;
 use builder_core::{Entry, Op, Pair};
 use keybytes::{Key, Rid};
 
-/// The number whose key that is: a byte that tells a number from none, and its eight bytes from the greatest on, with the least number at 0.
+/// The number, not below 0, whose key that is: a byte that tells a number from none, and its eight bytes from the greatest on, with the least number at 0.
 pub fn number_of(key: &Key) -> Option<i64> {
     let (first, rest) = key.bytes().split_first()?;
     let mut sum: u64 = 0;
     for byte in rest {
         sum = sum.wrapping_mul(256).wrapping_add(*byte as u64);
     }
-    if *first != 1 || rest.len() != 8 {
+    let number = sum.wrapping_sub(1 << 63);
+    if *first != 1 || rest.len() != 8 || number >= 1 << 63 {
         return None;
     }
-    Some(sum.wrapping_sub(1 << 63) as i64)
+    Some(number as i64)
 }
 
 fn is_key_of(key: &Key, number: i64) -> bool {

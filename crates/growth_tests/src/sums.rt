@@ -24,17 +24,21 @@ impl Sum {
         self.add(rid.slot as u64);
     }
 
-    pub fn add_key(&mut self, key: &Key) {
-        for byte in key.bytes() {
+    fn add_bytes(&mut self, bytes: &[u8]) {
+        for byte in bytes {
             self.add(*byte as u64);
         }
+    }
+
+    pub fn add_key(&mut self, key: &Key) {
+        self.add_bytes(key.bytes());
     }
 
     /// The numbers of a row.
     pub fn add_cells(&mut self, cells: &[Cell]) {
         for cell in cells {
             match cell {
-                Cell::Int(number) => self.add(*number as u64),
+                Cell::Int(number) => self.add_bytes(&number.to_be_bytes()),
                 _ => self.add(u64::MAX),
             }
         }

@@ -60,7 +60,10 @@ fn told_on<T: Table>(
 }
 
 fn told_beside(alloc: Global, parts: Parts, story: &Story) -> Told {
-    let (leases, spools) = Leases::new(alloc, SpoolChoice::Plain, story.indexes.min(2), QUOTA)?;
+    if story.indexes > 8 {
+        return Err(Fault::BadCount);
+    }
+    let (leases, spools) = Leases::new(alloc, SpoolChoice::Plain, story.indexes, QUOTA)?;
     Ok(told_on::<Brand>(alloc, parts, leases, spools, story))
 }
 

@@ -76,14 +76,14 @@ fn do_deed_once<T: Opened, R: Wait>(
     txn: u64,
     deed: Deed,
 ) -> Result<usize, Fault> {
-    let turn = txn.saturating_sub(2).min(99) as i64;
+    let number = (txn % 64) as i64;
     match deed {
         Deed::Insert => {
-            let row = row(alloc, 100 + turn, 1100 + turn)?;
+            let row = row(alloc, 100 + number, 1100 + number)?;
             receipts.push(session.insert(rt, txn, row)?)?;
         }
         Deed::Update => {
-            let row = row(alloc, 200 + turn, 1200 + turn)?;
+            let row = row(alloc, 200 + number, 1200 + number)?;
             receipts.push(session.update(rt, txn, FIRST, row)?)?;
         }
         Deed::Commit => receipts.push(session.commit(rt, txn)?)?,
