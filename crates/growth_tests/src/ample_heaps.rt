@@ -2,7 +2,7 @@
 
 use crate::asks::{Index, row, schema, spec};
 use heap_table::{Heap, PageImage, Ready};
-use keybytes::{Fault, Rid};
+use keybytes::{Fault, Rid, Row};
 use live_table::at_rest;
 use run_maker::Maker;
 use std::alloc::Global;
@@ -86,15 +86,27 @@ pub fn ready_changes(alloc: Global) -> Result<(), Fault> {
     make_ready(alloc, &mut heap)
 }
 
+fn copied_to(heap: &mut Heap, page: u32, image: &mut PageImage) -> Result<Option<Row>, Fault> {
+    if page >= heap.pages() || image.slots() != 0 {
+        return Err(Fault::NoPage);
+    }
+    heap.copy_page(page, image);
+    let row = image.row(0, heap.schema())?;
+    Ok(row)
+}
+
 fn copy(alloc: Global, heap: &mut Heap) -> Result<(), Fault> {
     let mut image = PageImage::new(alloc)?;
+    copied_to(heap, 0, &mut image)?;
+    Maker::new(alloc, heap.schema().clone()?, vec![in alloc]?)?;
+    Ok(())
+}
+
+fn read_page(heap: &mut Heap) -> Result<(), Fault> {
     if heap.pages() == 0 {
         return Err(Fault::NoPage);
     }
     heap.page_rows(0)?;
-    heap.copy_page(0, &mut image);
-    image.row(0, heap.schema())?;
-    Maker::new(alloc, heap.schema().clone()?, vec![in alloc]?)?;
     Ok(())
 }
 
@@ -115,5 +127,6 @@ pub fn images(alloc: Global) -> Result<(), Fault> {
     let mut heap = table(alloc)?;
     change(alloc, &mut heap)?;
     copy(alloc, &mut heap)?;
+    read_page(&mut heap)?;
     rest(alloc, &mut heap)
 }
