@@ -13,7 +13,7 @@ fn table(alloc: Global) -> Result<Heap, Fault> {
     Heap::new(alloc, schema(alloc)?, 2, 32)
 }
 
-fn change(alloc: Global, heap: &mut Heap) -> Result<(), Fault> {
+fn write_all(alloc: Global, heap: &mut Heap) -> Result<(), Fault> {
     let txn = heap.begin()?;
     heap.insert(txn, row(alloc, 1, 2)?)?;
     heap.update(txn, FIRST, row(alloc, 2, 2)?)?;
@@ -31,7 +31,7 @@ fn change(alloc: Global, heap: &mut Heap) -> Result<(), Fault> {
 
 pub fn changes(alloc: Global) -> Result<(), Fault> {
     let mut heap = table(alloc)?;
-    change(alloc, &mut heap)
+    write_all(alloc, &mut heap)
 }
 
 #[derive(Clone, Copy)]
@@ -125,7 +125,7 @@ fn rest(alloc: Global, heap: &mut Heap) -> Result<(), Fault> {
 
 pub fn images(alloc: Global) -> Result<(), Fault> {
     let mut heap = table(alloc)?;
-    change(alloc, &mut heap)?;
+    write_all(alloc, &mut heap)?;
     copy(alloc, &mut heap)?;
     read_page(&mut heap)?;
     rest(alloc, &mut heap)
