@@ -2,12 +2,12 @@
 ghost use Rattle.std.specs.Prelude.{◌≡◌, map};
 ghost use Rattle.replay.specs.Leasing.{AreOf, stake_in};
 
-use crate::asks::{Index, ready_in, row, schema, spec};
-use crate::entries::{has_pairs, number_of};
+use crate::asks::{Index, row, schema, spec};
+use crate::entries::has_pairs;
+use crate::reported::{ROWS, Told, Wrong, committed, first_of, reported, rows_after};
 use crate::writing::{Receipts, TURNS, turn, written};
 use builder_core::{Dealing, Ends, Live, Pair, Parts, Plan};
 use crew::{BuildFault, Gate, Opened, Point, Report, Table, TableParts, build};
-use heap_log::{LogRec, Outcome};
 use heap_table::Heap;
 use keybytes::{Fault, KeySpec};
 use replay::Leases;
@@ -19,9 +19,6 @@ use std::marker::Brand;
 use std::sync::Wait;
 use std::thread;
 use std::thread::{Threads, join};
-
-/// How many rows the table has at first: 0, 1 and so on, each with 1,000 more in the second column.
-const ROWS: u32 = 7;
 
 /// The index on the first column is unique.
 const INDEXES: [Index; 2] = [
@@ -40,34 +37,19 @@ const WORKERS: usize = 2;
 /// How many spools a build of these has.
 const SPOOLS: usize = 4;
 
-/// What came of a build.
-#[derive(Clone, Copy, Debug, PartialEq)]
-pub enum Told {
-    Decided,
-    /// Want of memory ended it.
-    GivenUp,
-    /// Something was otherwise: which.
-    Otherwise(Wrong),
+/// Spools, and the pool that has the pages behind them.
+#[derive(Drop)]
+struct Leased {
+    leases: Leases,
+    spools: Vec<SpoolOfKind>,
+    ghost owed: { AreOf leases (map stake_in spools.items) },
 }
 
-/// What was otherwise.
-#[derive(Clone, Copy, Debug, PartialEq)]
-pub enum Wrong {
-    /// Another fault ended the build.
-    Fault,
-    /// A spool or a page isn't back.
-    Pages,
-    /// A call of the session.
-    Session,
-    /// Of the session's records one has no receipt, or a receipt no record.
-    Receipts,
-    Verdicts,
-    /// The pairs that the build tells.
-    Pairs,
-    /// The pairs of a ready index, or the rows.
-    Rows,
-    /// A build still runs, or has left an index.
-    Left,
+impl Leased {
+    fn new(alloc: Global) -> Result<Leased, Fault> {
+        let (leases, spools) = Leases::new(alloc, SpoolChoice::Plain, SPOOLS, 4)?;
+        Ok(Leased { leases, spools })
+    }
 }
 
 /// Lets others run, wherever the build is.
@@ -147,70 +129,13 @@ fn built<T: Opened + Send + Sync, R: Threads + Wait + Sync>(
     table: &Table<T>,
     ends: Ends<T>,
     plan: &Plan,
-    leases: Leases,
-    spools: Vec<SpoolOfKind>,
-) -> (Result<Report<T>, BuildFault>, bool)
-    requires { AreOf leases (map stake_in spools.items) }
-{
+    leased: Leased,
+) -> (Result<Report<T>, BuildFault>, bool) {
+    let Leased { leases, spools } = leased;
     let (_ends, spools, told) = build(rt, alloc, table, ends, plan, spools, &Patient);
     let are_back = are_back(&spools);
     let (_pool, missing) = leases.reclaim(spools);
     (told, are_back && missing == 0)
-}
-
-/// How many transactions the session has committed before the record of that number.
-fn committed<T: Opened>(receipts: &[crew::Receipt<T>], switch: usize) -> u32 {
-    let mut count: u32 = 0;
-    for receipt in receipts {
-        if receipt.number() < switch && matches!(receipt.rec(), LogRec::Commit { .. }) {
-            count = count.saturating_add(1);
-        }
-    }
-    count
-}
-
-/// How many rows there are once so many transactions were committed, each of which put one in.
-fn rows_after(commits: u32) -> usize {
-    (commits as usize).saturating_add(ROWS as usize)
-}
-
-/// Whether that number is a row's once so many transactions were committed, those with the numbers 2, 4 and so on: each put a row in whose number is 100 more,
-/// and made the row 0 one whose number is 200 more.
-fn is_row(number: i64, commits: u32) -> bool {
-    let last = (commits as i64).saturating_mul(2);
-    match number {
-        0 => commits == 0,
-        1..=6 => true,
-        101..=199 => number % 2 == 0 && number.saturating_sub(100) <= last,
-        201..=299 => number.saturating_sub(200) == last,
-        _ => false,
-    }
-}
-
-/// Whether the pairs are those of the rows then, of a column whose numbers are by so much greater: each is one of theirs, they are in order, and as many.
-fn are_then(pairs: &[Pair], more: i64, commits: u32) -> bool {
-    let mut before: i64 = -1;
-    for pair in pairs {
-        let Some(number) = number_of(&pair.key) else {
-            return false;
-        };
-        if number <= before || !is_row(number.saturating_sub(more), commits) {
-            return false;
-        }
-        before = number;
-    }
-    pairs.len() == rows_after(commits)
-}
-
-/// Whether a report's pairs are those at its switch. Where no memory was left for them, there are none.
-fn are_reported(pairs: &Option<Vec<Vec<Pair>>>, commits: u32) -> bool {
-    match pairs {
-        None => true,
-        Some(pairs) => match pairs.as_slice() {
-            [first, second] => are_then(first, 0, commits) && are_then(second, 1000, commits),
-            _ => false,
-        },
-    }
 }
 
 fn rest_of<T: Opened>(alloc: Global, live: &mut Live<T>, index: Index) -> Result<Vec<Pair>, Fault> {
@@ -253,16 +178,6 @@ fn follow<T: Opened>(alloc: Global, live: &mut Live<T>, ready: usize, rows: usiz
     }
 }
 
-/// The first that holds of what may be wrong.
-fn first_of(wrongs: &[(bool, Wrong)], else_told: Told) -> Told {
-    for (is_wrong, wrong) in wrongs {
-        if *is_wrong {
-            return Told::Otherwise(*wrong);
-        }
-    }
-    else_told
-}
-
 /// What came of the build, of which so many indexes were told ready: the table has all records, and the indexes follow it.
 fn closed<T: Opened>(
     alloc: Global,
@@ -280,18 +195,6 @@ fn closed<T: Opened>(
         (!follow, Wrong::Rows),
     ];
     first_of(&wrongs, told)
-}
-
-/// What a report tells that isn't so.
-fn reported(verdicts: &[Outcome], pairs: &Option<Vec<Vec<Pair>>>, commits: u32) -> Told {
-    let wrongs = [
-        (
-            verdicts.len() != 2 || ready_in(verdicts) != 2,
-            Wrong::Verdicts,
-        ),
-        (!are_reported(pairs, commits), Wrong::Pairs),
-    ];
-    first_of(&wrongs, Told::Decided)
 }
 
 /// What came of a build that decided.
@@ -333,21 +236,19 @@ fn side_by_side<T: Opened + Send + Sync, R: Threads + Wait + Sync>(
     alloc: Global,
     parts: TableParts,
     plan: &Plan,
-    leases: Leases,
-    spools: Vec<SpoolOfKind>,
+    leased: Leased,
 ) -> Told
     requires word { parts.word ≡ T.table }
     requires pages { parts.parts.pages ≡ T.pages }
     requires sides { parts.parts.sides ≡ T.sides }
     requires opening { parts.parts.heap.log ≡ T.opening }
-    requires leased { AreOf leases (map stake_in spools.items) }
 {
     let (table, ends) = parts.open::<T>();
     let session = table.session(rt);
     let ((mut receipts, beside), (told, are_back)) = join(
         rt,
         move || written(rt, alloc, session),
-        || built(rt, alloc, &table, ends, plan, leases, spools),
+        || built(rt, alloc, &table, ends, plan, leased),
     );
     let behind = turn(rt, alloc, &mut table.session(rt), &mut receipts, TURNS);
     let came = came_of(alloc, table, receipts, told);
@@ -364,8 +265,8 @@ fn outcome_with<R: Threads + Wait + Sync>(
     parts: TableParts,
     plan: &Plan,
 ) -> Result<Told, Fault> {
-    let (leases, spools) = Leases::new(alloc, SpoolChoice::Plain, SPOOLS, 4)?;
-    Ok(side_by_side::<Brand, R>(rt, alloc, parts, plan, leases, spools))
+    let leased = Leased::new(alloc)?;
+    Ok(side_by_side::<Brand, R>(rt, alloc, parts, plan, leased))
 }
 
 /// What came of it. Where the table or the plan can't be made for want of memory, it isn't begun.

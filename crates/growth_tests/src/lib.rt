@@ -29,6 +29,8 @@ mod entries;
 #[cfg(test)]
 mod refused;
 #[cfg(test)]
+mod reported;
+#[cfg(test)]
 mod seen;
 #[cfg(test)]
 mod stand;
