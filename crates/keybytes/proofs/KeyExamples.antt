@@ -30,6 +30,9 @@ down = record { column = 0; descending = true }
 two_columns : key_bytes (up ∷ up ∷ []) (Null ∷ Flag false ∷ []) ≡ 0 ∷ 1 ∷ 0 ∷ []
 two_columns = refl
 
+two_directions : key_bytes (down ∷ up ∷ []) (Null ∷ Flag false ∷ []) ≡ 0xFF ∷ 1 ∷ 0 ∷ []
+two_directions = refl
+
 flag_true : key_bytes (up ∷ []) (Flag true ∷ []) ≡ 1 ∷ 1 ∷ []
 flag_true = refl
 

@@ -6,13 +6,13 @@ use Rattle.std.proofs.lemmas.Bool.{and_parts, ltb-true, leb-true}
 use Rattle.std.proofs.lemmas.List.{get_or-map, length-map, take_more, drop_more, flat_map_more, get_or_read}
 use Rattle.std.proofs.lemmas.List.Folds.{length-flat_map-take}
 use Rattle.keybytes.specs.Cells.{IsCell}
-use Rattle.keybytes.specs.Keys.{KeySpecValue, are_there, are_key_columns, has_key_length, escaped_byte, text_key, cell_key, column_key, key_bytes, key_columns, key_of}
+use Rattle.keybytes.specs.Keys.{KeySpecValue, are_there, are_key_columns, has_key_length, escaped_byte, text_key, column_key, key_bytes, key_columns, key_of}
 use Rattle.keybytes.specs.declared.cell.Cell.{Cell}
 use Rattle.keybytes.specs.declared.cell.Cell.TheVariants.{Null}
 use Rattle.keybytes.specs.declared.key_col.KeyCol.{KeyCol}
 use Rattle.keybytes.specs.declared.kind.Kind.{Kind}
 use Rattle.keybytes.specs.declared.kind.Kind.TheVariants.{Int as IntKind}
-use Rattle.keybytes.proofs.KeyLaws.{there-part, picked-cells, length-column_key, length-key_bytes}
+use Rattle.keybytes.proofs.KeyLaws.{there-part, picked-cells, length-key_bytes}
 
 -- ---- a text
 
@@ -94,7 +94,7 @@ column-more row columns i d key cell written within there is_cell =
 
 pub column-room : (row : List Cell) (columns : List KeyCol) (i : ℕ) (d : KeyCol) (key : List ℕ) (cell : Cell)
     → key ≡ flat_map (part row) (take i columns) → i < length columns → (get_or columns i d).column < length row
-    → cell ≡ get_or row (get_or columns i d).column cell → length key + length (cell_key cell) ≤ length (flat_map (part row) columns)
+    → cell ≡ get_or row (get_or columns i d).column cell → length key + length (column_key (get_or columns i d).descending cell) ≤ length (flat_map (part row) columns)
 column-room row columns i d key cell written within there is_cell =
     let named = get_or columns i d in
     let same : cell ≡ slice_index_or row named.column Null = get_or_read row named.column cell there is_cell Null in
@@ -102,7 +102,6 @@ column-room row columns i d key cell written within there is_cell =
       arith,
       ap length written,
       ap (λ (x : Cell). length (column_key named.descending x)) same,
-      length-column_key named.descending cell,
       length-flat_map-take (part row) columns i d within,
     )
 

@@ -46,6 +46,9 @@ first_column = refl
 greatest_first : columns_cmp (down ∷ []) (Int (pos 9) ∷ []) (Int (pos 5) ∷ []) ≡ Less
 greatest_first = refl
 
+front_last : columns_cmp (down ∷ []) (Text (0x61 ∷ []) ∷ []) (Text (0x61 ∷ 0 ∷ []) ∷ []) ≡ Greater
+front_last = refl
+
 null_last : columns_cmp (down ∷ []) (Null ∷ []) (Int (negsuc 4) ∷ []) ≡ Greater
 null_last = refl
 

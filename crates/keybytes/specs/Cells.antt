@@ -69,7 +69,7 @@ abbrev pub directed : Bool → Ordering → Ordering
 directed false order = order
 directed true order = ordering_reverse order
 
--- the order of two rows' cells in the columns of a key: by the first column in which they differ, each in its own direction
+-- the order of two lists of cells, one for each column of a key: by the first that differs, in its column's direction; a list that ends first is less
 abbrev pub columns_cmp : List KeyCol → List Cell → List Cell → Ordering
 columns_cmp [] xs ys = Equal
 columns_cmp (column ∷ columns) [] [] = Equal

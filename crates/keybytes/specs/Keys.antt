@@ -63,7 +63,7 @@ cell_key (Int number) = 1 ∷ to_be_bytes w64 (raised_number number)
 cell_key (Text bytes) = 1 ∷ text_key bytes
 cell_key (Flag flag) = 1 ∷ (if flag then 1 else 0) ∷ []
 
--- a byte with each of its bits turned
+-- a byte with each of its bits flipped
 abbrev pub complement : ℕ → ℕ
 complement byte = 255 - byte
 
@@ -90,11 +90,11 @@ key_columns spec row = map (λ named. slice_index_or row named.column Null) spec
 abbrev pub key_of : KeySpecValue → List Cell → List ℕ
 key_of spec row = key_bytes spec.columns (key_columns spec row)
 
--- the columns fit the key's kinds, a row may hold each, and these are their bytes
-pub record HasKey (spec : KeySpecValue) (key : List ℕ) (columns : List Cell) : Type 0 where
-  pub fits_kinds : fits (key_kinds spec) columns ≡ true
-  pub each : All IsCell columns
-  pub bytes : key_bytes spec.columns columns ≡ key
+-- the cells fit the key's kinds, a row may hold each, and these are their bytes
+pub record HasKey (spec : KeySpecValue) (key : List ℕ) (cells : List Cell) : Type 0 where
+  pub fits_kinds : fits (key_kinds spec) cells ≡ true
+  pub each : All IsCell cells
+  pub bytes : key_bytes spec.columns cells ≡ key
 
 -- a row of the table that the key is about
 pub record IsRowOf (spec : KeySpecValue) (row : List Cell) : Type 0 where

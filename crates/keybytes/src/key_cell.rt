@@ -1,6 +1,6 @@
-//! The bytes of one column in a key: a tag, then what the column's kind says.
+//! The bytes of a cell in a key: a tag, then what its column's kind says.
 //!
-//! Null is the tag alone and comes first. A number stands with its sign bit turned, the highest byte first, so that
+//! Null is the tag alone and comes first where the column ascends. A number stands with its sign bit turned, the highest byte first, so that
 //! numbers compare as their bytes do. A text has no length in front, which would sort short texts first: it runs to an
 //! end mark instead, and since the mark's first byte is 0, each byte 0 of the text is followed by a byte above the
 //! mark's second one.

@@ -10,8 +10,8 @@ use crate::{Cell, Fault, Kind};
 use smallvec::SmallVec;
 use std::alloc::Global;
 
-/// Puts the column's bytes behind those of the key that are there, and takes memory only where they have no room; after an `Err` some
-/// of them stand there.
+/// Puts the column's bytes behind those of the key that are there, and takes memory only where they have no room. After an `Err` it is
+/// open what stands behind those that were there.
 pub fn add_column<const N: usize>(
     key: &mut SmallVec<u8, N>,
     descending: bool,
@@ -19,7 +19,7 @@ pub fn add_column<const N: usize>(
 ) -> Result<(), Fault>
     ensures ok { OnOk result (key.new.items ≡ key.old.items ++ column_key descending cell.now) }
     ensures memory { IfErr result (λ fault. fault ≡ Fault.Memory) }
-    ensures room { length key.old.items + length (cell_key cell.now) ≤ key.old.capacity → IsOk result }
+    ensures room { length key.old.items + length (column_key descending cell.now) ≤ key.old.capacity → IsOk result }
     ensures capacity { key.old.capacity ≤ key.new.capacity }
 {
     let front = key.len();

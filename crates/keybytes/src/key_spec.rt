@@ -46,7 +46,7 @@ impl Model for KeySpec {
 
 impl KeySpec {
     /// The specification of these columns of the schema, in that order. No columns, more than [`KEY_COLUMNS_MAX`], one
-    /// that is named twice or one that the schema lacks is [`Fault::BadColumn`].
+    /// that is named twice, in whichever directions, or one that the schema lacks is [`Fault::BadColumn`].
     pub fn new(
         alloc: Global,
         schema: &Schema,
@@ -92,7 +92,8 @@ impl KeySpec {
         self.kinds.as_slice() == schema.kinds()
     }
 
-    /// Whether it makes the same keys of tables of the same columns, and asks as much of them.
+    /// Whether both make keys of tables of the same columns, by the same columns in the same order and directions, and both are unique or
+    /// neither is.
     pub fn is_same(&self, other: &KeySpec) -> bool
         ensures { IsTrue result ↔ (self.now ≡ other.now) }
     {

@@ -83,12 +83,12 @@ abbrev pub SpellsNumbers : List ℕ → List ℕ → Type 0
 SpellsNumbers text numbers = AllZip SpellsNumber (slice_split (λ c. c == 59) text) numbers
 
 -- what stands behind the number of a key's column
-abbrev pub direction : Bool → List ℕ
-direction descending = if descending then codes "d" else []
+abbrev pub direction_mark : Bool → List ℕ
+direction_mark descending = if descending then codes "d" else []
 
 -- the text spells the column of a key: its number, and behind it a `d` where it descends
 abbrev pub SpellsColumn : List ℕ → KeyCol → Type 0
-SpellsColumn text named = (number : List ℕ) × (text ≡ number ++ direction named.descending) × SpellsNumber number named.column
+SpellsColumn text named = (digits : List ℕ) × (text ≡ digits ++ direction_mark named.descending) × SpellsNumber digits named.column
 
 -- the text spells the columns of a key, with `;` between them
 abbrev pub SpellsColumns : List ℕ → List KeyCol → Type 0

@@ -190,14 +190,14 @@ pub fn spec(alloc: Global, text: &str) -> Result<Spec, RecordError>
     ensures ok { IfOk result (λ spec. SpellsSpec text.now spec) }
     ensures refused { result ≡ Err RecordError.Misspelled → (spec : SpecValue) → SpellsSpec text.now spec → ⊥ }
 {
-    let (unique, numbers) = match text.split_once(':') {
-        Some(("n", numbers)) => (false, numbers),
-        Some(("u", numbers)) => (true, numbers),
+    let (unique, columns_text) = match text.split_once(':') {
+        Some(("n", columns_text)) => (false, columns_text),
+        Some(("u", columns_text)) => (true, columns_text),
         _ => return Err(RecordError::Misspelled),
     };
     Ok(Spec {
         unique,
-        columns: columns(alloc, numbers)?,
+        columns: columns(alloc, columns_text)?,
     })
 }
 
