@@ -1,5 +1,5 @@
 //! What is made for the core: a table to measure on, and the spools and the plan of a build.
-ghost use Rattle.std.specs.Prelude.{◌≡◌, ◌<◌, ◌∷◌, [], ◌%◌, length, IfOk};
+ghost use Rattle.std.specs.Prelude.{◌≡◌, ◌<◌, ◌∷◌, [], ◌%◌, false, length, IfOk};
 
 use crate::column::Column;
 use crate::counted_spool::CountedSpool;

@@ -2,25 +2,13 @@
 use Rattle.std.proofs.Common.{◌≡◌, ◌∙◌, ℕ, ◌+◌, ◌≤◌, ◌++◌, ◌∷◌, [], List, All, map, refl, ap, sym, subst, arith}
 use Rattle.std.specs.Prelude.{Option, Some}
 use Rattle.std.specs.List.{sum_by}
+use Rattle.std.proofs.lemmas.List.{map-append}
 use Rattle.std.proofs.lemmas.List.Elements.{All-push, All-cons, All-head, All-tail, All-nil, filter_map-append}
 use Rattle.std.proofs.lemmas.List.Sums.{sum_by-cons, sum_by_push}
-use Rattle.spool_ledger.specs.Accounts.{AccountValue, IsWhole, Stake, stake_of}
-use Rattle.spool_ledger.specs.Pools.{PoolValue, quota_of, free_of, with_out, after_reclaim, with_back}
+use Rattle.spool_ledger.specs.Accounts.{AccountValue, Stake, stake_of}
+use Rattle.spool_ledger.specs.Pools.{PoolValue, quota_of, with_out}
 use Rattle.run_spool.specs.Spools.{stakes_in}
 use Rattle.hostile_tests.specs.Owing.{IsOwed, pages_in, pages_owed}
-
--- whole accounts have as many free pages as their quotas
-pub whole_free : (accounts : List AccountValue) → All IsWhole accounts → sum_by free_of accounts ≡ sum_by quota_of accounts
-whole_free [] whole = refl
-whole_free (account ∷ accounts) whole =
-    let first : IsWhole account = All-head IsWhole account accounts whole in
-    omega (
-      arith,
-      sum_by-cons free_of account accounts,
-      sum_by-cons quota_of account accounts,
-      first,
-      whole_free accounts (All-tail IsWhole account accounts whole),
-    )
 
 -- the quotas of accounts are those of their stakes
 pub quotas_of : (accounts : List AccountValue) → sum_by quota_of accounts ≡ sum_by pages_in (map stake_of accounts)
@@ -49,12 +37,6 @@ pub owed_out : (pool : PoolValue) (stakes : List (Option Stake)) (accounts : Lis
 owed_out pool stakes accounts owed are =
     omega (arith, quotas_of accounts, ap (λ (l : List Stake). sum_by pages_in l) are, owed.out)
 
--- reclaimed with all their pages they are owed no longer
-pub owed_back : (pool : PoolValue) (stakes : List (Option Stake)) (accounts : List AccountValue) → All IsWhole accounts
-    → map stake_of accounts ≡ stakes_in stakes → after_reclaim pool accounts ≡ with_back pool (pages_owed stakes)
-owed_back pool stakes accounts whole are =
-    ap (with_back pool) (whole_free accounts whole ∙ quotas_of accounts ∙ ap (λ (l : List Stake). sum_by pages_in l) are)
-
 -- with an account split off more is owed
 pub owed_more : (pool new : PoolValue) (quota : ℕ) (stakes : List (Option Stake)) → new ≡ with_out pool quota → IsOwed pool stakes
     → IsOwed new (stakes ++ Some (record { pool = pool.number; quota = quota }) ∷ [])
@@ -71,6 +53,11 @@ owed_more pool new quota stakes is owed =
     } in
     subst (λ (p : PoolValue). IsOwed p (stakes ++ Some stake ∷ [])) (sym is) later
 
--- without spools nothing is owed
-pub nothing_owed : (pool : PoolValue) → IsOwed pool []
-nothing_owed pool = record { own = All-nil (λ stake. stake.pool ≡ pool.number); out = omega arith }
+-- so with one more spool, behind which that account stands
+pub owed_pushed : {A : Type 0} (stake : A → Option Stake) (pool new : PoolValue) (quota : ℕ) (before after : List A) (one : A)
+    → after ≡ before ++ one ∷ [] → stake one ≡ Some (record { pool = pool.number; quota = quota }) → new ≡ with_out pool quota
+    → IsOwed pool (map stake before) → IsOwed new (map stake after)
+owed_pushed stake pool new quota before after one pushed of_quota is owed =
+    let now : map stake after ≡ map stake before ++ Some (record { pool = pool.number; quota = quota }) ∷ [] =
+    ap (map stake) pushed ∙ (map-append stake before (one ∷ []) ∙ ap (λ (s : Option Stake). map stake before ++ s ∷ []) of_quota) in
+    subst (IsOwed new) (sym now) (owed_more pool new quota (map stake before) is owed)

@@ -58,26 +58,22 @@ impl Telling for Faulted<'_> {
     }
 }
 
-/// The first place of a spool whose fault is met otherwise. Each pair is pushed once and read once, so that there are as many places of
-/// either kind as the spool gets pairs; one further is not reached.
+/// The first place of a spool whose fault is met otherwise, up to one behind the last that is reached.
 fn other_of_spool(
     alloc: Global,
     story: &Story,
     turns: &[Turn],
-    spool: usize,
-    is_push: bool,
+    last: Place,
 ) -> Option<(Place, Wrong)> {
-    let reached = story.pairs[spool];
-    for before in 0..=reached {
+    for before in 0..=last.number {
         let place = Place {
-            spool,
-            is_push,
             number: before.saturating_add(1),
+            ..last
         };
         let mut telling = Faulted {
             turns,
             place,
-            is_reached: before < reached,
+            is_reached: before < last.number,
         };
         if let Err(wrong) = tell_beside(alloc, story, Some(place), &mut telling) {
             return Some((place, wrong));
@@ -86,11 +82,18 @@ fn other_of_spool(
     None
 }
 
-/// The first place of a story whose fault is met otherwise.
+/// The first place of a story whose fault is met otherwise. Each pair is pushed once and read once, so that there are as many places of
+/// either kind as the spool gets pairs; one further is not reached.
 fn other_of_story(alloc: Global, story: &Story, turns: &[Turn]) -> Option<(Place, Wrong)> {
     for spool in 0..story.pairs.len() {
+        let number = story.pairs[spool];
         for is_push in [true, false] {
-            let other = other_of_spool(alloc, story, turns, spool, is_push);
+            let last = Place {
+                spool,
+                is_push,
+                number,
+            };
+            let other = other_of_spool(alloc, story, turns, last);
             if other.is_some() {
                 return other;
             }

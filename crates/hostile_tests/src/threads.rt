@@ -1,5 +1,6 @@
 //! Builds by two workers in threads of their own, over spools with faults to come.
-ghost use Rattle.std.specs.Prelude.{◌≡◌, map};
+ghost use Rattle.std.specs.Prelude.{◌≡◌, Some, map};
+ghost use Rattle.spool_ledger.specs.Accounts.{stake_of};
 ghost use Rattle.hostile_tests.specs.Owing.{IsOwed};
 
 use crate::asks::ready_in;

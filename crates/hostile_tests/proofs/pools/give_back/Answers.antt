@@ -1,8 +1,7 @@
-use Rattle.std.proofs.Common.{◌∙◌, ◌++◌, List, All, map, ap, sym, subst}
-use Rattle.std.proofs.lemmas.List.Elements.{All-nil}
-use Rattle.spool_ledger.specs.Accounts.{AccountValue, IsWhole, stake_of}
+use Rattle.std.proofs.Common.{◌∙◌, ◌++◌, List, map, ap}
+use Rattle.spool_ledger.specs.Accounts.{AccountValue, stake_of}
 use Rattle.run_spool.specs.Spools.{stakes_in}
-use Rattle.hostile_tests.proofs.Owing.{owed_own, owed_out, owed_back}
+use Rattle.hostile_tests.proofs.Owing.{owed_own, owed_out}
 use Rattle.hostile_tests.proofs.pools.give_back.Goals as goal
 
 pub reclaim-requires-clause-own : goal.reclaim-requires-clause-own
@@ -16,10 +15,3 @@ reclaim-requires-clause-out g c =
     let stakes = map g.S.Spool.stake c.args.spools.items in
     let are = c.give_up_all.ensures.stakes ∙ ap (λ (l : List AccountValue). map stake_of l ++ stakes_in stakes) c.requires.none in
     owed_out c.args.pool.now stakes c.give_up_all.new.accounts.items c.requires.owed are
-
-pub returns : goal.returns
-returns g c =
-    let stakes = map g.S.Spool.stake c.args.spools.items in
-    let are = c.give_up_all.ensures.stakes ∙ ap (λ (l : List AccountValue). map stake_of l ++ stakes_in stakes) c.requires.none in
-    let whole = c.give_up_all.ensures.whole (subst (All IsWhole) (sym c.requires.none) (All-nil IsWhole)) in
-    c.reclaim.ensures.taken_in ∙ owed_back c.args.pool.now stakes c.give_up_all.new.accounts.items whole are
