@@ -19,7 +19,7 @@ mod ample_rows;
 #[cfg(test)]
 mod asks;
 #[cfg(test)]
-mod building;
+mod beside_session;
 #[cfg(test)]
 mod calls;
 #[cfg(test)]

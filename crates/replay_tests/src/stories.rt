@@ -122,7 +122,7 @@ delete,C,0.1
         out: "script: 2 records, all good\n",
         err: "",
         status: 0,
-        flushes: 0,
+        flushes: 1,
     },
     Story {
         task: Task::Check,

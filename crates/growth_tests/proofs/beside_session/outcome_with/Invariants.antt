@@ -1,4 +1,4 @@
-use Rattle.growth_tests.proofs.building.outcome_with.Given as goal
+use Rattle.growth_tests.proofs.beside_session.outcome_with.Given as goal
 
 -- the names of the table that was just made, and its log
 abbrev pub ghosts-side_by_side-T-Named : goal.ghosts-side_by_side-T-Named
