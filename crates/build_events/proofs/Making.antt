@@ -5,7 +5,8 @@ use Rattle.std.specs.List.{range_with_len, cons_option, AllByRecursion}
 use Rattle.std.specs.Option.{option_map}
 use Rattle.std.proofs.lemmas.List.Elements.{All-from_recursion}
 use Rattle.keybytes.specs.Cells.{fits}
-use Rattle.keybytes.specs.Keys.{KeySpecValue, key_of}
+use Rattle.keybytes.specs.Keys.{KeySpecValue}
+use Rattle.keybytes.specs.Pairs.{pair_with}
 use Rattle.keybytes.specs.declared.cell.Cell.{Cell}
 use Rattle.keybytes.specs.declared.kind.Kind.{Kind}
 use Rattle.heap_log.specs.declared.record.LogRec.{LogRec}
@@ -20,17 +21,17 @@ use Rattle.heap_table.proofs.PairsAtRest.{pairs_joined}
 -- the pairs of rows with their RIDs
 rows_step :
     (spec : KeySpecValue) (log : List LogRec) (page slot : ℕ) (slots : List ℕ) (o : Option (List Cell))
-    → map (pair_of spec) (filter_map (row_in log page) slots) ≡ filter_map (pair_at spec log) (map (rid_at page) slots)
-    → map (pair_of spec) (cons_option (option_map (λ cells. (rid_at page slot, cells)) o) (filter_map (row_in log page) slots))
-    ≡ cons_option (option_map (λ cells. record { key = key_of spec cells; rid = rid_at page slot }) o) (filter_map (pair_at spec log) (map (rid_at page) slots))
+    → filter_map (pair_of spec) (filter_map (row_in log page) slots) ≡ filter_map (pair_at spec log) (map (rid_at page) slots)
+    → filter_map (pair_of spec) (cons_option (option_map (λ cells. (rid_at page slot, cells)) o) (filter_map (row_in log page) slots))
+    ≡ cons_option (pair_with spec (rid_at page slot) o) (filter_map (pair_at spec log) (map (rid_at page) slots))
 rows_step spec log page slot slots None e = e
-rows_step spec log page slot slots (Some row) e = ap (λ ps. record { key = key_of spec row; rid = rid_at page slot } ∷ ps) e
+rows_step spec log page slot slots (Some row) e = ap (cons_option (pair_with spec (rid_at page slot) (Some row))) e
 
-pairs_of_rows : (spec : KeySpecValue) (log : List LogRec) (page : ℕ) (slots : List ℕ) → map (pair_of spec) (filter_map (row_in log page) slots) ≡ filter_map (pair_at spec log) (map (rid_at page) slots)
+pairs_of_rows : (spec : KeySpecValue) (log : List LogRec) (page : ℕ) (slots : List ℕ) → filter_map (pair_of spec) (filter_map (row_in log page) slots) ≡ filter_map (pair_at spec log) (map (rid_at page) slots)
 pairs_of_rows spec log page [] = refl
 pairs_of_rows spec log page (slot ∷ slots) = rows_step spec log page slot slots (live_at log (rid_at page slot)) (pairs_of_rows spec log page slots)
 
-pub rows_pairs : (spec : KeySpecValue) (log : List LogRec) (page : ℕ) → map (pair_of spec) (rows_on log page) ≡ pairs_on spec log page
+pub rows_pairs : (spec : KeySpecValue) (log : List LogRec) (page : ℕ) → filter_map (pair_of spec) (rows_on log page) ≡ pairs_on spec log page
 rows_pairs spec log page = pairs_of_rows spec log page (range_with_len 0 (slots_written log page))
 
 fit_step :

@@ -21,7 +21,7 @@ use Rattle.build_events.proofs.Seen.{IsScanAt, scan_at}
 
 -- which pages were read is the same for each index, and so for this one
 pub no_spec : KeySpecValue
-no_spec = record { kinds = []; columns = []; unique = false }
+no_spec = record { kinds = []; columns = []; unique = false; condition = None }
 
 pub opened_scanned : (spec : KeySpecValue) (log : List LogRec) → IsScanned (opened_scanning spec log) log
 opened_scanned spec log = record {

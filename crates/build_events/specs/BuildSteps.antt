@@ -273,7 +273,7 @@ switch_refusal b heap work =
 abbrev pub verdicts_on : LiveState → BuildState → List Outcome
 verdicts_on live b = outcomes (length live.ready) (map (verdict_on live.heap.log) b.specs)
 
--- the accepted indexes of the build are ready, with the pairs of the rows that stand; no build runs, and transactions may begin
+-- the accepted indexes of the build are ready, each with the pairs of the rows that stand and that it takes; no build runs, and transactions may begin
 abbrev pub after_switch_in : LiveState → BuildState → LiveState
 after_switch_in live b = record live {
   heap = after_fence false (after_switch live.heap (verdicts_on live b));

@@ -29,10 +29,10 @@ entries_from b log (rec ∷ more) = entries_of b log rec ++ entries_from b (log 
 abbrev pub side_entries : Scanning → List LogRec → List SideEntry
 side_entries b log = entries_from b (first_records b.opened log) (drop b.opened log)
 
--- the pair at a RID, if a row stands there and the build sees it
+-- the pair at a RID, if a row stands there that the index takes, and the build sees it
 abbrev pub visible_pair : Scanning → List LogRec → Rid → Option Pair
 visible_pair b log rid = if is_visible b (length log) rid then pair_at b.spec log rid else None
 
--- the set of the pairs of the rows that stand where the build sees them
+-- the set of the pairs of the rows that stand where the build sees them, and that the index takes
 abbrev pub visible_pairs : Scanning → List LogRec → FinSet pair_cmp
 visible_pairs b log = set_of (filter_map (visible_pair b log) (written_rids log))

@@ -37,7 +37,7 @@ OnHeap Does live answer new = Does live.heap answer new.heap × (new ≡ live_wi
 abbrev pub OnLive : {R : Type 0} → (LiveState → R → LiveState → Type 0) → CoreState → R → CoreState → Type 0
 OnLive Does s answer new = Does s.live answer new.live × (new ≡ with_live s new.live)
 
--- a call of the heap that changes a row, as a step of the table: each ready index has the pairs of the rows that then stand
+-- a call of the heap that changes a row, as a step of the table: each ready index has the pairs of the rows that then stand and that it takes
 abbrev pub OnRows : {R : Type 0} → (HeapState → R → HeapState → Type 0) → LiveState → R → LiveState → Type 0
 OnRows Does live answer new =
     Does live.heap answer new.heap × (new ≡ record live { heap = new.heap; ready = ready_now new.heap.log live.ready })

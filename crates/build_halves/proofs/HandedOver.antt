@@ -28,7 +28,7 @@ use Rattle.build_work.proofs.AtWork.{opened_in}
 
 -- of an index its specification
 pub spec_is : (specs : List KeySpecValue) (index : ℕ) (spec : KeySpecValue) → slice_get specs index ≡ Some spec → spec_at specs index ≡ spec
-spec_is specs index spec is = get_or_from_slice_get specs index spec (record { kinds = []; columns = []; unique = false }) is
+spec_is specs index spec is = get_or_from_slice_get specs index spec (record { kinds = []; columns = []; unique = false; condition = None }) is
 
 module _
     (live : LiveValue) (building : BuildingValue) (b : BuildState) (w : WorkValue) (run : IsRunning live building b w) (fine : w.spoiled ≡ None)

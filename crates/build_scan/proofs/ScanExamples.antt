@@ -13,7 +13,7 @@ use Rattle.build_events.specs.SideEntries.{side_entries}
 
 -- an index on a column of numbers
 abbrev pub on_number : KeySpecValue
-on_number = record { kinds = Int ∷ []; columns = record { column = 0; descending = false } ∷ []; unique = false }
+on_number = record { kinds = Int ∷ []; columns = record { column = 0; descending = false } ∷ []; unique = false; condition = None }
 
 abbrev pub three : List ℕ
 three = 1 ∷ 0x80 ∷ 0 ∷ 0 ∷ 0 ∷ 0 ∷ 0 ∷ 0 ∷ 3 ∷ []

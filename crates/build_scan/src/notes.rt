@@ -9,7 +9,7 @@ ghost use Rattle.build_scan.specs.SideFiles.{put_ends};
 use crate::table_scan::TableScan;
 use heap_table::Ready;
 use keybytes::{Fault, Rid};
-use ready_indexes::key_of;
+use ready_indexes::key_there;
 use side_file::{Entry, Op, SideFile};
 use std::alloc::Global;
 use visibility::{Change, entries};
@@ -23,8 +23,8 @@ fn change_of(build: &TableScan, index: usize, ready: &Ready) -> Result<Change, F
 {
     let spec = build.spec(index);
     Ok(entries(
-        key_of(spec, &ready.old)?,
-        key_of(spec, &ready.new)?,
+        key_there(spec, &ready.old)?,
+        key_there(spec, &ready.new)?,
         build.sees(ready.rid),
     ))
 }

@@ -86,7 +86,7 @@ module _
   together =
       let all = gathered spec workers own (column_many n (length workers) index spools less columns.many) (λ k worker spool there lent.
       subst (λ (s : KeySpecValue). HoldsPairs s (own_images worker) spool.runs [])
-      (get_or_from_slice_get work.specs index spec (record { kinds = []; columns = []; unique = false }) is) (columns.pairs index k worker spool less unloaded there lent)) in
+      (get_or_from_slice_get work.specs index spec (record { kinds = []; columns = []; unique = false; condition = None }) is) (columns.pairs index k worker spool less unloaded there lent)) in
       (all.0, all.1, subst (IsPermutation all.0) (sym (pairs_by_spool own)) all.2)
 
   module _

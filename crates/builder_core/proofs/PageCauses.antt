@@ -9,10 +9,10 @@ use Rattle.keybytes.specs.declared.fault.Fault.{Fault}
 use Rattle.keybytes.specs.declared.fault.Fault.TheVariants.{BuildRunning, BadCount, BadColumn, BadRanges, RangeDone, RingFull, NotScanned, NotSealed, NotLoaded, Behind, Busy, SpoolNotEmpty, NoPage, Fenced, TooManyTxns, TxnEnding, NoSuchTxn, RowShape, RowHeld, PageFull}
 use Rattle.keybytes.specs.declared.pair.Pair.{Pair}
 use Rattle.keybytes.specs.declared.rid.Rid.{Rid}
-use Rattle.keybytes.specs.Keys.{KeySpecValue}
+use Rattle.keybytes.specs.Keys.{KeySpecValue, key_there}
 use Rattle.heap_log.specs.declared.record.LogRec.{LogRec}
 use Rattle.heap_table.specs.HeapState.{HeapState, txn_refusal, new_row_refusal, insert_refusal, update_refusal, place_refusal, held_refusal, row_missing}
-use Rattle.key_guards.specs.KeyRefusals.{key_refusal, duplicate_refusal, guarded_refusal}
+use Rattle.key_guards.specs.KeyRefusals.{key_refusal, next_key_refusal, duplicate_refusal, guarded_refusal}
 use Rattle.build_events.specs.CoreState.{CoreState, BuildState}
 use Rattle.ready_indexes.specs.Indexes.{ReadyValue}
 use Rattle.building.specs.declared.turn.Turn.TheVariants.{Digest as TurnDigest, Seal as TurnSeal}
@@ -92,9 +92,12 @@ guarded_other : (index : ℕ) (o : Option ℕ) → IsOther (guarded_refusal inde
 guarded_other index None = none
 guarded_other index (Some txn) = λ is. cc
 
+next_key_other : (index : ℕ) (spec : KeySpecValue) (log : List LogRec) (txn : ℕ) (old new : Option (List ℕ)) → IsOther (next_key_refusal index spec log txn old new)
+next_key_other index spec log txn old None = none
+next_key_other index spec log txn old (Some key) = if_so _ _ _ none (first _ _ (duplicate_other index _) (guarded_other index _))
+
 key_other : (index : ℕ) (spec : KeySpecValue) (log : List LogRec) (txn : ℕ) (old new : Option (List Cell)) → IsOther (key_refusal index spec log txn old new)
-key_other index spec log txn old None = none
-key_other index spec log txn old (Some cells) = if_so _ _ _ none (first _ _ (duplicate_other index _) (guarded_other index _))
+key_other index spec log txn old new = next_key_other index spec log txn (key_there spec old) (key_there spec new)
 
 keys_other : (number : ℕ) (ready : List ReadyValue) (log : List LogRec) (txn : ℕ) (old new : Option (List Cell)) → IsOther (keys_refusal number ready log txn old new)
 keys_other number [] log txn old new = none

@@ -25,7 +25,7 @@ use std::collections::vec_deque::Iter;
 use std::marker::Model;
 
 /// A table with its ready indexes, and the work of the index build that may be running, with the spools for its pairs. Each ready
-/// index has the pairs of the rows that stand.
+/// index has the pairs of the rows that stand and that it takes.
 ///
 /// It is no `Drop`: whoever has it takes table and spools out again by [`Core::into_live`].
 pub struct Core<S: Spool, T: Table> {

@@ -1,6 +1,6 @@
 -- Each pair of the rows that stand has the key of its row.
 use Rattle.std.proofs.Common.{◌≡◌, ℕ, zero, suc, ◌<◌, true, List, [], ◌∷◌, length, get_or, Some, sym, ap, ◌∙◌, subst, arith}
-use Rattle.std.specs.Prelude.{filter_map}
+use Rattle.std.specs.Prelude.{filter_map, Bool, false, None, if◌then◌else◌}
 use Rattle.std.specs.Option.{option_map}
 use Rattle.std.specs.Ordering.{eq_by_cmp, is_eq}
 use Rattle.std.proofs.lemmas.Cmp.{tied_itself}
@@ -14,7 +14,8 @@ use Rattle.heap_log.specs.declared.record.LogRec.{LogRec}
 use Rattle.heap_log.specs.Standing.{live_at}
 use Rattle.heap_table.specs.Kept.{RowsFit}
 use Rattle.keybytes.specs.declared.pair.Pair.{Pair}
-use Rattle.keybytes.specs.Pairs.{pair_cmp, HaveKeysOf}
+use Rattle.keybytes.specs.Conditions.{takes}
+use Rattle.keybytes.specs.Pairs.{pair_cmp, pair_with, HaveKeysOf}
 use Rattle.heap_table.specs.TablePairs.{pair_at, written_rids, pairs_at_rest}
 use Rattle.keybytes.proofs.PairSets.{pairs_total, is_in, in_set}
 use Rattle.heap_table.proofs.TablePairs.{all_listed, pair_there, row_there, row_written}
@@ -26,12 +27,15 @@ in_own (p ∷ pairs) zero d below = or_left (eq_by_cmp pair_cmp p p) (is_in p pa
 in_own (p ∷ pairs) (suc k) d below =
     or_right (eq_by_cmp pair_cmp (get_or pairs k d) p) (is_in (get_or pairs k d) pairs) (in_own pairs k d (omega arith))
 
+-- the pair that an index has of a row has the row's key
+own_key : (taken : Bool) (key : List ℕ) (q : Pair) → option_map (λ k. record { key = k; rid = q.rid }) (if taken then Some key else None) ≡ Some q
+    → key ≡ q.key
+own_key true key q e = ap (λ (p : Pair). p.key) (same_Some (record { key = key; rid = q.rid }) q e)
+own_key false key q e = absurd (cc)
+
 key_is : (spec : KeySpecValue) (log : List LogRec) (q : Pair) (row : List Cell) → pair_at spec log q.rid ≡ Some q → live_at log q.rid ≡ Some row
     → key_of spec row ≡ q.key
-key_is spec log q row at live =
-    let pair : Some (record { key = key_of spec row; rid = q.rid }) ≡ Some q =
-    sym (ap (option_map (λ (cells : List Cell). record { key = key_of spec cells; rid = q.rid })) live) ∙ at in
-    ap (λ (p : Pair). p.key) (same_Some (record { key = key_of spec row; rid = q.rid }) q pair)
+key_is spec log q row at live = own_key (takes spec.condition row) (key_of spec row) q (sym (ap (pair_with spec q.rid) live) ∙ at)
 
 pub keys_at_rest : (spec : KeySpecValue) (kinds : List Kind) (log : List LogRec) → spec.kinds ≡ kinds → RowsFit kinds log
     → HaveKeysOf spec (pairs_at_rest spec log)

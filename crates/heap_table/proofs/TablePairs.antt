@@ -4,9 +4,10 @@ use Rattle.std.proofs.Common.{add-zero, zero-add}
 use Rattle.std.specs.Prelude.{◌||◌, ◌&&◌, ◌==◌, filter_map}
 use Rattle.std.specs.FinMap.{contains_key, keys}
 use Rattle.std.specs.List.{list_any, slice_get, cons_option, range_with_len}
+use Rattle.std.specs.Option.{option_map}
 use Rattle.std.proofs.lemmas.Option.{same_Some}
 use Rattle.std.proofs.lemmas.Bool.{cases_Bool, and_left, eqb-true, false≢true, or_left, or_right}
-use Rattle.keybytes.specs.Keys.{KeySpecValue, key_of}
+use Rattle.keybytes.specs.Keys.{KeySpecValue, key_there}
 use Rattle.keybytes.specs.Pairs.{pair_with, with_pair, without_pair}
 use Rattle.keybytes.specs.Rids.{same_rid}
 use Rattle.keybytes.specs.declared.cell.Cell.{Cell}
@@ -21,10 +22,13 @@ use Rattle.heap_table.specs.Pages.{rid_at, slots_written, SetsRow}
 use Rattle.heap_table.specs.TablePairs.{pair_at, written_rids, index_pairs, pairs_at_rest, rids_on, pairs_on}
 use Rattle.heap_table.proofs.LogRows.{rows_are_inside, newest_there}
 
+own_key : (rid : Rid) (key : Option (List ℕ)) → IsOwn rid (option_map (λ k. record { key = k; rid = rid }) key)
+own_key rid None p e = absurd (cc)
+own_key rid (Some key) p e = sym (ap (λ (x : Pair). x.rid) (same_Some (record { key = key; rid = rid }) p e))
+
 -- the pair of a row at a RID is that RID's own
 pub own_pair : (spec : KeySpecValue) (rid : Rid) (cells : Option (List Cell)) → IsOwn rid (pair_with spec rid cells)
-own_pair spec rid None p e = absurd (cc)
-own_pair spec rid (Some row) p e = sym (ap (λ (x : Pair). x.rid) (same_Some (record { key = key_of spec row; rid = rid }) p e))
+own_pair spec rid cells = own_key rid (key_there spec cells)
 
 -- where a pair counts, it is there
 pub pair_there : (o : Option Pair) (q : Pair) → is_pair o q ≡ true → o ≡ Some q

@@ -13,7 +13,7 @@ use Rattle.std.proofs.lemmas.List.Elements.{All-head, All-tail, All-weaker, All-
 use Rattle.std.proofs.lemmas.List.Folds.{list_any-append, position_or_len-set}
 use Rattle.std.proofs.lemmas.List.Quantifiers.{position-Some}
 use Rattle.std.proofs.lemmas.Bool.{cases_eq, cases_lt, lt-ltb, cases_Bool, cond-true, cond-false, false≢true, and_parts, and_from, or_cases, or_left, or_right, not-true, not_from_false, eqb-true, eq-eqb, ne_eqb}
-use Rattle.keybytes.specs.Keys.{KeySpecValue, key_of}
+use Rattle.keybytes.specs.Keys.{KeySpecValue, key_there}
 use Rattle.keybytes.specs.declared.cell.Cell.{Cell}
 use Rattle.keybytes.specs.declared.rid.Rid.{Rid}
 use Rattle.heap_log.specs.declared.outcome.Outcome.{Outcome}
@@ -24,8 +24,8 @@ use Rattle.heap_log.proofs.Records.{or_no}
 use Rattle.key_guards.specs.declared.taken.Taken.{Taken}
 use Rattle.key_guards.specs.TxnGuards.{TxnValue, has_taken, is_nil}
 use Rattle.key_guards.specs.KeyRefusals.{took_key, other_guard}
-use Rattle.key_guards.specs.GuardLists.{is_taken, is_listed, is_other, other_in, Ascends, IsTakenIn, AreTakenIn, AreGuards, key_taken}
-use Rattle.key_guards.specs.UniqueKeys.{has_key, KeysStayUnique, GuardsKey, WritesAreHeld}
+use Rattle.key_guards.specs.GuardLists.{is_taken, is_listed, is_other, other_in, Ascends, IsTakenIn, AreTakenIn, AreGuards, key_left, key_taken}
+use Rattle.key_guards.specs.UniqueKeys.{is_its_key, has_key, KeysStayUnique, GuardsKey, WritesAreHeld}
 use Rattle.heap_table.proofs.Small.{some_or_none}
 use Rattle.key_guards.proofs.Refusals.{guards_by, took_by, IsOtherGuard, other_guard_is, other_guard_found, find_passes}
 use Rattle.key_guards.specs.GuardSteps.{AddsToGuards}
@@ -276,38 +276,47 @@ place_set txns txn at t d is same =
 pub place_within : (txns : List TxnValue) (txn at : ℕ) (d : TxnValue) → position (λ u. u.txn == txn) txns ≡ Some at → at < length txns
 place_within txns txn at d is = (position-Some (λ u. u.txn == txn) txns at d is).0
 
--- what a row takes from the one before it
-taken_none : (spec : KeySpecValue) (was row : Option (List Cell)) (key : List ℕ) → key_taken spec was row ≡ None → (has_key spec key was && not (has_key spec key row)) ≡ false
-taken_none spec None row key e = refl
-taken_none spec (Some cells) row key e = elim (cases_Bool (has_key spec (key_of spec cells) row)) [
-  | inr lost ↦ absurd (some_none (key_of spec cells) (sym (cond-false (has_key spec (key_of spec cells) row) None (Some (key_of spec cells)) lost) ∙ e))
-  | inl kept ↦ elim (cases_Bool (bytes_eq (key_of spec cells) key)) [
+-- what a key leaves of the one before it
+left_none : (old new : Option (List ℕ)) (key : List ℕ) → key_left old new ≡ None → (is_its_key key old && not (is_its_key key new)) ≡ false
+left_none None new key e = refl
+left_none (Some own) new key e = elim (cases_Bool (is_its_key own new)) [
+  | inr lost ↦ absurd (some_none own (sym (cond-false (is_its_key own new) None (Some own) lost) ∙ e))
+  | inl kept ↦ elim (cases_Bool (bytes_eq own key)) [
     | inr differs ↦ rw differs refl
     | inl is ↦
-        let same : key_of spec cells ≡ key = (bytes_eq-Decides (key_of spec cells) key).0 is in
-        let has : has_key spec key row ≡ true = ap (λ k. has_key spec k row) (sym same) ∙ kept in
+        let same : own ≡ key = (bytes_eq-Decides own key).0 is in
+        let has : is_its_key key new ≡ true = ap (λ k. is_its_key k new) (sym same) ∙ kept in
         rw (is, has) refl
   ]
 ] where
   some_none : (k : List ℕ) → Some k ≡ None → ⊥
   some_none k f = cc
 
-taken_some : (spec : KeySpecValue) (was row : Option (List Cell)) (key taken : List ℕ) → key_taken spec was row ≡ Some taken → (has_key spec key was && not (has_key spec key row)) ≡ bytes_eq taken key
-taken_some spec None row key taken e = absurd (cc)
-taken_some spec (Some cells) row key taken e = elim (cases_Bool (has_key spec (key_of spec cells) row)) [
-  | inl kept ↦ absurd (none_some taken (sym (cond-true (has_key spec (key_of spec cells) row) None (Some (key_of spec cells)) kept) ∙ e))
+left_some : (old new : Option (List ℕ)) (key taken : List ℕ) → key_left old new ≡ Some taken → (is_its_key key old && not (is_its_key key new)) ≡ bytes_eq taken key
+left_some None new key taken e = absurd (cc)
+left_some (Some own) new key taken e = elim (cases_Bool (is_its_key own new)) [
+  | inl kept ↦ absurd (none_some taken (sym (cond-true (is_its_key own new) None (Some own) kept) ∙ e))
   | inr lost ↦
-      let is : key_of spec cells ≡ taken = same_Some (key_of spec cells) taken (sym (cond-false (has_key spec (key_of spec cells) row) None (Some (key_of spec cells)) lost) ∙ e) in
-      elim (cases_Bool (bytes_eq (key_of spec cells) key)) [
+      let is : own ≡ taken = same_Some own taken (sym (cond-false (is_its_key own new) None (Some own) lost) ∙ e) in
+      elim (cases_Bool (bytes_eq own key)) [
         | inr differs ↦ rw differs (sym (ap (λ k. bytes_eq k key) (sym is) ∙ differs))
         | inl hit ↦
-            let same : key_of spec cells ≡ key = (bytes_eq-Decides (key_of spec cells) key).0 hit in
-            let has : has_key spec key row ≡ false = ap (λ k. has_key spec k row) (sym same) ∙ lost in
+            let same : own ≡ key = (bytes_eq-Decides own key).0 hit in
+            let has : is_its_key key new ≡ false = ap (λ k. is_its_key k new) (sym same) ∙ lost in
             rw (hit, has) (sym (ap (λ k. bytes_eq k key) (sym is) ∙ hit))
       ]
 ] where
   none_some : (k : List ℕ) → None ≡ Some k → ⊥
   none_some k f = cc
+
+-- what a row takes from the one before it
+taken_none : (spec : KeySpecValue) (was row : Option (List Cell)) (key : List ℕ) → key_taken spec was row ≡ None
+    → (has_key spec key was && not (has_key spec key row)) ≡ false
+taken_none spec was row = left_none (key_there spec was) (key_there spec row)
+
+taken_some : (spec : KeySpecValue) (was row : Option (List Cell)) (key taken : List ℕ) → key_taken spec was row ≡ Some taken
+    → (has_key spec key was && not (has_key spec key row)) ≡ bytes_eq taken key
+taken_some spec was row = left_some (key_there spec was) (key_there spec row)
 
 -- the key of a new write comes last
 ascends_push : (log : List LogRec) (txn : ℕ) (ts : List Taken) (t : Taken) → Ascends ts → All (IsTakenIn log txn) ts → t.number ≡ length log + 1 → Ascends (ts ++ t ∷ [])

@@ -7,7 +7,7 @@ use Rattle.std.proofs.lemmas.Slice.Eq.{bytes_eq-Decides}
 use Rattle.std.proofs.lemmas.Option.{same_Some}
 use Rattle.std.proofs.lemmas.Bool.{cases_Bool, cond-true, cond-false, false≢true, and_parts, and_from, not-true, not_from_false, eq-eqb, ne_eqb}
 use Rattle.keybytes.specs.Faults.{first_cause}
-use Rattle.keybytes.specs.Keys.{KeySpecValue, key_of}
+use Rattle.keybytes.specs.Keys.{KeySpecValue, key_there}
 use Rattle.keybytes.specs.declared.cell.Cell.{Cell}
 use Rattle.keybytes.specs.declared.rid.Rid.{Rid}
 use Rattle.heap_log.specs.declared.record.LogRec.{LogRec}
@@ -27,8 +27,8 @@ use Rattle.std.proofs.lemmas.Bool.{or_cases}
 use Rattle.keybytes.specs.Pairs.{pair_cmp, pair_with}
 use Rattle.keybytes.specs.declared.pair.Pair.{Pair}
 use Rattle.keybytes.proofs.PairSets.{pairs_total, is_in, is_pair, in_set, tied_pairs}
-use Rattle.key_guards.specs.UniqueKeys.{HaveOwnKeys, KeysAreUnique, has_key, KeysStayUnique, GuardsKey, GivesKey, MayGive, WritesAreHeld}
-use Rattle.key_guards.specs.KeyRefusals.{rid_with, took_key, took_from, other_guard, duplicate_refusal, guarded_refusal, new_key_refusal, key_refusal}
+use Rattle.key_guards.specs.UniqueKeys.{HaveOwnKeys, KeysAreUnique, is_its_key, has_key, KeysStayUnique, GuardsKey, GivesKey, MayGive, WritesAreHeld}
+use Rattle.key_guards.specs.KeyRefusals.{rid_with, took_key, took_from, other_guard, duplicate_refusal, guarded_refusal, new_key_refusal, next_key_refusal, key_refusal}
 use Rattle.key_guards.proofs.OneGuard.{one_guard}
 
 -- what is found passes; where none is, none of the list passes
@@ -56,40 +56,40 @@ none_mapped : (o : Option Pair) → option_map (λ pair. pair.rid) o ≡ None �
 none_mapped None e = refl
 none_mapped (Some x) e = absurd (cc)
 
--- a row's pair is among those at rest
-pair_at_rest : (spec : KeySpecValue) (log : List LogRec) (rid : Rid) (row : List Cell) → live_at log rid ≡ Some row
-    → is_in (record { key = key_of spec row; rid = rid }) (pairs_at_rest spec log) ≡ true
-pair_at_rest spec log rid row live =
-    let q : Pair = record { key = key_of spec row; rid = rid } in
+-- who has a key has a pair with it among those at rest
+pair_at_rest : (spec : KeySpecValue) (log : List LogRec) (rid : Rid) (key : List ℕ) → key_there spec (live_at log rid) ≡ Some key
+    → is_in (record { key = key; rid = rid }) (pairs_at_rest spec log) ≡ true
+pair_at_rest spec log rid key has =
+    let q : Pair = record { key = key; rid = rid } in
     in_set q (filter_map (pair_at spec log) (written_rids log))
     ∙ all_listed spec log (written_rids log) (row_written log) q
-    ∙ ap (λ (cells : Option (List Cell)). is_pair (pair_with spec rid cells) q) live
+    ∙ ap (λ (k : Option (List ℕ)). is_pair (option_map (λ bytes. record { key = bytes; rid = rid }) k) q) has
     ∙ ap is_eq (tied_itself pairs_total q)
 
 -- where no two pairs have one key, no two rows have
 pub rows_have_own_keys : (spec : KeySpecValue) (log : List LogRec) → HaveOwnKeys (pairs_at_rest spec log) → KeysAreUnique spec log
-rows_have_own_keys spec log own = record { one = λ key p q. at key p q (live_at log p) (live_at log q) refl refl }
+rows_have_own_keys spec log own = record { one = λ key p q. at key p q (key_there spec (live_at log p)) (key_there spec (live_at log q)) refl refl }
   where
     at :
-        (key : List ℕ) (p q : Rid) (row other : Option (List Cell)) → live_at log p ≡ row → live_at log q ≡ other
-        → has_key spec key row ≡ true → has_key spec key other ≡ true → p ≡ q
+        (key : List ℕ) (p q : Rid) (one other : Option (List ℕ)) → key_there spec (live_at log p) ≡ one → key_there spec (live_at log q) ≡ other
+        → is_its_key key one ≡ true → is_its_key key other ≡ true → p ≡ q
     at key p q None other live_p live_q has_p has_q = absurd (false≢true has_p)
-    at key p q (Some row) None live_p live_q has_p has_q = absurd (false≢true has_q)
-    at key p q (Some row) (Some other) live_p live_q has_p has_q =
-        let same : key_of spec row ≡ key_of spec other = (bytes_eq-Decides (key_of spec row) key).0 has_p ∙ sym ((bytes_eq-Decides (key_of spec other) key).0 has_q) in
-        ap (λ (x : Pair). x.rid) (own.one (record { key = key_of spec row; rid = p }) (record { key = key_of spec other; rid = q })
-        (pair_at_rest spec log p row live_p) (pair_at_rest spec log q other live_q) same)
+    at key p q (Some one) None live_p live_q has_p has_q = absurd (false≢true has_q)
+    at key p q (Some one) (Some other) live_p live_q has_p has_q =
+        let same : one ≡ other = (bytes_eq-Decides one key).0 has_p ∙ sym ((bytes_eq-Decides other key).0 has_q) in
+        ap (λ (x : Pair). x.rid) (own.one (record { key = one; rid = p }) (record { key = other; rid = q })
+        (pair_at_rest spec log p one live_p) (pair_at_rest spec log q other live_q) same)
 
 -- where no RID is found, no row has the key
 pub no_rid_with : (spec : KeySpecValue) (log : List LogRec) (key : List ℕ) → rid_with spec log key ≡ None → (rid : Rid)
     → has_key spec key (live_at log rid) ≡ false
-no_rid_with spec log key none rid = at (live_at log rid) refl
+no_rid_with spec log key none rid = at (key_there spec (live_at log rid)) refl
   where
-    at : (cells : Option (List Cell)) → live_at log rid ≡ cells → has_key spec key cells ≡ false
+    at : (own : Option (List ℕ)) → key_there spec (live_at log rid) ≡ own → is_its_key key own ≡ false
     at None live = refl
-    at (Some row) live =
-        found_none (λ pair. bytes_eq pair.key key) (pairs_at_rest spec log) (record { key = key_of spec row; rid = rid })
-        (none_mapped (find (λ pair. bytes_eq pair.key key) (pairs_at_rest spec log)) none) (pair_at_rest spec log rid row live)
+    at (Some own) live =
+        found_none (λ pair. bytes_eq pair.key key) (pairs_at_rest spec log) (record { key = own; rid = rid })
+        (none_mapped (find (λ pair. bytes_eq pair.key key) (pairs_at_rest spec log)) none) (pair_at_rest spec log rid own live)
 
 -- a number that passes is that of a guard's write, and the other way round
 pub guards_by : (spec : KeySpecValue) (log : List LogRec) (key : List ℕ) (n : ℕ) → took_key spec log key n ≡ true → GuardsKey spec log (txn_of (record_at log n)) key
@@ -166,29 +166,23 @@ other_guard_found spec log txn key other h held apart g = elim (some_or_none (ot
 ]
 
 -- a write that is not refused may be made
-pub may_give : (index : ℕ) (spec : KeySpecValue) (log : List LogRec) (txn : ℕ) (rid : Rid) (row : Option (List Cell)) → key_refusal index spec log txn (live_at log rid) row ≡ None → MayGive spec log txn rid row
-may_give index spec log txn rid None e = record {
-  unshared = λ key other gives apart. absurd (false≢true gives.has);
-  unguarded = λ key other gives apart g. absurd (false≢true gives.has);
-}
-may_give index spec log txn rid (Some cells) e = record {
-  unshared = λ key other gives apart. no_rid_with spec log key (rid_none key gives) other;
-  unguarded = λ key other gives apart g. no_other_guard spec log txn key (guard_none key gives) other apart g;
+pub may_give : (index : ℕ) (spec : KeySpecValue) (log : List LogRec) (txn : ℕ) (rid : Rid) (row : Option (List Cell))
+    → key_refusal index spec log txn (live_at log rid) row ≡ None → MayGive spec log txn rid row
+may_give index spec log txn rid row e = record {
+  unshared = λ key other gives apart. no_rid_with spec log key (both_none _ _ (asked key (key_there spec row) gives.has gives.new e)).0 other;
+  unguarded = λ key other gives apart g.
+      no_other_guard spec log txn key (both_none _ _ (asked key (key_there spec row) gives.has gives.new e)).1 other apart g;
 } where
-  asked : (key : List ℕ) → GivesKey spec log rid (Some cells) key → new_key_refusal index spec log txn key ≡ None
-  asked key gives =
-      let is : key_of spec cells ≡ key = (bytes_eq-Decides (key_of spec cells) key).0 gives.has in
-      let new : has_key spec (key_of spec cells) (live_at log rid) ≡ false = ap (λ k. has_key spec k (live_at log rid)) is ∙ gives.new in
+  asked : (key : List ℕ) (new : Option (List ℕ)) → is_its_key key new ≡ true → has_key spec key (live_at log rid) ≡ false
+      → next_key_refusal index spec log txn (key_there spec (live_at log rid)) new ≡ None → new_key_refusal index spec log txn key ≡ None
+  asked key None has is_new f = absurd (false≢true has)
+  asked key (Some own) has is_new f =
+      let is : own ≡ key = (bytes_eq-Decides own key).0 has in
+      let new : is_its_key own (key_there spec (live_at log rid)) ≡ false = ap (λ k. is_its_key k (key_there spec (live_at log rid))) is ∙ is_new in
       ap (new_key_refusal index spec log txn) (sym is)
-      ∙ sym (cond-false (has_key spec (key_of spec cells) (live_at log rid)) None (new_key_refusal index spec log txn (key_of spec cells)) new) ∙ e
+      ∙ sym (cond-false (is_its_key own (key_there spec (live_at log rid))) None (new_key_refusal index spec log txn own) new) ∙ f
 
   both_none : (o : Option Rid) (g : Option ℕ) → first_cause (duplicate_refusal index o) (guarded_refusal index g) ≡ None → (o ≡ None) × (g ≡ None)
   both_none None None f = (refl, refl)
   both_none None (Some u) f = absurd (cc)
   both_none (Some r) g f = absurd (cc)
-
-  rid_none : (key : List ℕ) → GivesKey spec log rid (Some cells) key → rid_with spec log key ≡ None
-  rid_none key gives = (both_none (rid_with spec log key) (other_guard spec log txn key) (asked key gives)).0
-
-  guard_none : (key : List ℕ) → GivesKey spec log rid (Some cells) key → other_guard spec log txn key ≡ None
-  guard_none key gives = (both_none (rid_with spec log key) (other_guard spec log txn key) (asked key gives)).1

@@ -3,12 +3,12 @@ use Rattle.std.specs.Prelude.{◌≡◌, ◌<◌, ◌≤◌, ◌==◌, ℕ, Bool
 use Rattle.std.specs.List.{list_any, find, All}
 use Rattle.std.specs.Option.{option_map}
 use Rattle.std.specs.Str.{bytes_eq}
-use Rattle.keybytes.specs.Keys.{KeySpecValue, key_of}
+use Rattle.keybytes.specs.Keys.{KeySpecValue, key_there}
 use Rattle.keybytes.specs.declared.cell.Cell.{Cell}
 use Rattle.heap_log.specs.declared.record.LogRec.{LogRec}
 use Rattle.heap_log.specs.Standing.{record_at, txn_of}
 use Rattle.key_guards.specs.declared.taken.Taken.{Taken}
-use Rattle.key_guards.specs.UniqueKeys.{has_key}
+use Rattle.key_guards.specs.UniqueKeys.{is_its_key}
 use Rattle.key_guards.specs.KeyRefusals.{took_key}
 use Rattle.key_guards.specs.TxnGuards.{TxnValue, has_taken, without_top}
 
@@ -56,7 +56,11 @@ pub record AreUndone (number : ℕ) (old new : List TxnValue) : Type 0 where
   pub count : length new ≡ length old
   pub each : (at : ℕ) (d : TxnValue) → at < length old → IsUndone number (get_or old at d) (get_or new at d)
 
--- the key that a row takes from the one before it, if it has another or is none
+-- the old key, where there is one and the new one is another or none
+abbrev pub key_left : Option (List ℕ) → Option (List ℕ) → Option (List ℕ)
+key_left None new = None
+key_left (Some old) new = if is_its_key old new then None else Some old
+
+-- the key that a row takes from the one before it: the key of that one, if the index took it, and this one has another or none
 abbrev pub key_taken : KeySpecValue → Option (List Cell) → Option (List Cell) → Option (List ℕ)
-key_taken spec None row = None
-key_taken spec (Some cells) row = if has_key spec (key_of spec cells) row then None else Some (key_of spec cells)
+key_taken spec before row = key_left (key_there spec before) (key_there spec row)

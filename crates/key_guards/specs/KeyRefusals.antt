@@ -4,7 +4,7 @@ use Rattle.std.specs.List.{find}
 use Rattle.std.specs.Option.{option_map}
 use Rattle.std.specs.Str.{bytes_eq}
 use Rattle.keybytes.specs.Faults.{first_cause}
-use Rattle.keybytes.specs.Keys.{KeySpecValue, key_of}
+use Rattle.keybytes.specs.Keys.{KeySpecValue, key_there}
 use Rattle.keybytes.specs.declared.cell.Cell.{Cell}
 use Rattle.keybytes.specs.declared.rid.Rid.{Rid}
 use Rattle.keybytes.specs.declared.fault.Fault.{Fault}
@@ -13,7 +13,7 @@ use Rattle.heap_log.specs.declared.record.LogRec.{LogRec}
 use Rattle.heap_log.specs.Standing.{record_at, stands_of, last_below, row_at, standing_before, txn_of}
 use Rattle.heap_table.specs.Holders.{committed}
 use Rattle.heap_table.specs.TablePairs.{pairs_at_rest}
-use Rattle.key_guards.specs.UniqueKeys.{has_key}
+use Rattle.key_guards.specs.UniqueKeys.{has_key, is_its_key}
 
 -- the RID of the first pair with the key, if there is one
 abbrev pub rid_with : KeySpecValue → List LogRec → List ℕ → Option Rid
@@ -47,9 +47,12 @@ abbrev pub new_key_refusal : ℕ → KeySpecValue → List LogRec → ℕ → Li
 new_key_refusal index spec log txn key =
     first_cause (duplicate_refusal index (rid_with spec log key)) (guarded_refusal index (other_guard spec log txn key))
 
+-- why the transaction may not put a new key in the place of an old one; no key, or the same one, may go there
+abbrev pub next_key_refusal : ℕ → KeySpecValue → List LogRec → ℕ → Option (List ℕ) → Option (List ℕ) → Option Fault
+next_key_refusal index spec log txn old None = None
+next_key_refusal index spec log txn old (Some key) = if is_its_key key old then None else new_key_refusal index spec log txn key
+
 -- why the transaction may not put the new row in the place of the old one, where none may stand; a row that keeps its
--- key, or is no row, may go there
+-- key, or has none in the index, may go there
 abbrev pub key_refusal : ℕ → KeySpecValue → List LogRec → ℕ → Option (List Cell) → Option (List Cell) → Option Fault
-key_refusal index spec log txn old None = None
-key_refusal index spec log txn old (Some cells) =
-    if has_key spec (key_of spec cells) old then None else new_key_refusal index spec log txn (key_of spec cells)
+key_refusal index spec log txn old new = next_key_refusal index spec log txn (key_there spec old) (key_there spec new)

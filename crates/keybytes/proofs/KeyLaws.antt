@@ -5,7 +5,7 @@ use Rattle.std.specs.List.{All, flat_map}
 use Rattle.std.specs.Ordering.{MatchOrdering, ordering_then}
 use Rattle.std.specs.Cmp.Lexicographic.{slice_cmp}
 use Rattle.std.proofs.lemmas.Bool.{and_parts, and_from, ltb-true}
-use Rattle.std.proofs.lemmas.Cmp.{ranked, int_ranked, tied_itself, nat_list_cmp_total}
+use Rattle.std.proofs.lemmas.Cmp.{ranked, int_ranked, tied_itself, int_cmp_total, nat_list_cmp_total}
 use Rattle.std.proofs.lemmas.List.{length-map}
 use Rattle.std.proofs.lemmas.List.Elements.{All-head, All-tail, All-map}
 use Rattle.keybytes.specs.Cells.{IsCell, fits, fits_kind, cell_cmp, directed, columns_cmp}
@@ -26,13 +26,21 @@ nat-same x y tied = subst (λ (o : Ordering). MatchOrdering o (x < y) (x ≡ y) 
 int-same : (x y : ℤ) → int_cmp x y ≡ Equal → x ≡ y
 int-same x y tied = subst (λ (o : Ordering). MatchOrdering o (x <ℤ y) (x ≡ y) (y <ℤ x)) tied (int_ranked x y _ refl)
 
-cell-same : (a b : Cell) → cell_cmp a b ≡ Equal → a ≡ b
+pub cell-same : (a b : Cell) → cell_cmp a b ≡ Equal → a ≡ b
 cell-same Null Null tied = refl
 cell-same (Int m) (Int n) tied = ap Int (int-same m n tied)
 cell-same (Text s) (Text t) tied = ap Text (slice_cmp-same nat_cmp nat-same s t tied)
 cell-same (Flag true) (Flag true) tied = refl
 cell-same (Flag false) (Flag false) tied = refl
 cell-same a b tied = cc
+
+-- a cell ties with itself
+pub cell-tied : (a : Cell) → cell_cmp a a ≡ Equal
+cell-tied Null = refl
+cell-tied (Int n) = tied_itself int_cmp_total n
+cell-tied (Text t) = tied_itself nat_list_cmp_total t
+cell-tied (Flag true) = refl
+cell-tied (Flag false) = refl
 
 directed-tied : (descending : Bool) (o : Ordering) → directed descending o ≡ Equal → o ≡ Equal
 directed-tied false o tied = tied

@@ -1,4 +1,4 @@
--- The key of an index: which columns make it, its bytes, and how the bytes stand for the columns.
+-- The key of an index: which columns make it and which rows have one, its bytes, and how the bytes stand for the columns.
 use Rattle.std.specs.Prelude.{◌≡◌, ℕ, zero, suc, ◌+◌, ◌-◌, ◌^◌, nat_eq, nat_lt, nat_le, Bool, true, false, not, ◌&&◌, ℤ, pos, negsuc, List, [], ◌∷◌, ◌++◌, map, length}
 use Rattle.std.specs.Prelude.{slice_index_or, IsUtf8, Option, Some, None, if◌then◌else◌}
 use Rattle.std.specs.List.{All, list_any, list_all, flat_map}
@@ -6,6 +6,7 @@ use Rattle.std.specs.Int.{w64, to_be_bytes}
 use Rattle.std.specs.Ordering.{nat_cmp}
 use Rattle.std.specs.Cmp.Lexicographic.{slice_cmp}
 use Rattle.keybytes.specs.Cells.{IsCell, fits, fits_kind, columns_cmp}
+use Rattle.keybytes.specs.Conditions.{takes}
 use Rattle.keybytes.specs.Rows.{IsRow}
 use Rattle.keybytes.specs.declared.cell.Cell.{Cell}
 use Rattle.keybytes.specs.declared.cell.Cell.TheVariants.{Null, Int, Text, Flag}
@@ -14,12 +15,15 @@ use Rattle.keybytes.specs.declared.kind.Kind.{Kind}
 use Rattle.keybytes.specs.declared.kind.Kind.TheVariants.{Int as IntKind}
 use Rattle.keybytes.specs.declared.fault.Fault.{Fault}
 use Rattle.keybytes.specs.declared.fault.Fault.TheVariants.{BadColumn}
+use Rattle.keybytes.specs.declared.when.When.{When}
 
--- the kinds of a table's columns, which of the columns make the key, in order and each with its direction, and whether two rows may not share one
+-- the kinds of a table's columns, which of the columns make the key, in order and each with its direction, whether two rows may not share one,
+-- and the condition that a row has to meet, if the index is a partial one
 pub record KeySpecValue : Type 0 where
   pub kinds : List Kind
   pub columns : List KeyCol
   pub unique : Bool
+  pub condition : Option When
 
 -- whether no column is named twice
 abbrev pub are_distinct : List KeyCol → Bool
@@ -86,9 +90,18 @@ key_kinds spec = map (λ named. slice_index_or spec.kinds named.column IntKind) 
 abbrev pub key_columns : KeySpecValue → List Cell → List Cell
 key_columns spec row = map (λ named. slice_index_or row named.column Null) spec.columns
 
--- the key of a row
+-- the key that a row's columns make, whether or not the index takes the row
 abbrev pub key_of : KeySpecValue → List Cell → List ℕ
 key_of spec row = key_bytes spec.columns (key_columns spec row)
+
+-- the key that the index has of a row; of a row that it doesn't take it has none
+abbrev pub indexed_key : KeySpecValue → List Cell → Option (List ℕ)
+indexed_key spec row = if takes spec.condition row then Some (key_of spec row) else None
+
+-- the key that the index has of what stands at a RID: of no row it has none
+abbrev pub key_there : KeySpecValue → Option (List Cell) → Option (List ℕ)
+key_there spec None = None
+key_there spec (Some row) = indexed_key spec row
 
 -- the cells fit the key's kinds, a row may hold each, and these are their bytes
 pub record HasKey (spec : KeySpecValue) (key : List ℕ) (cells : List Cell) : Type 0 where
@@ -101,11 +114,11 @@ pub record IsRowOf (spec : KeySpecValue) (row : List Cell) : Type 0 where
   pub is_row : IsRow row
   pub fits_kinds : fits spec.kinds row ≡ true
 
--- a row of the table has this key
+-- the columns of a row of the table make this key, whether or not the index takes the row
 abbrev pub IsKeyOf : KeySpecValue → List ℕ → Type 0
 IsKeyOf spec key = (row : List Cell) × (IsRowOf spec row × (key_of spec row ≡ key))
 
--- how a row's key stands to the key of any other row of the table
+-- how what a row's columns make stands to what any other row's columns make
 pub record StandsForColumns (spec : KeySpecValue) (row : List Cell) (key : List ℕ) : Type 0 where
   -- the bytes compare as the columns do
   pub order : (other : List Cell) → IsRowOf spec other

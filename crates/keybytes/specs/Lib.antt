@@ -1,5 +1,6 @@
 pub mod Answered
 pub mod Cells
+pub mod Conditions
 pub mod Faults
 pub mod Heads
 pub mod KeyRoom

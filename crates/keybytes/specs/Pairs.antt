@@ -8,7 +8,7 @@ use Rattle.std.specs.List.{All}
 use Rattle.std.specs.Option.{option_map}
 use Rattle.std.specs.FinSet.{FinSet}
 use Rattle.std.specs.FinMap.{from_entries, insert, remove, keys}
-use Rattle.keybytes.specs.Keys.{KeySpecValue, key_of, key_columns, IsKeyOf, IsRowOf}
+use Rattle.keybytes.specs.Keys.{KeySpecValue, key_of, key_there, key_columns, IsKeyOf, IsRowOf}
 use Rattle.keybytes.specs.Cells.{columns_cmp}
 use Rattle.keybytes.specs.Rids.{rid_cmp}
 use Rattle.keybytes.specs.declared.cell.Cell.{Cell}
@@ -19,9 +19,9 @@ use Rattle.keybytes.specs.declared.rid.Rid.{Rid}
 abbrev pub pair_cmp : Pair → Pair → Ordering
 pair_cmp = then_cmp (on (λ pair. pair.key) (slice_cmp nat_cmp)) (on (λ pair. pair.rid) rid_cmp)
 
--- the pair of a row at a RID, if there is one
+-- the pair of what stands at a RID, if it is a row that the index takes
 abbrev pub pair_with : KeySpecValue → Rid → Option (List Cell) → Option Pair
-pair_with spec rid row = option_map (λ cells. record { key = key_of spec cells; rid = rid }) row
+pair_with spec rid row = option_map (λ key. record { key = key; rid = rid }) (key_there spec row)
 
 -- the pairs as a set
 abbrev pub set_of : List Pair → FinSet pair_cmp

@@ -1,8 +1,11 @@
-ghost use Rattle.std.specs.Prelude.{◌≡◌, ◌≢◌, List, ℕ, IsOk, IfOk, IfErr};
+ghost use Rattle.std.specs.Prelude.{◌≡◌, ◌≢◌, ◌↔◌, List, ℕ, IsOk, IfOk, IfErr};
 ghost use Rattle.std.specs.Bool.{OnTrue};
-ghost use Rattle.keybytes.specs.Cells.{IsCell, fits_kind, is_short};
+ghost use Rattle.std.specs.declared.cmp.Ordering.TheVariants.{Equal};
+ghost use Rattle.keybytes.specs.Cells.{IsCell, cell_cmp, fits_kind, is_short};
+ghost use Rattle.keybytes.specs.Conditions.{is_null};
 
 use crate::{Fault, Kind, Text};
+use std::cmp::Ordering;
 
 /// The greatest number of bytes of a text in a row.
 pub const TEXT_MAX: usize = 100;
@@ -58,6 +61,34 @@ impl Cell {
             }
             Cell::Text(text) => text.as_str().len() <= TEXT_MAX,
             Cell::Flag(_) => true,
+        }
+    }
+
+    pub fn is_null(&self) -> bool
+        ensures { result ≡ is_null self.now }
+    {
+        matches!(self, Cell::Null)
+    }
+
+    /// The order of a column's cells: Null first, numbers by number, texts by their bytes, false before true.
+    pub fn compare(&self, other: &Cell) -> Ordering
+        ensures order { result ≡ cell_cmp self.now other.now }
+        ensures same { (result ≡ Equal) ↔ (self.now ≡ other.now) }
+    {
+        match (self, other) {
+            (Cell::Null, Cell::Null) => Ordering::Equal,
+            (Cell::Null, _) => Ordering::Less,
+            (_, Cell::Null) => Ordering::Greater,
+            (Cell::Int(one), Cell::Int(other)) => one.cmp(other),
+            (Cell::Int(_), _) => Ordering::Less,
+            (_, Cell::Int(_)) => Ordering::Greater,
+            (Cell::Text(one), Cell::Text(other)) => one
+                .as_str()
+                .as_bytes()
+                .cmp(&other.as_str().as_bytes()),
+            (Cell::Text(_), _) => Ordering::Less,
+            (_, Cell::Text(_)) => Ordering::Greater,
+            (Cell::Flag(one), Cell::Flag(other)) => one.cmp(other),
         }
     }
 }

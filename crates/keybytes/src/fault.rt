@@ -129,7 +129,7 @@ impl Fault {
     fn words(self) -> &'static str {
         match self {
             Fault::BadColumn =>
-                "a column is not there, is named twice, or there are too few or too many",
+                "a column is not there, is named twice, there are too few or too many, or the table does not have such a condition",
             Fault::TextTooLong => "a text is longer than 100 bytes",
             Fault::RowShape => "the row does not fit the table's columns",
             Fault::TableFull => "the table has no page left for the row",

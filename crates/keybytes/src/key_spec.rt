@@ -1,12 +1,13 @@
-ghost use Rattle.std.specs.Prelude.{◌≡◌, ◌≤◌, ◌↔◌, List, [], IsTrue, IsOk, IfOk, IfErr, OnOk, true, None, length, nat_eq};
+ghost use Rattle.std.specs.Prelude.{◌≡◌, ◌≤◌, ◌↔◌, List, [], IsTrue, IsOk, IfOk, IfErr, IfSome, OnOk, true, Some, None, length, nat_eq};
 ghost use Rattle.std.specs.List.{list_any};
 ghost use Rattle.keybytes.specs.Cells.{fits};
-ghost use Rattle.keybytes.specs.Faults.{RefusedFor};
-ghost use Rattle.keybytes.specs.Keys.{are_key_columns, key_columns, key_columns_refusal, key_of, HasKey, IsKeyOf, IsRowOf, StandsForColumns};
+ghost use Rattle.keybytes.specs.Conditions.{condition_refusal, takes};
+ghost use Rattle.keybytes.specs.Faults.{RefusedFor, first_cause};
+ghost use Rattle.keybytes.specs.Keys.{are_key_columns, key_columns, key_columns_refusal, key_of, indexed_key, HasKey, IsKeyOf, IsRowOf, StandsForColumns};
 ghost use Rattle.keybytes.specs.declared.cell.Cell.{Cell};
 
 use crate::key_column::{add_column, read_column};
-use crate::{Cell, Fault, Key, KeyCol, KeyInPlace, Kind, Row, Schema};
+use crate::{Cell, Fault, Key, KeyCol, KeyInPlace, Kind, Row, Schema, When};
 use smallvec::SmallVec;
 use std::alloc::Global;
 use std::marker::Model;
@@ -14,13 +15,14 @@ use std::marker::Model;
 /// The greatest number of columns of a key.
 pub const KEY_COLUMNS_MAX: usize = 4;
 
-/// Which columns of a table make the key of an index, and whether the index is unique.
+/// Which columns of a table make the key of an index, whether the index is unique, and which rows it takes, if it is a partial one.
 ///
 /// Keys of one specification compare as their columns do, each in its direction, and none begins another.
 pub struct KeySpec {
     kinds: Vec<Kind>,
     columns: Vec<KeyCol>,
     unique: bool,
+    condition: Option<When>,
 }
 
 impl Drop for KeySpec {
@@ -29,6 +31,7 @@ impl Drop for KeySpec {
             kinds: _,
             columns: _,
             unique: _,
+            condition: _,
         } = self;
     }
 }
@@ -39,13 +42,13 @@ impl Model for KeySpec {
 
     ghost Value = { KeySpecValue };
 
-    ghost view = { λ spec. record { kinds = spec.kinds.items; columns = spec.columns.items; unique = spec.unique } };
+    ghost view = { λ spec. record { kinds = spec.kinds.items; columns = spec.columns.items; unique = spec.unique; condition = spec.condition } };
 
     ghost invariant = { λ spec. are_key_columns spec.kinds.items spec.columns.items ≡ true };
 }
 
 impl KeySpec {
-    /// The specification of these columns of the schema, in that order. No columns, more than [`KEY_COLUMNS_MAX`], one
+    /// The specification of these columns of the schema, in that order, for an index that takes each row. No columns, more than [`KEY_COLUMNS_MAX`], one
     /// that is named twice, in whichever directions, or one that the schema lacks is [`Fault::BadColumn`].
     pub fn new(
         alloc: Global,
@@ -56,6 +59,7 @@ impl KeySpec {
         ensures kinds { IfOk result (λ spec. spec.kinds ≡ schema.now) }
         ensures columns { IfOk result (λ spec. spec.columns ≡ columns.items) }
         ensures unique { IfOk result (λ spec. spec.unique ≡ unique) }
+        ensures whole { IfOk result (λ spec. spec.condition ≡ None) }
         ensures accepted { OnOk result (key_columns_refusal schema.now columns.items ≡ None) }
         ensures refused { IfErr result (RefusedFor (key_columns_refusal schema.now columns.items)) }
     {
@@ -67,7 +71,25 @@ impl KeySpec {
             kinds,
             columns,
             unique,
+            condition: None,
         })
+    }
+
+    /// The same for an index that takes only the rows that meet the condition, in place of one that it had. The schema is that of
+    /// the table; a column that it lacks, a cell that is Null or of another kind than its column, or a text of more than 100 bytes
+    /// is [`Fault::BadColumn`], and so is what is that by the columns that the specification was made for. Takes no memory.
+    pub fn with_when(self, schema: &Schema, condition: When) -> Result<KeySpec, Fault>
+        ensures same { IfOk result (λ spec. spec ≡ record { kinds = self.kinds; columns = self.columns; unique = self.unique; condition = Some condition }) }
+        ensures accepted { OnOk result (first_cause (condition_refusal schema.now condition) (condition_refusal self.kinds condition) ≡ None) }
+        ensures refused { IfErr result (λ fault.
+            first_cause (condition_refusal schema.now condition) (condition_refusal self.kinds condition) ≡ Some fault) }
+    {
+        if !condition.is_of(schema) || !condition.is_of_kinds(self.kinds.as_slice()) {
+            return Err(Fault::BadColumn);
+        }
+        let mut spec = self;
+        spec.condition = Some(condition);
+        Ok(spec)
     }
 
     /// The key's columns, in the key's order.
@@ -92,14 +114,15 @@ impl KeySpec {
         self.kinds.as_slice() == schema.kinds()
     }
 
-    /// Whether both make keys of tables of the same columns, by the same columns in the same order and directions, and both are unique or
-    /// neither is.
+    /// Whether both make keys of tables of the same columns, by the same columns in the same order and directions, both are unique or
+    /// neither is, and both have the same condition or none.
     pub fn is_same(&self, other: &KeySpec) -> bool
         ensures { IsTrue result ↔ (self.now ≡ other.now) }
     {
         are_same_kinds(self.kinds.as_slice(), other.kinds.as_slice())
             && are_same_columns(self.columns.as_slice(), other.columns.as_slice())
             && self.unique == other.unique
+            && are_same_conditions(&self.condition, &other.condition)
     }
 
     /// A copy, or [`Fault::Memory`].
@@ -109,41 +132,60 @@ impl KeySpec {
     {
         let kinds = self.kinds.clone()?;
         let columns = self.columns.clone()?;
+        let condition = copied(&self.condition)?;
         Ok(KeySpec {
             kinds,
             columns,
             unique: self.unique,
+            condition,
         })
     }
 
-    /// The key of a row of the table; one of up to 24 bytes takes no memory.
-    pub fn key(&self, row: &Row) -> Result<Key, Fault>
+    /// The key that the index has of a row of the table: none of a row that doesn't meet its condition. A key of up to 24 bytes takes
+    /// no memory.
+    pub fn key(&self, row: &Row) -> Result<Option<Key>, Fault>
         requires { fits self.now.kinds row.now ≡ true }
-        ensures value { IfOk result (λ key. key ≡ key_of self.now row.now) }
-        ensures size { IfOk result (λ key. length key ≤ 812) }
-        ensures laws { IfOk result (StandsForColumns self.now row.now) }
-        ensures is_key { IfOk result (IsKeyOf self.now) }
+        ensures value { IfOk result (λ key. key ≡ indexed_key self.now row.now) }
+        ensures size { IfOk result (λ found. IfSome found (λ key. length key ≤ 812)) }
+        ensures laws { IfOk result (λ found. IfSome found (StandsForColumns self.now row.now)) }
+        ensures is_key { IfOk result (λ found. IfSome found (IsKeyOf self.now)) }
         ensures memory { IfErr result (λ fault. fault ≡ Fault.Memory) }
-        ensures inline { length (key_of self.now row.now) ≤ 24 → IsOk result }
+        ensures inline { IfSome (indexed_key self.now row.now) (λ key. length key ≤ 24) → IsOk result }
     {
+        if !self.takes(row) {
+            return Ok(None);
+        }
         let mut bytes = SmallVec::new(*self.kinds.allocator());
         self.write(row, &mut bytes)?;
-        Ok(Key { bytes })
+        Ok(Some(Key { bytes }))
     }
 
-    /// The bytes of the row's key, in place: for a moment when there is no memory for the key.
-    pub fn key_in_place(&self, row: &Row) -> KeyInPlace
+    /// The bytes of the key that the index has of the row, in place: for a moment when there is no memory for the key.
+    pub fn key_in_place(&self, row: &Row) -> Option<KeyInPlace>
         requires { fits self.now.kinds row.now ≡ true }
-        ensures { result ≡ key_of self.now row.now }
+        ensures { result ≡ indexed_key self.now row.now }
     {
+        if !self.takes(row) {
+            return None;
+        }
         let mut bytes = SmallVec::new(*self.kinds.allocator());
         match self.write(row, &mut bytes) {
-            Ok(()) => KeyInPlace { bytes },
+            Ok(()) => Some(KeyInPlace { bytes }),
             Err(_) => unreachable!(),
         }
     }
 
-    /// Writes the bytes of the row's key, and takes memory only where they have no room.
+    /// Whether the index takes the row: it has no condition, or the row meets it.
+    fn takes(&self, row: &Row) -> bool
+        ensures { result ≡ takes self.now.condition row.now }
+    {
+        match &self.condition {
+            None => true,
+            Some(condition) => condition.is_met(row),
+        }
+    }
+
+    /// Writes the bytes that the row's columns make, and takes memory only where they have no room.
     fn write<const N: usize>(&self, row: &Row, bytes: &mut SmallVec<u8, N>) -> Result<(), Fault>
         requires fits { fits self.now.kinds row.now ≡ true }
         requires empty { bytes.old.items ≡ [] }
@@ -221,4 +263,25 @@ fn are_same_columns(one: &[KeyCol], other: &[KeyCol]) -> bool
     ensures { IsTrue result ↔ (one.now ≡ other.now) }
 {
     one == other
+}
+
+fn are_same_conditions(one: &Option<When>, other: &Option<When>) -> bool
+    ensures { IsTrue result ↔ (one.now ≡ other.now) }
+{
+    match (one, other) {
+        (None, None) => true,
+        (Some(one), Some(other)) => one.is_same(other),
+        _ => false,
+    }
+}
+
+/// A copy of the condition, if there is one, or [`Fault::Memory`].
+fn copied(condition: &Option<When>) -> Result<Option<When>, Fault>
+    ensures same { IfOk result (λ copy. copy ≡ condition.now) }
+    ensures memory { IfErr result (λ fault. fault ≡ Fault.Memory) }
+{
+    match condition {
+        None => Ok(None),
+        Some(condition) => Ok(Some(condition.clone()?)),
+    }
 }

@@ -1,6 +1,6 @@
 //! Rows, keys and their bytes: what every layer of the index builder speaks of.
 //!
-//! A [`Row`] is a list of cells, and a [`KeySpec`] says which of its columns make a key. Key bytes compare, as lists
+//! A [`Row`] is a list of cells, and a [`KeySpec`] says which of its columns make a key, and which rows have one. Key bytes compare, as lists
 //! of bytes, the way the columns compare, and no key of a specification begins another: so the layers above sort,
 //! merge and search bytes, and never look into a key. A [`Rid`] says where a row stands, a [`Pair`] is an entry of an index,
 //! and a [`Fault`] says why a call of any layer was refused.
@@ -23,6 +23,7 @@ mod row;
 mod row_bytes;
 mod schema;
 mod text;
+mod when;
 
 pub use cell::{Cell, TEXT_MAX};
 pub use fault::Fault;
@@ -38,3 +39,4 @@ pub use rid::Rid;
 pub use row::{CELLS_MAX, Row};
 pub use schema::{COLUMNS_MAX, Schema};
 pub use text::Text;
+pub use when::When;

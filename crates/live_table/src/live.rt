@@ -32,7 +32,7 @@ use std::alloc::Global;
 use std::collections::vec_deque::Iter;
 use std::marker::{Model, PhantomData};
 
-/// A table, its ready indexes, each of which has the pairs of the rows that stand, which pages the running build copied, and the
+/// A table, its ready indexes, each of which has the pairs of the rows that stand and that it takes, which pages the running build copied, and the
 /// ends of the rings that the table puts into: all that a lock has to keep once threads share it. What stands beside it is a
 /// [`crate::Building`].
 pub struct Live<T: Table> {

@@ -7,14 +7,13 @@ use Rattle.std.proofs.lemmas.Bool.{cases_Bool, false_from_ne_true, false≢true,
 use Rattle.std.proofs.lemmas.Option.{same_Some}
 use Rattle.std.proofs.lemmas.Slice.Eq.{bytes_eq-Decides}
 use Rattle.keybytes.specs.Faults.{first_cause}
-use Rattle.keybytes.specs.Keys.{KeySpecValue, key_of}
+use Rattle.keybytes.specs.Keys.{KeySpecValue, key_there}
 use Rattle.keybytes.specs.declared.cell.Cell.{Cell}
 use Rattle.keybytes.specs.declared.fault.Fault.{Fault}
 use Rattle.keybytes.specs.declared.fault.Fault.TheVariants.{Duplicate}
 use Rattle.keybytes.specs.declared.pair.Pair.{Pair}
 use Rattle.keybytes.specs.declared.rid.Rid.{Rid}
-use Rattle.keybytes.specs.Pairs.{pair_cmp, pair_with}
-use Rattle.ready_indexes.specs.Indexes.{ReadyValue}
+use Rattle.keybytes.specs.Pairs.{pair_cmp}
 use Rattle.std.specs.Ordering.{eq_by_cmp}
 use Rattle.keybytes.proofs.PairSets.{is_in, is_pair, in_set, itself, tied_pairs}
 use Rattle.heap_table.proofs.TablePairs.{all_listed, row_written}
@@ -23,8 +22,9 @@ use Rattle.heap_log.specs.declared.record.LogRec.{LogRec}
 use Rattle.heap_table.specs.TablePairs.{pairs_at_rest, pair_at, written_rids}
 use Rattle.btree.specs.TreeValue.{is_key, rids_of}
 use Rattle.btree.proofs.OneKey.{key_same, has_same}
-use Rattle.key_guards.specs.KeyRefusals.{rid_with, other_guard, duplicate_refusal, guarded_refusal, new_key_refusal, key_refusal}
-use Rattle.key_guards.specs.UniqueKeys.{has_key, KeysAreUnique}
+use Rattle.key_guards.specs.KeyRefusals.{rid_with, other_guard, duplicate_refusal, guarded_refusal, new_key_refusal, next_key_refusal}
+use Rattle.key_guards.specs.UniqueKeys.{has_key, is_its_key, KeysAreUnique}
+use Rattle.ready_indexes.specs.KeyCauses.{found_for}
 use Rattle.std.specs.Prelude.{Result, Ok, Err, MatchResult, OnOk, IfErr}
 use Rattle.key_guards.proofs.Refusals.{find_passes, no_rid_with}
 
@@ -72,47 +72,48 @@ row_with spec log key rid found =
     let there : is_pair (pair_at spec log q.rid) q ≡ true =
     sym (all_listed spec log (written_rids log) (row_written log) q) ∙ sym (in_set q (filter_map (pair_at spec log) (written_rids log)))
     ∙ found_in (λ pair. bytes_eq pair.key key) (pairs_at_rest spec log) q it.1 in
-    subst (λ r. has_key spec key (live_at log r) ≡ true) it.2 (at q passes (live_at log q.rid) there) where
-      at : (q : Pair) → bytes_eq q.key key ≡ true → (row : Option (List Cell)) → is_pair (pair_with spec q.rid row) q ≡ true → has_key spec key row ≡ true
+    subst (λ r. has_key spec key (live_at log r) ≡ true) it.2 (at q passes (key_there spec (live_at log q.rid)) there) where
+      at : (q : Pair) → bytes_eq q.key key ≡ true → (own : Option (List ℕ)) → is_pair (option_map (λ bytes. record { key = bytes; rid = q.rid }) own) q ≡ true
+          → is_its_key key own ≡ true
       at q passes None there = absurd (false≢true there)
-      at q passes (Some cells) there =
-          let same : q ≡ record { key = key_of spec cells; rid = q.rid } = tied_pairs q _ there in
+      at q passes (Some own) there =
+          let same : q ≡ record { key = own; rid = q.rid } = tied_pairs q _ there in
           ap (λ (p : Pair). bytes_eq p.key key) (sym same) ∙ passes
 
 -- what the tree answers is the row that has the key
-pub found_row : (index : ReadyValue) (pairs : List Pair) (log : List LogRec) (key : List ℕ) (cells : List Cell) (rid : Option Rid) → key ≡ key_of index.spec cells
-    → pairs ≡ pairs_at_rest index.spec log → rid ≡ slice_get (rids_of key pairs) 0 → rid ≡ rid_with index.spec log (key_of index.spec cells)
-found_row index pairs log key cells rid is_key are found_is =
-    found_is ∙ ap (λ ps. slice_get (rids_of key ps) 0) are ∙ ap (λ k. slice_get (rids_of k (pairs_at_rest index.spec log)) 0) is_key
-    ∙ first_with (key_of index.spec cells) (pairs_at_rest index.spec log)
+pub found_row : (spec : KeySpecValue) (pairs : List Pair) (log : List LogRec) (key : List ℕ) (rid : Option Rid) → pairs ≡ pairs_at_rest spec log
+    → rid ≡ slice_get (rids_of key pairs) 0 → rid ≡ rid_with spec log key
+found_row spec pairs log key rid are found_is =
+    found_is ∙ ap (λ ps. slice_get (rids_of key ps) 0) are ∙ first_with key (pairs_at_rest spec log)
 
-module _ (number : ℕ) (spec : KeySpecValue) (log : List LogRec) (txn : ℕ) (rid : Rid) (cells : List Cell) where
-  abbrev its_key : List ℕ
-  its_key = key_of spec cells
-
-  abbrev cause : Option Fault
-  cause = key_refusal number spec log txn (live_at log rid) (Some cells)
+module _ (number : ℕ) (spec : KeySpecValue) (log : List LogRec) (txn : ℕ) (rid : Rid) where
+  -- why that key may not be put at the RID, if it is one
+  abbrev cause : Option (List ℕ) → Option Fault
+  cause new = next_key_refusal number spec log txn (key_there spec (live_at log rid)) new
 
   -- the RID has the key already
-  pub keeps_key : rid_with spec log its_key ≡ Some rid → cause ≡ None
-  keeps_key found =
-      cond-true (has_key spec its_key (live_at log rid)) None (new_key_refusal number spec log txn its_key) (row_with spec log its_key rid found)
+  pub keeps_key : (new : Option (List ℕ)) → found_for (rid_with spec log) new ≡ Some rid → cause new ≡ None
+  keeps_key None found = refl
+  keeps_key (Some key) found = cond-true (has_key spec key (live_at log rid)) None (new_key_refusal number spec log txn key) (row_with spec log key rid found)
 
-  gives_key : has_key spec its_key (live_at log rid) ≡ false → cause ≡ new_key_refusal number spec log txn its_key
-  gives_key has_not = cond-false (has_key spec its_key (live_at log rid)) None (new_key_refusal number spec log txn its_key) has_not
+  gives_key : (key : List ℕ) → has_key spec key (live_at log rid) ≡ false → cause (Some key) ≡ new_key_refusal number spec log txn key
+  gives_key key has_not = cond-false (has_key spec key (live_at log rid)) None (new_key_refusal number spec log txn key) has_not
 
   -- another has it
-  pub other_has : (other : Rid) → KeysAreUnique spec log → rid_with spec log its_key ≡ Some other → other ≢ rid → cause ≡ Some (Duplicate number other)
-  other_has other unique found apart =
-      gives_key (false_from_ne_true (has_key spec its_key (live_at log rid))
-      (λ has. apart (unique.one its_key other rid (row_with spec log its_key other found) has)))
-      ∙ ap (λ o. first_cause (duplicate_refusal number o) (guarded_refusal number (other_guard spec log txn its_key))) found
+  pub other_has : (new : Option (List ℕ)) (other : Rid) → KeysAreUnique spec log → found_for (rid_with spec log) new ≡ Some other → other ≢ rid
+      → cause new ≡ Some (Duplicate number other)
+  other_has None other unique found apart = absurd (cc)
+  other_has (Some key) other unique found apart =
+      gives_key key (false_from_ne_true (has_key spec key (live_at log rid))
+      (λ has. apart (unique.one key other rid (row_with spec log key other found) has)))
+      ∙ ap (λ o. first_cause (duplicate_refusal number o) (guarded_refusal number (other_guard spec log txn key))) found
 
   -- none has it
-  pub none_has : rid_with spec log its_key ≡ None → cause ≡ guarded_refusal number (other_guard spec log txn its_key)
-  none_has none =
-      gives_key (no_rid_with spec log its_key none rid)
-      ∙ ap (λ o. first_cause (duplicate_refusal number o) (guarded_refusal number (other_guard spec log txn its_key))) none
+  pub none_has : (new : Option (List ℕ)) → found_for (rid_with spec log) new ≡ None → cause new ≡ guarded_refusal number (found_for (other_guard spec log txn) new)
+  none_has None none = refl
+  none_has (Some key) none =
+      gives_key key (no_rid_with spec log key none rid)
+      ∙ ap (λ o. first_cause (duplicate_refusal number o) (guarded_refusal number (other_guard spec log txn key))) none
 
 -- what a check of one cause tells of the same cause otherwise told
 module _ {T : Type 0} (r : Result T Fault) (told cause : Option Fault) (same : cause ≡ told) (is : MatchResult r (λ _. told ≡ None) (λ fault. told ≡ Some fault)) where

@@ -2,15 +2,14 @@
 use Rattle.std.proofs.Common.{◌≡◌, true, false, List, [], ◌∷◌, ◌++◌, ℕ, Option, Some, None, refl, sym, ap, ◌∙◌, inl, inr}
 use Rattle.std.specs.Prelude.{nat_eq}
 use Rattle.std.specs.Cmp.Lexicographic.{pointwise}
-use Rattle.std.specs.Option.{option_map}
 use Rattle.std.specs.Str.{bytes_eq}
 use Rattle.std.proofs.lemmas.Slice.Eq.{bytes_eq-Decides}
 use Rattle.std.proofs.lemmas.Bool.{cases_Bool, false_from_ne_true, false≢true}
-use Rattle.keybytes.specs.Keys.{KeySpecValue, key_of}
+use Rattle.keybytes.specs.Keys.{KeySpecValue, key_there}
 use Rattle.keybytes.specs.Pairs.{pair_with}
 use Rattle.keybytes.specs.declared.cell.Cell.{Cell}
 use Rattle.keybytes.specs.declared.rid.Rid.{Rid}
-use Rattle.key_guards.specs.GuardLists.{key_taken}
+use Rattle.key_guards.specs.GuardLists.{key_left, key_taken}
 use Rattle.visibility.specs.SideEntries.{SideEntry, changes, entries_of_change, pair_under, delete_at, insert_at, delete, insert}
 use Rattle.visibility.specs.declared.change.Change.{Change}
 
@@ -29,30 +28,22 @@ left_is rid change = by_parts change.delete change.insert where
   by_parts (Some key) None = refl
   by_parts (Some key) (Some new) = refl
 
-left_of : (spec : KeySpecValue) (rid : Rid) (old new : Option (List Cell)) → left_by (changes (pair_with spec rid old) (pair_with spec rid new)) ≡ key_taken spec old new
+left_of : (rid : Rid) (old new : Option (List ℕ)) → left_by (changes (pair_under rid old) (pair_under rid new)) ≡ key_left old new
 unfolding left_by
-left_of spec rid None None = refl
-left_of spec rid None (Some cells) = refl
-left_of spec rid (Some cells) None = refl
-left_of spec rid (Some cells) (Some news) =
-    let old : List ℕ = key_of spec cells in
-    let new : List ℕ = key_of spec news in
-    elim (cases_Bool (pointwise nat_eq old new)) [
-      | inl same ↦
-          let alike : bytes_eq new old ≡ true = (bytes_eq-Decides new old).1 (sym ((bytes_eq-Decides old new).0 same)) in
-          rw (same, alike) refl
-      | inr other ↦
-          let unlike : bytes_eq new old ≡ false =
-          false_from_ne_true (bytes_eq new old) (λ alike. false≢true (sym other ∙ (bytes_eq-Decides old new).1 (sym ((bytes_eq-Decides new old).0 alike)))) in
-          rw (other, unlike) refl
-    ]
+left_of rid None None = refl
+left_of rid None (Some key) = refl
+left_of rid (Some key) None = refl
+left_of rid (Some old) (Some new) = elim (cases_Bool (pointwise nat_eq old new)) [
+  | inl same ↦
+      let alike : bytes_eq new old ≡ true = (bytes_eq-Decides new old).1 (sym ((bytes_eq-Decides old new).0 same)) in
+      rw (same, alike) refl
+  | inr other ↦
+      let unlike : bytes_eq new old ≡ false =
+      false_from_ne_true (bytes_eq new old) (λ alike. false≢true (sym other ∙ (bytes_eq-Decides old new).1 (sym ((bytes_eq-Decides new old).0 alike)))) in
+      rw (other, unlike) refl
+]
 
 pub taken_is :
     (spec : KeySpecValue) (rid : Rid) (old new : Option (List Cell)) (change : Change)
     → entries_of_change rid change ≡ changes (pair_with spec rid old) (pair_with spec rid new) → change.delete ≡ key_taken spec old new
-taken_is spec rid old new change are = sym (left_is rid change) ∙ ap left_by are ∙ left_of spec rid old new
-
--- the pair of a row's key
-pub key_with : (spec : KeySpecValue) (rid : Rid) (row : Option (List Cell)) → pair_under rid (option_map (key_of spec) row) ≡ pair_with spec rid row
-key_with spec rid None = refl
-key_with spec rid (Some cells) = refl
+taken_is spec rid old new change are = sym (left_is rid change) ∙ ap left_by are ∙ left_of rid (key_there spec old) (key_there spec new)

@@ -41,7 +41,7 @@ indexes_of indexes = map (λ it. it.index) indexes
 abbrev pub HasGuards : List LogRec → KeySpecValue → GuardsValue → Type 0
 HasGuards log spec guards = spec.unique ≡ true → IsGuarded spec log guards
 
--- an index is of a table with these columns and has the pairs of the rows that stand, and its guards follow the log
+-- an index is of a table with these columns and has the pairs of the rows that stand and that it takes, and its guards follow the log
 pub record Follows (kinds : List Kind) (log : List LogRec) (it : GuardedIndex) : Type 0 where
   pub columns : it.index.spec.kinds ≡ kinds
   pub pairs : it.index.pairs ≡ pairs_at_rest it.index.spec log

@@ -17,14 +17,14 @@ pub record IsIndex (spec : KeySpecValue) (pairs : List Pair) : Type 0 where
   pub keys : HaveKeysOf spec pairs
   pub order : AreInColumnOrder spec pairs
 
--- an index with the pairs of the rows that stand
+-- an index with the pairs of the rows that stand and that it takes
 abbrev pub index_now : List LogRec → KeySpecValue → ReadyValue
 index_now log spec = record { spec = spec; pairs = pairs_at_rest spec log }
 
--- the ready indexes, each with the pairs of the rows that stand
+-- the ready indexes, each with the pairs of the rows that stand and that it takes
 abbrev pub ready_now : List LogRec → List ReadyValue → List ReadyValue
 ready_now log ready = map (λ index. index_now log index.spec) ready
 
--- each ready index has the pairs of the rows that stand
+-- each ready index has the pairs of the rows that stand and that it takes
 abbrev pub FollowTable : List LogRec → List ReadyValue → Type 0
 FollowTable log ready = All (λ index. index.pairs ≡ pairs_at_rest index.spec log) ready

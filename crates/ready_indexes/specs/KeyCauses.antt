@@ -1,9 +1,9 @@
 -- Why a transaction may not write a row, for the sake of the ready indexes that are unique.
 use Rattle.std.specs.List.{All}
-use Rattle.std.specs.Prelude.{◌≡◌, ℕ, ◌+◌, true, if◌then◌else◌, List, [], ◌∷◌, Option, None}
+use Rattle.std.specs.Prelude.{◌≡◌, ℕ, ◌+◌, true, if◌then◌else◌, List, [], ◌∷◌, Option, Some, None}
 use Rattle.keybytes.specs.Faults.{first_cause}
 use Rattle.keybytes.specs.Cells.{fits}
-use Rattle.keybytes.specs.Keys.{KeySpecValue, key_of}
+use Rattle.keybytes.specs.Keys.{KeySpecValue, indexed_key}
 use Rattle.keybytes.specs.declared.cell.Cell.{Cell}
 use Rattle.keybytes.specs.declared.fault.Fault.{Fault}
 use Rattle.keybytes.specs.declared.rid.Rid.{Rid}
@@ -35,6 +35,12 @@ pub record MayAsk (heap : HeapState) (it : GuardedIndex) (cells : List Cell) : T
   pub unique : it.index.spec.unique ≡ true
   pub fits : fits heap.schema cells ≡ true
 
--- these are the row that has the key of these cells, and another transaction that may give it back
-abbrev pub AreFound : KeySpecValue → List LogRec → ℕ → List Cell → Option Rid → Option ℕ → Type 0
-AreFound spec log txn cells holder guard = (holder ≡ rid_with spec log (key_of spec cells)) × (guard ≡ other_guard spec log txn (key_of spec cells))
+-- what is found for a key, where there is one
+abbrev pub found_for : {A : Type 0} → (List ℕ → Option A) → Option (List ℕ) → Option A
+found_for found None = None
+found_for found (Some key) = found key
+
+-- these are the row that has the key that the index has of these cells, if it has one, and another transaction that may give it back
+pub record AreFound (spec : KeySpecValue) (log : List LogRec) (txn : ℕ) (cells : List Cell) (holder : Option Rid) (guard : Option ℕ) : Type 0 where
+  pub holder_is : holder ≡ found_for (rid_with spec log) (indexed_key spec cells)
+  pub guard_is : guard ≡ found_for (other_guard spec log txn) (indexed_key spec cells)

@@ -56,13 +56,16 @@ impl ReadyIndex {
         }
     }
 
-    /// Which row has that row's key, and which other transaction may give it back.
+    /// Which row has that row's key, if the index takes the row, and which other transaction may give it back.
     fn ask(&self, heap: &Heap, txn: u64, row: &Row) -> (Option<Rid>, Option<u64>)
         requires { MayAsk heap.now.state self.now row.now }
         ensures { AreFound self.now.index.spec heap.now.state.log txn row.now result.0 result.1 }
     {
-        let Ok(key) = self.spec.key(row) else {
+        let Ok(found) = self.spec.key(row) else {
             return self.ask_in_place(heap, txn, row);
+        };
+        let Some(key) = found else {
+            return (None, None);
         };
         heap.laws();
         (self.tree.first_rid(&key), self.guards.other(txn, &key))
@@ -74,8 +77,10 @@ impl ReadyIndex {
         requires { MayAsk heap.now.state self.now row.now }
         ensures { AreFound self.now.index.spec heap.now.state.log txn row.now result.0 result.1 }
     {
+        let Some(key) = self.spec.key_in_place(row) else {
+            return (None, None);
+        };
         heap.laws();
-        let key = self.spec.key_in_place(row);
         let bytes = key.bytes();
         (
             self.tree.first_rid_of_bytes(bytes),

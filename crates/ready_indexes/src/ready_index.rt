@@ -13,7 +13,7 @@ ghost use Rattle.visibility.specs.SideEntries.{changes, entries_of_change};
 ghost use Rattle.ready_indexes.specs.Indexes.{IsIndex};
 ghost use Rattle.ready_indexes.specs.Following.{Follows, GoesOn, HasGuards, FitsColumns, IsPrepared, LetsIn, MayBeGuarded};
 
-use crate::key_of;
+use crate::key_there;
 use btree::Tree;
 use heap_table::{Heap, Ready};
 use key_guards::Guards;
@@ -149,7 +149,11 @@ fn change_of(spec: &KeySpec, ready: &Ready) -> Result<Change, Fault>
         ≡ changes (pair_with spec.now ready.now.rid ready.now.old) (pair_with spec.now ready.now.rid ready.now.new)) }
     ensures memory { IfErr result (λ fault. fault ≡ Fault.Memory) }
 {
-    Ok(entries(key_of(spec, &ready.old)?, key_of(spec, &ready.new)?, true))
+    Ok(entries(
+        key_there(spec, &ready.old)?,
+        key_there(spec, &ready.new)?,
+        true,
+    ))
 }
 
 /// Takes the pair of the old key at the RID out of a tree, and puts the one of the new key in; gives the key that left.

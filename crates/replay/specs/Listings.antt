@@ -2,11 +2,13 @@
 use Rattle.std.specs.Prelude.{◌≡◌, ℕ, ◌+◌, Vec, slice_get, List, [], ◌∷◌, Option, Some, None, ◌⊎◌}
 use Rattle.std.specs.declared.alloc.Global.{Global}
 use Rattle.std.specs.List.{AllZip}
-use Rattle.keybytes.specs.Faults.{RefusedFor}
+use Rattle.keybytes.specs.Conditions.{condition_refusal}
+use Rattle.keybytes.specs.Faults.{RefusedFor, first_cause}
 use Rattle.keybytes.specs.Keys.{KeySpecValue, HasKey, key_columns_refusal}
 use Rattle.keybytes.specs.declared.fault.Fault.{Fault}
 use Rattle.keybytes.specs.declared.fault.Fault.TheVariants.{BadCount}
 use Rattle.keybytes.specs.declared.kind.Kind.{Kind}
+use Rattle.keybytes.specs.declared.when.When.{When}
 use Rattle.keybytes.specs.declared.rid.Rid.{Rid}
 use Rattle.heap_log.specs.declared.outcome.Outcome.{Outcome}
 use Rattle.heap_log.specs.declared.outcome.Outcome.TheVariants.{Ready, Shared}
@@ -26,7 +28,16 @@ use Rattle.script.specs.declared.spec.Spec.{Spec}
 
 -- the key specification that a script names, of a table with these columns
 abbrev pub key_spec_of : List Kind → Spec → KeySpecValue
-key_spec_of schema spec = record { kinds = schema; columns = spec.columns.items; unique = spec.unique }
+key_spec_of schema spec = record { kinds = schema; columns = spec.columns.items; unique = spec.unique; condition = spec.condition }
+
+-- why an index of a table with these columns may not have the condition, if one is named
+abbrev pub when_refusal : List Kind → Option When → Option Fault
+when_refusal schema None = None
+when_refusal schema (Some condition) = condition_refusal schema condition
+
+-- why a table with these columns has no such specification: for its columns, or for its condition
+abbrev pub spec_refusal : List Kind → Spec → Option Fault
+spec_refusal schema spec = first_cause (key_columns_refusal schema spec.columns.items) (when_refusal schema spec.condition)
 
 -- the line lists the pair: the columns of its key, and where its row stands
 abbrev pub ListsPair : KeySpecValue → Pair → PairLine → Type 0
@@ -78,7 +89,7 @@ abbrev pub ListsRest : Spec → CoreState → Answer → CoreState → Type 0
 ListsRest spec old given new =
     OnlyVisits old new
     × (ListsPairs (key_spec_of old.live.heap.schema spec) (pairs_at_rest (key_spec_of old.live.heap.schema spec) old.live.heap.log) given
-    ⊎ ((fault : Fault) × (given ≡ answer.Refused fault) × RefusedFor (key_columns_refusal old.live.heap.schema spec.columns.items) fault))
+    ⊎ ((fault : Fault) × (given ≡ answer.Refused fault) × RefusedFor (spec_refusal old.live.heap.schema spec) fault))
 
 -- the line lists the entry: what it does, the columns of its key, and where the row stands
 pub record ListsEntry (spec : KeySpecValue) (entry : Entry) (line : EntryLine) : Type 0 where

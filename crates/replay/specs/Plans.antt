@@ -1,7 +1,6 @@
 -- The plan that a command `start` asks for.
 use Rattle.std.specs.Prelude.{◌≡◌, not, is_some, vec_len, List, [], ◌∷◌, map, Option, None}
 use Rattle.keybytes.specs.Faults.{first_cause}
-use Rattle.keybytes.specs.Keys.{key_columns_refusal}
 use Rattle.keybytes.specs.declared.fault.Fault.{Fault}
 use Rattle.keybytes.specs.declared.fault.Fault.TheVariants.{BadCount, BuildRunning}
 use Rattle.keybytes.specs.declared.kind.Kind.{Kind}
@@ -11,7 +10,7 @@ use Rattle.build_events.specs.declared.plan.Plan.{Plan}
 use Rattle.script.specs.declared.spec.Spec.{Spec}
 use Rattle.script.specs.declared.start.Start.{Start}
 use Rattle.replay.specs.Limits.{is_in_limits}
-use Rattle.replay.specs.Listings.{key_spec_of}
+use Rattle.replay.specs.Listings.{key_spec_of, spec_refusal}
 
 -- why no plan is made: a build runs, or a count is out of its limits
 abbrev pub planning_refusal : CoreState → Start → Option Fault
@@ -22,7 +21,7 @@ planning_refusal s start =
 -- why the first of the key specifications that is refused is so, on a table with these columns
 abbrev pub specs_refusal : List Kind → List Spec → Option Fault
 specs_refusal schema [] = None
-specs_refusal schema (spec ∷ specs) = first_cause (key_columns_refusal schema spec.columns.items) (specs_refusal schema specs)
+specs_refusal schema (spec ∷ specs) = first_cause (spec_refusal schema spec) (specs_refusal schema specs)
 
 -- the plan is the one asked for, of a table with these columns
 pub record IsPlanOf (schema : List Kind) (start : Start) (plan : Plan) : Type 0 where

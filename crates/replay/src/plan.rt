@@ -1,13 +1,12 @@
 //! What a build is asked for.
-ghost use Rattle.std.specs.Prelude.{◌≡◌, ◌≢◌, map, None, Some, IfOk, IfErr, OnOk};
+ghost use Rattle.std.specs.Prelude.{◌≡◌, ◌≢◌, ◌↔◌, map, None, Some, IsTrue, IfOk, IfErr, OnOk};
 ghost use Rattle.keybytes.specs.Faults.{RefusedFor};
-ghost use Rattle.keybytes.specs.Keys.{key_columns_refusal};
 ghost use Rattle.replay.specs.Limits.{is_in_limits};
-ghost use Rattle.replay.specs.Listings.{key_spec_of};
+ghost use Rattle.replay.specs.Listings.{key_spec_of, spec_refusal, when_refusal};
 ghost use Rattle.replay.specs.Plans.{specs_refusal};
 
 use builder_core::{INDEXES_MAX, WORKERS_MAX};
-use keybytes::{Fault, KeySpec, Schema};
+use keybytes::{Fault, KeySpec, Schema, When};
 use script::Spec;
 use std::alloc::Global;
 
@@ -25,13 +24,33 @@ pub fn is_in_limits(workers: usize, indexes: usize, quota: usize) -> bool
 
 /// The key specification, of a table with these columns.
 pub fn key_spec(alloc: Global, schema: &Schema, spec: Spec) -> Result<KeySpec, Fault>
-    ensures table { IfOk result (λ made. made.kinds ≡ schema.now) }
-    ensures columns { IfOk result (λ made. made.columns ≡ spec.columns.items) }
-    ensures unique { IfOk result (λ made. made.unique ≡ spec.unique) }
-    ensures accepted { OnOk result (key_columns_refusal schema.now spec.columns.items ≡ None) }
-    ensures refused { IfErr result (RefusedFor (key_columns_refusal schema.now spec.columns.items)) }
+    ensures made { IfOk result (λ made. made ≡ key_spec_of schema.now spec) }
+    ensures accepted { OnOk result (spec_refusal schema.now spec ≡ None) }
+    ensures refused { IfErr result (RefusedFor (spec_refusal schema.now spec)) }
 {
-    KeySpec::new(alloc, schema, spec.columns, spec.unique)
+    let Spec {
+        unique,
+        columns,
+        condition,
+    } = spec;
+    if !may_ask(schema, &condition) {
+        return Err(Fault::BadColumn);
+    }
+    let made = KeySpec::new(alloc, schema, columns, unique)?;
+    match condition {
+        Some(condition) => made.with_when(schema, condition),
+        None => Ok(made),
+    }
+}
+
+/// Whether rows of the table may be asked for the condition, if there is one. That is known before memory is wanted.
+fn may_ask(schema: &Schema, condition: &Option<When>) -> bool
+    ensures { IsTrue result ↔ (when_refusal schema.now condition.now ≡ None) }
+{
+    match condition {
+        Some(condition) => condition.is_of(schema),
+        None => true,
+    }
 }
 
 /// The key specifications of a build, of a table with these columns. The first that is refused decides.

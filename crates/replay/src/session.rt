@@ -2,14 +2,13 @@
 ghost use Rattle.std.specs.Prelude.{◌≡◌, ◌≢◌, [], map, Some, None, OnOk, IfOk, IfErr};
 ghost use Rattle.std.specs.List.{list_any};
 ghost use Rattle.keybytes.specs.Faults.{RefusedFor};
-ghost use Rattle.keybytes.specs.Keys.{key_columns_refusal};
 ghost use Rattle.replay.specs.Answers.{Happens, answer_of};
 ghost use Rattle.replay.specs.Sessions.{state_of, Answers, IsNew, Runs};
 ghost use Rattle.replay.specs.Leasing.{KeepsBuild};
 ghost use Rattle.replay.specs.Limits.{is_refusal};
 ghost use Rattle.build_scan.specs.SideFiles.{side_refusal};
 ghost use Rattle.replay.specs.declared.answer.Answer.{Answer};
-ghost use Rattle.replay.specs.Listings.{key_spec_of, ListsLeft};
+ghost use Rattle.replay.specs.Listings.{key_spec_of, spec_refusal, ListsLeft};
 ghost use Rattle.replay.specs.Plans.{specs_refusal};
 
 use crate::answer::Answer;
@@ -307,11 +306,9 @@ impl Session {
 
     /// The key specification, of the table's columns.
     fn key_spec<T: Table>(&self, core: &Core<SpoolOfKind, T>, spec: Spec) -> Result<KeySpec, Fault>
-        ensures table { IfOk result (λ made. made.kinds ≡ core.now.live.heap.schema) }
-        ensures columns { IfOk result (λ made. made.columns ≡ spec.columns.items) }
-        ensures unique { IfOk result (λ made. made.unique ≡ spec.unique) }
-        ensures accepted { OnOk result (key_columns_refusal core.now.live.heap.schema spec.columns.items ≡ None) }
-        ensures refused { IfErr result (RefusedFor (key_columns_refusal core.now.live.heap.schema spec.columns.items)) }
+        ensures made { IfOk result (λ made. made ≡ key_spec_of core.now.live.heap.schema spec) }
+        ensures accepted { OnOk result (spec_refusal core.now.live.heap.schema spec ≡ None) }
+        ensures refused { IfErr result (RefusedFor (spec_refusal core.now.live.heap.schema spec)) }
     {
         let schema = core.live().heap().schema();
         key_spec(self.alloc, schema, spec)

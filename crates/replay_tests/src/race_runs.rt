@@ -21,7 +21,7 @@ struct Race {
     status: u8,
 }
 
-const RACES: [Race; 10] = [
+const RACES: [Race; 12] = [
     Race {
         name: "two indexes with spools of both kinds",
         begin: "table,4,int\nspools,mixed\n",
@@ -38,6 +38,59 @@ verdict,1,ready:1
 session,1,3,0
 check,0,same
 check,1,same
+receipts,0
+pages,0
+",
+        err: "",
+        status: 0,
+    },
+    Race {
+        name: "a partial index and a whole one",
+        begin: "table,4,int,flag\nrow,1000,true\nrow,1001,false\nrow,1002,~\n",
+        rows: 0,
+        rest: "build,4,even:2,u:0?1=true,n:0
+go
+in,1,begin,A
+in,1,update,A,0.0,1000,false
+in,1,update,A,0.1,1001,true
+in,1,insert,A,1003,true
+in,1,commit,A
+in,2,begin,B
+in,2,insert,B,1002,true
+in,2,update,B,0.2,1002,false
+in,2,commit,B
+",
+        workers: 2,
+        out: "verdict,0,ready:0
+verdict,1,ready:1
+session,1,5,0
+session,2,4,0
+check,0,same
+check,1,same
+receipts,0
+pages,0
+",
+        err: "",
+        status: 0,
+    },
+    Race {
+        name: "a unique index on a column that descends",
+        begin: "table,4,int\n",
+        rows: 300,
+        rest: "build,4,even:2,u:0d
+go
+in,1,begin,A
+in,1,insert,A,-1
+in,1,commit,A
+in,2,begin,B
+in,2,delete,B,0.3
+in,2,undo,B
+",
+        workers: 2,
+        out: "verdict,0,ready:0
+session,1,3,0
+session,2,3,0
+check,0,same
 receipts,0
 pages,0
 ",

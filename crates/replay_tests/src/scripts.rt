@@ -5,6 +5,7 @@ mod builds;
 mod catching_up;
 mod descending;
 mod odd_bytes;
+mod partial;
 mod several_indexes;
 mod spelled;
 mod spools;
@@ -17,7 +18,7 @@ use crate::case::Case;
 use crate::printed::Printed;
 use std::alloc::Global;
 
-fn cases() -> [&'static [Case]; 12] {
+fn cases() -> [&'static [Case]; 13] {
     [
         &tables::CASES,
         &transactions::CASES,
@@ -31,6 +32,7 @@ fn cases() -> [&'static [Case]; 12] {
         &odd_bytes::CASES,
         &spools::CASES,
         &descending::CASES,
+        &partial::CASES,
     ]
 }
 

@@ -5,7 +5,7 @@ use std::alloc::{AllocError, Global};
 use std::test::Fail;
 
 /// Records that are bad, each behind a record `table`.
-static BAD: [&str; 101] = [
+static BAD: [&str; 113] = [
     "\"\"",
     ",row",
     " row,1",
@@ -107,6 +107,18 @@ static BAD: [&str; 101] = [
     "pairs",
     "rest",
     "rest,n:0,n:1",
+    "rest,n:0?",
+    "rest,n:0?1",
+    "rest,n:0?1=",
+    "rest,n:0?1<",
+    "rest,n:0?=1",
+    "rest,n:0?1>2",
+    "rest,n:0?1~1",
+    "rest,n:0?1d~",
+    "rest,n:?1~",
+    "rest,n:0;?1~",
+    "rest,n:0?1=true?",
+    "rest,?1~",
 ];
 
 /// Whether a run says just that.

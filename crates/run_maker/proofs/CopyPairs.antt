@@ -82,7 +82,7 @@ module _
   -- an index has these pairs
   abbrev pub has_pairs : HasPairs (spec_at specs i) image (pairs_before (spec_at specs i) image.page rows (length image.slots))
   has_pairs =
-      let its : (spec_at specs i).kinds ≡ kinds = columns i (record { kinds = []; columns = []; unique = false }) lt in
+      let its : (spec_at specs i).kinds ≡ kinds = columns i (record { kinds = []; columns = []; unique = false; condition = None }) lt in
       record {
         rows = rows;
         shows = λ slot. subst (λ (ks : List Kind). Shows ks (image_slot image slot) (rows slot)) (sym its) (are slot);

@@ -1,5 +1,5 @@
 -- What a maker holds of each index, and what its calls make of it.
-use Rattle.std.specs.Prelude.{◌≡◌, ℕ, ◌<◌, ◌≤◌, false, List, [], ◌++◌, All, length, get_or, Option}
+use Rattle.std.specs.Prelude.{◌≡◌, ℕ, ◌<◌, ◌≤◌, false, List, [], ◌++◌, All, length, get_or, Option, None}
 use Rattle.std.specs.Option.{option_to_list}
 use Rattle.keybytes.specs.Keys.{KeySpecValue}
 use Rattle.keybytes.specs.Pairs.{pair_with}
@@ -20,7 +20,7 @@ pub record MakerValue : Type 0 where
 
 -- the specification of index i
 abbrev pub spec_at : List KeySpecValue → ℕ → KeySpecValue
-spec_at specs i = get_or specs i (record { kinds = []; columns = []; unique = false })
+spec_at specs i = get_or specs i (record { kinds = []; columns = []; unique = false; condition = None })
 
 -- spools that a maker may put runs into: none has an empty closed run, or a pair in its open run
 pub record AreReady (runs : List (List (List Pair))) (open_runs : List (List Pair)) : Type 0 where
@@ -44,11 +44,11 @@ AddsAt i made old new = Adds made (get_or old.runs i []) (get_or old.begun i [])
 abbrev pub AddsFirst : ℕ → List Pair → Holdings → Holdings → Type 0
 AddsFirst i made old new = (first : List Pair) × (others : List Pair) × (made ≡ first ++ others) × AddsAt i first old new
 
--- each index is held with the pair of a row more, if there is a row
+-- each index is held with the pair of a row more, if there is a row that it takes
 abbrev pub TakesRow : List KeySpecValue → Rid → Option (List Cell) → Holdings → Holdings → Type 0
 TakesRow specs rid row old new = (i : ℕ) → i < length specs → AddsAt i (option_to_list (pair_with (spec_at specs i) rid row)) old new
 
--- some indexes are held with the pair of a row more, if there is a row, and the others as before
+-- some indexes are held with the pair of a row more, if there is a row that they take, and the others as before
 abbrev pub TakesRowPart : List KeySpecValue → Rid → Option (List Cell) → Holdings → Holdings → Type 0
 TakesRowPart specs rid row old new = (i : ℕ) → i < length specs → AddsFirst i (option_to_list (pair_with (spec_at specs i) rid row)) old new
 
@@ -68,7 +68,7 @@ Seals old runs = (i : ℕ) → i < length old.begun → Spooled (get_or old.begu
 abbrev pub AreHeld : Holdings → ℕ → List Pair → Type 0
 AreHeld held i pairs = pairs ≡ held_at i held
 
--- or are held with the pair of a row behind them, if there is a row
+-- or are held with the pair of a row behind them, if there is a row that the index takes
 abbrev pub AreHeldWithRow : List KeySpecValue → Rid → Option (List Cell) → Holdings → ℕ → List Pair → Type 0
 AreHeldWithRow specs rid row held i pairs = pairs ≡ held_at i held ++ option_to_list (pair_with (spec_at specs i) rid row)
 

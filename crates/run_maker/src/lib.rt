@@ -1,6 +1,6 @@
 //! Sorted runs of the pairs on copies of pages.
 //!
-//! A [`Maker`] takes copies of pages, one after the other. Of each row it makes one pair for each index; as soon as an index has
+//! A [`Maker`] takes copies of pages, one after the other. Of each row it makes a pair for each index that takes the row; as soon as an index has
 //! [`RUN_PAIRS`] of them they are sorted and spooled as a run, and [`Maker::seal`] spools what is left. A row is read once,
 //! whatever the number of indexes, and a key is written once, into the pair that keeps it. Runs are sorted by [`StdSort`], or by a
 //! [`RunSort`] that is lent, as [`ParSort`], which works in several threads.

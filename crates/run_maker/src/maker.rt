@@ -83,7 +83,7 @@ impl Maker {
         }
     }
 
-    /// Takes a copy of a page: makes one pair of each row and index, and spools those that make a run.
+    /// Takes a copy of a page: makes a pair of each row for each index that takes it, and spools those that make a run.
     pub fn take<S: Spool>(&mut self, image: PageImage, spools: &mut [S]) -> Result<(), Fault>
         requires schema { image.schema ≡ self.old.schema }
         requires spools { length spools.old ≡ length self.old.specs }

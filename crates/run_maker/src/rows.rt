@@ -1,7 +1,8 @@
-//! The pairs of a row, one for each index.
+//! The pairs of a row, one for each index that takes it.
 ghost use Rattle.std.specs.Prelude.{◌≡◌, ◌≤◌, ◌+◌, ◌⊎◌, [], ◌∷◌, ◌++◌, All, Some, IfErr, OnOk, OnErr, map, length, true};
+ghost use Rattle.std.specs.Option.{option_to_list};
 ghost use Rattle.keybytes.specs.Cells.{fits};
-ghost use Rattle.keybytes.specs.Keys.{key_of};
+ghost use Rattle.keybytes.specs.Pairs.{pair_with};
 ghost use Rattle.run_spool.specs.Spools.{NoneEmpty, AreSorted, NoPageOnlyIf, all_pairs};
 ghost use Rattle.run_maker.specs.FullSpools.{HasFullOf, IsFullOf};
 ghost use Rattle.run_maker.specs.Spooling.{Adds, MemoryOnlyIf};
@@ -12,7 +13,7 @@ use crate::open_run::OpenRun;
 use keybytes::{Fault, KeySpec, Pair, Rid, Row};
 use run_spool::Spool;
 
-// Makes the pair of a row for one index.
+// Makes the pair of a row for one index, if that takes the row.
 fn add_key<S: Spool, Q: RunSort>(
     spec: &KeySpec,
     row: &Row,
@@ -24,7 +25,7 @@ fn add_key<S: Spool, Q: RunSort>(
     requires fits { fits spec.now.kinds row.now ≡ true }
     requires none_empty { NoneEmpty (S.runs spool.old) }
     requires open_run { S.open_run spool.old ≡ [] }
-    ensures added { OnOk result (Adds (record { key = key_of spec.now row.now; rid = rid } ∷ []) (S.runs spool.old) begun.old
+    ensures added { OnOk result (Adds (option_to_list (pair_with spec.now rid (Some row.now))) (S.runs spool.old) begun.old
         (S.runs spool.new) begun.new) }
     ensures none_empty { NoneEmpty (S.runs spool.new) }
     ensures sorted { AreSorted (S.runs spool.old) → AreSorted (S.runs spool.new) }
@@ -33,14 +34,16 @@ fn add_key<S: Spool, Q: RunSort>(
     ensures fault { IfErr result (λ fault. (fault ≡ Fault.NoPage) ⊎ (fault ≡ Fault.Memory)) }
     ensures full { IfErr result (NoPageOnlyIf
         (IsFullOf S.is_full S.runs S.open_run
-        ((all_pairs (S.runs spool.old) ++ begun.old) ++ record { key = key_of spec.now row.now; rid = rid } ∷ []) spool.new)) }
+        ((all_pairs (S.runs spool.old) ++ begun.old) ++ option_to_list (pair_with spec.now rid (Some row.now))) spool.new)) }
     ensures runs { OnErr result (S.runs spool.new ≡ S.runs spool.old) }
-    ensures many { IfErr result (NoPageOnlyIf (4096 ≤ length begun.old + 1)) }
+    ensures many { IfErr result (NoPageOnlyIf (4096 ≤ length begun.old + length (option_to_list (pair_with spec.now rid (Some row.now))))) }
     ensures unchanged { IfErr result (MemoryOnlyIf (begun.new ≡ begun.old)) }
     ensures untouched { IfErr result (MemoryOnlyIf (spool.new ≡ spool.old)) }
 {
-    let key = spec.key(row)?;
-    begun.add(Pair { key, rid }, spool, sort)
+    match spec.key(row)? {
+        Some(key) => begun.add(Pair { key, rid }, spool, sort),
+        None => Ok(()),
+    }
 }
 
 /// Makes the pairs of a row.

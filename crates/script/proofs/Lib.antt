@@ -11,6 +11,7 @@ mod RaceStopped
 mod RecordsLeft
 mod RidPoints
 mod Shaped
+mod SpelledKeys
 mod SpelledLists
 mod Stopped
 pub mod Zips

@@ -9,7 +9,7 @@ use Rattle.script.specs.Fields.{is_digits, number_below, number_of, slot_of, Spe
 use Rattle.script.proofs.FieldLemmas.{bool_cases, digits_parts, number_below-none}
 
 -- a number's text is digits
-digits_of : (limit : ℕ) (text : List ℕ) (n : ℕ) → number_below limit text ≡ Some n → list_all is_ascii_digit text ≡ true
+pub digits_of : (limit : ℕ) (text : List ℕ) (n : ℕ) → number_below limit text ≡ Some n → list_all is_ascii_digit text ≡ true
 digits_of limit text n is = bool_cases (is_digits text)
     (λ are. (digits_parts text are).1)
     (λ none. absurd (let bad : None ≡ Some n = sym (number_below-none limit text none) ∙ is in cc))

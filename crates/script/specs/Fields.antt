@@ -11,6 +11,8 @@ use Rattle.keybytes.specs.declared.key_col.KeyCol.{KeyCol}
 use Rattle.keybytes.specs.declared.kind.Kind.{Kind}
 use Rattle.keybytes.specs.declared.kind.Kind.TheVariants.{Int as IntKind, Text as TextKind, Flag as FlagKind}
 use Rattle.keybytes.specs.declared.rid.Rid.{Rid}
+use Rattle.keybytes.specs.declared.when.When.{When}
+use Rattle.keybytes.specs.declared.when.When.TheVariants.{Equal, Less, IsNull}
 use Rattle.scan_range.specs.declared.dealing.Dealing.{Dealing}
 use Rattle.scan_range.specs.declared.dealing.Dealing.TheVariants.{Ends, Even}
 use Rattle.script.specs.declared.spec.Spec.{Spec}
@@ -94,13 +96,33 @@ SpellsColumn text named = (digits : List ℕ) × (text ≡ digits ++ direction_m
 abbrev pub SpellsColumns : List ℕ → List KeyCol → Type 0
 SpellsColumns text columns = AllZip SpellsColumn (slice_split (λ c. c == 59) text) columns
 
+-- the text spells the number, and behind it stand the sign and the rest
+abbrev pub SpellsNumberBefore : List ℕ → ℕ → List ℕ → List ℕ → Type 0
+SpellsNumberBefore text number sign rest = (digits : List ℕ) × (text ≡ digits ++ (sign ++ rest)) × SpellsNumber digits number
+
+-- the text spells the condition: the number of a column, and behind it `=` and a cell, `<` and a cell, or `~` for Null
+abbrev pub SpellsWhen : List ℕ → When → Type 0
+SpellsWhen text (Equal column cell) = (asked : List ℕ) × SpellsNumberBefore text column (codes "=") asked × SpellsCell asked cell
+SpellsWhen text (Less column bound) = (asked : List ℕ) × SpellsNumberBefore text column (codes "<") asked × SpellsCell asked bound
+SpellsWhen text (IsNull column) = SpellsNumberBefore text column (codes "~") []
+
+-- the text spells what stands behind the columns of a key: nothing, or `?` and a condition
+abbrev pub SpellsCondition : List ℕ → Option When → Type 0
+SpellsCondition text None = text ≡ []
+SpellsCondition text (Some condition) = (rest : List ℕ) × (text ≡ codes "?" ++ rest) × SpellsWhen rest condition
+
+-- the text spells the columns of a key, and behind them its condition
+abbrev pub SpellsKey : List ℕ → List KeyCol → Option When → Type 0
+SpellsKey text columns condition =
+    (front : List ℕ) × (behind : List ℕ) × (text ≡ front ++ behind) × SpellsColumns front columns × SpellsCondition behind condition
+
 -- what stands before the columns of a key specification
 abbrev pub spec_front : Bool → List ℕ
 spec_front unique = if unique then codes "u:" else codes "n:"
 
 -- the text spells the key specification
 abbrev pub SpellsSpec : List ℕ → Spec → Type 0
-SpellsSpec text spec = (columns : List ℕ) × (text ≡ spec_front spec.unique ++ columns) × SpellsColumns columns spec.columns.items
+SpellsSpec text spec = (key : List ℕ) × (text ≡ spec_front spec.unique ++ key) × SpellsKey key spec.columns.items spec.condition
 
 -- the text spells the kind of the spools of builds
 abbrev pub SpellsSpools : List ℕ → SpoolChoice → Type 0

@@ -1,20 +1,23 @@
 //! How the fields of a record are spelled.
-ghost use Rattle.std.specs.Prelude.{◌≡◌, ℕ, List, [], ◌∷◌, IfOk, IfErr, IfSome, IfNone, Some, None};
+ghost use Rattle.std.specs.Prelude.{◌≡◌, ℕ, ◌<◌, Bool, false, List, [], ◌∷◌, ◌++◌, IfOk, IfErr, IfSome, IfNone, Option, Some, None};
+ghost use Rattle.std.specs.Char.{is_ascii_digit};
 ghost use Rattle.keybytes.specs.declared.cell.Cell.{Cell as CellValue};
 ghost use Rattle.keybytes.specs.declared.key_col.KeyCol.{KeyCol as KeyColValue};
 ghost use Rattle.keybytes.specs.declared.kind.Kind.{Kind as KindValue};
 ghost use Rattle.keybytes.specs.declared.rid.Rid.{Rid as RidValue};
+ghost use Rattle.keybytes.specs.declared.when.When.{When as WhenValue};
 ghost use Rattle.scan_range.specs.declared.dealing.Dealing.{Dealing as DealingValue};
 ghost use Rattle.script.specs.declared.spec.Spec.{Spec as SpecValue};
 ghost use Rattle.spool_choice.specs.declared.choice.SpoolChoice.{SpoolChoice as SpoolChoiceValue};
 ghost use Rattle.script.specs.declared.part.Part.TheVariants as part;
 ghost use Rattle.script.specs.Shapes.{Fit};
 ghost use Rattle.script.specs.Fields.{number_of, int_of, slot_of, texts, SpellEach, SpellsCell, SpellsDealing, SpellsKind, SpellsNumbers, SpellsRid};
-ghost use Rattle.script.specs.Fields.{SpellsColumn, SpellsColumns, SpellsSession, SpellsSpec, SpellsSpools};
+ghost use Rattle.script.specs.Fields.{spec_front, SpellsColumn, SpellsColumns, SpellsKey, SpellsNumberBefore, SpellsSession, SpellsSpec, SpellsSpools};
+ghost use Rattle.script.specs.Fields.{SpellsWhen};
 
 use crate::Spec;
 use crate::record_error::RecordError;
-use keybytes::{Cell, KeyCol, Kind, Rid, Text};
+use keybytes::{Cell, KeyCol, Kind, Rid, Text, When};
 use scan_range::Dealing;
 use spool_choice::SpoolChoice;
 use std::alloc::Global;
@@ -185,19 +188,76 @@ fn columns(alloc: Global, text: &str) -> Result<Vec<KeyCol>, RecordError>
     Ok(columns)
 }
 
-/// A key specification: `n:` or, for a unique one, `u:`, and its columns joined by `;`.
+/// The number before the first such sign, and what stands behind the sign.
+fn number_before(sign: char, text: &str) -> Option<(usize, &str)>
+    requires ascii { sign < 128 }
+    requires no_digit { is_ascii_digit sign ≡ false }
+    ensures some { IfSome result (λ found. SpellsNumberBefore text.now found.0 (sign ∷ []) found.1.now) }
+    ensures none { IfNone result ((number : ℕ) (rest : List ℕ) → SpellsNumberBefore text.now number (sign ∷ []) rest → ⊥) }
+{
+    let (digits, rest) = text.split_once(sign)?;
+    let number = number(digits)?;
+    Some((number as usize, rest))
+}
+
+/// A condition: the number of a column, and behind it `=` and a cell, `<` and a cell, or `~` for Null.
+fn when(alloc: Global, text: &str) -> Result<When, RecordError>
+    ensures ok { IfOk result (λ condition. SpellsWhen text.now condition) }
+    ensures refused { result ≡ Err RecordError.Misspelled → (condition : WhenValue) → SpellsWhen text.now condition → ⊥ }
+{
+    if let Some((column, given)) = number_before('=', text) {
+        return Ok(When::Equal(column, cell(alloc, given)?));
+    }
+    if let Some((column, bound)) = number_before('<', text) {
+        return Ok(When::Less(column, cell(alloc, bound)?));
+    }
+    match number_before('~', text) {
+        Some((column, "")) => Ok(When::IsNull(column)),
+        _ => Err(RecordError::Misspelled),
+    }
+}
+
+/// The columns of a key, joined by `;`, and behind them `?` and a condition, where there is one.
+fn key(alloc: Global, text: &str) -> Result<(Vec<KeyCol>, Option<When>), RecordError>
+    ensures ok { IfOk result (λ key. SpellsKey text.now key.0.items key.1) }
+    ensures refused { result ≡ Err RecordError.Misspelled → (columns : List KeyColValue) (asked : Option WhenValue) → ¬ (SpellsKey text.now columns asked) }
+{
+    match text.split_once('?') {
+        Some((columns_text, condition)) => {
+            let columns = columns(alloc, columns_text)?;
+            let condition = when(alloc, condition)?;
+            Ok((columns, Some(condition)))
+        }
+        None => {
+            let columns = columns(alloc, text)?;
+            Ok((columns, None))
+        }
+    }
+}
+
+/// Whether a key is unique, by the `u:` or `n:` before it, and what stands behind that.
+fn front(text: &str) -> Option<(bool, &str)>
+    ensures some { IfSome result (λ found. text.now ≡ spec_front found.0 ++ found.1.now) }
+    ensures none { IfNone result ((unique : Bool) (rest : List ℕ) → text.now ≡ spec_front unique ++ rest → ⊥) }
+{
+    match text.split_once(':') {
+        Some(("n", rest)) => Some((false, rest)),
+        Some(("u", rest)) => Some((true, rest)),
+        _ => None,
+    }
+}
+
+/// A key specification: `n:` or, for a unique one, `u:`, its columns joined by `;`, and `?` and a condition, where it has one.
 pub fn spec(alloc: Global, text: &str) -> Result<Spec, RecordError>
     ensures ok { IfOk result (λ spec. SpellsSpec text.now spec) }
     ensures refused { result ≡ Err RecordError.Misspelled → (spec : SpecValue) → SpellsSpec text.now spec → ⊥ }
 {
-    let (unique, columns_text) = match text.split_once(':') {
-        Some(("n", columns_text)) => (false, columns_text),
-        Some(("u", columns_text)) => (true, columns_text),
-        _ => return Err(RecordError::Misspelled),
-    };
+    let (unique, rest) = front(text).ok_or(RecordError::Misspelled)?;
+    let (columns, condition) = key(alloc, rest)?;
     Ok(Spec {
         unique,
-        columns: columns(alloc, columns_text)?,
+        columns,
+        condition,
     })
 }
 

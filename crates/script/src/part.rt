@@ -66,7 +66,10 @@ impl fmt::Display for Part {
             Part::Cell => "cell (~, a number, =text, true or false)",
             Part::Kind => "kind (int, text or flag)",
             Part::Dealing => "dealing (ends of ranges, as 4;8, or their number, as even:2)",
-            Part::Spec => "spec (n: or u: and columns, with d behind one that descends, as n:0;2d)",
+            Part::Spec => {
+                "spec (n: or u: and columns, with d behind one that descends, as n:0;2d, and maybe a condition, as n:0?1=true, \
+                n:0?1<5 or n:0?1~)"
+            }
             Part::Spools => "kind of spools (plain, prefix or mixed)",
             Part::Session => "session (1 to 8)",
             Part::SessionCommand => {

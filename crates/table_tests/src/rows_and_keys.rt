@@ -1,7 +1,7 @@
 //! Rows and keys, their bytes, and refusals as scripts know them.
 
 use crate::fixtures::schema;
-use keybytes::{Cell, Fault, KeyCol, KeySpec, Kind, Rid, Row, Schema, Text};
+use keybytes::{Cell, Fault, KeyCol, KeySpec, Kind, Rid, Row, Schema, Text, When};
 use std::alloc::{AllocError, Global};
 use std::test::Fail;
 
@@ -175,7 +175,9 @@ fn has_key(spec: &KeySpec, schema: &Schema, row: &Row, keyed: &Keyed) -> Result<
     if !spec.is_of(schema) || !row.fits(schema) {
         return Err(Fault::RowShape);
     }
-    let key = spec.key(row)?;
+    let Some(key) = spec.key(row)? else {
+        return Ok(false);
+    };
     let bytes = Row::new(spec.cells(&key)?)?.to_bytes(schema)?;
     Ok(are_of(keyed, key.bytes(), bytes.as_slice()))
 }
@@ -205,6 +207,55 @@ fn keyed_otherwise(alloc: Global) -> Option<&'static [u8]> {
 #[test]
 fn rows_and_their_keys(rt: HostRuntime) {
     assert_eq!(rt; keyed_otherwise(rt.alloc()), None);
+}
+
+/// The specification of the numbers below 5, in a copy.
+fn below_five(alloc: Global, schema: &Schema) -> Result<KeySpec, Fault> {
+    spec(alloc, schema, &[UP])?
+        .with_when(schema, When::Less(0, Cell::Int(5)))?
+        .clone()
+}
+
+/// Whether an index has a key of a row with that cell alone.
+fn takes(alloc: Global, spec: &KeySpec, schema: &Schema, cell: Cell) -> Result<bool, Fault> {
+    let row = Row::new(vec![in alloc; cell]?)?;
+    if !spec.is_of(schema) || !row.fits(schema) {
+        return Err(Fault::RowShape);
+    }
+    Ok(spec.key(&row)?.is_some())
+}
+
+/// Whether an index of the numbers below 5 takes 4, but neither 5 nor Null, and an index of all numbers is another.
+fn takes_some(
+    alloc: Global,
+    schema: &Schema,
+    below: &KeySpec,
+    all: &KeySpec,
+) -> Result<bool, Fault> {
+    Ok(
+        takes(alloc, below, schema, Cell::Int(4))?
+            && !takes(alloc, below, schema, Cell::Int(5))?
+            && !takes(alloc, below, schema, Cell::Null)?
+            && takes(alloc, all, schema, Cell::Null)?
+            && below.is_same(below)
+            && !below.is_same(all),
+    )
+}
+
+fn below_and_all(alloc: Global, schema: &Schema) -> Result<bool, Fault> {
+    takes_some(
+        alloc,
+        schema,
+        &below_five(alloc, schema)?,
+        &spec(alloc, schema, &[UP])?,
+    )
+}
+
+#[test]
+fn rows_that_an_index_takes(rt: HostRuntime) -> Result<(), Fail> {
+    let schema = schema(rt.alloc(), INT)?;
+    assert_eq!(rt; below_and_all(rt.alloc(), &schema), Ok(true));
+    Ok(())
 }
 
 /// Bytes that are no row of the mixed columns.

@@ -1,16 +1,11 @@
--- Which RIDs are visible as the ranges go on, and the pairs of a row's keys.
-use Rattle.std.proofs.Common.{◌≡◌, ℕ, ◌<◌, Bool, true, false, List, length, refl, Option, Some, None}
+-- Which RIDs are visible as the ranges go on.
+use Rattle.std.proofs.Common.{◌≡◌, ℕ, ◌<◌, Bool, true, false, List, length, refl, Option}
 use Rattle.std.proofs.lemmas.Bool.{leb-false, or_left, or_right}
 use Rattle.std.specs.Prelude.{nat_le, ◌||◌, ◌==◌}
-use Rattle.std.specs.Option.{option_map}
-use Rattle.keybytes.specs.Keys.{KeySpecValue, key_of}
-use Rattle.keybytes.specs.Pairs.{pair_with}
-use Rattle.keybytes.specs.declared.cell.Cell.{Cell}
 use Rattle.keybytes.specs.declared.rid.Rid.{Rid}
 use Rattle.scan_range.specs.Cuts.{CutsValue}
 use Rattle.scan_range.specs.Ranges.{RangesValue, AreRanges, at_start, after_advance, next_of, is_done, are_done, is_passed}
 use Rattle.scan_range.proofs.Passed.{none_passed-at_start, passed-after_advance, all_passed-done}
-use Rattle.visibility.specs.SideEntries.{pair_under}
 use Rattle.visibility.specs.Visible.{is_visible_in}
 
 or_nothing : (newer other : Bool) → other ≡ false → (newer || other) ≡ newer
@@ -42,9 +37,3 @@ all_as ranges rid false r all e =
 
 pub all_visible-done : (ranges : RangesValue) (rid : Rid) → AreRanges ranges → are_done ranges ≡ true → is_visible_in ranges rid ≡ true
 all_visible-done ranges rid r all = all_as ranges rid _ r all refl
-
--- the pair of a row's key is the row's pair
-pub pair_under-row : (spec : KeySpecValue) (rid : Rid) (row : Option (List Cell))
-    → pair_under rid (option_map (key_of spec) row) ≡ pair_with spec rid row
-pair_under-row spec rid None = refl
-pair_under-row spec rid (Some cells) = refl

@@ -6,12 +6,12 @@ use Rattle.build_scan.specs.SideFiles.{noted}
 use Rattle.building.proofs.Places.{all_at}
 use Rattle.build_scan.proofs.notes.change_of.Goals as goal
 
-pub key_of-requires : goal.key_of-requires
-key_of-requires c =
+pub key_there-requires : goal.key_there-requires
+key_there-requires c =
     (all_at (FitsColumns c.args.ready.now) c.args.build.now.specs c.args.index c.spec-spec.result.now c.requires.fits c.spec-spec.ensures).old
 
-pub key_of-requires-2 : goal.key_of-requires-2
-key_of-requires-2 c =
+pub key_there-requires-2 : goal.key_there-requires-2
+key_there-requires-2 c =
     (all_at (FitsColumns c.args.ready.now) c.args.build.now.specs c.args.index c.spec-spec.result.now c.requires.fits c.spec-spec.ensures).new
 
 pub returns-clause-ok : goal.returns-clause-ok

@@ -1,4 +1,4 @@
-use Rattle.std.proofs.Common.{◌≡◌, ◌∙◌, ◌+◌, ◌++◌, List, true, ap, sym, subst, zero-add, map, arith}
+use Rattle.std.proofs.Common.{◌≡◌, ◌∙◌, ◌+◌, ◌++◌, List, true, ap, sym, subst, zero-add, filter_map, arith}
 use Rattle.std.specs.Prelude.{All}
 use Rattle.keybytes.specs.Cells.{fits}
 use Rattle.keybytes.specs.declared.cell.Cell.{Cell}
@@ -52,7 +52,7 @@ loop-page-preserved c =
     record {
       made =
           c.in_ok-add_rows.ensures.ok
-          ∙ ap (λ (rs : List (Rid × List Cell)). so_far ++ map (pair_of spec) rs) rows
+          ∙ ap (λ (rs : List (Rid × List Cell)). so_far ++ filter_map (pair_of spec) rs) rows
           ∙ ap (λ ps. so_far ++ ps) (rows_pairs spec log page)
           ∙ ap (λ ps. ps ++ pairs_on spec log page) c.loop-page.invariant.made
           ∙ ap (λ n. pairs_from spec log 0 page ++ pairs_on spec log n) (sym (zero-add page))

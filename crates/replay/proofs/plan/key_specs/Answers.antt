@@ -1,7 +1,7 @@
 use Rattle.std.proofs.Common.{◌≡◌, ◌≢◌, Some, rules, ◌∙◌}
 use Rattle.keybytes.specs.declared.fault.Fault.TheVariants.{Memory}
 use Rattle.replay.specs.Plans.{specs_refusal}
-use Rattle.replay.proofs.SpecLists.{accepted_first, is_named, made_more, refused_first}
+use Rattle.replay.proofs.SpecLists.{accepted_first, made_more, refused_first}
 use Rattle.replay.proofs.plan.key_specs.Goals as goal
 
 pub loop-spec-init : goal.loop-spec-init
@@ -20,7 +20,7 @@ loop-spec-preserved c =
     let made_one = c.in_ok-key_spec.field-0 in (
       search rules,
       search rules,
-      made_more schema c.args.specs.items rest c.loop-spec.made.items _ spec made_one made (search rules) (is_named schema spec made_one one.table one.columns one.unique),
+      made_more schema c.args.specs.items rest c.loop-spec.made.items _ spec made_one made (search rules) one.made,
       left ∙ accepted_first schema spec rest one.accepted,
     )
 

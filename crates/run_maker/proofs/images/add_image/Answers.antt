@@ -1,4 +1,4 @@
-use Rattle.std.proofs.Common.{false, refl, ◌≡◌, ◌<◌, ◌+◌, ◌∙◌, ◌++◌, [], ℕ, List, length, get_or, map, sym, ap, subst, arith}
+use Rattle.std.proofs.Common.{false, refl, ◌≡◌, ◌<◌, ◌+◌, ◌∙◌, ◌++◌, [], ℕ, List, length, get_or, map, sym, ap, subst, arith, None}
 use Rattle.std.specs.Option.{option_to_list}
 use Rattle.std.proofs.lemmas.Result.{err_from_is_err_and}
 use Rattle.keybytes.specs.Keys.{KeySpecValue}
@@ -62,7 +62,7 @@ returns-in_err-add_slot-clause-part g c =
     let p = err_from_is_err_and c.from_residual.result c.from_residual.ensures.1 in
     rw (p.1, p.2) (λ memory i lt made has.
     let spec = spec_at c.args.specs.now i in
-    let shows = shows_in c.args.schema.now image spec (c.requires.columns i (record { kinds = []; columns = []; unique = false }) lt) made has slot in
+    let shows = shows_in c.args.schema.now image spec (c.requires.columns i (record { kinds = []; columns = []; unique = false; condition = None }) lt) made has slot in
     let parts = around_slot spec image.page has.rows slot (length image.slots) inside in
     subst (λ (ps : List Pair). AddsFirst i ps start end) (sym (has.pairs_are ∙ parts.1))
     (first_more (pairs_before spec image.page has.rows slot) (option_to_list (pair_with spec (rid_at image.page slot) (has.rows slot))) parts.0 i
@@ -73,7 +73,7 @@ loop-slot-preserved g c =
     let slot = c.loop-slot.slot in
     let image = c.args.image.now in
     let was = c.loop-slot.invariant in
-    let none : KeySpecValue = record { kinds = []; columns = []; unique = false } in
+    let none : KeySpecValue = record { kinds = []; columns = []; unique = false; condition = None } in
     record {
       added = λ i lt made has.
           let spec = spec_at c.args.specs.now i in

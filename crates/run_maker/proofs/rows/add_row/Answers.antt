@@ -1,9 +1,9 @@
-use Rattle.std.proofs.Common.{◌≡◌, ◌<◌, ◌∙◌, ◌∷◌, ◌++◌, [], refl, ℕ, List, length, get_or, map, set, false, sym, ap, ap₂, subst, arith, Some}
+use Rattle.std.proofs.Common.{◌≡◌, ◌<◌, ◌∙◌, ◌∷◌, ◌++◌, [], refl, ℕ, List, length, get_or, map, set, false, sym, ap, ap₂, subst, arith, Some, None}
 use Rattle.std.specs.Option.{option_to_list}
 use Rattle.std.proofs.Math.Seq.{map-set_same}
 use Rattle.std.proofs.lemmas.List.{get_or_read, get_or_default, length-map, length-set, map-set, set-get_or}
 use Rattle.std.proofs.lemmas.Result.{err_from_is_err_and}
-use Rattle.keybytes.specs.Keys.{KeySpecValue, key_of}
+use Rattle.keybytes.specs.Keys.{KeySpecValue}
 use Rattle.keybytes.specs.Pairs.{pair_with}
 use Rattle.keybytes.specs.declared.pair.Pair.{Pair}
 use Rattle.run_spool.specs.Spools.{AreSorted, NoneEmpty, all_pairs}
@@ -42,7 +42,7 @@ returns-in_err-add_key-clause-full g c =
     let spec = c.index-specs-i.result in
     let b = c.index-begun-i.result in
     let was = c.loop-i.invariant in
-    let none : KeySpecValue = record { kinds = []; columns = []; unique = false } in
+    let none : KeySpecValue = record { kinds = []; columns = []; unique = false; condition = None } in
     let inside : i < length c.loop-i.spools = omega (arith, c.loop-i-test.true, was.long_spools, c.requires.spools) in
     let in-begun : i < length c.loop-i.begun = omega (arith, c.loop-i-test.true, was.long_begun, c.requires.begun) in
     let spec-at : spec ≡ spec_at c.args.specs.now i = get_or_read c.args.specs.now i spec c.loop-i-test.true c.index-specs-i.is none in
@@ -52,7 +52,7 @@ returns-in_err-add_key-clause-full g c =
     let d = c.index-spools-i.result in
     let runs-at : runs (get_or c.loop-i.spools i d) ≡ get_or (map runs c.args.spools.now) i [] =
     sym (read_at runs c.loop-i.spools i d [] inside) ∙ was.reached.same_runs i (omega arith) in
-    let its : KeySpecValue → List Pair = λ s. record { key = key_of s c.args.row.now; rid = c.args.rid } ∷ [] in
+    let its : KeySpecValue → List Pair = λ s. option_to_list (pair_with s c.args.rid (Some c.args.row.now)) in
     let held : (all_pairs (runs (get_or c.loop-i.spools i d)) ++ get_or c.loop-i.begun i b) ++ its spec
     ≡ (all_pairs (get_or (map runs c.args.spools.now) i []) ++ get_or c.args.begun.now i []) ++ its (spec_at c.args.specs.now i) =
     ap₂ (λ (rs : List (List Pair)) (ps : List Pair). (all_pairs rs ++ ps) ++ its spec) runs-at begun-at
@@ -106,7 +106,7 @@ loop-i-preserved g c =
     let d = c.index-spools-i.result in
     let b = c.index-begun-i.result in
     let spec = c.index-specs-i.result in
-    let none : KeySpecValue = record { kinds = []; columns = []; unique = false } in
+    let none : KeySpecValue = record { kinds = []; columns = []; unique = false; condition = None } in
     let in-spools : i < length spools = omega (arith, c.loop-i-test.true, was.long_spools, c.requires.spools) in
     let in-begun : i < length c.loop-i.begun = omega (arith, c.loop-i-test.true, was.long_begun, c.requires.begun) in
     let spec-at : spec ≡ spec_at c.args.specs.now i = get_or_read c.args.specs.now i spec c.loop-i-test.true c.index-specs-i.is none in
@@ -116,7 +116,7 @@ loop-i-preserved g c =
     λ j. Adds (option_to_list (pair_with (spec_at c.args.specs.now j) c.args.rid (Some c.args.row.now))) in
     let here : Made i (get_or (map g.S.Spool.runs spools) i []) (get_or c.loop-i.begun i []) (g.S.Spool.runs c.add_key.new.spool) c.add_key.new.begun =
     let Added : KeySpecValue → List (List Pair) → List Pair → Type 0 =
-    λ s runs begun. Adds (record { key = key_of s c.args.row.now; rid = c.args.rid } ∷ []) runs begun (g.S.Spool.runs c.add_key.new.spool)
+    λ s runs begun. Adds (option_to_list (pair_with s c.args.rid (Some c.args.row.now))) runs begun (g.S.Spool.runs c.add_key.new.spool)
     c.add_key.new.begun in
     let added : Added spec (g.S.Spool.runs (get_or spools i d)) (get_or c.loop-i.begun i b) = c.in_ok-add_key.ensures.added in
     subst (λ (s : KeySpecValue). Added s (get_or (map g.S.Spool.runs spools) i []) (get_or c.loop-i.begun i [])) spec-at

@@ -1,6 +1,7 @@
 use Rattle.std.proofs.Common.{◌≡◌, ◌∙◌, Some, None, Option, ap, sym, subst, []}
 use Rattle.std.specs.Prelude.{MatchResult}
 use Rattle.std.proofs.lemmas.Bool.{false≢true}
+use Rattle.keybytes.specs.Keys.{indexed_key}
 use Rattle.keybytes.specs.Rids.{same_rid}
 use Rattle.keybytes.specs.declared.fault.Fault.{Fault}
 use Rattle.keybytes.proofs.SameRids.{same_rid-true, same_rid-refl}
@@ -16,7 +17,7 @@ returns-in-Some c =
     let spec = c.args.self.now.index.spec in
     let log = c.args.heap.now.state.log in
     let same : c.in-Some.other ≡ c.args.rid = same_rid-true c.in-Some.other c.args.rid (rw c.in-Some.is at (sym c.if-eq.ensures)) in
-    keeps_key c.args.number spec log c.args.txn c.args.rid c.args.row.now (sym c.ask-holder.ensures.0 ∙ c.in-Some.is ∙ ap (λ r. Some r) same)
+    keeps_key c.args.number spec log c.args.txn c.args.rid (indexed_key spec c.args.row.now) (sym c.ask-holder.ensures.holder_is ∙ c.in-Some.is ∙ ap (λ r. Some r) same)
 
 pub returns-in-Some-2 : goal.returns-in-Some-2
 returns-in-Some-2 c =
@@ -27,13 +28,13 @@ returns-in-Some-2 c =
     let unique = subst (λ (it : GuardedIndex). UniqueKeysAreGuarded it.index.spec heap.log) c.self.view_is guarded in
     let apart = λ (e : c.in-Some-2.other ≡ c.args.rid).
     false≢true ((rw c.in-Some-2.is at c.if-eq.ensures) ∙ ap (same_rid c.in-Some-2.other) (sym e) ∙ same_rid-refl c.in-Some-2.other) in
-    other_has c.args.number spec heap.log c.args.txn c.args.rid c.args.row.now c.in-Some-2.other (unique.unique [])
-    (sym c.ask-holder.ensures.0 ∙ c.in-Some-2.is) apart
+    other_has c.args.number spec heap.log c.args.txn c.args.rid (indexed_key spec c.args.row.now) c.in-Some-2.other (unique.unique [])
+    (sym c.ask-holder.ensures.holder_is ∙ c.in-Some-2.is) apart
 
 pub returns-in-None : goal.returns-in-None
 returns-in-None c =
     let spec = c.args.self.now.index.spec in
     let log = c.args.heap.now.state.log in
-    let none = none_has c.args.number spec log c.args.txn c.args.rid c.args.row.now (sym c.ask-holder.ensures.0 ∙ c.in-None.is) in
+    let none = none_has c.args.number spec log c.args.txn c.args.rid (indexed_key spec c.args.row.now) (sym c.ask-holder.ensures.holder_is ∙ c.in-None.is) in
     subst (λ (cause : Option Fault). MatchResult c.check_guard.result (λ _. cause ≡ None) (λ fault. cause ≡ Some fault))
-    (sym (none ∙ ap (guarded_refusal c.args.number) (sym c.ask-holder.ensures.1))) c.check_guard.ensures
+    (sym (none ∙ ap (guarded_refusal c.args.number) (sym c.ask-holder.ensures.guard_is))) c.check_guard.ensures

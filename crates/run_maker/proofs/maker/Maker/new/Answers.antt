@@ -1,4 +1,4 @@
-use Rattle.std.proofs.Common.{false, ◌<◌, ◌∙◌, ◌++◌, ◌∷◌, [], List, ap, ap₂, sym, map, take, length, get_or, arith}
+use Rattle.std.proofs.Common.{false, ◌<◌, ◌∙◌, ◌++◌, ◌∷◌, [], List, ap, ap₂, sym, map, take, length, get_or, arith, None}
 use Rattle.std.proofs.lemmas.List.{take_more, map-append}
 use Rattle.keybytes.specs.Keys.{KeySpecValue}
 use Rattle.keybytes.specs.declared.pair.Pair.{Pair}
@@ -9,7 +9,7 @@ loop-preserved c =
     let specs = c.args.specs.items in
     let i = c.loop.counter in
     let none : KeySpecValue → List Pair = λ spec. [] in
-    let d : KeySpecValue = record { kinds = []; columns = []; unique = false } in
+    let d : KeySpecValue = record { kinds = []; columns = []; unique = false; condition = None } in
     let inside : i < length specs = omega (arith, c.loop-test.true, c.len-end.ensures) in
     record {
       made =
