@@ -1,5 +1,7 @@
 //! What is made for the core: a table to measure on, and the spools and the plan of a build.
-ghost use Rattle.std.specs.Prelude.{◌≡◌, ◌<◌, ◌∷◌, [], ◌%◌, false, length, IfOk};
+ghost use Rattle.std.specs.Prelude.{◌≡◌, ◌<◌, ◌∷◌, [], ◌%◌, length, IfOk};
+ghost use Rattle.std.specs.Option.{option_map};
+ghost use Rattle.bench_runs.specs.Columns.{condition_of, key_column};
 
 use crate::column::Column;
 use crate::counted_spool::CountedSpool;
@@ -34,7 +36,7 @@ pub fn schema(alloc: Global, columns: &[Column]) -> Result<Schema, Fault> {
 fn kinds(alloc: Global, columns: &[Column]) -> Result<Vec<Kind>, AllocError> {
     let mut kinds = Vec::with_capacity(alloc, columns.len())?;
     for column in columns {
-        kinds.push(column.kind())?;
+        kinds.push(column.values.kind())?;
     }
     Ok(kinds)
 }
@@ -91,20 +93,37 @@ fn add_specs(
     specs: &mut Vec<KeySpec>,
 ) -> Result<(), Fault> {
     for index in 0..options.indexes {
-        specs.push(spec(alloc, schema, index, options.unique)?)?;
+        specs.push(spec(alloc, schema, index, options)?)?;
     }
     Ok(())
 }
 
 /// What makes the keys of the index of that number, from 0.
-pub fn spec(alloc: Global, schema: &Schema, index: usize, unique: bool) -> Result<KeySpec, Fault>
+fn spec(alloc: Global, schema: &Schema, index: usize, options: &Options) -> Result<KeySpec, Fault>
     ensures kinds { IfOk result (λ spec. spec.kinds ≡ schema.now) }
-    ensures columns { IfOk result (λ spec. spec.columns ≡ record { column = index % length schema.now; descending = false } ∷ []) }
-    ensures unique { IfOk result (λ spec. spec.unique ≡ unique) }
+    ensures columns { IfOk result (λ spec. spec.columns ≡ key_column options.now.columns.items (index % length schema.now) ∷ []) }
+    ensures unique { IfOk result (λ spec. spec.unique ≡ options.now.unique) }
+    ensures condition { IfOk result (λ spec. spec.condition ≡ option_map condition_of options.now.condition) }
 {
-    let column = KeyCol {
-        column: index % schema.kinds().len(),
-        descending: false,
+    let place = index % schema.kinds().len();
+    let columns = vec![in alloc; key_column(options.columns.as_slice(), place)]?;
+    let spec = KeySpec::new(alloc, schema, columns, options.unique)?;
+    match options.condition {
+        Some(condition) => spec.with_when(schema, condition.when()),
+        None => Ok(spec),
+    }
+}
+
+/// The column at a place of the table, as an index on it has it.
+fn key_column(columns: &[Column], place: usize) -> KeyCol
+    ensures { result ≡ key_column columns.now place }
+{
+    let descending = match columns.get(place) {
+        Some(column) => column.descending,
+        None => false,
     };
-    KeySpec::new(alloc, schema, vec![in alloc; column]?, unique)
+    KeyCol {
+        column: place,
+        descending,
+    }
 }

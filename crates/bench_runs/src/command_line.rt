@@ -1,6 +1,7 @@
 //! The words that the program understands.
 
 use crate::column::Column;
+use crate::condition::Condition;
 use crate::options::Options;
 use crate::spool_pages::workers_for;
 use builder_core::WORKERS_MAX;
@@ -72,7 +73,7 @@ const FLAG: Word = Word {
     parser: ValueParser::String,
 };
 
-static WORDS: [Word; 13] = [
+static WORDS: [Word; 14] = [
     Word {
         name: "rows",
         help: "How many rows the table has",
@@ -83,7 +84,8 @@ static WORDS: [Word; 13] = [
     },
     Word {
         name: "columns",
-        help: "The columns, up to 12: `int`, `int:N` (numbers below N), `text:N` (texts of N bytes) or `text:N:M` (the first M all the same)",
+        help: "The columns, up to 12: `int`, `int:N` (numbers below N), `text:N` (texts of N bytes) or `text:N:M` (the first M all the same); \
+               with `:desc` behind it indexes on the column have the greatest first",
         value: Some("LIST"),
         default: Some("int"),
         delimiter: Some(','),
@@ -95,6 +97,12 @@ static WORDS: [Word; 13] = [
         value: Some("I"),
         default: Some("1"),
         parser: ValueParser::Unsigned(1, 8),
+        ..FLAG
+    },
+    Word {
+        name: "where",
+        help: "The indexes take only rows whose number in a column, counted from 0, is below N, `C<N`, or is N, `C=N`",
+        value: Some("CONDITION"),
         ..FLAG
     },
     Word {
@@ -170,6 +178,7 @@ static WORDS: [Word; 13] = [
 #[derive(Clone, Copy)]
 enum Refusal {
     Column,
+    Condition,
     Spools,
     Rows,
     Writes,
@@ -191,7 +200,8 @@ pub fn read<'a, S: AsStr>(alloc: Global, words: &'a [S]) -> Result<Options, Erro
 fn told(alloc: Global, refusal: Refusal) -> Result<Error, AllocError> {
     let message = match refusal {
         Refusal::Column =>
-            "a column is `int`, `int:` with a number from 1, or `text:` with a number from 1 to 100",
+            "a column is `int`, `int:` with a number from 1, or `text:` with a number from 1 to 100, and may end with `:desc`",
+        Refusal::Condition => "a condition is the number of a column, `<` or `=`, and a number",
         Refusal::Spools => "spools are `plain`, `prefix` or `mixed`",
         Refusal::Rows => "so many rows find no room in the spools of 16 workers",
         Refusal::Writes => "with threads `--writers` write, and `--writes` is of builds without",
@@ -206,6 +216,10 @@ fn choose(matches: &ArgMatches<'_>, options: &mut Options) -> Result<(), Refusal
     options.rows = number(matches, "rows");
     options.indexes = number(matches, "indexes") as usize;
     options.unique = matches.get_flag("unique");
+    options.condition = match matches.get_str("where") {
+        Some(text) => Some(Condition::parse(text).ok_or(Refusal::Condition)?),
+        None => None,
+    };
     options.writes = number(matches, "writes");
     options.spools = match matches.get_str("spools") {
         Some("prefix") => SpoolChoice::Prefix,

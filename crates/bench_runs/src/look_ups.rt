@@ -26,7 +26,7 @@ pub fn look_in(rt: &HostRuntime, tree: &Tree, rng: &mut SmallRng, record: &mut R
 /// Looks for so many of these pairs in the tree; answers the place of one that it doesn't have.
 fn missing(tree: &Tree, pairs: &[&Pair], rng: &mut SmallRng, count: u32) -> Option<usize> {
     if pairs.is_empty() {
-        return Some(0);
+        return None;
     }
     for _ in 0..count {
         let place = rng.random_range(0..pairs.len());

@@ -3,6 +3,7 @@ ghost use Rattle.bench_runs.specs.Columns.{key_size};
 ghost use Rattle.bench_runs.specs.declared.column.Column.{Column as ColumnValue};
 
 use crate::column::Column;
+use crate::condition::Condition;
 use spool_choice::SpoolChoice;
 use std::alloc::Global;
 
@@ -16,6 +17,8 @@ pub struct Options {
     pub indexes: usize,
     /// Whether rows may not share a key of any of them.
     pub unique: bool,
+    /// What a row has to meet to be in them; in indexes without a condition each row is.
+    pub condition: Option<Condition>,
     /// How many workers make their pairs.
     pub workers: usize,
     /// How many updates are made before the build, and as many while its pages are copied.
@@ -45,6 +48,7 @@ impl Drop for Options {
             columns: _,
             indexes: _,
             unique: _,
+            condition: _,
             workers: _,
             writes: _,
             spools: _,
@@ -66,6 +70,7 @@ impl Options {
             columns: Vec::new(alloc),
             indexes: 0,
             unique: false,
+            condition: None,
             workers: 1,
             writes: 0,
             spools: SpoolChoice::Plain,
@@ -80,12 +85,12 @@ impl Options {
 
     /// The bytes of the longest key of an index: each is on one column.
     pub fn key_size(&self) -> usize
-        ensures each { (k : ℕ) (d : ColumnValue) → k < length self.now.columns.items → key_size (get_or self.now.columns.items k d) ≤ result }
+        ensures each { (k : ℕ) (d : ColumnValue) → k < length self.now.columns.items → key_size (get_or self.now.columns.items k d).values ≤ result }
         ensures limit { result ≤ 258 }
     {
         let mut longest = 0;
         for column in &self.columns {
-            longest = longest.max(column.key_size());
+            longest = longest.max(column.values.key_size());
         }
         longest
     }

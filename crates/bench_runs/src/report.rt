@@ -64,6 +64,9 @@ fn add_asked(text: &mut String, options: &Options) -> Result<(), AllocError> {
         seed,
         ..
     } = options;
+    if let Some(condition) = options.condition {
+        write!(text, ", where {condition}")?;
+    }
     writeln!(
         text,
         ", indexes {indexes}, workers {workers}, writes {writes}, seed {seed}\n{TITLES}"

@@ -1,4 +1,5 @@
 use crate::column::Column;
+use crate::values::Values;
 use keybytes::{Cell, Fault, Rid, Row, Text};
 use rand::distr::{Alphanumeric, SampleString};
 use rand::rngs::SmallRng;
@@ -111,10 +112,10 @@ fn add_cells(
     cells: &mut Vec<Cell>,
 ) -> Result<(), Fault> {
     for column in columns {
-        let cell = match column {
-            Column::Int => Cell::Int(rng.random()),
-            Column::IntBelow(limit) => Cell::Int(i64::from(rng.random_range(0..(*limit).max(1)))),
-            Column::Text { length, front } => {
+        let cell = match &column.values {
+            Values::Int => Cell::Int(rng.random()),
+            Values::IntBelow(limit) => Cell::Int(i64::from(rng.random_range(0..(*limit).max(1)))),
+            Values::Text { length, front } => {
                 Cell::Text(Text::new(random_text(alloc, rng, *length, *front)?))
             }
         };

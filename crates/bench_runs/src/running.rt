@@ -103,7 +103,7 @@ impl<C: Subject> Bench<'_, C> {
     fn compare(&mut self) {
         self.progress.announce(self.rt, "compare");
         for index in 0..self.options.indexes {
-            match self.core.compare(self.rt.alloc(), index) {
+            match self.core.compare(index) {
                 Ok(None) => {}
                 Ok(Some(place)) => self.record.fail(Failure::Differs(index, place)),
                 Err(fault) => self

@@ -1,6 +1,6 @@
 //! What is measured: a table with the build of its indexes, and all that is asked of it.
 
-use crate::build::{counted_spools, plan, spec};
+use crate::build::{counted_spools, plan};
 use crate::counted_spool::CountedSpool;
 use crate::failure::Failure;
 use crate::look_ups::{first_difference, look_in};
@@ -27,7 +27,7 @@ pub trait Subject {
     fn look_up(&self, rt: &HostRuntime, rng: &mut SmallRng, record: &mut Record, count: u32);
 
     /// Compares a ready index with the pairs that the table gives now: answers the place of the first that it doesn't have there.
-    fn compare(&mut self, alloc: Global, index: usize) -> Result<Option<usize>, Fault>;
+    fn compare(&mut self, index: usize) -> Result<Option<usize>, Fault>;
 }
 
 impl<T: Table> Subject for Core<CountedSpool<SpoolOfKind>, T> {
@@ -64,9 +64,11 @@ impl<T: Table> Subject for Core<CountedSpool<SpoolOfKind>, T> {
         }
     }
 
-    fn compare(&mut self, alloc: Global, index: usize) -> Result<Option<usize>, Fault> {
-        // Its pairs are the same whether it is unique or not.
-        let spec = spec(alloc, self.live().heap().schema(), index, false)?;
+    fn compare(&mut self, index: usize) -> Result<Option<usize>, Fault> {
+        let spec = self.ready(index)?.spec().clone()?;
+        if !spec.is_of(self.live().heap().schema()) {
+            return Err(Fault::BadColumn);
+        }
         let rest = self.rest(&spec)?;
         match self.ready(index) {
             Ok(index) => Ok(first_difference(index.tree(), rest.as_slice())),

@@ -9,9 +9,7 @@ use crate::filling::{Filled, fill_all};
 use crate::met::Met;
 use crate::watch::Watch;
 use crate::writer::write_on;
-use bench_runs::{
-    Failure, Options, first_difference, parts, plan, read_peak, schema, spec, spools,
-};
+use bench_runs::{Failure, Options, first_difference, parts, plan, read_peak, schema, spools};
 use builder_core::{Dealing, Ends, Live, Plan};
 use crew::{BuildFault, Opened, Report, Table, TableParts, build};
 use heap_log::Outcome;
@@ -79,7 +77,7 @@ where
     let filled = fill_all(rt, alloc, &table, options);
     let told = measure(rt, alloc, &table, ends, options, course, filled);
     let mut closed = table.close(Vec::new(alloc));
-    compared(alloc, &mut closed.live, told)
+    compared(&mut closed.live, told)
 }
 
 /// Builds beside the writers on a table that is filled, unless that failed.
@@ -300,12 +298,11 @@ fn are_ready(verdicts: &[Outcome]) -> Result<(), Failure>
 
 /// What was measured, unless an index isn't what the table gives.
 fn compared<T: Opened>(
-    alloc: Global,
     live: &mut Live<T>,
     told: Result<Figures, Failure>,
 ) -> Result<Figures, Failure> {
     for index in 0..live.ready().len() {
-        match compare(alloc, live, index) {
+        match compare(live, index) {
             Ok(None) => {}
             Ok(Some(place)) => return Err(Failure::Differs(index, place)),
             Err(fault) => return Err(Failure::Refused("the pairs at rest", fault)),
@@ -315,13 +312,14 @@ fn compared<T: Opened>(
 }
 
 /// The place of the first pair of an index that the table doesn't have there.
-fn compare<T: Opened>(
-    alloc: Global,
-    live: &mut Live<T>,
-    index: usize,
-) -> Result<Option<usize>, Fault> {
-    // Its pairs are the same whether it is unique or not.
-    let spec = spec(alloc, live.heap().schema(), index, false)?;
+fn compare<T: Opened>(live: &mut Live<T>, index: usize) -> Result<Option<usize>, Fault> {
+    let spec = match live.ready().get(index) {
+        Some(index) => index.spec().clone()?,
+        None => return Err(Fault::BadCount),
+    };
+    if !spec.is_of(live.heap().schema()) {
+        return Err(Fault::BadColumn);
+    }
     let rest = live.rest(&spec)?;
     match live.ready().get(index) {
         Some(index) => Ok(first_difference(index.tree(), rest.as_slice())),

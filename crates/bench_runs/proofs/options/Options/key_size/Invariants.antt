@@ -6,5 +6,5 @@ use Rattle.bench_runs.proofs.options.Options.key_size.Given as goal
 abbrev pub invariant-loop-column : goal.invariant-loop-column
 invariant-loop-column l = record {
   longest : l.longest ≤ 258;
-  each : (k : ℕ) (d : Column) → k < l.column-index → key_size (get_or l.column-items k d) ≤ l.longest;
+  each : (k : ℕ) (d : Column) → k < l.column-index → key_size (get_or l.column-items k d).values ≤ l.longest;
 }
