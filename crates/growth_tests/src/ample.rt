@@ -3,9 +3,18 @@
 use crate::ample_builds::{build, events, tables};
 use crate::ample_heaps::{changes, images, ready_changes};
 use crate::ample_indexes::{applied, guards, nodes, tallies, trees};
+use crate::ample_lent::lent;
+use crate::ample_makers::{intakes, makers, sorts};
 use crate::ample_rows::{log, ranges, rows, spools};
+use crate::ample_scripts::scripts;
+use crate::ample_sessions::sessions;
+use crate::ample_spools::{loads, merges, pages};
+use crate::ample_starts::starts;
+use crate::ample_turns::turns;
 use keybytes::Fault;
 use std::alloc::Global;
+use std::sync::Wait;
+use std::thread::Threads;
 
 /// Calls of one kind.
 #[derive(Clone, Copy, Debug, PartialEq)]
@@ -25,9 +34,20 @@ enum Calls {
     Tables,
     Build,
     Events,
+    Scripts,
+    Pages,
+    Merges,
+    Loads,
+    Makers,
+    Intakes,
+    Sorts,
+    Starts,
+    Turns,
+    Lent,
+    Sessions,
 }
 
-const ALL: [Calls; 15] = [
+const ALL: [Calls; 26] = [
     Calls::Rows,
     Calls::Log,
     Calls::Ranges,
@@ -43,9 +63,20 @@ const ALL: [Calls; 15] = [
     Calls::Tables,
     Calls::Build,
     Calls::Events,
+    Calls::Scripts,
+    Calls::Pages,
+    Calls::Merges,
+    Calls::Loads,
+    Calls::Makers,
+    Calls::Intakes,
+    Calls::Sorts,
+    Calls::Starts,
+    Calls::Turns,
+    Calls::Lent,
+    Calls::Sessions,
 ];
 
-fn called(alloc: Global, calls: Calls) -> Result<(), Fault> {
+fn called<R: Threads + Wait + Sync>(rt: &R, alloc: Global, calls: Calls) -> Result<(), Fault> {
     match calls {
         Calls::Rows => rows(alloc),
         Calls::Log => log(alloc),
@@ -62,13 +93,24 @@ fn called(alloc: Global, calls: Calls) -> Result<(), Fault> {
         Calls::Tables => tables(alloc),
         Calls::Build => build(alloc),
         Calls::Events => events(alloc),
+        Calls::Scripts => scripts(alloc),
+        Calls::Pages => pages(alloc),
+        Calls::Merges => merges(alloc),
+        Calls::Loads => loads(rt, alloc),
+        Calls::Makers => makers(alloc),
+        Calls::Intakes => intakes(alloc),
+        Calls::Sorts => sorts(rt, alloc),
+        Calls::Starts => starts(alloc),
+        Calls::Turns => turns(alloc),
+        Calls::Lent => lent(rt, alloc),
+        Calls::Sessions => sessions(rt, alloc),
     }
 }
 
 /// The first calls of which one is refused.
-fn first_refused(alloc: Global) -> Option<(Calls, Fault)> {
+fn first_refused<R: Threads + Wait + Sync>(rt: &R, alloc: Global) -> Option<(Calls, Fault)> {
     for calls in ALL {
-        if let Err(fault) = called(alloc, calls) {
+        if let Err(fault) = called(rt, alloc, calls) {
             return Some((calls, fault));
         }
     }
@@ -77,5 +119,5 @@ fn first_refused(alloc: Global) -> Option<(Calls, Fault)> {
 
 #[test]
 fn nothing_is_refused_with_ample_memory(rt: HostRuntime) {
-    assert_eq!(rt; first_refused(rt.alloc()), None);
+    assert_eq!(rt; first_refused(&rt, rt.alloc()), None);
 }

@@ -2,7 +2,7 @@
 ghost use Rattle.std.specs.Prelude.{◌≡◌};
 
 use crate::asks::{Ask, Index, event, row, schema, spec};
-use builder_core::{Core, Dealing, Ends, Event, Live, Parts, Plan, Table, run_events};
+use builder_core::{Core, Dealing, Ends, Event, Live, Parts, Plan, Reply, Table, run_events};
 use heap_table::Heap;
 use keybytes::{Fault, KeySpec, Rid};
 use replay::Leases;
@@ -89,6 +89,14 @@ fn put<S: Spool, T: Table>(alloc: Global, core: &mut Core<S, T>, first: i64) -> 
     Ok(())
 }
 
+/// A transaction begins by an event.
+fn step<S: Spool, T: Table>(core: &mut Core<S, T>) -> Result<(), Fault> {
+    match core.step(Event::Begin) {
+        Reply::Refused { fault } => Err(fault),
+        _ => Ok(()),
+    }
+}
+
 /// A row changes, goes, and is brought back.
 fn change<S: Spool, T: Table>(alloc: Global, core: &mut Core<S, T>) -> Result<(), Fault> {
     let txn = core.begin()?;
@@ -125,6 +133,7 @@ fn built<S: Spool, T: Table>(
     core: &mut Core<S, T>,
     plan: &Plan,
 ) -> Result<(), Fault> {
+    step(core)?;
     put(alloc, core, 0)?;
     let pages = core.start(plan)?;
     change(alloc, core)?;

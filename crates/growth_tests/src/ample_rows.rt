@@ -2,7 +2,7 @@
 
 use heap_log::{Log, LogRec, Outcome, Verdicts};
 use keybytes::{
-    Cell, Fault, Key, KeyCol, KeyMemory, KeySpec, Kind, Rid, Row, Schema, Text, copied_specs,
+    Cell, Fault, Key, KeyCol, KeyMemory, KeySpec, Kind, Rid, Row, Schema, Text, When, copied_specs,
 };
 use scan_range::{Cuts, Dealing, Ranges};
 use side_file::SideFile;
@@ -25,8 +25,10 @@ fn keys(alloc: Global, spec: &KeySpec, schema: &Schema, row: &Row) -> Result<(),
     if !spec.is_of(schema) || !row.fits(schema) {
         return Err(Fault::RowShape);
     }
-    let key = spec.key(row)?.clone()?;
-    spec.cells(&key)?;
+    let Some(key) = spec.key(row)? else {
+        return Err(Fault::RowShape);
+    };
+    spec.cells(&key.clone()?)?;
     copied_specs(alloc, from_ref(spec))?;
     KeyMemory::new(alloc)?;
     long_key(alloc)?.clone()?;
@@ -37,6 +39,11 @@ fn row(alloc: Global) -> Result<Row, Fault> {
     let text = Text::new("a".repeat(alloc, 60)?);
     let cell = Cell::Text(text.clone()?);
     Row::new(vec![in alloc; Cell::Int(5), cell.clone()?]?)
+}
+
+/// Rows with that text alone are asked for.
+fn asked(alloc: Global) -> Result<When, Fault> {
+    When::Equal(1, Cell::Text(Text::new("a".repeat(alloc, 60)?))).clone()
 }
 
 /// The text of a row, from the greatest to the least.
@@ -54,8 +61,14 @@ const NUMBER: KeyCol = KeyCol {
 fn read_back(alloc: Global, schema: &Schema) -> Result<(), Fault> {
     let bytes = row(alloc)?.clone()?.to_bytes(schema)?;
     let row = Row::read(alloc, bytes.as_slice(), schema)?;
-    let spec = KeySpec::new(alloc, schema, vec![in alloc; TEXT, NUMBER]?, false)?;
+    let spec = spec(alloc, schema)?;
     keys(alloc, &spec.clone()?, schema, &row)
+}
+
+/// The specification of an index that takes the row.
+fn spec(alloc: Global, schema: &Schema) -> Result<KeySpec, Fault> {
+    let spec = KeySpec::new(alloc, schema, vec![in alloc; TEXT, NUMBER]?, false)?;
+    spec.with_when(schema, asked(alloc)?)
 }
 
 pub fn rows(alloc: Global) -> Result<(), Fault> {

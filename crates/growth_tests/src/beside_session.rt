@@ -39,14 +39,14 @@ const SPOOLS: usize = 4;
 
 /// Spools, and the pool that has the pages behind them.
 #[derive(Drop)]
-struct Leased {
+pub struct Leased {
     leases: Leases,
     spools: Vec<SpoolOfKind>,
     ghost owed: { AreOf leases (map stake_in spools.items) },
 }
 
 impl Leased {
-    fn new(alloc: Global) -> Result<Leased, Fault> {
+    pub fn new(alloc: Global) -> Result<Leased, Fault> {
         let (leases, spools) = Leases::new(alloc, SpoolChoice::Plain, SPOOLS, 4)?;
         Ok(Leased { leases, spools })
     }
@@ -83,7 +83,7 @@ fn heap(alloc: Global) -> Result<Heap, Fault> {
     Ok(heap)
 }
 
-fn parts(alloc: Global) -> Result<TableParts, Fault> {
+pub fn parts(alloc: Global) -> Result<TableParts, Fault> {
     let parts = match Parts::new(alloc, heap(alloc)?) {
         Ok(parts) => parts,
         Err((_, fault)) => return Err(fault),
@@ -101,7 +101,7 @@ fn add_specs(alloc: Global, specs: &mut Vec<KeySpec>) -> Result<(), Fault> {
     Ok(())
 }
 
-fn plan(alloc: Global) -> Result<Plan, Fault> {
+pub fn plan(alloc: Global) -> Result<Plan, Fault> {
     let mut specs = Vec::new(alloc);
     add_specs(alloc, &mut specs)?;
     Ok(Plan {
@@ -123,7 +123,7 @@ fn are_back(spools: &[SpoolOfKind]) -> bool {
 }
 
 /// What a build comes to, and whether all spools and pages are back.
-fn built<T: Opened + Send + Sync, R: Threads + Wait + Sync>(
+pub fn built<T: Opened + Send + Sync, R: Threads + Wait + Sync>(
     rt: &R,
     alloc: Global,
     table: &Table<T>,

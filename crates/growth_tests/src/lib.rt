@@ -15,7 +15,21 @@ mod ample_heaps;
 #[cfg(test)]
 mod ample_indexes;
 #[cfg(test)]
+mod ample_lent;
+#[cfg(test)]
+mod ample_makers;
+#[cfg(test)]
 mod ample_rows;
+#[cfg(test)]
+mod ample_scripts;
+#[cfg(test)]
+mod ample_sessions;
+#[cfg(test)]
+mod ample_spools;
+#[cfg(test)]
+mod ample_starts;
+#[cfg(test)]
+mod ample_turns;
 #[cfg(test)]
 mod asks;
 #[cfg(test)]

@@ -1,0 +1,14 @@
+use Rattle.std.proofs.Common.{◌<◌, rules, refl, sym, length}
+use Rattle.building.proofs.Places.{there_is}
+use Rattle.build_work.specs.BuildingValue.{WorkValue}
+use Rattle.build_work.proofs.Applying.{can_apply_seen}
+use Rattle.growth_tests.proofs.ample_lent.apply.Goals as goal
+
+pub apply-requires : goal.apply-requires
+apply-requires g c =
+    let work : WorkValue = c.in-Some.work.now in
+    let seen = c.look_for_entries-seen in
+    let less : 0 < length work.indexes = search rules in
+    let it = there_is work.indexes 0 less in
+    can_apply_seen 0 seen.result seen.result c.args.building.now seen.new.self work it.0 seen.ensures c.in-Some.ensures c.in_ok-check.ensures it.1
+    (sym (c.if-not-is_loaded.ensures it.0 it.1)) (search rules)

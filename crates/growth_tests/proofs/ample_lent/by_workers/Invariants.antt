@@ -1,0 +1,7 @@
+use Rattle.build_work.specs.BuildingValue.{BuildingValue}
+use Rattle.build_work.specs.Lent.{AreBack}
+use Rattle.growth_tests.proofs.ample_lent.by_workers.Given as goal
+
+-- they are all back, if they were at first
+abbrev pub invariant-loop-does : goal.invariant-loop-does
+invariant-loop-does g l = (rest : BuildingValue) → AreBack rest l.fn.workers.items → AreBack rest l.workers.items

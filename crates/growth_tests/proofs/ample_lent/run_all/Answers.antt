@@ -1,0 +1,15 @@
+use Rattle.std.proofs.Common.{subst, sym, arith}
+use Rattle.building.proofs.Places.{at_index}
+use Rattle.index_load.specs.IndexLoad.{HasRun, IndexLoadValue}
+use Rattle.crew.proofs.Placewise.{zip_more}
+use Rattle.growth_tests.proofs.ample_lent.run_all.Goals as goal
+
+pub loop-load-preserved : goal.loop-load-preserved
+loop-load-preserved g c =
+    let i = c.loop-load.load-index in
+    let items = c.loop-load.load-items in
+    let load = c.load-item.result in
+    let at = at_index items i load c.load-item.is (omega (arith, c.loop-load-test.true, c.loop-load.auto.load-items)) in
+    let ran = subst (λ (l : IndexLoadValue). HasRun l c.run_in_threads.new.self) (sym c.load-item.is) c.run_in_threads.ensures in
+    let more = zip_more HasRun c.args.loads.now items i load c.run_in_threads.new.self c.loop-load.invariant.ran c.loop-load.invariant.left at ran in
+    record { ran = more.0; left = more.1 }
