@@ -4,14 +4,14 @@ use clap::Error;
 use clap::error::ErrorKind;
 use std::alloc::Global;
 use std::test::Fail;
-use words::{Task, read};
+use words::{Choice, IndexWord, Task, read};
 
 /// Commands with their tasks.
 static TASKS: [(&str, Task); 2] = [("replay", Task::Replay), ("check", Task::Check)];
 
 static SCRIPTS: [&str; 3] = ["three.csv", "-", "./a b"];
 
-static REFUSED: [&[&str]; 11] = [
+static REFUSED: [&[&str]; 15] = [
     &["sfbuild"],
     &["sfbuild", "fly"],
     &["sfbuild", "replay"],
@@ -23,6 +23,28 @@ static REFUSED: [&[&str]; 11] = [
     &["sfbuild", "race", "a", "--workers", "0"],
     &["sfbuild", "race", "a", "--workers", "17"],
     &["sfbuild", "-", "a"],
+    &["sfbuild", "index", "a"],
+    &["sfbuild", "index", "--columns", "a:int"],
+    &[
+        "sfbuild",
+        "index",
+        "a",
+        "--columns",
+        "a:int",
+        "--workers",
+        "17",
+    ],
+    &[
+        "sfbuild",
+        "index",
+        "a",
+        "--columns",
+        "a:int",
+        "--find",
+        "1",
+        "--find",
+        "2",
+    ],
 ];
 
 static HELPED: [&[&str]; 3] = [
@@ -34,8 +56,13 @@ static HELPED: [&[&str]; 3] = [
 /// Whether these words ask for that task with that script.
 fn ask_for(alloc: Global, words: &[&str], task: Task, script: &str) -> bool {
     match read(alloc, words) {
-        Ok(choice) => choice.task == task && choice.script == script,
-        Err(_) => false,
+        Ok(
+            Choice::Script {
+                task: asked,
+                script: given,
+            },
+        ) => asked == task && given == script,
+        Ok(Choice::Index(_)) | Err(_) => false,
     }
 }
 
@@ -62,6 +89,61 @@ fn name_a_race(rt: HostRuntime) {
         let given = if is_shown { 6 } else { 5 };
         assert!(rt; ask_for(rt.alloc(), &words[..given], task, "a"));
     }
+}
+
+/// What is asked of the indexes: of each its columns, and whether it is unique.
+static INDEXES: [(&str, bool); 3] = [("b", true), ("a:desc,b", false), ("c", true)];
+
+/// Whether these are the indexes, in that order.
+fn are_asked(indexes: &[IndexWord<'_>]) -> bool {
+    if indexes.len() != INDEXES.len() {
+        return false;
+    }
+    for (index, (columns, unique)) in indexes.iter().zip(INDEXES) {
+        if index.columns != columns || index.unique != unique {
+            return false;
+        }
+    }
+    true
+}
+
+/// Whether these words ask for these indexes, with that range.
+fn ask_for_indexes(alloc: Global, words: &[&str]) -> bool {
+    match read(alloc, words) {
+        Ok(Choice::Index(asked)) => {
+            asked.file == "-"
+                && asked.columns == "a:int,b:text,c:flag"
+                && are_asked(asked.indexes.as_slice())
+                && asked.workers == Some(3)
+                && asked.range == Some("1..")
+                && asked.find.is_none()
+                && asked.skips_bad
+        }
+        _ => false,
+    }
+}
+
+#[test]
+fn name_indexes(rt: HostRuntime) {
+    let words = [
+        "sfbuild",
+        "index",
+        "-",
+        "--columns",
+        "a:int,b:text,c:flag",
+        "--unique",
+        "b",
+        "--on",
+        "a:desc,b",
+        "--workers",
+        "3",
+        "--range",
+        "1..",
+        "--unique",
+        "c",
+        "--skip-bad",
+    ];
+    assert!(rt; ask_for_indexes(rt.alloc(), words.as_slice()));
 }
 
 fn are_refused(alloc: Global, words: &[&str]) -> bool {

@@ -13,7 +13,7 @@ use std::process::ExitCode;
 use std::sync::Wait;
 use std::thread::Threads;
 use std::{env, io};
-use words::{Choice, Task};
+use words::{Choice, IndexWords, Task};
 
 fn main(rt: HostRuntime) -> ExitCode {
     let status = match given(&rt) {
@@ -35,7 +35,8 @@ fn given(rt: &HostRuntime) -> io::Result<Vec<String>> {
 /// Does what the words ask for, and answers the program's exit status.
 fn obey<A: Threads + Wait + Sync>(rt: &HostRuntime, threads: &A, words: &[String]) -> u8 {
     match words::read(rt.alloc(), words) {
-        Ok(Choice { task, script }) => run(rt, threads, task, script),
+        Ok(Choice::Script { task, script }) => run(rt, threads, task, script),
+        Ok(Choice::Index(words)) => index(rt, threads, &words),
         Err(error) => print(rt, &error),
     }
 }
@@ -87,4 +88,15 @@ fn run_race<A: Threads + Wait + Sync, R: Read + Drop>(
     }
     let line = ProgressLine::new(*rt, err, err.is_terminal());
     race::race_watched(threads, alloc, workers, script, out, err, line)
+}
+
+/// Builds the indexes that the words ask for.
+fn index<A: Threads + Wait + Sync>(rt: &HostRuntime, threads: &A, words: &IndexWords<'_>) -> u8 {
+    if words.file == "-" {
+        return csv_index::index(rt, threads, words, rt.stdin());
+    }
+    match File::open(rt, words.file) {
+        Ok(file) => csv_index::index(rt, threads, words, file),
+        Err(_) => csv_index::refuse(rt),
+    }
 }

@@ -1,9 +1,13 @@
 //! The words that the program `sfbuild` understands.
 #![tactic(auto)]
 
+mod index;
+
+use crate::index::{index_command, index_words};
 use clap::builder::ValueParser;
 use clap::error::ErrorKind;
 use clap::{Arg, ArgAction, ArgMatches, Command, Error};
+pub use index::{IndexWord, IndexWords};
 use std::alloc::{AllocError, Global};
 use std::convert::AsStr;
 
@@ -38,13 +42,17 @@ A race has sessions that write in threads of their own while a build runs, as in
   in,1,insert,A,6
   in,1,commit,A
 
-`sfbuild race race.csv --workers 2` runs it and prints how it went.";
+`sfbuild race race.csv --workers 2` runs it and prints how it went.
 
-/// What the words ask for: something that is to be done with a script, which is a file's path, or `-` for standard input.
-#[derive(Clone, Copy)]
-pub struct Choice<'a> {
-    pub task: Task,
-    pub script: &'a str,
+A file that is there already needs no script: `sfbuild index --help` says how indexes are built on its rows.";
+
+/// What the words ask for.
+#[derive(Drop)]
+pub enum Choice<'a> {
+    /// Something that is to be done with a script, which is a file's path, or `-` for standard input.
+    Script { task: Task, script: &'a str },
+    /// Indexes on the rows of a file.
+    Index(IndexWords<'a>),
 }
 
 /// What is to be done with a script.
@@ -66,14 +74,25 @@ pub enum Task {
 /// help or the version that was asked for.
 pub fn read<'a, S: AsStr>(alloc: Global, words: &'a [S]) -> Result<Choice<'a>, Error> {
     let matches = command(alloc)?.try_get_matches_from(words)?;
-    match chosen(&matches) {
+    match chosen(alloc, &matches)? {
         Some(choice) => Ok(choice),
         None => Err(missing(alloc)?),
     }
 }
 
-fn chosen<'a>(matches: &ArgMatches<'a>) -> Option<Choice<'a>> {
-    let (name, arguments) = matches.subcommand()?;
+fn chosen<'a>(alloc: Global, matches: &ArgMatches<'a>) -> Result<Option<Choice<'a>>, AllocError> {
+    match matches.subcommand() {
+        Some(("index", arguments)) => match index_words(alloc, arguments)? {
+            Some(words) => Ok(Some(Choice::Index(words))),
+            None => Ok(None),
+        },
+        Some((name, arguments)) => Ok(script_task(name, arguments)),
+        None => Ok(None),
+    }
+}
+
+/// What is to be done with a script.
+fn script_task<'a>(name: &str, arguments: &ArgMatches<'a>) -> Option<Choice<'a>> {
     let task = match name {
         "replay" => Task::Replay,
         "check" if arguments.get_flag("race") => Task::CheckRace,
@@ -85,7 +104,7 @@ fn chosen<'a>(matches: &ArgMatches<'a>) -> Option<Choice<'a>> {
         _ => return None,
     };
     let script = arguments.get_str("SCRIPT")?;
-    Some(Choice { task, script })
+    Some(Choice::Script { task, script })
 }
 
 fn missing(alloc: Global) -> Result<Error, AllocError> {
@@ -110,12 +129,13 @@ fn command<'a>(alloc: Global) -> Result<Command<'a>, AllocError> {
     .arg(race)?;
     Command::new(alloc, "sfbuild")
         .version(VERSION)
-        .about("Builds the index of a table, as a script tells it to")
+        .about("Builds indexes of a table, on the rows of a file or as a script tells it to")
         .after_help(EXAMPLE)
         .subcommand_required(true)
         .subcommand(replay)?
         .subcommand(check)?
-        .subcommand(race_command(alloc)?)
+        .subcommand(race_command(alloc)?)?
+        .subcommand(index_command(alloc)?)
 }
 
 /// The command of a race.

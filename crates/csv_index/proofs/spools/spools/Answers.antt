@@ -1,0 +1,6 @@
+use Rattle.csv_index.proofs.Accounts.{are_whole}
+use Rattle.csv_index.proofs.spools.spools.Goals as goal
+
+pub spools_over-requires : goal.spools_over-requires
+spools_over-requires c =
+    are_whole c.in_ok-pool.pool.number c.as_slice.result.now c.in_ok-accounts.accounts.items c.in_ok-accounts.ensures.1.each

@@ -1,0 +1,32 @@
+use crate::cell_fault::CellFault;
+use keybytes::Fault;
+use std::alloc::{AllocError, AllocFailed};
+
+/// Why a record is no row of the table.
+#[derive(Clone, Copy, PartialEq, Eq)]
+pub enum BadRow {
+    /// It has so many fields, which aren't those of the header.
+    Fields(usize),
+    /// Its field in the column of that number is no cell.
+    Cell(usize, CellFault),
+    /// The table refuses it.
+    Refused(Fault),
+}
+
+impl From<Fault> for BadRow {
+    fn from(fault: Fault) -> BadRow {
+        BadRow::Refused(fault)
+    }
+}
+
+impl From<AllocError> for BadRow {
+    fn from(_error: AllocError) -> BadRow {
+        BadRow::Refused(Fault::Memory)
+    }
+}
+
+impl<T: Drop> From<AllocFailed<T>> for BadRow {
+    fn from(_error: AllocFailed<T>) -> BadRow {
+        BadRow::Refused(Fault::Memory)
+    }
+}
