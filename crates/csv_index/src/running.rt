@@ -14,7 +14,7 @@ use heap_table::Heap;
 use keybytes::{Fault, copied_specs};
 use spool_kinds::SpoolOfKind;
 use std::alloc::Global;
-use std::io::Read;
+use std::io::{ErrorKind, Read};
 use std::marker::Brand;
 use std::sync::Wait;
 use std::thread::{Threads, available_parallelism};
@@ -90,8 +90,11 @@ fn read<R: Read + Drop>(
 ) -> Result<Filled, Failure> {
     let (mut reader, mut progress) = (reader, progress);
     let mut text = Vec::new(alloc);
-    if reader.read_to_end(&mut text).is_err() {
-        return Err(Failure::CannotRead);
+    if let Err(error) = reader.read_to_end(&mut text) {
+        return Err(match error.kind() {
+            ErrorKind::OutOfMemory => Failure::Table(Fault::Memory),
+            _ => Failure::CannotRead,
+        });
     }
     let reading = Reading {
         alloc,

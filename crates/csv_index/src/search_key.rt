@@ -1,7 +1,7 @@
 //! Keys that a user asks for.
 
 use csv::StringRecord;
-use csv_table::{Column, Failure, Refusal, cell, record};
+use csv_table::{CellFault, Column, Failure, Refusal, cell, record};
 use keybytes::{Cell, Fault, KEY_MAX, Key, KeyCol, KeySpec, Row, Schema};
 use std::alloc::Global;
 
@@ -36,7 +36,7 @@ impl<'a> Subject<'a> {
         let spec = KeySpec::new(self.alloc, self.schema, columns.to_vec(self.alloc)?, false)?;
         let mut cells = Vec::with_capacity(self.alloc, self.columns.len())?;
         for place in 0..self.columns.len() {
-            match self.cell(record, columns, place) {
+            match self.cell(record, columns, place)? {
                 Some(cell) => cells.push(cell)?,
                 None => return Ok(None),
             }
@@ -49,14 +49,22 @@ impl<'a> Subject<'a> {
     }
 
     /// The cell of the table's column at that place: Null where none is given.
-    fn cell(self, record: &StringRecord, columns: &[KeyCol], place: usize) -> Option<Cell> {
+    fn cell(
+        self,
+        record: &StringRecord,
+        columns: &[KeyCol],
+        place: usize,
+    ) -> Result<Option<Cell>, Fault> {
         let Some(given) = columns.iter().position(|column| column.column == place) else {
-            return Some(Cell::Null);
+            return Ok(Some(Cell::Null));
         };
-        let (column, text) = (self.columns.get(place)?, record.get(given)?);
+        let (Some(column), Some(text)) = (self.columns.get(place), record.get(given)) else {
+            return Ok(None);
+        };
         match cell(self.alloc, column.kind, text.as_bytes()) {
-            Ok(cell) => Some(cell),
-            Err(_) => None,
+            Ok(cell) => Ok(Some(cell)),
+            Err(CellFault::Memory) => Err(Fault::Memory),
+            Err(_) => Ok(None),
         }
     }
 }

@@ -1,31 +1,34 @@
 //! What the indexes ask of a row.
 
+use crate::cell_fault::CellFault;
 use crate::column::{Column, place_of};
 use crate::failure::Failure;
 use crate::field::cell;
 use crate::refusal::Refusal;
-use keybytes::{Cell, When};
+use keybytes::{Cell, Fault, When};
 use std::alloc::Global;
 
 /// The condition that a text spells: a column and `~`, or a column, `<` or `=`, and a cell.
 pub fn condition(alloc: Global, columns: &[Column], text: &str) -> Result<When, Failure> {
-    match spelled(alloc, columns, text) {
+    match spelled(alloc, columns, text)? {
         Some(condition) => Ok(condition),
         None => Err(Failure::refused(alloc, Refusal::Condition, text)),
     }
 }
 
-fn spelled(alloc: Global, columns: &[Column], text: &str) -> Option<When> {
+fn spelled(alloc: Global, columns: &[Column], text: &str) -> Result<Option<When>, Failure> {
     if let Some(name) = text.strip_suffix('~') {
         if let Some(column) = place_of(columns, name) {
-            return Some(When::IsNull(column));
+            return Ok(Some(When::IsNull(column)));
         }
     }
-    if let Some((column, bound)) = compared(alloc, columns, text.split_once('<')) {
-        return Some(When::Less(column, bound));
+    if let Some((column, bound)) = compared(alloc, columns, text.split_once('<'))? {
+        return Ok(Some(When::Less(column, bound)));
     }
-    let (column, given) = compared(alloc, columns, text.split_once('='))?;
-    Some(When::Equal(column, given))
+    Ok(match compared(alloc, columns, text.split_once('='))? {
+        Some((column, given)) => Some(When::Equal(column, given)),
+        None => None,
+    })
 }
 
 /// The column and the cell that stand on both sides of a mark.
@@ -33,12 +36,19 @@ fn compared(
     alloc: Global,
     columns: &[Column],
     sides: Option<(&str, &str)>,
-) -> Option<(usize, Cell)> {
-    let (name, text) = sides?;
-    let column = place_of(columns, name)?;
-    let kind = columns.get(column)?.kind;
-    match cell(alloc, kind, text.as_bytes()) {
-        Ok(cell) => Some((column, cell)),
-        Err(_) => None,
+) -> Result<Option<(usize, Cell)>, Failure> {
+    let Some((name, text)) = sides else {
+        return Ok(None);
+    };
+    let Some(column) = place_of(columns, name) else {
+        return Ok(None);
+    };
+    let Some(named) = columns.get(column) else {
+        return Ok(None);
+    };
+    match cell(alloc, named.kind, text.as_bytes()) {
+        Ok(cell) => Ok(Some((column, cell))),
+        Err(CellFault::Memory) => Err(Failure::Table(Fault::Memory)),
+        Err(_) => Ok(None),
     }
 }

@@ -153,10 +153,12 @@ fn pass(
     fault: BadRow,
     filled: &mut Filled,
 ) -> Result<(), Failure> {
-    let is_bad = !matches!(
-        fault,
-        BadRow::Refused(Fault::Memory) | BadRow::Cell(_, CellFault::Memory)
-    );
+    let is_bad = match fault {
+        BadRow::Fields(_) => true,
+        BadRow::Cell(_, fault) => fault != CellFault::Memory,
+        // The row is good, and the table is full.
+        BadRow::Refused(_) => false,
+    };
     if reading.skips_bad && is_bad {
         filled.left_out = filled.left_out.saturating_add(1);
         return Ok(());

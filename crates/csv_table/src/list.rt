@@ -1,5 +1,6 @@
 use crate::failure::Failure;
-use csv::{ReaderBuilder, StringRecord};
+use crate::refusal::Refusal;
+use csv::{Reader, ReaderBuilder, StringRecord};
 use keybytes::Fault;
 use std::alloc::Global;
 
@@ -7,14 +8,22 @@ use std::alloc::Global;
 pub fn record(alloc: Global, text: &str) -> Result<StringRecord, Failure> {
     let mut reader = ReaderBuilder::new()
         .has_headers(false)
+        .flexible(true)
         .from_reader(alloc, text.as_bytes());
     let mut record = StringRecord::new(alloc);
-    match reader.read_record(&mut record) {
-        Ok(true) => Ok(record),
-        Ok(false) => {
-            record.push_field("")?;
-            Ok(record)
-        }
+    let mut behind = StringRecord::new(alloc);
+    if !read_next(&mut reader, &mut record)? {
+        record.push_field("")?;
+    } else if read_next(&mut reader, &mut behind)? {
+        return Err(Failure::refused(alloc, Refusal::Lines, text));
+    }
+    Ok(record)
+}
+
+/// Whether there is another record, which is then read.
+fn read_next(reader: &mut Reader<&[u8]>, record: &mut StringRecord) -> Result<bool, Failure> {
+    match reader.read_record(record) {
+        Ok(found) => Ok(found),
         Err(_) => Err(Failure::Table(Fault::Memory)),
     }
 }

@@ -18,6 +18,8 @@ pub enum Refusal {
     TooManyCells,
     Cell,
     Range,
+    /// Of any list.
+    Lines,
     /// Of the header.
     Empty,
     Missing,
@@ -43,6 +45,7 @@ impl Refusal {
             Refusal::Cell => "no key: a cell isn't of its column's kind",
             Refusal::Range =>
                 "no range: that is a key, two points and a key, of which either may be left out",
+            Refusal::Lines => "more than one line",
             Refusal::Empty => "the file is empty: it has no header",
             Refusal::Missing => "no column of the file's header",
             Refusal::Twice => "named twice in the file's header",

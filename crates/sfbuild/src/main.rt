@@ -1,7 +1,7 @@
-//! The program `sfbuild`: builds the index of a table, as a script tells it to.
+//! The program `sfbuild`: builds indexes, on the rows of a file or as a script tells it to.
 //!
-//! The library [`words`] reads the words that the program is given, and the library [`replay`] runs the script or looks at it.
-//! `main` only hands the script and the standard streams in.
+//! The library [`words`] reads the words that the program is given. [`csv_index`] builds the indexes of a file, [`replay`] runs a script
+//! or looks at it, and [`race`] runs one in threads. `main` only hands the file and the standard streams in.
 #![tactic(auto)]
 
 use race::ProgressLine;
