@@ -31,7 +31,8 @@ static EXPLAINED: [(&[u8], &str); 29] = [
     ),
     (
         b"table,2,int\nstart,1,4,0,n:0,n\n",
-        "script: record 2 is bad: field 6, \"n\", is no spec (n: or u: and columns, with d behind one that descends, as n:0;2d, and maybe a condition, as n:0?1=true, n:0?1<5 or n:0?1~)\n",
+        "script: record 2 is bad: field 6, \"n\", is no spec (n: or u: and columns, with d behind one that descends, as n:0;2d, \
+         and maybe a condition, as n:0?1=true, n:0?1<5 or n:0?1~)\n",
     ),
     (
         b"table,2,int\nupdate,A,0.0,1,~,\"a\n\"\"b\"\n",
