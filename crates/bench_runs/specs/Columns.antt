@@ -1,5 +1,5 @@
 -- The columns of a table that is measured, and the condition of its indexes.
-use Rattle.std.specs.Prelude.{ℕ, ◌+◌, ◌≤◌, Bool, false, List, map, slice_index_or}
+use Rattle.std.specs.Prelude.{ℕ, ◌+◌, ◌≤◌, false, List, map, slice_index_or}
 use Rattle.keybytes.specs.declared.cell.Cell.TheVariants.{Int as IntCell}
 use Rattle.keybytes.specs.declared.key_col.KeyCol.{KeyCol}
 use Rattle.keybytes.specs.declared.kind.Kind.{Kind}

@@ -21,14 +21,6 @@ use Rattle.replay.specs.Leasing.{AreOf, LeasesValue, new_spools, pages_of, spool
 pub sum_of_equals : (count quota : ℕ) → sum (replicate count quota) ≡ count * quota
 sum_of_equals count quota = sum_by-replicate (λ (n : ℕ). n) count quota
 
-new_are_whole : (pool : ℕ) (quotas : List ℕ) → All IsWhole (map (new_account pool) quotas)
-new_are_whole pool [] = All-nil IsWhole
-new_are_whole pool (quota ∷ quotas) = All-cons IsWhole (new_account pool quota) (map (new_account pool) quotas) refl (new_are_whole pool quotas)
-
--- new accounts have all their pages
-pub are_whole : (pool : ℕ) (quotas : List ℕ) (accounts : List AccountValue) → accounts ≡ map (new_account pool) quotas → All IsWhole accounts
-are_whole pool quotas accounts each = subst (All IsWhole) (sym each) (new_are_whole pool quotas)
-
 -- pool and quota of the account behind runs on pages
 abbrev stake_behind : PagedSpoolValue → Option Stake
 stake_behind spool = Some (stake_of spool.account)

@@ -2,7 +2,8 @@ use Rattle.std.proofs.Common.{◌≡◌, ◌∙◌, ◌*◌, map, replicate, ap,
 use Rattle.spool_ledger.specs.Accounts.{new_account}
 use Rattle.spool_ledger.specs.Pools.{PoolValue}
 use Rattle.build_events.specs.CoreState.{SpoolsState}
-use Rattle.replay.proofs.Leased.{are_whole, new_are_new, split_are_of}
+use Rattle.spool_kinds.proofs.Accounts.{are_whole}
+use Rattle.replay.proofs.Leased.{new_are_new, split_are_of}
 use Rattle.replay.proofs.leases.Leases.new.Goals as goal
 
 pub spools_over-requires : goal.spools_over-requires
