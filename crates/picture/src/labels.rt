@@ -1,5 +1,7 @@
 //! How many lines and columns the texts of a picture take.
 
+ghost use Rattle.std.specs.Prelude.{◌≤◌};
+
 use crate::fitting::columns_of;
 use crate::{Gain, Mark, PictureError, Row, Timeline};
 use std::alloc::Global;
@@ -13,7 +15,9 @@ const GAIN_COLUMNS: usize = 36;
 const SHAPE_COLUMNS: usize = 3;
 
 /// The columns of the longest record.
-pub fn record_columns(rows: &[Row]) -> usize {
+pub fn record_columns(rows: &[Row]) -> usize
+    ensures { result ≤ RECORD_COLUMNS }
+{
     let mut most = 16;
     for row in rows {
         most = columns_of(row.text.as_str()).max(most);
@@ -25,7 +29,9 @@ pub fn record_columns(rows: &[Row]) -> usize {
 }
 
 /// The columns of the longest line of what an index got; 0 where none got something.
-pub fn gain_columns(gains: &[Gain]) -> usize {
+pub fn gain_columns(gains: &[Gain]) -> usize
+    ensures { result ≤ GAIN_COLUMNS }
+{
     let mut most = 0;
     for gain in gains {
         most = columns_of(gain.title.as_str()).max(most);

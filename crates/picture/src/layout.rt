@@ -48,7 +48,9 @@ pub fn width_of(columns: usize) -> u32
 }
 
 /// How many columns have room in so much width.
-pub fn columns_in(width: u32) -> usize {
+pub fn columns_in(width: u32) -> usize
+    ensures { result ≤ width }
+{
     width as usize * 4 / 29
 }
 

@@ -1,7 +1,11 @@
 //! What the indexes of a build got once a switch has decided.
 
+ghost use Rattle.keybytes.specs.Keys.{IsKeyOf};
+ghost use Rattle.keybytes.specs.Pairs.{HaveKeysOf};
+
 use crate::failure::Failure;
 use crate::words::{key_at, push_cells};
+use btree::Tree;
 use builder_core::{Core, Table};
 use keybytes::{KeySpec, Pair};
 use picture::{Gain, GainKind};
@@ -24,12 +28,7 @@ pub fn ready<T: Table>(
     let ready = core.ready(number)?;
     let pairs = ready.tree().len();
     let mut lines = Vec::new(alloc);
-    for pair in ready.tree().iter() {
-        if lines.len() >= PAIRS_MAX {
-            break;
-        }
-        lines.push(pair_line(alloc, ready.spec(), pair)?)?;
-    }
+    add_pairs(alloc, ready.spec(), ready.tree(), &mut lines)?;
     if pairs > PAIRS_MAX {
         let more = pairs - PAIRS_MAX;
         lines.push(format!(in alloc; "\u{2026} and {more} more")?)?;
@@ -42,7 +41,27 @@ pub fn ready<T: Table>(
     })
 }
 
-fn pair_line(alloc: Global, spec: &KeySpec, pair: &Pair) -> Result<String, Failure> {
+/// Adds a line for each of the first pairs of a tree.
+fn add_pairs(
+    alloc: Global,
+    spec: &KeySpec,
+    tree: &Tree,
+    lines: &mut Vec<String>,
+) -> Result<(), Failure>
+    requires { HaveKeysOf spec.now tree.now.pairs }
+{
+    for pair in tree.iter() {
+        if lines.len() >= PAIRS_MAX {
+            break;
+        }
+        lines.push(pair_line(alloc, spec, pair)?)?;
+    }
+    Ok(())
+}
+
+fn pair_line(alloc: Global, spec: &KeySpec, pair: &Pair) -> Result<String, Failure>
+    requires { IsKeyOf spec.now pair.now.key }
+{
     let cells = spec.cells(&pair.key)?;
     key_at(alloc, cells.as_slice(), pair.rid)
 }

@@ -14,6 +14,7 @@ mod run;
 mod sides;
 mod sight;
 mod story;
+mod teller;
 mod telling;
 mod threads;
 mod txn_lane;

@@ -1,5 +1,9 @@
 //! The side-files of a build, as they are before a command and behind it.
 
+ghost use Rattle.std.specs.List.{All};
+ghost use Rattle.std.specs.VecDeque.Iter.{deque_iter_rest};
+ghost use Rattle.keybytes.specs.Keys.{IsKeyOf};
+
 use crate::failure::Failure;
 use crate::words::key_at;
 use builder_core::{Core, Entry, INDEXES_MAX, Op, Table};
@@ -7,6 +11,7 @@ use keybytes::KeySpec;
 use picture::{Mark, MarkKind};
 use spool_kinds::SpoolOfKind;
 use std::alloc::Global;
+use std::collections::vec_deque::Iter;
 
 /// How many entries the side-file of each index has that aren't fed yet; none where no build runs.
 pub fn counts<T: Table>(
@@ -35,6 +40,19 @@ pub fn mark_added<T: Table>(
     let live = core.live();
     let spec = live.spec(index)?;
     let entries = live.side(index)?;
+    mark_behind(alloc, spec, entries, before, lane, marks)
+}
+
+fn mark_behind(
+    alloc: Global,
+    spec: &KeySpec,
+    entries: Iter<'_, Entry>,
+    before: usize,
+    lane: usize,
+    marks: &mut Vec<Mark>,
+) -> Result<(), Failure>
+    requires { All (λ entry. IsKeyOf spec.now entry.key) (deque_iter_rest entries) }
+{
     let mut place = 0usize;
     for entry in entries {
         if place >= before {
@@ -45,7 +63,9 @@ pub fn mark_added<T: Table>(
     Ok(())
 }
 
-fn mark_of(alloc: Global, spec: &KeySpec, entry: &Entry, lane: usize) -> Result<Mark, Failure> {
+fn mark_of(alloc: Global, spec: &KeySpec, entry: &Entry, lane: usize) -> Result<Mark, Failure>
+    requires { IsKeyOf spec.now entry.now.key }
+{
     let cells = spec.cells(&entry.key)?;
     let kind = match entry.op {
         Op::Delete => MarkKind::Delete,

@@ -1,18 +1,32 @@
 //! What the picture knows of the build that runs.
+ghost use Rattle.std.specs.Prelude.{◌≡◌, ◌≢◌, None, IfOk, MatchOption, length};
+ghost use Rattle.scan_range.specs.Dealings.{dealing_refusal, dealt_ends};
+ghost use Rattle.scan_range.specs.Ranges.{at_start};
+ghost use Rattle.script_picture.specs.Sights.{after_copy, side_in};
+
 use crate::failure::Failure;
 use builder_core::Dealing;
 use keybytes::Rid;
 use picture::{Side, SpanKind};
 use scan_range::Ranges;
 use std::alloc::Global;
+use std::marker::Model;
 use visibility::visible;
 
-/// How far a running build is: its ranges, and how many entries wait in the ring of each of its indexes.
+/// How far a running build is: its ranges, and how many entries wait in the ring of each of its indexes. Contracts see the ranges.
 #[derive(Drop)]
 pub struct Sight {
     ranges: Ranges,
     ends: Vec<u32>,
     in_rings: Vec<usize>,
+}
+
+impl Model for Sight {
+    ghost use Rattle.scan_range.specs.Ranges.{RangesValue};
+
+    ghost Value = { RangesValue };
+
+    ghost view = { λ sight. sight.ranges };
 }
 
 impl Sight {
@@ -22,7 +36,10 @@ impl Sight {
         dealing: &Dealing,
         pages: u32,
         indexes: usize,
-    ) -> Result<Option<Sight>, Failure> {
+    ) -> Result<Option<Sight>, Failure>
+        ensures { IfOk result (λ found. MatchOption found (dealing_refusal pages dealing.now ≢ None)
+            (λ sight. sight ≡ at_start (record { pages = pages; ends = dealt_ends pages dealing.now }))) }
+    {
         if dealing.check(pages).is_err() {
             return Ok(None);
         }
@@ -41,7 +58,9 @@ impl Sight {
     }
 
     /// How many ranges there are.
-    pub fn len(&self) -> usize {
+    pub fn len(&self) -> usize
+        ensures { result ≡ length self.now.ends }
+    {
         self.ranges.len()
     }
 
@@ -74,21 +93,27 @@ impl Sight {
     }
 
     /// The next page of a range was copied.
-    pub fn copy(&mut self, range: usize) {
+    pub fn copy(&mut self, range: usize)
+        ensures { self.new ≡ after_copy self.old range }
+    {
         if range < self.ranges.len() {
             let _done = self.ranges.advance(range);
         }
     }
 
     /// So many entries went into the ring of an index.
-    pub fn feed(&mut self, index: usize, entries: usize) {
+    pub fn feed(&mut self, index: usize, entries: usize)
+        ensures { self.new ≡ self.old }
+    {
         if let Some(waiting) = self.in_rings.get_mut(index) {
             *waiting = waiting.saturating_add(entries);
         }
     }
 
     /// So many entries were taken out of the ring of an index.
-    pub fn apply(&mut self, index: usize, entries: usize) {
+    pub fn apply(&mut self, index: usize, entries: usize)
+        ensures { self.new ≡ self.old }
+    {
         if let Some(waiting) = self.in_rings.get_mut(index) {
             *waiting = waiting.saturating_sub(entries);
         }
@@ -100,7 +125,9 @@ impl Sight {
     }
 
     /// On which side of the scan a RID is.
-    pub fn side(&self, rid: Rid) -> Side {
+    pub fn side(&self, rid: Rid) -> Side
+        ensures { result ≡ side_in self.now rid }
+    {
         if visible(&self.ranges, rid) {
             Side::Behind
         } else {

@@ -1,57 +1,41 @@
+ghost use Rattle.std.specs.Prelude.{◌≡◌, ◌+◌, vec_len, OnOk, IfOk};
+
 use crate::deed::Deed;
 use crate::failure::Failure;
 use crate::lanes::Lanes;
 use crate::record_text::RecordText;
-use crate::sides::{counts, mark_added};
-use crate::sight::Sight;
-use crate::threads::Threads;
-use crate::words::refusal;
+use crate::teller::Teller;
 use builder_core::{Core, Table};
-use keybytes::{Fault, Rid};
-use picture::{Gain, Mark, MarkKind, Row, RowKind, Side, Timeline};
+use keybytes::Fault;
+use picture::{Row, Timeline};
 use replay::Answer;
 use script::Command;
 use spool_kinds::SpoolOfKind;
 use std::alloc::Global;
-use std::mem;
 
-/// What was seen of a script's run so far.
+/// What was seen of a script's run so far: a row for each record.
 #[derive(Drop)]
 pub struct Story {
-    pub(crate) alloc: Global,
-    pub(crate) lanes: Lanes,
-    texts: Vec<RecordText>,
-    pub(crate) threads: Threads,
+    teller: Teller,
     rows: Vec<Row>,
-    pub(crate) gains: Vec<Gain>,
-    /// What is known of the build that runs.
-    pub(crate) sight: Option<Sight>,
-    /// How many entries each of its side-files had before the command.
-    pub(crate) sides: Vec<usize>,
 }
 
 impl Story {
     /// Nothing was seen yet of these records.
-    pub fn new(alloc: Global, lanes: Lanes, texts: Vec<RecordText>) -> Result<Story, Failure> {
-        let threads = Threads::new(alloc, lanes.len())?;
+    pub fn new(alloc: Global, lanes: Lanes, texts: Vec<RecordText>) -> Result<Story, Failure>
+        ensures { IfOk result (λ story. vec_len story.rows ≡ 0) }
+    {
         Ok(Story {
-            alloc,
-            lanes,
-            texts,
-            threads,
+            teller: Teller::new(alloc, lanes, texts)?,
             rows: Vec::new(alloc),
-            gains: Vec::new(alloc),
-            sight: None,
-            sides: Vec::new(alloc),
         })
     }
 
     /// The table was made, or refused.
-    pub fn table(&mut self, refused: Option<Fault>) -> Result<(), Failure> {
-        let mut row = self.next_row()?;
-        if let Some(fault) = refused {
-            row.refusal = Some(refusal(self.alloc, fault)?);
-        }
+    pub fn table(&mut self, refused: Option<Fault>) -> Result<(), Failure>
+        ensures { OnOk result (vec_len self.new.rows ≡ vec_len self.old.rows + 1) }
+    {
+        let row = self.teller.table(refused)?;
         self.rows.push(row)?;
         Ok(())
     }
@@ -61,119 +45,31 @@ impl Story {
         &mut self,
         core: &Core<SpoolOfKind, T>,
         command: &Command,
-    ) -> Result<Deed, Failure> {
-        self.sides = counts(self.alloc, core)?;
-        Deed::of(self.alloc, command, &self.lanes)
+    ) -> Result<Deed, Failure>
+        ensures { self.new.rows ≡ self.old.rows }
+    {
+        self.teller.before(core, command)
     }
 
-    /// Looks at the table behind a command, which was answered so.
+    /// Looks at the table behind a command that was answered so.
     pub fn after<T: Table>(
         &mut self,
         core: &Core<SpoolOfKind, T>,
         deed: &Deed,
         answer: &Answer,
-    ) -> Result<(), Failure> {
-        let mut row = self.next_row()?;
-        self.tell(core, deed, answer, &mut row)?;
-        self.mark_entries(core, &mut row.marks)?;
-        self.threads.grow(self.rows.len());
+    ) -> Result<(), Failure>
+        ensures { OnOk result (vec_len self.new.rows ≡ vec_len self.old.rows + 1) }
+    {
+        let row = self.teller.after(core, deed, answer)?;
         self.rows.push(row)?;
         Ok(())
     }
 
-    /// The picture's timeline.
-    pub fn into_timeline(self, title: &str) -> Result<Timeline, Failure> {
-        let Story {
-            alloc,
-            lanes,
-            texts: _,
-            threads,
-            rows,
-            gains,
-            sight: _,
-            sides: _,
-        } = self;
-        Ok(Timeline {
-            title: String::from_str(alloc, title)?,
-            lanes: lanes.named(alloc)?,
-            rows,
-            spans: threads.into_spans(),
-            gains,
-        })
-    }
-
-    /// The place of the row that is being told.
-    pub(crate) fn row(&self) -> usize {
-        self.rows.len()
-    }
-
-    /// On which side of the scan a RID is.
-    pub(crate) fn side(&self, rid: Rid) -> Side {
-        match &self.sight {
-            Some(sight) => sight.side(rid),
-            None => Side::NoBuild,
-        }
-    }
-
-    /// The fields of the record that is being told, from that one on.
-    pub(crate) fn fields_from(&self, first: usize) -> Result<String, Failure> {
-        match self.texts.get(self.rows.len()) {
-            Some(text) => text.from_field(self.alloc, first),
-            None => Ok(String::new(self.alloc)),
-        }
-    }
-
-    /// One of its fields.
-    pub(crate) fn field(&self, place: usize) -> Result<String, Failure> {
-        match self.texts.get(self.rows.len()) {
-            Some(text) => text.field(self.alloc, place),
-            None => Ok(String::new(self.alloc)),
-        }
-    }
-
-    /// The row of the next record, with nothing in its lanes.
-    fn next_row(&mut self) -> Result<Row, Failure> {
-        let text = self.fields_from(0)?;
-        let mut row = Row {
-            number: 0,
-            kind: RowKind::Plain,
-            remarks: Vec::new(self.alloc),
-            text,
-            refusal: None,
-            marks: Vec::new(self.alloc),
-        };
-        if let Some(text) = self.texts.get_mut(self.rows.len()) {
-            row.number = text.number;
-            row.remarks = mem::replace(&mut text.remarks, Vec::new(self.alloc));
-        }
-        Ok(row)
-    }
-
-    /// Marks the entries that the command appended to the side-files.
-    fn mark_entries<T: Table>(
-        &self,
-        core: &Core<SpoolOfKind, T>,
-        marks: &mut Vec<Mark>,
-    ) -> Result<(), Failure> {
-        if !core.is_building() {
-            return Ok(());
-        }
-        for (index, &before) in self.sides.iter().enumerate() {
-            let lane = self.lanes.of_index(index);
-            mark_added(self.alloc, core, index, before, lane, marks)?;
-        }
-        Ok(())
-    }
-
-    /// Adds a mark to the row.
-    pub(crate) fn mark(
-        &self,
-        row: &mut Row,
-        lane: usize,
-        kind: MarkKind,
-        text: String,
-    ) -> Result<(), Failure> {
-        row.marks.push(Mark { lane, kind, text })?;
-        Ok(())
+    /// The timeline of what was seen.
+    pub fn into_timeline(self, title: &str) -> Result<Timeline, Failure>
+        ensures { IfOk result (λ timeline. timeline.rows ≡ self.rows) }
+    {
+        let Story { teller, rows } = self;
+        teller.into_timeline(title, rows)
     }
 }

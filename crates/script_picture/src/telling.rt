@@ -4,7 +4,7 @@ use crate::deed::Deed;
 use crate::failure::Failure;
 use crate::gains;
 use crate::sight::Sight;
-use crate::story::Story;
+use crate::teller::Teller;
 use crate::words::refusal;
 use builder_core::{Core, Dealing, Table};
 use heap_log::Outcome;
@@ -14,7 +14,7 @@ use replay::{Answer, SharedLine};
 use spool_kinds::SpoolOfKind;
 use std::fmt::Write;
 
-impl Story {
+impl Teller {
     /// Tells a command that was answered so.
     pub(crate) fn tell<T: Table>(
         &mut self,
@@ -90,7 +90,7 @@ impl Story {
             self.mark(row, lane, MarkKind::Undo(self.side(rid)), text)?;
         }
         if left == 0 {
-            self.threads.end(lane, self.row());
+            self.threads.end(lane, self.row);
             let text = String::from_str(self.alloc, "ends")?;
             self.mark(row, lane, MarkKind::Note, text)?;
         }
@@ -108,7 +108,7 @@ impl Story {
             Deed::Begin { txn } => self.tell_begin(*txn, number, row),
             Deed::Commit { txn } => {
                 let lane = self.lanes.of_txn(*txn);
-                self.threads.end(lane, self.row());
+                self.threads.end(lane, self.row);
                 self.mark(row, lane, MarkKind::Note, String::from_str(alloc, "commits")?)
             }
             Deed::Start { dealing, indexes } => self.tell_start(dealing, *indexes, number, row),
@@ -146,7 +146,7 @@ impl Story {
 
     fn tell_begin(&mut self, txn: usize, number: u64, row: &mut Row) -> Result<(), Failure> {
         let lane = self.lanes.of_txn(txn);
-        self.threads.begin(lane, self.row(), SpanKind::Txn)?;
+        self.threads.begin(lane, self.row, SpanKind::Txn)?;
         if let Some(txn) = self.lanes.txns.get_mut(txn) {
             txn.writes.clear();
         }
@@ -174,7 +174,7 @@ impl Story {
         }
         for index in 0..indexes {
             let lane = self.lanes.of_index(index);
-            self.threads.begin(lane, self.row(), SpanKind::Build)?;
+            self.threads.begin(lane, self.row, SpanKind::Build)?;
             let text = self.field(index.saturating_add(4))?;
             self.mark(row, lane, MarkKind::Note, text)?;
         }
@@ -201,7 +201,7 @@ impl Story {
         } else {
             String::from_str(self.alloc, "no page")?
         };
-        self.threads.begin(range, self.row(), sight.progress(range))?;
+        self.threads.begin(range, self.row, sight.progress(range))?;
         self.mark(row, range, MarkKind::Note, text)
     }
 
@@ -212,7 +212,7 @@ impl Story {
         };
         sight.copy(range);
         let progress = sight.progress(range);
-        self.threads.begin(range, self.row(), progress)?;
+        self.threads.begin(range, self.row, progress)?;
         let text = format!(in self.alloc; "page {page}")?;
         self.mark(row, range, MarkKind::Note, text)
     }
@@ -263,14 +263,14 @@ impl Story {
             Outcome::Ready(number) => {
                 let text = format!(in self.alloc; "ready {number}")?;
                 self.mark(row, lane, MarkKind::Ready, text)?;
-                let gain = gains::ready(self.alloc, core, self.row(), index, *number)?;
+                let gain = gains::ready(self.alloc, core, self.row, index, *number)?;
                 self.gains.push(gain)?;
-                self.threads.begin(lane, self.row(), SpanKind::Ready)
+                self.threads.begin(lane, self.row, SpanKind::Ready)
             }
             Outcome::Shared { .. } => {
                 let text = String::from_str(self.alloc, "two rows share a key")?;
                 self.mark(row, lane, MarkKind::Shared, text)?;
-                let gain = gains::shared(self.alloc, self.row(), index, shared)?;
+                let gain = gains::shared(self.alloc, self.row, index, shared)?;
                 self.gains.push(gain)?;
                 self.threads.stop(lane);
                 Ok(())
