@@ -1,3 +1,5 @@
+ghost use Rattle.std.specs.Prelude.{◌≡◌, ◌≤◌, ◌<◌, vec_len, OnOk};
+
 use crate::labels::line_of;
 use crate::layout::{
     BASELINE, LINE, Layout, MARGIN, NAMES, NUMBER_COLUMNS, columns_in, gain_height, legend_place,
@@ -12,7 +14,10 @@ use crate::{
 use std::alloc::Global;
 
 /// Draws what happened, as a document of SVG.
-pub fn svg(alloc: Global, timeline: &Timeline) -> Result<String, PictureError> {
+pub fn svg(alloc: Global, timeline: &Timeline) -> Result<String, PictureError>
+    ensures few { OnOk result (vec_len timeline.now.rows ≤ ROWS_MAX) }
+    ensures many { ROWS_MAX < vec_len timeline.now.rows → result ≡ Err (PictureError.TooManyRows (vec_len timeline.now.rows)) }
+{
     let rows = timeline.rows.len();
     if rows > ROWS_MAX {
         return Err(PictureError::TooManyRows(rows));

@@ -1,6 +1,6 @@
 //! How many lines and columns the texts of a picture take.
 
-ghost use Rattle.std.specs.Prelude.{◌≤◌};
+ghost use Rattle.std.specs.Prelude.{◌≡◌, ◌≤◌, vec_len, IfOk};
 
 use crate::fitting::columns_of;
 use crate::{Gain, Mark, PictureError, Row, Timeline};
@@ -43,18 +43,26 @@ pub fn gain_columns(gains: &[Gain]) -> usize
 }
 
 /// The columns of each lane, those of the shapes of its marks among them.
-pub fn lane_columns(alloc: Global, timeline: &Timeline) -> Result<Vec<usize>, PictureError> {
+pub fn lane_columns(alloc: Global, timeline: &Timeline) -> Result<Vec<usize>, PictureError>
+    ensures { IfOk result (λ columns. vec_len columns ≡ vec_len timeline.now.lanes) }
+{
     let mut columns = Vec::with_capacity(alloc, timeline.lanes.len())?;
-    for lane in &timeline.lanes {
+    for lane in timeline.lanes.as_slice() {
         columns.push(columns_of(lane.name.as_str()).clamp(SHAPE_COLUMNS, MARK_COLUMNS))?;
     }
-    for row in &timeline.rows {
-        for mark in &row.marks {
-            let own = columns.get_mut(mark.lane).ok_or(PictureError::NoPlace)?;
-            *own = mark_columns(mark).max(*own);
-        }
+    for row in timeline.rows.as_slice() {
+        widen(&mut columns, &row.marks)?;
     }
     Ok(columns)
+}
+
+/// Makes room for marks in their lanes.
+fn widen(columns: &mut [usize], marks: &[Mark]) -> Result<(), PictureError> {
+    for mark in marks {
+        let own = columns.get_mut(mark.lane).ok_or(PictureError::NoPlace)?;
+        *own = mark_columns(mark).max(*own);
+    }
+    Ok(())
 }
 
 /// The columns that a mark takes with its shape.

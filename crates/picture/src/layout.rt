@@ -1,4 +1,4 @@
-ghost use Rattle.std.specs.Prelude.{◌≤◌};
+ghost use Rattle.std.specs.Prelude.{◌≡◌, ◌≤◌, length, vec_len, IfOk};
 
 use crate::labels::{gain_columns, lane_columns, lines_of, record_columns};
 use crate::pen::{Place, Size};
@@ -78,7 +78,10 @@ pub fn legend_place() -> Place {
 }
 
 impl Layout {
-    pub fn new(alloc: Global, timeline: &Timeline) -> Result<Layout, PictureError> {
+    pub fn new(alloc: Global, timeline: &Timeline) -> Result<Layout, PictureError>
+        ensures rows { IfOk result (λ layout. length layout.rows.sizes ≡ vec_len timeline.now.rows) }
+        ensures lanes { IfOk result (λ layout. length layout.lanes.sizes ≡ vec_len timeline.now.lanes) }
+    {
         let record_columns = record_columns(&timeline.rows);
         let lane_columns = lane_columns(alloc, timeline)?;
         let gain_columns = gain_columns(&timeline.gains);
@@ -116,7 +119,9 @@ fn gains_width(columns: usize) -> u32
     width_of(columns) + MARGIN + MARGIN
 }
 
-fn lane_widths(alloc: Global, columns: &[usize]) -> Result<Vec<u32>, PictureError> {
+fn lane_widths(alloc: Global, columns: &[usize]) -> Result<Vec<u32>, PictureError>
+    ensures { IfOk result (λ widths. vec_len widths ≡ length columns.now) }
+{
     let mut widths = Vec::with_capacity(alloc, columns.len())?;
     for &columns in columns {
         widths.push(width_of(columns) + MARGIN)?;
@@ -124,9 +129,11 @@ fn lane_widths(alloc: Global, columns: &[usize]) -> Result<Vec<u32>, PictureErro
     Ok(widths)
 }
 
-fn row_heights(alloc: Global, timeline: &Timeline) -> Result<Vec<u32>, PictureError> {
+fn row_heights(alloc: Global, timeline: &Timeline) -> Result<Vec<u32>, PictureError>
+    ensures { IfOk result (λ heights. vec_len heights ≡ vec_len timeline.now.rows) }
+{
     let mut heights = Vec::with_capacity(alloc, timeline.rows.len())?;
-    for row in &timeline.rows {
+    for row in timeline.rows.as_slice() {
         heights.push(height_of(lines_of(row)) + 6)?;
     }
     Ok(heights)
