@@ -55,7 +55,7 @@ switch
             "<g id=\"record-6\">",
             ">pages 0-1</text>",
             "<g id=\"record-7\">",
-            ">page 0</text>",
+            ">page 0 copied</text>",
             "<g id=\"record-9\">",
             "#behind\"",
             ">0.0 = 11</text>",

@@ -8,7 +8,7 @@ use crate::layout::{
 use crate::pen::{Pen, Place, Size};
 use crate::style::{SHAPES, STYLE};
 use crate::{
-    Gain, GainKind, Mark, MarkKind, PictureError, ROWS_MAX, Row, RowKind, Side, Span, SpanKind,
+    Gain, GainKind, Lane, LaneKind, Mark, MarkKind, PictureError, ROWS_MAX, Row, RowKind, Side, Span, SpanKind,
     Timeline, legend,
 };
 use std::alloc::Global;
@@ -42,7 +42,7 @@ fn draw(pen: &mut Pen, timeline: &Timeline, layout: &Layout) -> Result<(), Pictu
     }
     draw_lanes(pen, timeline, layout)?;
     for (number, row) in timeline.rows.iter().enumerate() {
-        draw_row(pen, layout, number, row)?;
+        draw_row(pen, timeline, layout, number, row)?;
     }
     draw_gains(pen, timeline, layout)?;
     pen.raw("</svg>\n")
@@ -86,7 +86,7 @@ fn draw_lanes(pen: &mut Pen, timeline: &Timeline, layout: &Layout) -> Result<(),
     Ok(())
 }
 
-/// What lasts, from the top of its first row to the bottom of its last one.
+/// What lasts, from its first row to the bottom of its last one.
 fn draw_span(pen: &mut Pen, layout: &Layout, span: &Span) -> Result<(), PictureError> {
     let from = Place {
         x: layout.lanes.start(span.lane)?,
@@ -100,14 +100,15 @@ fn draw_span(pen: &mut Pen, layout: &Layout, span: &Span) -> Result<(), PictureE
         width: layout.lanes.size(span.lane)?,
         height: bottom.saturating_sub(from.y),
     };
+    let begun = from.by(
+        0,
+        layout.rows.size(span.first)?.saturating_sub(LINE),
+    );
     match span.kind {
         SpanKind::Scan { copied, pages } => draw_scan(pen, from, size, copied, pages),
-        SpanKind::Txn => draw_thread(pen, "txn", from, bottom),
-        SpanKind::Build => draw_thread(pen, "build", from, bottom),
-        SpanKind::Ready => {
-            let decided = layout.rows.size(span.first)?;
-            draw_thread(pen, "done", from.by(0, decided.saturating_sub(LINE)), bottom)
-        }
+        SpanKind::Txn => draw_thread(pen, "txn", begun, bottom),
+        SpanKind::Build => draw_thread(pen, "build", begun, bottom),
+        SpanKind::Ready => draw_thread(pen, "done", begun, bottom),
     }
 }
 
@@ -159,6 +160,7 @@ fn part_of(width: u32, copied: u32, pages: u32) -> u32 {
 
 fn draw_row(
     pen: &mut Pen,
+    timeline: &Timeline,
     layout: &Layout,
     number: usize,
     row: &Row,
@@ -179,7 +181,8 @@ fn draw_row(
     draw_record(pen, layout, row, place)?;
     for (number, mark) in row.marks.iter().enumerate() {
         let down = line_of(&row.marks, number).min(10_000) as u32 * LINE;
-        draw_mark(pen, layout, mark, place.by(0, down))?;
+        let indent = indent(&timeline.lanes, mark.lane);
+        draw_mark(pen, layout, mark, place.by(0, down), indent)?;
     }
     pen.end_group()
 }
@@ -227,11 +230,23 @@ fn draw_record(
     Ok(())
 }
 
+/// How far from the left of a lane its texts stand: behind the shapes, where the lane has some.
+fn indent(lanes: &[Lane], lane: usize) -> u32 {
+    match lanes.get(lane) {
+        Some(Lane {
+            kind: LaneKind::Range | LaneKind::Workers,
+            ..
+        }) => 8,
+        _ => 26,
+    }
+}
+
 fn draw_mark(
     pen: &mut Pen,
     layout: &Layout,
     mark: &Mark,
     line: Place,
+    indent: u32,
 ) -> Result<(), PictureError> {
     let place = Place {
         x: layout.lanes.start(mark.lane)?,
@@ -243,7 +258,7 @@ fn draw_mark(
     }
     pen.label(
         "t",
-        place.by(26, BASELINE),
+        place.by(indent, BASELINE),
         mark.text.as_str(),
         columns,
     )

@@ -129,7 +129,7 @@ impl Teller {
     fn tell_index(&mut self, deed: &Deed, number: u64, row: &mut Row) -> Result<(), Failure> {
         let alloc = self.alloc;
         let (index, kind, text) = match deed {
-            Deed::Load { index } => (*index, MarkKind::Note, format!(in alloc; "loads {number} pairs")?),
+            Deed::Load { index } => (*index, MarkKind::Note, format!(in alloc; "loads, pairs: {number}")?),
             Deed::Feed { index } => (*index, MarkKind::Feed, format!(in alloc; "feeds {number}")?),
             Deed::Apply { index } => (*index, MarkKind::Apply, format!(in alloc; "applies {number}")?),
             _ => return Ok(()),
@@ -195,11 +195,13 @@ impl Teller {
             return Ok(());
         };
         let (first, end) = sight.pages(range);
-        let text = if first < end {
+        let text = if first >= end {
+            String::from_str(self.alloc, "no page")?
+        } else if end - first == 1 {
+            format!(in self.alloc; "page {first}")?
+        } else {
             let last = end - 1;
             format!(in self.alloc; "pages {first}-{last}")?
-        } else {
-            String::from_str(self.alloc, "no page")?
         };
         self.threads.begin(range, self.row, sight.progress(range))?;
         self.mark(row, range, MarkKind::Note, text)
@@ -213,7 +215,7 @@ impl Teller {
         sight.copy(range);
         let progress = sight.progress(range);
         self.threads.begin(range, self.row, progress)?;
-        let text = format!(in self.alloc; "page {page}")?;
+        let text = format!(in self.alloc; "page {page} copied")?;
         self.mark(row, range, MarkKind::Note, text)
     }
 
@@ -301,6 +303,6 @@ impl Teller {
 
 /// Adds to a record how many there are of what it asked for.
 fn count(row: &mut Row, number: usize, what: &str) -> Result<(), Failure> {
-    write!(row.text, " \u{2192} {number} {what}")?;
+    write!(row.text, " \u{2192} {what}: {number}")?;
     Ok(())
 }
