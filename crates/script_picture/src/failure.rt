@@ -1,7 +1,7 @@
 use keybytes::Fault;
 use picture::PictureError;
 use std::alloc::{AllocError, AllocFailed};
-use std::fmt;
+use std::{fmt, io};
 use thiserror::Error;
 
 /// Why there is no picture of a script.
@@ -11,6 +11,8 @@ pub enum Failure {
     Picture(PictureError),
     #[error("no memory")]
     NoMemory,
+    #[error("the picture can't be written")]
+    CannotWrite,
 }
 
 impl From<PictureError> for Failure {
@@ -35,6 +37,12 @@ impl<T: Drop> From<AllocFailed<T>> for Failure {
 impl From<Fault> for Failure {
     fn from(_fault: Fault) -> Failure {
         Failure::NoMemory
+    }
+}
+
+impl From<io::Error> for Failure {
+    fn from(_error: io::Error) -> Failure {
+        Failure::CannotWrite
     }
 }
 

@@ -7,11 +7,12 @@ use crate::lanes::Lanes;
 use crate::records::record_texts;
 use crate::story::Story;
 use builder_core::{Parts, Table};
+use keybytes::Fault;
 use picture::{PictureError, ROWS_MAX, svg};
 use replay::{Bench, Session, Status, refuse, table_parts};
 use script::{NumberedCommand, Script, read_text};
 use std::alloc::Global;
-use std::io::{self, Read, Write};
+use std::io::{Read, Write};
 use std::marker::Brand;
 
 /// Runs the script that the reader gives, and writes a picture of that to `out`, under that title. A script that can't be run, and one of more
@@ -34,8 +35,8 @@ pub fn picture<R: Read + Drop, W: Write + Drop, E: Write + Drop>(
         Ok(script) => script,
         Err(error) => return refuse(error, err),
     };
-    match drawn(alloc, title, text.as_slice(), script) {
-        Ok((status, drawing)) => send(status, drawing.as_str(), out),
+    match run(alloc, title, text.as_slice(), script, out) {
+        Ok(status) => status as u8,
         Err(failure) => refuse(failure, err),
     }
 }
@@ -49,48 +50,60 @@ pub fn title(path: &str) -> &str {
     }
 }
 
-/// Writes the drawing, and answers the exit status.
-fn send<W: Write + Drop>(status: Status, drawing: &str, mut out: W) -> u8 {
-    match write_whole(drawing, &mut out) {
-        Ok(()) => status as u8,
-        Err(_) => Status::Failed as u8,
-    }
-}
-
-fn write_whole<W: Write>(drawing: &str, out: &mut W) -> io::Result<()> {
-    out.write_all(drawing.as_bytes())?;
-    out.flush()
-}
-
-/// Runs a script on a table of its own, and answers how it went, with the drawing.
-fn drawn(
+/// Runs a script on a table of its own, writes the picture of that, and answers how it went.
+fn run<W: Write + Drop>(
     alloc: Global,
     title: &str,
     text: &[u8],
     script: Script,
-) -> Result<(Status, String), Failure>
-    ensures { IfOk result (λ told. EndsWith script.table script.commands.items told.0) }
+    mut out: W,
+) -> Result<Status, Failure>
+    ensures { IfOk result (EndsWith script.table script.commands.items) }
+{
+    let records = script.commands.len().saturating_add(1);
+    if records > ROWS_MAX {
+        return Err(Failure::Picture(PictureError::TooManyRows(records)));
+    }
+    let lanes = Lanes::of(alloc, &script.commands)?;
+    let mut story = Story::new(alloc, lanes, record_texts(alloc, text)?)?;
+    let status = see(alloc, script, &mut story)?;
+    write_picture(alloc, title, story, &mut out)?;
+    Ok(status)
+}
+
+fn write_picture<W: Write>(
+    alloc: Global,
+    title: &str,
+    story: Story,
+    out: &mut W,
+) -> Result<(), Failure> {
+    let timeline = story.into_timeline(title)?;
+    let drawing = svg(alloc, &timeline)?;
+    out.write_all(drawing.as_bytes())?;
+    out.flush()?;
+    Ok(())
+}
+
+/// Runs a script, and looks at the table meanwhile. A table that is refused is the one row.
+fn see(alloc: Global, script: Script, story: &mut Story) -> Result<Status, Failure>
+    ensures { IfOk result (EndsWith script.table script.commands.items) }
 {
     let Script {
         table_number: _,
         table,
         commands,
     } = script;
-    let records = commands.len().saturating_add(1);
-    if records > ROWS_MAX {
-        return Err(Failure::Picture(PictureError::TooManyRows(records)));
+    match table_parts(alloc, table) {
+        Ok(parts) => run_table::<Brand>(alloc, parts, commands, story),
+        Err(fault) => refuse_table(fault, story),
     }
-    let lanes = Lanes::of(alloc, &commands)?;
-    let mut story = Story::new(alloc, lanes, record_texts(alloc, text)?)?;
-    let status = match table_parts(alloc, table) {
-        Ok(parts) => run_table::<Brand>(alloc, parts, commands, &mut story)?,
-        Err(fault) => {
-            story.table(Some(fault))?;
-            Status::Failed
-        }
-    };
-    let timeline = story.into_timeline(title)?;
-    Ok((status, svg(alloc, &timeline)?))
+}
+
+fn refuse_table(fault: Fault, story: &mut Story) -> Result<Status, Failure>
+    ensures { IfOk result (λ status. status ≡ Status.Failed) }
+{
+    story.table(Some(fault))?;
+    Ok(Status::Failed)
 }
 
 /// Gives the table a name, and runs the commands on it.

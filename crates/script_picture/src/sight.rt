@@ -48,7 +48,7 @@ impl Sight {
         let ranges = Ranges::new(alloc, cuts)?;
         let mut in_rings = Vec::with_capacity(alloc, indexes)?;
         for _ in 0..indexes {
-            in_rings.push_reserved(0);
+            in_rings.push(0)?;
         }
         Ok(Some(Sight {
             ranges,

@@ -14,7 +14,7 @@ impl Threads {
     pub fn new(alloc: Global, lanes: usize) -> Result<Threads, Failure> {
         let mut growing = Vec::with_capacity(alloc, lanes)?;
         for _ in 0..lanes {
-            growing.push_reserved(None);
+            growing.push(None)?;
         }
         Ok(Threads {
             spans: Vec::new(alloc),

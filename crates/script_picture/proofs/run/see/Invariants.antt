@@ -1,4 +1,4 @@
-use Rattle.script_picture.proofs.run.drawn.Given as goal
+use Rattle.script_picture.proofs.run.see.Given as goal
 
 -- the table is named by its own rings
 abbrev pub ghosts-run_table : goal.ghosts-run_table
