@@ -8,8 +8,8 @@ use crate::layout::{
 use crate::pen::{Pen, Place, Size};
 use crate::style::{SHAPES, STYLE};
 use crate::{
-    Gain, GainKind, Lane, LaneKind, Mark, MarkKind, PictureError, ROWS_MAX, Row, RowKind, Side, Span, SpanKind,
-    Timeline, legend,
+    Gain, GainKind, Lane, LaneKind, Mark, MarkKind, PictureError, ROWS_MAX, Row, RowKind, Side,
+    Span, SpanKind, Timeline, legend,
 };
 use std::alloc::Global;
 
@@ -100,10 +100,7 @@ fn draw_span(pen: &mut Pen, layout: &Layout, span: &Span) -> Result<(), PictureE
         width: layout.lanes.size(span.lane)?,
         height: bottom.saturating_sub(from.y),
     };
-    let begun = from.by(
-        0,
-        layout.rows.size(span.first)?.saturating_sub(LINE),
-    );
+    let begun = from.by(0, layout.rows.size(span.first)?.saturating_sub(LINE));
     match span.kind {
         SpanKind::Scan { copied, pages } => draw_scan(pen, from, size, copied, pages),
         SpanKind::Txn => draw_thread(pen, "txn", begun, bottom),
@@ -113,12 +110,7 @@ fn draw_span(pen: &mut Pen, layout: &Layout, span: &Span) -> Result<(), PictureE
 }
 
 /// A line down a lane, on which its marks stand.
-fn draw_thread(
-    pen: &mut Pen,
-    class: &str,
-    from: Place,
-    bottom: u32,
-) -> Result<(), PictureError> {
+fn draw_thread(pen: &mut Pen, class: &str, from: Place, bottom: u32) -> Result<(), PictureError> {
     let from = from.by(14, LINE / 2);
     let to = Place {
         x: from.x,
@@ -233,10 +225,12 @@ fn draw_record(
 /// How far from the left of a lane its texts stand: behind the shapes, where the lane has some.
 fn indent(lanes: &[Lane], lane: usize) -> u32 {
     match lanes.get(lane) {
-        Some(Lane {
-            kind: LaneKind::Range | LaneKind::Workers,
-            ..
-        }) => 8,
+        Some(
+            Lane {
+                kind: LaneKind::Range | LaneKind::Workers,
+                ..
+            },
+        ) => 8,
         _ => 26,
     }
 }
@@ -256,12 +250,7 @@ fn draw_mark(
     if let Some(shape) = shape_of(mark.kind) {
         pen.stamp(shape, place.by(6, 0))?;
     }
-    pen.label(
-        "t",
-        place.by(indent, BASELINE),
-        mark.text.as_str(),
-        columns,
-    )
+    pen.label("t", place.by(indent, BASELINE), mark.text.as_str(), columns)
 }
 
 /// The shape of a mark, if it has one.

@@ -8,7 +8,9 @@ use std::alloc::Global;
 
 /// The most columns of a record, of a mark, and of what an index got.
 const RECORD_COLUMNS: usize = 38;
+
 const MARK_COLUMNS: usize = 26;
+
 const GAIN_COLUMNS: usize = 36;
 
 /// The columns that a mark's shape takes.

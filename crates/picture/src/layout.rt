@@ -10,6 +10,7 @@ pub const MARGIN: u32 = 16;
 
 /// The height of a line of text, and from its top to where its letters stand.
 pub const LINE: u32 = 17;
+
 pub const BASELINE: u32 = 13;
 
 /// The columns in front of a record that its number takes.
@@ -17,6 +18,7 @@ pub const NUMBER_COLUMNS: usize = 5;
 
 /// Where the title stands, and the legend begins.
 const TITLE: u32 = 32;
+
 const LEGEND: u32 = 46;
 
 /// How high the names over the lanes are, and what is free below them.

@@ -6,6 +6,7 @@ use crate::pen::{Pen, Place};
 
 /// How wide an entry is, and how many columns its text has.
 const ENTRY: u32 = 254;
+
 const ENTRY_COLUMNS: usize = 30;
 
 /// The least width of a picture, in which three entries stand side by side.
@@ -45,12 +46,7 @@ pub fn draw(pen: &mut Pen, first: Place, width: u32) -> Result<(), PictureError>
         let down = (number / in_line) as u32 * LINE;
         let place = first.by(right, down);
         pen.stamp(shape, place)?;
-        pen.label(
-            "t",
-            place.by(22, BASELINE),
-            meaning,
-            ENTRY_COLUMNS,
-        )?;
+        pen.label("t", place.by(22, BASELINE), meaning, ENTRY_COLUMNS)?;
     }
     Ok(())
 }

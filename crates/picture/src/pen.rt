@@ -53,7 +53,10 @@ impl Pen {
         number: usize,
     ) -> Result<(), PictureError> {
         let (x, y) = (place.x, place.y);
-        write!(self.out, "<text class=\"{class}\" x=\"{x}\" y=\"{y}\">{number}</text>")?;
+        write!(
+            self.out,
+            "<text class=\"{class}\" x=\"{x}\" y=\"{y}\">{number}</text>"
+        )?;
         Ok(())
     }
 

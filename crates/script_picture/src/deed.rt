@@ -8,42 +8,18 @@ use std::alloc::Global;
 #[derive(Drop)]
 pub enum Deed {
     Row,
-    Begin {
-        txn: usize,
-    },
+    Begin { txn: usize },
     /// A write; the cells begin with that field of the record.
-    Write {
-        txn: usize,
-        cells: usize,
-    },
-    Undo {
-        txn: usize,
-    },
-    Commit {
-        txn: usize,
-    },
-    Start {
-        dealing: Dealing,
-        indexes: usize,
-    },
-    Scan {
-        range: usize,
-    },
-    Digest {
-        worker: usize,
-    },
-    Seal {
-        worker: usize,
-    },
-    Load {
-        index: usize,
-    },
-    Feed {
-        index: usize,
-    },
-    Apply {
-        index: usize,
-    },
+    Write { txn: usize, cells: usize },
+    Undo { txn: usize },
+    Commit { txn: usize },
+    Start { dealing: Dealing, indexes: usize },
+    Scan { range: usize },
+    Digest { worker: usize },
+    Seal { worker: usize },
+    Load { index: usize },
+    Feed { index: usize },
+    Apply { index: usize },
     Switch,
     Abandon,
     /// Something that is asked, or that the lanes don't show.

@@ -58,9 +58,7 @@ impl Lanes {
 
     /// The place of a label among the labels.
     pub fn txn(&self, label: &str) -> Option<usize> {
-        self.txns
-            .iter()
-            .position(|txn| txn.label.as_str() == label)
+        self.txns.iter().position(|txn| txn.label.as_str() == label)
     }
 
     /// The lane of the rows that are put in by transactions of their own.

@@ -14,10 +14,7 @@ use std::alloc::Global;
 use std::collections::vec_deque::Iter;
 
 /// How many entries the side-file of each index has that aren't fed yet; none where no build runs.
-pub fn counts<T: Table>(
-    alloc: Global,
-    core: &Core<SpoolOfKind, T>,
-) -> Result<Vec<usize>, Failure> {
+pub fn counts<T: Table>(alloc: Global, core: &Core<SpoolOfKind, T>) -> Result<Vec<usize>, Failure> {
     let mut counts = Vec::new(alloc);
     for index in 0..INDEXES_MAX {
         let Ok(entries) = core.live().side(index) else {

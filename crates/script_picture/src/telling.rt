@@ -35,9 +35,11 @@ impl Teller {
             Answer::Switched { verdicts, .. } => {
                 self.tell_switch(core, verdicts.as_slice(), &[], row)
             }
-            Answer::SomeRefused { verdicts, shared, .. } => {
-                self.tell_switch(core, verdicts.as_slice(), shared.as_slice(), row)
-            }
+            Answer::SomeRefused {
+                verdicts,
+                shared,
+                ..
+            } => { self.tell_switch(core, verdicts.as_slice(), shared.as_slice(), row) }
             Answer::Abandoned { .. } => self.tell_end(row),
             Answer::Pairs { lines } => count(row, lines.len(), "pairs"),
             Answer::Entries { lines } => count(row, lines.len(), "entries"),
@@ -109,7 +111,12 @@ impl Teller {
             Deed::Commit { txn } => {
                 let lane = self.lanes.of_txn(*txn);
                 self.threads.end(lane, self.row);
-                self.mark(row, lane, MarkKind::Note, String::from_str(alloc, "commits")?)
+                self.mark(
+                    row,
+                    lane,
+                    MarkKind::Note,
+                    String::from_str(alloc, "commits")?,
+                )
             }
             Deed::Start { dealing, indexes } => self.tell_start(dealing, *indexes, number, row),
             Deed::Scan { range } => self.tell_scan(*range, number, row),
@@ -129,9 +136,17 @@ impl Teller {
     fn tell_index(&mut self, deed: &Deed, number: u64, row: &mut Row) -> Result<(), Failure> {
         let alloc = self.alloc;
         let (index, kind, text) = match deed {
-            Deed::Load { index } => (*index, MarkKind::Note, format!(in alloc; "loads, pairs: {number}")?),
+            Deed::Load { index } => (
+                *index,
+                MarkKind::Note,
+                format!(in alloc; "loads, pairs: {number}")?,
+            ),
             Deed::Feed { index } => (*index, MarkKind::Feed, format!(in alloc; "feeds {number}")?),
-            Deed::Apply { index } => (*index, MarkKind::Apply, format!(in alloc; "applies {number}")?),
+            Deed::Apply { index } => (
+                *index,
+                MarkKind::Apply,
+                format!(in alloc; "applies {number}")?,
+            ),
             _ => return Ok(()),
         };
         if let Some(sight) = &mut self.sight {
