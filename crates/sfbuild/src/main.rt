@@ -1,7 +1,7 @@
 //! The program `sfbuild`: builds indexes, on the rows of a file or as a script tells it to.
 //!
 //! The library [`words`] reads the words that the program is given. [`csv_index`] builds the indexes of a file, [`replay`] runs a script
-//! or looks at it, and [`race`] runs one in threads. `main` only hands the file and the standard streams in.
+//! or looks at it, [`script_picture`] draws its run, and [`race`] runs one in threads. `main` only hands the file and the standard streams in.
 #![tactic(auto)]
 
 use race::ProgressLine;
@@ -52,10 +52,10 @@ fn print(rt: &HostRuntime, error: &clap::Error) -> u8 {
 /// Does the task with the script of that path, or of standard input where the path is `-`.
 fn run<A: Threads + Wait + Sync>(rt: &HostRuntime, threads: &A, task: Task, path: &str) -> u8 {
     if path == "-" {
-        return run_on(rt, threads, task, rt.stdin());
+        return run_on(rt, threads, task, path, rt.stdin());
     }
     match File::open(rt, path) {
-        Ok(script) => run_on(rt, threads, task, script),
+        Ok(script) => run_on(rt, threads, task, path, script),
         Err(_) => replay::refuse(ScriptError::CannotRead, rt.stderr()),
     }
 }
@@ -64,14 +64,22 @@ fn run_on<A: Threads + Wait + Sync, R: Read + Drop>(
     rt: &HostRuntime,
     threads: &A,
     task: Task,
+    path: &str,
     script: R,
 ) -> u8 {
     match task {
         Task::Replay => replay::replay(rt.alloc(), script, rt.stdout(), rt.stderr()),
+        Task::Picture => draw(rt, path, script),
         Task::Check => replay::check(rt.alloc(), script, rt.stdout(), rt.stderr()),
         Task::CheckRace => replay::check_race(rt.alloc(), script, rt.stdout(), rt.stderr()),
         Task::Race { workers, is_shown } => run_race(rt, threads, workers, is_shown, script),
     }
+}
+
+/// Draws a script's run, under the last name of its path.
+fn draw<R: Read + Drop>(rt: &HostRuntime, path: &str, script: R) -> u8 {
+    let (alloc, out, err) = (rt.alloc(), rt.stdout(), rt.stderr());
+    script_picture::picture(alloc, script_picture::title(path), script, out, err)
 }
 
 /// Runs a race, and shows how far its build is where that is asked for.

@@ -30,7 +30,8 @@ pairs of an index on its first column. `sfbuild replay three.csv` then prints
   3,ok,1
   3,pair,5,0.0
 
-`sfbuild check three.csv` runs nothing, and says whether all records are good.
+`sfbuild check three.csv` runs nothing, and says whether all records are good. `sfbuild picture three.csv > three.svg`
+draws what happened, for a script of 200 records at most.
 
 A race has sessions that write in threads of their own while a build runs, as in
 
@@ -59,6 +60,8 @@ pub enum Choice<'a> {
 #[derive(Clone, Copy, PartialEq, Eq)]
 pub enum Task {
     Replay,
+    /// Draws a picture of the run.
+    Picture,
     Check,
     /// Looks at a script as that of a race.
     CheckRace,
@@ -95,6 +98,7 @@ fn chosen<'a>(alloc: Global, matches: &ArgMatches<'a>) -> Result<Option<Choice<'
 fn script_task<'a>(name: &str, arguments: &ArgMatches<'a>) -> Option<Choice<'a>> {
     let task = match name {
         "replay" => Task::Replay,
+        "picture" => Task::Picture,
         "check" if arguments.get_flag("race") => Task::CheckRace,
         "check" => Task::Check,
         "race" => Task::Race {
@@ -117,6 +121,11 @@ fn command<'a>(alloc: Global) -> Result<Command<'a>, AllocError> {
         "replay",
         "Runs the records of a script one after the other, and prints an answer for each",
     )?;
+    let picture = task_command(
+        alloc,
+        "picture",
+        "Runs the records of a script one after the other, and writes a picture of that to the standard output, as SVG",
+    )?;
     let race = Arg::new(alloc, "race")
         .long("race")
         .help("Looks at the script as that of a race, also where it has neither a build nor go")
@@ -133,6 +142,7 @@ fn command<'a>(alloc: Global) -> Result<Command<'a>, AllocError> {
         .after_help(EXAMPLE)
         .subcommand_required(true)
         .subcommand(replay)?
+        .subcommand(picture)?
         .subcommand(check)?
         .subcommand(race_command(alloc)?)?
         .subcommand(index_command(alloc)?)
