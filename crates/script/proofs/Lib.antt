@@ -14,4 +14,5 @@ mod Shaped
 mod SpelledKeys
 mod SpelledLists
 mod Stopped
+mod ToldLines
 pub mod Zips

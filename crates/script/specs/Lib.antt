@@ -2,6 +2,7 @@ pub mod Causes
 pub mod Drafts
 pub mod Explanations
 pub mod Fields
+pub mod InputLines
 pub mod Lines
 pub mod RaceDrafts
 pub mod RaceExplanations

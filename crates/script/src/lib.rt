@@ -3,7 +3,7 @@
 //! [`Script::parse`] looks at all records of a text. It gives the table that the script is about and its [`Command`]s
 //! in their order, each with the number of its record, or the number of the first bad record. [`Script::check`] says
 //! what is wrong with that record. Nothing runs here: the layers above run commands, and only where every record is
-//! good.
+//! good. [`read_input_line`] tells of each record of a line what it is, for those who answer a script line by line.
 #![tactic(auto)]
 
 mod cause;
@@ -15,6 +15,8 @@ mod excerpt;
 mod explanation;
 mod fields;
 mod fitting;
+mod input_line;
+mod input_record;
 mod label;
 mod line;
 mod misfit;
@@ -37,7 +39,10 @@ pub use check_error::CheckError;
 pub use command::Command;
 pub use command_name::CommandName;
 pub use explanation::Explanation;
+pub use input_line::read_input_line;
+pub use input_record::InputRecord;
 pub use label::Label;
+pub use line::Line;
 pub use misfit::Misfit;
 pub use numbered_command::NumberedCommand;
 pub use part::Part;

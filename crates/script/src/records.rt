@@ -5,7 +5,7 @@ ghost use Rattle.script.specs.Readers.{IsReadError, cause_of};
 ghost use Rattle.script.specs.Records.{FailsToRead, records_of};
 
 use crate::cause::Cause;
-use csv::{ErrorKind, Reader, ReaderBuilder, StringRecord};
+use csv::{ByteRecord, ErrorKind, Reader, ReaderBuilder, StringRecord};
 use std::alloc::Global;
 use std::marker::Model;
 
@@ -54,6 +54,18 @@ impl<'a> Records<'a> {
         match self.reader.read_record(record) {
             Ok(found) => Ok(found),
             Err(error) => Err(cause(error)),
+        }
+    }
+
+    /// Reads the next record, whether or not it is UTF-8, and answers whether there is one. Of a text in memory that can fail only for want of
+    /// memory.
+    pub fn read_bytes(&mut self, record: &mut ByteRecord) -> Result<bool, Cause>
+        ensures found { result ≡ Ok true → self.old ≡ fields_of «record».new ∷ self.new }
+        ensures ended { result ≡ Ok false → self.old ≡ [] }
+    {
+        match self.reader.read_byte_record(record) {
+            Ok(found) => Ok(found),
+            Err(_) => Err(Cause::NoMemory),
         }
     }
 }

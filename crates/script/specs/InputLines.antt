@@ -1,0 +1,32 @@
+-- A script that comes line by line, and what each of its records is.
+use Rattle.std.specs.Prelude.{◌≡◌, ◌==◌, ℕ, List, [], ◌∷◌, ◌++◌, string_bytes, if◌then◌else◌}
+use Rattle.script.specs.Explanations.{IsUnknown, Tells}
+use Rattle.script.specs.Records.{records_of}
+use Rattle.script.specs.Scripts.{RecordSpells}
+use Rattle.script.specs.declared.input_record.InputRecord.{InputRecord}
+use Rattle.script.specs.declared.input_record.InputRecord.TheVariants.{Good, Word, Bad}
+
+-- the lines with the byte in front of the first
+abbrev pub put_first : ℕ → List (List ℕ) → List (List ℕ)
+put_first byte [] = (byte ∷ []) ∷ []
+put_first byte (line ∷ lines) = (byte ∷ line) ∷ lines
+
+-- the input lines of a text: each ends with a line feed, which the last may lack
+abbrev pub input_lines : List ℕ → List (List ℕ)
+input_lines [] = []
+input_lines (byte ∷ text) = if byte == 10 then (byte ∷ []) ∷ input_lines text else put_first byte (input_lines text)
+
+-- the records of lines that are read one after the other; none spans two lines
+abbrev pub records_in_lines : List (List ℕ) → List (List (List ℕ))
+records_in_lines [] = []
+records_in_lines (line ∷ lines) = records_of line ++ records_in_lines lines
+
+-- a record is told to be the line that it spells, a word that is no command's name, or bad
+abbrev pub IsTold : List (List ℕ) → InputRecord → Type 0
+IsTold fields (Good line) = RecordSpells fields line
+IsTold fields (Word text) = (fields ≡ string_bytes text ∷ []) × IsUnknown (string_bytes text)
+IsTold fields (Bad explanation) = Tells [] (fields ∷ []) explanation
+
+-- the first of the records is told so, and the others stay
+abbrev pub TellsNext : List (List (List ℕ)) → List (List (List ℕ)) → InputRecord → Type 0
+TellsNext records rest told = (fields : List (List ℕ)) × (records ≡ fields ∷ rest) × IsTold fields told

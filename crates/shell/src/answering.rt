@@ -1,0 +1,140 @@
+//! The answers to single records.
+use crate::asked::Asked;
+use crate::before_table::BeforeTable;
+use crate::counts::Counts;
+use crate::failed::Failed;
+use crate::help::{print_help, print_help_on};
+use crate::numbered_record::NumberedRecord;
+use crate::printing::{print_bad, print_status};
+use crate::report::{no_table, report};
+use crate::status_line::StatusLine;
+use crate::word::Word;
+use builder_core::Table;
+use keybytes::Fault;
+use replay::{Answer, Bench, Output, OutputFailed, Session, refuse_table, table_parts};
+use script::{Command, Explanation, InputRecord, Line, Misfit};
+use std::alloc::{AllocFailed, Global};
+use std::io::Write;
+
+/// Answers a record while there is no table.
+pub fn answer_before_table<W: Write + Drop>(
+    alloc: Global,
+    next: NumberedRecord,
+    output: &mut Output<W>,
+) -> Result<BeforeTable, Failed> {
+    let NumberedRecord { number, record } = next;
+    match record {
+        InputRecord::Good(Line::PassedOver) => (),
+        InputRecord::Good(Line::Table(table)) => return make_table(alloc, number, table, output),
+        InputRecord::Good(Line::Command(_)) => print_bad(output, number, &Explanation::NoTable)?,
+        InputRecord::Bad(explanation) => print_bad(output, number, &explanation)?,
+        InputRecord::Word(text) => match Word::read(text.as_str()) {
+            Some(Word::Quit) => {
+                output.print(number, &Answer::Done)?;
+                return Ok(BeforeTable::Quits);
+            }
+            Some(Word::Status) => print_lines(number, no_table(alloc), output)?,
+            word => answer_help(number, word, text, output)?,
+        },
+    }
+    Ok(BeforeTable::Waits)
+}
+
+/// Makes a table, or answers why it is refused.
+fn make_table<W: Write + Drop>(
+    alloc: Global,
+    number: usize,
+    table: script::Table,
+    output: &mut Output<W>,
+) -> Result<BeforeTable, Failed> {
+    let slot_limit = table.slot_limit;
+    match table_parts(alloc, table) {
+        Ok(parts) => {
+            output.print(number, &Answer::Done)?;
+            Ok(BeforeTable::Made { slot_limit, parts })
+        }
+        Err(fault) => {
+            let _failed = refuse_table(number, fault, output)?;
+            Ok(BeforeTable::Waits)
+        }
+    }
+}
+
+/// Answers a record on a table, and tells whether the conversation goes on.
+pub fn answer_on_table<T: Table, W: Write + Drop>(
+    alloc: Global,
+    session: &mut Session,
+    bench: &mut Bench<T>,
+    counts: &mut Counts,
+    next: NumberedRecord,
+    output: &mut Output<W>,
+) -> Result<bool, Failed> {
+    let NumberedRecord { number, record } = next;
+    match record {
+        InputRecord::Good(Line::PassedOver) => (),
+        InputRecord::Good(Line::Table(_)) => print_bad(output, number, &Explanation::LateTable)?,
+        InputRecord::Good(Line::Command(command)) => {
+            let answer = answer_command(session, bench, counts, command);
+            output.print(number, &answer)?;
+        }
+        InputRecord::Bad(explanation) => print_bad(output, number, &explanation)?,
+        InputRecord::Word(text) => match Word::read(text.as_str()) {
+            Some(Word::Quit) => {
+                output.print(number, &Answer::Done)?;
+                return Ok(false);
+            }
+            Some(Word::Status) => {
+                print_lines(number, report(alloc, bench.core(), counts), output)?
+            }
+            word => answer_help(number, word, text, output)?,
+        },
+    }
+    Ok(true)
+}
+
+/// Runs a command, and notes what it is answered.
+fn answer_command<T: Table>(
+    session: &mut Session,
+    bench: &mut Bench<T>,
+    counts: &mut Counts,
+    command: Command,
+) -> Answer {
+    let asked = Asked::of(&command);
+    let answer = session.run(bench, command);
+    counts.note(asked, &answer);
+    answer
+}
+
+/// Gives help, or says that there is no such word.
+fn answer_help<W: Write + Drop>(
+    number: usize,
+    word: Option<Word>,
+    text: String,
+    output: &mut Output<W>,
+) -> Result<(), OutputFailed> {
+    match word {
+        Some(Word::HelpOn(name)) => print_help_on(output, number, name),
+        Some(_) => print_help(output, number),
+        None => {
+            let explanation = Explanation::Misfit(Misfit::UnknownCommand { text });
+            print_bad(output, number, &explanation)
+        }
+    }
+}
+
+/// Prints the answer to `status`, or that there was no memory for it.
+fn print_lines<W: Write + Drop>(
+    number: usize,
+    lines: Result<Vec<StatusLine<'_>>, AllocFailed<StatusLine<'_>>>,
+    output: &mut Output<W>,
+) -> Result<(), OutputFailed> {
+    match lines {
+        Ok(lines) => print_status(output, number, lines.as_slice()),
+        Err(_) => output.print(
+            number,
+            &Answer::Refused {
+                fault: Fault::Memory,
+            },
+        ),
+    }
+}
