@@ -1,4 +1,4 @@
-use Rattle.script.proofs.ToldLines.{all_told, one_told}
+use Rattle.script.proofs.ToldLines.{one_told}
 use Rattle.script.proofs.input_line.read_input_line.Goals as goal
 
 pub loop-preserved : goal.loop-preserved
