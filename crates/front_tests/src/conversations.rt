@@ -50,7 +50,7 @@ status
 3,ok,0.0
 4,ok,0.1
 5,ok,1.0
-6,ok,3
+6,ok,2
 6,table,2,2,6,0,int
 6,build,none
 7,ok,2
