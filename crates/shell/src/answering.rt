@@ -1,4 +1,8 @@
 //! The answers to single records.
+ghost use Rattle.std.specs.Prelude.{◌≡◌, [], ◌∷◌, true, false, IfOk, OnOk};
+ghost use Rattle.replay.specs.Sessions.{state_of, Runs, RunsAll};
+ghost use Rattle.shell.specs.Conversations.{ComesBehind, IsQuit, commands_told};
+
 use crate::asked::Asked;
 use crate::before_table::BeforeTable;
 use crate::counts::Counts;
@@ -16,26 +20,32 @@ use script::{Command, Explanation, InputRecord, Line, Misfit};
 use std::alloc::{AllocFailed, Global};
 use std::io::Write;
 
+/// The word that ends the conversation.
+const QUIT: &str = "quit";
+
 /// Answers a record while there is no table.
 pub fn answer_before_table<W: Write + Drop>(
     alloc: Global,
     next: NumberedRecord,
     output: &mut Output<W>,
-) -> Result<BeforeTable, Failed> {
+) -> Result<BeforeTable, Failed>
+    ensures { IfOk result (ComesBehind next.record) }
+{
     let NumberedRecord { number, record } = next;
     match record {
         InputRecord::Good(Line::PassedOver) => (),
         InputRecord::Good(Line::Table(table)) => return make_table(alloc, number, table, output),
         InputRecord::Good(Line::Command(_)) => print_bad(output, number, &Explanation::NoTable)?,
         InputRecord::Bad(explanation) => print_bad(output, number, &explanation)?,
-        InputRecord::Word(text) => match Word::read(text.as_str()) {
-            Some(Word::Quit) => {
+        InputRecord::Word(text) => {
+            if text.as_str() == QUIT {
                 output.print(number, &Answer::Done)?;
                 return Ok(BeforeTable::Quits);
             }
-            Some(Word::Status) => print_lines(number, no_table(alloc), output)?,
-            word => answer_help(number, word, text, output)?,
-        },
+            if asks_for_status(number, text, output)? {
+                print_lines(number, no_table(alloc), output)?;
+            }
+        }
     }
     Ok(BeforeTable::Waits)
 }
@@ -46,7 +56,9 @@ fn make_table<W: Write + Drop>(
     number: usize,
     table: script::Table,
     output: &mut Output<W>,
-) -> Result<BeforeTable, Failed> {
+) -> Result<BeforeTable, Failed>
+    ensures { IfOk result (ComesBehind (InputRecord.Good (Line.Table table))) }
+{
     let slot_limit = table.slot_limit;
     match table_parts(alloc, table) {
         Ok(parts) => {
@@ -68,7 +80,11 @@ pub fn answer_on_table<T: Table, W: Write + Drop>(
     counts: &mut Counts,
     next: NumberedRecord,
     output: &mut Output<W>,
-) -> Result<bool, Failed> {
+) -> Result<bool, Failed>
+    ensures run { OnOk result (RunsAll (state_of bench.old session.old) (commands_told next.number (next.record ∷ [])) (state_of bench.new session.new)) }
+    ensures goes_on { result ≡ Ok true → ¬ (IsQuit next.record) }
+    ensures quits { result ≡ Ok false → IsQuit next.record }
+{
     let NumberedRecord { number, record } = next;
     match record {
         InputRecord::Good(Line::PassedOver) => (),
@@ -78,16 +94,15 @@ pub fn answer_on_table<T: Table, W: Write + Drop>(
             output.print(number, &answer)?;
         }
         InputRecord::Bad(explanation) => print_bad(output, number, &explanation)?,
-        InputRecord::Word(text) => match Word::read(text.as_str()) {
-            Some(Word::Quit) => {
+        InputRecord::Word(text) => {
+            if text.as_str() == QUIT {
                 output.print(number, &Answer::Done)?;
                 return Ok(false);
             }
-            Some(Word::Status) => {
-                print_lines(number, report(alloc, bench.core(), counts), output)?
+            if asks_for_status(number, text, output)? {
+                print_lines(number, report(alloc, bench.core(), counts), output)?;
             }
-            word => answer_help(number, word, text, output)?,
-        },
+        }
     }
     Ok(true)
 }
@@ -98,28 +113,31 @@ fn answer_command<T: Table>(
     bench: &mut Bench<T>,
     counts: &mut Counts,
     command: Command,
-) -> Answer {
+) -> Answer
+    ensures run { Runs (state_of bench.old session.old) command result (state_of bench.new session.new) }
+{
     let asked = Asked::of(&command);
     let answer = session.run(bench, command);
     counts.note(asked, &answer);
     answer
 }
 
-/// Gives help, or says that there is no such word.
-fn answer_help<W: Write + Drop>(
+/// Answers a word that asks for help or is unknown, and tells whether it asks for the status, which is still to be answered then.
+fn asks_for_status<W: Write + Drop>(
     number: usize,
-    word: Option<Word>,
     text: String,
     output: &mut Output<W>,
-) -> Result<(), OutputFailed> {
-    match word {
-        Some(Word::HelpOn(name)) => print_help_on(output, number, name),
-        Some(_) => print_help(output, number),
+) -> Result<bool, OutputFailed> {
+    match Word::read(text.as_str()) {
+        Some(Word::Status) => return Ok(true),
+        Some(Word::Help) => print_help(output, number)?,
+        Some(Word::HelpOn(name)) => print_help_on(output, number, name)?,
         None => {
             let explanation = Explanation::Misfit(Misfit::UnknownCommand { text });
-            print_bad(output, number, &explanation)
+            print_bad(output, number, &explanation)?;
         }
     }
+    Ok(false)
 }
 
 /// Prints the answer to `status`, or that there was no memory for it.

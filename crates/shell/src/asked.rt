@@ -1,3 +1,6 @@
+ghost use Rattle.std.specs.Prelude.{◌≡◌};
+ghost use Rattle.shell.specs.Counting.{index_asked, worker_asked};
+
 use script::Command;
 
 /// What of a command counts for how far a build is, and how many transactions are open.
@@ -33,6 +36,28 @@ impl Asked {
             Command::Feed { index, .. } => Asked::Feed { index: *index },
             Command::Apply { index, .. } => Asked::Apply { index: *index },
             _ => Asked::Other,
+        }
+    }
+
+    /// The worker who was asked, if one was.
+    pub fn worker(self) -> Option<usize>
+        ensures { result ≡ worker_asked self }
+    {
+        match self {
+            Asked::Scan { worker } | Asked::Digest { worker } | Asked::Seal { worker } => {
+                Some(worker)
+            }
+            _ => None,
+        }
+    }
+
+    /// The index that it was about, if it was about one.
+    pub fn index(self) -> Option<usize>
+        ensures { result ≡ index_asked self }
+    {
+        match self {
+            Asked::Load { index } | Asked::Feed { index } | Asked::Apply { index } => Some(index),
+            _ => None,
         }
     }
 }

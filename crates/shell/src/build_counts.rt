@@ -1,3 +1,6 @@
+ghost use Rattle.std.specs.Prelude.{◌≡◌};
+ghost use Rattle.shell.specs.Counting.{ChangesAt, index_after, index_asked, scanned_after, worker_after, worker_asked};
+
 use crate::asked::Asked;
 use crate::index_counts::IndexCounts;
 use crate::worker_counts::WorkerCounts;
@@ -59,22 +62,23 @@ impl BuildCounts {
     }
 
     /// Notes an answer that is a number.
-    fn note_number(&mut self, asked: Asked, number: u64) {
-        match asked {
-            Asked::Scan { worker } => {
-                self.scanned = self.scanned.saturating_add(1);
-                self.set_worker(worker, self.worker(worker).with_copy());
+    fn note_number(&mut self, asked: Asked, number: u64)
+        ensures scanned { self.new.scanned ≡ scanned_after self.old.scanned asked }
+        ensures workers { ChangesAt (worker_asked asked) (λ w. worker_after w asked number) self.old.each_worker self.new.each_worker }
+        ensures indexes { ChangesAt (index_asked asked) (λ i. index_after i asked number) self.old.each_index self.new.each_index }
+    {
+        if let Asked::Scan { .. } = asked {
+            self.scanned = self.scanned.saturating_add(1);
+        }
+        if let Some(worker) = asked.worker() {
+            if worker < WORKERS_MAX {
+                self.each_worker[worker] = self.each_worker[worker].after(asked, number);
             }
-            Asked::Digest { worker } => {
-                self.set_worker(worker, self.worker(worker).with_taken(number));
+        }
+        if let Some(index) = asked.index() {
+            if index < INDEXES_MAX {
+                self.each_index[index] = self.each_index[index].after(asked, number);
             }
-            Asked::Seal { worker } => {
-                self.set_worker(worker, self.worker(worker).with_taken(number).with_seal());
-            }
-            Asked::Load { index } => self.set_index(index, self.index(index).with_load()),
-            Asked::Feed { index } => self.set_index(index, self.index(index).with_fed(number)),
-            Asked::Apply { index } => self.set_index(index, self.index(index).with_applied(number)),
-            _ => (),
         }
     }
 
@@ -83,26 +87,6 @@ impl BuildCounts {
         let may_spoil = matches!(asked, Asked::Digest { .. } | Asked::Seal { .. } | Asked::Load { .. });
         if may_spoil && matches!(fault, Fault::NoPage | Fault::Memory) && self.spoiled.is_none() {
             self.spoiled = Some(fault);
-        }
-    }
-
-    fn worker(&self, worker: usize) -> WorkerCounts {
-        self.each_worker.get(worker).copied().unwrap_or(WorkerCounts::NONE)
-    }
-
-    fn set_worker(&mut self, worker: usize, counts: WorkerCounts) {
-        if worker < WORKERS_MAX {
-            self.each_worker[worker] = counts;
-        }
-    }
-
-    fn index(&self, index: usize) -> IndexCounts {
-        self.each_index.get(index).copied().unwrap_or(IndexCounts::NONE)
-    }
-
-    fn set_index(&mut self, index: usize, counts: IndexCounts) {
-        if index < INDEXES_MAX {
-            self.each_index[index] = counts;
         }
     }
 }

@@ -1,3 +1,8 @@
+ghost use Rattle.std.specs.Prelude.{◌≡◌};
+ghost use Rattle.shell.specs.Counting.{index_after};
+
+use crate::asked::Asked;
+
 /// What was done for an index of the build.
 #[derive(Clone, Copy)]
 pub struct IndexCounts {
@@ -20,27 +25,24 @@ impl IndexCounts {
         self.fed.saturating_sub(self.applied)
     }
 
-    /// With its pairs in order.
-    pub fn with_load(self) -> IndexCounts {
-        IndexCounts {
-            is_loaded: true,
-            ..self
-        }
-    }
-
-    /// With so many more entries fed.
-    pub fn with_fed(self, entries: u64) -> IndexCounts {
-        IndexCounts {
-            fed: self.fed.saturating_add(entries),
-            ..self
-        }
-    }
-
-    /// With so many more entries applied.
-    pub fn with_applied(self, entries: u64) -> IndexCounts {
-        IndexCounts {
-            applied: self.applied.saturating_add(entries),
-            ..self
+    /// What was done for it once such a command was answered by that number.
+    pub fn after(self, asked: Asked, number: u64) -> IndexCounts
+        ensures { result ≡ index_after self asked number }
+    {
+        match asked {
+            Asked::Load { .. } => IndexCounts {
+                is_loaded: true,
+                ..self
+            },
+            Asked::Feed { .. } => IndexCounts {
+                fed: self.fed.saturating_add(number),
+                ..self
+            },
+            Asked::Apply { .. } => IndexCounts {
+                applied: self.applied.saturating_add(number),
+                ..self
+            },
+            _ => self,
         }
     }
 }

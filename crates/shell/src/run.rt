@@ -1,5 +1,7 @@
 //! A conversation, from its first record to its last.
-ghost use Rattle.std.specs.Prelude.{◌≡◌, ◌≤◌};
+ghost use Rattle.std.specs.Prelude.{◌≡◌, ◌≤◌, IfSome, IfOk, OnOk, MatchOption};
+ghost use Rattle.replay.specs.Sessions.{state_of};
+ghost use Rattle.shell.specs.Conversations.{EndsBefore, EndsOn, Leaves, LeavesWith, MakesTable, TalksOn};
 
 use crate::answering::{answer_before_table, answer_on_table};
 use crate::before_table::BeforeTable;
@@ -21,6 +23,7 @@ pub fn shell<R: Read + Drop, W: Write + Drop, P: Write + Drop>(
     prompt: Option<P>,
 ) -> u8
     ensures limit { result ≤ 2 }
+    ensures status { IfSome (R.remaining reader) (λ text. LeavesWith text result) }
 {
     match converse(alloc, reader, out, prompt) {
         Ok(status) => status as u8,
@@ -34,7 +37,9 @@ fn converse<R: Read + Drop, W: Write + Drop, P: Write + Drop>(
     reader: R,
     out: W,
     prompt: Option<P>,
-) -> Result<Status, Failed> {
+) -> Result<Status, Failed>
+    ensures { IfSome (R.remaining reader) (λ text. IfOk result (Leaves text)) }
+{
     let mut input = Input::new(alloc, reader, prompt)?;
     let mut output = Output::new(out);
     match await_table(alloc, &mut input, &mut output)? {
@@ -51,7 +56,9 @@ fn await_table<R: Read + Drop, W: Write + Drop, P: Write + Drop>(
     alloc: Global,
     input: &mut Input<R, P>,
     output: &mut Output<W>,
-) -> Result<Option<(u32, Parts)>, Failed> {
+) -> Result<Option<(u32, Parts)>, Failed>
+    ensures { IfOk result (λ made. MatchOption made (EndsBefore input.old) (λ made. MakesTable input.old input.new made.1.heap)) }
+{
     for _ in 0..u64::MAX {
         let Some(next) = input.next()? else {
             return Ok(None);
@@ -77,6 +84,7 @@ fn use_table<T: Table, R: Read + Drop, W: Write + Drop, P: Write + Drop>(
 ) -> Result<Status, Failed>
     requires pages { parts.pages ≡ T.pages }
     requires sides { parts.sides ≡ T.sides }
+    ensures { IfOk result (EndsOn input.old parts.heap) }
 {
     let (live, ends) = parts.open::<T>();
     let mut bench = Bench::new(alloc, live, ends);
@@ -94,7 +102,9 @@ fn answer_all<T: Table, R: Read + Drop, W: Write + Drop, P: Write + Drop>(
     counts: &mut Counts,
     input: &mut Input<R, P>,
     output: &mut Output<W>,
-) -> Result<(), Failed> {
+) -> Result<(), Failed>
+    ensures { OnOk result (TalksOn input.old (state_of bench.old session.old) (state_of bench.new session.new)) }
+{
     for _ in 0..u64::MAX {
         let Some(next) = input.next()? else {
             return Ok(());

@@ -1,6 +1,6 @@
 use script::CommandName;
 
-/// What is asked of the shell itself.
+/// What is asked of the shell itself, besides its end.
 #[derive(Clone, Copy)]
 pub enum Word {
     /// A list of all commands and words.
@@ -8,7 +8,6 @@ pub enum Word {
     /// What one command wants and does.
     HelpOn(CommandName),
     Status,
-    Quit,
 }
 
 impl Word {
@@ -16,7 +15,6 @@ impl Word {
         match text {
             "help" => Some(Word::Help),
             "status" => Some(Word::Status),
-            "quit" => Some(Word::Quit),
             _ => Some(Word::HelpOn(CommandName::read(text.strip_prefix("help ")?)?)),
         }
     }

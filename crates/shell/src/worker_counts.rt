@@ -1,3 +1,8 @@
+ghost use Rattle.std.specs.Prelude.{◌≡◌};
+ghost use Rattle.shell.specs.Counting.{worker_after};
+
+use crate::asked::Asked;
+
 /// What a worker of the build has done.
 #[derive(Clone, Copy)]
 pub struct WorkerCounts {
@@ -26,27 +31,23 @@ impl WorkerCounts {
         self.taken.saturating_sub(self.sealed)
     }
 
-    /// With one more copy put for it.
-    pub fn with_copy(self) -> WorkerCounts {
-        WorkerCounts {
-            put: self.put.saturating_add(1),
-            ..self
-        }
-    }
-
-    /// With so many more copies taken.
-    pub fn with_taken(self, copies: u64) -> WorkerCounts {
-        WorkerCounts {
-            taken: self.taken.saturating_add(copies),
-            ..self
-        }
-    }
-
-    /// With all that it took sealed.
-    pub fn with_seal(self) -> WorkerCounts {
-        WorkerCounts {
-            sealed: self.taken,
-            ..self
+    /// What it has done once such a command was answered by that number.
+    pub fn after(self, asked: Asked, number: u64) -> WorkerCounts
+        ensures { result ≡ worker_after self asked number }
+    {
+        let taken = self.taken.saturating_add(number);
+        match asked {
+            Asked::Scan { .. } => WorkerCounts {
+                put: self.put.saturating_add(1),
+                ..self
+            },
+            Asked::Digest { .. } => WorkerCounts { taken, ..self },
+            Asked::Seal { .. } => WorkerCounts {
+                taken,
+                sealed: taken,
+                ..self
+            },
+            _ => self,
         }
     }
 }
