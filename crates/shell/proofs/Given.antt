@@ -9,9 +9,9 @@ use Rattle.script.specs.Records.{records_of}
 use Rattle.script.specs.declared.input_record.InputRecord.{InputRecord}
 use Rattle.shell.specs.Inputs.{AreAllOf, Gives, HasEnded, HasGiven, InputValue, records_by_line}
 
-bool_cases : {A : Type 0} (b : Bool) → (b ≡ true → A) → (b ≡ false → A) → A
-bool_cases true yes no = yes refl
-bool_cases false yes no = no refl
+pub bool_cases : (b : Bool) {A : Type 0} → (b ≡ true → A) → (b ≡ false → A) → A
+bool_cases true = λ yes no. yes refl
+bool_cases false = λ yes no. no refl
 
 -- the first line of a text that isn't empty
 pub first_line : (byte : ℕ) (text : List ℕ)
@@ -45,9 +45,9 @@ gives_none input = record {
 -- records were given, and then others
 pub gives_both : (a b c : InputValue) (told more : List InputRecord) → Gives a told b → Gives b more c → Gives a (told ++ more) c
 gives_both a b c told more first second = record {
-  counted = second.counted ∙ rw (first.counted, length-append told more) (omega arith);
+  counted = (let one = first.counted in let two = second.counted in let long = length-append told more in omega arith);
   behind = λ text before given.
-      rw (append_assoc before told more) (second.behind text (before ++ told) (first.behind text before given));
+      rw (← append_assoc before told more) (second.behind text (before ++ told) (first.behind text before given));
 }
 
 -- a record that waits is given
@@ -69,7 +69,7 @@ pub gives_line : (old new : InputValue) (line : List ℕ) → old.waiting ≡ []
     → ((left : List ℕ) → old.bytes ≡ Some left → (line ≡ take_through 10 left) × (new.bytes ≡ Some (drop_through 10 left)))
     → AllZip IsTold (records_of line) new.waiting → Gives old [] new
 gives_line old new line none counted some read told = record {
-  counted = counted;
+  counted = (let same = counted in omega arith);
   behind = λ text before given.
       let both = read given.left given.known in
       record {

@@ -1,6 +1,7 @@
 -- Records that are answered one behind the other, until the conversation is over.
-use Rattle.std.proofs.Common.{◌≡◌, ℕ, suc, ◌+◌, List, [], ◌∷◌, ◌++◌, length, length-append, add-zero, Some, inl, inr, arith, refl, ap, sym, subst, ◌∙◌}
+use Rattle.std.proofs.Common.{◌≡◌, ℕ, suc, ◌+◌, List, [], ◌∷◌, ◌++◌, length, length-append, add-zero, Option, Some, None, IfSome, Result, Ok, Err, IfOk, inl, inr, arith, refl, ap, sym, subst, ◌∙◌}
 use Rattle.std.proofs.lemmas.List.{append-nil, append_assoc}
+use Rattle.std.proofs.lemmas.List.Elements.{All-nil, All-cons, All-append}
 use Rattle.std.specs.List.{All, AllZip}
 use Rattle.heap_table.specs.HeapState.{HeapState}
 use Rattle.script.specs.InputLines.{IsTold}
@@ -13,15 +14,15 @@ use Rattle.script.specs.declared.table.Table.{Table}
 use Rattle.replay.specs.Sessions.{RunsAll, RunsOn, ScriptState, empty_heap_of}
 use Rattle.replay.specs.declared.status.Status.{Status}
 use Rattle.replay.specs.declared.status.Status.TheVariants.{Done}
-use Rattle.shell.specs.Conversations.{AreAnswered, EndsTalk, Finishes, GoesOn, IsQuit, Leaves, MakesNone, MakesTable, EndsBefore, EndsOn, commands_told}
+use Rattle.shell.specs.Conversations.{AreAnswered, EndsFrom, Finishes, GoesOn, IsQuit, Leaves, MakesNone, MakesTable, EndsBefore, EndsOn, commands_told}
+use Rattle.shell.specs.declared.failed.Failed.{Failed}
 use Rattle.shell.specs.Inputs.{AreFirstOf, Gives, GivesNext, HasEnded, HasGiven, InputValue, records_by_line}
 use Rattle.shell.specs.declared.numbered_record.NumberedRecord.{NumberedRecord}
 use Rattle.shell.proofs.Given.{gives_both}
 
--- what holds of two lists holds of one behind the other
-pub all_both : {A : Type 0} (P : A → Type 0) (xs ys : List A) → All P xs → All P ys → All P (xs ++ ys)
-all_both P [] ys all more = more
-all_both P (x ∷ xs) ys all more = (all.0, all_both P xs ys all.1 more)
+-- the record doesn't end the conversation
+abbrev IsNoQuit : InputRecord → Type 0
+IsNoQuit one = IsQuit one → ⊥
 
 -- commands that are run one list behind the other
 pub runs_both : (a b c : ScriptState) (xs ys : List NumberedCommand) → RunsAll a xs b → RunsAll b ys c → RunsAll a (xs ++ ys) c
@@ -63,20 +64,21 @@ zip_front {A} {B} R (x ∷ xs) (y ∷ ys) more all =
 first_given : (text : List ℕ) (told : List InputRecord) (input : InputValue) → HasGiven text told input → AreFirstOf text told
 first_given text told input given =
     let front = zip_front IsTold given.read told input.waiting given.each in
-    (front.0, front.1 ++ records_by_line given.left,
-    given.split ∙ rw front.2 (append_assoc front.0 front.1 (records_by_line given.left)),
+    let behind = records_by_line given.left in
+    (front.0, front.1 ++ behind,
+    given.split ∙ ap (λ (read : List (List (List ℕ))). read ++ behind) front.2 ∙ append_assoc front.0 front.1 behind,
     front.3)
 
 -- the input ends behind records that go on
 pub finishes_end : (old new : InputValue) (told : List InputRecord) → Gives old told new → GoesOn told → HasEnded new → Finishes old told
 finishes_end old new told gives goes ended = λ text before given on.
-    inl (ended text (before ++ told) (gives.behind text before given), all_both _ before told on goes)
+    inl (ended text (before ++ told) (gives.behind text before given), All-append IsNoQuit before told on goes)
 
 -- a quit comes behind records that go on
 pub finishes_quit : (old new : InputValue) (told : List InputRecord) (quit : InputRecord) → Gives old (told ++ quit ∷ []) new → GoesOn told → IsQuit quit
     → Finishes old (told ++ quit ∷ [])
 finishes_quit old new told quit gives goes is = λ text before given on.
-    inr (before ++ told, quit, sym (append_assoc before told (quit ∷ [])), all_both _ before told on goes, is,
+    inr (before ++ told, quit, sym (append_assoc before told (quit ∷ [])), All-append IsNoQuit before told on goes, is,
     first_given text (before ++ (told ++ quit ∷ [])) new (gives.behind text before given))
 
 -- the conversation goes on from a later moment
@@ -84,27 +86,48 @@ pub finishes_behind : (old mid : InputValue) (told more : List InputRecord) → 
     → Finishes old (told ++ more)
 finishes_behind old mid told more gives goes finishes = λ text before given on.
     subst (λ (all : List InputRecord). AreAnswered text all) (append_assoc before told more)
-    (finishes text (before ++ told) (gives.behind text before given) (all_both _ before told on goes))
+    (finishes text (before ++ told) (gives.behind text before given) (All-append IsNoQuit before told on goes))
 
 -- nothing was given of a text
 pub none_given : (text : List ℕ) (input : InputValue) → input.bytes ≡ Some text → input.waiting ≡ [] → HasGiven text [] input
 none_given text input known none = record { read = []; left = text; known = known; split = refl; each = rw none tt }
 
 -- the conversation was over before there was a table
-pub leaves_before : (text : List ℕ) (input : InputValue) → HasGiven text [] input → EndsBefore input → Leaves text Done
-leaves_before text input given ends = (ends.0, ends.1 text [] given tt, inl (ends.2, refl))
+pub ends_before : (input : InputValue) → EndsBefore input → EndsFrom input Done
+ends_before input ends = (ends.0, ends.1, inl (ends.2, refl))
 
 -- a table is made, and the records behind it are answered on it
-pub leaves_on : (text : List ℕ) (old new : InputValue) (heap : HeapState) (status : Status) → HasGiven text [] old → old.given ≡ 0
-    → MakesTable old new heap → EndsOn new heap status → Leaves text status
-leaves_on text old new heap status given zero made ends =
-    let told = made.before ++ Good (TableLine made.table) ∷ [] in
-    let goes : GoesOn told = all_both _ made.before (Good (TableLine made.table) ∷ []) made.goes (λ is. is, tt) in
-    let answered = finishes_behind old new told ends.0 made.gives goes ends.1 text [] given tt in
-    let split : told ++ ends.0 ≡ made.before ++ Good (TableLine made.table) ∷ ends.0 = append_assoc made.before (Good (TableLine made.table) ∷ []) ends.0 in
+pub ends_on : (old new : InputValue) (heap : HeapState) (status : Status) → old.given ≡ 0 → MakesTable old new heap → EndsOn new heap status
+    → EndsFrom old status
+ends_on old new heap status zero made ends =
+    let table = Good (TableLine made.table) in
+    let goes : GoesOn (made.before ++ table ∷ []) =
+        All-append IsNoQuit made.before (table ∷ []) made.goes (All-cons IsNoQuit table [] (λ is. is) (All-nil IsNoQuit)) in
     let number : new.given + 1 ≡ length made.before + 2 =
-        (let counted = made.gives.counted in let long = length-append made.before (Good (TableLine made.table) ∷ []) in omega arith) in
-    (told ++ ends.0, answered, inr (made.before, made.table, ends.0, split, made.none, rw (← made.empty, ← number) ends.2))
+        (let counted = made.gives.counted in let long = length-append made.before (table ∷ []) in omega arith) in
+    let ran : RunsOn (empty_heap_of made.table) (commands_told (length made.before + 2) ends.0) status =
+        subst (λ (n : ℕ). RunsOn (empty_heap_of made.table) (commands_told n ends.0) status) number
+        (subst (λ (h : HeapState). RunsOn h (commands_told (new.given + 1) ends.0) status) made.empty ends.2) in
+    ((made.before ++ table ∷ []) ++ ends.0,
+    finishes_behind old new (made.before ++ table ∷ []) ends.0 made.gives goes ends.1,
+    inr (made.before, made.table, ends.0, append_assoc made.before (table ∷ []) ends.0, made.none, ran))
+
+pub ends_all : (old new : InputValue) (heap : HeapState) (result : Result Status Failed) → old.given ≡ 0 → MakesTable old new heap
+    → IfOk result (EndsOn new heap) → IfOk result (EndsFrom old)
+ends_all old new heap (Ok status) zero made ends = ends_on old new heap status zero made ends
+ends_all old new heap (Err failed) zero made ends = tt
+
+-- of a text that is known the records are its own
+leaves_known : (known : Option (List ℕ)) (input : InputValue) (status : Status) → input.bytes ≡ known → input.waiting ≡ [] → EndsFrom input status
+    → IfSome known (λ text. Leaves text status)
+leaves_known None input status same none ends = tt
+leaves_known (Some text) input status same none ends =
+    (ends.0, ends.1 text [] (none_given text input same none) (All-nil IsNoQuit), ends.2)
+
+pub leaves : (known : Option (List ℕ)) (input : InputValue) (result : Result Status Failed) → input.bytes ≡ known → input.waiting ≡ []
+    → IfOk result (EndsFrom input) → IfOk result (λ status. IfSome known (λ text. Leaves text status))
+leaves known input (Ok status) same none ends = leaves_known known input status same none ends
+leaves known input (Err failed) same none ends = tt
 
 -- one record more was given
 pub gives_more : (start now later : InputValue) (told : List InputRecord) (next : NumberedRecord) → Gives start told now → GivesNext now later next
@@ -113,11 +136,11 @@ gives_more start now later told next gives more = gives_both start now later tol
 
 -- and it goes on
 pub goes_more : (told : List InputRecord) (one : InputRecord) → GoesOn told → (IsQuit one → ⊥) → GoesOn (told ++ one ∷ [])
-goes_more told one goes on = all_both _ told (one ∷ []) goes (on, tt)
+goes_more told one goes on = All-append IsNoQuit told (one ∷ []) goes (All-cons IsNoQuit one [] on (All-nil IsNoQuit))
 
 -- it made no table
 pub none_more : (told : List InputRecord) (one : InputRecord) → All MakesNone told → MakesNone one → All MakesNone (told ++ one ∷ [])
-none_more told one none also = all_both _ told (one ∷ []) none (also, tt)
+none_more told one none also = All-append MakesNone told (one ∷ []) none (All-cons MakesNone one [] also (All-nil MakesNone))
 
 -- and was answered on the table
 pub runs_more : (start now later : InputValue) (told : List InputRecord) (next : NumberedRecord) (a b c : ScriptState) → Gives start told now

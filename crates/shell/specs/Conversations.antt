@@ -37,7 +37,7 @@ IsQuit (Bad explanation) = ⊥
 
 -- none of the records ends it
 abbrev pub GoesOn : List InputRecord → Type 0
-GoesOn told = All (λ record. ¬ (IsQuit record)) told
+GoesOn told = All (λ one. ¬ (IsQuit one)) told
 
 -- the records are those of a conversation over the text: all of the text's, or those up to the first quit
 abbrev pub AreAnswered : List ℕ → List InputRecord → Type 0
@@ -73,11 +73,15 @@ LeavesWith text number = (number ≡ 2) ⊎ ((status : Status) × Leaves text st
 abbrev pub Finishes : InputValue → List InputRecord → Type 0
 Finishes input told = (text : List ℕ) (before : List InputRecord) → HasGiven text before input → GoesOn before → AreAnswered text (before ++ told)
 
+-- from that moment on the conversation ended with that status, where nothing had been given before
+abbrev pub EndsFrom : InputValue → Status → Type 0
+EndsFrom input status = (told : List InputRecord) × Finishes input told × EndsTalk told status
+
 -- what comes behind a record while there is no table
 abbrev pub ComesBehind : InputRecord → BeforeTable → Type 0
-ComesBehind record Waits = MakesNone record × ¬ (IsQuit record)
-ComesBehind record (Made slot_limit parts) = (table : Table) × (record ≡ Good (TableLine table)) × (parts.heap ≡ empty_heap_of table)
-ComesBehind record Quits = IsQuit record × MakesNone record
+ComesBehind one Waits = MakesNone one × ¬ (IsQuit one)
+ComesBehind one (Made slot_limit parts) = (table : Table) × (one ≡ Good (TableLine table)) × (parts.heap ≡ empty_heap_of table)
+ComesBehind one Quits = IsQuit one × MakesNone one
 
 -- the conversation was over before a table was made
 abbrev pub EndsBefore : InputValue → Type 0

@@ -33,9 +33,7 @@ pub fn answer_before_table<W: Write + Drop>(
 {
     let NumberedRecord { number, record } = next;
     match record {
-        InputRecord::Good(Line::PassedOver) => (),
-        InputRecord::Good(Line::Table(table)) => return make_table(alloc, number, table, output),
-        InputRecord::Good(Line::Command(_)) => print_bad(output, number, &Explanation::NoTable)?,
+        InputRecord::Good(line) => return answer_line(alloc, number, line, output),
         InputRecord::Bad(explanation) => print_bad(output, number, &explanation)?,
         InputRecord::Word(text) => {
             if text.as_str() == QUIT {
@@ -46,6 +44,23 @@ pub fn answer_before_table<W: Write + Drop>(
                 print_lines(number, no_table(alloc), output)?;
             }
         }
+    }
+    Ok(BeforeTable::Waits)
+}
+
+/// Answers a line of a script while there is no table.
+fn answer_line<W: Write + Drop>(
+    alloc: Global,
+    number: usize,
+    line: Line,
+    output: &mut Output<W>,
+) -> Result<BeforeTable, Failed>
+    ensures { IfOk result (ComesBehind (InputRecord.Good line)) }
+{
+    match line {
+        Line::PassedOver => (),
+        Line::Table(table) => return make_table(alloc, number, table, output),
+        Line::Command(_command) => print_bad(output, number, &Explanation::NoTable)?,
     }
     Ok(BeforeTable::Waits)
 }
@@ -88,7 +103,7 @@ pub fn answer_on_table<T: Table, W: Write + Drop>(
     let NumberedRecord { number, record } = next;
     match record {
         InputRecord::Good(Line::PassedOver) => (),
-        InputRecord::Good(Line::Table(_)) => print_bad(output, number, &Explanation::LateTable)?,
+        InputRecord::Good(Line::Table(_table)) => print_bad(output, number, &Explanation::LateTable)?,
         InputRecord::Good(Line::Command(command)) => {
             let answer = answer_command(session, bench, counts, command);
             output.print(number, &answer)?;

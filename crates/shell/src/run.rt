@@ -1,7 +1,7 @@
 //! A conversation, from its first record to its last.
 ghost use Rattle.std.specs.Prelude.{◌≡◌, ◌≤◌, IfSome, IfOk, OnOk, MatchOption};
 ghost use Rattle.replay.specs.Sessions.{state_of};
-ghost use Rattle.shell.specs.Conversations.{EndsBefore, EndsOn, Leaves, LeavesWith, MakesTable, TalksOn};
+ghost use Rattle.shell.specs.Conversations.{EndsBefore, EndsFrom, EndsOn, Leaves, LeavesWith, MakesTable, TalksOn};
 
 use crate::answering::{answer_before_table, answer_on_table};
 use crate::before_table::BeforeTable;
@@ -38,14 +38,26 @@ fn converse<R: Read + Drop, W: Write + Drop, P: Write + Drop>(
     out: W,
     prompt: Option<P>,
 ) -> Result<Status, Failed>
-    ensures { IfSome (R.remaining reader) (λ text. IfOk result (Leaves text)) }
+    ensures { IfOk result (λ status. IfSome (R.remaining reader) (λ text. Leaves text status)) }
 {
     let mut input = Input::new(alloc, reader, prompt)?;
     let mut output = Output::new(out);
-    match await_table(alloc, &mut input, &mut output)? {
+    answer(alloc, &mut input, &mut output)
+}
+
+/// The same, of an input that has given nothing yet.
+fn answer<R: Read + Drop, W: Write + Drop, P: Write + Drop>(
+    alloc: Global,
+    input: &mut Input<R, P>,
+    output: &mut Output<W>,
+) -> Result<Status, Failed>
+    requires { input.old.given ≡ 0 }
+    ensures { IfOk result (EndsFrom input.old) }
+{
+    match await_table(alloc, input, output)? {
         Some((slot_limit, parts)) => {
             let counts = Counts::new(slot_limit);
-            use_table::<Brand, R, W, P>(alloc, parts, counts, &mut input, &mut output)
+            use_table::<Brand, R, W, P>(alloc, parts, counts, input, output)
         }
         None => Ok(Status::Done),
     }

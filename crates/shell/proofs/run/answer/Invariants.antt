@@ -1,4 +1,4 @@
-use Rattle.shell.proofs.run.converse.Given as goal
+use Rattle.shell.proofs.run.answer.Given as goal
 
 -- the table is named by its own rings
 abbrev pub ghosts-use_table : goal.ghosts-use_table
