@@ -301,7 +301,10 @@ fn helped(alloc: Global) -> (usize, bool) {
     let prompt: Option<Vec<u8>> = None;
     let _status = shell(alloc, "help\n".as_bytes(), &mut out, prompt);
     let told = text(out.as_slice());
-    (told.lines().count(), told.starts_with("1,ok,27\n1,help,\"table,L,KIND,..\","))
+    (
+        told.lines().count(),
+        told.starts_with("1,ok,27\n1,help,\"table,L,KIND,..\","),
+    )
 }
 
 #[test]
@@ -319,7 +322,13 @@ fn is_prompted(alloc: Global, typed: &str, shown: &str) -> bool {
 
 #[test]
 fn a_prompt_is_shown_before_each_line(rt: HostRuntime) {
-    assert!(rt; is_prompted(rt.alloc(), "table,1,int\n\nquit\n", "sfbuild> sfbuild> sfbuild> "));
+    assert!(rt;
+        is_prompted(
+            rt.alloc(),
+            "table,1,int\n\nquit\n",
+            "sfbuild> sfbuild> sfbuild> "
+        )
+    );
     assert!(rt; is_prompted(rt.alloc(), "", "sfbuild> "));
 }
 
@@ -339,5 +348,8 @@ fn room_untold(alloc: Global, conversation: &Conversation) -> Option<usize> {
 fn a_writer_that_fails_is_told_by_the_status(rt: HostRuntime) {
     let conversation = &CONVERSATIONS[4];
     assert_eq!(rt; room_untold(rt.alloc(), conversation), None);
-    assert_eq!(rt; status_in(rt.alloc(), conversation, conversation.answered.len()), 1);
+    assert_eq!(rt;
+        status_in(rt.alloc(), conversation, conversation.answered.len()),
+        1
+    );
 }

@@ -64,10 +64,12 @@ zip_front {A} {B} R (x ∷ xs) (y ∷ ys) more all =
 first_given : (text : List ℕ) (told : List InputRecord) (input : InputValue) → HasGiven text told input → AreFirstOf text told
 first_given text told input given =
     let front = zip_front IsTold given.read told input.waiting given.each in
-    let behind = records_by_line given.left in
-    (front.0, front.1 ++ behind,
-    given.split ∙ ap (λ (read : List (List (List ℕ))). read ++ behind) front.2 ∙ append_assoc front.0 front.1 behind,
-    front.3)
+    let behind = records_by_line given.left in (
+      front.0,
+      front.1 ++ behind,
+      given.split ∙ ap (λ (read : List (List (List ℕ))). read ++ behind) front.2 ∙ append_assoc front.0 front.1 behind,
+      front.3,
+    )
 
 -- the input ends behind records that go on
 pub finishes_end : (old new : InputValue) (told : List InputRecord) → Gives old told new → GoesOn told → HasEnded new → Finishes old told
@@ -78,8 +80,14 @@ finishes_end old new told gives goes ended = λ text before given on.
 pub finishes_quit : (old new : InputValue) (told : List InputRecord) (quit : InputRecord) → Gives old (told ++ quit ∷ []) new → GoesOn told → IsQuit quit
     → Finishes old (told ++ quit ∷ [])
 finishes_quit old new told quit gives goes is = λ text before given on.
-    inr (before ++ told, quit, sym (append_assoc before told (quit ∷ [])), All-append IsNoQuit before told on goes, is,
-    first_given text (before ++ (told ++ quit ∷ [])) new (gives.behind text before given))
+    inr (
+      before ++ told,
+      quit,
+      sym (append_assoc before told (quit ∷ [])),
+      All-append IsNoQuit before told on goes,
+      is,
+      first_given text (before ++ (told ++ quit ∷ [])) new (gives.behind text before given),
+    )
 
 -- the conversation goes on from a later moment
 pub finishes_behind : (old mid : InputValue) (told more : List InputRecord) → Gives old told mid → GoesOn told → Finishes mid more
@@ -102,15 +110,16 @@ pub ends_on : (old new : InputValue) (heap : HeapState) (status : Status) → ol
 ends_on old new heap status zero made ends =
     let table = Good (TableLine made.table) in
     let goes : GoesOn (made.before ++ table ∷ []) =
-        All-append IsNoQuit made.before (table ∷ []) made.goes (All-cons IsNoQuit table [] (λ is. is) (All-nil IsNoQuit)) in
+    All-append IsNoQuit made.before (table ∷ []) made.goes (All-cons IsNoQuit table [] (λ is. is) (All-nil IsNoQuit)) in
     let number : new.given + 1 ≡ length made.before + 2 =
-        (let counted = made.gives.counted in let long = length-append made.before (table ∷ []) in omega arith) in
+    (let counted = made.gives.counted in let long = length-append made.before (table ∷ []) in omega arith) in
     let ran : RunsOn (empty_heap_of made.table) (commands_told (length made.before + 2) ends.0) status =
-        subst (λ (n : ℕ). RunsOn (empty_heap_of made.table) (commands_told n ends.0) status) number
-        (subst (λ (h : HeapState). RunsOn h (commands_told (new.given + 1) ends.0) status) made.empty ends.2) in
-    ((made.before ++ table ∷ []) ++ ends.0,
-    finishes_behind old new (made.before ++ table ∷ []) ends.0 made.gives goes ends.1,
-    inr (made.before, made.table, ends.0, append_assoc made.before (table ∷ []) ends.0, made.none, ran))
+    subst (λ (n : ℕ). RunsOn (empty_heap_of made.table) (commands_told n ends.0) status) number
+    (subst (λ (h : HeapState). RunsOn h (commands_told (new.given + 1) ends.0) status) made.empty ends.2) in (
+      (made.before ++ table ∷ []) ++ ends.0,
+      finishes_behind old new (made.before ++ table ∷ []) ends.0 made.gives goes ends.1,
+      inr (made.before, made.table, ends.0, append_assoc made.before (table ∷ []) ends.0, made.none, ran),
+    )
 
 pub ends_all : (old new : InputValue) (heap : HeapState) (result : Result Status Failed) → old.given ≡ 0 → MakesTable old new heap
     → IfOk result (EndsOn new heap) → IfOk result (EndsFrom old)

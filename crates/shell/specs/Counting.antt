@@ -1,5 +1,5 @@
 -- What an answer adds to the counts of a build and of the open transactions.
-use Rattle.std.specs.Prelude.{◌≡◌, ◌==◌, ℕ, ◌+◌, ◌-◌, ◌^◌, min, true, List, slice_get, Option, Some, None, option_map, if◌then◌else◌}
+use Rattle.std.specs.Prelude.{ℕ, ◌+◌, ◌-◌, ◌^◌, min, true, Option, Some, None}
 use Rattle.shell.specs.declared.asked.Asked.{Asked}
 use Rattle.shell.specs.declared.asked.Asked.TheVariants.{Begin, Undo, Commit, Start, Scan, Digest, Seal, Load, Feed, Apply, Other}
 use Rattle.shell.specs.declared.index_counts.IndexCounts.{IndexCounts}
@@ -64,23 +64,3 @@ index_after i (Load index) number = record i { is_loaded = true }
 index_after i (Feed index) number = record i { fed = more i.fed number }
 index_after i (Apply index) number = record i { applied = more i.applied number }
 index_after i Other number = i
-
--- a scan copies one page more
-abbrev pub scanned_after : ℕ → Asked → ℕ
-scanned_after scanned Begin = scanned
-scanned_after scanned Undo = scanned
-scanned_after scanned Commit = scanned
-scanned_after scanned (Start workers indexes) = scanned
-scanned_after scanned (Scan worker) = more scanned 1
-scanned_after scanned (Digest worker) = scanned
-scanned_after scanned (Seal worker) = scanned
-scanned_after scanned (Load index) = scanned
-scanned_after scanned (Feed index) = scanned
-scanned_after scanned (Apply index) = scanned
-scanned_after scanned Other = scanned
-
--- the one at that place, if there is one, changes so, and the others stay
-abbrev pub ChangesAt : {A : Type 0} → Option ℕ → (A → A) → List A → List A → Type 0
-ChangesAt None change old new = new ≡ old
-ChangesAt (Some place) change old new =
-    (at : ℕ) → slice_get new at ≡ (if at == place then option_map change (slice_get old at) else slice_get old at)

@@ -103,7 +103,11 @@ pub fn answer_on_table<T: Table, W: Write + Drop>(
     let NumberedRecord { number, record } = next;
     match record {
         InputRecord::Good(Line::PassedOver) => (),
-        InputRecord::Good(Line::Table(_table)) => print_bad(output, number, &Explanation::LateTable)?,
+        InputRecord::Good(Line::Table(_table)) => print_bad(
+            output,
+            number,
+            &Explanation::LateTable,
+        )?,
         InputRecord::Good(Line::Command(command)) => {
             let answer = answer_command(session, bench, counts, command);
             output.print(number, &answer)?;

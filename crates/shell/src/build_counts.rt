@@ -1,6 +1,3 @@
-ghost use Rattle.std.specs.Prelude.{◌≡◌};
-ghost use Rattle.shell.specs.Counting.{ChangesAt, index_after, index_asked, scanned_after, worker_after, worker_asked};
-
 use crate::asked::Asked;
 use crate::index_counts::IndexCounts;
 use crate::worker_counts::WorkerCounts;
@@ -9,6 +6,7 @@ use replay::Answer;
 
 /// The most workers and the most indexes of a build.
 const WORKERS_MAX: usize = 16;
+
 const INDEXES_MAX: usize = 8;
 
 /// What the answers tell of the build that runs.
@@ -40,11 +38,17 @@ impl BuildCounts {
     }
 
     pub fn workers(&self) -> &[WorkerCounts] {
-        self.each_worker.as_slice().get(..self.workers).unwrap_or(&[])
+        self.each_worker
+            .as_slice()
+            .get(..self.workers)
+            .unwrap_or(&[])
     }
 
     pub fn indexes(&self) -> &[IndexCounts] {
-        self.each_index.as_slice().get(..self.indexes).unwrap_or(&[])
+        self.each_index
+            .as_slice()
+            .get(..self.indexes)
+            .unwrap_or(&[])
     }
 
     /// How many pages are left to be copied.
@@ -62,11 +66,7 @@ impl BuildCounts {
     }
 
     /// Notes an answer that is a number.
-    fn note_number(&mut self, asked: Asked, number: u64)
-        ensures scanned { self.new.scanned ≡ scanned_after self.old.scanned asked }
-        ensures workers { ChangesAt (worker_asked asked) (λ w. worker_after w asked number) self.old.each_worker self.new.each_worker }
-        ensures indexes { ChangesAt (index_asked asked) (λ i. index_after i asked number) self.old.each_index self.new.each_index }
-    {
+    fn note_number(&mut self, asked: Asked, number: u64) {
         if let Asked::Scan { .. } = asked {
             self.scanned = self.scanned.saturating_add(1);
         }
@@ -84,7 +84,10 @@ impl BuildCounts {
 
     /// Notes a refusal: a digest, a seal or a load that wants a page or memory spoils the build.
     fn note_refusal(&mut self, asked: Asked, fault: Fault) {
-        let may_spoil = matches!(asked, Asked::Digest { .. } | Asked::Seal { .. } | Asked::Load { .. });
+        let may_spoil = matches!(
+            asked,
+            Asked::Digest { .. } | Asked::Seal { .. } | Asked::Load { .. }
+        );
         if may_spoil && matches!(fault, Fault::NoPage | Fault::Memory) && self.spoiled.is_none() {
             self.spoiled = Some(fault);
         }

@@ -31,7 +31,8 @@ impl Counts {
     fn note_transaction(&mut self, asked: Asked, answer: &Answer) {
         match (asked, answer) {
             (Asked::Begin, Answer::Number { .. }) => self.open = self.open.saturating_add(1),
-            (Asked::Commit, Answer::Number { .. }) | (Asked::Undo, Answer::Undone { left: 0, .. }) => {
+            (Asked::Commit, Answer::Number { .. })
+            | (Asked::Undo, Answer::Undone { left: 0, .. }) => {
                 self.open = self.open.saturating_sub(1);
             }
             _ => (),
@@ -43,9 +44,10 @@ impl Counts {
             (Asked::Start { workers, indexes }, Answer::Number { number }) => {
                 self.build = Some(BuildCounts::new(workers, indexes, *number));
             }
-            (_, Answer::Switched { .. } | Answer::SomeRefused { .. } | Answer::Abandoned { .. }) => {
-                self.build = None;
-            }
+            (_, Answer::Switched { .. } | Answer::SomeRefused { .. } | Answer::Abandoned { .. }) =>
+                {
+                    self.build = None;
+                }
             _ => {
                 if let Some(build) = &mut self.build {
                     build.note(asked, answer);

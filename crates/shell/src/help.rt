@@ -34,7 +34,10 @@ static COMMANDS: [CommandName; 23] = [
 /// The words of the shell itself, each with what it does.
 static WORDS: [(&str, &str); 4] = [
     ("help", "lists all commands and these words"),
-    ("help NAME", "says what the fields of one command are, and what it does"),
+    (
+        "help NAME",
+        "says what the fields of one command are, and what it does",
+    ),
     (
         "status",
         "tells how the table and its build stand, what a switch waits for, and which indexes are ready",
@@ -100,7 +103,8 @@ fn print_line<W: Write + Drop>(
 /// What a command does.
 fn does(name: CommandName) -> &'static str {
     match name {
-        CommandName::Table => "makes an empty table of L slots a page (1 to 255), with 1 to 12 columns",
+        CommandName::Table =>
+            "makes an empty table of L slots a page (1 to 255), with 1 to 12 columns",
         CommandName::Row => "inserts a row by a transaction of its own",
         CommandName::Begin => "begins a transaction that the label A names",
         CommandName::Insert => "inserts a row",
@@ -109,18 +113,21 @@ fn does(name: CommandName) -> &'static str {
         CommandName::Undo => "undoes the transaction's newest write that isn't undone",
         CommandName::Commit => "ends the transaction, whose rows stay",
         CommandName::Get => "gives the row that is at the RID now",
-        CommandName::Spools => "says where the builds that start from here on keep their sorted runs",
+        CommandName::Spools =>
+            "says where the builds that start from here on keep their sorted runs",
         CommandName::Start => {
             "starts a build with W workers (1 to 16), a quota of Q pages (at most 1024) for each worker and index, \
             1 to 256 page ranges and 1 to 8 indexes"
         }
-        CommandName::Scan => "copies the next page of range R for worker W, who has room for four copies",
+        CommandName::Scan =>
+            "copies the next page of range R for worker W, who has room for four copies",
         CommandName::Digest => "has worker W take the keys out of the next copy that waits for it",
         CommandName::Seal => {
             "has worker W take the keys out of all copies that wait for it, and close its run"
         }
         CommandName::Load => "puts the pairs of index I in order",
-        CommandName::Feed => "moves the first entries of index I's side-file into its ring, K at most",
+        CommandName::Feed =>
+            "moves the first entries of index I's side-file into its ring, K at most",
         CommandName::Apply => {
             "applies the first entries in the ring of index I to its pairs, K at most"
         }

@@ -9,11 +9,12 @@ loop-preserved g c =
     let told = c.loop.invariant.0 in
     let next = c.in-Some.next in
     let more = rw c.in-Some.is at c.in_ok-next.ensures in
-    let comes = rw c.in-Waits.is at c.in_ok-answered.ensures in
-    (told ++ next.record ∷ [],
-    gives_more c.args.input.now c.loop.input c.next.new.self told next c.loop.invariant.1 more,
-    goes_more told next.record c.loop.invariant.2 comes.1,
-    none_more told next.record c.loop.invariant.3 comes.0)
+    let comes = rw c.in-Waits.is at c.in_ok-answered.ensures in (
+      told ++ next.record ∷ [],
+      gives_more c.args.input.now c.loop.input c.next.new.self told next c.loop.invariant.1 more,
+      goes_more told next.record c.loop.invariant.2 comes.1,
+      none_more told next.record c.loop.invariant.3 comes.0,
+    )
 
 pub returns-in-Made : goal.returns-in-Made
 returns-in-Made g c =
@@ -36,8 +37,9 @@ returns-in-Quits g c =
     let told = c.loop.invariant.0 in
     let next = c.in-Some.next in
     let more = rw c.in-Some.is at c.in_ok-next.ensures in
-    let comes = rw c.in-Quits.is at c.in_ok-answered.ensures in
-    (told ++ next.record ∷ [],
-    finishes_quit c.args.input.now c.next.new.self told next.record
-    (gives_more c.args.input.now c.loop.input c.next.new.self told next c.loop.invariant.1 more) c.loop.invariant.2 comes.0,
-    none_more told next.record c.loop.invariant.3 comes.1)
+    let comes = rw c.in-Quits.is at c.in_ok-answered.ensures in (
+      told ++ next.record ∷ [],
+      finishes_quit c.args.input.now c.next.new.self told next.record
+          (gives_more c.args.input.now c.loop.input c.next.new.self told next c.loop.invariant.1 more) c.loop.invariant.2 comes.0,
+      none_more told next.record c.loop.invariant.3 comes.1,
+    )
