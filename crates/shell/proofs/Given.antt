@@ -1,13 +1,12 @@
 -- What an input gives, record by record and line by line.
 use Rattle.std.proofs.Common.{◌≡◌, ◌==◌, ℕ, ◌+◌, Bool, List, [], ◌∷◌, ◌++◌, length, length-append, Some, true, false, arith, refl, ap, sym, subst, ◌∙◌}
 use Rattle.std.proofs.lemmas.List.{append-nil, append_assoc}
-use Rattle.std.specs.Io.BufRead.{DropsThrough, drop_through, take_through}
-use Rattle.std.specs.Io.KnownBytes.{IsAtEnd}
+use Rattle.std.specs.Io.BufRead.{drop_through, take_through}
 use Rattle.std.specs.List.{AllZip}
 use Rattle.script.specs.InputLines.{IsTold, input_lines, put_first, records_in_lines}
 use Rattle.script.specs.Records.{records_of}
 use Rattle.script.specs.declared.input_record.InputRecord.{InputRecord}
-use Rattle.shell.specs.Inputs.{AreAllOf, Gives, HasEnded, HasGiven, InputValue, records_by_line}
+use Rattle.shell.specs.Inputs.{Gives, HasEnded, InputValue, records_by_line}
 
 pub bool_cases : (b : Bool) {A : Type 0} → (b ≡ true → A) → (b ≡ false → A) → A
 bool_cases true = λ yes no. yes refl

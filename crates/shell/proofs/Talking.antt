@@ -1,16 +1,15 @@
 -- Records that are answered one behind the other, until the conversation is over.
-use Rattle.std.proofs.Common.{◌≡◌, ℕ, suc, ◌+◌, List, [], ◌∷◌, ◌++◌, length, length-append, add-zero, Option, Some, None, IfSome, Result, Ok, Err, IfOk, inl, inr, arith, refl, ap, sym, subst, ◌∙◌}
-use Rattle.std.proofs.lemmas.List.{append-nil, append_assoc}
+use Rattle.std.proofs.Common.{◌≡◌, ℕ, suc, ◌+◌, List, [], ◌∷◌, ◌++◌, length, length-append, add-zero, Option, Some}
+use Rattle.std.proofs.Common.{None, IfSome, Result, Ok, Err, IfOk, inl, inr, arith, refl, ap, sym, subst, ◌∙◌}
+use Rattle.std.proofs.lemmas.List.{append_assoc}
 use Rattle.std.proofs.lemmas.List.Elements.{All-nil, All-cons, All-append}
 use Rattle.std.specs.List.{All, AllZip}
 use Rattle.heap_table.specs.HeapState.{HeapState}
 use Rattle.script.specs.InputLines.{IsTold}
-use Rattle.script.specs.Scripts.{commands_from}
 use Rattle.script.specs.declared.input_record.InputRecord.{InputRecord}
 use Rattle.script.specs.declared.input_record.InputRecord.TheVariants.{Good, Word, Bad}
 use Rattle.script.specs.declared.line.Line.TheVariants.{PassedOver, Table as TableLine, Command as CommandLine}
 use Rattle.script.specs.declared.numbered_command.NumberedCommand.{NumberedCommand}
-use Rattle.script.specs.declared.table.Table.{Table}
 use Rattle.replay.specs.Sessions.{RunsAll, RunsOn, ScriptState, empty_heap_of}
 use Rattle.replay.specs.declared.status.Status.{Status}
 use Rattle.replay.specs.declared.status.Status.TheVariants.{Done}

@@ -1,5 +1,4 @@
-use Rattle.std.proofs.Common.{◌≡◌, ◌==◌, ℕ, List, length, Some, false, arith, ap, ◌∙◌}
-use Rattle.std.specs.Io.Buffered.{reader_remaining}
+use Rattle.std.proofs.Common.{◌≡◌, arith, ap, ◌∙◌}
 use Rattle.shell.specs.Inputs.{InputValue}
 use Rattle.shell.proofs.Given.{gives_line}
 use Rattle.shell.proofs.input.Input.read_line.Goals as goal
