@@ -1,5 +1,9 @@
-//! Tests of what stands in front of the scripts: the pictures of `script_picture`.
+//! Tests of what stands in front of the tables: of files that are given indexes, of pictures of a script's run, and of conversations.
 #![tactic(auto)]
 
 #[cfg(test)]
+mod conversations;
+#[cfg(test)]
 mod pictures;
+#[cfg(test)]
+mod room;

@@ -11,7 +11,7 @@ static TASKS: [(&str, Task); 2] = [("replay", Task::Replay), ("check", Task::Che
 
 static SCRIPTS: [&str; 3] = ["three.csv", "-", "./a b"];
 
-static REFUSED: [&[&str]; 15] = [
+static REFUSED: [&[&str]; 16] = [
     &["sfbuild"],
     &["sfbuild", "fly"],
     &["sfbuild", "replay"],
@@ -23,6 +23,7 @@ static REFUSED: [&[&str]; 15] = [
     &["sfbuild", "race", "a", "--workers", "0"],
     &["sfbuild", "race", "a", "--workers", "17"],
     &["sfbuild", "-", "a"],
+    &["sfbuild", "shell", "a"],
     &["sfbuild", "index", "a"],
     &["sfbuild", "index", "--columns", "a:int"],
     &[
@@ -62,7 +63,7 @@ fn ask_for(alloc: Global, words: &[&str], task: Task, script: &str) -> bool {
                 script: given,
             },
         ) => asked == task && given == script,
-        Ok(Choice::Index(_)) | Err(_) => false,
+        Ok(Choice::Index(_) | Choice::Shell) | Err(_) => false,
     }
 }
 
@@ -144,6 +145,16 @@ fn name_indexes(rt: HostRuntime) {
         "--skip-bad",
     ];
     assert!(rt; ask_for_indexes(rt.alloc(), words.as_slice()));
+}
+
+fn ask_for_a_conversation(alloc: Global, words: &[&str]) -> bool {
+    matches!(read(alloc, words), Ok(Choice::Shell))
+}
+
+#[test]
+fn name_the_shell(rt: HostRuntime) {
+    let words = ["sfbuild", "shell"];
+    assert!(rt; ask_for_a_conversation(rt.alloc(), words.as_slice()));
 }
 
 fn are_refused(alloc: Global, words: &[&str]) -> bool {

@@ -1,7 +1,8 @@
 //! The program `sfbuild`: builds indexes, on the rows of a file or as a script tells it to.
 //!
 //! The library [`words`] reads the words that the program is given. [`csv_index`] builds the indexes of a file, [`replay`] runs a script
-//! or looks at it, [`script_picture`] draws its run, and [`race`] runs one in threads. `main` only hands the file and the standard streams in.
+//! or looks at it, [`script_picture`] draws its run, [`race`] runs one in threads, and [`shell`] answers it record by record. `main` only
+//! hands the file and the standard streams in.
 #![tactic(auto)]
 
 use race::ProgressLine;
@@ -37,6 +38,7 @@ fn obey<A: Threads + Wait + Sync>(rt: &HostRuntime, threads: &A, words: &[String
     match words::read(rt.alloc(), words) {
         Ok(Choice::Script { task, script }) => run(rt, threads, task, script),
         Ok(Choice::Index(words)) => index(rt, threads, &words),
+        Ok(Choice::Shell) => converse(rt),
         Err(error) => print(rt, &error),
     }
 }
@@ -96,6 +98,17 @@ fn run_race<A: Threads + Wait + Sync, R: Read + Drop>(
     }
     let line = ProgressLine::new(*rt, err, err.is_terminal());
     race::race_watched(threads, alloc, workers, script, out, err, line)
+}
+
+/// Answers the records of the standard input. A prompt is shown where somebody types them and reads the answers.
+fn converse(rt: &HostRuntime) -> u8 {
+    let (input, out) = (rt.stdin(), rt.stdout());
+    let prompt = if input.is_terminal() && out.is_terminal() {
+        Some(rt.stdout())
+    } else {
+        None
+    };
+    shell::shell(rt.alloc(), input, out, prompt)
 }
 
 /// Builds the indexes that the words ask for.

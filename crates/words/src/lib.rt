@@ -45,7 +45,21 @@ A race has sessions that write in threads of their own while a build runs, as in
 
 `sfbuild race race.csv --workers 2` runs it and prints how it went.
 
+By hand a script is typed into `sfbuild shell`, which answers each record at once.
+
 A file that is there already needs no script: `sfbuild index --help` says how indexes are built on its rows.";
+
+/// What follows in the help of the shell.
+const SHELL: &str = "\
+The records are those of scripts, one or more a line: a record ends with its line, also where a quote is open.
+A bad record is answered by what is wrong with it, and the shell goes on. Besides there are these words:
+
+  help         lists all commands
+  help NAME    says what a command wants and does
+  status       tells how the table and its build stand
+  quit         ends the shell, as the end of the input does
+
+Over a pipe the answers are the same, and each is sent on before the next line is read.";
 
 /// What the words ask for.
 #[derive(Drop)]
@@ -54,6 +68,8 @@ pub enum Choice<'a> {
     Script { task: Task, script: &'a str },
     /// Indexes on the rows of a file.
     Index(IndexWords<'a>),
+    /// A conversation over the standard input and output.
+    Shell,
 }
 
 /// What is to be done with a script.
@@ -89,6 +105,7 @@ fn chosen<'a>(alloc: Global, matches: &ArgMatches<'a>) -> Result<Option<Choice<'
             Some(words) => Ok(Some(Choice::Index(words))),
             None => Ok(None),
         },
+        Some(("shell", _)) => Ok(Some(Choice::Shell)),
         Some((name, arguments)) => Ok(script_task(name, arguments)),
         None => Ok(None),
     }
@@ -145,6 +162,7 @@ fn command<'a>(alloc: Global) -> Result<Command<'a>, AllocError> {
         .subcommand(picture)?
         .subcommand(check)?
         .subcommand(race_command(alloc)?)?
+        .subcommand(shell_command(alloc))?
         .subcommand(index_command(alloc)?)
 }
 
@@ -168,6 +186,13 @@ fn race_command<'a>(alloc: Global) -> Result<Command<'a>, AllocError> {
     )?
     .arg(workers)?
     .arg(progress)
+}
+
+/// The command of a conversation.
+fn shell_command<'a>(alloc: Global) -> Command<'a> {
+    Command::new(alloc, "shell")
+        .about("Answers the records of a script one by one, as they are typed or sent")
+        .after_help(SHELL)
 }
 
 /// The command of a task.

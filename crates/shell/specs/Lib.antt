@@ -1,0 +1,3 @@
+pub mod Conversations
+pub mod Counting
+pub mod Inputs
