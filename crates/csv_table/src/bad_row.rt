@@ -5,8 +5,8 @@ use std::alloc::{AllocError, AllocFailed};
 /// Why a record is no row of the table.
 #[derive(Clone, Copy, PartialEq, Eq)]
 pub enum BadRow {
-    /// It has so many fields, which aren't those of the header.
-    Fields(usize),
+    /// It hasn't as many fields as the header.
+    Fields { found: usize, wanted: usize },
     /// Its field in the column of that number is no cell.
     Cell(usize, CellFault),
     /// The table refuses it.

@@ -1,6 +1,7 @@
 ghost use Rattle.std.specs.Prelude.{◌≤◌};
 
 use crate::bad_row::BadRow;
+use crate::cell_fault::CellFault;
 use crate::refusal::Refusal;
 use keybytes::Fault;
 use std::alloc::{AllocError, AllocFailed, Global};
@@ -9,10 +10,12 @@ use std::{fmt, io};
 /// Why a run came to nothing.
 #[derive(Drop)]
 pub enum Failure {
-    CannotRead,
+    CannotRead(io::Error),
     CannotPrint,
     /// Something that the words or the header say, with its text.
     Refused(Refusal, String),
+    /// A cell of a key that is looked for is none of its column: the key, and the column's name.
+    KeyCell(CellFault, String, String),
     /// The record that begins in that line is no row. The text is the column's name, or that of the first one.
     Row(u64, BadRow, String),
     /// The table or its build refuses all.
@@ -30,6 +33,15 @@ impl Failure {
         }
     }
 
+    /// Whether it is about the file, and not about the words.
+    pub fn is_of_file(&self) -> bool {
+        match self {
+            Failure::CannotRead(_) | Failure::Row(..) => true,
+            Failure::Refused(refusal, _) => refusal.is_of_header(),
+            _ => false,
+        }
+    }
+
     /// The exit status that it ends a program with.
     pub fn status(&self) -> u8
         ensures { result ≤ 2 }
@@ -44,15 +56,15 @@ impl Failure {
 impl fmt::Display for Failure {
     fn fmt<W: fmt::Write>(&self, f: &mut fmt::Formatter<W>) -> fmt::Result {
         match self {
-            Failure::CannotRead => f.write_str("the file can't be read"),
+            Failure::CannotRead(error) => write!(f, "cannot be read: {error}"),
             Failure::CannotPrint => f.write_str("the answer can't be written"),
             Failure::Refused(refusal, text) if text.is_empty() => write!(f, "{refusal}"),
             Failure::Refused(refusal, text) => write!(f, "`{text}`: {refusal}"),
-            Failure::Row(line, BadRow::Fields(found), _) => {
-                write!(
-                    f,
-                    "line {line}: fields: {found}, which isn't the number of the header's"
-                )
+            Failure::KeyCell(fault, text, column) => {
+                write!(f, "`{text}`: no key: column `{column}`: {fault}")
+            }
+            Failure::Row(line, BadRow::Fields { found, wanted }, _) => {
+                write!(f, "line {line}: fields: {found}, and the header has {wanted}")
             }
             Failure::Row(line, BadRow::Cell(_, fault), column) => {
                 write!(f, "line {line}, column `{column}`: {fault}")

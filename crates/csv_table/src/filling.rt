@@ -9,8 +9,8 @@ use crate::header::places;
 use crate::key_sizes::KeySizes;
 use crate::line_counter::LineCounter;
 use crate::lines::Lines;
-use crate::progress_line::ProgressLine;
 use crate::refusal::Refusal;
+use crate::watch::Watch;
 use csv::{ByteRecord, Reader, ReaderBuilder};
 use heap_table::{Heap, PAGES_MAX, SLOTS_MAX};
 use keybytes::{Fault, Row, Schema};
@@ -57,11 +57,11 @@ impl Drop for Layout {
 }
 
 /// Puts the rows of the text into a table.
-pub fn fill(
+pub fn fill<V: Watch>(
     reading: Reading<'_>,
     schema: Schema,
     text: &[u8],
-    progress: &mut ProgressLine,
+    watch: &mut V,
 ) -> Result<Filled, Failure> {
     let alloc = reading.alloc;
     let mut filled = Filled {
@@ -71,17 +71,17 @@ pub fn fill(
         rows: 0,
         left_out: 0,
     };
-    match read_all(reading, text, &mut filled, progress) {
+    match read_all(reading, text, &mut filled, watch) {
         Ok(()) => Ok(filled),
         Err(failure) => Err(failure),
     }
 }
 
-fn read_all(
+fn read_all<V: Watch>(
     reading: Reading<'_>,
     text: &[u8],
     filled: &mut Filled,
-    progress: &mut ProgressLine,
+    watch: &mut V,
 ) -> Result<(), Failure> {
     let text = text.strip_prefix(MARK).unwrap_or(text);
     let mut reader = ReaderBuilder::new()
@@ -104,7 +104,7 @@ fn read_all(
         &mut record,
         &mut lines,
         filled,
-        progress,
+        watch,
     )
 }
 
@@ -117,14 +117,14 @@ fn read_next(reader: &mut Reader<&[u8]>, record: &mut ByteRecord) -> Result<bool
 }
 
 /// Puts the records that are left into the table.
-fn read_rows(
+fn read_rows<V: Watch>(
     reading: Reading<'_>,
     layout: &Layout,
     reader: &mut Reader<&[u8]>,
     record: &mut ByteRecord,
     lines: &mut LineCounter<'_>,
     filled: &mut Filled,
-    progress: &mut ProgressLine,
+    watch: &mut V,
 ) -> Result<(), Failure> {
     let mut txn = filled.heap.begin()?;
     for number in 0..u64::MAX {
@@ -134,7 +134,7 @@ fn read_rows(
         if number % ROWS_OF_A_TRANSACTION == ROWS_OF_A_TRANSACTION - 1 {
             filled.heap.commit(txn)?;
             txn = filled.heap.begin()?;
-            progress.show_rows(filled.rows);
+            watch.show_rows(filled.rows);
         }
         let start = record.position().map_or(0, |position| position.byte);
         let line = lines.line_from(start as usize);
@@ -154,7 +154,7 @@ fn pass(
     filled: &mut Filled,
 ) -> Result<(), Failure> {
     let is_bad = match fault {
-        BadRow::Fields(_) => true,
+        BadRow::Fields { .. } => true,
         BadRow::Cell(_, fault) => fault != CellFault::Memory,
         // The row is good, and the table is full.
         BadRow::Refused(_) => false,
@@ -198,7 +198,10 @@ fn put(
 /// The row that a record is.
 fn read_row(reading: Reading<'_>, layout: &Layout, record: &ByteRecord) -> Result<Row, BadRow> {
     if record.len() != layout.width {
-        return Err(BadRow::Fields(record.len()));
+        return Err(BadRow::Fields {
+            found: record.len(),
+            wanted: layout.width,
+        });
     }
     let mut cells = Vec::with_capacity(reading.alloc, reading.columns.len())?;
     for (place, column) in reading.columns.iter().enumerate() {

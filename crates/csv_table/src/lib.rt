@@ -18,8 +18,8 @@ mod key_sizes;
 mod line_counter;
 mod lines;
 mod list;
-mod progress_line;
 mod refusal;
+mod watch;
 
 pub use asked::Asked;
 pub use bad_row::BadRow;
@@ -31,5 +31,5 @@ pub use filling::{Filled, Reading, fill};
 pub use key_sizes::KeySizes;
 pub use lines::Lines;
 pub use list::record;
-pub use progress_line::ProgressLine;
 pub use refusal::Refusal;
+pub use watch::Watch;
