@@ -1,1 +1,4 @@
 pub mod Cells
+pub mod Fillings
+pub mod Failures
+pub mod Headers

@@ -13,6 +13,17 @@ pub enum BadRow {
     Refused(Fault),
 }
 
+impl BadRow {
+    /// Whether the record itself is at fault, and neither memory nor a full table.
+    pub fn is_of_record(self) -> bool {
+        match self {
+            BadRow::Fields { .. } => true,
+            BadRow::Cell(_, fault) => fault != CellFault::Memory,
+            BadRow::Refused(_) => false,
+        }
+    }
+}
+
 impl From<Fault> for BadRow {
     fn from(fault: Fault) -> BadRow {
         BadRow::Refused(fault)

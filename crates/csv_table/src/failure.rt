@@ -1,4 +1,5 @@
 ghost use Rattle.std.specs.Prelude.{◌≤◌};
+ghost use Rattle.csv_table.specs.Failures.{Tells};
 
 use crate::bad_row::BadRow;
 use crate::cell_fault::CellFault;
@@ -26,7 +27,9 @@ pub enum Failure {
 
 impl Failure {
     /// The refusal of a text.
-    pub fn refused(alloc: Global, refusal: Refusal, text: &str) -> Failure {
+    pub fn refused(alloc: Global, refusal: Refusal, text: &str) -> Failure
+        ensures { Tells refusal text.now result }
+    {
         match String::from_str(alloc, text) {
             Ok(text) => Failure::Refused(refusal, text),
             Err(_) => Failure::Table(Fault::Memory),
@@ -82,18 +85,31 @@ impl fmt::Display for Failure {
 }
 
 impl From<Fault> for Failure {
+    ghost use Rattle.std.specs.Prelude.{◌≡◌};
+    ghost use Rattle.csv_table.specs.declared.failure.Failure.TheVariants.{Table};
+
+    ghost from_gives = { λ fault failure. failure ≡ Table fault };
+
     fn from(fault: Fault) -> Failure {
         Failure::Table(fault)
     }
 }
 
 impl From<AllocError> for Failure {
+    ghost use Rattle.csv_table.specs.Failures.{LacksMemory};
+
+    ghost from_gives = { λ _ failure. LacksMemory failure };
+
     fn from(_error: AllocError) -> Failure {
         Failure::Table(Fault::Memory)
     }
 }
 
 impl<T: Drop> From<AllocFailed<T>> for Failure {
+    ghost use Rattle.csv_table.specs.Failures.{LacksMemory};
+
+    ghost from_gives = { λ _ failure. LacksMemory failure };
+
     fn from(_error: AllocFailed<T>) -> Failure {
         Failure::Table(Fault::Memory)
     }

@@ -15,10 +15,13 @@ mod filling;
 mod header;
 mod key_columns;
 mod key_sizes;
+mod layout;
 mod line_counter;
 mod lines;
 mod list;
+mod records;
 mod refusal;
+mod source;
 mod watch;
 
 pub use asked::Asked;
