@@ -1,5 +1,5 @@
 -- Where names stand in a header.
-use Rattle.std.proofs.Common.{◌≡◌, ◌≢◌, ◌⊎◌, ℕ, zero, suc, ◌+◌, ◌<◌, ◌≤◌, List, [], ◌∷◌, length, None, Some, inl, inr, refl, sym, ◌∙◌, arith}
+use Rattle.std.proofs.Common.{◌≡◌, ◌≢◌, ◌⊎◌, ℕ, zero, suc, ◌+◌, ◌<◌, List, [], ◌∷◌, length, Some, inl, inr, refl, arith}
 use Rattle.csv.specs.Records.{field_at}
 use Rattle.csv_table.specs.Headers.{IsAbsent, IsFirstFrom, StandsAlone, StandsTwice}
 

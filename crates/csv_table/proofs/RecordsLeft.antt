@@ -1,7 +1,7 @@
 -- What one read takes from the records that a reader has left.
 use denote.Ref.{Bor}
 use Rattle.std.proofs.Common.{◌≡◌, ◌==◌, Bool, ◌&&◌, not, ℕ, zero, suc, ◌+◌, ◌-◌, ◌<◌, ◌≤◌, true, false, List, [], ◌∷◌, ◌++◌, length, take, drop, Option, Some, None}
-use Rattle.std.proofs.Common.{add-one, arith, refl, ap, sym, ◌∙◌}
+use Rattle.std.proofs.Common.{add-one, arith, refl, ap}
 use Rattle.csv.specs.Machine.{Read, ends_at_end, field_after, fields_after, is_end, next_record, step}
 use Rattle.csv.specs.Reading.{NextIs, ReadRecord, ReadsNext, default_config, has_failed, pending_of, records_from}
 use Rattle.csv.specs.Reading.{records_next, source_of, strip_bom}

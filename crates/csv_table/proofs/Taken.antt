@@ -5,7 +5,7 @@ use Rattle.heap_log.specs.declared.record.LogRec.{LogRec}
 use Rattle.heap_table.specs.HeapState.{HeapState}
 use Rattle.heap_table.specs.Pages.{KeepsRows}
 use Rattle.keybytes.specs.declared.cell.Cell.{Cell}
-use Rattle.csv_table.specs.Fillings.{AreTaken, ArePutIn, Becomes, IsLeftOut, IsPutIn, IsRowPut, TakesRecord, none_count, rows_there}
+use Rattle.csv_table.specs.Fillings.{AreTaken, ArePutIn, Becomes, IsLeftOut, IsNoRow, IsPutIn, IsRowPut, TakesRecord, none_count, rows_there}
 use Rattle.csv_table.specs.declared.filling.Filled.{Filled}
 use Rattle.csv_table.specs.declared.source.Source.{Source}
 
@@ -23,6 +23,12 @@ zip_next R (x ∷ xs) [] zero d y inside all one = (one, tt)
 zip_next R (x ∷ xs) [] (suc i) d y inside all one = absurd all
 zip_next R (x ∷ xs) (z ∷ zs) zero d y inside all one = absurd all
 zip_next R (x ∷ xs) (z ∷ zs) (suc i) d y inside all one = (all.0, zip_next R xs zs i d y (omega arith) all.1 one)
+
+-- what stands inside of a list doesn't depend on what is given for places outside
+pub same_or : {A : Type 0} (xs : List A) (i : ℕ) (d e : A) → i < length xs → get_or xs i d ≡ get_or xs i e
+same_or [] i d e inside = absurd (omega arith)
+same_or (x ∷ xs) zero d e inside = refl
+same_or (x ∷ xs) (suc i) d e inside = same_or xs i d e (omega arith)
 
 -- one place more is read, and one value more put behind
 pub zip_more : {A B : Type 0} (R : A → B → Type 0) (xs : List A) (ys more : List B) (i : ℕ) (d : A) (y : B)
@@ -92,14 +98,14 @@ row_more width sources done start f g fields taken put =
 
 none_more :
     (width : ℕ) (sources : List Source) (done : List (List (List ℕ))) (start : HeapState) (f g : Filled) (fields : List (List ℕ))
-    → AreTaken width sources done start f → IsLeftOut f g → AreTaken width sources (done ++ fields ∷ []) start g
-none_more width sources done start f g fields taken left =
+    → AreTaken width sources done start f → IsNoRow width sources fields → IsLeftOut f g → AreTaken width sources (done ++ fields ∷ []) start g
+none_more width sources done start f g fields taken bad left =
     let no_row : List (Option (List Cell)) = None ∷ [] in
     let rows = rows_append taken.rows no_row in
     let none = none_append taken.rows no_row in
     record {
       rows = taken.rows ++ no_row;
-      spelled = zip_append (Becomes width sources) done (fields ∷ []) taken.rows no_row taken.spelled (tt, tt);
+      spelled = zip_append (Becomes width sources) done (fields ∷ []) taken.rows no_row taken.spelled (bad, tt);
       put = subst (λ (put_in : List (List Cell)). ArePutIn start put_in g.heap.state) (sym rows)
           (rw (append-nil (rows_there taken.rows), left.same) taken.put);
       counted = left.counted ∙ taken.counted ∙ sym (ap length (append-nil (rows_there taken.rows))) ∙ sym (ap length rows);
@@ -111,7 +117,7 @@ pub take_more :
     (width : ℕ) (sources : List Source) (done : List (List (List ℕ))) (start : HeapState) (f g : Filled) (fields : List (List ℕ))
     → AreTaken width sources done start f → TakesRecord width sources fields f g → AreTaken width sources (done ++ fields ∷ []) start g
 take_more width sources done start f g fields taken (inl put) = row_more width sources done start f g fields taken put
-take_more width sources done start f g fields taken (inr left) = none_more width sources done start f g fields taken left
+take_more width sources done start f g fields taken (inr left) = none_more width sources done start f g fields taken left.0 left.1
 
 -- before the first record
 pub none_taken :
@@ -123,4 +129,4 @@ pub counted_more :
     (width : ℕ) (sources : List Source) (fields : List (List ℕ)) (f g : Filled) → TakesRecord width sources fields f g
     → g.rows + g.left_out ≡ f.rows + f.left_out + 1
 counted_more width sources fields f g (inl put) = omega (arith, put.counted, put.left_out)
-counted_more width sources fields f g (inr left) = omega (arith, left.counted, left.left_out)
+counted_more width sources fields f g (inr left) = let counted = left.1.counted in let more = left.1.left_out in omega (arith, counted, more)

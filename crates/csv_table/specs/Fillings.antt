@@ -1,6 +1,6 @@
 -- How a table is filled from the records of a text.
-use Rattle.std.specs.Prelude.{◌≡◌, ◌⊎◌, ◌+◌, ℕ, List, [], ◌∷◌, length, Option, None, Some, ⊤}
-use Rattle.std.specs.List.{AllZip}
+use Rattle.std.specs.Prelude.{◌≡◌, ◌≢◌, ◌⊎◌, ◌+◌, ℕ, List, [], ◌∷◌, length, Option, None, Some}
+use Rattle.std.specs.List.{AllZip, Any}
 use Rattle.csv.specs.Records.{field_at}
 use Rattle.heap_table.specs.HeapState.{HeapState, empty_heap, insert_place}
 use Rattle.heap_table.specs.Pages.{KeepsRows, SetsRow}
@@ -9,7 +9,7 @@ use Rattle.keybytes.specs.declared.cell.Cell.{Cell}
 use Rattle.keybytes.specs.declared.kind.Kind.{Kind}
 use Rattle.keybytes.specs.declared.rid.Rid.{Rid}
 use Rattle.script.specs.Records.{records_of}
-use Rattle.csv_table.specs.Cells.{ReadsAs}
+use Rattle.csv_table.specs.Cells.{IsNoCell, ReadsAs}
 use Rattle.csv_table.specs.Headers.{AreFound}
 use Rattle.csv_table.specs.declared.column.Column.{Column}
 use Rattle.csv_table.specs.declared.filling.Filled.{Filled}
@@ -28,9 +28,14 @@ IsCellAt fields source cell = ReadsAs source.kind (field_or_empty (field_at fiel
 abbrev pub SpellsRow : ℕ → List Source → List (List ℕ) → List Cell → Type 0
 SpellsRow width sources fields cells = (length fields ≡ width) × AllZip (IsCellAt fields) sources cells
 
--- a record becomes the row that it spells, or none
+-- the record has more or fewer fields, or that of a column is no cell
+abbrev pub IsNoRow : ℕ → List Source → List (List ℕ) → Type 0
+IsNoRow width sources fields =
+    (length fields ≢ width) ⊎ Any (λ source. IsNoCell source.kind (field_or_empty (field_at fields source.at))) sources
+
+-- a record becomes the row that it spells, or none where it spells none
 abbrev pub Becomes : ℕ → List Source → List (List ℕ) → Option (List Cell) → Type 0
-Becomes width sources fields None = ⊤
+Becomes width sources fields None = IsNoRow width sources fields
 Becomes width sources fields (Some cells) = SpellsRow width sources fields cells
 
 -- the rows that are there
@@ -82,7 +87,7 @@ pub record IsRowPut (width : ℕ) (sources : List Source) (fields : List (List �
 
 -- a record was taken, one way or the other
 abbrev pub TakesRecord : ℕ → List Source → List (List ℕ) → Filled → Filled → Type 0
-TakesRecord width sources fields before after = IsRowPut width sources fields before after ⊎ IsLeftOut before after
+TakesRecord width sources fields before after = IsRowPut width sources fields before after ⊎ (IsNoRow width sources fields × IsLeftOut before after)
 
 -- a table was filled from the text: the first record is the header, by whose names the fields of all others are read
 pub record IsTakenIn (columns : List Column) (text : List ℕ) (start : HeapState) (filled : Filled) : Type 0 where

@@ -1,3 +1,4 @@
+pub mod BadRows
 pub mod Cells
 pub mod Fillings
 pub mod Failures

@@ -67,7 +67,10 @@ impl fmt::Display for Failure {
                 write!(f, "`{text}`: no key: column `{column}`: {fault}")
             }
             Failure::Row(line, BadRow::Fields { found, wanted }, _) => {
-                write!(f, "line {line}: fields: {found}, and the header has {wanted}")
+                write!(
+                    f,
+                    "line {line}: fields: {found}, and the header has {wanted}"
+                )
             }
             Failure::Row(line, BadRow::Cell(_, fault), column) => {
                 write!(f, "line {line}, column `{column}`: {fault}")

@@ -1,8 +1,10 @@
 //! From the records of a file to the rows of a table.
-ghost use Rattle.std.specs.Prelude.{◌≡◌, ◌+◌, ◌-◌, ◌<◌, ◌^◌, IfOk, OnOk};
-ghost use Rattle.csv.specs.Records.{fields_of};
+ghost use Rattle.std.specs.Prelude.{◌≡◌, ◌⊎◌, ◌+◌, ◌-◌, ◌<◌, ◌^◌, IfErr, IfOk, OnOk};
+ghost use Rattle.csv.specs.Records.{field_at, fields_of};
 ghost use Rattle.heap_table.specs.Pages.{KeepsRows};
-ghost use Rattle.csv_table.specs.Fillings.{AreTaken, IsCellAt, IsFilledFrom, IsLeftOut, IsPutIn, IsTakenIn, SpellsRow, TakesRecord};
+ghost use Rattle.csv_table.specs.BadRows.{IsOfRecord};
+ghost use Rattle.csv_table.specs.Cells.{IsNoCell};
+ghost use Rattle.csv_table.specs.Fillings.{AreTaken, IsCellAt, IsFilledFrom, IsLeftOut, IsNoRow, IsPutIn, IsTakenIn, SpellsRow, TakesRecord, field_or_empty};
 
 use crate::bad_row::BadRow;
 use crate::cell_fault::CellFault;
@@ -142,12 +144,7 @@ fn next_txn(heap: &mut Heap, txn: u64) -> Result<u64, Failure>
 }
 
 /// The transaction of the record of that number, from 0, behind the one that is given.
-fn turn<V: Watch>(
-    filled: &mut Filled,
-    txn: u64,
-    number: u64,
-    watch: &mut V,
-) -> Result<u64, Failure>
+fn turn<V: Watch>(filled: &mut Filled, txn: u64, number: u64, watch: &mut V) -> Result<u64, Failure>
     ensures kept { OnOk result (KeepsRows filled.old.heap.state.log filled.new.heap.state.log) }
     ensures counted { OnOk result (filled.new.rows ≡ filled.old.rows) }
     ensures left_out { OnOk result (filled.new.left_out ≡ filled.old.left_out) }
@@ -185,7 +182,8 @@ fn leave_out(
     filled: &mut Filled,
 ) -> Result<(), Failure>
     requires { filled.old.left_out < 2 ^ 64 - 1 }
-    ensures { OnOk result (IsLeftOut filled.old filled.new) }
+    ensures bad { OnOk result (IsOfRecord fault) }
+    ensures left_out { OnOk result (IsLeftOut filled.old filled.new) }
 {
     if reading.skips_bad && fault.is_of_record() {
         filled.left_out += 1;
@@ -203,13 +201,7 @@ fn leave_out(
 }
 
 /// Puts a row into the table.
-fn put(
-    alloc: Global,
-    row: Row,
-    line: u64,
-    txn: u64,
-    filled: &mut Filled,
-) -> Result<(), Failure>
+fn put(alloc: Global, row: Row, line: u64, txn: u64, filled: &mut Filled) -> Result<(), Failure>
     requires { filled.old.rows < 2 ^ 64 - 1 }
     ensures put { OnOk result (IsPutIn filled.old.heap.state row filled.new.heap.state) }
     ensures counted { OnOk result (filled.new.rows ≡ filled.old.rows + 1) }
@@ -235,7 +227,8 @@ fn add_sizes(sizes: &mut Vec<KeySizes>, cells: &[Cell]) {
 
 /// The row that a record is.
 fn read_row(reading: Reading<'_>, layout: &Layout, record: &ByteRecord) -> Result<Row, BadRow>
-    ensures { IfOk result (SpellsRow layout.now.width layout.now.sources.items (fields_of «record».now)) }
+    ensures spelled { IfOk result (SpellsRow layout.now.width layout.now.sources.items (fields_of «record».now)) }
+    ensures refused { IfErr result (λ bad. IsOfRecord bad → IsNoRow layout.now.width layout.now.sources.items (fields_of «record».now)) }
 {
     if record.len() != layout.width {
         return Err(BadRow::Fields {
@@ -255,7 +248,9 @@ fn read_row(reading: Reading<'_>, layout: &Layout, record: &ByteRecord) -> Resul
 
 /// The cell that a record has of a column.
 fn cell_at(alloc: Global, source: Source, record: &ByteRecord) -> Result<Cell, CellFault>
-    ensures { IfOk result (IsCellAt (fields_of «record».now) source) }
+    ensures read { IfOk result (IsCellAt (fields_of «record».now) source) }
+    ensures refused { IfErr result (λ fault. (fault ≡ CellFault.Memory)
+        ⊎ IsNoCell source.kind (field_or_empty (field_at (fields_of «record».now) source.at))) }
 {
     match record.get(source.at) {
         Some(field) => cell(alloc, source.kind, field),

@@ -1,4 +1,4 @@
-use Rattle.std.proofs.Common.{◌≡◌, ◌++◌, ◌∷◌, [], List, ℕ, Ok, refl, sym, ap, subst, ◌∙◌, arith, append-nil, append_assoc}
+use Rattle.std.proofs.Common.{◌++◌, ◌∷◌, [], List, ℕ, Ok, refl, sym, ap, subst, ◌∙◌, arith, append-nil, append_assoc}
 use Rattle.csv.specs.Records.{fields_of}
 use Rattle.csv_table.specs.Fillings.{AreTaken}
 use Rattle.csv_table.specs.declared.filling.Filled.{Filled}
@@ -7,9 +7,10 @@ use Rattle.csv_table.proofs.filling.read_rows.Goals as goal
 
 pub loop-number-init : goal.loop-number-init
 loop-number-init g c =
-    let layout = c.args.layout.now in
-    (([], refl, none_taken layout.width layout.sources.items c.args.filled.now.heap.state _ c.in_ok-txn.ensures c.requires.rows c.requires.left_out),
-      omega (arith, c.requires.rows, c.requires.left_out))
+    let layout = c.args.layout.now in (
+      ([], refl, none_taken layout.width layout.sources.items c.args.filled.now.heap.state _ c.in_ok-txn.ensures c.requires.rows c.requires.left_out),
+      omega (arith, c.requires.rows, c.requires.left_out),
+    )
 
 pub returns-then-not-branch : goal.returns-then-not-branch
 returns-then-not-branch g c =
@@ -33,6 +34,7 @@ loop-number-preserved g c =
     let turned = c.in_ok-txn-2.ensures in
     let before = taken_kept layout.width layout.sources.items was.0 start c.loop-number.filled c.turn.new.filled was.2 turned.kept turned.counted turned.left_out in
     let after = take_more layout.width layout.sources.items was.0 start c.turn.new.filled c.take.new.filled fields before c.in_ok-take.ensures in
-    let more = counted_more layout.width layout.sources.items fields c.turn.new.filled c.take.new.filled c.in_ok-take.ensures in
-    ((was.0 ++ fields ∷ [], append_assoc was.0 (fields ∷ []) c.read.new.self ∙ sym (ap (λ (records : List (List (List ℕ))). was.0 ++ records) found) ∙ was.1, after),
-      omega (arith, more, turned.counted, turned.left_out, c.loop-number.invariant.1))
+    let more = counted_more layout.width layout.sources.items fields c.turn.new.filled c.take.new.filled c.in_ok-take.ensures in (
+      (was.0 ++ fields ∷ [], append_assoc was.0 (fields ∷ []) c.read.new.self ∙ sym (ap (λ (records : List (List (List ℕ))). was.0 ++ records) found) ∙ was.1, after),
+      omega (arith, more, turned.counted, turned.left_out, c.loop-number.invariant.1),
+    )

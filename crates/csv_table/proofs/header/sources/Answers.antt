@@ -1,5 +1,4 @@
-use Rattle.std.proofs.Common.{◌≡◌, rules, List, ℕ, arith, get_or, inr, refl, subst, sym}
-use Rattle.std.specs.String.{string_bytes}
+use Rattle.std.proofs.Common.{◌≡◌, rules, List, ℕ, arith, get_or, inr, refl, subst}
 use Rattle.csv.specs.Records.{fields_of}
 use Rattle.csv_table.specs.Headers.{IsNotFound, IsSourceOf, StandsAlone}
 use Rattle.csv_table.specs.declared.column.Column.{Column}
