@@ -28,7 +28,10 @@ pub fn print_counts<T: Table, E: Write>(
             pairs = pairs.saturating_add(index.tree().len());
         }
     }
-    writeln!(err, "rows read: {rows}, pages scanned: {pages}, pairs loaded: {pairs}")?;
+    writeln!(
+        err,
+        "rows read: {rows}, pages scanned: {pages}, pairs loaded: {pairs}"
+    )?;
     for (place, word) in facts.words.indexes.iter().enumerate() {
         let name = word.columns;
         let leased = leased_at_most(spools, place, facts.words.indexes.len());
@@ -104,7 +107,10 @@ fn print_ready<T: Table, W: Write>(
     };
     let (name, unique) = (word.columns, if word.unique { ", unique" } else { "" });
     let levels = levels_of(pairs);
-    writeln!(out, "{name}: pairs: {pairs}, levels: {levels}{unique}, ready")?;
+    writeln!(
+        out,
+        "{name}: pairs: {pairs}, levels: {levels}{unique}, ready"
+    )?;
     Ok(())
 }
 
@@ -131,7 +137,10 @@ fn print_shared<W: Write>(
     out: &mut W,
 ) -> Result<(), Failure> {
     let (line, other) = (facts.lines.line(first), facts.lines.line(second));
-    write!(out, "{name}: unique, refused: lines {line} and {other} share the key ")?;
+    write!(
+        out,
+        "{name}: unique, refused: lines {line} and {other} share the key "
+    )?;
     Ok(())
 }
 

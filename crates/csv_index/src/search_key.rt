@@ -42,12 +42,7 @@ impl<'a> Subject<'a> {
     }
 
     /// A row with these cells in these columns, and Null in all others.
-    fn row(
-        self,
-        record: &StringRecord,
-        columns: &[KeyCol],
-        text: &str,
-    ) -> Result<Row, Failure> {
+    fn row(self, record: &StringRecord, columns: &[KeyCol], text: &str) -> Result<Row, Failure> {
         let mut cells = Vec::with_capacity(self.alloc, self.columns.len())?;
         for (place, column) in self.columns.iter().enumerate() {
             let given = columns.iter().position(|named| named.column == place);

@@ -50,11 +50,7 @@ pub fn counted_spools(
     Ok(counted)
 }
 
-fn spools(
-    alloc: Global,
-    amount: Amount<'_>,
-    specs: &[KeySpec],
-) -> Result<Vec<SpoolOfKind>, Fault> {
+fn spools(alloc: Global, amount: Amount<'_>, specs: &[KeySpec]) -> Result<Vec<SpoolOfKind>, Fault> {
     let count = amount.workers.min(WORKERS_MAX).saturating_mul(specs.len());
     let mut quotas = Vec::new(alloc);
     for _ in 0..amount.workers.min(WORKERS_MAX) {

@@ -2,7 +2,7 @@
 
 use crate::index_case::{IndexCase, printed_otherwise};
 
-static LISTED: [IndexCase; 21] = [
+static LISTED: [IndexCase; 22] = [
     IndexCase {
         name: "quotes, commas and ends of lines in fields",
         words: &["--columns", "id:int,note:text", "--on", "note", "--workers", "2", "--range", ".."],
@@ -41,6 +41,14 @@ static LISTED: [IndexCase; 21] = [
         file: b"a,b,c,,\n1,?,true,,\n2,?,true,,\n3,?,false,,",
         out: "c,a:desc: pairs: 3, levels: 1, ready\nline,c,a\n4,false,3\n3,true,2\n2,true,1\n",
         err: "rows read: 3, pages scanned: 1, pairs loaded: 3\nc,a:desc: pages leased at most: 1\n",
+        status: 0,
+    },
+    IndexCase {
+        name: "a name that stands twice, of a column that isn't asked for",
+        words: &["--columns", "a:int", "--on", "a", "--find", "2"],
+        file: b"b,a,b\n1,2,3\n",
+        out: "a: pairs: 1, levels: 1, ready\nline,a\n2,2\n",
+        err: "rows read: 1, pages scanned: 1, pairs loaded: 1\na: pages leased at most: 1\n",
         status: 0,
     },
     IndexCase {
@@ -200,10 +208,10 @@ static REFUSED: [IndexCase; 14] = [
     },
     IndexCase {
         name: "a name that stands twice",
-        words: &["--columns", "a:int", "--on", "a"],
-        file: b"a,b,b\n1,2,3\n",
+        words: &["--columns", "b:int,a:int", "--on", "a"],
+        file: b"a,b,a\n1,2,3\n",
         out: "",
-        err: "sfbuild index: standard input: `b`: named twice in the file's header\n",
+        err: "sfbuild index: standard input: `a`: named twice in the file's header\n",
         status: 2,
     },
     IndexCase {
