@@ -6,11 +6,21 @@ use std::alloc::Global;
 use std::sync::Wait;
 use std::thread::Threads;
 
-const WORDS: &[&str] = &["--columns", "a:int", "--on", "a", "--unique", "a", "--range", ".."];
+const WORDS: &[&str] = &[
+    "--columns",
+    "a:int",
+    "--on",
+    "a",
+    "--unique",
+    "a",
+    "--range",
+    "..",
+];
 
 const FILE: &[u8] = b"a\n2\n1\n";
 
-const ANSWER: &str = "a: pairs: 2, levels: 1, ready\na: pairs: 2, levels: 1, unique, ready\nline,a\n3,1\n2,2\n";
+const ANSWER: &str =
+    "a: pairs: 2, levels: 1, ready\na: pairs: 2, levels: 1, unique, ready\nline,a\n3,1\n2,2\n";
 
 /// No answer takes so many calls.
 const CALLS: usize = 100;
@@ -36,7 +46,11 @@ fn ended_by<A: Threads + Wait + Sync>(rt: &A, alloc: Global, well: usize) -> Opt
     let mut err = Vec::new(alloc);
     let status = run(rt, alloc, WORDS, FILE, &mut out, &mut err);
     let is_told = text(err.as_slice()).ends_with("sfbuild index: the answer can't be written\n");
-    if out.has_failed() { Some((status, is_told)) } else { None }
+    if out.has_failed() {
+        Some((status, is_told))
+    } else {
+        None
+    }
 }
 
 /// How many calls of an answer may fail, if each ends the run so.

@@ -35,7 +35,10 @@ struct DrawnRow {
 impl DrawnRow {
     /// The row of that number. What it has is drawn by multiplication.
     fn drawn(number: u64) -> DrawnRow {
-        let draw = number.wrapping_add(7).wrapping_mul(6_364_136_223_846_793_005) >> 33;
+        let draw = number
+            .wrapping_add(7)
+            .wrapping_mul(6_364_136_223_846_793_005)
+            >> 33;
         let size = match draw % 4 {
             0 => None,
             1 => Some(-1),
@@ -60,16 +63,36 @@ impl DrawnRow {
 fn sort(rows: &mut [DrawnRow]) {
     for end in 1..rows.len() {
         for place in 0..end {
-            let at = end - place;
-            if rows[at].order(&rows[at - 1]) == Ordering::Less {
-                rows.swap(at, at - 1);
-            }
+            sink(rows, end - place);
         }
     }
 }
 
+/// Changes a row with the one before it, where it comes first.
+fn sink(rows: &mut [DrawnRow], at: usize) {
+    let before = at.saturating_sub(1);
+    let (Some(row), Some(other)) = (rows.get(at).copied(), rows.get(before).copied()) else {
+        return;
+    };
+    if row.order(&other) == Ordering::Less {
+        set(rows, at, other);
+        set(rows, before, row);
+    }
+}
+
+fn set(rows: &mut [DrawnRow], at: usize, row: DrawnRow) {
+    if let Some(place) = rows.get_mut(at) {
+        *place = row;
+    }
+}
+
 /// Adds the fields of a row behind its line, where that is wanted.
-fn add_row(alloc: Global, text: &mut String, row: &DrawnRow, lines: bool) -> Result<(), AllocError> {
+fn add_row(
+    alloc: Global,
+    text: &mut String,
+    row: &DrawnRow,
+    lines: bool,
+) -> Result<(), AllocError> {
     if lines {
         let line = format!(in alloc; "{},", row.number.saturating_add(2))?;
         text.push_str(line.as_str())?;

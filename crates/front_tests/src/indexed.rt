@@ -54,7 +54,11 @@ impl Indexed {
 
     /// The two streams and the status.
     pub fn parts(&self) -> (&str, &str, u8) {
-        (text(self.out.as_slice()), text(self.err.as_slice()), self.status)
+        (
+            text(self.out.as_slice()),
+            text(self.err.as_slice()),
+            self.status,
+        )
     }
 }
 
